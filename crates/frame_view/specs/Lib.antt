@@ -1,0 +1,7 @@
+pub mod Address
+pub mod Ether
+pub mod First
+pub mod Frame
+pub mod Octets
+pub mod Reason
+pub mod Tag

@@ -1,0 +1,36 @@
+//! The checksum of a UDP datagram, whatever the family of its addresses.
+ghost use Rattle.std.specs.Prelude.{◌≡◌, ◌≤◌, ◌+◌, ◌*◌, ◌%◌, ◌++◌, length};
+ghost use Rattle.header_sums.specs.Sum.{total, sent_of, complement};
+
+use crate::sum::{fold, words};
+
+/// UDP's protocol number, as it stands in both pseudo headers.
+const UDP: u64 = 17;
+
+/// The checksum to send of a datagram in three parts, between addresses whose words have this sum.
+pub(crate) fn datagram_sum(addresses: u64, first: &[u8], second: &[u8], third: &[u8]) -> u16
+    requires addresses_fit { addresses ≤ 65535 * 32 }
+    requires first_even { length first.now % 2 ≡ 0 }
+    requires second_even { length second.now % 2 ≡ 0 }
+    requires fits { length first.now + length second.now + length third.now ≤ 65535 }
+    ensures { let datagram = first.now ++ second.now ++ third.now in
+        result ≡ sent_of (complement (addresses + 17 + length datagram + total datagram)) }
+{
+    let length = first.len() + second.len() + third.len();
+    let sum = addresses + UDP + length as u64 + parts_sum(first, second, third);
+    match 65535 - fold(sum) {
+        0 => 65535,
+        checksum => checksum,
+    }
+}
+
+/// The sum of three parts side by side.
+fn parts_sum(first: &[u8], second: &[u8], third: &[u8]) -> u64
+    requires first_even { length first.now % 2 ≡ 0 }
+    requires second_even { length second.now % 2 ≡ 0 }
+    requires fits { length first.now + length second.now + length third.now ≤ 65535 }
+    ensures sum { result ≡ total (first.now ++ second.now ++ third.now) }
+    ensures small { result ≤ 65535 * (length first.now + length second.now + length third.now) }
+{
+    words(first) + words(second) + words(third)
+}

@@ -61,10 +61,10 @@ one_more n t has f =
 front : (n : ℕ) (t : List ℕ) → Front n t
 front zero t = record { list = []; are_tags = tt; at_most = omega arith; whole = refl; longest = inl refl }
 front (suc n) t = elim (cases_Bool (has_outer_tag t)) [
-      | inl has ↦ one_more n t has (front n (drop 4 t))
-      | inr none_there ↦ let same = without_tags-none (suc n) t none_there in
-          record { list = []; are_tags = tt; at_most = omega arith; whole = sym same; longest = inr (ap has_outer_tag same ∙ none_there) }
-    ]
+  | inl has ↦ one_more n t has (front n (drop 4 t))
+  | inr none_there ↦ let same = without_tags-none (suc n) t none_there in
+      record { list = []; are_tags = tt; at_most = omega arith; whole = sym same; longest = inr (ap has_outer_tag same ∙ none_there) }
+]
 
 pub SkipsTags-without_tags : (n : ℕ) (t : List ℕ) → SkipsTags n t (take (length t - length (without_tags n t)) t) (without_tags n t)
 SkipsTags-without_tags n t =

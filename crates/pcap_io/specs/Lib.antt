@@ -1,0 +1,10 @@
+pub mod Calls
+pub mod Capture
+pub mod Header
+pub mod Next
+pub mod Reading
+pub mod Record
+pub mod RecordText
+pub mod Seen
+pub mod Style
+pub mod Written

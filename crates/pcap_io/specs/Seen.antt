@@ -1,0 +1,18 @@
+-- What the code finds next, without where it lies in memory.
+use Rattle.std.specs.Prelude.{⊤}
+use Rattle.pcap_io.specs.Next.{Next, Another, Ends, Whole, Cut, Faulty}
+use Rattle.pcap_io.specs.Record.{IsWithinLimits}
+use Rattle.pcap_io.specs.declared.record.Next.{Next as Found}
+use Rattle.pcap_io.specs.declared.record.Next.TheVariants as found
+
+abbrev pub next_seen : Found → Next
+next_seen (found.Another r rest) = Another r rest.now
+next_seen found.Whole = Ends Whole
+next_seen found.Cut = Ends Cut
+next_seen (found.Faulty fault) = Ends (Faulty fault)
+
+abbrev pub FoundIsWithinLimits : Found → Type 0
+FoundIsWithinLimits (found.Another r rest) = IsWithinLimits r
+FoundIsWithinLimits found.Whole = ⊤
+FoundIsWithinLimits found.Cut = ⊤
+FoundIsWithinLimits (found.Faulty fault) = ⊤

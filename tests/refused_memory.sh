@@ -5,19 +5,39 @@ set -u
 cd "$(dirname "$0")/.." || exit 1
 status=0
 
-# refused CRATE TEST N..: the test passes with the N-th request for memory refused
-refused() {
+# with_refused CRATE N: the crate's tests, with the N-th request for memory refused in each
+with_refused() {
+    (cd "crates/$1" && rt try --test --fail-alloc "$2" 2>&1)
+}
+
+complain() {
+    echo "tests/refused_memory.sh: $*"
+    status=1
+}
+
+# passes CRATE TEST N..: the test, which looks at what a refused call leaves, passes with the N-th request refused
+passes() {
     local crate=$1 test=$2 n
     shift 2
     for n in "$@"; do
-        if ! (cd "crates/$crate" && rt try --test --fail-alloc "$n" 2>&1) | grep -q "^test $test \.\.\. ok$"; then
-            echo "tests/refused_memory.sh: $crate: $test with request $n refused"
-            status=1
-        fi
+        with_refused "$crate" "$n" | grep -q "^test $test \.\.\. ok$" || complain "$crate: $test with request $n refused"
     done
 }
 
+# answers CRATE TEST LAST: the test ends with AllocError where one of the requests 1 to LAST is refused, and makes no more
+answers() {
+    local crate=$1 test=$2 last=$3 n
+    for n in $(seq 1 "$last"); do
+        with_refused "$crate" "$n" | grep -A 1 "^test $test \.\.\. FAILED$" | grep -q "^    error: AllocError$" ||
+            complain "$crate: $test doesn't answer the refusal of request $n"
+    done
+    with_refused "$crate" $((last + 1)) | grep -q "^test $test \.\.\. ok$" || complain "$crate: $test makes more than $last requests"
+}
+
 # The growths of a header and of two records.
-refused pcap_io tests::a_refused_growth_changes_nothing 1 3 5
+passes pcap_io tests::a_refused_growth_changes_nothing 1 3 5
+
+# The places of all VIDs, and the tables of two segments; no later call takes memory.
+answers filter_db tests::leaves_fixed_entries_alone 3
 
 exit "$status"

@@ -8,6 +8,11 @@ fn frame(alloc: std::alloc::Global, behind: &[u8]) -> Result<Vec<u8>, std::alloc
     Ok(octets)
 }
 
+/// Whether a reason has this number and name.
+fn is_row(reason: Reason, number: u8, name: &str) -> bool {
+    reason.number() == number && reason.name() == name
+}
+
 #[test]
 fn numbers_and_names_are_those_of_the_table(rt: HostRuntime) {
     let table = [
@@ -53,8 +58,7 @@ fn numbers_and_names_are_those_of_the_table(rt: HostRuntime) {
         (Reason::InnerTagOut, 40, "InnerTagOut"),
     ];
     for (reason, number, name) in table {
-        assert_eq!(rt; reason.number(), number, "the number of {name}");
-        assert_eq!(rt; reason.name(), name, "the name of number {number}");
+        assert!(rt; is_row(reason, number, name), "reason {number}");
     }
 }
 
@@ -89,16 +93,37 @@ fn vlan_identifiers_are_1_to_4094(rt: HostRuntime) {
     }
 }
 
+/// Whether a tag comes off with these bits, and this body stands behind it.
+fn is_tagged(view: &EtherView, bits: u16, body: &[u8]) -> bool {
+    match view.split_tag() {
+        Tagging::Tagged(tci, found) => tci == Tci::new(bits) && found == body,
+        Tagging::Plain(_) | Tagging::Cut => false,
+    }
+}
+
+/// Whether there is no tag, and this body.
+fn is_plain(view: &EtherView, body: &[u8]) -> bool {
+    match view.split_tag() {
+        Tagging::Plain(found) => found == body,
+        Tagging::Tagged(..) | Tagging::Cut => false,
+    }
+}
+
+/// Whether there is no room for the tag.
+fn is_cut(view: &EtherView) -> bool {
+    match view.split_tag() {
+        Tagging::Cut => true,
+        Tagging::Plain(_) | Tagging::Tagged(..) => false,
+    }
+}
+
 #[test]
 fn one_tag_comes_off(rt: HostRuntime) -> Result<(), Fail> {
     let tagged = frame(rt.alloc(), &[0x81, 0x00, 0xA0, 0x0A, 0x08, 0x06, 0x00])?;
     let view = EtherView::read(&tagged).ok().ok_or("tagged")?;
     assert_eq!(rt; view.dst(), Mac([0xFF; 6]));
     assert_eq!(rt; view.src(), Mac([0x02, 0, 0, 0, 0, 0x01]));
-    assert_eq!(rt; view.addresses(), &tagged[..12]);
-    assert!(rt;
-        matches!(view.split_tag(), Tagging::Tagged(tci, body) if tci == Tci::new(0xA00A) && body == [0x08, 0x06, 0x00].as_slice())
-    );
+    assert!(rt; is_tagged(&view, 0xA00A, &[0x08, 0x06, 0x00]), "one tag");
 
     // The second tag begins the body.
     let twice = frame(
@@ -107,16 +132,27 @@ fn one_tag_comes_off(rt: HostRuntime) -> Result<(), Fail> {
     )?;
     let view = EtherView::read(&twice).ok().ok_or("twice")?;
     assert!(rt;
-        matches!(view.split_tag(), Tagging::Tagged(tci, body) if tci.vid() == 10 && body == [0x81, 0x00, 0x00, 0x64, 0x08, 0x06].as_slice())
+        is_tagged(&view, 0x000A, &[0x81, 0x00, 0x00, 0x64, 0x08, 0x06]),
+        "two tags"
     );
+    Ok(())
+}
 
-    // A service tag is ordinary body, and 16 octets have no room for a tag and a body.
+#[test]
+fn no_tag_comes_off(rt: HostRuntime) -> Result<(), Fail> {
+    // A service tag is ordinary body.
     let service = frame(rt.alloc(), &[0x88, 0xA8, 0x00, 0x0A, 0x08, 0x06])?;
     let view = EtherView::read(&service).ok().ok_or("service")?;
-    assert!(rt; matches!(view.split_tag(), Tagging::Plain(body) if body == view.after_addresses()));
-    let view = EtherView::read(&tagged[..16]).ok().ok_or("cut")?;
-    assert!(rt; matches!(view.split_tag(), Tagging::Cut));
-    assert!(rt; EtherView::read(&tagged[..13]).is_err());
+    assert!(rt;
+        is_plain(&view, &[0x88, 0xA8, 0x00, 0x0A, 0x08, 0x06]),
+        "a service tag"
+    );
+
+    // 16 octets have no room for a tag and a body.
+    let cut = frame(rt.alloc(), &[0x81, 0x00, 0x00, 0x0A])?;
+    let view = EtherView::read(&cut).ok().ok_or("cut")?;
+    assert!(rt; is_cut(&view), "16 octets");
+    assert!(rt; EtherView::read(&cut[..13]).is_err(), "13 octets");
     Ok(())
 }
 

@@ -1,0 +1,5 @@
+pub mod CutLemmas
+pub mod DatagramLemmas
+pub mod IpLemmas
+pub mod PseudoLemmas
+pub mod UdpLemmas

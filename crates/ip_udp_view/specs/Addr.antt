@@ -12,6 +12,7 @@ abbrev pub address : Addr → List ℕ
 address (V4 b) = b
 address (V6 b) = b
 
+-- as many octets as an address of its family has
 abbrev pub IsAddr : Addr → Type 0
 IsAddr (V4 b) = (length b ≡ 4) × IsText b
 IsAddr (V6 b) = (length b ≡ 16) × IsText b
@@ -31,13 +32,21 @@ abbrev pub group_mac : Addr → List ℕ
 group_mac (V4 b) = 0x01 ∷ 0x00 ∷ 0x5E ∷ (octet 1 b % 128) ∷ drop 2 b
 group_mac (V6 b) = 0x33 ∷ 0x33 ∷ drop 12 b
 
--- equality as a test, of addresses and of tunnel kinds
+-- both addresses are of one family
+abbrev pub same_family : Addr → Addr → Bool
+same_family (V4 a) (V4 b) = true
+same_family (V4 a) (V6 b) = false
+same_family (V6 a) (V4 b) = false
+same_family (V6 a) (V6 b) = true
+
+-- equality as a test, of addresses
 abbrev pub same_addr : Addr → Addr → Bool
 same_addr (V4 a) (V4 b) = is_same a b
 same_addr (V4 a) (V6 b) = false
 same_addr (V6 a) (V4 b) = false
 same_addr (V6 a) (V6 b) = is_same a b
 
+-- equality as a test, of tunnel kinds
 abbrev pub same_kind : Tunnel → Tunnel → Bool
 same_kind Vxlan Vxlan = true
 same_kind Vxlan Geneve = false

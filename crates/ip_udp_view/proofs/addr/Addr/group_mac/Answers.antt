@@ -1,9 +1,7 @@
-use Rattle.std.proofs.Common.{rules, arith, ◌≡◌, ◌+◌, ℕ, List, ◌∷◌, length, drop, sym, ap, ◌∙◌}
+use Rattle.std.proofs.Common.{rules, arith, ◌≡◌, ℕ, List, ◌∷◌, length, drop, sym, ap, ◌∙◌}
 use Rattle.std.proofs.lemmas.List.{drop_all}
 use Rattle.header_sums.specs.Octets.{octet}
 use Rattle.header_sums.proofs.OctetsLemmas.{cell}
-use Rattle.ip_udp_view.specs.declared.addr.Addr.{Addr}
-use Rattle.ip_udp_view.specs.declared.addr.Addr.TheVariants.{V6}
 use Rattle.ip_udp_view.specs.Addr.{group_mac}
 use Rattle.ip_udp_view.proofs.addr.Addr.group_mac.Goals as goal
 
@@ -12,8 +10,8 @@ returns-in-V6 c =
     let b = c.in-V6.octets in
     let long : length b ≡ 16 = search rules in
     let tail : drop 12 b ≡ octet 12 b ∷ octet 13 b ∷ octet 14 b ∷ octet 15 b ∷ drop 16 b =
-        cell 12 b (omega arith) ∙ ap (λ (r : List ℕ). octet 12 b ∷ r) (cell 13 b (omega arith)
-        ∙ ap (λ (r : List ℕ). octet 13 b ∷ r) (cell 14 b (omega arith)
-        ∙ ap (λ (r : List ℕ). octet 14 b ∷ r) (cell 15 b (omega arith)))) in
+    cell 12 b (omega arith) ∙ ap (λ (r : List ℕ). octet 12 b ∷ r) (cell 13 b (omega arith)
+    ∙ ap (λ (r : List ℕ). octet 13 b ∷ r) (cell 14 b (omega arith)
+    ∙ ap (λ (r : List ℕ). octet 14 b ∷ r) (cell 15 b (omega arith)))) in
     let whole = tail ∙ ap (λ (r : List ℕ). octet 12 b ∷ octet 13 b ∷ octet 14 b ∷ octet 15 b ∷ r) (drop_all 16 b (omega arith)) in
     ap (λ (r : List ℕ). 0x33 ∷ 0x33 ∷ r) (sym whole) ∙ ap group_mac (sym c.in-V6.is)

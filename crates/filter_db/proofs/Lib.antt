@@ -1,0 +1,5 @@
+pub mod DatabaseLemmas
+pub mod ListLemmas
+pub mod RowsLemmas
+pub mod SegmentLemmas
+pub mod TableLemmas

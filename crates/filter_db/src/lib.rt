@@ -1,0 +1,20 @@
+//! The filtering database of a learning bridge (IEEE 802.1Q, 8.8), one table for each of many segments.
+//!
+//! A table tells for each MAC address the [`Place`] where its station stands: a local port, or a remote endpoint of a
+//! tunnel. [`Tables`] is all that a bridge needs of the tables, however they are kept: it learns, looks up, ages,
+//! fixes and flushes. [`ListTables`] keeps a list for each segment, and takes memory only when it is opened. Moments
+//! are handed in, in nanoseconds.
+#![tactic(auto)]
+
+mod entry;
+mod list_tables;
+mod place;
+mod rows;
+mod table;
+mod tables;
+#[cfg(test)]
+mod tests;
+
+pub use list_tables::ListTables;
+pub use place::Place;
+pub use tables::{Learned, NotThere, TableFull, TableRule, Tables};

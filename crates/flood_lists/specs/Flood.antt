@@ -1,0 +1,66 @@
+-- Flood lists, and the endpoint's own addresses.
+use Rattle.std.specs.Prelude.{◌≢◌, ℕ, Bool, false, not, ◌&&◌, nat_le, is_some, List, [], ◌∷◌, length, filter, replicate, Option, None, Some}
+use Rattle.std.specs.List.{AllPairs, list_any}
+use Rattle.header_sums.specs.Octets.{is_same}
+use Rattle.ip_udp_view.specs.declared.addr.Addr.{Addr}
+use Rattle.ip_udp_view.specs.declared.addr.Addr.TheVariants.{V4, V6}
+use Rattle.ip_udp_view.specs.declared.addr.Tunnel.{Tunnel}
+use Rattle.ip_udp_view.specs.declared.addr.Tunnel.TheVariants.{Vxlan}
+use Rattle.flood_lists.specs.Addr.{address, is_usable, same_addr, same_kind}
+use Rattle.flood_lists.specs.declared.fault.FloodFault.{FloodFault}
+use Rattle.flood_lists.specs.declared.fault.FloodFault.TheVariants.{OutOfRange, NoFamily, OwnAddress, AlreadyThere, FloodFull}
+use Rattle.flood_lists.specs.declared.own.Own.{Own}
+use Rattle.flood_lists.specs.declared.remote.Remote.{Remote}
+
+-- ---- own addresses
+
+-- the own address of the family of an address, where there is one
+abbrev pub own_of : Own → Addr → Option (List ℕ)
+own_of own (V4 octets) = own.ip4
+own_of own (V6 octets) = own.ip6
+
+abbrev pub has_family : Own → Addr → Bool
+has_family own addr = is_some (own_of own addr)
+
+-- these octets are there
+abbrev pub is_there : Option (List ℕ) → List ℕ → Bool
+is_there None octets = false
+is_there (Some own) octets = is_same own octets
+
+abbrev pub is_own : Own → Addr → Bool
+is_own own addr = is_there (own_of own addr) (address addr)
+
+-- ---- lists
+
+-- the remote endpoints that frames are flooded to: tunnel kinds and addresses, in the order in which they were added
+abbrev pub Entries : Type 0
+Entries = List Remote
+
+-- what fills the places of a list that hold no entry
+abbrev pub blank : Remote
+blank = record { tunnel = Vxlan; addr = V4 (replicate 4 0) }
+
+-- no entry is the same as a later one
+abbrev pub IsWithoutRepeats : Entries → Type 0
+IsWithoutRepeats flood = AllPairs (λ entry later. entry ≢ later) flood
+
+abbrev pub is_entry : Tunnel → Addr → Remote → Bool
+is_entry tunnel addr entry = same_kind entry.tunnel tunnel && same_addr entry.addr addr
+
+abbrev pub holds : Entries → Tunnel → Addr → Bool
+holds flood tunnel addr = list_any (is_entry tunnel addr) flood
+
+-- the list without an entry, the others in their order
+abbrev pub without : Entries → Tunnel → Addr → Entries
+without flood tunnel addr = filter (λ entry. not (is_entry tunnel addr entry)) flood
+
+-- ---- why an entry isn't added, in the order of the checks
+
+abbrev pub add_faults : Own → Entries → Tunnel → Addr → List (FloodFault × Bool)
+add_faults own flood tunnel addr =
+    (OutOfRange, not (is_usable addr))
+    ∷ (NoFamily, not (has_family own addr))
+    ∷ (OwnAddress, is_own own addr)
+    ∷ (AlreadyThere, holds flood tunnel addr)
+    ∷ (FloodFull, nat_le 16 (length flood))
+    ∷ []

@@ -1,0 +1,3 @@
+pub mod Addr
+pub mod First
+pub mod Flood

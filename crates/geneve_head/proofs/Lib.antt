@@ -1,0 +1,3 @@
+pub mod OptionsLemmas
+pub mod PacketLemmas
+mod WalkLemmas

@@ -1,0 +1,15 @@
+//! Writing a Geneve header.
+ghost use Rattle.std.specs.Prelude.{◌≡◌, ◌++◌, ℕ, List, []};
+ghost use Rattle.geneve_head.specs.Geneve.{IsGeneve, geneve_header};
+
+use vxlan_head::Vni;
+
+/// The header of a network's packets (RFC 8926, 3.4): version 0, no options, the protocol type of Ethernet frames, the
+/// identifier, and 0 in both flags and all reserved bits.
+pub fn gn_head(vni: Vni) -> [u8; 8]
+    ensures value { result ≡ geneve_header vni }
+    ensures read_back { (inner : List ℕ) → IsGeneve (result ++ inner) vni [] inner }
+{
+    let [high, middle, low] = vni.octets();
+    [0, 0, 0x65, 0x58, high, middle, low, 0]
+}

@@ -1,0 +1,37 @@
+use Rattle.std.proofs.Common.{arith, ◌≡◌, ◌*◌, ℕ, ap, ◌∙◌, subst, sym}
+use Rattle.header_sums.proofs.OctetsLemmas.{field-slice}
+use Rattle.ip_udp_view.specs.Parts.{Parts, cut}
+use Rattle.ip_udp_view.specs.Ip.{Ip4, header_length, total_length, packet_parts, SplitsIp}
+use Rattle.ip_udp_view.proofs.CutLemmas.{sliced, sliced-cut}
+use Rattle.ip_udp_view.proofs.IpLemmas.{IsGood4, IsGood4-to, found-ip}
+use Rattle.ip_udp_view.proofs.ip4_view.Ip4View.read.Goals as goal
+
+header_is : (c : goal.After-result-2-1) → c.from-header.result * 4 ≡ header_length Ip4 c.args.octets.now
+header_is c = omega arith
+
+total_is : (c : goal.After-result-2-1) → c.from-total.result ≡ total_length c.args.octets.now
+total_is c = c.from-total.ensures ∙ c.read_u16.ensures ∙ field-slice 2 2 c.args.octets.now
+
+parts : (c : goal.After-result-2-1) → sliced (c.from-header.result * 4) c.from-total.result c.args.octets.now ≡ packet_parts Ip4 c.args.octets.now
+parts c =
+    let b = c.args.octets.now in
+    sliced-cut (c.from-header.result * 4) c.from-total.result b (omega arith)
+    ∙ ap (λ (n : ℕ). cut n c.from-total.result b) (header_is c)
+    ∙ ap (λ (m : ℕ). cut (header_length Ip4 b) m b) (total_is c)
+
+pub returns-clause-parts : goal.returns-clause-parts
+returns-clause-parts c = parts c
+
+pub returns-clause-split : goal.returns-clause-split
+returns-clause-split c =
+    let b = c.args.octets.now in
+    let header = header_is c in
+    let total = total_is c in
+    let good : IsGood4 b = record {
+      room = omega arith;
+      version_is = omega arith;
+      shortest = omega arith;
+      behind = omega arith;
+      there = omega arith;
+    } in
+    subst (λ (v : Parts). SplitsIp Ip4 b v) (sym (parts c)) (found-ip Ip4 b (IsGood4-to b good))

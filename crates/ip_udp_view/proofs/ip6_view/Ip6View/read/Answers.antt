@@ -1,0 +1,35 @@
+use Rattle.std.proofs.Common.{arith, ◌≡◌, ◌+◌, ℕ, ap, ◌∙◌, subst, sym}
+use Rattle.header_sums.proofs.OctetsLemmas.{field-slice}
+use Rattle.ip_udp_view.specs.Parts.{Parts, cut}
+use Rattle.ip_udp_view.specs.Ip.{Ip6, packet_length, packet_parts, SplitsIp}
+use Rattle.ip_udp_view.proofs.CutLemmas.{sliced, sliced-cut}
+use Rattle.ip_udp_view.proofs.IpLemmas.{IsGood6, IsGood6-to, found-ip}
+use Rattle.ip_udp_view.proofs.ip6_view.Ip6View.read.Goals as goal
+
+end_is : (c : goal.After-result-2-1) → 40 + c.from-end.result ≡ packet_length Ip6 c.args.octets.now
+end_is c = ap (λ (n : ℕ). 40 + n) (c.from-end.ensures ∙ c.read_u16.ensures ∙ field-slice 2 4 c.args.octets.now)
+
+parts : (c : goal.After-result-2-1) → sliced 40 (40 + c.from-end.result) c.args.octets.now ≡ packet_parts Ip6 c.args.octets.now
+parts c =
+    let b = c.args.octets.now in
+    sliced-cut 40 (40 + c.from-end.result) b (omega arith) ∙ ap (λ (m : ℕ). cut 40 m b) (end_is c)
+
+split : (c : goal.After-result-2-1) → SplitsIp Ip6 c.args.octets.now (sliced 40 (40 + c.from-end.result) c.args.octets.now)
+split c =
+    let b = c.args.octets.now in
+    let end = end_is c in
+    let good : IsGood6 b = record {
+      room = omega arith;
+      version_is = omega arith;
+      there = omega arith;
+    } in
+    subst (λ (v : Parts). SplitsIp Ip6 b v) (sym (parts c)) (found-ip Ip6 b (IsGood6-to b good))
+
+pub invariant_of-result : goal.invariant_of-result
+invariant_of-result c = (split c).header
+
+pub returns-clause-parts : goal.returns-clause-parts
+returns-clause-parts c = parts c
+
+pub returns-clause-split : goal.returns-clause-split
+returns-clause-split c = split c

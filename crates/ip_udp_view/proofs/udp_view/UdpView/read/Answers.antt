@@ -1,0 +1,29 @@
+use Rattle.std.proofs.Common.{arith, ◌≡◌, ℕ, ap, ◌∙◌, subst, sym}
+use Rattle.header_sums.proofs.OctetsLemmas.{field-slice}
+use Rattle.ip_udp_view.specs.Parts.{Parts, cut}
+use Rattle.ip_udp_view.specs.Udp.{udp_length, udp_parts, SplitsUdp}
+use Rattle.ip_udp_view.proofs.CutLemmas.{sliced, sliced-cut}
+use Rattle.ip_udp_view.proofs.UdpLemmas.{IsGoodUdp, IsGoodUdp-to, found-udp}
+use Rattle.ip_udp_view.proofs.udp_view.UdpView.read.Goals as goal
+
+end_is : (c : goal.After-result-2-1) → c.from-end.result ≡ udp_length c.args.octets.now
+end_is c = c.from-end.ensures ∙ c.read_u16.ensures ∙ field-slice 2 4 c.args.octets.now
+
+parts : (c : goal.After-result-2-1) → sliced 8 c.from-end.result c.args.octets.now ≡ udp_parts c.args.octets.now
+parts c =
+    let p = c.args.octets.now in
+    sliced-cut 8 c.from-end.result p (omega arith) ∙ ap (λ (m : ℕ). cut 8 m p) (end_is c)
+
+pub returns-clause-parts : goal.returns-clause-parts
+returns-clause-parts c = parts c
+
+pub returns-clause-split : goal.returns-clause-split
+returns-clause-split c =
+    let p = c.args.octets.now in
+    let end = end_is c in
+    let good : IsGoodUdp p = record {
+      room = omega arith;
+      behind = omega arith;
+      there = omega arith;
+    } in
+    subst (λ (v : Parts). SplitsUdp p v) (sym (parts c)) (found-udp p (IsGoodUdp-to p good))

@@ -1,0 +1,24 @@
+use Rattle.std.proofs.Common.{rules, arith, ◌≡◌, ◌+◌, ◌++◌, length, ◌∙◌, subst}
+use Rattle.std.proofs.lemmas.List.{length-append}
+use Rattle.header_sums.specs.Sum.{total}
+use Rattle.header_sums.proofs.OctetsLemmas.{field-slice}
+use Rattle.ip_udp_view.specs.Addr.{IsAddr}
+use Rattle.ip_udp_view.specs.Parts.{Parts}
+use Rattle.ip_udp_view.specs.Udp.{pseudo}
+use Rattle.ip_udp_view.proofs.PseudoLemmas.{total-datagram}
+use Rattle.ip_udp_view.proofs.udp_view.UdpView.sum_between.Goals as goal
+
+pub returns : goal.returns
+returns c =
+    let h = c.self.inside.head.now in
+    let d = c.self.inside.payload.now in
+    let src : IsAddr c.args.src = search rules in
+    let dst : IsAddr c.args.dst = search rules in
+    let told = c.from-length.ensures ∙ c.read_u16.ensures ∙ field-slice 2 4 h ∙ c.self.invariant.total in
+    let octets = c.self.invariant.octets in
+    let fits = c.read_u16.type_inv in
+    let len : length (h ++ d) ≡ c.from-length.result = omega (arith, length-append h d, told) in
+    let sums = total-datagram c.args.src c.args.dst c.from-length.result h d src dst c.requires octets len (omega arith) in
+    let sum = c.address_words.result + c.address_words-2.result + 17 + c.from-length.result + c.words.result + c.words-2.result in
+    let P : Parts → Type 0 = λ v. let datagram = v.head ++ v.payload in sum ≡ total (pseudo c.args.src c.args.dst (length datagram) ++ datagram) in
+    subst P c.self.view_is (omega (arith, sums, c.address_words.ensures.sum, c.address_words-2.ensures.sum, c.words.ensures.sum, c.words-2.ensures.sum))

@@ -1,0 +1,142 @@
+//! UDP datagrams.
+ghost use Rattle.std.specs.Prelude.{◌≡◌, ◌^◌, ◌≤◌, ◌++◌, length, IsTrue, IfOk};
+ghost use Rattle.header_sums.specs.Sum.{total};
+ghost use Rattle.frame_view.specs.First.{fault_of, first};
+ghost use Rattle.ip_udp_view.specs.Addr.{address, same_family};
+ghost use Rattle.ip_udp_view.specs.Udp.{SplitsUdp, udp_parts, udp_faults, sport, dport, pseudo, sum_state};
+
+use crate::Addr;
+use byteorder::{BigEndian, ByteOrder};
+use header_sums::{fold, words};
+use std::marker::Model;
+use thiserror::Error;
+
+/// The octets of a header.
+const HEADER: usize = 8;
+/// UDP's protocol number, as it stands in both pseudo headers.
+const UDP: u64 = 17;
+
+/// The header is cut, or tells a length below 8 or beyond what is there.
+#[derive(Clone, Copy, Debug, PartialEq, Eq, Error)]
+#[error("BadUdp")]
+pub struct BadUdp;
+
+/// What a checksum says of a datagram (RFC 768).
+#[derive(Clone, Copy, Debug, PartialEq, Eq)]
+pub enum SumState {
+    /// The field is 0: the sender computed none.
+    Zero,
+    /// It is the datagram's.
+    Right,
+    /// It isn't the datagram's.
+    Wrong,
+}
+
+/// A UDP datagram (RFC 768) and what stands behind it, seen by contracts as its parts.
+#[derive(Debug, Drop)]
+pub struct UdpView<'a> {
+    head: &'a [u8],
+    payload: &'a [u8],
+    tail: &'a [u8],
+}
+
+impl<'a> Model for UdpView<'a> {
+    ghost use Rattle.std.specs.Prelude.{length};
+    ghost use Rattle.ip_udp_view.specs.Parts.{Parts};
+    ghost use Rattle.ip_udp_view.specs.Udp.{IsUdpHeader};
+
+    ghost Value = { Parts };
+
+    ghost view = { λ v. record { head = v.head.now; payload = v.payload.now; tail = v.tail.now } };
+
+    ghost invariant = { λ v. IsUdpHeader v.head.now (length v.payload.now) };
+}
+
+impl<'a> UdpView<'a> {
+    /// Reads the datagram that an IP payload begins with.
+    ///
+    /// `BadUdp`: fewer than 8 octets, or a length below 8 or beyond the octets.
+    pub fn read(octets: &'a [u8]) -> Result<UdpView<'a>, BadUdp>
+        ensures fault { fault_of result ≡ first (udp_faults octets.now) }
+        ensures parts { IfOk result (λ datagram. datagram ≡ udp_parts octets.now) }
+        ensures split { IfOk result (λ datagram. SplitsUdp octets.now datagram) }
+    {
+        if octets.len() < HEADER {
+            return Err(BadUdp);
+        }
+        let end = usize::from(BigEndian::read_u16(&octets[4..]));
+        if end < HEADER || octets.len() < end {
+            return Err(BadUdp);
+        }
+        Ok(UdpView {
+            head: &octets[..HEADER],
+            payload: &octets[HEADER..end],
+            tail: &octets[end..],
+        })
+    }
+
+    /// The source port.
+    pub fn sport(&self) -> u16
+        ensures { result ≡ sport self.now.head }
+    {
+        BigEndian::read_u16(self.head)
+    }
+
+    /// The destination port.
+    pub fn dport(&self) -> u16
+        ensures { result ≡ dport self.now.head }
+    {
+        BigEndian::read_u16(&self.head[2..])
+    }
+
+    /// What stands behind the header, up to the length that the header tells.
+    pub fn payload(&self) -> &'a [u8]
+        ensures { result.now ≡ self.now.payload }
+    {
+        self.payload
+    }
+
+    /// What stands behind the datagram in its IP payload.
+    pub fn tail(&self) -> &'a [u8]
+        ensures { result.now ≡ self.now.tail }
+    {
+        self.tail
+    }
+
+    /// What the checksum says of the datagram between these addresses, which are of one family: over the header and the
+    /// payload, and not over the tail.
+    pub fn sum_state(&self, src: Addr, dst: Addr) -> SumState
+        requires { IsTrue (same_family src dst) }
+        ensures { result ≡ sum_state src dst (self.now.head ++ self.now.payload) }
+    {
+        if BigEndian::read_u16(&self.head[6..]) == 0 {
+            SumState::Zero
+        } else if fold(self.sum_between(src, dst)) == u16::MAX {
+            SumState::Right
+        } else {
+            SumState::Wrong
+        }
+    }
+
+    /// The sum of the datagram and of its pseudo header between these addresses (RFC 768; RFC 8200, 8.1).
+    fn sum_between(&self, src: Addr, dst: Addr) -> u64
+        requires { IsTrue (same_family src dst) }
+        ensures { let datagram = self.now.head ++ self.now.payload in
+            result ≡ total (pseudo src dst (length datagram) ++ datagram) }
+    {
+        let length = u64::from(BigEndian::read_u16(&self.head[4..]));
+        let pseudo = address_words(src) + address_words(dst) + UDP + length;
+        pseudo + words(self.head) + words(self.payload)
+    }
+}
+
+/// The sum of the words of an address.
+fn address_words(addr: Addr) -> u64
+    ensures sum { result ≡ total (address addr) }
+    ensures small { result ≤ 2 ^ 20 }
+{
+    match addr {
+        Addr::V4(octets) => words(&octets),
+        Addr::V6(octets) => words(&octets),
+    }
+}

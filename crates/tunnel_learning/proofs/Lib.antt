@@ -1,0 +1,2 @@
+pub mod BridgeLemmas
+pub mod OnceLemmas

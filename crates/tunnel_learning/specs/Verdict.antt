@@ -1,0 +1,10 @@
+-- A verdict as the list of places, or the reason.
+use Rattle.std.specs.Prelude.{List, Result, Ok, Err}
+use Rattle.frame_view.specs.declared.reason.Reason.{Reason}
+use Rattle.filter_db.specs.declared.place.Place.{Place}
+use Rattle.tunnel_learning.specs.declared.verdict.Verdict.{Verdict}
+use Rattle.tunnel_learning.specs.declared.verdict.Verdict.TheVariants.{Outlets, Dropped}
+
+abbrev pub seen : Verdict → Result (List Place) Reason
+seen (Outlets places) = Ok places.items
+seen (Dropped reason) = Err reason

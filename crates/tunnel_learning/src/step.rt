@@ -1,0 +1,100 @@
+//! One step.
+ghost use Rattle.std.specs.Prelude.{◌≡◌, ◌≤◌, IsSome, ◌++◌, if◌then◌else◌};
+ghost use Rattle.filter_db.specs.Segment.{segment_at, aged_all};
+ghost use Rattle.arrayvec.specs.ArrayVec.{array_vec_len};
+ghost use Rattle.tunnel_learning.specs.Bridge.{config_of, to_place, everywhere, local_places, remote_places, outlets, learned};
+ghost use Rattle.tunnel_learning.specs.Verdict.{seen};
+
+use crate::{Bridge, Verdict};
+use arrayvec::ArrayVec;
+use filter_db::{Place, Tables};
+use frame_view::{BridgeFrame, Reason};
+
+/// A frame came from a place at a moment: learns where its source stands, where the segment learns (IEEE 802.1Q, 8.7),
+/// and then answers where it goes (8.6 and 8.8, with split horizon among the remotes of a group).
+pub fn bridge_step<T: Tables>(
+    tables: &mut T,
+    bridge: &Bridge,
+    now: u64,
+    from: Place,
+    frame: &BridgeFrame,
+) -> Verdict
+    requires has { IsSome (T.segments tables.old bridge.now.vid) }
+    requires time { T.moment tables.old ≤ now }
+    ensures verdict { let entries = (segment_at bridge.now.vid (aged_all now (T.segments tables.new))).entries in
+        seen result ≡ outlets (config_of bridge.now) from frame.now entries }
+    ensures tables { let c = config_of bridge.now in
+        T.segments tables.new ≡ learned c bridge.now.vid now from frame.now (T.segments tables.old) }
+    // A step that learns moves the tables' moment on, and a look-up doesn't.
+    ensures moment { T.moment tables.new ≡ (if bridge.now.learning then now else T.moment tables.old) }
+{
+    if bridge.learning {
+        let _ = tables.learn(bridge.vid, frame.src, from, now);
+    }
+    if frame.dst.is_group() {
+        return everywhere(bridge, from);
+    }
+    match tables.look(bridge.vid, frame.dst, now) {
+        Some(to) => to_place(bridge, from, to),
+        None => everywhere(bridge, from),
+    }
+}
+
+/// To the place where the destination stands.
+fn to_place(bridge: &Bridge, from: Place, to: Place) -> Verdict
+    ensures { seen result ≡ to_place (config_of bridge.now) from to }
+{
+    if to.is_same(from) {
+        return Verdict::Dropped(Reason::SamePlace);
+    }
+    if bridge.in_one_group(from, to) {
+        return Verdict::Dropped(Reason::Horizon);
+    }
+    if bridge.is_shut(to) {
+        return Verdict::Dropped(Reason::Unreachable);
+    }
+    let mut places = ArrayVec::new();
+    places.push(to);
+    Verdict::Outlets(places)
+}
+
+/// Everywhere else: the up members, and the remotes of the flood list.
+fn everywhere(bridge: &Bridge, from: Place) -> Verdict
+    ensures { seen result ≡ everywhere (config_of bridge.now) from }
+{
+    let mut places = ArrayVec::new();
+    put_local(bridge, from, &mut places);
+    put_remote(bridge, from, &mut places);
+    if places.is_empty() {
+        return Verdict::Dropped(Reason::NoOutlet);
+    }
+    Verdict::Outlets(places)
+}
+
+/// Puts the up members but the port that the frame came from, rising.
+fn put_local(bridge: &Bridge, from: Place, places: &mut ArrayVec<Place, 32>)
+    requires { array_vec_len places.old ≤ 0 }
+    ensures items { places.new.items ≡ places.old.items ++ local_places (config_of bridge.now) from }
+    ensures few { array_vec_len places.new ≤ 16 }
+{
+    for number in 0..bridge.ports.ports() {
+        let port = number + 1;
+        let to = Place::Local(port);
+        if bridge.is_local_outlet(from, to) {
+            places.push(to);
+        }
+    }
+}
+
+/// Puts the remotes of the flood list but those of the horizon group that the frame came from, in its order.
+fn put_remote(bridge: &Bridge, from: Place, places: &mut ArrayVec<Place, 32>)
+    requires { array_vec_len places.old ≤ 16 }
+    ensures { places.new.items ≡ places.old.items ++ remote_places (config_of bridge.now) from }
+{
+    for target in bridge.flood.targets() {
+        let to = Place::Remote(target.tunnel, target.addr);
+        if !bridge.in_one_group(from, to) {
+            places.push(to);
+        }
+    }
+}

@@ -1,0 +1,16 @@
+-- How the values that contracts see of the ports are stored.
+use Rattle.std.specs.Prelude.{refl, List}
+use Rattle.std.specs.Coded.{Coded, code_by, coded×, coded_ℕ, coded_list}
+use Rattle.std.specs.FinMap.{code}
+use Rattle.vlan_ports.specs.Ports.{Ports, Members, Segments}
+use Rattle.vlan_ports.specs.contracts.member.Egress as egress
+use Rattle.vlan_ports.specs.contracts.port.PortRule as port_rule
+use Rattle.vlan_ports.specs.declared.port.PortRule.{PortRule}
+
+abbrev pub members_code : Coded Members
+members_code = code coded_ℕ egress.the_row.coded
+
+-- ports and segments are stored as the pair of both
+abbrev pub ports_code : Coded Ports
+ports_code =
+    code_by (List PortRule × Segments) (coded× (coded_list port_rule.the_row.coded) (code coded_ℕ members_code)) (λ s. (s.ports, s.segments)) (λ p. record { ports = p.0; segments = p.1 }) (λ _. refl)

@@ -1,0 +1,119 @@
+//! Which segment a frame enters at a port (IEEE 802.1Q, 6.9 and 8.6.2).
+ghost use Rattle.std.specs.Prelude.{◌≡◌, ◌≤◌, ◌<◌, length, take, if◌then◌else◌, IfSome};
+ghost use Rattle.vlan_ports.specs.Octets.{part};
+ghost use Rattle.vlan_ports.specs.Frame.{first};
+ghost use Rattle.vlan_ports.specs.Ingress.{enters, nowhere, within, unless, vid_reasons, segment_vid, is_cut, tag_vid, frame_in};
+ghost use Rattle.vlan_ports.specs.Ports.{port_at};
+
+use crate::PortSet;
+use frame_view::{BridgeFrame, EtherView, Reason, Refused, Tagging, Vid};
+
+/// The reserved VID (IEEE 802.1Q, 9.6).
+const RESERVED_VID: u16 = 4095;
+
+/// The segment that a frame of these octets enters at a port, and the frame without its outermost tag; or the first
+/// reason, of 3 to 11, why it enters none. Its parts are slices of the octets.
+///
+/// A frame with VID 0 in its tag takes the port's VID and keeps its priority; one without a tag takes the port's VID
+/// and priority 0. At every port a frame enters only segments that the port is a member of (ingress filtering).
+pub fn classify<'a>(
+    ports: &PortSet,
+    port: u8,
+    octets: &'a [u8],
+) -> Result<(Vid, BridgeFrame<'a>), Refused>
+    requires low { 1 ≤ port }
+    requires high { port ≤ length ports.now.ports }
+    ensures { result ≡ enters ports.now port octets.now }
+{
+    let Ok(view) = EtherView::read(octets) else {
+        return Err(nowhere(Reason::Runt));
+    };
+    if !ports.is_up(port) {
+        return Err(nowhere(Reason::PortDown));
+    }
+    if view.src().is_group() {
+        return Err(nowhere(Reason::BadSource));
+    }
+    if view.dst().is_reserved() {
+        return Err(nowhere(Reason::Reserved));
+    }
+    let Some((tag_vid, frame)) = without_tag(&view) else {
+        return Err(nowhere(Reason::CutTag));
+    };
+    let vid = segment_of(ports, port, tag_vid)?;
+    Ok((vid, frame))
+}
+
+/// The VID in the tag of a frame, 0 where it has none, and the frame without the tag. None: the tag is cut.
+fn without_tag<'a>(view: &EtherView<'a>) -> Option<(u16, BridgeFrame<'a>)>
+    ensures value { result ≡ (if is_cut view.now then None else Some (tag_vid view.now, frame_in view.now)) }
+    ensures bits { IfSome result (λ parts. parts.0 < 4096) }
+{
+    match view.split_tag() {
+        Tagging::Plain(body) => Some((0, frame_of(view, 0, false, body))),
+        Tagging::Tagged(tci, body) => {
+            Some((tci.vid(), frame_of(view, tci.pcp(), tci.dei(), body)))
+        }
+        Tagging::Cut => None,
+    }
+}
+
+/// The segment of a frame with this VID in its tag, 0 where it has none.
+fn segment_of(ports: &PortSet, port: u8, tag_vid: u16) -> Result<Vid, Refused>
+    requires low { 1 ≤ port }
+    requires high { port ≤ length ports.now.ports }
+    requires bits { tag_vid < 4096 }
+    ensures { result ≡ unless (first (vid_reasons ports.now port tag_vid)) (segment_vid (port_at ports.now port).pvid tag_vid) }
+{
+    if tag_vid == RESERVED_VID {
+        return Err(nowhere(Reason::BadVid));
+    }
+    let rule = ports.rule(port);
+    if !rule.accept.accepts(tag_vid) {
+        return Err(nowhere(Reason::FrameType));
+    }
+    let vid = Vid::new(tag_vid).unwrap_or(rule.pvid);
+    if !ports.has(vid) {
+        return Err(nowhere(Reason::NoSegment));
+    }
+    if ports.egress(vid, port).is_none() {
+        return Err(within(vid, Reason::NotMember));
+    }
+    Ok(vid)
+}
+
+/// The frame with these parts, and the addresses of the view.
+fn frame_of<'a>(view: &EtherView<'a>, pcp: u8, dei: bool, body: &'a [u8]) -> BridgeFrame<'a>
+    requires pcp { pcp < 8 }
+    requires body { 2 ≤ length body.now }
+    ensures { result ≡ record { dst = take 6 view.now; src = part 6 6 view.now; pcp = pcp; dei = dei; body = body.now } }
+{
+    BridgeFrame {
+        dst: view.dst(),
+        src: view.src(),
+        pcp,
+        dei,
+        addresses: view.addresses(),
+        body,
+    }
+}
+
+/// A refusal before the segment is known.
+fn nowhere(reason: Reason) -> Refused
+    ensures { result ≡ nowhere reason }
+{
+    Refused {
+        segment: None,
+        reason,
+    }
+}
+
+/// A refusal in a segment.
+fn within(vid: Vid, reason: Reason) -> Refused
+    ensures { result ≡ within vid reason }
+{
+    Refused {
+        segment: Some(vid),
+        reason,
+    }
+}

@@ -10,3 +10,7 @@ same_place (Local p) (Local q) = p == q
 same_place (Local p) (Remote l b) = false
 same_place (Remote k a) (Local q) = false
 same_place (Remote k a) (Remote l b) = same_kind k l && same_addr a b
+
+-- no place: port 0, which no port has
+abbrev pub no_place : Place
+no_place = Local 0

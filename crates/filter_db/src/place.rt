@@ -1,6 +1,6 @@
 //! Places.
 ghost use Rattle.std.specs.Prelude.{◌≡◌};
-ghost use Rattle.filter_db.specs.Place.{same_place};
+ghost use Rattle.filter_db.specs.Place.{same_place, no_place};
 
 use ip_udp_view::{Addr, Tunnel};
 
@@ -14,6 +14,8 @@ pub enum Place {
 }
 
 impl Default for Place {
+    ghost is_default = { λ place. place ≡ no_place };
+
     /// Port 0, which is no port: what stands in the free places of a list of fixed capacity.
     fn default() -> Place {
         Place::Local(0)

@@ -1,0 +1,10 @@
+use Rattle.ip_udp_view.specs.declared.addr.Tunnel.TheVariants.{Vxlan, Geneve}
+use Rattle.std.specs.FinMap.{empty}
+use Rattle.underlay.proofs.IndexLemmas.{indexes_nothing, indexes_as}
+use Rattle.underlay.proofs.under.Under.without_segments.Goals as goal
+
+pub invariant_of-result : goal.invariant_of-result
+invariant_of-result c = (
+  indexes_as Vxlan c.in_ok-open.field-0 empty c.in_ok-open-2.field-0 empty c.in_ok-open.ensures c.in_ok-open-2.ensures (indexes_nothing Vxlan),
+  indexes_as Geneve c.in_ok-open.field-0 empty c.in_ok-open-3.field-0 empty c.in_ok-open.ensures c.in_ok-open-3.ensures (indexes_nothing Geneve),
+)

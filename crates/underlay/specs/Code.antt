@@ -1,0 +1,16 @@
+-- How the values that contracts see of the segments are stored.
+use Rattle.std.specs.Prelude.{refl}
+use Rattle.std.specs.Coded.{Coded, code_by, coded×, coded_ℕ}
+use Rattle.std.specs.FinMap.{code}
+use Rattle.underlay.specs.declared.settings.Underlay.{Underlay}
+use Rattle.underlay.specs.contracts.segment.Segment as segment
+use Rattle.underlay.specs.contracts.settings.Underlay as settings
+use Rattle.underlay.specs.Overlay.{Overlay, Segments}
+
+abbrev pub segments_code : Coded Segments
+segments_code = code coded_ℕ segment.the_row.coded
+
+-- an overlay is stored as the pair of both
+abbrev pub overlay_code : Coded Overlay
+overlay_code =
+    code_by (Underlay × Segments) (coded× settings.the_row.coded segments_code) (λ s. (s.underlay, s.segments)) (λ p. record { underlay = p.0; segments = p.1 }) (λ _. refl)

@@ -1,0 +1,44 @@
+//! The rules of a segment's tunnels.
+ghost use Rattle.std.specs.Prelude.{◌≡◌};
+
+use crate::Tunnels;
+use flood_lists::FloodList;
+use frame_view::Vid;
+
+/// Who may send to a segment.
+#[derive(Clone, Copy, Debug, PartialEq, Eq)]
+pub enum PeerRule {
+    /// Anybody.
+    Any,
+    /// The remotes on its flood list alone.
+    Listed,
+}
+
+/// What becomes of a frame in a tunnel that begins with a tag (RFC 7348, 6.1).
+#[derive(Clone, Copy, Debug, PartialEq, Eq)]
+pub enum TagRule {
+    /// It is dropped, on receipt and before it is sent.
+    Drop,
+    /// It is passed as it is.
+    Pass,
+}
+
+/// The tunnels of a segment, and who is behind them.
+#[derive(Debug, Drop)]
+pub struct Segment {
+    pub tunnels: Tunnels,
+    /// The remotes that a frame is flooded to.
+    pub flood: FloodList,
+    pub peers: PeerRule,
+    pub tags: TagRule,
+}
+
+/// A segment by its VID.
+#[derive(Debug, Drop)]
+pub struct TunnelRule {
+    pub vid: Vid,
+    pub tunnels: Tunnels,
+    pub flood: FloodList,
+    pub peers: PeerRule,
+    pub tags: TagRule,
+}

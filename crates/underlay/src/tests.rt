@@ -1,0 +1,302 @@
+//! The underlay's settings, and the ways to a segment.
+ghost use Rattle.std.specs.Prelude.{◌≡◌, ◌≤◌, ◌<◌, ◌+◌};
+ghost use Rattle.std.specs.FinMap.{len};
+
+use crate::{Hops, PeerRule, SegmentTunnel, TagRule, TunnelRule, Tunnels, Under, Underlay};
+use flood_lists::{FloodFault, FloodList, NotThere, Own};
+use frame_view::{Mac, Vid};
+use geneve_head::Known;
+use ip_udp_view::{Addr, Tunnel};
+use std::test::Fail;
+use vxlan_head::Vni;
+
+const OWN4: [u8; 4] = [192, 0, 2, 1];
+
+const OWN6: [u8; 16] = [0x20, 0x01, 0x0D, 0xB8, 0, 0, 0, 0, 0, 0, 0, 0, 0, 0, 0, 1];
+
+const NEXT_HOP: Mac = Mac([0x02, 0, 0, 0, 0xAA, 0xFE]);
+
+fn host4(last: u8) -> Addr {
+    Addr::V4([192, 0, 2, last])
+}
+
+fn host6(last: u8) -> Addr {
+    Addr::V6([
+        0x20, 0x01, 0x0D, 0xB8, 0, 0, 0, 0, 0, 0, 0, 0, 0, 0, 0, last,
+    ])
+}
+
+fn underlay() -> Underlay {
+    Underlay {
+        mac: Mac([0x02, 0, 0, 0, 0xAA, 0x01]),
+        next_hop: NEXT_HOP,
+        ip4: Some(OWN4),
+        ip6: Some(OWN6),
+        mtu: 1550,
+        ttl: 64,
+        vxlan_port: 4789,
+        geneve_port: 6081,
+        sum4: false,
+        sum6: true,
+        zero6: true,
+        known: Known::new(),
+        hops: Hops::new(),
+    }
+}
+
+#[test]
+fn a_port_has_the_kind_of_its_tunnels(rt: HostRuntime) {
+    let underlay = underlay();
+    for (port, wanted) in [
+        (4789, Some(Tunnel::Vxlan)),
+        (6081, Some(Tunnel::Geneve)),
+        (4788, None),
+        (53, None),
+    ] {
+        assert_eq!(rt; underlay.kind_at(port), wanted, "port {port}");
+    }
+    assert_eq!(rt; underlay.port_of(Tunnel::Vxlan), 4789, "VXLAN's port");
+    assert_eq!(rt; underlay.port_of(Tunnel::Geneve), 6081, "Geneve's port");
+}
+
+#[test]
+fn own_addresses_are_of_both_families(rt: HostRuntime) {
+    let underlay = underlay();
+    for (addr, wanted) in [
+        (host4(1), true),
+        (host4(2), false),
+        (host6(1), true),
+        (host6(2), false),
+    ] {
+        assert_eq!(rt; underlay.is_own(addr), wanted, "{addr:?}");
+    }
+    let wanted = Own {
+        ip4: Some(OWN4),
+        ip6: Some(OWN6),
+    };
+    assert_eq!(rt; underlay.own(), wanted, "the own addresses");
+}
+
+#[test]
+fn a_group_an_exception_and_others_have_their_next_hops(rt: HostRuntime) {
+    let mut underlay = underlay();
+    for (addr, last) in [
+        (host6(9), 1),
+        (host4(7), 2),
+        (host4(3), 3),
+        (host4(5), 4),
+        (host6(4), 5),
+    ] {
+        if underlay.hops.get(addr).is_none() && underlay.hops.len() < 64 {
+            underlay.hops.insert(addr, Mac([0x02, 0, 0, 0, 0xBB, last]));
+        }
+    }
+    assert_eq!(rt; underlay.hops.len(), 5, "the number of exceptions");
+    let group6 = [0xFF, 0x05, 0, 0, 0, 0, 0, 0, 0, 0, 0, 0, 0, 1, 0, 3];
+    for (addr, wanted) in [
+        (host6(9), Mac([0x02, 0, 0, 0, 0xBB, 1])),
+        (host4(7), Mac([0x02, 0, 0, 0, 0xBB, 2])),
+        (host4(3), Mac([0x02, 0, 0, 0, 0xBB, 3])),
+        (host4(5), Mac([0x02, 0, 0, 0, 0xBB, 4])),
+        (host6(4), Mac([0x02, 0, 0, 0, 0xBB, 5])),
+        (host4(4), NEXT_HOP),
+        (host6(5), NEXT_HOP),
+        (
+            Addr::V4([239, 1, 1, 1]),
+            Mac([0x01, 0x00, 0x5E, 0x01, 0x01, 0x01]),
+        ),
+        (Addr::V6(group6), Mac([0x33, 0x33, 0x00, 0x01, 0x00, 0x03])),
+    ] {
+        assert_eq!(rt; underlay.hop_to(addr), wanted, "{addr:?}");
+    }
+}
+
+/// A tunnel of a kind with the VNI that these octets spell.
+fn tunnel(kind: Tunnel, vni: [u8; 3]) -> SegmentTunnel
+    ensures { result.kind ≡ kind }
+{
+    SegmentTunnel {
+        kind,
+        vni: Vni::from_octets(vni),
+        group: 0,
+    }
+}
+
+fn vxlan_5000() -> SegmentTunnel {
+    tunnel(Tunnel::Vxlan, [0x00, 0x13, 0x88])
+}
+
+fn geneve_5000() -> SegmentTunnel {
+    tunnel(Tunnel::Geneve, [0x00, 0x13, 0x88])
+}
+
+/// Adds a segment with one tunnel, where neither its VID nor its kind and VNI are there; whether it did.
+#[tactic(auto, using(crate::proofs::ToldLemmas::segments_more))]
+fn add(under: &mut Under, vid: Vid, tunnel: SegmentTunnel) -> bool
+    requires { len under.old.segments < 256 }
+    ensures { len under.new.segments ≤ len under.old.segments + 1 }
+{
+    if under.has(vid) || under.taken(tunnel.kind, tunnel.vni) {
+        return false;
+    }
+    under.add_segment(TunnelRule {
+        vid,
+        tunnels: Tunnels::one(tunnel),
+        flood: FloodList::new(),
+        peers: PeerRule::Any,
+        tags: TagRule::Drop,
+    });
+    true
+}
+
+#[test]
+#[tactic(auto, using(crate::proofs::ToldLemmas::no_segments))]
+fn a_segment_is_found_by_its_vid_and_by_its_tunnel(rt: HostRuntime) -> Result<(), Fail> {
+    let (Some(ten), Some(twenty), Some(thirty)) = (Vid::new(10), Vid::new(20), Vid::new(30)) else {
+        return Ok(());
+    };
+    let mut under = Under::open(rt.alloc(), underlay(), Vec::new(rt.alloc()))?;
+    assert_eq!(rt;
+        add(&mut under, ten, vxlan_5000()),
+        true,
+        "VID 10 with VXLAN 5000"
+    );
+    assert_eq!(rt;
+        add(&mut under, twenty, vxlan_5000()),
+        false,
+        "VXLAN 5000 again"
+    );
+    assert_eq!(rt; add(&mut under, ten, geneve_5000()), false, "VID 10 again");
+    assert_eq!(rt;
+        add(&mut under, twenty, geneve_5000()),
+        true,
+        "VID 20 with Geneve 5000"
+    );
+    for (vid, wanted) in [(ten, true), (twenty, true), (thirty, false)] {
+        assert_eq!(rt; under.has(vid), wanted, "{vid:?}");
+    }
+    for (kind, number, wanted) in [
+        (Tunnel::Vxlan, [0x00, 0x13, 0x88], Some(ten)),
+        (Tunnel::Geneve, [0x00, 0x13, 0x88], Some(twenty)),
+        (Tunnel::Vxlan, [0x00, 0x13, 0x89], None),
+    ] {
+        let found = match under.segment_by(kind, Vni::from_octets(number)) {
+            Some((vid, _)) => Some(vid),
+            None => None,
+        };
+        assert_eq!(rt; found, wanted, "{kind:?} {number:?}");
+        assert_eq!(rt;
+            under.taken(kind, Vni::from_octets(number)),
+            wanted.is_some(),
+            "{kind:?} {number:?} taken"
+        );
+    }
+    for (vid, kind, wanted) in [
+        (ten, Tunnel::Vxlan, Some(vxlan_5000())),
+        (ten, Tunnel::Geneve, None),
+        (twenty, Tunnel::Geneve, Some(geneve_5000())),
+        (thirty, Tunnel::Vxlan, None),
+    ] {
+        assert_eq!(rt;
+            under.tunnel_of(vid, kind),
+            wanted,
+            "the {kind:?} tunnel of {vid:?}"
+        );
+    }
+    if under.has(ten) {
+        under.remove_segment(ten);
+    }
+    assert_eq!(rt; under.has(ten), false, "VID 10 removed");
+    assert_eq!(rt;
+        under.taken(Tunnel::Vxlan, vxlan_5000().vni),
+        false,
+        "VXLAN 5000 removed"
+    );
+    assert_eq!(rt;
+        under.taken(Tunnel::Geneve, geneve_5000().vni),
+        true,
+        "Geneve 5000 stays"
+    );
+    Ok(())
+}
+
+#[test]
+#[tactic(auto, using(crate::proofs::ToldLemmas::no_segments))]
+fn a_flood_list_changes_alone(rt: HostRuntime) -> Result<(), Fail> {
+    let (Some(ten), Some(twenty)) = (Vid::new(10), Vid::new(20)) else {
+        return Ok(());
+    };
+    let mut under = Under::open(rt.alloc(), underlay(), Vec::new(rt.alloc()))?;
+    assert_eq!(rt;
+        add(&mut under, ten, tunnel(Tunnel::Vxlan, [0, 0, 1])),
+        true,
+        "VID 10"
+    );
+    assert_eq!(rt;
+        add(&mut under, twenty, tunnel(Tunnel::Vxlan, [0, 0, 2])),
+        true,
+        "VID 20"
+    );
+    for (addr, wanted) in [
+        (host4(2), Ok(())),
+        (host4(2), Err(FloodFault::AlreadyThere)),
+        (host4(1), Err(FloodFault::OwnAddress)),
+    ] {
+        if under.has(ten) {
+            assert_eq!(rt;
+                under.add_flood(ten, Tunnel::Vxlan, addr),
+                wanted,
+                "{addr:?} added"
+            );
+        }
+    }
+    for (vid, wanted) in [(ten, 1), (twenty, 0)] {
+        if under.has(vid) {
+            assert_eq!(rt;
+                under.flood(vid).targets().len(),
+                wanted,
+                "the flood list of {vid:?}"
+            );
+            assert_eq!(rt;
+                under.segment(vid).flood.targets().len(),
+                wanted,
+                "the same, by the segment"
+            );
+        }
+    }
+    for (addr, wanted) in [(host4(2), Ok(())), (host4(2), Err(NotThere))] {
+        if under.has(ten) {
+            assert_eq!(rt;
+                under.remove_flood(ten, Tunnel::Vxlan, addr),
+                wanted,
+                "{addr:?} removed"
+            );
+        }
+    }
+    Ok(())
+}
+
+#[test]
+fn the_settings_stay(rt: HostRuntime) -> Result<(), Fail> {
+    let under = Under::open(rt.alloc(), underlay(), Vec::new(rt.alloc()))?;
+    assert_eq!(rt; under.settings().mtu, 1550, "the MTU");
+    assert_eq!(rt; under.own().ip4, Some(OWN4), "the own address");
+    assert_eq!(rt; under.kind_at(6081), Some(Tunnel::Geneve), "port 6081");
+    assert_eq!(rt; under.zero6(), true, "checksum 0 over IPv6");
+    assert_eq!(rt; under.known().pairs().len(), 0, "the known options");
+    Ok(())
+}
+
+#[test]
+fn a_segment_has_one_or_two_tunnels(rt: HostRuntime) {
+    let vxlan = tunnel(Tunnel::Vxlan, [0, 0, 1]);
+    let geneve = tunnel(Tunnel::Geneve, [0, 0, 2]);
+    let one = Tunnels::one(vxlan);
+    assert_eq!(rt; one.first(), vxlan, "the first of one");
+    assert_eq!(rt; one.are_two(), false, "one");
+    assert_eq!(rt; one.of(Tunnel::Geneve), None, "Geneve of one");
+    let two = Tunnels::two(geneve, vxlan);
+    assert_eq!(rt; two.first(), geneve, "the first of two");
+    assert_eq!(rt; two.are_two(), true, "two");
+    assert_eq!(rt; two.of(Tunnel::Vxlan), Some(vxlan), "VXLAN of two");
+}

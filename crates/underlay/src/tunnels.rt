@@ -1,0 +1,85 @@
+//! The tunnels of a segment.
+ghost use Rattle.std.specs.Prelude.{◌≡◌, ◌≢◌, [], ◌∷◌, length, ◌==◌, slice_get, Some};
+ghost use Rattle.underlay.specs.Tunnels.{of_kind};
+
+use ip_udp_view::Tunnel;
+use std::marker::Model;
+use vxlan_head::Vni;
+
+/// One of a segment's tunnels.
+#[derive(Clone, Copy, Debug, PartialEq, Eq)]
+pub struct SegmentTunnel {
+    pub kind: Tunnel,
+    /// The number of the segment's network in tunnels of this kind.
+    pub vni: Vni,
+    /// Its horizon group: frames from a remote of a group aren't sent to the others of that group.
+    pub group: u8,
+}
+
+/// A segment's one or two tunnels, of different kinds, seen by contracts as the list of them.
+#[derive(Debug, Drop)]
+pub struct Tunnels {
+    /// Meant where a change names no kind.
+    first: SegmentTunnel,
+    second: Option<SegmentTunnel>,
+}
+
+impl Model for Tunnels {
+    ghost use Rattle.std.specs.Prelude.{List, ◌∷◌, ◌≢◌, IfSome};
+    ghost use Rattle.std.specs.Option.{option_to_list};
+    ghost use Rattle.underlay.specs.declared.tunnels.SegmentTunnel.{SegmentTunnel};
+
+    ghost Value = { List SegmentTunnel };
+
+    ghost view = { λ t. t.first ∷ option_to_list t.second };
+
+    ghost invariant = { λ t. IfSome t.second (λ second. second.kind ≢ t.first.kind) };
+}
+
+impl Tunnels {
+    /// One tunnel.
+    pub fn one(tunnel: SegmentTunnel) -> Tunnels
+        ensures { result ≡ tunnel ∷ [] }
+    {
+        Tunnels {
+            first: tunnel,
+            second: None,
+        }
+    }
+
+    /// Two tunnels, of different kinds. The first is meant where a change names none.
+    pub fn two(first: SegmentTunnel, second: SegmentTunnel) -> Tunnels
+        requires { second.kind ≢ first.kind }
+        ensures { result ≡ first ∷ second ∷ [] }
+    {
+        Tunnels {
+            first,
+            second: Some(second),
+        }
+    }
+
+    /// The tunnel that is meant where a change names none.
+    pub fn first(&self) -> SegmentTunnel
+        ensures { slice_get self.now 0 ≡ Some result }
+    {
+        self.first
+    }
+
+    /// Whether there are two.
+    pub fn are_two(&self) -> bool
+        ensures { result ≡ (length self.now == 2) }
+    {
+        self.second.is_some()
+    }
+
+    /// The tunnel of a kind, where there is one.
+    pub fn of(&self, kind: Tunnel) -> Option<SegmentTunnel>
+        ensures { result ≡ of_kind kind self.now }
+    {
+        if self.first.kind == kind {
+            Some(self.first)
+        } else {
+            self.second.filter(|tunnel| tunnel.kind == kind)
+        }
+    }
+}

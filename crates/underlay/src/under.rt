@@ -1,0 +1,237 @@
+//! The underlay and the segments over it.
+ghost use Rattle.std.specs.Prelude.{◌≡◌, ◌<◌, ◌≤◌, ◌++◌, ◌∷◌, [], Some, IfOk, IsTrue, is_ok, not, length, OnOk, OnErr};
+ghost use Rattle.std.specs.Option.{option_copied, option_map};
+ghost use Rattle.std.specs.FinMap.{len};
+ghost use Rattle.underlay.specs.Flood.{first, fault_of, add_faults, holds, without};
+ghost use Rattle.underlay.specs.Index.{Indexes};
+ghost use Rattle.underlay.specs.Overlay.{segment_at, has_segment, flood_at, tunnel_at, segment_by, taken, are_free, AreApart, told, with_segment, without_segment, with_flood};
+ghost use Rattle.underlay.specs.Settings.{own, kind_at};
+
+use crate::places::SegmentPlaces;
+use crate::vni_index::VniIndex;
+use crate::{Segment, SegmentTunnel, TunnelRule, Underlay};
+use flood_lists::{FloodFault, FloodList, NotThere, Own};
+use frame_view::Vid;
+use geneve_head::Known;
+use ip_udp_view::{Addr, Tunnel};
+use std::alloc::{AllocError, Global};
+use std::marker::Model;
+use vxlan_head::Vni;
+
+/// The settings of the underlay, and the tunnels of at most 256 segments; seen by contracts as the settings and a
+/// finite map from VID to segment.
+///
+/// Only [`Under::open`] takes memory. A segment is found by its VID in constant time, and by the kind and VNI of a tunnel
+/// in logarithmic time.
+#[derive(Drop)]
+pub struct Under {
+    underlay: Underlay,
+    segments: SegmentPlaces,
+    /// The segments by the VNIs of their VXLAN tunnels.
+    vxlan: VniIndex,
+    /// The segments by the VNIs of their Geneve tunnels.
+    geneve: VniIndex,
+}
+
+impl Model for Under {
+    ghost use Rattle.ip_udp_view.specs.declared.addr.Tunnel.TheVariants.{Vxlan, Geneve};
+    ghost use Rattle.underlay.specs.Overlay.{Overlay};
+    ghost use Rattle.underlay.specs.Code.{overlay_code};
+    ghost use Rattle.underlay.specs.Index.{Indexes};
+
+    ghost Value = { Overlay };
+
+    ghost coded = { overlay_code };
+
+    ghost view = { λ u. record { underlay = u.underlay; segments = u.segments } };
+
+    ghost invariant = { λ u. Indexes Vxlan u.segments u.vxlan × Indexes Geneve u.segments u.geneve };
+}
+
+impl Under {
+    /// The settings, and the segments of these rules: at most 256, no two of which are for one VID or have tunnels of one
+    /// kind and VNI. It reserves the places of 256 segments, and `AllocError` says that there was no room for them.
+    pub fn open(
+        alloc: Global,
+        underlay: Underlay,
+        rules: Vec<TunnelRule>,
+    ) -> Result<Under, AllocError>
+        requires few { length rules.items ≤ 256 }
+        requires apart { AreApart rules.items }
+        ensures { IfOk result (λ under. under ≡ told underlay rules.items) }
+    {
+        let mut under = Under::without_segments(alloc, underlay)?;
+        for rule in rules {
+            under.add_segment(rule);
+        }
+        Ok(under)
+    }
+
+    /// The settings, and no segment yet.
+    fn without_segments(alloc: Global, underlay: Underlay) -> Result<Under, AllocError>
+        ensures { IfOk result (λ under. under ≡ told underlay []) }
+    {
+        Ok(Under {
+            underlay,
+            segments: SegmentPlaces::open(alloc)?,
+            vxlan: VniIndex::open(alloc)?,
+            geneve: VniIndex::open(alloc)?,
+        })
+    }
+
+    /// The settings of the underlay.
+    pub fn settings(&self) -> &Underlay
+        ensures { result.now ≡ self.now.underlay }
+    {
+        &self.underlay
+    }
+
+    /// The endpoint's own addresses.
+    pub fn own(&self) -> Own
+        ensures { result ≡ own self.now.underlay }
+    {
+        self.underlay.own()
+    }
+
+    /// The kind of the tunnels at a UDP port, where it is a tunnel port.
+    pub fn kind_at(&self, port: u16) -> Option<Tunnel>
+        ensures { result ≡ kind_at self.now.underlay port }
+    {
+        self.underlay.kind_at(port)
+    }
+
+    /// The critical Geneve options that are accepted.
+    pub fn known(&self) -> &Known
+        ensures { result.now ≡ self.now.underlay.known }
+    {
+        &self.underlay.known
+    }
+
+    /// Whether a UDP checksum of 0 is accepted over IPv6 (RFC 6935, 5).
+    pub fn zero6(&self) -> bool
+        ensures { result ≡ self.now.underlay.zero6 }
+    {
+        self.underlay.zero6
+    }
+
+    /// Whether there is a segment of this VID.
+    pub fn has(&self, vid: Vid) -> bool
+        ensures { result ≡ has_segment self.now vid }
+    {
+        self.segments.get(vid).is_some()
+    }
+
+    /// A segment that is there.
+    pub fn segment(&self, vid: Vid) -> &Segment
+        requires there { IsTrue (has_segment self.now vid) }
+        ensures { segment_at self.now vid ≡ Some result.now }
+    {
+        self.segments.get(vid).unwrap()
+    }
+
+    /// The VID and the segment whose tunnel of this kind has this VNI.
+    pub fn segment_by(&self, kind: Tunnel, vni: Vni) -> Option<(Vid, &Segment)>
+        ensures { option_map (λ found. (found.0, found.1.now)) result ≡ segment_by self.now kind vni }
+    {
+        let Some(vid) = self.index(kind).get(vni) else {
+            return None;
+        };
+        match self.segments.get(vid) {
+            Some(segment) => Some((vid, segment)),
+            None => None,
+        }
+    }
+
+    /// Whether a segment has a tunnel of this kind and VNI.
+    pub fn taken(&self, kind: Tunnel, vni: Vni) -> bool
+        ensures { result ≡ taken self.now kind vni }
+    {
+        self.index(kind).get(vni).is_some()
+    }
+
+    /// The tunnel of a kind of the segment of this VID.
+    pub fn tunnel_of(&self, vid: Vid, kind: Tunnel) -> Option<SegmentTunnel>
+        ensures { result ≡ tunnel_at self.now vid kind }
+    {
+        match self.segments.get(vid) {
+            Some(segment) => segment.tunnels.of(kind),
+            None => None,
+        }
+    }
+
+    /// The flood list of a segment that is there.
+    pub fn flood(&self, vid: Vid) -> &FloodList
+        requires there { IsTrue (has_segment self.now vid) }
+        ensures { result.now ≡ flood_at self.now vid }
+    {
+        &self.segment(vid).flood
+    }
+
+    /// Puts an entry last on the flood list of a segment that is there. A list that refuses stays as it was.
+    pub fn add_flood(&mut self, vid: Vid, kind: Tunnel, addr: Addr) -> Result<(), FloodFault>
+        requires there { IsTrue (has_segment self.old vid) }
+        ensures fault { fault_of result ≡ first (add_faults (own self.old.underlay) (flood_at self.old vid) kind addr) }
+        ensures added { OnOk result (self.new ≡ with_flood self.old vid (flood_at self.old vid ++ record { tunnel = kind; addr = addr } ∷ [])) }
+        ensures refused { OnErr result (self.new ≡ self.old) }
+    {
+        let own = self.own();
+        self.segments.add_flood(vid, kind, addr, &own)
+    }
+
+    /// Takes an entry from the flood list of a segment that is there; those behind it move up. `NotThere`: it isn't on
+    /// the list, which stays as it was.
+    pub fn remove_flood(&mut self, vid: Vid, kind: Tunnel, addr: Addr) -> Result<(), NotThere>
+        requires there { IsTrue (has_segment self.old vid) }
+        ensures there { is_ok result ≡ holds (flood_at self.old vid) kind addr }
+        ensures removed { OnOk result (self.new ≡ with_flood self.old vid (without (flood_at self.old vid) kind addr)) }
+        ensures refused { OnErr result (self.new ≡ self.old) }
+    {
+        self.segments.remove_flood(vid, kind, addr)
+    }
+
+    /// Adds a segment. Its VID is new, and so are its tunnels' kinds and VNIs.
+    pub fn add_segment(&mut self, rule: TunnelRule)
+        requires new { IsTrue (not (has_segment self.old rule.vid)) }
+        requires free { IsTrue (are_free self.old rule.tunnels) }
+        requires room { len self.old.segments < 256 }
+        ensures { self.new ≡ with_segment self.old rule }
+    {
+        let TunnelRule {
+            vid,
+            tunnels,
+            flood,
+            peers,
+            tags,
+        } = rule;
+        self.vxlan.list(tunnels.of(Tunnel::Vxlan), vid);
+        self.geneve.list(tunnels.of(Tunnel::Geneve), vid);
+        let segment = Segment {
+            tunnels,
+            flood,
+            peers,
+            tags,
+        };
+        self.segments.put(vid, segment);
+    }
+
+    /// Removes a segment that is there.
+    pub fn remove_segment(&mut self, vid: Vid)
+        requires there { IsTrue (has_segment self.old vid) }
+        ensures { self.new ≡ without_segment self.old vid }
+    {
+        if let Some(segment) = self.segments.take(vid) {
+            self.vxlan.unlist(segment.tunnels.of(Tunnel::Vxlan));
+            self.geneve.unlist(segment.tunnels.of(Tunnel::Geneve));
+        }
+    }
+
+    /// The index of the tunnels of a kind.
+    fn index(&self, kind: Tunnel) -> &VniIndex
+        ensures { Indexes kind self.now.segments result.now }
+    {
+        match kind {
+            Tunnel::Vxlan => &self.vxlan,
+            Tunnel::Geneve => &self.geneve,
+        }
+    }
+}

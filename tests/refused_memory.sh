@@ -40,4 +40,10 @@ passes pcap_io tests::a_refused_growth_changes_nothing 1 3 5
 # The places of all VIDs, and the tables of two segments; no later call takes memory.
 answers filter_db tests::leaves_fixed_entries_alone 3
 
+# The room of a source, for one record; no later call of a source or a sink takes memory.
+answers pcap_stream tests::takes_memory_for_one_record_alone 1
+
+# The events of a run: the list of captures, the changes and the merge.
+passes timeline tests::refused_memory_is_told 1 2 3
+
 exit "$status"

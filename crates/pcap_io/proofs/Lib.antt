@@ -1,7 +1,9 @@
 pub mod Numbers
 pub mod Headers
+pub mod Nexts
 pub mod Readings
 pub mod Calls
+pub mod Fronts
 pub mod Grammar
 pub mod Opened
 pub mod RoundTrip

@@ -1,5 +1,5 @@
 -- What comes next in a text of records: another record, or how they end.
-use Rattle.std.specs.Prelude.{ℕ, ◌+◌, ◌==◌, Bool, nat_lt, nat_le, List, [], ◌∷◌, length, take, drop, Option, Some, None, option_map}
+use Rattle.std.specs.Prelude.{ℕ, ◌+◌, ◌==◌, ◌<◌, ◌≤◌, Bool, nat_lt, nat_le, List, [], ◌∷◌, ◌++◌, length, map, take, drop, Option, Some, None, option_map, Result, Ok, Err}
 use Rattle.std.specs.List.{find}
 use Rattle.pcap_io.specs.Record.{Record, longest}
 use Rattle.pcap_io.specs.RecordText.{moment_of, record_header_in}
@@ -24,15 +24,30 @@ pub data Next : Type 0 where
 abbrev pub first_row : {A : Type 0} → List (A × Bool) → Option A
 first_row rows = option_map (λ row. row.0) (find (λ row. row.1) rows)
 
+-- the checks of a record's header
+abbrev pub record_faults : Style → RecordHeader → List (RecordFault × Bool)
+record_faults style header =
+    (TooLarge, nat_lt longest header.captured) ∷ (BadFraction, nat_le (fractions_of style.precision) header.fraction) ∷ []
+
+-- the header, or the first fault that it has
+abbrev pub unless_faulty : Option RecordFault → RecordHeader → Result RecordHeader RecordFault
+unless_faulty (Some fault) header = Err fault
+unless_faulty None header = Ok header
+
+unfoldable pub readable : Style → RecordHeader → Result RecordHeader RecordFault
+readable style header = unless_faulty (first_row (record_faults style header)) header
+
+-- a header that has no fault
+pub record IsReadable (style : Style) (header : RecordHeader) : Type 0 where
+  pub captured : header.captured ≤ longest
+  pub fraction : header.fraction < fractions_of style.precision
+
 -- the checks of what stands in front, in their order
 abbrev pub endings : Style → RecordHeader → ℕ → List (End × Bool)
 endings style header size =
     (Whole, size == 0)
     ∷ (Cut, nat_lt size 16)
-    ∷ (Faulty TooLarge, nat_lt longest header.captured)
-    ∷ (Faulty BadFraction, nat_le (fractions_of style.precision) header.fraction)
-    ∷ (Cut, nat_lt size (16 + header.captured))
-    ∷ []
+    ∷ (map (λ row. (Faulty row.0, row.1)) (record_faults style header) ++ (Cut, nat_lt size (16 + header.captured)) ∷ [])
 
 -- how the records end, by the first check that holds; None: another record stands in front
 abbrev pub ending : Style → List ℕ → Option End

@@ -4,6 +4,9 @@
 //! microseconds or nanoseconds, and its `next` hands out each [`Record`], whose octets are a slice of the capture.
 //! [`put_header`] and [`put_record`] write a capture, little-endian and in nanoseconds. What a record holds isn't
 //! looked at, and no file is opened here.
+//!
+//! Who reads or writes a capture piece by piece finds the headers alone here: [`open_header`] and [`open_record`] read
+//! them, [`global_header`] and [`record_header`] are those that are written.
 #![tactic(auto)]
 
 mod capture;
@@ -14,9 +17,10 @@ mod style;
 mod write;
 
 pub use capture::Capture;
-pub use header::CaptureFault;
-pub use record::{Record, RecordFault};
-pub use write::{put_header, put_record};
+pub use header::{CaptureFault, HEADER_LENGTH, open_header};
+pub use record::{LONGEST, RECORD_HEADER_LENGTH, Record, RecordFault, RecordHeader, open_record};
+pub use style::{Order, Precision, Style};
+pub use write::{global_header, put_header, put_record, record_header};
 
 #[cfg(test)]
 mod tests;

@@ -1,7 +1,7 @@
 //! Records, and what comes next in a text of them.
-ghost use Rattle.std.specs.Prelude.{◌≡◌, ◌≤◌, length};
+ghost use Rattle.std.specs.Prelude.{◌≡◌, ◌≤◌, length, IfOk};
 ghost use Rattle.pcap_io.specs.RecordText.{record_header_by, record_header_in};
-ghost use Rattle.pcap_io.specs.Next.{next_of};
+ghost use Rattle.pcap_io.specs.Next.{IsReadable, next_of, readable};
 ghost use Rattle.pcap_io.specs.Seen.{FoundIsWithinLimits, next_seen};
 
 use crate::style::{Order, Precision, SECOND, Style};
@@ -46,7 +46,7 @@ impl<'a> Model for Record<'a> {
 }
 
 /// The numbers that stand before a record's octets, 32 bits each.
-#[derive(Clone, Copy)]
+#[derive(Clone, Copy, Debug)]
 pub struct RecordHeader {
     pub seconds: u32,
     pub fraction: u32,
@@ -58,7 +58,7 @@ impl RecordHeader {
     ghost use Rattle.pcap_io.specs.RecordText.{moment_of};
 
     /// The moment in nanoseconds.
-    fn moment(self, precision: Precision) -> u64
+    pub fn moment(self, precision: Precision) -> u64
         ensures { result ≡ moment_of precision self }
     {
         u64::from(self.seconds) * SECOND + u64::from(self.fraction) * precision.nanoseconds()
@@ -99,6 +99,23 @@ fn header_in(order: Order, text: &[u8]) -> RecordHeader
     }
 }
 
+/// The header that the first 16 octets of a text are, or why a record with it isn't read, whatever stands behind it.
+#[tactic(auto, unfolding(crate::specs::Next::readable))]
+pub fn open_record(style: Style, text: &[u8]) -> Result<RecordHeader, RecordFault>
+    requires { 16 ≤ length text.now }
+    ensures value { result ≡ readable style (record_header_in style.order text.now) }
+    ensures limits { IfOk result (IsReadable style) }
+{
+    let header = header_in(style.order, text);
+    if header.captured as usize > LONGEST {
+        return Err(RecordFault::TooLarge);
+    }
+    if header.fraction >= style.precision.fractions() {
+        return Err(RecordFault::BadFraction);
+    }
+    Ok(header)
+}
+
 /// What comes next in a text of records.
 #[tactic(auto, unfolding(crate::specs::Next::next_of))]
 pub fn next_in<'a>(style: Style, text: &'a [u8]) -> Next<'a>
@@ -111,15 +128,11 @@ pub fn next_in<'a>(style: Style, text: &'a [u8]) -> Next<'a>
     if text.len() < RECORD_HEADER_LENGTH {
         return Next::Cut;
     }
-    let header = header_in(style.order, text);
-    let captured = header.captured as usize;
-    if captured > LONGEST {
-        return Next::Faulty(RecordFault::TooLarge);
-    }
-    if header.fraction >= style.precision.fractions() {
-        return Next::Faulty(RecordFault::BadFraction);
-    }
-    let end = RECORD_HEADER_LENGTH + captured;
+    let header = match open_record(style, text) {
+        Ok(header) => header,
+        Err(fault) => return Next::Faulty(fault),
+    };
+    let end = RECORD_HEADER_LENGTH + header.captured as usize;
     if text.len() < end {
         return Next::Cut;
     }

@@ -15,16 +15,23 @@ const HEADER: [u8; HEADER_LENGTH] = [
     0x4D, 0x3C, 0xB2, 0xA1, 2, 0, 4, 0, 0, 0, 0, 0, 0, 0, 0, 0, 0, 0, 4, 0, 1, 0, 0, 0,
 ];
 
+/// The global header that a capture is written with.
+pub fn global_header() -> [u8; HEADER_LENGTH]
+    ensures { result ≡ written_header }
+{
+    HEADER
+}
+
 /// Adds the global header. Where memory is refused nothing changes.
 pub fn put_header(out: &mut Vec<u8>) -> Result<(), AllocError>
     ensures ok { OnOk result (out.new.items ≡ out.old.items ++ written_header) }
     ensures err { OnErr result (out.new.items ≡ out.old.items) }
 {
-    out.extend_from_slice(&HEADER)
+    out.extend_from_slice(&global_header())
 }
 
-/// What stands before the octets of a record that holds a whole frame.
-fn record_header(moment: u64, size: u32) -> [u8; RECORD_HEADER_LENGTH]
+/// What stands before the octets of a record that holds a whole frame, by its length.
+pub fn record_header(moment: u64, size: u32) -> [u8; RECORD_HEADER_LENGTH]
     requires { moment ≤ last_moment }
     ensures { result ≡ record_header_of moment size size }
 {

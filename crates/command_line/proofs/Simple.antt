@@ -1,0 +1,32 @@
+-- The program's command is simple, and what that says of a parse that fails.
+use Rattle.std.proofs.Common.{◌≡◌, refl, Bool, true, false}
+use Rattle.std.proofs.Common.{List, ℕ, subst, inl, inr}
+use Rattle.clap.specs.Words.{App, HasKind, IsAmong, fault_of, is_simple, is_simple_and_free, kind_of, takes}
+use Rattle.clap.specs.declared.error.Error.{Error}
+use Rattle.clap.specs.declared.error.ErrorKind.TheVariants.{OutOfMemory}
+use Rattle.clap.proofs.OnLiterals.{clap_on_literals}
+use Rattle.command_line.specs.App.{tep_app}
+
+pub tep-simple : is_simple tep_app ≡ true
+unfolding clap_on_literals
+tep-simple = refl
+
+pub tep-free : is_simple_and_free tep_app ≡ true
+unfolding clap_on_literals
+tep-free = refl
+
+pub not_true : (b : Bool) → (b ≡ true → ⊥) → b ≡ false
+not_true true h = absurd (h refl)
+not_true false h = refl
+
+pub refused_by : (a : App) (words : List (List ℕ)) (e : Error) → a ≡ tep_app
+    → (takes a words ≡ true → kind_of e ≡ OutOfMemory)
+    → (is_simple_and_free a ≡ true → HasKind (fault_of a words) e)
+    → (kind_of e ≡ OutOfMemory → ⊥)
+    → (takes tep_app words ≡ false) × IsAmong (kind_of e) (fault_of tep_app words)
+refused_by a words e is passes kinds other =
+    let taken : takes tep_app words ≡ true → kind_of e ≡ OutOfMemory =
+    subst (λ (x : App). takes x words ≡ true → kind_of e ≡ OutOfMemory) is passes in
+    let kind : HasKind (fault_of tep_app words) e =
+    subst (λ (x : App). is_simple_and_free x ≡ true → HasKind (fault_of x words) e) is kinds tep-free in
+    (not_true (takes tep_app words) (λ t. other (taken t)), elim kind [ inl h ↦ absurd (other h) | inr h ↦ h ])

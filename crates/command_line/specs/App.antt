@@ -1,0 +1,67 @@
+-- What `clap` is told of the program.
+use Rattle.std.specs.Prelude.{codes, true, Some, [], ◌∷◌}
+use Rattle.clap.specs.Words.{App, Rule, Shape, new_app, new_rule, with_rule, with_subcommand}
+use Rattle.clap.specs.Lexer.{usize_max}
+use Rattle.clap.specs.declared.builder.action.ArgAction.TheVariants.{Set, Append}
+
+-- ---- the arguments
+
+abbrev pub settings_rule : Rule
+settings_rule = record (new_rule (codes "settings")) {
+  long = Some (codes "settings");
+  required = true;
+  action = Some Set;
+}
+
+abbrev pub changes_rule : Rule
+changes_rule = record (new_rule (codes "changes")) {
+  long = Some (codes "changes");
+  action = Some Set;
+}
+
+abbrev pub underlay_rule : Rule
+underlay_rule = record (new_rule (codes "underlay")) {
+  long = Some (codes "underlay");
+  required = true;
+  action = Some Set;
+}
+
+abbrev pub out_rule : Rule
+out_rule = record (new_rule (codes "out")) {
+  long = Some (codes "out");
+  required = true;
+  action = Some Set;
+}
+
+-- one capture or more
+abbrev pub ports_rule : Rule
+ports_rule = record (new_rule (codes "ports")) {
+  required = true;
+  action = Some Append;
+  range = Some (record { start_inclusive = 1; end_inclusive = usize_max });
+}
+
+-- ---- the subcommands
+
+abbrev pub run_settings_app : App
+run_settings_app = with_rule (with_rule (new_app (codes "run")) settings_rule) changes_rule
+
+abbrev pub run_app : App
+run_app = with_rule (with_rule (with_rule run_settings_app underlay_rule) out_rule) ports_rule
+
+abbrev pub run_shape : Shape
+run_shape = run_app.top
+
+abbrev pub check_app : App
+check_app = with_rule (with_rule (new_app (codes "check")) settings_rule) changes_rule
+
+abbrev pub check_shape : Shape
+check_shape = check_app.top
+
+-- the program's name, and that it has a version to tell
+abbrev pub versioned_app : App
+versioned_app = let app = new_app (codes "tep") in record app { top = record app.top { has_version = true } }
+
+-- the program with its subcommands
+abbrev pub tep_app : App
+tep_app = with_subcommand (with_subcommand versioned_app run_shape) check_shape

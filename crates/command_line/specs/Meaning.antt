@@ -1,0 +1,67 @@
+-- What a command line means.
+use Rattle.std.specs.Prelude.{◌≡◌, List, Option, Some, None, codes, option_and_then, option_map, if◌then◌else◌, ⊤, false}
+use Rattle.std.specs.Str.{bytes_eq}
+use Rattle.clap.specs.Walk.{texts}
+use Rattle.clap.specs.Words.{IsAmong, Row, Text, all_of, fault_of, first_of, kind_of, subcommand_of, takes}
+use Rattle.command_line.specs.App.{tep_app}
+use Rattle.command_line.specs.declared.line.Line.{Line}
+use Rattle.command_line.specs.declared.line.Line.TheVariants as line
+use Rattle.command_line.specs.declared.line.LineFault.{LineFault}
+use Rattle.command_line.specs.declared.line.LineFault.TheVariants as fault
+
+-- a command with its values: of `run` the settings, the changes, the underlay, the folder and the ports; of `check` the
+-- settings and the changes
+pub data Meaning : Type 0 where
+  sample : Meaning
+  run : Text → Option Text → Text → Text → List Text → Meaning
+  check : Text → Option Text → Meaning
+
+abbrev pub meaning_of : Line → Meaning
+meaning_of line.Sample = sample
+meaning_of (line.Run settings changes underlay out ports) =
+    run settings.now (option_map (λ t. t.now) changes) underlay.now out.now (texts ports.items)
+meaning_of (line.Check settings changes) = check settings.now (option_map (λ t. t.now) changes)
+
+-- ---- what matches mean: nothing, where a required value is missing
+
+abbrev pub settings_in : List Row → Option Text
+settings_in = first_of (codes "settings")
+
+abbrev pub changes_in : List Row → Option Text
+changes_in = first_of (codes "changes")
+
+abbrev pub run_meant : List Row → Option Meaning
+run_meant rows = option_and_then (λ s. option_and_then (λ u. option_and_then (λ o.
+    option_map (λ ps. run s (changes_in rows) u o ps) (all_of (codes "ports") rows))
+    (first_of (codes "out") rows)) (first_of (codes "underlay") rows)) (settings_in rows)
+
+abbrev pub check_meant : List Row → Option Meaning
+check_meant rows = option_map (λ s. check s (changes_in rows)) (settings_in rows)
+
+abbrev pub command_meant : Text → List Row → Option Meaning
+command_meant name rows =
+    if bytes_eq name (codes "run") then run_meant rows
+    else (if bytes_eq name (codes "check") then check_meant rows else None)
+
+-- what a parse means that met this subcommand with these matches, or none
+abbrev pub line_meant : Option (Text × List Row) → Option Meaning
+line_meant None = Some sample
+line_meant (Some p) = command_meant p.0 p.1
+
+-- what the words mean to `clap`'s definition of simple commands
+abbrev pub words_meant : List Text → Option Meaning
+words_meant words = line_meant (subcommand_of tep_app words)
+
+-- ---- when each fault is answered
+
+-- Refused where that definition doesn't take the words, NoValue where its matches lack a required value
+abbrev pub Explains : List Text → LineFault → Type 0
+Explains words fault.OutOfMemory = ⊤
+Explains words (fault.Refused e) = (takes tep_app words ≡ false) × IsAmong (kind_of e) (fault_of tep_app words)
+Explains words fault.NoValue = words_meant words ≡ None
+
+-- the same of the part behind the parse, which refuses nothing
+abbrev pub LacksValue : Option Meaning → LineFault → Type 0
+LacksValue meant fault.OutOfMemory = ⊤
+LacksValue meant (fault.Refused e) = ⊥
+LacksValue meant fault.NoValue = meant ≡ None

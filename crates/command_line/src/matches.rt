@@ -1,0 +1,80 @@
+//! From `clap`'s matches to a line.
+ghost use Rattle.std.specs.Prelude.{◌≡◌, IfOk, IfErr, Some, option_map};
+ghost use Rattle.clap.specs.Words.{all_of, first_of, found_of, rows_of, subcommand_rows_of};
+ghost use Rattle.clap.specs.Walk.{texts};
+ghost use Rattle.command_line.specs.Meaning.{LacksValue, check_meant, line_meant, meaning_of, run_meant};
+
+use crate::line::{Line, LineFault};
+use clap::ArgMatches;
+use std::alloc::Global;
+
+/// The line of a whole parse.
+pub(crate) fn line_from<'a>(alloc: Global, matches: &ArgMatches<'a>) -> Result<Line<'a>, LineFault>
+    ensures ok { IfOk result (λ line. line_meant (subcommand_rows_of matches.now) ≡ Some (meaning_of line)) }
+    ensures fault { IfErr result (LacksValue (line_meant (subcommand_rows_of matches.now))) }
+{
+    let Some((name, inner)) = matches.subcommand() else {
+        return Ok(Line::Sample);
+    };
+    match name {
+        "run" => run_from(alloc, inner),
+        "check" => check_from(inner),
+        _ => Err(LineFault::NoValue),
+    }
+}
+
+/// The first value of an argument.
+fn text<'a>(inner: &ArgMatches<'a>, id: &str) -> Option<&'a str>
+    ensures { option_map (λ t. t.now) result ≡ first_of id.now (rows_of (found_of inner.now)) }
+{
+    inner.get_str(id)
+}
+
+/// All values of an argument.
+fn values<'m, 'a>(inner: &'m ArgMatches<'a>, id: &str) -> Option<&'m [&'a str]>
+    ensures { option_map (λ s. texts s.now) result ≡ all_of id.now (rows_of (found_of inner.entry.now)) }
+{
+    inner.get_raw(id)
+}
+
+/// The line that asks for a run.
+fn run_from<'a>(alloc: Global, inner: &ArgMatches<'a>) -> Result<Line<'a>, LineFault>
+    ensures ok { IfOk result (λ line. run_meant (rows_of (found_of inner.now)) ≡ Some (meaning_of line)) }
+    ensures fault { IfErr result (LacksValue (run_meant (rows_of (found_of inner.now)))) }
+{
+    let Some(settings) = text(inner, "settings") else {
+        return Err(LineFault::NoValue);
+    };
+    let changes = text(inner, "changes");
+    let Some(underlay) = text(inner, "underlay") else {
+        return Err(LineFault::NoValue);
+    };
+    let Some(out) = text(inner, "out") else {
+        return Err(LineFault::NoValue);
+    };
+    let Some(given) = values(inner, "ports") else {
+        return Err(LineFault::NoValue);
+    };
+    let Ok(ports) = Vec::from_slice(alloc, given) else {
+        return Err(LineFault::OutOfMemory);
+    };
+    Ok(Line::Run {
+        settings,
+        changes,
+        underlay,
+        out,
+        ports,
+    })
+}
+
+/// The line that asks for a look at the texts.
+fn check_from<'a>(inner: &ArgMatches<'a>) -> Result<Line<'a>, LineFault>
+    ensures ok { IfOk result (λ line. check_meant (rows_of (found_of inner.now)) ≡ Some (meaning_of line)) }
+    ensures fault { IfErr result (LacksValue (check_meant (rows_of (found_of inner.now)))) }
+{
+    let Some(settings) = text(inner, "settings") else {
+        return Err(LineFault::NoValue);
+    };
+    let changes = text(inner, "changes");
+    Ok(Line::Check { settings, changes })
+}

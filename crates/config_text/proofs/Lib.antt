@@ -1,0 +1,5 @@
+mod Keys
+mod Items
+mod Halves
+mod Separated
+pub mod Names

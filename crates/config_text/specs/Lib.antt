@@ -1,0 +1,5 @@
+pub mod Fault
+pub mod Address
+pub mod Column
+pub mod Table
+pub mod Reader

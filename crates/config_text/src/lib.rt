@@ -1,0 +1,30 @@
+//! TOML tables (TOML 1.0.0) read key by key: a value for each key, or the first fault and the path of its key.
+//!
+//! [`Reader`] stands at one table and asks for its keys in order, each by a [`Column`] that says what its values mean;
+//! a list under one key is read by a [`ListColumn`], a list of tables by a [`Row`] for each. [`SettingsFault`] is what
+//! can be wrong, with its [`Key`]. [`mac_of`] and [`addr_of`] read addresses. The crate knows no key by name.
+#![tactic(auto)]
+
+mod address;
+mod column;
+mod digit;
+mod fault;
+mod key;
+mod list_column;
+mod parts;
+mod reader;
+mod row;
+
+pub use address::{addr_of, ip4_of, ip6_of, mac_of};
+pub use column::{
+    AnyAddr, AnyMac, Column, EndpointAddr, IndividualMac, OwnIp4, OwnIp6, Truth, U8Range, U16Range,
+    U32Range, U64Range, VidNumber, Words,
+};
+pub use fault::SettingsFault;
+pub use key::Key;
+pub use list_column::{ListColumn, gather};
+pub use reader::Reader;
+pub use row::{Row, read_rows};
+
+#[cfg(test)]
+mod tests;

@@ -1,0 +1,49 @@
+//! Texts of parts with a separator between them.
+ghost use Rattle.std.specs.Prelude.{◌≡◌, List, ℕ, Option, option_map};
+ghost use Rattle.config_text.specs.Address.{cut, joined};
+
+use arrayvec::ArrayVec;
+
+/// What one part of a text writes.
+pub trait Part {
+    type Out: Default + Drop;
+
+    /// What a part writes, or nothing.
+    ghost reads: { List ℕ → Option Self.Out };
+
+    fn read(text: &[u8]) -> Option<Self::Out>
+        ensures { result ≡ reads text.now };
+}
+
+/// What stands before the first separator, and what behind it.
+fn cut(separator: u8, text: &[u8]) -> Option<(&[u8], &[u8])>
+    ensures { option_map (λ h. (h.0.now, h.1.now)) result ≡ cut separator text.now }
+{
+    for i in 0..text.len() {
+        if text[i] == separator {
+            return Some((&text[..i], &text[i + 1..]));
+        }
+    }
+    None
+}
+
+/// At most eight parts, with a separator between them.
+pub fn joined<P: Part>(separator: u8, text: &[u8]) -> Option<ArrayVec<P::Out, 8>>
+    ensures { option_map (λ v. v.items) result ≡ joined P.reads separator 8 text.now }
+{
+    let mut parts = ArrayVec::new();
+    let mut rest = text;
+    for _ in 0..8u8 {
+        match cut(separator, rest) {
+            Some((front, back)) => {
+                parts.push(P::read(front)?);
+                rest = back;
+            }
+            None => {
+                parts.push(P::read(rest)?);
+                return Some(parts);
+            }
+        }
+    }
+    None
+}

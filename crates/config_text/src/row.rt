@@ -1,0 +1,44 @@
+//! Lists of tables.
+ghost use Rattle.std.specs.Prelude.{◌≡◌, ◌+◌, ◌≤◌, ◌<◌, List, [], length, map, vec_len, IfOk};
+ghost use Rattle.toml.specs.View.{view};
+ghost use Rattle.config_text.specs.Fault.{Meaning, Gives, GivesAs};
+ghost use Rattle.config_text.specs.Table.{FitNumbers, Place, each};
+
+use crate::fault::SettingsFault;
+use crate::reader::Reader;
+use std::alloc::Global;
+use toml::Value;
+
+/// What a table of a list means, behind those before it.
+pub trait Row {
+    type Out: Drop;
+
+    ghost use Rattle.config_text.specs.Reader.{place_of};
+
+    /// What a table means.
+    ghost means: { Self → List Self.Out → Place → Meaning Self.Out };
+
+    fn read(&self, earlier: &[Self::Out], at: &Reader) -> Result<Self::Out, SettingsFault>
+        requires { length earlier.now < 10000 }
+        ensures { Gives result (means self.now earlier.now (place_of at.now)) };
+}
+
+/// The tables of a list, in order, each read behind those before it. The name and each number have 19 octets at most.
+pub fn read_rows<R: Row>(
+    alloc: Global,
+    row: &R,
+    name: &str,
+    items: &[Value],
+) -> Result<Vec<R::Out>, SettingsFault>
+    requires short { FitNumbers name.now (length items.now) }
+    requires few { length items.now ≤ 10000 }
+    ensures value { GivesAs (λ v. v.items) result (each (R.means row.now) name.now [] (map view items.now)) }
+    ensures len { IfOk result (λ v. vec_len v ≡ length items.now) }
+{
+    let mut rows = Vec::new(alloc);
+    for (i, value) in items.iter().enumerate() {
+        let at = Reader::row(name, i as u16 + 1, value)?;
+        rows.push(row.read(rows.as_slice(), &at)?)?;
+    }
+    Ok(rows)
+}

@@ -1,0 +1,5 @@
+pub mod PacketLemmas
+pub mod ReasonsLemmas
+pub mod ArrivalLemmas
+pub mod ArrivesLemmas
+pub mod PlaceLemmas

@@ -1,0 +1,5 @@
+pub mod Arrival
+-- the words of the crates below that the clauses here cite
+pub use Rattle.frame_view.specs.First
+pub use Rattle.frame_view.specs.Frame
+pub use Rattle.header_sums.specs.Octets

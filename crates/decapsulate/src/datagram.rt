@@ -1,0 +1,66 @@
+//! The UDP datagram in an outer packet, and the tunnel header in it.
+ghost use Rattle.std.specs.Prelude.{◌≡◌, IfOk, Some};
+ghost use Rattle.decapsulate.specs.Arrival.{kind_to, datagram_reasons, needs_sum, tunnel_reasons, vni_of, inner_of};
+ghost use Rattle.frame_view.specs.First.{first, fault_of};
+ghost use Rattle.ip_udp_view.specs.Udp.{data_of};
+
+use crate::packet::Packet;
+use frame_view::Reason;
+use geneve_head::{GnView, Known};
+use ip_udp_view::{Addr, SumState, Tunnel, UdpView};
+use underlay::Underlay;
+use vxlan_head::{Vni, VxView};
+
+/// The kind of the tunnel that a packet came through, and the data of the datagram in it.
+pub(crate) fn datagram_of<'a>(
+    packet: &Packet<'a>,
+    underlay: &Underlay,
+) -> Result<(Tunnel, &'a [u8]), Reason>
+    ensures fault { fault_of result ≡ first (datagram_reasons underlay.now packet.now) }
+    ensures kind { IfOk result (λ datagram. kind_to underlay.now packet.now ≡ Some datagram.0) }
+    ensures data { IfOk result (λ datagram. datagram.1.now ≡ data_of packet.now.payload) }
+{
+    let Ok(view) = UdpView::read(packet.payload) else {
+        return Err(Reason::BadUdp);
+    };
+    let Some(kind) = underlay.kind_at(view.dport()) else {
+        return Err(Reason::NotTunnel);
+    };
+    match view.sum_state(packet.source, packet.destination) {
+        SumState::Zero if needs_sum(underlay, packet.source) => Err(Reason::ZeroSum),
+        SumState::Wrong => Err(Reason::BadUdpSum),
+        _ => Ok((kind, view.payload())),
+    }
+}
+
+/// Whether datagrams from this address need a checksum: over IPv6, unless `zero6` is set (RFC 6935, 5).
+fn needs_sum(underlay: &Underlay, source: Addr) -> bool
+    ensures { result ≡ needs_sum underlay.now source }
+{
+    match source {
+        Addr::V4(_) => false,
+        Addr::V6(_) => !underlay.zero6,
+    }
+}
+
+/// The network's number in a tunnel header, and what stands behind it.
+pub(crate) fn tunnel_of<'a>(
+    known: &Known,
+    kind: Tunnel,
+    carried: &'a [u8],
+) -> Result<(Vni, &'a [u8]), Reason>
+    ensures fault { fault_of result ≡ first (tunnel_reasons known.now kind carried.now) }
+    ensures vni { IfOk result (λ tunnel. tunnel.0 ≡ vni_of kind carried.now) }
+    ensures inner { IfOk result (λ tunnel. tunnel.1.now ≡ inner_of kind carried.now) }
+{
+    match kind {
+        Tunnel::Vxlan => {
+            let view = VxView::read(carried)?;
+            Ok((view.vni(), view.payload()))
+        }
+        Tunnel::Geneve => {
+            let view = GnView::read(carried, known)?;
+            Ok((view.vni(), view.payload()))
+        }
+    }
+}

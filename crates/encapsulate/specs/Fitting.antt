@@ -1,0 +1,19 @@
+-- The rule on sizes, as one on whole packets.
+use Rattle.std.specs.Prelude.{◌≡◌, ◌<◌, ◌↔◌, ℕ, ◌+◌, length, Some}
+use Rattle.frame_view.specs.Frame.{Frame, IsFrame}
+use Rattle.frame_view.specs.declared.reason.Reason.TheVariants.{TooBig}
+use Rattle.ip_udp_view.specs.declared.addr.Addr.{Addr}
+use Rattle.ip_udp_view.specs.declared.addr.Tunnel.{Tunnel}
+use Rattle.ip_udp_view.specs.Addr.{IsAddr}
+use Rattle.underlay.specs.declared.tunnels.SegmentTunnel.{SegmentTunnel}
+use Rattle.underlay.specs.Overlay.{Overlay, tunnel_at}
+use Rattle.encapsulate.specs.Peer.{own_addr, IsUnderlay}
+use Rattle.encapsulate.specs.Remote.{admits, remote_text}
+
+-- a frame is TooBig exactly where its outer IP packet, which stands behind an Ethernet header of 14 octets, is longer than the
+-- MTU
+abbrev pub TooBigAboveTheMtu : Type 0
+TooBigAboveTheMtu =
+    (S : Overlay) (vid : ℕ) (kind : Tunnel) (t : SegmentTunnel) (a c : Addr) (f : Frame)
+    → IsUnderlay S.underlay → tunnel_at S vid kind ≡ Some t → IsAddr a → own_addr S.underlay a ≡ Some c → IsFrame f
+    → (admits S vid a f ≡ Some TooBig) ↔ (14 + S.underlay.mtu < length (remote_text S vid kind a f))

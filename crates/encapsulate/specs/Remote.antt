@@ -1,0 +1,60 @@
+-- What is sent to a remote endpoint, and why a frame isn't (RFC 7348, 4.3, 5 and 6.1; RFC 8926, 3.3).
+use Rattle.std.specs.Prelude.{ℕ, ◌-◌, ◌&&◌, nat_lt, Bool, false, List, [], ◌∷◌, Option, Some, None, Result, Ok, Err}
+use Rattle.std.specs.Option.{option_map_or}
+use Rattle.frame_view.specs.First.{first}
+use Rattle.frame_view.specs.Frame.{Frame, size}
+use Rattle.frame_view.specs.Tag.{begins_tag}
+use Rattle.frame_view.specs.declared.reason.Reason.{Reason}
+use Rattle.frame_view.specs.declared.reason.Reason.TheVariants.{TooBig, InnerTagOut}
+use Rattle.ip_udp_view.specs.declared.addr.Addr.{Addr}
+use Rattle.ip_udp_view.specs.declared.addr.Addr.TheVariants.{V4, V6}
+use Rattle.ip_udp_view.specs.declared.addr.Tunnel.{Tunnel}
+use Rattle.flood_lists.specs.Flood.{own_of}
+use Rattle.underlay.specs.declared.settings.Underlay.{Underlay}
+use Rattle.underlay.specs.Overlay.{Overlay, segment_at, tunnel_at, drops_tags}
+use Rattle.underlay.specs.Settings.{own, port_of}
+use Rattle.encapsulate.specs.Emission.{Parts, text}
+use Rattle.encapsulate.specs.Flow.{source_port}
+use Rattle.encapsulate.specs.Packet.{tunnelled, packet}
+
+-- the largest frame that is sent to an address: what the IP, UDP and tunnel headers leave of the MTU
+abbrev pub largest : Underlay → Addr → ℕ
+largest U (V4 dst) = U.mtu - 36
+largest U (V6 dst) = U.mtu - 56
+
+-- the segment with this VID drops frames in tunnels that begin with a tag
+abbrev pub drops_tags_at : Overlay → ℕ → Bool
+drops_tags_at S vid = option_map_or drops_tags (segment_at S vid) false
+
+-- why a frame of a segment isn't sent to an address, in the order of the checks
+abbrev pub unsent_reasons : Overlay → ℕ → Addr → Frame → List (Reason × Bool)
+unsent_reasons S vid a f =
+    (TooBig, nat_lt (largest S.underlay a) (size f))
+    ∷ (InnerTagOut, begins_tag f.body && drops_tags_at S vid)
+    ∷ []
+
+-- the first reason why it isn't sent; None where it is
+abbrev pub admits : Overlay → ℕ → Addr → Frame → Option Reason
+admits S vid a f = first (unsent_reasons S vid a f)
+
+-- the packet that a frame is sent in, with this VNI from the own address of these octets
+abbrev pub packet_from : Underlay → Tunnel → ℕ → List ℕ → Addr → Frame → List ℕ
+packet_from U kind vni src a f = packet U src a (source_port f) (port_of U kind) (tunnelled kind vni f)
+
+-- the packet that a frame of a segment is sent in, to an address in a tunnel of a kind; the empty text where the segment has
+-- no such tunnel, or the endpoint no address of that family
+abbrev pub remote_text : Overlay → ℕ → Tunnel → Addr → Frame → List ℕ
+remote_text S vid kind a f =
+    elim (tunnel_at S vid kind) [
+      | Some tunnel ↦ option_map_or (λ src. packet_from S.underlay kind tunnel.vni src a f) (own_of (own S.underlay) a) []
+      | None ↦ []
+    ]
+
+-- the packet, or the reason why there is none
+abbrev pub sending : Overlay → ℕ → Tunnel → Addr → Frame → Result (List ℕ) Reason
+sending S vid kind a f = elim (admits S vid a f) [ Some reason ↦ Err reason | None ↦ Ok (remote_text S vid kind a f) ]
+
+-- the octets that a result has, where it has any
+abbrev pub texts : Result Parts Reason → Result (List ℕ) Reason
+texts (Ok e) = Ok (text e)
+texts (Err reason) = Err reason

@@ -1,0 +1,60 @@
+-- How a frame comes to the bridge of a segment: by a local port or by a tunnel.
+use Rattle.std.specs.Prelude.{ℕ, nat_lt, Bool, List, [], ◌∷◌, length, Option, Some, None, Result, Ok, Err}
+use Rattle.std.specs.Option.{option_map_or}
+use Rattle.frame_view.specs.First.{first}
+use Rattle.frame_view.specs.Frame.{Frame}
+use Rattle.frame_view.specs.declared.reason.Reason.{Reason}
+use Rattle.frame_view.specs.declared.reason.Reason.TheVariants.{TooLong, Sliced}
+use Rattle.frame_view.specs.declared.reason.Refused.{Refused}
+use Rattle.filter_db.specs.declared.place.Place.{Place}
+use Rattle.filter_db.specs.declared.place.Place.TheVariants.{Local, Remote}
+use Rattle.vlan_ports.specs.Ingress.{enters, nowhere}
+use Rattle.vlan_ports.specs.Ports.{Ports, egress_at}
+use Rattle.underlay.specs.Overlay.{Overlay}
+use Rattle.decapsulate.specs.Arrival.{arrival_of}
+use Rattle.decapsulate.specs.declared.arrived.Arrived.{Arrived}
+use Rattle.encapsulate.specs.Emission.{local_text}
+use Rattle.encapsulate.specs.Remote.{sending}
+use Rattle.endpoint_core.specs.declared.arrival.Came.{Came}
+
+-- ---- by a local port
+
+-- a record of a capture that is longer than a frame, or that is a part of one of this original length
+abbrev pub capture_reasons : ℕ → List ℕ → List (Refused × Bool)
+capture_reasons original b =
+    (nowhere TooLong, nat_lt 65535 (length b))
+    ∷ (nowhere Sliced, nat_lt (length b) original)
+    ∷ []
+
+abbrev pub unless : Option Refused → Result Came Refused → Result Came Refused
+unless (Some refused) otherwise = Err refused
+unless None otherwise = otherwise
+
+abbrev pub entered : ℕ → Result (ℕ × Frame) Refused → Result Came Refused
+entered port (Ok found) = Ok (record { vid = found.0; from = Local port; frame = found.1 })
+entered port (Err refused) = Err refused
+
+-- the frame that the octets at a port are, in its segment; or the first reason why it comes to none
+unfoldable pub came_at : Ports → ℕ → ℕ → List ℕ → Result Came Refused
+came_at ports port original b = unless (first (capture_reasons original b)) (entered port (enters ports port b))
+
+-- ---- by a tunnel
+
+abbrev pub tunnelled : Result Arrived Refused → Result Came Refused
+tunnelled (Ok x) = Ok (record { vid = x.vid; from = Remote x.from.0 x.from.1; frame = x.frame })
+tunnelled (Err refused) = Err refused
+
+-- the frame that an outer packet brings, in its segment; or the first reason why it brings none
+unfoldable pub came_by : Overlay → ℕ → List ℕ → Result Came Refused
+came_by overlay original b = tunnelled (arrival_of overlay original b)
+
+-- ---- and how it leaves
+
+-- the octets of a frame of a segment at a local port; nothing where the port is no member
+abbrev pub local_octets : Ports → ℕ → Frame → ℕ → List ℕ
+local_octets ports vid f port = option_map_or (λ egress. local_text vid egress f) (egress_at ports vid port) []
+
+-- the octets of a frame of a segment at an outlet, or why none are sent there
+unfoldable pub emitted : Ports → Overlay → ℕ → Frame → Place → Result (List ℕ) Reason
+emitted ports overlay vid f (Local port) = Ok (local_octets ports vid f port)
+emitted ports overlay vid f (Remote kind addr) = sending overlay vid kind addr f

@@ -1,0 +1,9 @@
+pub mod Arrival
+pub mod Cells
+pub mod Counts
+pub mod Decision
+pub mod Event
+pub mod Kept
+pub mod Run
+pub mod Step
+pub mod Text

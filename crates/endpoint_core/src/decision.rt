@@ -1,0 +1,133 @@
+//! What is decided of a frame or a packet.
+ghost use Rattle.std.specs.Prelude.{◌≡◌, ◌≤◌, length, map, All, IsTrue, IsSome, Err};
+ghost use Rattle.std.specs.List.{list_all};
+ghost use Rattle.frame_view.specs.declared.reason.Reason.TheVariants.{NoOutlet};
+ghost use Rattle.filter_db.specs.Place.{no_place};
+ghost use Rattle.endpoint_state.specs.Held.{settings_of};
+ghost use Rattle.endpoint_state.specs.Settings.{segment_at};
+ghost use Rattle.endpoint_state.specs.Step.{can_leave};
+ghost use Rattle.endpoint_core.specs.Decision.{refused_as, forwarded, octets_of, IsShort};
+ghost use Rattle.endpoint_core.specs.Step.{sent_at, has_two_tunnels};
+
+use crate::emit::emit;
+use arrayvec::ArrayVec;
+use encapsulate::Emission;
+use endpoint_state::EndpointState;
+use filter_db::Place;
+use frame_view::{BridgeFrame, Reason, Refused, Vid};
+use std::marker::Model;
+
+/// What came of one outlet.
+#[derive(Debug, Drop)]
+pub struct Outcome<'a> {
+    pub place: Place,
+    /// What leaves there, or why nothing does: TooBig or InnerTagOut.
+    pub sent: Result<Emission<'a>, Reason>,
+}
+
+impl<'a> Default for Outcome<'a> {
+    ghost is_default = { λ outcome. outcome ≡ record { place = no_place; sent = Err NoOutlet } };
+
+    /// At no place nothing: what stands in the free places of a list of fixed capacity.
+    fn default() -> Outcome<'a> {
+        Outcome {
+            place: Place::default(),
+            sent: Err(Reason::NoOutlet),
+        }
+    }
+}
+
+/// What is decided of a frame or a packet: a drop, or an outcome for each outlet. It borrows the octets that came in, and
+/// not the endpoint.
+#[derive(Debug, Drop)]
+pub struct Decision<'a> {
+    segment: Option<Vid>,
+    dropped: Option<Reason>,
+    /// Whether the segment has two tunnels, whose kinds are told then.
+    two_tunnels: bool,
+    outcomes: ArrayVec<Outcome<'a>, 32>,
+}
+
+impl<'a> Model for Decision<'a> {
+    ghost use Rattle.endpoint_core.specs.Decision.{Decided};
+
+    ghost Value = { Decided };
+
+    ghost use Rattle.std.specs.Prelude.{All};
+    ghost use Rattle.endpoint_core.specs.Decision.{IsShort};
+
+    ghost view = { λ d. record { segment = d.segment; dropped = d.dropped; two_tunnels = d.two_tunnels; outcomes = d.outcomes.items } };
+
+    ghost invariant = { λ d. All IsShort d.outcomes.items };
+}
+
+impl<'a> Decision<'a> {
+    /// A drop.
+    pub(crate) fn refused(refused: Refused) -> Decision<'a>
+        ensures { octets_of result ≡ refused_as refused }
+    {
+        Decision {
+            segment: refused.segment,
+            dropped: Some(refused.reason),
+            two_tunnels: false,
+            outcomes: ArrayVec::new(),
+        }
+    }
+
+    /// A frame of a segment that leaves at these places.
+    pub(crate) fn forwarded(
+        state: &EndpointState,
+        vid: Vid,
+        places: &[Place],
+        frame: &BridgeFrame<'a>,
+    ) -> Decision<'a>
+        requires there { IsSome (segment_at (settings_of state.now) vid) }
+        requires few { length places.now ≤ 32 }
+        requires short { length frame.now.body ≤ 65549 }
+        requires leave { IsTrue (list_all (can_leave (settings_of state.now) vid) places.now) }
+        ensures { let S = settings_of state.now in
+            octets_of result ≡ forwarded vid (has_two_tunnels S.overlay vid) (map (sent_at S vid frame.now) places.now) }
+    {
+        let mut outcomes = ArrayVec::new();
+        for place in places {
+            outcomes.push(emit(state, vid, frame, *place));
+        }
+        Decision {
+            segment: Some(vid),
+            dropped: None,
+            two_tunnels: state.under().segment(vid).tunnels.are_two(),
+            outcomes,
+        }
+    }
+
+    /// The segment that the frame or packet came to: for a local frame from NotMember on, for a packet from WrongGroup
+    /// on. None: it came to none.
+    pub fn segment(&self) -> Option<Vid>
+        ensures { result ≡ self.now.segment }
+    {
+        self.segment
+    }
+
+    /// Why the frame or packet was dropped as a whole, if it was.
+    pub fn dropped(&self) -> Option<Reason>
+        ensures { result ≡ self.now.dropped }
+    {
+        self.dropped
+    }
+
+    /// Whether the segment has two tunnels, so that a remote is told with the kind of its tunnel.
+    pub fn has_two_tunnels(&self) -> bool
+        ensures { result ≡ self.now.two_tunnels }
+    {
+        self.two_tunnels
+    }
+
+    /// What came of each outlet, in order; nothing for a drop.
+    pub fn outcomes(&self) -> &[Outcome<'a>]
+        ensures outcomes { result.now ≡ self.now.outcomes }
+        ensures few { length result.now ≤ 32 }
+        ensures short { All IsShort result.now }
+    {
+        self.outcomes.as_slice()
+    }
+}

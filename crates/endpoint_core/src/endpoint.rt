@@ -1,0 +1,127 @@
+//! The endpoint.
+ghost use Rattle.std.specs.Prelude.{◌≡◌, ◌≤◌, IfOk, length};
+ghost use Rattle.frame_view.specs.First.{fault_of};
+ghost use Rattle.endpoint_state.specs.Opened.{settings_told};
+ghost use Rattle.endpoint_core.specs.Decision.{octets_of};
+ghost use Rattle.endpoint_core.specs.Event.{frame_at, packet_at, change_at};
+ghost use Rattle.endpoint_core.specs.Step.{Decided, Replied, opened, answer, after};
+
+use crate::Decision;
+use crate::arrival::{come_at, come_by};
+use crate::counts::Counts;
+use crate::decide::decide;
+use endpoint_state::{Change, ChangeFault, EndpointState};
+use frame_view::Vid;
+use overlay_config::Settings;
+use std::alloc::{AllocError, Global};
+use std::marker::Model;
+use underlay::Under;
+
+/// A tunnel endpoint, seen by contracts as what it keeps: the settings in force and the tables, the counts, and the moment
+/// of its last step. Moments are handed in, in nanoseconds, and never fall.
+#[derive(Drop)]
+pub struct Endpoint {
+    state: EndpointState,
+    counts: Counts,
+    moment: u64,
+}
+
+impl Model for Endpoint {
+    ghost use Rattle.std.specs.Prelude.{◌≤◌};
+    ghost use Rattle.endpoint_state.specs.Held.{moment_of};
+    ghost use Rattle.endpoint_core.specs.Kept.{Kept, kept_code};
+
+    ghost Value = { Kept };
+
+    ghost coded = { kept_code };
+
+    ghost view = { λ e. record { held = e.state; cells = e.counts; moment = e.moment } };
+
+    ghost invariant = { λ e. moment_of e.state ≤ e.moment };
+}
+
+impl Endpoint {
+    ghost use Rattle.endpoint_core.specs.Kept.{state_of};
+
+    /// An endpoint with these settings, whose tables are empty, at moment 0. It reserves all memory that its steps need,
+    /// and `AllocError` says that there was no room for it.
+    pub fn open(alloc: Global, settings: Settings) -> Result<Endpoint, AllocError>
+        ensures { IfOk result (λ endpoint. state_of endpoint ≡ opened (settings_told settings)) }
+    {
+        let state = EndpointState::open(alloc, settings)?;
+        let counts = Counts::open(alloc)?;
+        Ok(Endpoint {
+            state,
+            counts,
+            moment: 0,
+        })
+    }
+
+    /// The number of local ports, 16 at most.
+    pub fn ports(&self) -> u8
+        ensures { result ≡ length (state_of self.now).bridges.settings.ports.ports }
+    {
+        self.state.ports().ports()
+    }
+
+    /// The moment of the last step, 0 before the first.
+    pub fn now(&self) -> u64
+        ensures { result ≡ (state_of self.now).moment }
+    {
+        self.moment
+    }
+
+    /// The underlay, and the tunnels and the flood list of each segment, as they are in force.
+    pub fn under(&self) -> &Under
+        ensures { result.now ≡ (state_of self.now).bridges.settings.overlay }
+    {
+        self.state.under()
+    }
+
+    /// How often an outcome was decided in a segment, or in none: number 0 for what was sent, and a reason's number for
+    /// the drops and the outcomes that weren't sent for that reason. Each count ends at 2^64 - 1.
+    pub fn count(&self, segment: Option<Vid>, number: u8) -> u64
+        ensures { result ≡ (state_of self.now).counts segment number }
+    {
+        self.counts.get(segment, number)
+    }
+
+    /// A frame of this original length came in at a local port at a moment, in nanoseconds: what is decided of it.
+    pub fn frame<'a>(&mut self, now: u64, port: u8, original: u32, octets: &'a [u8]) -> Decision<'a>
+        requires moment { (state_of self.old).moment ≤ now }
+        requires low { 1 ≤ port }
+        requires high { port ≤ length (state_of self.old).bridges.settings.ports.ports }
+        ensures answer { Decided (octets_of result) ≡ answer (state_of self.old) (frame_at now port original octets.now) }
+        ensures after { state_of self.new ≡ after (state_of self.old) (frame_at now port original octets.now) }
+    {
+        let came = come_at(self.state.ports(), port, original, octets);
+        let decision = decide(&mut self.state, now, came);
+        self.counts.tally(&decision);
+        self.moment = now;
+        decision
+    }
+
+    /// A packet of this original length came in from the underlay at a moment, in nanoseconds: what is decided of it.
+    pub fn packet<'a>(&mut self, now: u64, original: u32, octets: &'a [u8]) -> Decision<'a>
+        requires { (state_of self.old).moment ≤ now }
+        ensures answer { Decided (octets_of result) ≡ answer (state_of self.old) (packet_at now original octets.now) }
+        ensures after { state_of self.new ≡ after (state_of self.old) (packet_at now original octets.now) }
+    {
+        let came = come_by(self.state.under(), original, octets);
+        let decision = decide(&mut self.state, now, came);
+        self.counts.tally(&decision);
+        self.moment = now;
+        decision
+    }
+
+    /// Makes a change of the settings at a moment, in nanoseconds, or refuses it: then nothing but the moment is another.
+    pub fn change(&mut self, now: u64, change: Change) -> Result<(), ChangeFault>
+        requires { (state_of self.old).moment ≤ now }
+        ensures answer { Replied (fault_of result) ≡ answer (state_of self.old) (change_at now change) }
+        ensures after { state_of self.new ≡ after (state_of self.old) (change_at now change) }
+    {
+        let answer = self.state.change(now, change);
+        self.moment = now;
+        answer
+    }
+}

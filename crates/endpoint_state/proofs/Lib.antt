@@ -1,0 +1,9 @@
+pub mod AfterLemmas
+pub mod ChangeLemmas
+pub mod EverywhereLemmas
+pub mod LaterLemmas
+pub mod OpenLemmas
+pub mod SoundLemmas
+pub mod StandsLemmas
+pub mod StepLemmas
+pub mod TargetLemmas

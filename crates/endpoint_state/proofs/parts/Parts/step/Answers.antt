@@ -1,0 +1,68 @@
+use Rattle.std.proofs.Common.{◌≡◌, ◌∙◌, ℕ, Bool, true, cond, Option, List, Result, IfOk, IsTrue, [], sym, ap, subst}
+use Rattle.std.specs.List.{list_all}
+use Rattle.std.specs.Option.{option_map_or}
+use Rattle.frame_view.specs.declared.reason.Reason.{Reason}
+use Rattle.filter_db.specs.declared.place.Place.{Place}
+use Rattle.filter_db.specs.Segment.{Segments, aged_all}
+use Rattle.underlay.specs.declared.segment.Segment.{Segment}
+use Rattle.tunnel_learning.specs.Bridge.{Config, outlets}
+use Rattle.endpoint_state.specs.Learning.{learns}
+use Rattle.endpoint_state.specs.Settings.{SegmentSettings, joined}
+use Rattle.endpoint_state.specs.Sound.{reaches}
+use Rattle.endpoint_state.specs.State.{State, bridge_of, settings_of, state_of, tables_at}
+use Rattle.endpoint_state.specs.Step.{can_leave, config_of, after_frame, verdict_in}
+use Rattle.endpoint_state.proofs.SoundLemmas.{aged-reached}
+use Rattle.endpoint_state.proofs.StandsLemmas.{stands}
+use Rattle.endpoint_state.proofs.StepLemmas.{config-told, after-learned, sound-learned, outlets-leave}
+use Rattle.endpoint_state.proofs.parts.Parts.step.Goals as goal
+
+-- the tables after it have nothing that is dead
+settled : (now last moment : ℕ) (b : Bool) (new : Segments) → moment ≡ cond b now last → aged_all moment new ≡ new → b ≡ true → aged_all now new ≡ new
+settled now last moment b new is all on = ap (λ t. aged_all t new) (sym (is ∙ ap (λ (c : Bool). cond c now last) on)) ∙ all
+
+pub returns-clause-after : goal.returns-clause-after
+returns-clause-after g c =
+    let parts = c.args.self.now in
+    let segments = g.T.Tables.segments parts.tables in
+    let new = g.T.Tables.segments c.bridge_step.new.tables in
+    let it = stands parts.ports parts.under parts.learning segments c.args.vid c.requires.sound c.requires.there in
+    after-learned c.args.now c.args.vid c.args.from c.args.frame.now parts.ports parts.under parts.learning segments new it c.get.result (sym c.get.ensures) c.bridge_step.ensures.tables
+    (settled c.args.now _ _ c.get.result new c.bridge_step.ensures.moment (g.met.T.Tables.settled c.bridge_step.new.tables))
+
+pub returns-clause-verdict : goal.returns-clause-verdict
+returns-clause-verdict g c =
+    let parts = c.args.self.now in
+    let now = c.args.now in
+    let vid = c.args.vid in
+    let f = c.args.frame.now in
+    let segments = g.T.Tables.segments parts.tables in
+    let new = g.T.Tables.segments c.bridge_step.new.tables in
+    let it = stands parts.ports parts.under parts.learning segments vid c.requires.sound c.requires.there in
+    let own = joined (bridge_of (learns parts.learning vid) it.table) it.tunneled it.members in
+    let config = config-told parts.ports parts.under parts.learning segments vid it c.get.result c.segment-segment.result.now c.groups_of.result c.get.ensures c.segment-segment.ensures c.groups_of.ensures in
+    let after = returns-clause-after g c in
+    c.bridge_step.ensures.verdict
+    ∙ ap (λ (x : Config). outlets x c.args.from f (tables_at now new vid)) config
+    ∙ ap (λ (x : State). outlets (config_of parts.ports own) c.args.from f (x.tables vid)) after
+    ∙ sym (ap (λ (o : Option SegmentSettings). verdict_in parts.ports o c.args.from f ((after_frame now vid c.args.from f (state_of g.T.Tables.segments now parts)).tables vid)) it.settings)
+
+pub returns-clause-sound : goal.returns-clause-sound
+returns-clause-sound g c =
+    let parts = c.args.self.now in
+    sound-learned c.args.now c.args.vid c.args.from c.args.frame.now parts.ports parts.under (g.T.Tables.segments parts.tables) (g.T.Tables.segments c.bridge_step.new.tables) c.get.result c.requires.reached c.requires.sound c.bridge_step.ensures.tables
+
+pub returns-clause-leaves : goal.returns-clause-leaves
+returns-clause-leaves g c =
+    let parts = c.args.self.now in
+    let vid = c.args.vid in
+    let f = c.args.frame.now in
+    let segments = g.T.Tables.segments parts.tables in
+    let new = g.T.Tables.segments c.bridge_step.new.tables in
+    let it = stands parts.ports parts.under parts.learning segments vid c.requires.sound c.requires.there in
+    let own = joined (bridge_of (learns parts.learning vid) it.table) it.tunneled it.members in
+    let config = config-told parts.ports parts.under parts.learning segments vid it c.get.result c.segment-segment.result.now c.groups_of.result c.get.ensures c.segment-segment.ensures c.groups_of.ensures in
+    let sound = returns-clause-sound g c in
+    let flood = ap (λ (o : Option Segment). list_all (λ r. reaches parts.under vid r.tunnel r.addr) (option_map_or (λ h. h.flood) o [])) (sym it.has_tunnels) ∙ c.requires.sound.flood vid in
+    subst (λ (r : Result (List Place) Reason). IfOk r (λ places. IsTrue (list_all (can_leave (settings_of g.T.Tables.segments parts) vid) places)))
+    (sym (c.bridge_step.ensures.verdict ∙ ap (λ (x : Config). outlets x c.args.from f (tables_at c.args.now new vid)) config))
+    (outlets-leave (settings_of g.T.Tables.segments parts) vid own it.has_members c.args.from f (tables_at c.args.now new vid) flood (aged-reached parts.under vid c.args.now (new vid) (sound.tables vid)))

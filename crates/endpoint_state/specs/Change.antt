@@ -1,0 +1,151 @@
+-- Changes of the settings while an endpoint runs: why one is refused, what it makes of the settings, and what it does to
+-- the table of a segment.
+--     named, is_about      the segments that it is about
+--     refused      why the settings refuse it
+--     changed      the settings after it
+--     table_fault, entries_changed      why a table refuses it, and the table after it
+use Rattle.std.specs.Prelude.{ℕ, ◌==◌, Bool, true, false, not, ◌||◌, nat_lt, List, [], ◌∷◌, ◌++◌, length, is_none, if◌then◌else◌, Option, Some, None}
+use Rattle.std.specs.Option.{option_map, option_map_or, unwrap_or}
+use Rattle.frame_view.specs.First.{first}
+use Rattle.frame_view.specs.Address.{is_group as is_group_mac}
+use Rattle.ip_udp_view.specs.Addr.{is_group, is_usable}
+use Rattle.ip_udp_view.specs.declared.addr.Addr.{Addr}
+use Rattle.ip_udp_view.specs.declared.addr.Tunnel.{Tunnel}
+use Rattle.ip_udp_view.specs.declared.addr.Tunnel.TheVariants.{Vxlan}
+use Rattle.flood_lists.specs.Flood.{Entries, has_family, is_own, add_faults, holds, without}
+use Rattle.flood_lists.specs.declared.own.Own.{Own}
+use Rattle.filter_db.specs.declared.place.Place.{Place}
+use Rattle.filter_db.specs.declared.place.Place.TheVariants.{Local, Remote}
+use Rattle.filter_db.specs.Table.{Table, nanoseconds, live, is_full, has_fixed, fix, unfix, flush_place, flush}
+use Rattle.vlan_ports.specs.Ports.{is_port, with_up, with_member}
+use Rattle.underlay.specs.Settings.{own}
+use Rattle.underlay.specs.Overlay.{with_flood}
+use Rattle.underlay.specs.declared.tunnels.SegmentTunnel.{SegmentTunnel}
+use Rattle.overlay_config.specs.declared.change.Target.{Target}
+use Rattle.overlay_config.specs.declared.change.Target.TheVariants as target
+use Rattle.overlay_config.specs.declared.change.Change.{Change}
+use Rattle.overlay_config.specs.declared.change.Change.TheVariants.{AddFlood, RemoveFlood, Fix, Unfix, SetAgeing, SetLearning, SetMember, PortUp, PortDown, Flush}
+use Rattle.endpoint_state.specs.declared.fault.ChangeFault.{ChangeFault}
+use Rattle.endpoint_state.specs.declared.fault.ChangeFault.TheVariants.{NoSegment, NoPort, NotThere, TableFull, GroupAddress, OutOfRange, NoFamily, OwnAddress, NoTunnel}
+use Rattle.endpoint_state.specs.Fault.{of_flood}
+use Rattle.endpoint_state.specs.Settings.{Settings, BridgeSettings, SegmentSettings, segment_at, kind_named}
+
+-- the VID of the segment that a change names; a change of a port names none
+abbrev pub named : Change → Option ℕ
+named (AddFlood vid addr tunnel) = Some vid
+named (RemoveFlood vid addr tunnel) = Some vid
+named (Fix vid mac target) = Some vid
+named (Unfix vid mac) = Some vid
+named (SetAgeing vid seconds) = Some vid
+named (SetLearning vid on) = Some vid
+named (SetMember vid port egress) = Some vid
+named (PortUp port) = None
+named (PortDown port) = None
+named (Flush vid) = Some vid
+
+-- it names the segment of this VID, or it is of a port and thereby about every segment
+abbrev pub is_about : ℕ → Change → Bool
+is_about vid c = option_map_or (λ own. vid == own) (named c) true
+
+-- ---- why the settings refuse a change
+
+-- what is asked of a segment that is there
+abbrev pub in_segment : Option SegmentSettings → (SegmentSettings → Option ChangeFault) → Option ChangeFault
+in_segment None next = Some NoSegment
+in_segment (Some segment) next = next segment
+
+-- what is asked of a tunnel that is there
+abbrev pub at_tunnel : Option Tunnel → (Tunnel → Option ChangeFault) → Option ChangeFault
+at_tunnel None next = Some NoTunnel
+at_tunnel (Some kind) next = next kind
+
+-- ageings have 10 to 1,000,000 seconds (IEEE 802.1Q, 8.8.3)
+abbrev pub is_ageing : ℕ → Bool
+is_ageing seconds = not (nat_lt seconds 10 || nat_lt 1000000 seconds)
+
+-- no port of this number, of so many
+abbrev pub port_fault : ℕ → ℕ → Option ChangeFault
+port_fault ports port = first ((NoPort, not (is_port ports port)) ∷ [])
+
+-- an address that isn't that of one other endpoint, in the order of the checks
+abbrev pub addr_faults : Own → Addr → List (ChangeFault × Bool)
+addr_faults own addr =
+    (OutOfRange, not (is_usable addr))
+    ∷ (GroupAddress, is_group addr)
+    ∷ (NoFamily, not (has_family own addr))
+    ∷ (OwnAddress, is_own own addr)
+    ∷ []
+
+-- no place for a fixed entry: a port or a tunnel that isn't there, or such an address
+abbrev pub target_fault : Own → ℕ → List SegmentTunnel → Target → Option ChangeFault
+target_fault own ports tunnels (target.Local port) = port_fault ports port
+target_fault own ports tunnels (target.Remote addr tunnel) = at_tunnel (kind_named tunnels tunnel) (λ kind. first (addr_faults own addr))
+
+-- the first cause in the order of the checks, of those that depend on the settings alone
+abbrev pub refused : Settings → Change → Option ChangeFault
+refused S (AddFlood vid addr tunnel) = in_segment (segment_at S vid) (λ s. at_tunnel (kind_named s.tunnels tunnel) (λ kind. option_map of_flood (first (add_faults (own S.overlay.underlay) s.flood kind addr))))
+refused S (RemoveFlood vid addr tunnel) = in_segment (segment_at S vid) (λ s. at_tunnel (kind_named s.tunnels tunnel) (λ kind. first ((NotThere, not (holds s.flood kind addr)) ∷ [])))
+refused S (Fix vid mac target) = in_segment (segment_at S vid) (λ s. if is_group_mac mac then Some GroupAddress else target_fault (own S.overlay.underlay) (length S.ports.ports) s.tunnels target)
+refused S (Unfix vid mac) = in_segment (segment_at S vid) (λ s. None)
+refused S (SetAgeing vid seconds) = in_segment (segment_at S vid) (λ s. first ((OutOfRange, not (is_ageing seconds)) ∷ []))
+refused S (SetLearning vid on) = in_segment (segment_at S vid) (λ s. None)
+refused S (SetMember vid port egress) = in_segment (segment_at S vid) (λ s. port_fault (length S.ports.ports) port)
+refused S (PortUp port) = port_fault (length S.ports.ports) port
+refused S (PortDown port) = port_fault (length S.ports.ports) port
+refused S (Flush vid) = in_segment (segment_at S vid) (λ s. None)
+
+-- ---- the settings after a change
+
+-- the kind of the tunnel that a change means, where there is one
+abbrev pub kind_in : List SegmentTunnel → Option Tunnel → Tunnel
+kind_in tunnels tunnel = unwrap_or (kind_named tunnels tunnel) Vxlan
+
+-- with another flood list of a segment
+abbrev pub with_flood_of : Settings → ℕ → (SegmentSettings → Entries) → Settings
+with_flood_of S vid change = option_map_or (λ s. record S { overlay = with_flood S.overlay vid (change s) }) (segment_at S vid) S
+
+-- with other settings of the bridge of a segment
+abbrev pub with_bridge : Settings → ℕ → (BridgeSettings → BridgeSettings) → Settings
+with_bridge S vid change = record S { bridges = λ w. if w == vid then option_map change (S.bridges w) else S.bridges w }
+
+-- the settings after a change that they don't refuse
+abbrev pub accepted : Settings → Change → Settings
+accepted S (AddFlood vid addr tunnel) = with_flood_of S vid (λ s. s.flood ++ record { tunnel = kind_in s.tunnels tunnel; addr = addr } ∷ [])
+accepted S (RemoveFlood vid addr tunnel) = with_flood_of S vid (λ s. without s.flood (kind_in s.tunnels tunnel) addr)
+accepted S (SetAgeing vid seconds) = with_bridge S vid (λ bridge. record bridge { ageing = seconds })
+accepted S (SetLearning vid on) = with_bridge S vid (λ bridge. record bridge { learning = on })
+accepted S (SetMember vid port egress) = record S { ports = with_member S.ports vid port egress }
+accepted S (PortUp port) = record S { ports = with_up S.ports port true }
+accepted S (PortDown port) = record S { ports = with_up S.ports port false }
+accepted S _ = S
+
+-- a refused change changes nothing
+abbrev pub changed : Settings → Change → Settings
+changed S c = if is_none (refused S c) then accepted S c else S
+
+-- ---- the table of a segment
+
+-- where a fixed entry is to stand
+abbrev pub place_of : List SegmentTunnel → Target → Place
+place_of tunnels (target.Local port) = Local port
+place_of tunnels (target.Remote addr tunnel) = Remote (kind_in tunnels tunnel) addr
+
+-- why the table of its segment refuses a change that the settings don't: there is no room for a fixed entry, or none to
+-- take out
+abbrev pub table_fault : SegmentSettings → Change → Table → Option ChangeFault
+table_fault s (Fix vid mac target) m = first ((TableFull, is_full s.limit mac m) ∷ [])
+table_fault s (Unfix vid mac) m = first ((NotThere, not (has_fixed mac m)) ∷ [])
+table_fault s _ m = None
+
+-- what a change at moment t leaves of the table of a segment that it is about; the table has what is live then, under
+-- the ageing before the change. Where a remote endpoint is taken from the flood list, a membership ends or a port goes
+-- down, what was learned at that place goes; what is too old under a new ageing goes at once
+abbrev pub entries_changed : ℕ → SegmentSettings → Change → Table → Table
+entries_changed t s (RemoveFlood vid addr tunnel) m = flush_place (Remote (kind_in s.tunnels tunnel) addr) m
+entries_changed t s (Fix vid mac target) m = fix s.limit (place_of s.tunnels target) mac m
+entries_changed t s (Unfix vid mac) m = unfix mac m
+entries_changed t s (SetAgeing vid seconds) m = live (nanoseconds seconds) t m
+entries_changed t s (SetMember vid port None) m = flush_place (Local port) m
+entries_changed t s (PortDown port) m = flush_place (Local port) m
+entries_changed t s (Flush vid) m = flush m
+entries_changed t s _ m = m

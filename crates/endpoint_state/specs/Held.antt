@@ -1,0 +1,26 @@
+-- What an endpoint holds, with its tables as lists.
+use Rattle.std.specs.Prelude.{ℕ}
+use Rattle.filter_db.specs.Database.{Database, segments_of}
+use Rattle.endpoint_state.specs.declared.parts.Parts.{Parts}
+use Rattle.endpoint_state.specs.Settings.{Settings}
+use Rattle.endpoint_state.specs.Sound.{IsSound}
+use Rattle.endpoint_state.specs.State as state
+use Rattle.endpoint_state.specs.State.{State}
+
+abbrev pub Held : Type 0
+Held = Parts Database
+
+-- the settings in force
+abbrev pub settings_of : Held → Settings
+settings_of held = state.settings_of segments_of held
+
+-- the state at moment t
+abbrev pub state_at : ℕ → Held → State
+state_at t held = state.state_of segments_of t held
+
+-- the latest moment that its tables were asked at
+abbrev pub moment_of : Held → ℕ
+moment_of held = held.tables.moment
+
+abbrev pub HeldIsSound : Held → Type 0
+HeldIsSound held = IsSound segments_of held

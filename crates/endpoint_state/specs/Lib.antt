@@ -1,0 +1,12 @@
+pub mod Change
+pub mod Code
+pub mod Fault
+pub mod Held
+pub mod Laws
+pub mod Learning
+pub mod Opened
+pub mod Settings
+pub mod Sound
+pub mod State
+pub mod Step
+pub mod Tunnel

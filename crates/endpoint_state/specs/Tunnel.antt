@@ -1,0 +1,15 @@
+-- The tunnel that a change means.
+use Rattle.std.specs.Prelude.{Option, Some, None, Result, Ok, Err}
+use Rattle.ip_udp_view.specs.declared.addr.Tunnel.{Tunnel}
+use Rattle.endpoint_state.specs.declared.fault.ChangeFault.{ChangeFault}
+use Rattle.endpoint_state.specs.declared.fault.ChangeFault.TheVariants.{NoSegment, NoTunnel}
+use Rattle.endpoint_state.specs.Settings.{SegmentSettings, kind_named}
+
+abbrev pub or_no_tunnel : Option Tunnel → Result Tunnel ChangeFault
+or_no_tunnel None = Err NoTunnel
+or_no_tunnel (Some kind) = Ok kind
+
+-- its kind, where there are the segment and the tunnel
+abbrev pub tunnel_in : Option SegmentSettings → Option Tunnel → Result Tunnel ChangeFault
+tunnel_in None tunnel = Err NoSegment
+tunnel_in (Some s) tunnel = or_no_tunnel (kind_named s.tunnels tunnel)

@@ -1,0 +1,131 @@
+//! Why a change isn't made.
+ghost use Rattle.std.specs.Prelude.{◌≡◌};
+ghost use Rattle.endpoint_state.specs.Fault.{name_of, number_of, of_flood};
+
+use flood_lists::FloodFault;
+use thiserror::Error;
+
+/// Why a change isn't made.
+#[derive(Clone, Copy, Debug, PartialEq, Eq, Error)]
+pub enum ChangeFault {
+    /// There is no segment of this VID.
+    #[error("NoSegment")]
+    NoSegment,
+    /// There is no port of this number.
+    #[error("NoPort")]
+    NoPort,
+    /// The remote endpoint is on the segment's flood list.
+    #[error("AlreadyThere")]
+    AlreadyThere,
+    /// The remote endpoint isn't on the flood list, or the address has no fixed entry.
+    #[error("NotThere")]
+    NotThere,
+    /// The flood list has 16 entries.
+    #[error("FloodFull")]
+    FloodFull,
+    /// The address isn't live, and the segment has its limit of live entries.
+    #[error("TableFull")]
+    TableFull,
+    /// A group address where an individual one is asked for.
+    #[error("GroupAddress")]
+    GroupAddress,
+    /// An ageing outside 10 to 1,000,000 seconds, or the address 0.0.0.0, 255.255.255.255 or ::.
+    #[error("OutOfRange")]
+    OutOfRange,
+    /// The endpoint has no own address of this family.
+    #[error("NoFamily")]
+    NoFamily,
+    /// The address is the endpoint's own.
+    #[error("OwnAddress")]
+    OwnAddress,
+    /// The segment has no tunnel of this kind.
+    #[error("NoTunnel")]
+    NoTunnel,
+}
+
+impl ChangeFault {
+    /// Its number, by which it is told in decision lines: 1 to 10 in the order above, and 14 for `NoTunnel`.
+    pub fn number(self) -> u8
+        ensures { result ≡ number_of self }
+    {
+        match self {
+            ChangeFault::NoSegment => 1,
+            ChangeFault::NoPort => 2,
+            ChangeFault::AlreadyThere => 3,
+            ChangeFault::NotThere => 4,
+            ChangeFault::FloodFull => 5,
+            ChangeFault::TableFull => 6,
+            ChangeFault::GroupAddress => 7,
+            ChangeFault::OutOfRange => 8,
+            ChangeFault::NoFamily => 9,
+            ChangeFault::OwnAddress => 10,
+            ChangeFault::NoTunnel => 14,
+        }
+    }
+
+    /// Its name, as decision lines print it.
+    pub fn name(self) -> &'static str
+        ensures { result.now ≡ name_of self }
+    {
+        match self {
+            ChangeFault::NoSegment => "NoSegment",
+            ChangeFault::NoPort => "NoPort",
+            ChangeFault::AlreadyThere => "AlreadyThere",
+            ChangeFault::NotThere => "NotThere",
+            ChangeFault::FloodFull => "FloodFull",
+            ChangeFault::TableFull => "TableFull",
+            ChangeFault::GroupAddress => "GroupAddress",
+            ChangeFault::OutOfRange => "OutOfRange",
+            ChangeFault::NoFamily => "NoFamily",
+            ChangeFault::OwnAddress => "OwnAddress",
+            ChangeFault::NoTunnel => "NoTunnel",
+        }
+    }
+}
+
+impl From<FloodFault> for ChangeFault {
+    ghost from_gives = { λ fault change_fault. change_fault ≡ of_flood fault };
+
+    fn from(fault: FloodFault) -> ChangeFault {
+        match fault {
+            FloodFault::OutOfRange => ChangeFault::OutOfRange,
+            FloodFault::NoFamily => ChangeFault::NoFamily,
+            FloodFault::OwnAddress => ChangeFault::OwnAddress,
+            FloodFault::AlreadyThere => ChangeFault::AlreadyThere,
+            FloodFault::FloodFull => ChangeFault::FloodFull,
+        }
+    }
+}
+
+impl From<flood_lists::NotThere> for ChangeFault {
+    ghost use Rattle.endpoint_state.specs.declared.fault.ChangeFault.TheVariants.{NotThere};
+    ghost use Rattle.std.specs.Prelude.{◌≡◌};
+
+    ghost from_gives = { λ _ fault. fault ≡ NotThere };
+
+    fn from(_absent: flood_lists::NotThere) -> ChangeFault {
+        ChangeFault::NotThere
+    }
+}
+
+impl From<filter_db::NotThere> for ChangeFault {
+    ghost use Rattle.endpoint_state.specs.declared.fault.ChangeFault.TheVariants.{NotThere};
+    ghost use Rattle.std.specs.Prelude.{◌≡◌};
+
+    ghost from_gives = { λ _ fault. fault ≡ NotThere };
+
+    fn from(_absent: filter_db::NotThere) -> ChangeFault {
+        ChangeFault::NotThere
+    }
+}
+
+impl From<filter_db::TableFull> for ChangeFault {
+    ghost use Rattle.endpoint_state.specs.declared.fault.ChangeFault.TheVariants.{TableFull};
+    ghost use Rattle.std.specs.Prelude.{◌≡◌};
+
+    ghost from_gives = { λ _ fault. fault ≡ TableFull };
+
+    fn from(_full: filter_db::TableFull) -> ChangeFault {
+        ChangeFault::TableFull
+    }
+}

@@ -1,0 +1,53 @@
+//! Changes of flood lists.
+ghost use Rattle.std.specs.Prelude.{◌≡◌, ◌≤◌, ℕ};
+ghost use Rattle.frame_view.specs.First.{fault_of};
+ghost use Rattle.overlay_config.specs.declared.change.Change.TheVariants.{AddFlood, RemoveFlood};
+ghost use Rattle.endpoint_state.specs.Sound.{IsSound};
+ghost use Rattle.endpoint_state.specs.State.{state_of, fault, after_change};
+
+use crate::ChangeFault;
+use crate::parts::Parts;
+use filter_db::{Place, Tables};
+use frame_view::Vid;
+use ip_udp_view::{Addr, Tunnel};
+
+impl<T: Tables> Parts<T> {
+    /// Puts an address last on a segment's flood list.
+    pub(crate) fn add_flood(
+        &mut self,
+        vid: Vid,
+        addr: Addr,
+        tunnel: Option<Tunnel>,
+    ) -> Result<(), ChangeFault>
+        requires sound { IsSound T.segments self.old }
+        ensures fault { (t : ℕ) → fault_of result ≡ fault (state_of T.segments t self.old) (AddFlood vid addr tunnel) }
+        ensures after { (t : ℕ) → state_of T.segments t self.new ≡ after_change t (AddFlood vid addr tunnel) (state_of T.segments t self.old) }
+        ensures sound { IsSound T.segments self.new }
+        ensures moment { T.moment self.new.tables ≡ T.moment self.old.tables }
+    {
+        let kind = self.kind_named(vid, tunnel)?;
+        self.under.add_flood(vid, kind, addr)?;
+        Ok(())
+    }
+
+    /// Takes an address from a segment's flood list, and forgets what was learned there.
+    pub(crate) fn remove_flood(
+        &mut self,
+        now: u64,
+        vid: Vid,
+        addr: Addr,
+        tunnel: Option<Tunnel>,
+    ) -> Result<(), ChangeFault>
+        requires sound { IsSound T.segments self.old }
+        requires time { T.moment self.old.tables ≤ now }
+        ensures fault { fault_of result ≡ fault (state_of T.segments now self.old) (RemoveFlood vid addr tunnel) }
+        ensures after { state_of T.segments now self.new ≡ after_change now (RemoveFlood vid addr tunnel) (state_of T.segments now self.old) }
+        ensures sound { IsSound T.segments self.new }
+        ensures time { T.moment self.new.tables ≤ now }
+    {
+        let kind = self.kind_named(vid, tunnel)?;
+        self.under.remove_flood(vid, kind, addr)?;
+        self.tables.flush_place(vid, Place::Remote(kind, addr), now);
+        Ok(())
+    }
+}

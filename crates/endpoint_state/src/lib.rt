@@ -1,0 +1,24 @@
+//! What a tunnel endpoint holds, and what a change does to it: its ports and the members of its segments (IEEE 802.1Q),
+//! its underlay with each segment's tunnels and flood list (RFC 7348, RFC 8926), the segments' tables, and which of
+//! them learn.
+//!
+//! [`EndpointState`] is opened with settings, and a [`Change`] is made to it or refused with a [`ChangeFault`]. It steps
+//! the bridge of a segment for a frame. No call but `open` takes memory. It knows no header of a packet.
+#![tactic(auto)]
+
+mod checks;
+mod fault;
+mod flood;
+pub mod laws;
+mod learning;
+mod parts;
+mod ports;
+mod state;
+mod step;
+mod table;
+#[cfg(test)]
+mod tests;
+
+pub use fault::ChangeFault;
+pub use overlay_config::{Change, Target};
+pub use state::EndpointState;

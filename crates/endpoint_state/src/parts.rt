@@ -1,0 +1,46 @@
+//! The parts of an endpoint, over any tables.
+ghost use Rattle.std.specs.Prelude.{◌≡◌, ◌≤◌};
+ghost use Rattle.frame_view.specs.First.{fault_of};
+ghost use Rattle.endpoint_state.specs.Sound.{IsSound};
+ghost use Rattle.endpoint_state.specs.State.{state_of, fault, after_change};
+
+use crate::learning::Learning;
+use crate::{Change, ChangeFault};
+use filter_db::Tables;
+use underlay::Under;
+use vlan_ports::PortSet;
+
+/// What an endpoint holds. Limits and ageings of segments stand with the tables alone, flood lists and tunnels with the
+/// underlay, members with the ports.
+#[derive(Drop)]
+pub(crate) struct Parts<T> {
+    pub(crate) ports: PortSet,
+    pub(crate) under: Under,
+    pub(crate) tables: T,
+    pub(crate) learning: Learning,
+}
+
+impl<T: Tables> Parts<T> {
+    /// Makes a change at a moment, or refuses it.
+    pub(crate) fn change(&mut self, now: u64, change: Change) -> Result<(), ChangeFault>
+        requires sound { IsSound T.segments self.old }
+        requires time { T.moment self.old.tables ≤ now }
+        ensures fault { fault_of result ≡ fault (state_of T.segments now self.old) change }
+        ensures after { state_of T.segments now self.new ≡ after_change now change (state_of T.segments now self.old) }
+        ensures sound { IsSound T.segments self.new }
+        ensures time { T.moment self.new.tables ≤ now }
+    {
+        match change {
+            Change::AddFlood { vid, addr, tunnel } => self.add_flood(vid, addr, tunnel),
+            Change::RemoveFlood { vid, addr, tunnel } => self.remove_flood(now, vid, addr, tunnel),
+            Change::Fix { vid, mac, target } => self.fix(now, vid, mac, target),
+            Change::Unfix { vid, mac } => self.unfix(now, vid, mac),
+            Change::SetAgeing { vid, seconds } => self.set_ageing(now, vid, seconds),
+            Change::SetLearning { vid, on } => self.set_learning(vid, on),
+            Change::SetMember { vid, port, egress } => self.set_member(now, vid, port, egress),
+            Change::PortUp { port } => self.port_up(port),
+            Change::PortDown { port } => self.port_down(now, port),
+            Change::Flush { vid } => self.flush(now, vid),
+        }
+    }
+}

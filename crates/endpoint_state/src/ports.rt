@@ -1,0 +1,100 @@
+//! Changes of ports and memberships.
+ghost use Rattle.std.specs.Prelude.{◌≡◌, ◌≤◌, ℕ, is_some, true};
+ghost use Rattle.std.specs.Option.{option_map};
+ghost use Rattle.frame_view.specs.First.{fault_of};
+ghost use Rattle.underlay.specs.Overlay.{Overlay};
+ghost use Rattle.filter_db.specs.Segment.{aged_all, adjusted, flush_place_in, segment_at as table_of};
+ghost use Rattle.overlay_config.specs.declared.change.Change.TheVariants.{SetMember, PortUp, PortDown};
+ghost use Rattle.endpoint_state.specs.Sound.{IsSound, AreReached};
+ghost use Rattle.endpoint_state.specs.State.{state_of, fault, after_change};
+
+use crate::ChangeFault;
+use crate::checks::check_port;
+use crate::parts::Parts;
+use filter_db::{Place, Tables};
+use frame_view::Vid;
+use vlan_ports::Egress;
+
+/// All VIDs are below this number.
+const VIDS: u16 = 4095;
+
+impl<T: Tables> Parts<T> {
+    /// Makes a port a member of a segment whose frames leave so, or no member; then what was learned there is forgotten.
+    pub(crate) fn set_member(
+        &mut self,
+        now: u64,
+        vid: Vid,
+        port: u8,
+        egress: Option<Egress>,
+    ) -> Result<(), ChangeFault>
+        requires sound { IsSound T.segments self.old }
+        requires time { T.moment self.old.tables ≤ now }
+        ensures fault { fault_of result ≡ fault (state_of T.segments now self.old) (SetMember vid port egress) }
+        ensures after { state_of T.segments now self.new ≡ after_change now (SetMember vid port egress) (state_of T.segments now self.old) }
+        ensures sound { IsSound T.segments self.new }
+        ensures time { T.moment self.new.tables ≤ now }
+    {
+        self.check_segment(vid)?;
+        check_port(&self.ports, port)?;
+        self.ports.set_member(vid, port, egress);
+        if egress.is_none() {
+            self.tables.flush_place(vid, Place::Local(port), now);
+        }
+        Ok(())
+    }
+
+    /// Takes a port up.
+    pub(crate) fn port_up(&mut self, port: u8) -> Result<(), ChangeFault>
+        requires sound { IsSound T.segments self.old }
+        ensures fault { (t : ℕ) → fault_of result ≡ fault (state_of T.segments t self.old) (PortUp port) }
+        ensures after { (t : ℕ) → state_of T.segments t self.new ≡ after_change t (PortUp port) (state_of T.segments t self.old) }
+        ensures sound { IsSound T.segments self.new }
+        ensures moment { T.moment self.new.tables ≡ T.moment self.old.tables }
+    {
+        check_port(&self.ports, port)?;
+        self.ports.set_up(port, true);
+        Ok(())
+    }
+
+    /// Takes a port down, and forgets in every segment what was learned there.
+    pub(crate) fn port_down(&mut self, now: u64, port: u8) -> Result<(), ChangeFault>
+        requires sound { IsSound T.segments self.old }
+        requires time { T.moment self.old.tables ≤ now }
+        ensures fault { fault_of result ≡ fault (state_of T.segments now self.old) (PortDown port) }
+        ensures after { state_of T.segments now self.new ≡ after_change now (PortDown port) (state_of T.segments now self.old) }
+        ensures sound { IsSound T.segments self.new }
+        ensures time { T.moment self.new.tables ≤ now }
+    {
+        check_port(&self.ports, port)?;
+        self.ports.set_up(port, false);
+        flush_everywhere(&mut self.tables, Place::Local(port), now);
+        Ok(())
+    }
+}
+
+/// Forgets in every segment what was learned at a place.
+fn flush_everywhere<T: Tables>(tables: &mut T, place: Place, now: u64)
+    requires vids { (vid : ℕ) → is_some (T.segments tables.old vid) ≡ true → (1 ≤ vid) × (vid ≤ 4094) }
+    requires time { T.moment tables.old ≤ now }
+    ensures after { (vid : ℕ) → aged_all now (T.segments tables.new) vid ≡ option_map (flush_place_in place) (aged_all now (T.segments tables.old) vid) }
+    ensures reached { (S : Overlay) (vid : ℕ) → AreReached S vid (table_of vid (T.segments tables.old)).entries → AreReached S vid (table_of vid (T.segments tables.new)).entries }
+    ensures time { T.moment tables.new ≤ now }
+{
+    for number in 1..VIDS {
+        if let Some(vid) = Vid::new(number) {
+            flush_at(tables, vid, place, now);
+        }
+    }
+}
+
+/// Forgets what the segment of a VID, where it has one, learned at a place.
+fn flush_at<T: Tables>(tables: &mut T, vid: Vid, place: Place, now: u64)
+    requires time { T.moment tables.old ≤ now }
+    ensures after { aged_all now (T.segments tables.new) ≡ adjusted vid (flush_place_in place) (aged_all now (T.segments tables.old)) }
+    ensures reached { (S : Overlay) (vid : ℕ) → AreReached S vid (table_of vid (T.segments tables.old)).entries → AreReached S vid (table_of vid (T.segments tables.new)).entries }
+    ensures time { T.moment tables.new ≤ now }
+{
+    if tables.has(vid) {
+        tables.flush_place(vid, place, now);
+    }
+}

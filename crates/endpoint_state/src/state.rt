@@ -1,0 +1,130 @@
+//! What an endpoint holds.
+ghost use Rattle.std.specs.Prelude.{◌≡◌, ◌≤◌, ℕ, IfOk, IsSome, IsTrue, is_some, true};
+ghost use Rattle.std.specs.List.{list_all};
+ghost use Rattle.frame_view.specs.First.{fault_of};
+ghost use Rattle.tunnel_learning.specs.Verdict.{seen};
+ghost use Rattle.vlan_ports.specs.Ports.{has_segment as has_members};
+ghost use Rattle.underlay.specs.Overlay.{has_segment, flood_at};
+ghost use Rattle.endpoint_state.specs.Opened.{opened};
+ghost use Rattle.endpoint_state.specs.Settings.{segment_at};
+ghost use Rattle.endpoint_state.specs.Sound.{reaches, is_reached};
+ghost use Rattle.endpoint_state.specs.State.{fault, after_change};
+ghost use Rattle.endpoint_state.specs.Step.{can_leave, after_frame, verdict};
+
+use crate::learning::Learning;
+use crate::parts::Parts;
+use crate::{Change, ChangeFault};
+use filter_db::{ListTables, Place, Tables};
+use frame_view::{BridgeFrame, Vid};
+use overlay_config::Settings;
+use std::alloc::{AllocError, Global};
+use std::marker::Model;
+use tunnel_learning::Verdict;
+use underlay::Under;
+use vlan_ports::PortSet;
+
+/// What an endpoint holds: ports with the members of segments, the underlay with tunnels and flood lists, the segments'
+/// tables, and which of them learn. No call but `open` takes memory.
+#[derive(Drop)]
+pub struct EndpointState {
+    parts: Parts<ListTables>,
+}
+
+impl Model for EndpointState {
+    ghost use Rattle.endpoint_state.specs.Held.{Held, HeldIsSound};
+    ghost use Rattle.endpoint_state.specs.Code.{held_code};
+
+    ghost Value = { Held };
+
+    ghost coded = { held_code };
+
+    ghost view = { λ s. s.parts };
+
+    ghost invariant = { λ s. HeldIsSound s.parts };
+}
+
+impl EndpointState {
+    ghost use Rattle.endpoint_state.specs.Held.{settings_of, state_at, moment_of};
+
+    /// What settings tell, with empty tables, at moment 0. `AllocError`: a growth was refused.
+    pub fn open(alloc: Global, settings: Settings) -> Result<EndpointState, AllocError>
+        ensures state { IfOk result (λ state. (t : ℕ) → state_at t state ≡ opened settings) }
+        ensures moment { IfOk result (λ state. moment_of state ≡ 0) }
+    {
+        let ports = PortSet::open(alloc, settings.ports(), settings.members())?;
+        let tables = ListTables::open(alloc, settings.tables())?;
+        let learning = Learning::open(alloc, settings.learning())?;
+        let (underlay, tunnels) = settings.into_overlay();
+        let under = Under::open(alloc, underlay, tunnels)?;
+        Ok(EndpointState {
+            parts: Parts {
+                ports,
+                under,
+                tables,
+                learning,
+            },
+        })
+    }
+
+    /// The local ports, and the members of each segment.
+    pub fn ports(&self) -> &PortSet
+        ensures value { result.now ≡ (settings_of self.now).ports }
+        ensures segments { (vid : ℕ) → has_members result.now vid ≡ is_some (segment_at (settings_of self.now) vid) }
+    {
+        &self.parts.ports
+    }
+
+    /// The underlay, and the tunnels and flood list of each segment, which can send to all that is on it.
+    pub fn under(&self) -> &Under
+        ensures value { result.now ≡ (settings_of self.now).overlay }
+        ensures segments { (vid : ℕ) → has_segment result.now vid ≡ is_some (segment_at (settings_of self.now) vid) }
+        ensures flood { (vid : ℕ) → list_all (λ r. reaches result.now vid r.tunnel r.addr) (flood_at result.now vid) ≡ true }
+    {
+        &self.parts.under
+    }
+
+    /// The latest moment that its tables were asked at, in nanoseconds.
+    pub fn moment(&self) -> u64
+        ensures { result ≡ moment_of self.now }
+    {
+        self.parts.tables.now()
+    }
+
+    /// Whether a segment can send to a place: any local port, or a remote endpoint of a kind of tunnel that it has and of
+    /// a family that the endpoint has an own address of.
+    pub fn reaches(&self, vid: Vid, place: Place) -> bool
+        ensures { result ≡ is_reached (settings_of self.now).overlay vid place }
+    {
+        match place {
+            Place::Local(_) => true,
+            Place::Remote(kind, addr) => {
+                self.parts.under.tunnel_of(vid, kind).is_some()
+                    && self.parts.under.own().has_family(addr)
+            }
+        }
+    }
+
+    /// Makes a change at a moment, which isn't before any earlier one, or refuses it.
+    pub fn change(&mut self, now: u64, change: Change) -> Result<(), ChangeFault>
+        requires time { moment_of self.old ≤ now }
+        ensures fault { fault_of result ≡ fault (state_at now self.old) change }
+        ensures after { state_at now self.new ≡ after_change now change (state_at now self.old) }
+        ensures time { moment_of self.new ≤ now }
+    {
+        self.parts.change(now, change)
+    }
+
+    /// A frame came to a segment at a moment, which isn't before any earlier one, from a place that the segment can send
+    /// to: learns where the source stands, and answers where the frame goes, which are places where it can leave.
+    pub fn step(&mut self, now: u64, vid: Vid, from: Place, frame: &BridgeFrame) -> Verdict
+        requires time { moment_of self.old ≤ now }
+        requires there { IsSome (segment_at (settings_of self.old) vid) }
+        requires reached { is_reached (settings_of self.old).overlay vid from ≡ true }
+        ensures verdict { seen result ≡ verdict now vid from frame.now (state_at now self.old) }
+        ensures after { state_at now self.new ≡ after_frame now vid from frame.now (state_at now self.old) }
+        ensures leaves { IfOk (seen result) (λ places. IsTrue (list_all (can_leave (settings_of self.old) vid) places)) }
+        ensures time { moment_of self.new ≤ now }
+    {
+        self.parts.step(now, vid, from, frame)
+    }
+}

@@ -1,0 +1,51 @@
+//! A frame at the bridge of a segment.
+ghost use Rattle.std.specs.Prelude.{◌≡◌, ◌≤◌, ◌∷◌, [], IfOk, IsSome, IsTrue, true};
+ghost use Rattle.std.specs.List.{list_all};
+ghost use Rattle.ip_udp_view.specs.declared.addr.Tunnel.TheVariants.{Vxlan, Geneve};
+ghost use Rattle.tunnel_learning.specs.Verdict.{seen};
+ghost use Rattle.endpoint_state.specs.Sound.{IsSound, is_reached};
+ghost use Rattle.endpoint_state.specs.State.{settings_of, state_of};
+ghost use Rattle.endpoint_state.specs.Step.{can_leave, group_in, after_frame, verdict};
+
+use crate::parts::Parts;
+use filter_db::{Place, Tables};
+use frame_view::{BridgeFrame, Vid};
+use ip_udp_view::Tunnel;
+use tunnel_learning::{Bridge, Verdict, bridge_step};
+use underlay::Tunnels;
+
+impl<T: Tables> Parts<T> {
+    /// A frame came to a segment from a place, one that it can send to: learns where the source stands, and answers where
+    /// the frame goes.
+    pub(crate) fn step(&mut self, now: u64, vid: Vid, from: Place, frame: &BridgeFrame) -> Verdict
+        requires sound { IsSound T.segments self.old }
+        requires time { T.moment self.old.tables ≤ now }
+        requires there { IsSome (T.segments self.old.tables vid) }
+        requires reached { is_reached self.old.under vid from ≡ true }
+        ensures verdict { seen result ≡ verdict now vid from frame.now (state_of T.segments now self.old) }
+        ensures after { state_of T.segments now self.new ≡ after_frame now vid from frame.now (state_of T.segments now self.old) }
+        ensures leaves { IfOk (seen result) (λ places. IsTrue (list_all (can_leave (settings_of T.segments self.old) vid) places)) }
+        ensures sound { IsSound T.segments self.new }
+        ensures time { T.moment self.new.tables ≤ now }
+    {
+        let segment = self.under.segment(vid);
+        let bridge = Bridge {
+            vid,
+            learning: self.learning.get(vid),
+            groups: groups_of(&segment.tunnels),
+            ports: &self.ports,
+            flood: &segment.flood,
+        };
+        bridge_step(&mut self.tables, &bridge, now, from, frame)
+    }
+}
+
+/// The horizon groups of the VXLAN and the Geneve tunnel, 0 for a kind that isn't there.
+fn groups_of(tunnels: &Tunnels) -> [u8; 2]
+    ensures { result ≡ group_in Vxlan tunnels.now ∷ group_in Geneve tunnels.now ∷ [] }
+{
+    [
+        tunnels.of(Tunnel::Vxlan).map_or(0, |tunnel| tunnel.group),
+        tunnels.of(Tunnel::Geneve).map_or(0, |tunnel| tunnel.group),
+    ]
+}

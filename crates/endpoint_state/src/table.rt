@@ -1,0 +1,141 @@
+//! Changes of a segment's table.
+ghost use Rattle.std.specs.Prelude.{◌≡◌, ◌≤◌, ℕ, IfOk, IfSome, IsSome, length, true};
+ghost use Rattle.frame_view.specs.First.{fault_of};
+ghost use Rattle.overlay_config.specs.declared.change.Change.TheVariants.{Fix, Unfix, SetAgeing, SetLearning, Flush};
+ghost use Rattle.endpoint_state.specs.Settings.{segment_at};
+ghost use Rattle.overlay_config.specs.declared.change.Target.TheVariants.{Remote};
+ghost use Rattle.underlay.specs.Settings.{own};
+ghost use Rattle.endpoint_state.specs.Change.{refused, in_segment, target_fault, place_of};
+ghost use Rattle.endpoint_state.specs.Sound.{IsSound, is_reached};
+ghost use Rattle.endpoint_state.specs.State.{settings_of, state_of, fault, after_change};
+
+use crate::checks::{check_addr, check_port};
+use crate::parts::Parts;
+use crate::{ChangeFault, Target};
+use filter_db::{Place, Tables};
+use frame_view::{Mac, Vid};
+use ip_udp_view::{Addr, Tunnel};
+
+/// The shortest ageing, in seconds (IEEE 802.1Q, 8.8.3).
+const SHORTEST_AGEING: u32 = 10;
+
+/// The longest ageing, in seconds.
+const LONGEST_AGEING: u32 = 1_000_000;
+
+impl<T: Tables> Parts<T> {
+    /// Where a fixed entry of a segment is to stand.
+    fn place_for(&self, vid: Vid, mac: Mac, target: Target) -> Result<Place, ChangeFault>
+        requires sound { IsSound T.segments self.now }
+        ensures fault { fault_of result ≡ refused (settings_of T.segments self.now) (Fix vid mac target) }
+        ensures place { IfOk result (λ place. IfSome (segment_at (settings_of T.segments self.now) vid) (λ s. place ≡ place_of s.tunnels target)) }
+        ensures there { IfOk result (λ place. IsSome (T.segments self.now.tables vid)) }
+        ensures reached { IfOk result (λ place. is_reached self.now.under vid place ≡ true) }
+    {
+        self.check_segment(vid)?;
+        if mac.is_group() {
+            return Err(ChangeFault::GroupAddress);
+        }
+        match target {
+            Target::Local(port) => {
+                check_port(&self.ports, port)?;
+                Ok(Place::Local(port))
+            }
+            Target::Remote(addr, tunnel) => self.remote_place(vid, addr, tunnel),
+        }
+    }
+
+    /// The remote endpoint at which a fixed entry of a segment is to stand.
+    fn remote_place(
+        &self,
+        vid: Vid,
+        addr: Addr,
+        tunnel: Option<Tunnel>,
+    ) -> Result<Place, ChangeFault>
+        requires sound { IsSound T.segments self.now }
+        ensures fault { fault_of result ≡ in_segment (segment_at (settings_of T.segments self.now) vid) (λ s. target_fault (own self.now.under.underlay) (length self.now.ports.ports) s.tunnels (Remote addr tunnel)) }
+        ensures place { IfOk result (λ place. IfSome (segment_at (settings_of T.segments self.now) vid) (λ s. place ≡ place_of s.tunnels (Remote addr tunnel))) }
+        ensures reached { IfOk result (λ place. is_reached self.now.under vid place ≡ true) }
+    {
+        let kind = self.kind_named(vid, tunnel)?;
+        check_addr(&self.under.own(), addr)?;
+        Ok(Place::Remote(kind, addr))
+    }
+
+    /// Fixes an address of a segment at a place, in place of any earlier entry.
+    pub(crate) fn fix(
+        &mut self,
+        now: u64,
+        vid: Vid,
+        mac: Mac,
+        target: Target,
+    ) -> Result<(), ChangeFault>
+        requires sound { IsSound T.segments self.old }
+        requires time { T.moment self.old.tables ≤ now }
+        ensures fault { fault_of result ≡ fault (state_of T.segments now self.old) (Fix vid mac target) }
+        ensures after { state_of T.segments now self.new ≡ after_change now (Fix vid mac target) (state_of T.segments now self.old) }
+        ensures sound { IsSound T.segments self.new }
+        ensures time { T.moment self.new.tables ≤ now }
+    {
+        let place = self.place_for(vid, mac, target)?;
+        self.tables.fix(vid, mac, place, now)?;
+        Ok(())
+    }
+
+    /// Takes the fixed entry of an address of a segment away.
+    pub(crate) fn unfix(&mut self, now: u64, vid: Vid, mac: Mac) -> Result<(), ChangeFault>
+        requires sound { IsSound T.segments self.old }
+        requires time { T.moment self.old.tables ≤ now }
+        ensures fault { fault_of result ≡ fault (state_of T.segments now self.old) (Unfix vid mac) }
+        ensures after { state_of T.segments now self.new ≡ after_change now (Unfix vid mac) (state_of T.segments now self.old) }
+        ensures sound { IsSound T.segments self.new }
+        ensures time { T.moment self.new.tables ≤ now }
+    {
+        self.check_segment(vid)?;
+        self.tables.unfix(vid, mac, now)?;
+        Ok(())
+    }
+
+    /// Sets for how many seconds a segment's learned entries are live.
+    pub(crate) fn set_ageing(&mut self, now: u64, vid: Vid, seconds: u32) -> Result<(), ChangeFault>
+        requires sound { IsSound T.segments self.old }
+        requires time { T.moment self.old.tables ≤ now }
+        ensures fault { fault_of result ≡ fault (state_of T.segments now self.old) (SetAgeing vid seconds) }
+        ensures after { state_of T.segments now self.new ≡ after_change now (SetAgeing vid seconds) (state_of T.segments now self.old) }
+        ensures sound { IsSound T.segments self.new }
+        ensures time { T.moment self.new.tables ≤ now }
+    {
+        self.check_segment(vid)?;
+        if seconds < SHORTEST_AGEING || seconds > LONGEST_AGEING {
+            return Err(ChangeFault::OutOfRange);
+        }
+        self.tables.set_ageing(vid, seconds, now);
+        Ok(())
+    }
+
+    /// Sets whether a segment learns. Its entries stay.
+    pub(crate) fn set_learning(&mut self, vid: Vid, on: bool) -> Result<(), ChangeFault>
+        requires sound { IsSound T.segments self.old }
+        ensures fault { (t : ℕ) → fault_of result ≡ fault (state_of T.segments t self.old) (SetLearning vid on) }
+        ensures after { (t : ℕ) → state_of T.segments t self.new ≡ after_change t (SetLearning vid on) (state_of T.segments t self.old) }
+        ensures sound { IsSound T.segments self.new }
+        ensures moment { T.moment self.new.tables ≡ T.moment self.old.tables }
+    {
+        self.check_segment(vid)?;
+        self.learning.set(vid, on);
+        Ok(())
+    }
+
+    /// Forgets all that a segment learned.
+    pub(crate) fn flush(&mut self, now: u64, vid: Vid) -> Result<(), ChangeFault>
+        requires sound { IsSound T.segments self.old }
+        requires time { T.moment self.old.tables ≤ now }
+        ensures fault { fault_of result ≡ fault (state_of T.segments now self.old) (Flush vid) }
+        ensures after { state_of T.segments now self.new ≡ after_change now (Flush vid) (state_of T.segments now self.old) }
+        ensures sound { IsSound T.segments self.new }
+        ensures time { T.moment self.new.tables ≤ now }
+    {
+        self.check_segment(vid)?;
+        self.tables.flush(vid, now);
+        Ok(())
+    }
+}

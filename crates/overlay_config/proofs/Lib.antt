@@ -1,0 +1,7 @@
+mod Pairs
+mod Readings
+mod Listed
+mod Hops
+mod Numbers
+mod Meets
+mod Rising

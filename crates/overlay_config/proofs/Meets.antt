@@ -1,0 +1,425 @@
+-- Settings that are read keep to the rules.
+use Rattle.std.proofs.Common.{◌≡◌, ℕ, ◌≤◌, ◌+◌, ◌++◌, ◌∷◌, [], Bool, true, false, cond, ◌&&◌, ◌||◌, nat_lt, List, length, map, get_or, eqb, nat_le, ◌<◌, Option, Some, None, option_map, is_some, is_none, Ok, codes, refl, sym, ap, subst, ◌∙◌, lit≤, arith}
+use Rattle.std.specs.Prelude.{IsTrue, IsFalse, IfSome, ◌==◌}
+use Rattle.std.specs.List.{list_any}
+use Rattle.std.proofs.lemmas.Bool.{ltb-false, le-leb, and_from, or_from, eq-eqb, false≢true}
+use Rattle.std.proofs.lemmas.List.{get_or-map, length-map}
+use Rattle.toml.specs.Data.{Data, Members, Items, no_items, item, as_array}
+use Rattle.ip_udp_view.specs.declared.addr.Addr.{Addr}
+use Rattle.ip_udp_view.specs.declared.addr.Addr.TheVariants.{V4, V6}
+use Rattle.ip_udp_view.specs.declared.addr.Tunnel.{Tunnel}
+use Rattle.ip_udp_view.specs.declared.addr.Tunnel.TheVariants.{Vxlan, Geneve}
+use Rattle.ip_udp_view.specs.Addr.{same_addr, same_kind}
+use Rattle.std.specs.FinMap.{empty, len}
+use Rattle.flood_lists.specs.declared.own.Own.{Own}
+use Rattle.flood_lists.specs.declared.remote.Remote.{Remote}
+use Rattle.flood_lists.specs.First.{first}
+use Rattle.flood_lists.specs.Flood.{Entries, add_faults}
+use Rattle.filter_db.specs.Segment.{IsRule, AreForDistinctVids}
+use Rattle.filter_db.specs.declared.tables.TableRule.{TableRule}
+use Rattle.geneve_head.specs.Options.{holds}
+use Rattle.vlan_ports.specs.declared.member.MemberRule.{MemberRule}
+use Rattle.vlan_ports.specs.declared.port.Accept.TheVariants.{All}
+use Rattle.vlan_ports.specs.declared.port.PortRule.{PortRule}
+use Rattle.vlan_ports.specs.Ports.{is_port, are_ports, lists_ports}
+use Rattle.underlay.specs.declared.segment.PeerRule.TheVariants.{Any}
+use Rattle.underlay.specs.declared.segment.TagRule.TheVariants.{Drop}
+use Rattle.underlay.specs.declared.segment.TunnelRule.{TunnelRule}
+use Rattle.underlay.specs.declared.tunnels.SegmentTunnel.{SegmentTunnel}
+use Rattle.underlay.specs.declared.settings.Underlay.{Underlay}
+use Rattle.underlay.specs.Overlay.{AreApart, clash}
+use Rattle.underlay.specs.Overlay as overlay
+use Rattle.underlay.specs.Settings.{own}
+use Rattle.config_text.specs.declared.fault.SettingsFault.TheVariants.{Missing, BadValue, TwoSegments, OverLimit}
+use Rattle.config_text.specs.Address.{mac_of, ip4_of, ip6_of, addr_of}
+use Rattle.config_text.specs.Column.{range, truth, text, one_of, any_addr, gathered, individual_mac, is_individual, is_endpoint, endpoint_addr, own_ip4, own_ip6}
+use Rattle.config_text.specs.Table.{Place, top, path, required, only, defaulted, optional, listed, items, limited_items, required_items, subtable, each, numbered, refuse_if}
+use Rattle.overlay_config.specs.declared.segment.Segment.{Segment}
+use Rattle.overlay_config.specs.Port.{port_of, port_keys, accept_words}
+use Rattle.overlay_config.specs.Underlay.{Exceptions, exceptions, underlay_of, underlay_keys, own_addrs_of, tunnel_ports_of, pair_in, known_option, with_known, put_known, hop_of, hop_keys, hops_of}
+use Rattle.overlay_config.specs.Members.{is_member, with_member, put_member}
+use Rattle.overlay_config.specs.Flood.{with_remote, put_remote}
+use Rattle.overlay_config.specs.Segment.{segment_of, segment_keys, members_of, is_alike, is_taken, one_tunnel, sum_of_limits, tunnel_words, peer_words, tag_words, vni_number}
+use Rattle.overlay_config.specs.Settings.{Settings, segments_of, settings_of, told_by, top_keys}
+use Rattle.overlay_config.specs.Rules.{IsWithin, EachBehind, IsKnown, IsHop, AreHops, IsUnderlay, IsPort, IsMember, IsMemberRule, IsRemote, IsTunnelRule, MeetsRules}
+use Rattle.overlay_config.proofs.Hops.{all_size, none_size, hops_are}
+use Rattle.overlay_config.proofs.Listed.{each_mapped, all_mapped, same_numbers, all_pass, pairs_from}
+use Rattle.overlay_config.proofs.Readings.{bind_then, ok_is, fits_ok, refuse_ok, kept_meets, range_meets, required_meets, optional_meets, required_range, defaulted_range, limited_items_ok, required_items_ok, Longer, from_none, each_meets, gathered_meets, and_then_ok, some_is, unless_ok, when_ok, or_left}
+
+-- ---- ports
+
+port_meets : (earlier : List PortRule) (at : Place) (p : PortRule) → port_of at ≡ Ok p → IsPort earlier p
+unfolding port_of
+port_meets earlier at p e =
+    bind_then (only at port_keys) _ p e (λ known known-is e0.
+    bind_then (required at (codes "pvid") (range 1 4094)) _ p e0 (λ pvid pvid-is e1.
+    bind_then (defaulted at (codes "accept") (one_of accept_words) All) _ p e1 (λ accept accept-is e2.
+    bind_then (defaulted at (codes "up") truth true) _ p e2 (λ up up-is e3.
+    subst (IsPort earlier) (ok_is _ p e3) (required_range at (codes "pvid") 1 4094 pvid pvid-is)))))
+
+-- ---- the underlay
+
+mac_meets : (d : Data) (x : List ℕ) → individual_mac d ≡ Some x → IsTrue (is_individual x)
+mac_meets d x e = kept_meets is_individual (text mac_of d) x e
+
+ip4_meets : (d : Data) (x : List ℕ) → own_ip4 d ≡ Some x → IsTrue (is_endpoint (V4 x))
+ip4_meets d x e = kept_meets (λ ip. is_endpoint (V4 ip)) (text ip4_of d) x e
+
+ip6_meets : (d : Data) (x : List ℕ) → own_ip6 d ≡ Some x → IsTrue (is_endpoint (V6 x))
+ip6_meets d x e = kept_meets (λ ip. is_endpoint (V6 ip)) (text ip6_of d) x e
+
+endpoint_meets : (d : Data) (x : Addr) → endpoint_addr d ≡ Some x → IsTrue (is_endpoint x)
+endpoint_meets d x e = kept_meets is_endpoint (text addr_of d) x e
+
+one_family : (a b : Option (List ℕ)) → (is_none a && is_none b) ≡ false → IsTrue (is_some a || is_some b)
+one_family None None e = absurd cc
+one_family None (Some y) e = refl
+one_family (Some x) b e = refl
+
+abbrev HasOwn : Option (List ℕ) × Option (List ℕ) → Type 0
+HasOwn own = IfSome own.0 (λ ip. IsTrue (is_endpoint (V4 ip))) × IfSome own.1 (λ ip. IsTrue (is_endpoint (V6 ip))) × IsTrue (is_some own.0 || is_some own.1)
+
+own_meets : (at : Place) (own : Option (List ℕ) × Option (List ℕ)) → own_addrs_of at ≡ Ok own → HasOwn own
+unfolding own_addrs_of
+own_meets at own e =
+    bind_then (optional at (codes "ip4") own_ip4) _ own e (λ ip4 ip4-is e0.
+    bind_then (optional at (codes "ip6") own_ip6) _ own e0 (λ ip6 ip6-is e1.
+    bind_then (refuse_if (is_none ip4 && is_none ip6) (Missing (path at (codes "ip4")))) _ own e1 (λ family family-is e2.
+    subst HasOwn (ok_is (ip4, ip6) own e2) (
+      optional_meets (λ ip. IsTrue (is_endpoint (V4 ip))) own_ip4 ip4_meets at (codes "ip4") ip4 ip4-is,
+      optional_meets (λ ip. IsTrue (is_endpoint (V6 ip))) own_ip6 ip6_meets at (codes "ip6") ip6 ip6-is,
+      one_family ip4 ip6 (refuse_ok _ _ family family-is),
+    ))))
+
+abbrev ArePorts : ℕ × ℕ → Type 0
+ArePorts ports = IsWithin 1 65535 ports.0 × IsWithin 1 65535 ports.1 × IsFalse (ports.1 == ports.0)
+
+default_vxlan : IsWithin 1 65535 4789
+default_vxlan = (lit≤ tt, lit≤ tt)
+
+default_geneve : IsWithin 1 65535 6081
+default_geneve = (lit≤ tt, lit≤ tt)
+
+tunnel_ports_meet : (at : Place) (ports : ℕ × ℕ) → tunnel_ports_of at ≡ Ok ports → ArePorts ports
+unfolding tunnel_ports_of
+tunnel_ports_meet at ports e =
+    bind_then (defaulted at (codes "vxlan_port") (range 1 65535) 4789) _ ports e (λ vxlan vxlan-is e0.
+    bind_then (defaulted at (codes "geneve_port") (range 1 65535) 6081) _ ports e0 (λ geneve geneve-is e1.
+    bind_then (refuse_if (geneve == vxlan) (BadValue (path at (codes "geneve_port")))) _ ports e1 (λ apart apart-is e2.
+    subst ArePorts (ok_is (vxlan, geneve) ports e2) (
+      defaulted_range at (codes "vxlan_port") 1 65535 4789 vxlan default_vxlan vxlan-is,
+      defaulted_range at (codes "geneve_port") 1 65535 6081 geneve default_geneve geneve-is,
+      refuse_ok _ _ apart apart-is,
+    ))))
+
+-- an endpoint's address, and the MAC address of the next hop to it
+abbrev IsRow : List (Addr × List ℕ) → Addr × List ℕ → Type 0
+IsRow earlier h = IsHop h
+
+hop_meets : (earlier : List (Addr × List ℕ)) (at : Place) (h : Addr × List ℕ) → hop_of earlier at ≡ Ok h → IsRow earlier h
+unfolding hop_of
+hop_meets earlier at h e =
+    bind_then (only at hop_keys) _ h e (λ known known-is e0.
+    bind_then (required at (codes "addr") endpoint_addr) _ h e0 (λ addr addr-is e1.
+    bind_then (refuse_if (list_any (λ x. same_addr x.0 addr) earlier) (BadValue (path at (codes "addr")))) _ h e1 (λ new new-is e2.
+    bind_then (required at (codes "mac") individual_mac) _ h e2 (λ mac mac-is e3.
+    subst (IsRow earlier) (ok_is (addr, mac) h e3) (
+      required_meets (λ a. IsTrue (is_endpoint a)) endpoint_addr endpoint_meets at (codes "addr") addr addr-is,
+      required_meets (λ m. IsTrue (is_individual m)) individual_mac mac_meets at (codes "mac") mac mac-is,
+    )))))
+
+hops_meet : (at : Place) (hops : Exceptions) → hops_of at ≡ Ok hops → (len hops ≤ 64) × AreHops hops
+unfolding hops_of
+hops_meet at hops e =
+    bind_then (limited_items at (codes "hop") 64) _ hops e (λ tables tables-is e0.
+    bind_then (each hop_of (codes "underlay.hop") [] tables) _ hops e0 (λ rows rows-is e1.
+    let a = from_none IsRow (length tables) rows (each_meets IsRow hop_of (codes "underlay.hop") hop_meets [] tables rows rows-is) in
+    let few = limited_items_ok at (codes "hop") 64 tables tables-is in
+    subst (λ m. (len m ≤ 64) × AreHops m) (ok_is (exceptions empty rows) hops e1)
+    (omega (arith, few, a.1, all_size empty rows, none_size), hops_are IsRow (λ earlier h is. is) rows a.0)))
+
+abbrev some_pair : ℕ → ℕ → ℕ × ℕ
+some_pair class kind = (class, kind)
+
+pair_of : (class : ℕ) (o : Option ℕ) (x : ℕ × ℕ) → option_map (some_pair class) o ≡ Some x → (k : ℕ) × (o ≡ Some k) × (some_pair class k ≡ x)
+pair_of class None x e = absurd cc
+pair_of class (Some k) x e = (k, refl, some_is (some_pair class k) x e)
+
+abbrev IsOption : ℕ × ℕ → Type 0
+IsOption o = IsWithin 0 65535 o.0 × IsWithin 0 255 o.1
+
+pair_in_meets : (ds : Items) (x : ℕ × ℕ) → pair_in ds ≡ Some x → IsOption x
+pair_in_meets no_items x e = absurd cc
+pair_in_meets (item c no_items) x e = absurd cc
+pair_in_meets (item c (item k no_items)) x e =
+    let a = and_then_ok (range 0 65535 c) (λ class. option_map (λ kind. (class, kind)) (range 0 255 k)) x e in
+    let b = pair_of a.0 (range 0 255 k) x a.2 in
+    subst IsOption b.2 (range_meets 0 65535 c a.0 a.1, range_meets 0 255 k b.0 b.1)
+pair_in_meets (item c (item k (item m ds))) x e = absurd cc
+
+known_meets : (earlier : List (ℕ × ℕ)) (d : Data) (longer : List (ℕ × ℕ)) → put_known earlier d ≡ Some longer → Longer IsKnown earlier longer
+known_meets earlier d longer e =
+    let a = and_then_ok (known_option d) (with_known earlier) longer e in
+    let b = and_then_ok (as_array d) pair_in a.0 a.1 in
+    let o = pair_in_meets b.0 a.0 b.2 in
+    let k = unless_ok (holds earlier a.0.0 a.0.1) (cond (nat_lt (length earlier) 16) (Some (earlier ++ a.0 ∷ [])) None) longer a.2 in
+    let m = when_ok (nat_lt (length earlier) 16) (earlier ++ a.0 ∷ []) longer k.1 in
+    record { last = a.0; is = sym m.1; meets = (o.0, o.1, k.0) }
+
+listed_ok : {L : Type 0} (at : Place) (key : List ℕ) (limit : ℕ) (put : L → Data → Option L) (empty all : L) → listed at key limit put empty ≡ Ok all → (ds : List Data) × (length ds ≤ limit) × (gathered put empty ds ≡ Some all)
+listed_ok at key limit put empty all e =
+    bind_then (limited_items at key limit) _ all e (λ ds ds-is e0.
+    (ds, limited_items_ok at key limit ds ds-is, fits_ok (path at key) (gathered put empty ds) all e0))
+
+module _ {A : Type 0} (P : List A → A → Type 0) (put : List A → Data → Option (List A)) (meets : (earlier : List A) (d : Data) (longer : List A) → put earlier d ≡ Some longer → Longer P earlier longer) where
+  listed_meets : (at : Place) (key : List ℕ) (limit : ℕ) (all : List A) → listed at key limit put [] ≡ Ok all → (length all ≤ limit) × EachBehind P [] all
+  listed_meets at key limit all e =
+      let a = listed_ok at key limit put [] all e in
+      let b = from_none P (length a.0) all (gathered_meets P put meets [] a.0 all a.2) in
+      (omega (arith, a.1, b.1), b.0)
+
+default_mtu : IsWithin 1280 65535 1550
+default_mtu = (lit≤ tt, lit≤ tt)
+
+default_ttl : IsWithin 1 255 64
+default_ttl = (lit≤ tt, lit≤ tt)
+
+underlay_meets : (at : Place) (u : Underlay) → underlay_of at ≡ Ok u → IsUnderlay u
+unfolding underlay_of
+underlay_meets at u e =
+    bind_then (only at underlay_keys) _ u e (λ keys keys-is e0.
+    bind_then (required at (codes "mac") individual_mac) _ u e0 (λ mac mac-is e1.
+    bind_then (required at (codes "next_hop") individual_mac) _ u e1 (λ next next-is e2.
+    bind_then (own_addrs_of at) _ u e2 (λ own own-is e3.
+    bind_then (defaulted at (codes "mtu") (range 1280 65535) 1550) _ u e3 (λ mtu mtu-is e4.
+    bind_then (defaulted at (codes "ttl") (range 1 255) 64) _ u e4 (λ ttl ttl-is e5.
+    bind_then (tunnel_ports_of at) _ u e5 (λ ports ports-is e6.
+    bind_then (defaulted at (codes "sum4") truth false) _ u e6 (λ sum4 sum4-is e7.
+    bind_then (defaulted at (codes "sum6") truth true) _ u e7 (λ sum6 sum6-is e8.
+    bind_then (defaulted at (codes "zero6") truth true) _ u e8 (λ zero6 zero6-is e9.
+    bind_then (listed at (codes "known") 16 put_known []) _ u e9 (λ known known-is e10.
+    bind_then (hops_of at) _ u e10 (λ hops hops-is e11.
+    let o = own_meets at own own-is in
+    let p = tunnel_ports_meet at ports ports-is in
+    let k = listed_meets IsKnown put_known known_meets at (codes "known") 16 known known-is in
+    let h = hops_meet at hops hops-is in
+    subst IsUnderlay (ok_is _ u e11) (record {
+      mac = required_meets (λ m. IsTrue (is_individual m)) individual_mac mac_meets at (codes "mac") mac mac-is;
+      next_hop = required_meets (λ m. IsTrue (is_individual m)) individual_mac mac_meets at (codes "next_hop") next next-is;
+      ip4 = o.0;
+      ip6 = o.1;
+      family = o.2;
+      mtu = defaulted_range at (codes "mtu") 1280 65535 1550 mtu default_mtu mtu-is;
+      ttl = defaulted_range at (codes "ttl") 1 255 64 ttl default_ttl ttl-is;
+      vxlan_port = p.0;
+      geneve_port = p.1;
+      ports_apart = p.2;
+      known_count = k.0;
+      known = k.1;
+      hop_count = h.0;
+      hops = h.1;
+    })))))))))))))
+
+-- ---- segments
+
+either_false : (a b : Bool) → (a || b) ≡ false → (a ≡ false) × (b ≡ false)
+either_false true b e = absurd cc
+either_false false b e = (refl, e)
+
+member_meets : (ports : ℕ) (other earlier : List ℕ) (d : Data) (longer : List ℕ) → put_member ports other earlier d ≡ Some longer → Longer (IsMember ports other) earlier longer
+member_meets ports other earlier d longer e =
+    let a = and_then_ok (range 1 ports d) (with_member other earlier) longer e in
+    let k = unless_ok (is_member earlier a.0 || is_member other a.0) (Some (earlier ++ a.0 ∷ [])) longer a.2 in
+    let g = either_false (is_member earlier a.0) (is_member other a.0) k.0 in
+    record { last = a.0; is = sym (some_is (earlier ++ a.0 ∷ []) longer k.1); meets = (range_meets 1 ports d a.0 a.1, g.0, g.1) }
+
+members_meet : (at : Place) (key : List ℕ) (ports : ℕ) (other all : List ℕ) → members_of at key ports other ≡ Ok all → EachBehind (IsMember ports other) [] all
+unfolding members_of
+members_meet at key ports other all e =
+    bind_then (items at key) _ all e (λ ds ds-is e0.
+    (from_none (IsMember ports other) (length ds) all (gathered_meets (IsMember ports other) (put_member ports other) (member_meets ports other) [] ds all (fits_ok (path at key) (gathered (put_member ports other) [] ds) all e0))).0)
+
+same_kind_refl : (kind : Tunnel) → same_kind kind kind ≡ true
+same_kind_refl Vxlan = refl
+same_kind_refl Geneve = refl
+
+abbrev remote : Tunnel → Addr → Remote
+remote kind addr = record { tunnel = kind; addr = addr }
+
+remote_meets : (own : Own) (kind : Tunnel) (vni : ℕ) (earlier : Entries) (d : Data) (longer : Entries) → put_remote own kind earlier d ≡ Some longer → Longer (IsRemote own (one_tunnel kind vni)) earlier longer
+remote_meets own kind vni earlier d longer e =
+    let a = and_then_ok (any_addr d) (with_remote own kind earlier) longer e in
+    let k = when_ok (is_none (first (add_faults own earlier kind a.0))) (earlier ++ remote kind a.0 ∷ []) longer a.2 in
+    record { last = remote kind a.0; is = sym k.1; meets = (or_left (same_kind kind kind) false (same_kind_refl kind), k.0) }
+
+vni_meets : (d : Data) (x : ℕ) → vni_number d ≡ Some x → IsWithin 0 16777215 x
+vni_meets d x e = range_meets 0 16777215 d x e
+
+default_limit : IsWithin 1 8192 256
+default_limit = (lit≤ tt, lit≤ tt)
+
+default_ageing : IsWithin 10 1000000 300
+default_ageing = (lit≤ tt, lit≤ tt)
+
+one_or_two : IsWithin 1 2 1
+one_or_two = (lit≤ tt, lit≤ tt)
+
+group_zero : IsWithin 0 255 0
+group_zero = (lit≤ tt, lit≤ tt)
+
+or_false : (b : Bool) → b ≡ false → (b || false) ≡ false
+or_false true e = absurd cc
+or_false false e = refl
+
+-- a segment that is like none before it has tunnels apart from theirs
+module _ (vid : ℕ) (kind : Tunnel) (vni : ℕ) (rule : TunnelRule) (of-vid : rule.vid ≡ vid) (of-kind : rule.tunnels ≡ one_tunnel kind vni) where
+  alike : (earlier : TunnelRule) → is_alike vid kind vni earlier ≡ false → clash earlier rule ≡ false
+  alike earlier h =
+      let both = either_false (earlier.vid == vid) (overlay.has_tunnel kind vni (overlay.segment_of earlier)) h in
+      ap (λ (tunnels : List SegmentTunnel). (earlier.vid == rule.vid) || list_any (λ t. overlay.has_tunnel t.kind t.vni (overlay.segment_of earlier)) tunnels) of-kind
+      ∙ or_from (earlier.vid == rule.vid) _ (ap (λ (n : ℕ). earlier.vid == n) of-vid ∙ both.0) (or_false (overlay.has_tunnel kind vni (overlay.segment_of earlier)) both.1)
+
+  not_taken : (earlier : List Segment) → is_taken vid kind vni earlier ≡ false → list_any (λ e. clash e rule) (map (λ s. s.tunnels) earlier) ≡ false
+  not_taken [] h = refl
+  not_taken (s ∷ earlier) h =
+      let both = either_false (is_alike vid kind vni s.tunnels) (is_taken vid kind vni earlier) h in
+      or_from (clash s.tunnels rule) _ (alike s.tunnels both.0) (not_taken earlier both.1)
+
+-- what the table of a segment tells
+record IsSegment (own : Own) (ports : ℕ) (earlier : List Segment) (s : Segment) : Type 0 where
+  tunnels : IsTunnelRule own (map (λ e. e.tunnels) earlier) s.tunnels
+  members : IsMemberRule ports (map (λ e. e.members) earlier) s.members
+  table : IsRule s.table
+  members_vid : s.members.vid ≡ s.tunnels.vid
+  table_vid : s.table.vid ≡ s.tunnels.vid
+  learning_vid : s.learning.vid ≡ s.tunnels.vid
+
+segment_meets : (own : Own) (ports : ℕ) (earlier : List Segment) (at : Place) (s : Segment) → segment_of own ports earlier at ≡ Ok s → IsSegment own ports earlier s
+unfolding segment_of
+segment_meets own ports earlier at s e =
+    bind_then (only at segment_keys) _ s e (λ known known-is e0.
+    bind_then (required at (codes "vid") (range 1 4094)) _ s e0 (λ vid vid-is e1.
+    bind_then (required at (codes "vni") vni_number) _ s e1 (λ vni vni-is e2.
+    bind_then (required at (codes "tunnel") (one_of tunnel_words)) _ s e2 (λ kind kind-is e3.
+    bind_then (defaulted at (codes "limit") (range 1 8192) 256) _ s e3 (λ limit limit-is e4.
+    bind_then (defaulted at (codes "ageing") (range 10 1000000) 300) _ s e4 (λ ageing ageing-is e5.
+    bind_then (defaulted at (codes "learn") truth true) _ s e5 (λ learning learning-is e6.
+    bind_then (defaulted at (codes "peers") (one_of peer_words) Any) _ s e6 (λ peers peers-is e7.
+    bind_then (defaulted at (codes "tags") (one_of tag_words) Drop) _ s e7 (λ tags tags-is e8.
+    bind_then (members_of at (codes "untagged") ports []) _ s e8 (λ untagged untagged-is e9.
+    bind_then (members_of at (codes "tagged") ports untagged) _ s e9 (λ tagged tagged-is e10.
+    bind_then (listed at (codes "flood") 16 (put_remote own kind) []) _ s e10 (λ flood flood-is e11.
+    bind_then (refuse_if (is_taken vid kind vni earlier) (TwoSegments (numbered (codes "segment") (length earlier + 1)))) _ s e11 (λ apart apart-is e12.
+    let f = listed_meets (IsRemote own (one_tunnel kind vni)) (put_remote own kind) (remote_meets own kind vni) at (codes "flood") 16 flood flood-is in
+    let l = defaulted_range at (codes "limit") 1 8192 256 limit default_limit limit-is in
+    let a = defaulted_range at (codes "ageing") 10 1000000 300 ageing default_ageing ageing-is in
+    let rule : TunnelRule = record { vid = vid; tunnels = one_tunnel kind vni; flood = flood; peers = peers; tags = tags } in
+    subst (IsSegment own ports earlier) (ok_is _ s e12) (record {
+      tunnels = record {
+        vid = required_range at (codes "vid") 1 4094 vid vid-is;
+        tunnel_count = one_or_two;
+        tunnels = ((required_meets (IsWithin 0 16777215) vni_number vni_meets at (codes "vni") vni vni-is, group_zero, refl), tt);
+        flood_count = f.0;
+        flood = f.1;
+        apart = not_taken vid kind vni rule refl refl earlier (refuse_ok _ _ apart apart-is);
+      };
+      members = (members_meet at (codes "untagged") ports [] untagged untagged-is, members_meet at (codes "tagged") ports untagged tagged tagged-is);
+      table = record { some_entries = l.0; at_most = l.1; long_enough = a.0; not_too_long = a.1 };
+      members_vid = refl;
+      table_vid = refl;
+      learning_vid = refl;
+    }))))))))))))))
+
+-- ---- what the openers ask for
+
+number_is : (ports : ℕ) (other earlier : List ℕ) (p : ℕ) → IsMember ports other earlier p → is_port ports p ≡ true
+number_is ports other earlier p is = and_from (nat_le 1 p) (nat_le p ports) (le-leb 1 p is.0.0) (le-leb p ports is.0.1)
+
+lists : (ports : ℕ) (earlier : List MemberRule) (m : MemberRule) → IsMemberRule ports earlier m → lists_ports ports m ≡ true
+lists ports earlier m is =
+    and_from (are_ports ports m.untagged) (are_ports ports m.tagged)
+    (all_pass (IsMember ports []) (is_port ports) (number_is ports []) [] m.untagged is.0)
+    (all_pass (IsMember ports m.untagged) (is_port ports) (number_is ports m.untagged) [] m.tagged is.1)
+
+-- tables for the VIDs of tunnels that are apart are for distinct VIDs
+module _ (tables : List TableRule) (tunnels : List TunnelRule) (same : map (λ t. t.vid) tables ≡ map (λ t. t.vid) tunnels) where
+  some_rule : TableRule → TunnelRule
+  some_rule d = record { vid = d.vid; tunnels = []; flood = []; peers = Any; tags = Drop }
+
+  as_many : length tables ≡ length tunnels
+  as_many = sym (length-map tables (λ t. t.vid)) ∙ ap length same ∙ length-map tunnels (λ t. t.vid)
+
+  vid_at : (k : ℕ) (d : TableRule) → k < length tables → (get_or tables k d).vid ≡ (get_or tunnels k (some_rule d)).vid
+  vid_at k d lt =
+      sym (get_or-map (λ t. t.vid) tables k d d.vid lt)
+      ∙ ap (λ (vids : List ℕ). get_or vids k d.vid) same
+      ∙ get_or-map (λ t. t.vid) tunnels k (some_rule d) d.vid (omega (arith, lt, as_many))
+
+  distinct_vids : AreApart tunnels → AreForDistinctVids tables
+  distinct_vids apart i j d lt within is =
+      let clashes = apart i j (some_rule d) lt (omega (arith, within, as_many)) in
+      let differ = (either_false (eqb (get_or tunnels i (some_rule d)).vid (get_or tunnels j (some_rule d)).vid) _ clashes).0 in
+      let equal = sym (vid_at i d (omega (arith, lt, within))) ∙ is ∙ vid_at j d within in
+      absurd (false≢true (sym differ ∙ eq-eqb _ _ equal))
+
+-- ---- all
+
+told_meet : (u : Underlay) (ports : List PortRule) (segments : List Segment)
+    → IsUnderlay u
+    → IsWithin 1 16 (length ports)
+    → EachBehind IsPort [] ports
+    → IsWithin 1 256 (length segments)
+    → EachBehind (IsSegment (own u) (length ports)) [] segments
+    → sum_of_limits (map (λ s. s.table) segments) ≤ 65536
+    → MeetsRules (told_by u ports segments)
+told_meet u ports segments underlay port_count ports-are segment_count each-is limits =
+    let P = IsSegment (own u) (length ports) in
+    let tunnels = each_mapped (λ s. s.tunnels) P (IsTunnelRule (own u)) (λ earlier s is. is.tunnels) [] segments each-is in
+    let members = each_mapped (λ s. s.members) P (IsMemberRule (length ports)) (λ earlier s is. is.members) [] segments each-is in
+    let apart : AreApart (map (λ s. s.tunnels) segments) = pairs_from clash (IsTunnelRule (own u)) (λ earlier r is. is.apart) (map (λ s. s.tunnels) segments) tunnels in
+    let vids : map (λ t. t.vid) (map (λ s. s.table) segments) ≡ map (λ t. t.vid) (map (λ s. s.tunnels) segments) = same_numbers P (λ s. s.table) (λ t. t.vid) (λ s. s.tunnels) (λ t. t.vid) (λ earlier s is. is.table_vid) [] segments each-is in
+    record {
+      underlay = underlay;
+      port_count = port_count;
+      ports = ports-are;
+      segment_count = subst (IsWithin 1 256) (sym (length-map segments (λ s. s.tunnels))) segment_count;
+      members_vids = same_numbers P (λ s. s.members) (λ m. m.vid) (λ s. s.tunnels) (λ t. t.vid) (λ earlier s is. is.members_vid) [] segments each-is;
+      tables_vids = vids;
+      learning_vids = same_numbers P (λ s. s.learning) (λ l. l.vid) (λ s. s.tunnels) (λ t. t.vid) (λ earlier s is. is.learning_vid) [] segments each-is;
+      members = members;
+      tunnels = tunnels;
+      tables = all_mapped (λ s. s.table) P IsRule (λ earlier s is. is.table) [] segments each-is;
+      limits = limits;
+      listed = all_pass (IsMemberRule (length ports)) (lists_ports (length ports)) (lists (length ports)) [] (map (λ s. s.members) segments) members;
+      apart = apart;
+      distinct = distinct_vids (map (λ s. s.table) segments) (map (λ s. s.tunnels) segments) vids apart;
+    }
+
+segments_meet : (own : Own) (ports : ℕ) (at : Place) (segments : List Segment) → segments_of own ports at ≡ Ok segments
+    → IsWithin 1 256 (length segments) × EachBehind (IsSegment own ports) [] segments × (sum_of_limits (map (λ x. x.table) segments) ≤ 65536)
+unfolding segments_of
+segments_meet own ports at segments e =
+    bind_then (required_items at (codes "segment") 256) _ segments e (λ tables tables-is e0.
+    bind_then (each (segment_of own ports) (codes "segment") [] tables) _ segments e0 (λ all all-is e1.
+    bind_then (refuse_if (nat_lt 65536 (sum_of_limits (map (λ x. x.table) all))) (OverLimit (codes "limit"))) _ segments e1 (λ total total-is e2.
+    let q = from_none (IsSegment own ports) (length tables) all (each_meets (IsSegment own ports) (segment_of own ports) (codes "segment") (segment_meets own ports) [] tables all all-is) in
+    let few = required_items_ok at (codes "segment") 256 tables tables-is in
+    subst (λ l. IsWithin 1 256 (length l) × EachBehind (IsSegment own ports) [] l × (sum_of_limits (map (λ x. x.table) l) ≤ 65536)) (ok_is all segments e2)
+    (subst (IsWithin 1 256) (sym q.1) few, q.0, ltb-false 65536 (sum_of_limits (map (λ x. x.table) all)) (refuse_ok _ _ total total-is)))))
+
+-- settings that are read keep to the rules
+pub settings_meet : (members : Members) (s : Settings) → settings_of members ≡ Ok s → MeetsRules s
+unfolding settings_of
+settings_meet members s e =
+    bind_then (only (top members) top_keys) _ s e (λ known known-is e0.
+    bind_then (required (top members) (codes "version") (range 1 1)) _ s e0 (λ version version-is e1.
+    bind_then (subtable (top members) (codes "underlay")) _ s e1 (λ below below-is e2.
+    bind_then (underlay_of below) _ s e2 (λ underlay underlay-is e3.
+    bind_then (required_items (top members) (codes "port") 16) _ s e3 (λ tables tables-is e4.
+    bind_then (each (λ earlier at. port_of at) (codes "port") [] tables) _ s e4 (λ ports ports-is e5.
+    bind_then (segments_of (own underlay) (length ports) (top members)) _ s e5 (λ segments segments-is e6.
+    let p = from_none IsPort (length tables) ports (each_meets IsPort (λ earlier at. port_of at) (codes "port") port_meets [] tables ports ports-is) in
+    let few = required_items_ok (top members) (codes "port") 16 tables tables-is in
+    let q = segments_meet (own underlay) (length ports) (top members) segments segments-is in
+    subst MeetsRules (ok_is (told_by underlay ports segments) s e6)
+    (told_meet underlay ports segments (underlay_meets below underlay underlay-is) (subst (IsWithin 1 16) (sym p.1) few) p.0 q.0 q.1 q.2))))))))

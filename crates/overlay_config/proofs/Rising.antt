@@ -1,0 +1,30 @@
+-- The moments of changes that are read rise.
+use Rattle.std.proofs.Common.{◌≡◌, ◌+◌, [], ◌∷◌, List, length, nat_lt, Ok, codes, subst}
+use Rattle.std.proofs.lemmas.Bool.{ltb-false}
+use Rattle.toml.specs.Data.{Members}
+use Rattle.config_text.specs.declared.fault.SettingsFault.TheVariants.{NotRising}
+use Rattle.config_text.specs.Column.{range, one_of}
+use Rattle.config_text.specs.Table.{Place, top, only, required, limited_items, numbered, refuse_if}
+use Rattle.overlay_config.specs.declared.change.TimedChange.{TimedChange}
+use Rattle.overlay_config.specs.Change.{kind_words, keys_of, change_in, change_of, changes_of, moment_before, IsRising}
+use Rattle.overlay_config.specs.Rules.{EachBehind}
+use Rattle.overlay_config.proofs.Readings.{bind_then, ok_is, refuse_ok, required_range, from_none, each_meets}
+
+change_rises : (earlier : List TimedChange) (at : Place) (c : TimedChange) → change_of earlier at ≡ Ok c → IsRising earlier c
+unfolding change_of
+change_rises earlier at c e =
+    bind_then (required at (codes "kind") (one_of kind_words)) _ c e (λ kind kind-is e0.
+    bind_then (only at (keys_of kind)) _ c e0 (λ known known-is e1.
+    bind_then (required at (codes "at") (range 0 4294967295999999999)) _ c e1 (λ moment moment-is e2.
+    bind_then (change_in kind at) _ c e2 (λ change change-is e3.
+    bind_then (refuse_if (nat_lt moment (moment_before earlier)) (NotRising (numbered (codes "change") (length earlier + 1)))) _ c e3 (λ rising rising-is e4.
+    subst (IsRising earlier) (ok_is _ c e4)
+    (ltb-false moment (moment_before earlier) (refuse_ok _ _ rising rising-is), (required_range at (codes "at") 0 4294967295999999999 moment moment-is).1))))))
+
+-- changes that are read rise
+pub changes_rise : (members : Members) (changes : List TimedChange) → changes_of members ≡ Ok changes → EachBehind IsRising [] changes
+unfolding changes_of
+changes_rise members changes e =
+    bind_then (only (top members) (codes "change" ∷ [])) _ changes e (λ known known-is e0.
+    bind_then (limited_items (top members) (codes "change") 10000) _ changes e0 (λ tables tables-is e1.
+    (from_none IsRising (length tables) changes (each_meets IsRising change_of (codes "change") change_rises [] tables changes e1)).0))

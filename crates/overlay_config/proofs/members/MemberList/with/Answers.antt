@@ -1,0 +1,9 @@
+use Rattle.std.proofs.Common.{◌∙◌, sym, ap, subst}
+use Rattle.overlay_config.specs.Members.{is_member, ArePortNumbers}
+use Rattle.overlay_config.proofs.Numbers.{one_more}
+use Rattle.overlay_config.proofs.members.MemberList.with.Goals as goal
+
+pub invariant_of-result : goal.invariant_of-result
+invariant_of-result c =
+    subst ArePortNumbers (sym c.push.ensures)
+    (one_more c.self.inside.ports c.args.port c.self.invariant c.requires.low c.requires.high (ap (λ l. is_member l c.args.port) c.self.view_is ∙ c.requires.new))

@@ -1,0 +1,11 @@
+pub mod Fault
+pub mod Document
+pub mod Underlay
+pub mod Port
+pub mod Members
+pub mod Flood
+pub mod Segment
+pub mod Settings
+pub mod Rules
+pub mod Change
+pub mod Code

@@ -1,0 +1,22 @@
+-- The keys of `port.k`.
+use Rattle.std.specs.Prelude.{ℕ, List, [], ◌∷◌, true, Ok, codes}
+use Rattle.vlan_ports.specs.declared.port.Accept.{Accept}
+use Rattle.vlan_ports.specs.declared.port.Accept.TheVariants.{All, Tagged, Untagged}
+use Rattle.vlan_ports.specs.declared.port.PortRule.{PortRule}
+use Rattle.config_text.specs.Fault.{Meaning, ◌>>=◌}
+use Rattle.config_text.specs.Column.{range, truth, one_of}
+use Rattle.config_text.specs.Table.{Place, only, required, defaulted}
+
+abbrev pub accept_words : List (List ℕ × Accept)
+accept_words = (codes "all", All) ∷ (codes "tagged", Tagged) ∷ (codes "untagged", Untagged) ∷ []
+
+abbrev pub port_keys : List (List ℕ)
+port_keys = codes "pvid" ∷ codes "accept" ∷ codes "up" ∷ []
+
+unfoldable pub port_of : Place → Meaning PortRule
+port_of at = do
+  known ← only at port_keys
+  pvid ← required at (codes "pvid") (range 1 4094)
+  accept ← defaulted at (codes "accept") (one_of accept_words) All
+  up ← defaulted at (codes "up") truth true
+  Ok (record { pvid = pvid; accept = accept; up = up })

@@ -1,0 +1,95 @@
+-- The keys of `underlay` and of `underlay.hop.k`.
+use Rattle.std.specs.Prelude.{ℕ, List, [], ◌∷◌, ◌++◌, length, true, false, ◌==◌, ◌&&◌, nat_lt, if◌then◌else◌, Option, Some, None, is_none, option_map, option_and_then, Ok, codes}
+use Rattle.std.specs.List.{list_any}
+use Rattle.std.specs.Ordering.{nat_cmp}
+use Rattle.std.specs.Cmp.Lexicographic.{slice_cmp}
+use Rattle.std.specs.FinMap.{FinMap, empty, get, insert}
+use Rattle.toml.specs.Data.{Data, Items, no_items, item, as_array}
+use Rattle.ip_udp_view.specs.declared.addr.Addr.{Addr}
+use Rattle.ip_udp_view.specs.Addr.{address, same_addr}
+use Rattle.geneve_head.specs.Options.{holds}
+use Rattle.underlay.specs.declared.settings.Underlay.{Underlay}
+use Rattle.config_text.specs.declared.fault.SettingsFault.TheVariants.{Missing, BadValue}
+use Rattle.config_text.specs.Fault.{Meaning, ◌>>=◌}
+use Rattle.config_text.specs.Column.{range, truth, individual_mac, endpoint_addr, own_ip4, own_ip6}
+use Rattle.config_text.specs.Table.{Place, path, only, required, defaulted, optional, listed, limited_items, each, refuse_if}
+
+abbrev pub underlay_keys : List (List ℕ)
+underlay_keys = codes "mac" ∷ codes "next_hop" ∷ codes "ip4" ∷ codes "ip6" ∷ codes "mtu" ∷ codes "ttl" ∷ codes "vxlan_port" ∷ codes "geneve_port" ∷ codes "sum4" ∷ codes "sum6" ∷ codes "zero6" ∷ codes "known" ∷ codes "hop" ∷ []
+
+-- the endpoint's own addresses, of which there is one at least
+unfoldable pub own_addrs_of : Place → Meaning (Option (List ℕ) × Option (List ℕ))
+own_addrs_of at = do
+  ip4 ← optional at (codes "ip4") own_ip4
+  ip6 ← optional at (codes "ip6") own_ip6
+  family ← refuse_if (is_none ip4 && is_none ip6) (Missing (path at (codes "ip4")))
+  Ok (ip4, ip6)
+
+-- the UDP ports of VXLAN and of Geneve, which differ
+unfoldable pub tunnel_ports_of : Place → Meaning (ℕ × ℕ)
+tunnel_ports_of at = do
+  vxlan_port ← defaulted at (codes "vxlan_port") (range 1 65535) 4789
+  geneve_port ← defaulted at (codes "geneve_port") (range 1 65535) 6081
+  apart ← refuse_if (geneve_port == vxlan_port) (BadValue (path at (codes "geneve_port")))
+  Ok (vxlan_port, geneve_port)
+
+-- a pair of two numbers, an option's class and type
+abbrev pub pair_in : Items → Option (ℕ × ℕ)
+pair_in (item c (item k no_items)) = option_and_then (λ class. option_map (λ kind. (class, kind)) (range 0 255 k)) (range 0 65535 c)
+pair_in _ = None
+
+abbrev pub known_option : Data → Option (ℕ × ℕ)
+known_option d = option_and_then pair_in (as_array d)
+
+-- options with one more, which isn't among them
+abbrev pub with_known : List (ℕ × ℕ) → ℕ × ℕ → Option (List (ℕ × ℕ))
+with_known options o = if holds options o.0 o.1 then None else (if nat_lt (length options) 16 then Some (options ++ o ∷ []) else None)
+
+abbrev pub put_known : List (ℕ × ℕ) → Data → Option (List (ℕ × ℕ))
+put_known options d = option_and_then (with_known options) (known_option d)
+
+abbrev pub hop_keys : List (List ℕ)
+hop_keys = codes "addr" ∷ codes "mac" ∷ []
+
+-- the next hop to one endpoint, to which no earlier one leads
+unfoldable pub hop_of : List (Addr × List ℕ) → Place → Meaning (Addr × List ℕ)
+hop_of earlier at = do
+  known ← only at hop_keys
+  addr ← required at (codes "addr") endpoint_addr
+  new ← refuse_if (list_any (λ h. same_addr h.0 addr) earlier) (BadValue (path at (codes "addr")))
+  mac ← required at (codes "mac") individual_mac
+  Ok (addr, mac)
+
+-- the next hops by the octets of the addresses to which they lead
+abbrev pub Exceptions : Type 0
+Exceptions = FinMap (slice_cmp nat_cmp) (List ℕ)
+
+-- with one more, where there is none for its address
+abbrev pub with_exception : Exceptions → Addr × List ℕ → Exceptions
+with_exception hops h = if is_none (get hops (address h.0)) then insert hops (address h.0) h.1 else hops
+
+abbrev pub exceptions : Exceptions → List (Addr × List ℕ) → Exceptions
+exceptions hops [] = hops
+exceptions hops (h ∷ hs) = exceptions (with_exception hops h) hs
+
+unfoldable pub hops_of : Place → Meaning Exceptions
+hops_of at = do
+  tables ← limited_items at (codes "hop") 64
+  hops ← each hop_of (codes "underlay.hop") [] tables
+  Ok (exceptions empty hops)
+
+unfoldable pub underlay_of : Place → Meaning Underlay
+underlay_of at = do
+  known_keys ← only at underlay_keys
+  mac ← required at (codes "mac") individual_mac
+  next_hop ← required at (codes "next_hop") individual_mac
+  own ← own_addrs_of at
+  mtu ← defaulted at (codes "mtu") (range 1280 65535) 1550
+  ttl ← defaulted at (codes "ttl") (range 1 255) 64
+  ports ← tunnel_ports_of at
+  sum4 ← defaulted at (codes "sum4") truth false
+  sum6 ← defaulted at (codes "sum6") truth true
+  zero6 ← defaulted at (codes "zero6") truth true
+  known ← listed at (codes "known") 16 put_known []
+  hops ← hops_of at
+  Ok (record { mac = mac; next_hop = next_hop; ip4 = own.0; ip6 = own.1; mtu = mtu; ttl = ttl; vxlan_port = ports.0; geneve_port = ports.1; sum4 = sum4; sum6 = sum6; zero6 = zero6; known = known; hops = hops })

@@ -1,0 +1,23 @@
+use Rattle.std.proofs.Common.{◌≡◌, ◌∙◌, ◌++◌, ◌+◌, ap, arith, refl, ℕ, List, OnErr, OnOk, length, length-append, subst}
+use Rattle.std.specs.Io.KnownBytes.{Appends}
+use Rattle.pcap_io.specs.Written.{record_header_of, whole_frame, written_record}
+use Rattle.pcap_stream.specs.Sink.{AppendsPart}
+use Rattle.pcap_stream.proofs.write.write_record.Goals as goal
+
+-- a record's header and four slices side by side are the record's text
+text_is : (moment size : ℕ) (header a b d e : List ℕ) → header ≡ record_header_of moment size size → size ≡ length a + length b + length d + length e
+    → header ++ (a ++ (b ++ (d ++ e))) ≡ written_record (whole_frame moment (a ++ (b ++ (d ++ e))))
+unfolding written_record
+text_is moment size header a b d e header_is size_is =
+    let all : size ≡ length (a ++ (b ++ (d ++ e))) = simp length-append (omega arith) in
+    ap (λ h. h ++ (a ++ (b ++ (d ++ e)))) (header_is ∙ ap (λ n. record_header_of moment n n) all)
+
+pub returns-clause-ok : goal.returns-clause-ok
+returns-clause-ok g c =
+    let is = text_is c.args.moment _ _ c.args.head.now c.args.addresses.now c.args.tag.now c.args.body.now c.record_header-before.ensures refl in
+    subst (λ (t : List ℕ). OnOk c.write_five.result (Appends (g.W.Output.written c.args.output.now) (g.W.Output.written c.write_five.new.output) t)) is c.write_five.ensures.ok
+
+pub returns-clause-err : goal.returns-clause-err
+returns-clause-err g c =
+    let is = text_is c.args.moment _ _ c.args.head.now c.args.addresses.now c.args.tag.now c.args.body.now c.record_header-before.ensures refl in
+    subst (λ (t : List ℕ). OnErr c.write_five.result (AppendsPart (g.W.Output.written c.args.output.now) (g.W.Output.written c.write_five.new.output) t)) is c.write_five.ensures.err

@@ -1,0 +1,15 @@
+-- The faults of a capture as those of a source.
+use Rattle.pcap_io.specs.declared.header.CaptureFault.{CaptureFault}
+use Rattle.pcap_io.specs.declared.header.CaptureFault.TheVariants as capture
+use Rattle.pcap_io.specs.declared.record.RecordFault.{RecordFault}
+use Rattle.pcap_io.specs.declared.record.RecordFault.TheVariants as record_
+use Rattle.pcap_stream.specs.declared.fault.SourceFault.{SourceFault}
+use Rattle.pcap_stream.specs.declared.fault.SourceFault.TheVariants as source
+
+abbrev pub capture_fault : CaptureFault → SourceFault
+capture_fault capture.NotPcap = source.NotPcap
+capture_fault capture.BadLink = source.BadLink
+
+abbrev pub record_fault : RecordFault → SourceFault
+record_fault record_.TooLarge = source.TooLarge
+record_fault record_.BadFraction = source.BadFraction

@@ -1,0 +1,108 @@
+-- A source of records, and what its calls make of it.
+use Rattle.std.specs.Prelude.{◌≡◌, ℕ, Bool, true, false, List, [], drop, Option, Some, None, Result, Ok, Err, IfSome}
+use Rattle.pcap_io.specs.Header.{style_of}
+use Rattle.pcap_io.specs.Next.{End, Whole, Cut, Faulty, Next, Another, Ends, next_of}
+use Rattle.pcap_io.specs.Record.{Record}
+use Rattle.pcap_io.specs.declared.header.CaptureFault.{CaptureFault}
+use Rattle.pcap_io.specs.declared.style.Style.{Style}
+use Rattle.pcap_stream.specs.Fault.{capture_fault, record_fault}
+use Rattle.pcap_stream.specs.Supply.{GivesUp, Supply}
+use Rattle.pcap_stream.specs.declared.fault.SourceFault.{SourceFault}
+use Rattle.pcap_stream.specs.declared.fault.SourceFault.TheVariants as fault
+
+-- where a source stands: new; open, with the record that was fetched last, if any; at the end, with a rest before it that
+-- is no whole record or without; failed
+pub data Standing : Type 0 where
+  New : Standing
+  Open : (style : Style) (last : Option Record) → Standing
+  Ended : (is_cut : Bool) → Standing
+  Failed : (fault : SourceFault) → Standing
+
+-- a source: where it stands, and its input
+pub record Stream : Type 0 where
+  pub standing : Standing
+  pub supply : Supply
+
+-- the record that is lent
+abbrev pub lent : Standing → Option Record
+lent New = None
+lent (Open style last) = last
+lent (Ended is_cut) = None
+lent (Failed fault) = None
+
+-- whether the end came with a rest before it that is no whole record
+abbrev pub ends_cut : Standing → Bool
+ends_cut New = false
+ends_cut (Open style last) = false
+ends_cut (Ended is_cut) = is_cut
+ends_cut (Failed fault) = false
+
+-- what `open` and `fill` answer
+abbrev pub answer : Standing → Result (Unit {0}) SourceFault
+answer New = Ok tt
+answer (Open style last) = Ok tt
+answer (Ended is_cut) = Ok tt
+answer (Failed fault) = Err fault
+
+-- where a source stands by the global header, and by what comes next
+abbrev pub after_header : Result Style CaptureFault → Standing
+after_header (Ok style) = Open style None
+after_header (Err fault) = Failed (capture_fault fault)
+
+abbrev pub after_end : End → Standing
+after_end Whole = Ended false
+after_end Cut = Ended true
+after_end (Faulty fault) = Failed (record_fault fault)
+
+abbrev pub after_next : Style → Next → Standing
+after_next style (Another r rest) = Open style (Some r)
+after_next style (Ends end) = after_end end
+
+-- the octets behind it: a record's fault shows in its first 16
+abbrev pub left_by_end : List ℕ → End → List ℕ
+left_by_end text Whole = []
+left_by_end text Cut = []
+left_by_end text (Faulty fault) = drop 16 text
+
+abbrev pub left_by_next : List ℕ → Next → List ℕ
+left_by_next text (Another r rest) = rest
+left_by_next text (Ends end) = left_by_end text end
+
+-- some header was read; where the input tells its octets, it is theirs
+pub record ReadsHeader (old new : Supply) (standing : Standing) : Type 0 where
+  pub header : Result Style CaptureFault
+  pub standing_is : standing ≡ after_header header
+  pub octets : IfSome old.rest (λ text. (header ≡ style_of text) × (new.rest ≡ Some (drop 24 text)))
+  pub quiet : new.failures ≡ old.failures
+
+-- something came next; where the input tells its octets, it is what comes next in them
+pub record ReadsNext (style : Style) (old new : Supply) (standing : Standing) : Type 0 where
+  pub next : Next
+  pub standing_is : standing ≡ after_next style next
+  pub octets : IfSome old.rest (λ text. (next ≡ next_of style text) × (new.rest ≡ Some (left_by_next text next)))
+  pub quiet : new.failures ≡ old.failures
+
+module _ {T : Type 0} where
+  -- one fact for the fault `Read`, and one for all other answers
+  abbrev pub MatchRead : Result T SourceFault → Type 0 → Type 0 → Type 0
+  MatchRead (Err fault.Read) P Q = P
+  MatchRead (Err fault.NotPcap) P Q = Q
+  MatchRead (Err fault.BadLink) P Q = Q
+  MatchRead (Err fault.TooLarge) P Q = Q
+  MatchRead (Err fault.BadFraction) P Q = Q
+  MatchRead (Ok x) P Q = Q
+
+  -- `open`
+  abbrev pub IsOpened : Stream → Stream → Result T SourceFault → Type 0
+  IsOpened old new result = MatchRead result (GivesUp old.supply new.supply) (ReadsHeader old.supply new.supply new.standing)
+
+  -- `fill`: at the end, and after a fault, nothing changes
+  abbrev pub IsFilledFrom : Standing → Stream → Stream → Result T SourceFault → Type 0
+  IsFilledFrom New old new result = new ≡ old
+  IsFilledFrom (Open style last) old new result =
+      MatchRead result (GivesUp old.supply new.supply) (ReadsNext style old.supply new.supply new.standing)
+  IsFilledFrom (Ended is_cut) old new result = new ≡ old
+  IsFilledFrom (Failed fault) old new result = new ≡ old
+
+  abbrev pub IsFilled : Stream → Stream → Result T SourceFault → Type 0
+  IsFilled old new result = IsFilledFrom old.standing old new result

@@ -1,0 +1,24 @@
+-- An input of which only so many reads may still be made.
+use Rattle.std.specs.Prelude.{◌≡◌, ◌⊎◌, ◌≤◌, ℕ, ◌+◌, ◌-◌, List, length, Option, IfSome}
+use Rattle.pcap_stream.specs.Counts.{GoesOnBy}
+
+-- the octets that the input has left, where it tells them, its counts of reads and of failures, and how many reads may
+-- still be made of it
+pub record Supply : Type 0 where
+  pub rest : Option (List ℕ)
+  pub calls : ℕ
+  pub failures : ℕ
+  pub reads : ℕ
+
+-- as many reads were made of the input as there are fewer left
+pub record Spends (old new : Supply) : Type 0 where
+  pub fewer : new.reads ≤ old.reads
+  pub calls : GoesOnBy (old.reads - new.reads) old.calls new.calls
+
+-- a read failed, or none was left
+abbrev pub GivesUp : Supply → Supply → Type 0
+GivesUp old new = GoesOnBy 1 old.failures new.failures ⊎ ((new.failures ≡ old.failures) × (new.reads ≡ 0))
+
+-- where the input tells its octets, each read but one took at least one of them
+abbrev pub IsThrifty : Supply → Supply → Type 0
+IsThrifty old new = IfSome old.rest (λ text. IfSome new.rest (λ rest. old.reads + length rest ≤ new.reads + length text + 1))

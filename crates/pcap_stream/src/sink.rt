@@ -1,0 +1,105 @@
+//! A capture, written record by record.
+ghost use Rattle.std.specs.Prelude.{◌≡◌, ◌≤◌, ◌+◌, ◌++◌, false, is_err, length};
+ghost use Rattle.pcap_io.specs.Record.{last_moment, longest};
+ghost use Rattle.pcap_io.specs.Written.{whole_frame, written_header, written_record};
+ghost use Rattle.pcap_stream.specs.Sink.{IsPut};
+
+use crate::fault::WriteFault;
+use crate::output::Output;
+use crate::write::{write_full, write_record};
+use pcap_io::global_header;
+use std::marker::Model;
+
+/// A capture that is written to an output: little-endian, in nanoseconds, link type Ethernet.
+///
+/// Once a write has failed, or took none of some octets, each call answers [`WriteFault`] and writes nothing. Contracts
+/// see the octets that the output holds, its count of failures, and whether the sink has given up.
+#[derive(Drop)]
+pub struct Sink<W: Output> {
+    output: W,
+    is_failed: bool,
+}
+
+impl<W: Output> Model for Sink<W> {
+    ghost use Rattle.pcap_stream.specs.Sink.{Drain};
+
+    ghost Value = { Drain };
+
+    ghost view = { λ s. record {
+      written = W.written s.output;
+      failures = W.failures s.output;
+      is_failed = s.is_failed;
+    } };
+}
+
+impl<W: Output> Sink<W> {
+    /// A sink that goes on where the output stands. It writes nothing yet.
+    pub fn new(output: W) -> Sink<W>
+        ensures { result ≡ record {
+          written = W.written output;
+          failures = W.failures output;
+          is_failed = false;
+        } }
+    {
+        Sink {
+            output,
+            is_failed: false,
+        }
+    }
+
+    /// Keeps in mind whether a write failed.
+    fn note(&mut self, written: Result<(), WriteFault>) -> Result<(), WriteFault>
+        ensures answer { result ≡ written }
+        ensures noted { self.new ≡ record self.old { is_failed = is_err written } }
+    {
+        self.is_failed = written.is_err();
+        written
+    }
+
+    /// Writes the global header.
+    pub fn begin(&mut self) -> Result<(), WriteFault>
+        ensures { IsPut self.old self.new written_header result }
+    {
+        if self.is_failed {
+            return Err(WriteFault);
+        }
+        let written = write_full(&mut self.output, &global_header());
+        self.note(written)
+    }
+
+    /// Writes a record that holds a whole frame, the four slices side by side.
+    ///
+    /// `moment` is in nanoseconds, at most 4,294,967,295,999,999,999; the slices together have at most 262,144 octets,
+    /// and any of them may be empty.
+    pub fn put(
+        &mut self,
+        moment: u64,
+        head: &[u8],
+        addresses: &[u8],
+        tag: &[u8],
+        body: &[u8],
+    ) -> Result<(), WriteFault>
+        requires moment { moment ≤ last_moment }
+        requires size { length head.now + length addresses.now + length tag.now + length body.now ≤ longest }
+        ensures { IsPut self.old self.new
+            (written_record (whole_frame moment (head.now ++ (addresses.now ++ (tag.now ++ body.now))))) result }
+    {
+        if self.is_failed {
+            return Err(WriteFault);
+        }
+        let written = write_record(&mut self.output, moment, head, addresses, tag, body);
+        self.note(written)
+    }
+
+    /// The output.
+    pub fn into_inner(self) -> W
+        ensures written { W.written result ≡ self.written }
+        ensures failures { W.failures result ≡ self.failures }
+    {
+        let Sink {
+            output,
+            is_failed: _,
+        } = self;
+        output
+    }
+}

@@ -1,0 +1,89 @@
+//! An input of which only so many reads may be made.
+ghost use Rattle.std.specs.Prelude.{◌≡◌, ◌<◌, ◌≤◌, ◌+◌, drop, take, length, IfOk, OnErr, OnOk};
+ghost use Rattle.std.specs.Io.{ReadsAtMost};
+ghost use Rattle.std.specs.Io.KnownBytes.{Consumes, IsAtEnd, Keeps};
+ghost use Rattle.pcap_stream.specs.Supply.{GivesUp, IsThrifty, Spends};
+
+use crate::device::DeviceFault;
+use crate::input::Input;
+use std::marker::Model;
+
+/// An input, and how many reads may still be made of it.
+///
+/// Contracts see the octets that the input has left, its counts, and the reads.
+#[derive(Drop)]
+pub struct Supply<R: Input> {
+    input: R,
+    reads: u64,
+}
+
+impl<R: Input> Model for Supply<R> {
+    ghost use Rattle.pcap_stream.specs.Supply.{Supply};
+
+    ghost Value = { Supply };
+
+    ghost view = { λ s. record {
+      rest = R.remaining s.input;
+      calls = R.calls s.input;
+      failures = R.failures s.input;
+      reads = s.reads;
+    } };
+}
+
+impl<R: Input> Supply<R> {
+    pub fn new(input: R, reads: u64) -> Supply<R>
+        ensures { result ≡ record {
+          rest = R.remaining input;
+          calls = R.calls input;
+          failures = R.failures input;
+          reads = reads;
+        } }
+    {
+        Supply { input, reads }
+    }
+
+    /// One read, into what is behind the first `at` octets. Here alone the number of reads goes down.
+    fn read_behind(&mut self, octets: &mut [u8], at: usize) -> Result<usize, DeviceFault>
+        requires { at < length octets.old }
+        ensures front { take at octets.new ≡ take at octets.old }
+        ensures fits { IfOk result (λ n. at + n ≤ length octets.new) }
+        ensures taken { IfOk result (λ n. Consumes self.old.rest self.new.rest (take n (drop at octets.new))) }
+        ensures end { IfOk result (λ n. n ≡ 0 → IsAtEnd self.new.rest) }
+        ensures none { OnErr result (Keeps self.old.rest self.new.rest) }
+        ensures spent { Spends self.old self.new }
+        ensures one { self.old.reads ≤ self.new.reads + 1 }
+        ensures fewer { OnOk result (self.new.reads < self.old.reads) }
+        ensures quiet { OnOk result (self.new.failures ≡ self.old.failures) }
+        ensures gives_up { OnErr result (GivesUp self.old self.new) }
+    {
+        if self.reads == 0 {
+            return Err(DeviceFault);
+        }
+        self.reads -= 1;
+        self.input.read(&mut octets[at..])
+    }
+
+    /// Fills `octets` from the front as far as the input goes, and says how far.
+    pub fn fill(&mut self, octets: &mut [u8]) -> Result<usize, DeviceFault>
+        ensures bound { ReadsAtMost result octets.new }
+        ensures taken { IfOk result (λ n. Consumes self.old.rest self.new.rest (take n octets.new)) }
+        ensures end { IfOk result (λ n. n < length octets.new → IsAtEnd self.new.rest) }
+        ensures spent { Spends self.old self.new }
+        ensures fewer { OnOk result (0 < length octets.new → self.new.reads < self.old.reads) }
+        ensures part { IfOk result (λ n. self.old.reads ≤ self.new.reads + n + 1) }
+        ensures whole { IfOk result (λ n. length octets.new ≤ n → self.old.reads ≤ self.new.reads + n) }
+        ensures thrift { OnErr result (IsThrifty self.old self.new) }
+        ensures quiet { OnOk result (self.new.failures ≡ self.old.failures) }
+        ensures gives_up { OnErr result (GivesUp self.old self.new) }
+    {
+        let mut at = 0;
+        while at < octets.len() {
+            let n = self.read_behind(octets, at)?;
+            if n == 0 {
+                return Ok(at);
+            }
+            at += n;
+        }
+        Ok(at)
+    }
+}

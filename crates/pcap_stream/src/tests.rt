@@ -1,0 +1,446 @@
+//! Captures over memory, a few octets at a time, and over devices that fail.
+ghost use Rattle.std.specs.Prelude.{◌≡◌, ◌≢◌, ◌≤◌, None, Some, IfOk};
+ghost use Rattle.pcap_stream.specs.Source.{New};
+
+use crate::{
+    DeviceFault, Input, Output, Sink, Source, SourceFault, StdInput, StdOutput, WriteFault,
+};
+use std::alloc::{AllocError, Global};
+use std::io::{self, ErrorKind, Read, Write};
+use std::test::Fail;
+
+/// Octets that come at most so many at a time, and a read that fails.
+#[derive(Drop)]
+struct Pieces<'a> {
+    octets: &'a [u8],
+    most: usize,
+    fails_at: u64,
+    calls: u64,
+    failures: u64,
+}
+
+fn in_pieces<'a>(octets: &'a [u8], most: usize, fails_at: u64) -> Pieces<'a> {
+    Pieces {
+        octets,
+        most,
+        fails_at,
+        calls: 0,
+        failures: 0,
+    }
+}
+
+impl Input for Pieces<'_> {
+    ghost remaining = { λ s. Some s.octets.now };
+
+    ghost calls = { λ s. s.calls };
+
+    ghost failures = { λ s. s.failures };
+
+    fn read(&mut self, octets: &mut [u8]) -> Result<usize, DeviceFault> {
+        self.calls = self.calls.wrapping_add(1);
+        if self.calls == self.fails_at {
+            self.failures = self.failures.wrapping_add(1);
+            return Err(DeviceFault);
+        }
+        let n = self.octets.len().min(octets.len()).min(self.most.max(1));
+        let (front, rest) = self.octets.split_at(n);
+        octets[..n].copy_from_slice(front);
+        self.octets = rest;
+        Ok(n)
+    }
+}
+
+/// A capture in words: the moment, octets and original length of each record that is lent, and how they end. The fault
+/// has to come again, with no record, and at the end nothing more may come.
+fn told<R: Input>(alloc: Global, source: &mut Source<R>) -> Result<String, AllocError>
+    requires { source.old.standing ≡ New }
+{
+    let mut words = String::new(alloc);
+    if let Err(fault) = source.open() {
+        words.push_str(&format!(in alloc; "{fault}")?)?;
+        return again(source, Err(fault), words);
+    }
+    for _ in 0..100u8 {
+        if let Err(fault) = source.fill() {
+            words.push_str(&format!(in alloc; "{fault}")?)?;
+            return again(source, Err(fault), words);
+        }
+        let Some(record) = source.head() else {
+            break;
+        };
+        words.push_str(&format!(in alloc;
+            "{} {:?} of {}, ",
+            record.moment, record.octets, record.original
+        )?)?;
+    }
+    words.push_str(if source.is_cut() { "cut" } else { "end" })?;
+    again(source, Ok(()), words)
+}
+
+/// The words, where the next `fill` answers the same and lends no record.
+fn again<R: Input>(
+    source: &mut Source<R>,
+    answered: Result<(), SourceFault>,
+    mut words: String,
+) -> Result<String, AllocError>
+    requires { source.old.standing ≢ New }
+{
+    if source.head().is_some() || source.fill() != answered || source.head().is_some() {
+        words.push_str(", and then another answer")?;
+    }
+    Ok(words)
+}
+
+/// The words for a header and a text behind it, read in pieces.
+fn told_in_pieces(
+    alloc: Global,
+    header: &[u8],
+    behind: &[u8],
+    most: usize,
+) -> Result<String, AllocError> {
+    let mut text = Vec::from_slice(alloc, header)?;
+    text.extend_from_slice(behind)?;
+    let mut source = Source::new(alloc, in_pieces(&text, most, 0), 1000)?;
+    told(alloc, &mut source)
+}
+
+const BIG_MICRO: &[u8] = b"\xA1\xB2\xC3\xD4\0\x02\0\x04\0\0\0\0\0\0\0\0\0\0\xFF\xFF\0\0\0\x01";
+
+const LITTLE_NANO: &[u8] = b"\x4D\x3C\xB2\xA1\x02\0\x04\0\0\0\0\0\0\0\0\0\0\0\x04\0\x01\0\0\0";
+
+#[test]
+fn lends_the_records_in_any_pieces(rt: HostRuntime) -> Result<(), Fail> {
+    let alloc = rt.alloc();
+    let cases: &[(&[u8], &[u8], &str)] = &[
+        (b"", b"", "NotPcap"),
+        (&LITTLE_NANO[..23], b"", "NotPcap"),
+        // raw IP
+        (
+            b"\xA1\xB2\xC3\xD4\0\x02\0\x04\0\0\0\0\0\0\0\0\0\0\xFF\xFF\0\0\0\x65",
+            b"",
+            "BadLink",
+        ),
+        (LITTLE_NANO, b"", "end"),
+        // second 1, fraction 500,000, in microseconds and in nanoseconds, of three octets two
+        (
+            BIG_MICRO,
+            b"\0\0\0\x01\0\x07\xA1\x20\0\0\0\x02\0\0\0\x03\x07\x08",
+            "1500000000 [7, 8] of 3, end",
+        ),
+        (
+            LITTLE_NANO,
+            b"\x01\0\0\0\x20\xA1\x07\0\x02\0\0\0\x03\0\0\0\x07\x08",
+            "1000500000 [7, 8] of 3, end",
+        ),
+        // a rest that is no whole record behind a whole one: in its header, and in its octets
+        (
+            BIG_MICRO,
+            b"\0\0\0\x01\0\x07\xA1\x20\0\0\0\x02\0\0\0\x03\x07\x08\0",
+            "1500000000 [7, 8] of 3, cut",
+        ),
+        (
+            BIG_MICRO,
+            b"\0\0\0\x01\0\x07\xA1\x20\0\0\0\x02\0\0\0\x03\x07\x08\0\0\0\x01\0\x07\xA1\x20\0\0\0\x02\0\0\0\x03\x07",
+            "1500000000 [7, 8] of 3, cut",
+        ),
+        // captured 262,145, also with too great a fraction; 1,000,000 microseconds, with a record behind
+        (
+            BIG_MICRO,
+            b"\0\0\0\x01\xFF\xFF\xFF\xFF\0\x04\0\x01\0\0\0\0",
+            "TooLarge",
+        ),
+        (
+            BIG_MICRO,
+            b"\0\0\0\x01\0\x0F\x42\x3F\0\0\0\0\0\0\0\x09\0\0\0\x01\0\x0F\x42\x40\0\0\0\0\0\0\0\0\0\0\0\0\0\0\0\0\0\0\0\0\0\0\0\0",
+            "1999999000 [] of 9, BadFraction",
+        ),
+    ];
+    for (header, behind, expected) in cases {
+        for most in [1, 7, 4096] {
+            let words = told_in_pieces(alloc, *header, *behind, most)?;
+            assert_eq!(rt; words.as_str(), *expected, "{behind:?} by {most}");
+        }
+    }
+    Ok(())
+}
+
+// Two records: at second 1 and 5 nanoseconds octets 7, 8 and 9, at second 2 octet 4.
+const TWO: &[u8] = b"\x4D\x3C\xB2\xA1\x02\0\x04\0\0\0\0\0\0\0\0\0\0\0\x04\0\x01\0\0\0\
+\x01\0\0\0\x05\0\0\0\x03\0\0\0\x03\0\0\0\x07\x08\x09\
+\x02\0\0\0\0\0\0\0\x01\0\0\0\x01\0\0\0\x04";
+
+// One record, at second 1, of octet 6, and a rest of three octets.
+const ONE_AND_CUT: &[u8] = b"\xA1\xB2\xC3\xD4\0\x02\0\x04\0\0\0\0\0\0\0\0\0\0\xFF\xFF\0\0\0\x01\
+\0\0\0\x01\0\0\0\0\0\0\0\x01\0\0\0\x01\x06\0\0\0";
+
+/// What is told of each capture where the n-th read fails, each read of at most seven octets, for the last such n. A
+/// header takes four reads, what stands before a record's octets three, those octets one, and the end one; the rest of
+/// three octets takes one, and the end behind it one.
+#[test]
+fn tells_each_read_that_fails(rt: HostRuntime) -> Result<(), Fail> {
+    let alloc = rt.alloc();
+    let first = "1000000005 [7, 8, 9] of 3, Read";
+    let second = "1000000005 [7, 8, 9] of 3, 2000000000 [4] of 1, Read";
+    let none = "1000000005 [7, 8, 9] of 3, 2000000000 [4] of 1, end";
+    let one = "1000000000 [6] of 1, Read";
+    let cut = "1000000000 [6] of 1, cut";
+    let cases: &[(&[u8], u64, &str)] = &[
+        (TWO, 4, "Read"),
+        (TWO, 8, "Read"),
+        (TWO, 12, first),
+        (TWO, 13, second),
+        (TWO, 14, none),
+        (ONE_AND_CUT, 8, "Read"),
+        (ONE_AND_CUT, 10, one),
+        (ONE_AND_CUT, 11, cut),
+    ];
+    let mut n = 1;
+    for (text, last, expected) in cases {
+        if *last < n {
+            n = 1;
+        }
+        for _ in n..=*last {
+            let mut source = Source::new(alloc, in_pieces(*text, 7, n), 1000)?;
+            let words = told(alloc, &mut source)?;
+            assert_eq!(rt; words.as_str(), *expected, "read {n} of {text:?}");
+            n = n.saturating_add(1);
+        }
+    }
+    Ok(())
+}
+
+/// A global header, and then zero octets without end: records of length 0. It gives one octet a read.
+#[derive(Drop)]
+struct Endless {
+    calls: u64,
+    failures: u64,
+}
+
+impl Input for Endless {
+    ghost remaining = { λ _. None };
+
+    ghost calls = { λ s. s.calls };
+
+    ghost failures = { λ s. s.failures };
+
+    fn read(&mut self, octets: &mut [u8]) -> Result<usize, DeviceFault> {
+        let at = self.calls as usize;
+        self.calls = self.calls.wrapping_add(1);
+        if octets.is_empty() {
+            return Ok(0);
+        }
+        octets[0] = if at < LITTLE_NANO.len() {
+            LITTLE_NANO[at]
+        } else {
+            0
+        };
+        Ok(1)
+    }
+}
+
+/// How many records it lends before the fault.
+fn lent_by<R: Input>(source: &mut Source<R>) -> Result<u16, SourceFault>
+    requires { source.old.standing ≡ New }
+{
+    source.open()?;
+    for lent in 0..2000u16 {
+        if source.fill() == Err(SourceFault::Read) {
+            return Ok(lent);
+        }
+    }
+    Ok(2000)
+}
+
+/// 1,000 reads of an octet are the header and 61 records; the 62nd would need the 1,001st.
+#[test]
+fn ends_an_endless_capture_at_the_bound(rt: HostRuntime) -> Result<(), Fail> {
+    for (reads, lent) in [(1000, 61), (1015, 61), (1016, 62)] {
+        let endless = Endless {
+            calls: 0,
+            failures: 0,
+        };
+        let mut source = Source::new(rt.alloc(), endless, reads)?;
+        assert_eq!(rt; lent_by(&mut source), Ok(lent), "{reads} reads");
+        assert!(rt; source.head().is_none());
+    }
+    for reads in 0..24 {
+        let mut source = Source::new(rt.alloc(), in_pieces(TWO, 1, 0), reads)?;
+        assert_eq!(rt; source.open(), Err(SourceFault::Read), "{reads} reads");
+    }
+    Ok(())
+}
+
+/// Room for octets that takes at most so many a call. The n-th call fails, or takes none.
+#[derive(Drop)]
+struct Slow {
+    octets: [u8; 64],
+    taken: usize,
+    most: usize,
+    stops_at: u64,
+    fails: bool,
+    calls: u64,
+    failures: u64,
+    ghost fits: { taken ≤ 64 },
+}
+
+fn slowly(most: usize, stops_at: u64, fails: bool) -> Slow {
+    Slow {
+        octets: [0; 64],
+        taken: 0,
+        most,
+        stops_at,
+        fails,
+        calls: 0,
+        failures: 0,
+    }
+}
+
+impl Output for Slow {
+    ghost written = { λ _. None };
+
+    ghost failures = { λ s. s.failures };
+
+    fn write(&mut self, octets: &[u8]) -> Result<usize, DeviceFault> {
+        if octets.is_empty() {
+            return Ok(0);
+        }
+        self.calls = self.calls.saturating_add(1);
+        if self.calls == self.stops_at && self.fails {
+            self.failures = self.failures.wrapping_add(1);
+            return Err(DeviceFault);
+        }
+        let room = 64 - self.taken;
+        let n = octets.len().min(self.most.max(1)).min(room);
+        if self.calls == self.stops_at || n == 0 {
+            self.failures = self.failures.wrapping_add(1);
+            return Ok(0);
+        }
+        self.octets[self.taken..self.taken + n].copy_from_slice(&octets[..n]);
+        self.taken += n;
+        Ok(n)
+    }
+}
+
+fn put_two<W: Output>(sink: &mut Sink<W>) -> Result<(), WriteFault> {
+    sink.begin()?;
+    sink.put(1_000_000_005, &[7], &[8], &[], &[9])?;
+    sink.put(2_000_000_000, &[], &[], &[], &[4])
+}
+
+#[test]
+fn writes_through_an_output_that_takes_little(rt: HostRuntime) {
+    for most in [1, 7, 4096] {
+        let mut sink = Sink::new(slowly(most, 0, false));
+        assert!(rt; put_two(&mut sink).is_ok(), "by {most}");
+        let output = sink.into_inner();
+        assert_eq!(rt; &output.octets[..output.taken], TWO, "by {most}");
+    }
+}
+
+/// How many octets stand before the n-th write, each of at most seven octets, of a header and of two records in parts.
+const BEFORE: [usize; 14] = [0, 7, 14, 21, 24, 31, 38, 40, 41, 42, 43, 50, 57, 59];
+
+#[test]
+fn tells_each_write_that_fails(rt: HostRuntime) {
+    let mut n = 1;
+    for before in BEFORE {
+        for fails in [true, false] {
+            let mut sink = Sink::new(slowly(7, n, fails));
+            assert!(rt; put_two(&mut sink).is_err(), "write {n}");
+            assert!(rt; sink.begin().is_err(), "behind write {n}");
+            assert!(rt;
+                sink.put(0, &[1], &[], &[], &[]).is_err(),
+                "behind write {n}"
+            );
+            let output = sink.into_inner();
+            assert_eq!(rt; &output.octets[..output.taken], &TWO[..before], "write {n}");
+        }
+        n = n.saturating_add(1);
+    }
+    let mut sink = Sink::new(slowly(7, 15, true));
+    assert!(rt; put_two(&mut sink).is_ok());
+}
+
+/// A device of std's whose first calls a signal interrupts.
+#[derive(Drop)]
+struct Interrupted {
+    left: u8,
+}
+
+impl Interrupted {
+    fn call(&mut self) -> io::Result<usize>
+        ensures { IfOk result (λ n. n ≡ 0) }
+    {
+        if self.left > 0 {
+            self.left -= 1;
+            return Err(io::Error::from(ErrorKind::Interrupted));
+        }
+        Ok(0)
+    }
+}
+
+impl Read for Interrupted {
+    fn read(&mut self, _octets: &mut [u8]) -> io::Result<usize> {
+        self.call()
+    }
+}
+
+impl Write for Interrupted {
+    fn write(&mut self, _octets: &[u8]) -> io::Result<usize> {
+        self.call()
+    }
+
+    fn flush(&mut self) -> io::Result<()> {
+        Ok(())
+    }
+}
+
+#[test]
+fn tries_again_sixteen_times(rt: HostRuntime) {
+    for (left, answered) in [(0, Ok(0)), (16, Ok(0)), (17, Err(DeviceFault))] {
+        let mut input = StdInput::new(Interrupted { left });
+        assert_eq!(rt; input.read(&mut [0]), answered, "{left} interruptions");
+        let mut output = StdOutput::new(Interrupted { left });
+        assert_eq!(rt; output.write(&[0]), answered, "{left} interruptions");
+    }
+}
+
+#[test]
+fn copies_over_standard_devices(rt: HostRuntime) -> Result<(), Fail> {
+    let mut source = Source::new(rt.alloc(), StdInput::new(TWO), 100)?;
+    let mut sink = Sink::new(StdOutput::new(Vec::new(rt.alloc())));
+    assert!(rt; source.open().is_ok());
+    assert!(rt; sink.begin().is_ok());
+    for _ in 0..2 {
+        assert!(rt; source.fill().is_ok());
+        let record = source.head().ok_or("a record")?;
+        assert!(rt;
+            sink.put(record.moment, &[], record.octets, &[], &[])
+                .is_ok()
+        );
+    }
+    let written = sink.into_inner().into_inner();
+    assert_eq!(rt; written.as_slice(), TWO);
+    Ok(())
+}
+
+/// One request for memory, by `Source::new`: what it refuses, it says, and no later call makes another. To refuse it, run
+/// this by `rt try --test --fail-alloc 1`.
+#[test]
+fn takes_memory_for_one_record_alone(rt: HostRuntime) -> Result<(), Fail> {
+    let mut source = Source::new(rt.alloc(), in_pieces(TWO, 7, 0), 1000)?;
+    let mut sink = Sink::new(slowly(7, 0, false));
+    assert!(rt; source.open().is_ok());
+    assert!(rt; sink.begin().is_ok());
+    for _ in 0..2 {
+        assert!(rt; source.fill().is_ok());
+        let record = source.head().ok_or("a record")?;
+        assert!(rt;
+            sink.put(record.moment, record.octets, &[], &[], &[])
+                .is_ok()
+        );
+    }
+    let output = sink.into_inner();
+    assert_eq!(rt; &output.octets[..output.taken], TWO);
+    Ok(())
+}

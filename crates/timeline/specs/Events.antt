@@ -1,0 +1,53 @@
+-- The events of each source.
+use Rattle.std.specs.Prelude.{◌<◌, ◌≤◌, ℕ, ◌+◌, ◌^◌, max, List, [], ◌∷◌, ◌++◌, length}
+use Rattle.std.specs.List.{flat_map}
+use Rattle.pcap_io.specs.Record.{Record, last_moment, longest}
+use Rattle.timeline.specs.Captured.{Captured}
+use Rattle.timeline.specs.declared.capture.Opened.{Opened}
+use Rattle.timeline.specs.declared.event.Event.{Event}
+use Rattle.timeline.specs.declared.event.Happening.{Happening}
+use Rattle.timeline.specs.declared.event.Happening.TheVariants as happenings
+use Rattle.timeline.specs.declared.source.Tap.{Tap}
+use Rattle.timeline.specs.declared.source.Tap.TheVariants.{Port, Underlay}
+
+-- changes from this index on, at their moments
+abbrev pub change_events : ℕ → List ℕ → List Event
+change_events index [] = []
+change_events index (moment ∷ moments) =
+    record { moment = moment; number = index + 1; happening = happenings.Change index } ∷ change_events (index + 1) moments
+
+-- records behind so many others, each at the greatest moment so far
+abbrev pub record_events : Tap → ℕ → ℕ → List Record → List Event
+record_events tap count latest [] = []
+record_events tap count latest (r ∷ rs) =
+    record {
+      moment = max r.moment latest;
+      number = count + 1;
+      happening = happenings.Record tap (record { original = r.original; octets = r.octets });
+    }
+    ∷ record_events tap (count + 1) (max r.moment latest) rs
+
+abbrev pub events_of : Opened → List Event
+events_of c = record_events c.tap 0 0 c.capture.records
+
+-- the events of all sources: the changes, and then those of the captures in their order
+abbrev pub all_events : List ℕ → List Opened → List Event
+all_events changes captures = change_events 0 changes ++ flat_map events_of captures
+
+-- what is known of the events of a run with so many changes and ports
+abbrev pub IsTapOf : ℕ → Tap → Type 0
+IsTapOf ports (Port port) = (1 ≤ port) × (port ≤ ports)
+IsTapOf ports Underlay = Unit {0}
+
+pub record IsRecordOf (ports instant : ℕ) (place : Tap) (c : Captured) : Type 0 where
+  pub moment : instant ≤ last_moment
+  pub tap : IsTapOf ports place
+  pub original : c.original < 2 ^ 32
+  pub octets : length c.octets ≤ longest
+
+abbrev pub HappensIn : ℕ → ℕ → ℕ → Happening → Type 0
+HappensIn changes ports moment (happenings.Change index) = index < changes
+HappensIn changes ports moment (happenings.Record tap c) = IsRecordOf ports moment tap c
+
+abbrev pub IsEventOf : ℕ → ℕ → Event → Type 0
+IsEventOf changes ports e = HappensIn changes ports e.moment e.happening

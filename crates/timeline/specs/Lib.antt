@@ -1,0 +1,7 @@
+pub mod Captured
+pub mod Words
+pub mod Inputs
+pub mod Faults
+pub mod Events
+pub mod Order
+pub mod Timeline

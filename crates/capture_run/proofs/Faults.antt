@@ -1,0 +1,62 @@
+-- What a run answers at each of its ends.
+use Rattle.std.proofs.Common.{◌≡◌, sym, subst, refl, ℕ, ◌==◌, true, false, inl, inr, List, length, map, Vec, Global, Result, Ok, Err}
+use Rattle.std.specs.Prelude.{IsUtf8}
+use Rattle.config_text.specs.declared.fault.SettingsFault.{SettingsFault}
+use Rattle.config_text.specs.declared.fault.SettingsFault.TheVariants as text
+use Rattle.config_text.specs.declared.fault.SettingsFault.TheVariants.{NotToml}
+use Rattle.overlay_config.specs.Fault.{Meaning, GivesAs}
+use Rattle.overlay_config.specs.Settings.{Settings}
+use Rattle.overlay_config.specs.declared.change.TimedChange.{TimedChange}
+use Rattle.timeline.specs.Timeline.{Timeline, told}
+use Rattle.timeline.specs.Timeline as timeline
+use Rattle.timeline.specs.declared.fault.TimelineFault.{TimelineFault}
+use Rattle.timeline.specs.declared.fault.TimelineFault.TheVariants as faults
+use Rattle.capture_run.specs.Fault.{of_timeline, of_settings, of_changes}
+use Rattle.capture_run.specs.Outputs.{Outputs}
+use Rattle.capture_run.specs.Run.{Gives, Means, run, by_timeline}
+use Rattle.capture_run.specs.declared.fault.RunFault.{RunFault}
+use Rattle.capture_run.specs.declared.fault.RunFault.TheVariants.{OutOfMemory, PortCount}
+
+-- what was read of a text is what it means
+pub read_is : {A B : Type 0} (view : A → B) (r : Meaning A) (meaning_of : List ℕ → Meaning B) (text : List ℕ) (m : Meaning B) → Means meaning_of text m
+    → (IsUtf8 text → GivesAs view r (meaning_of text)) → ((IsUtf8 text → ⊥) → GivesAs view r (Err NotToml)) → GivesAs view r m
+read_is view r meaning_of text m (inl h) is not = subst (GivesAs view r) (sym h.1) (is h.0)
+read_is view r meaning_of text m (inr h) is not = subst (GivesAs view r) (sym h.1) (not h.0)
+
+pub settings_fault : {A : Type 0} (view : A → Settings) (fault : SettingsFault) (s : Meaning Settings) (c : Meaning (List TimedChange)) (ports : List (Vec ℕ Global)) (underlay : List ℕ)
+    → GivesAs view (Err fault) s → Gives (Err (of_settings fault)) (run s c ports underlay)
+settings_fault view text.NotToml s c ports underlay h = rw h refl
+settings_fault view (text.Missing key) s c ports underlay h = rw h refl
+settings_fault view (text.BadValue key) s c ports underlay h = rw h refl
+settings_fault view (text.TwoSegments key) s c ports underlay h = rw h refl
+settings_fault view (text.NotRising key) s c ports underlay h = rw h refl
+settings_fault view (text.OverLimit key) s c ports underlay h = rw h refl
+settings_fault view text.OutOfMemory s c ports underlay h = tt
+
+pub changes_fault : {A : Type 0} (view : A → List TimedChange) (fault : SettingsFault) (s : Settings) (c : Meaning (List TimedChange)) (ports : List (Vec ℕ Global)) (underlay : List ℕ)
+    → GivesAs view (Err fault) c → Gives (Err (of_changes fault)) (run (Ok s) c ports underlay)
+changes_fault view text.NotToml s c ports underlay h = rw h refl
+changes_fault view (text.Missing key) s c ports underlay h = rw h refl
+changes_fault view (text.BadValue key) s c ports underlay h = rw h refl
+changes_fault view (text.TwoSegments key) s c ports underlay h = rw h refl
+changes_fault view (text.NotRising key) s c ports underlay h = rw h refl
+changes_fault view (text.OverLimit key) s c ports underlay h = rw h refl
+changes_fault view text.OutOfMemory s c ports underlay h = tt
+
+pub timeline_fault : (fault : TimelineFault) (s : Settings) (changes : List TimedChange) (n : ℕ) (found : Result Timeline TimelineFault)
+    → timeline.Gives (Err fault) found → Gives (Err (of_timeline fault)) (by_timeline s changes n found)
+timeline_fault (faults.Capture tap fault) s changes n found h = rw h refl
+timeline_fault (faults.Record tap number fault) s changes n found h = rw h refl
+timeline_fault faults.OutOfMemory s changes n found h = tt
+
+-- want of memory is always an answer
+pub memory_fault : (fault : RunFault) (found : Result Outputs RunFault) → fault ≡ OutOfMemory → Gives (Err fault) found
+memory_fault fault found h = subst (λ f. Gives (Err f) found) (sym h) tt
+
+pub port_count_fault : (s : Settings) (changes : List TimedChange) (ports : List (Vec ℕ Global)) (underlay : List ℕ) → (length ports == length s.ports) ≡ false
+    → run (Ok s) (Ok changes) ports underlay ≡ Err PortCount
+port_count_fault s changes ports underlay h = rw h refl
+
+pub ports_counted : (s : Settings) (changes : List TimedChange) (ports : List (Vec ℕ Global)) (underlay : List ℕ) → (length ports == length s.ports) ≡ true
+    → run (Ok s) (Ok changes) ports underlay ≡ by_timeline s changes (length ports) (told (map (λ (c : TimedChange). c.at) changes) ports underlay)
+ports_counted s changes ports underlay h = rw h refl

@@ -1,0 +1,17 @@
+//! Whole runs: captures and changes in, captures and decision lines out.
+//!
+//! [`run_bytes`] reads the settings text, the changes text and the captures (pcap-savefile(5)), puts their events in
+//! order of moment through an endpoint, and answers the [`Outputs`], or the first [`RunFault`].
+#![tactic(auto)]
+
+mod fault;
+mod line;
+mod outputs;
+mod run;
+
+pub use fault::RunFault;
+pub use outputs::Outputs;
+pub use run::run_bytes;
+
+#[cfg(test)]
+mod tests;

@@ -46,4 +46,7 @@ answers pcap_stream tests::takes_memory_for_one_record_alone 1
 # The events of a run: the list of captures, the changes and the merge.
 passes timeline tests::refused_memory_is_told 1 2 3
 
+# The parts of the settings, and of the document that they stand in.
+passes overlay_config settings_tests::refused_growths_are_out_of_memory 1 10
+
 exit "$status"

@@ -27,6 +27,44 @@ refuses() {
     }
 }
 
+# refuses_within CRATE NAME FAULT COUNT: the text on standard input, as a module of this name within the crate, isn't
+# compiled, for so many of this fault
+refuses_within() {
+    local crate=$1 name=$2 fault=$3 count=$4 found
+    cat >"$folder/crates/$crate/src/$name.rt"
+    sed -i "0,/^mod /s//mod $name;\nmod /" "$folder/crates/$crate/src/lib.rt"
+    cp crates.txt "$folder/crates.txt"
+    found=$(cd "$folder/crates/$crate" && rt try --test 2>&1 | grep -c "^src/$name.rt:.*error\[$fault\]")
+    rm "$folder/crates/$crate/src/$name.rt"
+    cp "crates/$crate/src/lib.rt" "$folder/crates/$crate/src/lib.rt"
+    [ "$found" -eq "$count" ] || {
+        echo "tests/refused.sh: $name within $crate isn't refused for $count of $fault, but for $found"
+        status=1
+    }
+}
+
+# What a slot of the pool holds is told by `same` and `dead` alone: no other module reads an address or a moment.
+refuses_within shared_tables reads private-field 3 <<'TEXT'
+//! Reads what a slot holds past the slots' own module.
+use crate::slots::{Held, Slots};
+use frame_view::Mac;
+
+/// The address of an entry.
+pub fn address_of(entry: &Held) -> Mac {
+    entry.mac
+}
+
+/// When an entry was last seen.
+pub fn moment_of(entry: &Held) -> Option<u64> {
+    entry.last
+}
+
+/// How many slots there are.
+pub fn count_of(slots: &Slots) -> usize {
+    slots.slots.len()
+}
+TEXT
+
 # The decision about a packet borrows its octets: it can't outlive them.
 libraries=$(grep '^endpoint_core:' crates.txt | cut -d: -f2)
 refuses outlives borrow-e0515 "endpoint_core $libraries" <<'TEXT'

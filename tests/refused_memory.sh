@@ -40,6 +40,9 @@ passes pcap_io tests::a_refused_growth_changes_nothing 1 3 5
 # The places of all VIDs, and the tables of two segments; no later call takes memory.
 answers filter_db tests::leaves_fixed_entries_alone 3
 
+# The slots, the chains' heads and the shares; no later call takes memory.
+answers shared_tables tests::two_segments_share_a_bucket 3
+
 # The room of a source, for one record; no later call of a source or a sink takes memory.
 answers pcap_stream tests::takes_memory_for_one_record_alone 1
 

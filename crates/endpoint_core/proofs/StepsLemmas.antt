@@ -2,10 +2,9 @@
 use Rattle.std.proofs.Common.{◌≡◌, ℕ, ◌≤◌, Result, ap, ◌∙◌}
 use Rattle.std.proofs.Math.Nat.{le_refl}
 use Rattle.frame_view.specs.declared.reason.Refused.{Refused}
-use Rattle.filter_db.specs.Database.{segments_of}
 use Rattle.endpoint_state.specs.Held.{Held, state_at}
 use Rattle.endpoint_state.specs.State.{State as Bridges, aged}
-use Rattle.endpoint_state.proofs.LaterLemmas.{state-later}
+use Rattle.endpoint_state.proofs.LaterLemmas.{held-later}
 use Rattle.endpoint_core.specs.declared.arrival.Came.{Came}
 use Rattle.endpoint_core.specs.Cells.{Cells, count_in}
 use Rattle.endpoint_core.specs.Counts.{counted}
@@ -14,11 +13,11 @@ use Rattle.endpoint_core.specs.Step.{State, decided, after_came}
 
 -- of the bridges as they were at an earlier moment
 pub told-earlier : {A : Type 0} (f : Bridges → A) (held : Held) (t now : ℕ) (a : A) → t ≤ now → a ≡ f (state_at now held) → a ≡ f (aged now (state_at t held))
-told-earlier f held t now a h is = is ∙ ap f (state-later segments_of held t now h)
+told-earlier f held t now a h is = is ∙ ap f (held-later held t now h)
 
 -- what is left is left of the bridges as they were at an earlier moment, and has nothing that is dead
 pub left-earlier : (f : Bridges → Bridges) (held new : Held) (t now : ℕ) → t ≤ now → state_at now new ≡ f (state_at now held) → state_at now new ≡ aged now (f (aged now (state_at t held)))
-left-earlier f held new t now h is = state-later segments_of new now now (le_refl now) ∙ ap (aged now) (told-earlier f held t now (state_at now new) h is)
+left-earlier f held new t now h is = held-later new now now (le_refl now) ∙ ap (aged now) (told-earlier f held t now (state_at now new) h is)
 
 -- a decision, and the state after it
 pub decided-then : (held new : Held) (cells left : Cells) (t now : ℕ) (d : Decision) (came told : Result Came Refused) → t ≤ now → came ≡ told → d ≡ decided now (state_at now held) came →

@@ -7,6 +7,8 @@ use Rattle.filter_db.specs.Table.{Table, nanoseconds}
 use Rattle.filter_db.specs.Segment.{Segment, Segments, no_segment}
 use Rattle.filter_db.specs.Segment as db
 use Rattle.endpoint_state.specs.declared.parts.Parts.{Parts}
+use Rattle.shared_tables.specs.Segments.{segments_of}
+use Rattle.endpoint_state.specs.Held.{Held, state_at}
 use Rattle.endpoint_state.specs.Learning.{learns}
 use Rattle.endpoint_state.specs.State.{State, bridge_of, live_in, aged, settings_of, state_of}
 
@@ -19,3 +21,7 @@ pub state-later : {T : Type 0} (segments : T → Segments) (parts : Parts T) (t 
 state-later segments parts t u h =
     ap (λ (x : ℕ → Table). let s : State = record { settings = settings_of segments parts; tables = x } in s)
     (fun_ext (λ vid. later-one t u (learns parts.learning vid) (segments parts.tables vid) h))
+
+-- the same of what an endpoint holds
+pub held-later : (held : Held) (t u : ℕ) → t ≤ u → state_at u held ≡ aged u (state_at t held)
+held-later held t u h = state-later segments_of held t u h

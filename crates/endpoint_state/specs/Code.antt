@@ -1,7 +1,8 @@
 -- How what an endpoint holds is stored as a value.
 use Rattle.std.specs.Prelude.{refl, Bool, List}
 use Rattle.std.specs.Coded.{Coded, code_by, coded×, coded_bool, coded_list}
-use Rattle.filter_db.specs.Database.{Database, database_code}
+use Rattle.shared_tables.specs.Shared.{Shared}
+use Rattle.shared_tables.specs.contracts.shared_tables.SharedTables as tables
 use Rattle.vlan_ports.specs.Ports.{Ports}
 use Rattle.vlan_ports.specs.Code.{ports_code}
 use Rattle.underlay.specs.Overlay.{Overlay}
@@ -11,4 +12,4 @@ use Rattle.endpoint_state.specs.Held.{Held}
 -- stored as its four parts
 abbrev pub held_code : Coded Held
 held_code =
-    code_by (Ports × (Overlay × (Database × List Bool))) (coded× ports_code (coded× overlay_code (coded× database_code (coded_list coded_bool)))) (λ h. (h.ports, (h.under, (h.tables, h.learning)))) (λ p. record { ports = p.0; under = p.1.0; tables = p.1.1.0; learning = p.1.1.1 }) (λ _. refl)
+    code_by (Ports × (Overlay × (Shared × List Bool))) (coded× ports_code (coded× overlay_code (coded× tables.the_row.coded (coded_list coded_bool)))) (λ h. (h.ports, (h.under, (h.tables, h.learning)))) (λ p. record { ports = p.0; under = p.1.0; tables = p.1.1.0; learning = p.1.1.1 }) (λ _. refl)

@@ -1,6 +1,7 @@
--- What an endpoint holds, with its tables as lists.
+-- What an endpoint holds, with its tables in one pool.
 use Rattle.std.specs.Prelude.{ℕ}
-use Rattle.filter_db.specs.Database.{Database, segments_of}
+use Rattle.shared_tables.specs.Segments.{segments_of}
+use Rattle.shared_tables.specs.Shared.{Shared}
 use Rattle.endpoint_state.specs.declared.parts.Parts.{Parts}
 use Rattle.endpoint_state.specs.Settings.{Settings}
 use Rattle.endpoint_state.specs.Sound.{IsSound}
@@ -8,7 +9,7 @@ use Rattle.endpoint_state.specs.State as state
 use Rattle.endpoint_state.specs.State.{State}
 
 abbrev pub Held : Type 0
-Held = Parts Database
+Held = Parts Shared
 
 -- the settings in force
 abbrev pub settings_of : Held → Settings

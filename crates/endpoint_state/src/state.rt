@@ -1,7 +1,8 @@
 //! What an endpoint holds.
 ghost use Rattle.std.specs.Prelude.{◌≡◌, ◌≤◌, ℕ, IfOk, IsSome, IsTrue, is_some, true};
-ghost use Rattle.std.specs.List.{list_all};
+ghost use Rattle.std.specs.List.{list_all, sum_by};
 ghost use Rattle.frame_view.specs.First.{fault_of};
+ghost use Rattle.filter_db.specs.declared.tables.TableRule.{TableRule};
 ghost use Rattle.tunnel_learning.specs.Verdict.{seen};
 ghost use Rattle.vlan_ports.specs.Ports.{has_segment as has_members};
 ghost use Rattle.underlay.specs.Overlay.{has_segment, flood_at};
@@ -14,20 +15,29 @@ ghost use Rattle.endpoint_state.specs.Step.{can_leave, after_frame, verdict};
 use crate::learning::Learning;
 use crate::parts::Parts;
 use crate::{Change, ChangeFault};
-use filter_db::{ListTables, Place, Tables};
+use filter_db::{Place, TableRule, Tables};
 use frame_view::{BridgeFrame, Vid};
 use overlay_config::Settings;
+use shared_tables::SharedTables;
 use std::alloc::{AllocError, Global};
 use std::marker::Model;
 use tunnel_learning::Verdict;
 use underlay::Under;
 use vlan_ports::PortSet;
 
+/// How many slots these tables need: the sum of their limits.
+fn slots_for(rules: &[TableRule]) -> u32
+    requires { sum_by (λ (rule : TableRule). rule.limit) rules.now ≤ 65536 }
+    ensures { result ≡ sum_by (λ (rule : TableRule). rule.limit) rules.now }
+{
+    rules.iter().map(|rule| u32::from(rule.limit)).sum()
+}
+
 /// What an endpoint holds: ports with the members of segments, the underlay with tunnels and flood lists, the segments'
 /// tables, and which of them learn. No call but `open` takes memory.
 #[derive(Drop)]
 pub struct EndpointState {
-    parts: Parts<ListTables>,
+    parts: Parts<SharedTables>,
 }
 
 impl Model for EndpointState {
@@ -52,7 +62,8 @@ impl EndpointState {
         ensures moment { IfOk result (λ state. moment_of state ≡ 0) }
     {
         let ports = PortSet::open(alloc, settings.ports(), settings.members())?;
-        let tables = ListTables::open(alloc, settings.tables())?;
+        let rules = settings.tables();
+        let tables = SharedTables::open(alloc, rules, slots_for(rules))?;
         let learning = Learning::open(alloc, settings.learning())?;
         let (underlay, tunnels) = settings.into_overlay();
         let under = Under::open(alloc, underlay, tunnels)?;

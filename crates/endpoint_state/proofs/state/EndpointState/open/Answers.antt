@@ -1,6 +1,6 @@
 use Rattle.std.proofs.Common.{◌∙◌, List, ap}
-use Rattle.filter_db.specs.Database.{segments_of}
 use Rattle.filter_db.specs.Segment.{new_segments}
+use Rattle.shared_tables.specs.Segments.{segments_of}
 use Rattle.vlan_ports.specs.Ports as ports
 use Rattle.vlan_ports.specs.declared.member.MemberRule.{MemberRule}
 use Rattle.vlan_ports.specs.declared.port.PortRule.{PortRule}
@@ -18,7 +18,7 @@ invariant_of-result c =
     sound-as s c.in_ok-ports.ports c.in_ok-under.under (segments_of c.in_ok-tables.tables) c.into_overlay-underlay.ensures.rules
     (c.in_ok-ports.ensures ∙ ap (λ (x : List PortRule). ports.told x c.members.result.now) c.ports.ensures.value ∙ ap (λ (x : List MemberRule). ports.told s.ports x) c.members.ensures.value)
     (c.in_ok-under.ensures ∙ ap (λ (x : Underlay). overlay.told x c.into_overlay-underlay.result.1.items) c.into_overlay-underlay.ensures.underlay ∙ ap (λ (x : List TunnelRule). overlay.told s.underlay x) c.into_overlay-underlay.ensures.tunnels)
-    (c.in_ok-tables.ensures.segments ∙ ap new_segments c.tables.ensures.value)
+    (c.in_ok-tables.ensures.segments ∙ ap new_segments c.tables-rules.ensures.value)
 
 pub returns-clause-state : goal.returns-clause-state
 returns-clause-state c =
@@ -26,5 +26,5 @@ returns-clause-state c =
     λ t. state-as s t c.in_ok-ports.ports c.in_ok-under.under (segments_of c.in_ok-tables.tables) c.in_ok-learning.learning
     (c.in_ok-ports.ensures ∙ ap (λ (x : List PortRule). ports.told x c.members.result.now) c.ports.ensures.value ∙ ap (λ (x : List MemberRule). ports.told s.ports x) c.members.ensures.value)
     (c.in_ok-under.ensures ∙ ap (λ (x : Underlay). overlay.told x c.into_overlay-underlay.result.1.items) c.into_overlay-underlay.ensures.underlay ∙ ap (λ (x : List TunnelRule). overlay.told s.underlay x) c.into_overlay-underlay.ensures.tunnels)
-    (c.in_ok-tables.ensures.segments ∙ ap new_segments c.tables.ensures.value)
+    (c.in_ok-tables.ensures.segments ∙ ap new_segments c.tables-rules.ensures.value)
     (λ vid. c.in_ok-learning.ensures vid ∙ ap (λ (x : List LearningRule). tells_learning x vid) c.learning.ensures.value)

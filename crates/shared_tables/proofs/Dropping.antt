@@ -1,0 +1,93 @@
+-- What holds when an entry has gone, told by what its slot held.
+use Rattle.std.proofs.Common.{inl, inr, ◌⊎◌, ◌≡◌, ℕ, ◌-◌, ◌<◌, ◌≤◌, List, length, map, set, Option, Some, None, IsSome, Bool, true, false, is_none, refl, sym, ap, ◌∙◌, subst}
+use Rattle.std.proofs.lemmas.Bool.{cases_lt}
+use Rattle.std.proofs.lemmas.List.{get_or-set_same, get_or_past}
+use Rattle.std.specs.Option.{option_map}
+use Rattle.shared_tables.specs.declared.slots.Held.{Held}
+use Rattle.shared_tables.specs.declared.slots.Links.{Links}
+use Rattle.shared_tables.specs.declared.share.Share.{Share}
+use Rattle.shared_tables.specs.Pool.{entry_at, links_at, alone, is_fixed_in, bucket_in, IfHeld}
+use Rattle.shared_tables.specs.Threads.{IsHeld, HoldsAny, unlinked, heads_without, ends_without}
+use Rattle.shared_tables.specs.Shared.{rule_at, HasRoom, kept_count, Lacks, IsOf, line_key}
+use Rattle.shared_tables.specs.Sound.{share_at, shares_without, share_without, share_written, CountsSome, rule_of, line_at, IsSound}
+use Rattle.shared_tables.proofs.SoundLemmas.{holds_previous, holds_next, rules_stay, rule_of-with_line, HoldsOf, holds_of, rule_is}
+use Rattle.shared_tables.proofs.Leaving.{leave_lt, leave_count, leave_sound, leave_lacks, leave_few, chain_previous, chain_next, line_on}
+
+-- a slot that holds an entry of a segment
+pub record Stays (es : List (Option Held)) (shares : List (Option Share)) (v s : ℕ) : Type 0 where
+  pub share : Share
+  pub here : share_at shares v ≡ Some share
+  pub entry : Held
+  pub at_slot : entry_at es s ≡ Some entry
+  pub is_of : entry.vid ≡ v
+
+pub stays : (es : List (Option Held)) (shares : List (Option Share)) (v s : ℕ) → IsOf (entry_at es s) v → IsSome (share_at shares v) → Stays es shares v s
+stays es shares v s of some = from (share_at shares v) refl some
+  where
+    own : HoldsOf (entry_at es s) v
+    own = holds_of (entry_at es s) v of
+
+    from : (o : Option Share) → share_at shares v ≡ o → IsSome o → Stays es shares v s
+    from None e h = let bad : false ≡ true = h in cc
+    from (Some share) e h = record { share = share; here = e; entry = own.entry; at_slot = own.here; is_of = own.is_of }
+
+module _ (es : List (Option Held)) (cs ls : List Links) (heads : List (Option ℕ)) (shares : List (Option Share)) (moment : ℕ) (h : IsSound es cs ls heads shares moment)
+    (v s : ℕ) (k : Stays es shares v s) where
+  pub drop_held : IsHeld es s
+  drop_held = record { in_pool = leave_lt es cs ls heads shares moment h v k.share k.here k.entry k.is_of s k.at_slot; held = subst (λ (o : Option Held). IsSome o) (sym k.at_slot) refl }
+
+  pub drop_chain_previous : HoldsAny es (links_at cs s).previous
+  drop_chain_previous = chain_previous es cs ls heads shares moment h v k.share k.here k.entry k.is_of s k.at_slot
+
+  pub drop_chain_next : HoldsAny es (links_at cs s).next
+  drop_chain_next = chain_next es cs ls heads shares moment h v k.share k.here k.entry k.is_of s k.at_slot
+
+  abbrev fixed : Bool
+  fixed = is_none k.entry.last
+
+  pub drop_line_previous : HoldsAny es (links_at ls s).previous
+  drop_line_previous =
+      let lines = h.lined v k.share k.here in
+      holds_previous (line_key v fixed) refl ls es _ _ s (lines.list fixed) (lines.thread fixed) (line_on es cs ls heads shares moment h v k.share k.here k.entry k.is_of s k.at_slot)
+
+  pub drop_line_next : HoldsAny es (links_at ls s).next
+  drop_line_next =
+      let lines = h.lined v k.share k.here in
+      holds_next (line_key v fixed) refl ls es _ _ s (lines.list fixed) (lines.thread fixed) (line_on es cs ls heads shares moment h v k.share k.here k.entry k.is_of s k.at_slot)
+
+  pub drop_counted : CountsSome (share_at shares v)
+  drop_counted = subst CountsSome (sym k.here) (leave_count es cs ls heads shares moment h v k.share k.here k.entry k.is_of s k.at_slot)
+
+  -- the shares then
+  shares_are : shares_without shares v (is_fixed_in (entry_at es s)) (links_at ls s) ≡ set shares v (Some (share_without fixed (links_at ls s) k.share))
+  shares_are =
+      ap (λ o. shares_without shares v (is_fixed_in o) (links_at ls s)) k.at_slot
+      ∙ ap (λ o. share_written shares v (option_map (share_without fixed (links_at ls s)) o)) k.here
+
+  pub drop_sound : IsSound (set es s None) (set (unlinked cs s) s alone) (set (unlinked ls s) s alone) (heads_without heads (bucket_in (entry_at es s)) (links_at cs s)) (shares_without shares v (is_fixed_in (entry_at es s)) (links_at ls s)) moment
+  drop_sound =
+      subst (λ x. IsSound (set es s None) (set (unlinked cs s) s alone) (set (unlinked ls s) s alone) (heads_without heads (bucket_in (entry_at es s)) (links_at cs s)) x moment) (sym shares_are)
+      (subst (λ o. IsSound (set es s None) (set (unlinked cs s) s alone) (set (unlinked ls s) s alone) (heads_without heads (bucket_in o) (links_at cs s)) (set shares v (Some (share_without fixed (links_at ls s) k.share))) moment) (sym k.at_slot)
+      (leave_sound es cs ls heads shares moment h v k.share k.here k.entry k.is_of s k.at_slot))
+
+  pub drop_rules : map (option_map rule_of) (shares_without shares v (is_fixed_in (entry_at es s)) (links_at ls s)) ≡ map (option_map rule_of) shares
+  drop_rules =
+      ap (map (option_map rule_of)) shares_are
+      ∙ rules_stay shares v k.share (share_without fixed (links_at ls s) k.share) k.here (rule_of-with_line k.share fixed (ends_without (line_at k.share fixed) (links_at ls s)) (k.share.count - 1))
+
+  pub drop_room : HasRoom (rule_at (map (option_map rule_of) shares) v) (kept_count v (set es s None))
+  drop_room = subst (λ o. HasRoom o (kept_count v (set es s None))) (sym (rule_is shares v k.share k.here)) (leave_few es cs ls heads shares moment h v k.share k.here k.entry k.is_of s k.at_slot)
+
+  pub drop_lacks : (mac : List ℕ) → IfHeld (entry_at es s) v mac → Lacks (set es s None) v mac
+  drop_lacks mac held = leave_lacks es cs ls heads shares moment h v k.share k.here k.entry k.is_of s k.at_slot mac (subst (λ o. IfHeld o v mac) k.at_slot held).1
+
+  -- the segment keeps its share
+  pub drop_share : IsSome (share_at (shares_without shares v (is_fixed_in (entry_at es s)) (links_at ls s)) v)
+  drop_share = subst (λ xs. IsSome (share_at xs v)) (sym shares_are) (subst (λ (o : Option Share). IsSome o) (sym (get_or-set_same shares v (Some (share_without fixed (links_at ls s) k.share)) None in_range)) refl)
+    where
+      in_range : v < length shares
+      in_range = from (cases_lt v (length shares))
+        where
+          from : (v < length shares) ⊎ (length shares ≤ v) → v < length shares
+          from (inl lt) = lt
+          from (inr le) = let bad : None ≡ Some k.share = sym (get_or_past shares v None le) ∙ k.here in cc

@@ -1,0 +1,15 @@
+pub mod SlotsLemmas
+pub mod Linked
+pub mod Threaded
+pub mod Walk
+pub mod SoundLemmas
+pub mod Entering
+pub mod Leaving
+pub mod Dropping
+pub mod OpenedLemmas
+pub mod Tabled
+pub mod SegmentsLemmas
+pub mod CallLemmas
+pub mod WorkLemmas
+pub mod Passing
+pub mod Sweeping

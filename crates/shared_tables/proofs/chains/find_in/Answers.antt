@@ -1,0 +1,31 @@
+use Rattle.std.proofs.Common.{◌≡◌, ℕ, ◌<◌, length, true, false, Option, IsSome, sym, ap, ◌∙◌, subst}
+use Rattle.shared_tables.specs.Pool.{Pool, entry_at}
+use Rattle.shared_tables.proofs.Walk.{Walks, walk_starts, walk_on, walk_ends, stands_in, stands_held}
+use Rattle.shared_tables.proofs.chains.find_in.Goals as goal
+
+pub loop-cursor-init : goal.loop-cursor-init
+loop-cursor-init c = walk_starts c.args.slots.now c.args.vid c.args.mac c.args.first c.requires
+
+pub same-requires : goal.same-requires
+same-requires c =
+    let at = subst (λ (o : Option ℕ). Walks c.args.slots.now c.loop-cursor.slots c.args.vid c.args.mac o) c.in-Some.is c.loop-cursor.invariant in
+    record { in_pool = stands_in c.args.slots.now c.loop-cursor.slots c.args.vid c.args.mac c.in-Some.slot at }
+
+pub links-cursor-requires-clause-in_pool : goal.links-cursor-requires-clause-in_pool
+links-cursor-requires-clause-in_pool c =
+    let at = subst (λ (o : Option ℕ). Walks c.args.slots.now c.loop-cursor.slots c.args.vid c.args.mac o) c.in-Some.is c.loop-cursor.invariant in
+    subst (λ (p : Pool). c.in-Some.slot < length p.entries) (sym c.same.ensures.pool) (stands_in c.args.slots.now c.loop-cursor.slots c.args.vid c.args.mac c.in-Some.slot at)
+
+pub links-cursor-requires-clause-held : goal.links-cursor-requires-clause-held
+links-cursor-requires-clause-held c =
+    let at = subst (λ (o : Option ℕ). Walks c.args.slots.now c.loop-cursor.slots c.args.vid c.args.mac o) c.in-Some.is c.loop-cursor.invariant in
+    subst (λ (p : Pool). IsSome (entry_at p.entries c.in-Some.slot)) (sym c.same.ensures.pool) (stands_held c.args.slots.now c.loop-cursor.slots c.args.vid c.args.mac c.in-Some.slot at)
+
+pub loop-cursor-preserved : goal.loop-cursor-preserved
+loop-cursor-preserved c =
+    let at = subst (λ (o : Option ℕ). Walks c.args.slots.now c.loop-cursor.slots c.args.vid c.args.mac o) c.in-Some.is c.loop-cursor.invariant in
+    subst (λ (o : Option ℕ). Walks c.args.slots.now c.same.new.self c.args.vid c.args.mac o) (sym (ap (λ l. l.next) c.links-cursor.ensures))
+    (walk_on c.args.slots.now c.loop-cursor.slots c.args.vid c.args.mac c.in-Some.slot at c.same.new.self c.same.ensures.pool (λ h. let yes : c.same.result ≡ true = c.same.ensures.same.1 h in let bad : true ≡ false = sym yes ∙ c.if-same.false in cc))
+
+pub returns-clause-none : goal.returns-clause-none
+returns-clause-none c = walk_ends c.args.slots.now c.loop-cursor.slots c.args.vid c.args.mac (subst (λ (o : Option ℕ). Walks c.args.slots.now c.loop-cursor.slots c.args.vid c.args.mac o) c.in_default.is c.loop-cursor.invariant)

@@ -1,0 +1,7 @@
+use Rattle.shared_tables.proofs.SoundLemmas.{orderly}
+use Rattle.shared_tables.proofs.shared_tables.SharedTables.count_call.Goals as goal
+
+pub returns-clause-orderly : goal.returns-clause-orderly
+returns-clause-orderly c =
+    let i = c.self.inside in
+    orderly i.slots.entries i.slots.chains i.slots.lines i.heads.items i.shares.items i.moment _ _ _ c.self.invariant

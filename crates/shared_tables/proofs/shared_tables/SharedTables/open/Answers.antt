@@ -1,0 +1,29 @@
+use Rattle.std.proofs.Common.{◌∙◌, arith, map, refl, ap}
+use Rattle.std.specs.Option.{option_map}
+use Rattle.shared_tables.specs.Pool.{Pool}
+use Rattle.shared_tables.specs.Shared.{held_count}
+use Rattle.shared_tables.specs.Segments.{segments_of}
+use Rattle.shared_tables.specs.Sound.{rule_of}
+use Rattle.shared_tables.proofs.SoundLemmas.{sound_at}
+use Rattle.shared_tables.proofs.OpenedLemmas.{open_sound, segments_of_opened, none_held}
+use Rattle.shared_tables.proofs.shared_tables.SharedTables.open.Goals as goal
+
+pub invariant_of-result : goal.invariant_of-result
+invariant_of-result c =
+    let pool = c.in_ok-new.ensures in let shares = c.in_ok-open_shares.field-0.items in
+    sound_at 0 (ap (λ (p : Pool). p.entries) pool) (ap (λ (p : Pool). p.chains) pool) (ap (λ (p : Pool). p.lines) pool) c.in_ok-no_heads.ensures refl
+    (open_sound c.args.pool c.args.rules.now shares c.in_ok-open_shares.ensures c.requires.room)
+
+pub returns : goal.returns
+returns c =
+    let pool = c.in_ok-new.ensures in let shares = c.in_ok-open_shares.field-0.items in
+    record {
+      segments = ap (λ (p : Pool). segments_of (record { entries = p.entries; rules = map (option_map rule_of) shares; moment = 0; calls = c.zero.result.total; compared = p.compared; visited = p.visited })) pool
+          ∙ segments_of_opened c.args.pool c.args.rules.now shares c.zero.result.total 0 0 c.in_ok-open_shares.ensures;
+      moment = refl;
+      slots = ap (λ (p : Pool). p.entries) pool;
+      calls = c.zero.ensures;
+      compared = ap (λ (p : Pool). p.compared) pool;
+      visited = ap (λ (p : Pool). p.visited) pool;
+      paid = omega (arith, ap (λ (p : Pool). p.visited) pool, ap (λ (p : Pool). held_count p.entries) pool, none_held c.args.pool);
+    }

@@ -1,0 +1,11 @@
+pub mod Bucket
+pub mod Line
+pub mod Opened
+pub mod Pool
+pub mod Segments
+pub mod Shared
+pub mod SharedInside
+pub mod Slots
+pub mod Sound
+pub mod Threads
+pub mod Work

@@ -1,0 +1,94 @@
+-- What holds of the slots, the chains' heads and the segments together.
+use Rattle.std.specs.Prelude.{◌≡◌, ℕ, ◌+◌, ◌-◌, ◌<◌, ◌≤◌, Bool, true, false, List, [], ◌∷◌, length, Option, Some, None, slice_index_or, slice_set}
+use Rattle.std.specs.Option.{option_map}
+use Rattle.std.specs.List.{sum_by}
+use Rattle.shared_tables.specs.declared.slots.Held.{Held}
+use Rattle.shared_tables.specs.declared.slots.Links.{Links}
+use Rattle.shared_tables.specs.declared.threads.Ends.{Ends}
+use Rattle.shared_tables.specs.declared.share.Share.{Share}
+use Rattle.shared_tables.specs.Pool.{free_count}
+use Rattle.shared_tables.specs.Threads.{ends_without}
+use Rattle.shared_tables.specs.Line.{last_of, IsThread}
+use Rattle.shared_tables.specs.Shared.{Rule, chain_key, line_key, last_at, IsUnique}
+
+-- the first slot of a chain
+abbrev pub head_at : List (Option ℕ) → ℕ → Option ℕ
+head_at heads bucket = slice_index_or heads bucket None
+
+-- the share of a segment
+abbrev pub share_at : List (Option Share) → ℕ → Option Share
+share_at shares vid = slice_index_or shares vid None
+
+-- the ends of the list of the fixed entries, or of the age queue
+abbrev pub line_at : Share → Bool → Ends
+line_at share true = share.fixed
+line_at share false = share.queue
+
+-- a share with another line
+abbrev pub with_line : Share → Bool → Ends → Share
+with_line share true ends = record share { fixed = ends }
+with_line share false ends = record share { queue = ends }
+
+-- how many entries a share counts
+abbrev pub share_count : Option Share → ℕ
+share_count None = 0
+share_count (Some share) = share.count
+
+-- the most that it may count
+abbrev pub share_limit : Option Share → ℕ
+share_limit None = 0
+share_limit (Some share) = share.limit
+
+-- the rule of a share
+abbrev pub rule_of : Share → Rule
+rule_of share = record { limit = share.limit; ageing = share.ageing }
+
+-- the share counts an entry
+abbrev pub CountsSome : Option Share → Type 0
+CountsSome None = ⊥
+CountsSome (Some share) = 0 < share.count
+
+-- the shares without an entry that had these neighbours on its line
+abbrev pub share_without : Bool → Links → Share → Share
+share_without fixed own share = record (with_line share fixed (ends_without (line_at share fixed) own)) { count = share.count - 1 }
+
+-- a share in place of another; where there is none, nothing
+abbrev pub share_written : List (Option Share) → ℕ → Option Share → List (Option Share)
+share_written shares vid None = shares
+share_written shares vid (Some share) = slice_set shares vid (Some share)
+
+-- the shares when an entry has left its line
+abbrev pub shares_without : List (Option Share) → ℕ → Bool → Links → List (Option Share)
+shares_without shares vid fixed own = share_written shares vid (option_map (share_without fixed own) (share_at shares vid))
+
+-- the entries were last seen in this order, from one moment to another
+abbrev pub IsAged : List (Option Held) → ℕ → List ℕ → ℕ → Type 0
+IsAged entries low [] high = low ≤ high
+IsAged entries low (i ∷ is) high = (low ≤ last_at entries i) × IsAged entries (last_at entries i) is high
+
+-- the two lines of a segment
+pub record IsLines (entries : List (Option Held)) (lines : List Links) (vid : ℕ) (share : Share) (moment : ℕ) : Type 0 where
+  pub list : Bool → List ℕ
+  pub thread : (fixed : Bool) → IsThread lines entries (line_key vid fixed) (line_at share fixed).first (line_at share fixed).last (list fixed)
+  pub aged : IsAged entries 0 (list false) moment
+  pub count : share.count ≡ length (list true) + length (list false)
+  pub limit : share.count ≤ share.limit
+  pub some_time : 0 < share.ageing
+
+-- the chain of a bucket
+pub record IsChain (entries : List (Option Held)) (chains : List Links) (bucket : ℕ) (first : Option ℕ) : Type 0 where
+  pub list : List ℕ
+  pub thread : IsThread chains entries (chain_key bucket) first (last_of list None) list
+
+-- each slot is free, or on the chain of its bucket and on one line of its segment; there are as many slots as the
+-- limits promise
+pub record IsSound (entries : List (Option Held)) (chains lines : List Links) (heads : List (Option ℕ)) (shares : List (Option Share)) (moment : ℕ) : Type 0 where
+  pub chain_links : length chains ≡ length entries
+  pub line_links : length lines ≡ length entries
+  pub heads_length : length heads ≡ 4096
+  pub shares_length : length shares ≡ 4096
+  pub chained : (b : ℕ) → b < 4096 → IsChain entries chains b (head_at heads b)
+  pub lined : (vid : ℕ) (share : Share) → share_at shares vid ≡ Some share → IsLines entries lines vid share moment
+  pub unique : IsUnique entries
+  pub free : free_count entries + sum_by share_count shares ≡ length entries
+  pub room : sum_by share_limit shares ≤ length entries

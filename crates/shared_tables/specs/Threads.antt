@@ -1,0 +1,65 @@
+-- What the steps on a thread do to the slots' links.
+use Rattle.std.specs.Prelude.{ℕ, ◌<◌, List, length, Option, Some, None, IsSome, IfSome, slice_set, is_none, if◌then◌else◌}
+use Rattle.shared_tables.specs.declared.slots.Links.{Links}
+use Rattle.shared_tables.specs.declared.slots.Held.{Held}
+use Rattle.shared_tables.specs.declared.threads.Ends.{Ends}
+use Rattle.shared_tables.specs.Pool.{Pool, links_at, entry_at, alone}
+
+-- a slot of the pool that holds an entry
+pub record IsHeld (entries : List (Option Held)) (slot : ℕ) : Type 0 where
+  pub in_pool : slot < length entries
+  pub held : IsSome (entry_at entries slot)
+
+-- the slot, where there is one, holds an entry
+abbrev pub HoldsAny : List (Option Held) → Option ℕ → Type 0
+HoldsAny entries slot = IfSome slot (IsHeld entries)
+
+-- another next one
+abbrev pub next_set : List Links → Option ℕ → Option ℕ → List Links
+next_set links None next = links
+next_set links (Some slot) next = slice_set links slot (record { previous = (links_at links slot).previous; next = next })
+
+-- another previous one
+abbrev pub previous_set : List Links → Option ℕ → Option ℕ → List Links
+previous_set links None previous = links
+previous_set links (Some slot) previous = slice_set links slot (record { previous = previous; next = (links_at links slot).next })
+
+-- without a slot: its neighbours are each other's
+abbrev pub unlinked : List Links → ℕ → List Links
+unlinked links slot =
+    let own = links_at links slot in
+    previous_set (next_set links own.previous own.next) own.next own.previous
+
+-- with a slot behind the last
+abbrev pub pushed_back : List Links → Option ℕ → ℕ → List Links
+pushed_back links last slot = next_set (slice_set links slot (record { previous = last; next = None })) last (Some slot)
+
+-- with a slot before the first
+abbrev pub pushed_front : List Links → Option ℕ → ℕ → List Links
+pushed_front links first slot = previous_set (slice_set links slot (record { previous = None; next = first })) first (Some slot)
+
+-- the ends without a slot that had these neighbours
+abbrev pub ends_without : Ends → Links → Ends
+ends_without ends own = record {
+  first = if is_none own.previous then own.next else ends.first;
+  last = if is_none own.next then own.previous else ends.last;
+}
+
+-- the ends with a slot behind the last
+abbrev pub ends_with : Ends → ℕ → Ends
+ends_with ends slot = record {
+  first = if is_none ends.first then Some slot else ends.first;
+  last = Some slot;
+}
+
+-- the chains' heads without a slot of this bucket that had these neighbours
+abbrev pub heads_without : List (Option ℕ) → ℕ → Links → List (Option ℕ)
+heads_without heads bucket own = if is_none own.previous then slice_set heads bucket own.next else heads
+
+-- a pool where a slot has left its chain and its line, and is free
+abbrev pub dropped : Pool → ℕ → Pool
+dropped pool slot = record pool {
+  entries = slice_set pool.entries slot None;
+  chains = slice_set (unlinked pool.chains slot) slot alone;
+  lines = slice_set (unlinked pool.lines slot) slot alone;
+}

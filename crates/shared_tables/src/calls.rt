@@ -1,0 +1,195 @@
+//! The calls on the tables: the clauses of [`filter_db::Tables`], and beside them the work that each call does.
+ghost use Rattle.std.specs.Prelude.{◌≡◌, ◌↔◌, ◌≤◌, ◌+◌, ℕ, IsTrue, IsSome, IsErr, IsOk};
+ghost use Rattle.std.specs.FinMap.{len};
+ghost use Rattle.filter_db.specs.Table.{stands, learned_as, is_full, has_fixed};
+ghost use Rattle.filter_db.specs.Segment.{aged_all, segment_at, adjusted, learn_in, fix_in, unfix_in, flush_place_in, flush_in, set_ageing_in};
+ghost use Rattle.shared_tables.specs.Segments.{segments_of};
+ghost use Rattle.shared_tables.specs.Work.{ComparesFew, VisitsFew, Pays};
+
+use crate::{SharedTables, learning};
+use filter_db::{Learned, NotThere, Place, TableFull, Tables};
+use frame_view::{Mac, Vid};
+
+impl Tables for SharedTables {
+    ghost use Rattle.shared_tables.specs.Segments.{segments_of};
+
+    ghost segments = { segments_of };
+
+    ghost moment = { λ t. t.moment };
+
+    fn has(&self, vid: Vid) -> bool {
+        self.has_share(vid)
+    }
+
+    fn now(&self) -> u64 {
+        self.moment()
+    }
+
+    fn look(&mut self, vid: Vid, mac: Mac, now: u64) -> Option<Place>
+        requires has { IsSome (segments_of self.old vid) }
+        requires time { self.old.moment ≤ now }
+        ensures answer { let s = segment_at vid (aged_all now (segments_of self.old)) in
+            result ≡ stands mac s.entries }
+        ensures after { segments_of self.new ≡ segments_of self.old }
+        ensures moment { self.new.moment ≡ self.old.moment }
+        ensures calls { self.new.calls ≡ self.old.calls + 1 }
+        ensures entries { self.new.entries ≡ self.old.entries }
+        ensures compared { ComparesFew self.old self.new vid mac }
+        ensures visited { VisitsFew self.old self.new now }
+        ensures paid { Pays self.old self.new }
+    {
+        self.count_call();
+        let ageing = self.ageing(vid);
+        match self.find(vid, mac) {
+            Some(slot) => self.place_if_live(slot, ageing, now),
+            None => None,
+        }
+    }
+
+    fn learn(&mut self, vid: Vid, mac: Mac, place: Place, now: u64) -> Learned
+        requires has { IsSome (segments_of self.old vid) }
+        requires time { self.old.moment ≤ now }
+        ensures answer { let s = segment_at vid (aged_all now (segments_of self.old)) in
+            result ≡ learned_as s.limit place mac s.entries }
+        ensures after { segments_of self.new
+            ≡ adjusted vid (learn_in now place mac) (aged_all now (segments_of self.old)) }
+        ensures moment { self.new.moment ≡ now }
+        ensures calls { self.new.calls ≡ self.old.calls + 1 }
+        ensures compared { ComparesFew self.old self.new vid mac }
+        ensures visited { VisitsFew self.old self.new now }
+        ensures paid { Pays self.old self.new }
+    {
+        self.begin(now);
+        match self.find(vid, mac) {
+            Some(slot) => learning::relearn(self, vid, mac, slot, place),
+            None => {
+                if learning::admit(self, vid, mac, place, Some(now)) {
+                    Learned::New
+                } else {
+                    Learned::Full
+                }
+            }
+        }
+    }
+
+    fn fix(&mut self, vid: Vid, mac: Mac, place: Place, now: u64) -> Result<(), TableFull>
+        requires has { IsSome (segments_of self.old vid) }
+        requires time { self.old.moment ≤ now }
+        ensures full { let s = segment_at vid (aged_all now (segments_of self.old)) in
+            IsErr result ↔ IsTrue (is_full s.limit mac s.entries) }
+        ensures after { segments_of self.new
+            ≡ adjusted vid (fix_in place mac) (aged_all now (segments_of self.old)) }
+        ensures moment { self.new.moment ≡ now }
+        ensures calls { self.new.calls ≡ self.old.calls + 1 }
+        ensures compared { ComparesFew self.old self.new vid mac }
+        ensures visited { VisitsFew self.old self.new now }
+        ensures paid { Pays self.old self.new }
+    {
+        self.begin(now);
+        match self.find(vid, mac) {
+            Some(slot) => {
+                learning::refresh(self, vid, mac, slot, place, None);
+                Ok(())
+            }
+            None => {
+                if learning::admit(self, vid, mac, place, None) {
+                    Ok(())
+                } else {
+                    Err(TableFull)
+                }
+            }
+        }
+    }
+
+    fn unfix(&mut self, vid: Vid, mac: Mac, now: u64) -> Result<(), NotThere>
+        requires has { IsSome (segments_of self.old vid) }
+        requires time { self.old.moment ≤ now }
+        ensures there { let s = segment_at vid (aged_all now (segments_of self.old)) in
+            IsOk result ↔ IsTrue (has_fixed mac s.entries) }
+        ensures after { segments_of self.new
+            ≡ adjusted vid (unfix_in mac) (aged_all now (segments_of self.old)) }
+        ensures moment { self.new.moment ≡ now }
+        ensures calls { self.new.calls ≡ self.old.calls + 1 }
+        ensures compared { ComparesFew self.old self.new vid mac }
+        ensures visited { self.new.visited ≡ self.old.visited }
+        ensures paid { Pays self.old self.new }
+    {
+        self.begin(now);
+        match self.find(vid, mac) {
+            Some(slot) if self.is_fixed(slot) => {
+                self.release(vid, slot);
+                Ok(())
+            }
+            _ => Err(NotThere),
+        }
+    }
+
+    fn flush_place(&mut self, vid: Vid, place: Place, now: u64)
+        requires has { IsSome (segments_of self.old vid) }
+        requires time { self.old.moment ≤ now }
+        ensures after { segments_of self.new
+            ≡ adjusted vid (flush_place_in place) (aged_all now (segments_of self.old)) }
+        ensures moment { self.new.moment ≡ now }
+        ensures calls { self.new.calls ≡ self.old.calls + 1 }
+        ensures compared { self.new.compared ≡ self.old.compared }
+        ensures visited { self.new.visited ≡ self.old.visited }
+        ensures paid { Pays self.old self.new }
+    {
+        self.begin(now);
+        self.drop_place(vid, place);
+    }
+
+    fn flush(&mut self, vid: Vid, now: u64)
+        requires has { IsSome (segments_of self.old vid) }
+        requires time { self.old.moment ≤ now }
+        ensures after { segments_of self.new
+            ≡ adjusted vid flush_in (aged_all now (segments_of self.old)) }
+        ensures moment { self.new.moment ≡ now }
+        ensures calls { self.new.calls ≡ self.old.calls + 1 }
+        ensures compared { self.new.compared ≡ self.old.compared }
+        ensures visited { self.new.visited ≡ self.old.visited }
+        ensures paid { Pays self.old self.new }
+    {
+        self.begin(now);
+        learning::flush(self, vid);
+    }
+
+    fn set_ageing(&mut self, vid: Vid, seconds: u32, now: u64)
+        requires has { IsSome (segments_of self.old vid) }
+        requires time { self.old.moment ≤ now }
+        requires long_enough { 10 ≤ seconds }
+        requires not_too_long { seconds ≤ 1000000 }
+        ensures after { segments_of self.new
+            ≡ adjusted vid (set_ageing_in now seconds) (aged_all now (segments_of self.old)) }
+        ensures moment { self.new.moment ≡ now }
+        ensures calls { self.new.calls ≡ self.old.calls + 1 }
+        ensures compared { self.new.compared ≡ self.old.compared }
+        ensures visited { VisitsFew self.old self.new now }
+        ensures paid { Pays self.old self.new }
+    {
+        self.begin(now);
+        learning::sweep(self, vid);
+        self.set_seconds(vid, seconds);
+    }
+
+    fn live(&mut self, vid: Vid, now: u64) -> u32
+        requires has { IsSome (segments_of self.old vid) }
+        requires time { self.old.moment ≤ now }
+        ensures count { let s = segment_at vid (aged_all now (segments_of self.old)) in
+            result ≡ len s.entries }
+        ensures after { segments_of self.new ≡ aged_all now (segments_of self.old) }
+        ensures moment { self.new.moment ≡ now }
+        ensures calls { self.new.calls ≡ self.old.calls + 1 }
+        ensures compared { self.new.compared ≡ self.old.compared }
+        ensures visited { VisitsFew self.old self.new now }
+        ensures paid { Pays self.old self.new }
+    {
+        self.begin(now);
+        learning::sweep(self, vid);
+        self.kept(vid)
+    }
+
+    ghost use Rattle.shared_tables.specs.Segments as own;
+
+    ghost settled = { own.settled };
+}

@@ -1,0 +1,91 @@
+//! How entries come, stay and go: each step over the slots of one segment.
+ghost use Rattle.std.specs.Prelude.{◌≡◌, ℕ, IsSome, Some, None, Option};
+ghost use Rattle.shared_tables.specs.Pool.{entry_at, IfHeld};
+ghost use Rattle.shared_tables.specs.Threads.{IsHeld};
+ghost use Rattle.shared_tables.specs.Shared.{rule_at, Lacks, IsNow, span_of, Sweeps, Refreshes, Admits, Relearns, Flushes};
+
+use crate::SharedTables;
+use crate::slots::SlotId;
+use filter_db::{Learned, Place};
+use frame_view::{Mac, Vid};
+
+/// Lets the dead entries of a segment go, from the front of its age queue.
+pub fn sweep(tables: &mut SharedTables, vid: Vid)
+    requires { IsSome (rule_at tables.old.rules vid) }
+    ensures { Sweeps tables.old tables.new vid (span_of (rule_at tables.old.rules vid)) }
+{
+    let ageing = tables.ageing(vid);
+    while let Some(slot) = tables.oldest(vid) {
+        if !tables.dead(slot, ageing) {
+            return;
+        }
+        tables.release(vid, slot);
+    }
+}
+
+/// Lets all learned entries of a segment go.
+pub fn flush(tables: &mut SharedTables, vid: Vid)
+    requires { IsSome (rule_at tables.old.rules vid) }
+    ensures { Flushes tables.old tables.new vid }
+{
+    while let Some(slot) = tables.oldest(vid) {
+        tables.release(vid, slot);
+    }
+}
+
+/// Puts another entry of an address in place of one: it goes to the end of the queue, or of the list of the fixed.
+pub fn refresh(
+    tables: &mut SharedTables,
+    vid: Vid,
+    mac: Mac,
+    slot: SlotId,
+    place: Place,
+    last: Option<u64>,
+)
+    requires held { IfHeld (entry_at tables.old.entries slot) vid mac }
+    requires rule { IsSome (rule_at tables.old.rules vid) }
+    requires now { IsNow last tables.old.moment }
+    ensures { Refreshes tables.old tables.new slot (record { vid = vid; mac = mac; place = place; last = last }) }
+{
+    tables.release(vid, slot);
+    tables.enter(vid, mac, place, last);
+}
+
+/// Makes an entry for an address that no slot holds; false where the segment has no room for it.
+pub fn admit(tables: &mut SharedTables, vid: Vid, mac: Mac, place: Place, last: Option<u64>) -> bool
+    requires rule { IsSome (rule_at tables.old.rules vid) }
+    requires absent { Lacks tables.old.entries vid mac }
+    requires now { IsNow last tables.old.moment }
+    ensures { Admits tables.old tables.new vid (span_of (rule_at tables.old.rules vid)) (record { vid = vid; mac = mac; place = place; last = last }) result }
+{
+    sweep(tables, vid);
+    if tables.kept(vid) >= tables.limit(vid) {
+        return false;
+    }
+    tables.enter(vid, mac, place, last);
+    true
+}
+
+/// Learns an address that a slot holds.
+pub fn relearn(tables: &mut SharedTables, vid: Vid, mac: Mac, slot: SlotId, place: Place) -> Learned
+    requires held { IfHeld (entry_at tables.old.entries slot) vid mac }
+    requires in_pool { IsHeld tables.old.entries slot }
+    requires rule { IsSome (rule_at tables.old.rules vid) }
+    ensures { Relearns tables.old tables.new slot (span_of (rule_at tables.old.rules vid)) (record { vid = vid; mac = mac; place = place; last = Some tables.old.moment }) result }
+{
+    if tables.is_fixed(slot) {
+        return Learned::Fixed;
+    }
+    let ageing = tables.ageing(vid);
+    let stays = tables.stands_at(slot, place);
+    let dead = tables.dead(slot, ageing);
+    let now = tables.moment();
+    refresh(tables, vid, mac, slot, place, Some(now));
+    if dead {
+        Learned::New
+    } else if stays {
+        Learned::Refreshed
+    } else {
+        Learned::Moved
+    }
+}

@@ -1,0 +1,42 @@
+//! What new tables begin with.
+ghost use Rattle.std.specs.Prelude.{◌≡◌, ℕ, IfOk, None, Option, All, replicate};
+ghost use Rattle.filter_db.specs.Segment.{IsRule, AreForDistinctVids};
+ghost use Rattle.shared_tables.specs.Opened.{AreOpened};
+
+use crate::bucket::BUCKETS;
+use crate::share::{self, Share, VIDS};
+use crate::slots::SlotId;
+use crate::threads::NO_ENDS;
+use filter_db::TableRule;
+use std::alloc::{AllocError, Global};
+
+/// The heads of empty chains.
+pub fn no_heads(alloc: Global) -> Result<Vec<Option<SlotId>>, AllocError>
+    ensures { IfOk result (λ v. v.items ≡ replicate 4096 None) }
+{
+    let heads = vec![in alloc; None; BUCKETS]?;
+    Ok(heads)
+}
+
+/// Empty shares for these rules.
+pub fn open_shares(alloc: Global, rules: &[TableRule]) -> Result<Vec<Option<Share>>, AllocError>
+    requires distinct { AreForDistinctVids rules.now }
+    requires in_range { All IsRule rules.now }
+    ensures { IfOk result (λ v. AreOpened rules.now v.items) }
+{
+    let mut shares = vec![in alloc; None; VIDS]?;
+    for rule in rules {
+        share::set_share(
+            &mut shares,
+            rule.vid,
+            Share {
+                limit: u32::from(rule.limit),
+                ageing: rule.ageing,
+                count: 0,
+                queue: NO_ENDS,
+                fixed: NO_ENDS,
+            },
+        );
+    }
+    Ok(shares)
+}

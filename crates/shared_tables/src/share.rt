@@ -1,0 +1,72 @@
+//! What the pool keeps of each segment.
+ghost use Rattle.std.specs.Prelude.{◌≡◌, ℕ, ◌<◌, Some, None, Option, slice_set, vec_len};
+ghost use Rattle.shared_tables.specs.Sound.{line_at, with_line, share_at};
+
+use crate::threads::Ends;
+use frame_view::Vid;
+
+/// As many as there are values of 12 bits.
+pub const VIDS: usize = 4096;
+
+/// A segment's share of the pool.
+#[derive(Clone, Copy)]
+pub struct Share {
+    /// The most entries that it may have.
+    pub limit: u32,
+    /// For how many seconds a learned entry is live.
+    pub ageing: u32,
+    /// How many entries it has, dead ones included.
+    pub count: u32,
+    /// The ends of its age queue: its learned entries, in the order in which they were last seen. An entry goes behind
+    /// the others when it is seen, and leaves when it is forgotten, or fixed.
+    pub queue: Ends,
+    /// The ends of the list of its fixed entries.
+    pub fixed: Ends,
+}
+
+/// The list of the fixed entries, or the age queue.
+pub fn line_of(share: &Share, fixed: bool) -> Ends
+    ensures { result ≡ line_at share.now fixed }
+{
+    if fixed { share.fixed } else { share.queue }
+}
+
+/// The share with another line and another count.
+pub fn with_line_of(share: &Share, fixed: bool, ends: Ends, count: u32) -> Share
+    ensures { result ≡ record (with_line share.now fixed ends) { count = count } }
+{
+    if fixed {
+        Share {
+            limit: share.limit,
+            ageing: share.ageing,
+            count,
+            queue: share.queue,
+            fixed: ends,
+        }
+    } else {
+        Share {
+            limit: share.limit,
+            ageing: share.ageing,
+            count,
+            queue: ends,
+            fixed: share.fixed,
+        }
+    }
+}
+
+/// The share of a VID's segment.
+pub fn share_at(shares: &Vec<Option<Share>>, vid: Vid) -> Option<Share>
+    requires { vec_len shares.now ≡ 4096 }
+    ensures { result ≡ share_at shares.now.items vid }
+{
+    shares[usize::from(vid.get())]
+}
+
+/// Writes the share of a VID's segment.
+pub fn set_share(shares: &mut Vec<Option<Share>>, vid: Vid, share: Share)
+    requires { vec_len shares.old ≡ 4096 }
+    ensures items { shares.new.items ≡ slice_set shares.old.items vid (Some share) }
+    ensures in_range { vid < 4096 }
+{
+    shares[usize::from(vid.get())] = Some(share);
+}

@@ -1,0 +1,333 @@
+//! The tables of all segments in one pool of slots.
+ghost use Rattle.std.specs.Prelude.{◌≡◌, ℕ, ◌+◌, ◌<◌, ◌≤◌, ◌↔◌, IsTrue, IfOk, IfSome, IfNone, IsSome, Some, None, Option, List, All, length, replicate, slice_set};
+ghost use Rattle.std.specs.List.{sum_by};
+ghost use Rattle.filter_db.specs.declared.tables.TableRule.{TableRule};
+ghost use Rattle.filter_db.specs.Place.{same_place};
+ghost use Rattle.filter_db.specs.Segment.{IsRule, AreForDistinctVids, new_segments};
+ghost use Rattle.shared_tables.specs.Pool.{entry_at, IfHeld, is_dead_in, is_fixed_in};
+ghost use Rattle.shared_tables.specs.Threads.{IsHeld};
+ghost use Rattle.shared_tables.specs.Shared.{rule_at, Lacks, kept_count, bucket_count, IsNow, HasRoom, Enters, IsOf, span_of, NoneAges, IsOldest, IsOrderly, live_place, with_ageing, DropsPlace, stands_at};
+ghost use Rattle.shared_tables.specs.Segments.{segments_of};
+ghost use Rattle.shared_tables.specs.Bucket.{bucket_of};
+ghost use Rattle.shared_tables.specs.Work.{IsPaid};
+
+use crate::bucket::bucket;
+use crate::chains::find_in;
+use crate::entries::drop_entry;
+use crate::opening::{no_heads, open_shares};
+use crate::share::{self, Share};
+use crate::slots::{SlotId, Slots, Thread};
+use crate::threads;
+#[cfg(test)]
+use crate::threads::Ends;
+use filter_db::{Place, TableRule};
+use frame_view::{Mac, Vid};
+use std::alloc::{AllocError, Global};
+use std::marker::Model;
+#[cfg(test)]
+use std::test::Fail;
+use work_count::Count;
+
+/// The tables of all segments, in one pool of slots. No call but `open` takes memory.
+#[derive(Drop)]
+pub struct SharedTables {
+    slots: Slots,
+    /// For each bucket the first slot of its chain: an entry is put before the others when it comes, and leaves when
+    /// it goes.
+    heads: Vec<Option<SlotId>>,
+    /// At the place of each VID the share of its segment.
+    shares: Vec<Option<Share>>,
+    moment: u64,
+    /// The calls that may change something, refused ones too.
+    calls: Count,
+}
+
+impl Model for SharedTables {
+    ghost use Rattle.shared_tables.specs.Shared.{Shared};
+
+    ghost Value = { Shared };
+
+    ghost use Rattle.shared_tables.specs.SharedInside.{shared_of, IsSoundInside};
+
+    ghost view = { shared_of };
+
+    ghost invariant = { IsSoundInside };
+}
+
+impl SharedTables {
+    /// Empty tables, one for each rule, over a pool of this many slots, at moment 0. The rules are for distinct VIDs,
+    /// with limits of 1 to 8,192 and ageings of 10 to 1,000,000 seconds; the limits together are no more than the
+    /// slots, and those at most 65,536. `AllocError`: a growth was refused.
+    pub fn open(alloc: Global, rules: &[TableRule], pool: u32) -> Result<SharedTables, AllocError>
+        requires distinct { AreForDistinctVids rules.now }
+        requires in_range { All IsRule rules.now }
+        requires room { sum_by (λ (rule : TableRule). rule.limit) rules.now ≤ pool }
+        requires size { pool ≤ 65536 }
+        ensures segments { IfOk result (λ t. segments_of t ≡ new_segments rules.now) }
+        ensures moment { IfOk result (λ t. t.moment ≡ 0) }
+        ensures slots { IfOk result (λ t. t.entries ≡ replicate pool None) }
+        ensures calls { IfOk result (λ t. t.calls ≡ 0) }
+        ensures compared { IfOk result (λ t. t.compared ≡ 0) }
+        ensures visited { IfOk result (λ t. t.visited ≡ 0) }
+        ensures paid { IfOk result IsPaid }
+    {
+        Ok(SharedTables {
+            slots: Slots::new(alloc, pool)?,
+            heads: no_heads(alloc)?,
+            shares: open_shares(alloc, rules)?,
+            moment: 0,
+            calls: Count::zero(),
+        })
+    }
+
+    /// Whether a VID has a segment.
+    pub(crate) fn has_share(&self, vid: Vid) -> bool
+        ensures { IsTrue result ↔ IsSome (rule_at self.now.rules vid) }
+    {
+        share::share_at(&self.shares, vid).is_some()
+    }
+
+    /// The latest moment that a call brought.
+    pub(crate) fn moment(&self) -> u64
+        ensures { result ≡ self.now.moment }
+    {
+        self.moment
+    }
+
+    /// Counts a call that leaves the moment.
+    pub(crate) fn count_call(&mut self)
+        ensures after { self.new ≡ record self.old { calls = self.old.calls + 1 } }
+        ensures orderly { IsOrderly self.new }
+    {
+        self.calls.tick();
+    }
+
+    /// Counts a call, which brings a moment.
+    pub(crate) fn begin(&mut self, now: u64)
+        requires { self.old.moment ≤ now }
+        ensures after { self.new ≡ record self.old { calls = self.old.calls + 1; moment = now } }
+        ensures orderly { IsOrderly self.new }
+    {
+        self.calls.tick();
+        self.moment = now;
+    }
+
+    /// The slot of an address.
+    pub(crate) fn find(&mut self, vid: Vid, mac: Mac) -> Option<SlotId>
+        ensures found { IfSome result (λ s. IfHeld (entry_at self.old.entries s) vid mac) }
+        ensures held { IfSome result (IsHeld self.old.entries) }
+        ensures none { IfNone result (Lacks self.old.entries vid mac) }
+        ensures same { self.new ≡ record self.old { compared = self.new.compared } }
+        ensures compared { self.new.compared ≤ self.old.compared + bucket_count (bucket_of vid mac) self.old.entries }
+    {
+        let first = threads::head(&self.heads, bucket(vid, mac));
+        find_in(&mut self.slots, first, vid, mac)
+    }
+
+    /// Takes a slot for a new entry: first on its bucket's chain, and last on its line.
+    pub(crate) fn enter(&mut self, vid: Vid, mac: Mac, place: Place, last: Option<u64>)
+        requires room { HasRoom (rule_at self.old.rules vid) (kept_count vid self.old.entries) }
+        requires absent { Lacks self.old.entries vid mac }
+        requires now { IsNow last self.old.moment }
+        ensures { Enters self.old self.new (record { vid = vid; mac = mac; place = place; last = last }) }
+    {
+        let bucket = bucket(vid, mac);
+        let fixed = last.is_none();
+        match share::share_at(&self.shares, vid) {
+            Some(share) => {
+                let slot = self.slots.take(vid, mac, place, last);
+                threads::enchain(&mut self.slots, &mut self.heads, bucket, slot);
+                let line = share::line_of(&share, fixed);
+                let ends = threads::push_back(&mut self.slots, line, slot);
+                let longer = share::with_line_of(&share, fixed, ends, share.count + 1);
+                share::set_share(&mut self.shares, vid, longer);
+            }
+            None => unreachable!(),
+        }
+    }
+
+    /// Lets an entry go.
+    pub(crate) fn release(&mut self, vid: Vid, slot: SlotId)
+        requires held { IsOf (entry_at self.old.entries slot) vid }
+        requires rule { IsSome (rule_at self.old.rules vid) }
+        ensures same { self.new ≡ record self.old { entries = slice_set self.old.entries slot None } }
+        ensures room { HasRoom (rule_at self.old.rules vid) (kept_count vid self.new.entries) }
+        ensures alone { (mac : List ℕ) → IfHeld (entry_at self.old.entries slot) vid mac → Lacks self.new.entries vid mac }
+    {
+        drop_entry(
+            &mut self.slots,
+            &mut self.heads,
+            &mut self.shares,
+            vid,
+            slot,
+        );
+    }
+
+    /// The number of a segment's entries, dead ones included.
+    pub(crate) fn kept(&self, vid: Vid) -> u32
+        requires { IsSome (rule_at self.now.rules vid) }
+        ensures { result ≡ kept_count vid self.now.entries }
+    {
+        match share::share_at(&self.shares, vid) {
+            Some(share) => share.count,
+            None => 0,
+        }
+    }
+
+    /// The limit of a segment.
+    pub(crate) fn limit(&self, vid: Vid) -> u32
+        requires { IsSome (rule_at self.now.rules vid) }
+        ensures { IfSome (rule_at self.now.rules vid) (λ rule. result ≡ rule.limit) }
+    {
+        match share::share_at(&self.shares, vid) {
+            Some(share) => share.limit,
+            None => 0,
+        }
+    }
+
+    /// The ageing of a segment, in nanoseconds.
+    pub(crate) fn ageing(&self, vid: Vid) -> u64
+        ensures { result ≡ span_of (rule_at self.now.rules vid) }
+    {
+        match share::share_at(&self.shares, vid) {
+            Some(share) => u64::from(share.ageing) * 1_000_000_000,
+            None => 0,
+        }
+    }
+
+    /// Gives a segment another ageing, in seconds.
+    pub(crate) fn set_seconds(&mut self, vid: Vid, seconds: u32)
+        requires rule { IsSome (rule_at self.old.rules vid) }
+        requires some_time { 0 < seconds }
+        ensures { self.new ≡ record self.old { rules = with_ageing self.old.rules vid seconds } }
+    {
+        if let Some(share) = share::share_at(&self.shares, vid) {
+            let other = Share {
+                limit: share.limit,
+                ageing: seconds,
+                count: share.count,
+                queue: share.queue,
+                fixed: share.fixed,
+            };
+            share::set_share(&mut self.shares, vid, other);
+        }
+    }
+
+    /// Whether a slot's entry is dead. The ageing is in nanoseconds.
+    pub(crate) fn dead(&mut self, slot: SlotId, ageing: u64) -> bool
+        requires { slot < length self.old.entries }
+        ensures dead { result ≡ is_dead_in (entry_at self.old.entries slot) ageing self.old.moment }
+        ensures same { self.new ≡ record self.old { visited = self.old.visited + 1 } }
+    {
+        self.slots.dead(slot, ageing, self.moment)
+    }
+
+    /// Where a slot's entry stands, if it is live. The ageing is in nanoseconds.
+    pub(crate) fn place_if_live(&mut self, slot: SlotId, ageing: u64, now: u64) -> Option<Place>
+        requires { IsHeld self.old.entries slot }
+        ensures place { result ≡ live_place (entry_at self.old.entries slot) ageing now }
+        ensures same { self.new ≡ record self.old { visited = self.old.visited + 1 } }
+    {
+        if self.slots.dead(slot, ageing, now) {
+            return None;
+        }
+        Some(self.slots.place(slot))
+    }
+
+    /// Whether a slot's entry is fixed.
+    pub(crate) fn is_fixed(&self, slot: SlotId) -> bool
+        requires { slot < length self.now.entries }
+        ensures { result ≡ is_fixed_in (entry_at self.now.entries slot) }
+    {
+        self.slots.is_fixed(slot)
+    }
+
+    /// Whether a slot's entry stands at a place.
+    pub(crate) fn stands_at(&self, slot: SlotId, place: Place) -> bool
+        requires { IsHeld self.now.entries slot }
+        ensures { result ≡ stands_at place (entry_at self.now.entries slot) }
+    {
+        self.slots.place(slot).is_same(place)
+    }
+
+    /// The entry of a segment's age queue that was seen first.
+    pub(crate) fn oldest(&self, vid: Vid) -> Option<SlotId>
+        requires { IsSome (rule_at self.now.rules vid) }
+        ensures none { IfNone result (NoneAges self.now.entries vid) }
+        ensures some { IfSome result (IsOldest self.now.entries vid) }
+    {
+        match share::share_at(&self.shares, vid) {
+            Some(share) => share.queue.first,
+            None => None,
+        }
+    }
+
+    /// Lets go what was learned at a place: it goes along the segment's age queue.
+    pub(crate) fn drop_place(&mut self, vid: Vid, place: Place)
+        requires { IsSome (rule_at self.old.rules vid) }
+        ensures { DropsPlace self.old self.new vid place }
+    {
+        let share = match share::share_at(&self.shares, vid) {
+            Some(share) => share,
+            None => return,
+        };
+        let mut cursor = share.queue.first;
+        for _entry in 0..share.count {
+            if let Some(slot) = cursor {
+                cursor = self.slots.links(Thread::Line, slot).next;
+                if self.slots.place(slot).is_same(place) {
+                    drop_entry(
+                        &mut self.slots,
+                        &mut self.heads,
+                        &mut self.shares,
+                        vid,
+                        slot,
+                    );
+                }
+            }
+        }
+    }
+}
+
+/// Each field of the tables and of a share by name: no address and no entry's moment stands beside the slots.
+#[test]
+fn keeps_no_address_beside_the_slots(rt: HostRuntime) -> Result<(), Fail> {
+    let rules = [TableRule {
+        vid: Vid::new(10).ok_or("VID 10")?,
+        limit: 1,
+        ageing: 10,
+    }];
+    let tables = SharedTables::open(rt.alloc(), &rules, 1)?;
+    let SharedTables {
+        slots: _,
+        heads,
+        shares,
+        moment,
+        calls: _,
+    } = &tables;
+    let heads: &Vec<Option<SlotId>> = heads;
+    let shares: &Vec<Option<Share>> = shares;
+    let moment: &u64 = moment;
+    assert_eq!(rt; heads.len(), 4096);
+    assert_eq!(rt; *moment, 0);
+    for share in shares {
+        if let Some(
+            Share {
+                limit,
+                ageing,
+                count,
+                queue: Ends { first, last: _ },
+                fixed: _,
+            },
+        ) = share
+        {
+            let first: &Option<SlotId> = first;
+            assert!(rt;
+                *limit == 1 && *ageing == 10 && *count == 0,
+                "the share of VID 10"
+            );
+            assert!(rt; first.is_none(), "an empty queue");
+        }
+    }
+    Ok(())
+}

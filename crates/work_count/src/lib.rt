@@ -1,0 +1,44 @@
+//! Counts of work done, for contracts alone.
+//!
+//! A [`Count`] is a number that contracts see and no octet keeps, so it has no upper end and costs nothing when a
+//! program runs. A type that holds one as a private field says by it how often some step was taken: the one method
+//! that takes the step ticks it, and each other one's contract says that the count stays.
+#![tactic(auto)]
+
+ghost use Rattle.std.specs.Prelude.{◌≡◌, ℕ, ◌+◌};
+
+use std::marker::{Model, PhantomData};
+
+/// A count. It takes no octets, and only `tick` changes it.
+pub struct Count {
+    marker: PhantomData<u8>,
+    pub ghost total: { ℕ },
+}
+
+impl Model for Count {
+    ghost use base.Fml.{ftrue};
+
+    ghost also_owns = { λ _. ftrue };
+}
+
+impl Count {
+    /// A count of zero.
+    pub fn zero() -> Count
+        ensures { result.total ≡ 0 }
+    {
+        Count {
+            marker: PhantomData,
+        }
+    }
+
+    /// Counts one more.
+    pub fn tick(&mut self)
+        ensures { self.new.total ≡ self.old.total + 1 }
+    {}
+}
+
+impl Drop for Count {
+    fn drop(self) {
+        let Count { marker: _ } = self;
+    }
+}

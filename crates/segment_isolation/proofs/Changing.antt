@@ -1,0 +1,264 @@
+-- What a change makes of what a segment sees.
+use Rattle.std.proofs.Common.{◌≡◌, ℕ, ◌-◌, ◌==◌, Bool, true, false, cond, [], ◌∷◌, ◌++◌, Option, Some, None, refl, sym, ap, ◌∙◌, subst}
+use Rattle.std.specs.Prelude.{is_none, is_some, slice_set, slice_index_or}
+use Rattle.std.specs.Option.{option_map, option_map_or, unwrap_or}
+use Rattle.std.specs.FinMap.{empty, get, insert}
+use Rattle.std.proofs.Math.Path.{fun_ext}
+use Rattle.std.proofs.lemmas.Bool.{false≢true, eqb-true, eq-eqb}
+use Rattle.flood_lists.specs.Flood.{Entries, without}
+use Rattle.vlan_ports.specs.Ports.{Ports, Members, no_port, members_at, has_segment, member_set, with_member}
+use Rattle.vlan_ports.specs.declared.member.Egress.{Egress}
+use Rattle.vlan_ports.specs.declared.port.PortRule.{PortRule}
+use Rattle.vlan_ports.proofs.PlacesLemmas.{get-insert_at, get-insert_same}
+use Rattle.underlay.specs.Overlay.{Segments, flooding, with_flood}
+use Rattle.underlay.specs.declared.segment.Segment.{Segment}
+use Rattle.overlay_config.specs.declared.change.Change.{Change}
+use Rattle.overlay_config.specs.declared.change.Change.TheVariants.{AddFlood, RemoveFlood, Fix, Unfix, SetAgeing, SetLearning, SetMember, PortUp, PortDown, Flush}
+use Rattle.endpoint_state.specs.declared.fault.ChangeFault.{ChangeFault}
+use Rattle.endpoint_state.specs.Settings.{Settings, BridgeSettings, SegmentSettings, segment_at}
+use Rattle.endpoint_state.specs.Change.{is_about, in_segment, refused, kind_in, with_flood_of, with_bridge, accepted, changed}
+use Rattle.segment_isolation.proofs.Finding.{tunnels}
+use Rattle.segment_isolation.proofs.Seeing.{Seen, seen, limit_of, own_by, own_of}
+
+use Rattle.segment_isolation.proofs.Refusing.{seen_named, seen_back, refused-same}
+
+-- ---- a flood list
+
+abbrev flooded : Entries → Segment → Segment
+flooded flood g = record g { flood = flood }
+
+chosen_some : (segments : Segments) (v : ℕ) (g : Segment) (w : ℕ) → get (insert segments v g) w ≡ cond (w == v) (Some g) (get segments w)
+chosen_some segments v g w = get-insert_at segments v g w
+
+-- the segment itself
+flooding-own : (segments : Segments) (v : ℕ) (flood : Entries) → get (flooding segments v flood) v ≡ option_map (flooded flood) (get segments v)
+flooding-own segments v flood = by (get segments v) refl
+  where
+    by : (o : Option Segment) → get segments v ≡ o → get (option_map_or (λ g. insert segments v (flooded flood g)) o segments) v ≡ option_map (flooded flood) o
+    by None is = is
+    by (Some g) is = chosen_some segments v (flooded flood g) v ∙ ap (λ (b : Bool). cond b (Some (flooded flood g)) (get segments v)) (eq-eqb v v refl)
+
+-- another segment
+flooding-other : (segments : Segments) (v : ℕ) (flood : Entries) (w : ℕ) → (w == v) ≡ false → get (flooding segments v flood) w ≡ get segments w
+flooding-other segments v flood w other = by (get segments v)
+  where
+    by : (o : Option Segment) → get (option_map_or (λ g. insert segments v (flooded flood g)) o segments) w ≡ get segments w
+    by None = refl
+    by (Some g) = chosen_some segments v (flooded flood g) w ∙ ap (λ (b : Bool). cond b (Some (flooded flood g)) (get segments w)) other
+
+-- no tunnel changes
+flooding-tunnels : (segments : Segments) (v : ℕ) (flood : Entries) (w : ℕ) → option_map tunnels (get (flooding segments v flood) w) ≡ option_map tunnels (get segments w)
+flooding-tunnels segments v flood w = by (w == v) refl
+  where
+    kept : (o : Option Segment) → option_map tunnels (option_map (flooded flood) o) ≡ option_map tunnels o
+    kept None = refl
+    kept (Some g) = refl
+
+    by : (b : Bool) → (w == v) ≡ b → option_map tunnels (get (flooding segments v flood) w) ≡ option_map tunnels (get segments w)
+    by true same =
+        subst (λ (u : ℕ). option_map tunnels (get (flooding segments v flood) u) ≡ option_map tunnels (get segments u)) (sym (eqb-true w v same))
+        (ap (option_map tunnels) (flooding-own segments v flood) ∙ kept (get segments v))
+    by false other = ap (option_map tunnels) (flooding-other segments v flood w other)
+
+abbrev flooded_by : (SegmentSettings → Entries) → Option SegmentSettings → Seen → Seen
+flooded_by flood None x = x
+flooded_by flood (Some s) x = record {
+  underlay = x.underlay;
+  ports = x.ports;
+  stands = x.stands;
+  tunnels = x.tunnels;
+  limits = x.limits;
+  members = x.members;
+  segment = option_map (flooded (flood s)) x.segment;
+  bridge = x.bridge;
+}
+
+abbrev flood_set : Settings → ℕ → (SegmentSettings → Entries) → Option SegmentSettings → Settings
+flood_set S v flood o = option_map_or (λ s. let left : Settings = record S { overlay = with_flood S.overlay v (flood s) } in left) o S
+
+seen-flooded : (S : Settings) (v : ℕ) (flood : SegmentSettings → Entries) (o : Option SegmentSettings) → seen v (flood_set S v flood o) ≡ flooded_by flood o (seen v S)
+seen-flooded S v flood None = refl
+seen-flooded S v flood (Some s) = λ i. record {
+  underlay = S.overlay.underlay;
+  ports = S.ports.ports;
+  stands = (seen v S).stands;
+  tunnels = fun_ext (flooding-tunnels S.overlay.segments v (flood s)) i;
+  limits = (seen v S).limits;
+  members = (seen v S).members;
+  segment = flooding-own S.overlay.segments v (flood s) i;
+  bridge = S.bridges v;
+}
+
+seen-flooded_other : (vid v : ℕ) (S : Settings) (flood : SegmentSettings → Entries) (o : Option SegmentSettings) → (vid == v) ≡ false → seen vid (flood_set S v flood o) ≡ seen vid S
+seen-flooded_other vid v S flood None other = refl
+seen-flooded_other vid v S flood (Some s) other = λ i. record {
+  underlay = S.overlay.underlay;
+  ports = S.ports.ports;
+  stands = (seen vid S).stands;
+  tunnels = fun_ext (flooding-tunnels S.overlay.segments v (flood s)) i;
+  limits = (seen vid S).limits;
+  members = (seen vid S).members;
+  segment = flooding-other S.overlay.segments v (flood s) vid other i;
+  bridge = S.bridges vid;
+}
+
+flood-same : (v : ℕ) (S T : Settings) (flood : SegmentSettings → Entries) → seen v S ≡ seen v T → seen v (with_flood_of S v flood) ≡ seen v (with_flood_of T v flood)
+flood-same v S T flood h =
+    seen-flooded S v flood (segment_at S v)
+    ∙ ap (λ (x : Seen). flooded_by flood (own_of x) x) h
+    ∙ sym (seen-flooded T v flood (segment_at T v))
+
+-- ---- the rules of a bridge
+
+abbrev bridge_set : (BridgeSettings → BridgeSettings) → ℕ → ℕ → Option BridgeSettings → Option BridgeSettings
+bridge_set change v w o = cond (w == v) (option_map change o) o
+
+-- no limit changes
+limit-set : (change : BridgeSettings → BridgeSettings) → ((b : BridgeSettings) → (change b).limit ≡ b.limit) → (c : Bool) (o : Option BridgeSettings) → limit_of (cond c (option_map change o) o) ≡ limit_of o
+limit-set change keeps true None = refl
+limit-set change keeps true (Some b) = ap Some (keeps b)
+limit-set change keeps false o = refl
+
+seen-bridge : (vid v : ℕ) (S : Settings) (change : BridgeSettings → BridgeSettings) → ((b : BridgeSettings) → (change b).limit ≡ b.limit) → seen vid (with_bridge S v change) ≡ (let x : Seen = seen vid S in record x { bridge = bridge_set change v vid x.bridge })
+seen-bridge vid v S change keeps = λ i. record {
+  underlay = S.overlay.underlay;
+  ports = S.ports.ports;
+  stands = (seen vid S).stands;
+  tunnels = (seen vid S).tunnels;
+  limits = fun_ext (λ w. limit-set change keeps (w == v) (S.bridges w)) i;
+  members = (seen vid S).members;
+  segment = (seen vid S).segment;
+  bridge = bridge_set change v vid (S.bridges vid);
+}
+
+bridge-same : (vid v : ℕ) (S T : Settings) (change : BridgeSettings → BridgeSettings) → ((b : BridgeSettings) → (change b).limit ≡ b.limit) → seen vid S ≡ seen vid T → seen vid (with_bridge S v change) ≡ seen vid (with_bridge T v change)
+bridge-same vid v S T change keeps h =
+    seen-bridge vid v S change keeps
+    ∙ ap (λ (x : Seen). let y : Seen = record x { bridge = bridge_set change v vid x.bridge } in y) h
+    ∙ sym (seen-bridge vid v T change keeps)
+
+bridge-other : (vid v : ℕ) (S : Settings) (change : BridgeSettings → BridgeSettings) → ((b : BridgeSettings) → (change b).limit ≡ b.limit) → (vid == v) ≡ false → seen vid (with_bridge S v change) ≡ seen vid S
+bridge-other vid v S change keeps other =
+    seen-bridge vid v S change keeps
+    ∙ ap (λ (b : Bool). let x : Seen = seen vid S in let y : Seen = record x { bridge = cond b (option_map change x.bridge) x.bridge } in y) other
+
+-- ---- members
+
+-- with a port a member of it, or no member
+abbrev joining : ℕ → Option Egress → Option Members → Members
+joining port egress members = member_set (unwrap_or members empty) port egress
+
+abbrev joined_by : ℕ → Option Egress → Seen → Seen
+joined_by port egress x = record x { members = Some (joining port egress x.members) }
+
+abbrev with_members : Settings → ℕ → ℕ → Option Egress → Settings
+with_members S v port egress = record S { ports = with_member S.ports v port egress }
+
+member-own : (P : Ports) (v port : ℕ) (egress : Option Egress) → members_at (with_member P v port egress) v ≡ Some (joining port egress (members_at P v))
+member-own P v port egress = get-insert_same P.segments v (joining port egress (members_at P v))
+
+member-other : (P : Ports) (v port : ℕ) (egress : Option Egress) (w : ℕ) → (w == v) ≡ false → members_at (with_member P v port egress) w ≡ members_at P w
+member-other P v port egress w other =
+    get-insert_at P.segments v (joining port egress (members_at P v)) w
+    ∙ ap (λ (b : Bool). cond b (Some (joining port egress (members_at P v))) (get P.segments w)) other
+
+-- the segments stay
+member-stands : (P : Ports) (v port : ℕ) (egress : Option Egress) → is_some (members_at P v) ≡ true → (w : ℕ) → has_segment (with_member P v port egress) w ≡ has_segment P w
+member-stands P v port egress there w = by (w == v) refl
+  where
+    by : (b : Bool) → (w == v) ≡ b → has_segment (with_member P v port egress) w ≡ has_segment P w
+    by true same =
+        subst (λ (u : ℕ). has_segment (with_member P v port egress) u ≡ has_segment P u) (sym (eqb-true w v same))
+        (ap is_some (member-own P v port egress) ∙ sym there)
+    by false other = ap is_some (member-other P v port egress w other)
+
+seen-member : (v port : ℕ) (egress : Option Egress) (S : Settings) → is_some (members_at S.ports v) ≡ true → seen v (with_members S v port egress) ≡ joined_by port egress (seen v S)
+seen-member v port egress S there = λ i. record {
+  underlay = S.overlay.underlay;
+  ports = S.ports.ports;
+  stands = fun_ext (member-stands S.ports v port egress there) i;
+  tunnels = (seen v S).tunnels;
+  limits = (seen v S).limits;
+  members = member-own S.ports v port egress i;
+  segment = (seen v S).segment;
+  bridge = S.bridges v;
+}
+
+member_other : (vid v port : ℕ) (egress : Option Egress) (S : Settings) → is_some (members_at S.ports v) ≡ true → (vid == v) ≡ false → seen vid (with_members S v port egress) ≡ seen vid S
+member_other vid v port egress S there other = λ i. record {
+  underlay = S.overlay.underlay;
+  ports = S.ports.ports;
+  stands = fun_ext (member-stands S.ports v port egress there) i;
+  tunnels = (seen vid S).tunnels;
+  limits = (seen vid S).limits;
+  members = member-other S.ports v port egress vid other i;
+  segment = (seen vid S).segment;
+  bridge = S.bridges vid;
+}
+
+member_same : (v port : ℕ) (egress : Option Egress) (S T : Settings) → seen v S ≡ seen v T → is_some (members_at S.ports v) ≡ true → seen v (with_members S v port egress) ≡ seen v (with_members T v port egress)
+member_same v port egress S T h there =
+    seen-member v port egress S there
+    ∙ ap (joined_by port egress) h
+    ∙ sym (seen-member v port egress T (sym (ap (λ (x : Seen). is_some x.members) h) ∙ there))
+
+-- ---- ports
+
+abbrev ports_set : ℕ → Bool → Seen → Seen
+ports_set port up x = record x { ports = slice_set x.ports (port - 1) (let p : PortRule = slice_index_or x.ports (port - 1) no_port in record p { up = up }) }
+
+-- ---- the settings after a change that they don't refuse
+
+-- of a segment that isn't there nothing is asked
+there_where : (bridge : Option BridgeSettings) (segment : Option Segment) (members : Option Members) (next : SegmentSettings → Option ChangeFault) → is_none (in_segment (own_by bridge segment members) next) ≡ true → is_some members ≡ true
+there_where bridge segment (Some m) next h = refl
+there_where None segment None next h = absurd (false≢true h)
+there_where (Some b) None None next h = absurd (false≢true h)
+there_where (Some b) (Some g) None next h = absurd (false≢true h)
+
+accepted-same : (vid : ℕ) (S T : Settings) → seen vid S ≡ seen vid T → (c : Change) → is_about vid c ≡ true → is_none (refused S c) ≡ true → seen vid (accepted S c) ≡ seen vid (accepted T c)
+accepted-same vid S T h (AddFlood v addr tunnel) about taken =
+    seen_back vid v _ _ (flood-same v S T (λ s. s.flood ++ record { tunnel = kind_in s.tunnels tunnel; addr = addr } ∷ []) (seen_named vid v S T h about)) about
+accepted-same vid S T h (RemoveFlood v addr tunnel) about taken =
+    seen_back vid v _ _ (flood-same v S T (λ s. without s.flood (kind_in s.tunnels tunnel) addr) (seen_named vid v S T h about)) about
+accepted-same vid S T h (Fix v mac target) about taken = h
+accepted-same vid S T h (Unfix v mac) about taken = h
+accepted-same vid S T h (SetAgeing v seconds) about taken = bridge-same vid v S T (λ b. let left : BridgeSettings = record b { ageing = seconds } in left) (λ b. refl) h
+accepted-same vid S T h (SetLearning v on) about taken = bridge-same vid v S T (λ b. let left : BridgeSettings = record b { learning = on } in left) (λ b. refl) h
+accepted-same vid S T h (SetMember v port egress) about taken =
+    seen_back vid v _ _ (member_same v port egress S T (seen_named vid v S T h about) (there_where _ _ _ _ taken)) about
+accepted-same vid S T h (PortUp port) about taken = ap (ports_set port true) h
+accepted-same vid S T h (PortDown port) about taken = ap (ports_set port false) h
+accepted-same vid S T h (Flush v) about taken = h
+
+accepted-other : (vid : ℕ) (S : Settings) (c : Change) → is_about vid c ≡ false → is_none (refused S c) ≡ true → seen vid (accepted S c) ≡ seen vid S
+accepted-other vid S (AddFlood v addr tunnel) other taken = seen-flooded_other vid v S (λ s. s.flood ++ record { tunnel = kind_in s.tunnels tunnel; addr = addr } ∷ []) (segment_at S v) other
+accepted-other vid S (RemoveFlood v addr tunnel) other taken = seen-flooded_other vid v S (λ s. without s.flood (kind_in s.tunnels tunnel) addr) (segment_at S v) other
+accepted-other vid S (Fix v mac target) other taken = refl
+accepted-other vid S (Unfix v mac) other taken = refl
+accepted-other vid S (SetAgeing v seconds) other taken = bridge-other vid v S (λ b. let left : BridgeSettings = record b { ageing = seconds } in left) (λ b. refl) other
+accepted-other vid S (SetLearning v on) other taken = bridge-other vid v S (λ b. let left : BridgeSettings = record b { learning = on } in left) (λ b. refl) other
+accepted-other vid S (SetMember v port egress) other taken = member_other vid v port egress S (there_where _ _ _ _ taken) other
+accepted-other vid S (PortUp port) other taken = absurd (false≢true (sym other))
+accepted-other vid S (PortDown port) other taken = absurd (false≢true (sym other))
+accepted-other vid S (Flush v) other taken = refl
+
+-- ---- the settings after any change
+
+-- a change that is about the segment
+pub changed-same : (vid : ℕ) (S T : Settings) → seen vid S ≡ seen vid T → (c : Change) → is_about vid c ≡ true → seen vid (changed S c) ≡ seen vid (changed T c)
+changed-same vid S T h c about = by (is_none (refused S c)) (is_none (refused T c)) refl (ap is_none (refused-same vid S T h c about))
+  where
+    by : (b d : Bool) → is_none (refused S c) ≡ b → b ≡ d → seen vid (cond b (accepted S c) S) ≡ seen vid (cond d (accepted T c) T)
+    by true true is same = accepted-same vid S T h c about is
+    by false false is same = h
+    by true false is same = absurd (false≢true (sym same))
+    by false true is same = absurd (false≢true same)
+
+-- one that names another segment
+pub changed-other : (vid : ℕ) (S : Settings) (c : Change) → is_about vid c ≡ false → seen vid (changed S c) ≡ seen vid S
+changed-other vid S c other = by (is_none (refused S c)) refl
+  where
+    by : (b : Bool) → is_none (refused S c) ≡ b → seen vid (cond b (accepted S c) S) ≡ seen vid S
+    by true is = accepted-other vid S c other is
+    by false is = refl

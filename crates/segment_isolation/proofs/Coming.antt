@@ -1,0 +1,53 @@
+-- What comes to a segment is read by what that segment sees.
+use Rattle.std.proofs.Common.{◌≡◌, ℕ, Bool, true, false, cond, List, [], ◌∷◌, Option, Some, Result, Ok, Err, refl, sym, ap, ◌∙◌}
+use Rattle.std.specs.List.{AllByRecursion}
+use Rattle.frame_view.specs.First.{first}
+use Rattle.frame_view.specs.Frame.{Frame}
+use Rattle.frame_view.specs.declared.reason.Refused.{Refused}
+use Rattle.vlan_ports.specs.Ports.{Ports, has_segment, members_at}
+use Rattle.vlan_ports.specs.Ingress.{enters}
+use Rattle.underlay.specs.Overlay.{Overlay, segment_at}
+use Rattle.decapsulate.specs.declared.arrived.Arrived.{Arrived}
+use Rattle.decapsulate.specs.Arrival.{arrival_of}
+use Rattle.endpoint_core.specs.declared.arrival.Came.{Came}
+use Rattle.endpoint_core.specs.Arrival.{capture_reasons, unless, entered, tunnelled, came_at, came_by}
+use Rattle.segment_isolation.specs.Alone.{is_segment}
+use Rattle.segment_isolation.proofs.Entering.{segment_entered, enters-same}
+use Rattle.segment_isolation.proofs.Arriving.{segment_arrived, arrival-same}
+use Rattle.segment_isolation.proofs.Finding.{tunnels_at}
+
+-- the segment that it comes to, or that it is refused in
+abbrev pub segment_came : Result Came Refused → Option ℕ
+segment_came (Ok x) = Some x.vid
+segment_came (Err refused) = refused.segment
+
+by-entered : (port : ℕ) (r : Result (ℕ × Frame) Refused) → segment_came (entered port r) ≡ segment_entered r
+by-entered port (Ok found) = refl
+by-entered port (Err refused) = refl
+
+by-tunnelled : (r : Result Arrived Refused) → segment_came (tunnelled r) ≡ segment_arrived r
+by-tunnelled (Ok x) = refl
+by-tunnelled (Err refused) = refl
+
+-- of the refusals before it none is told of the segment
+unless-same : (vid : ℕ) (r s : Result Came Refused) → (is_segment vid (segment_came r) ≡ true → s ≡ r) → (rows : List (Refused × Bool)) → AllByRecursion (λ row. is_segment vid row.0.segment ≡ false) rows → is_segment vid (segment_came (unless (first rows) r)) ≡ true → unless (first rows) s ≡ unless (first rows) r
+unless-same vid r s same [] all own = same own
+unless-same vid r s same (row ∷ rows) all own = by row.1 (unless-same vid r s same rows all.1) own
+  where
+    by : (b : Bool) → (is_segment vid (segment_came (unless (first rows) r)) ≡ true → unless (first rows) s ≡ unless (first rows) r) → is_segment vid (segment_came (unless (cond b (Some row.0) (first rows)) r)) ≡ true → unless (cond b (Some row.0) (first rows)) s ≡ unless (cond b (Some row.0) (first rows)) r
+    by true rest is = refl
+    by false rest is = rest is
+
+-- by a local port
+pub came_at-same : (vid : ℕ) (P Q : Ports) → P.ports ≡ Q.ports → ((w : ℕ) → has_segment P w ≡ has_segment Q w) → members_at P vid ≡ members_at Q vid → (port original : ℕ) (b : List ℕ) → is_segment vid (segment_came (came_at P port original b)) ≡ true → came_at Q port original b ≡ came_at P port original b
+unfolding came_at
+came_at-same vid P Q ports stands members port original b own =
+    unless-same vid (entered port (enters P port b)) (entered port (enters Q port b))
+    (λ is. ap (entered port) (enters-same vid P Q ports stands members port b (sym (ap (is_segment vid) (by-entered port (enters P port b))) ∙ is)))
+    (capture_reasons original b) (refl, (refl, tt)) own
+
+-- by a tunnel
+pub came_by-same : (vid : ℕ) (S T : Overlay) → S.underlay ≡ T.underlay → ((w : ℕ) → tunnels_at S w ≡ tunnels_at T w) → segment_at S vid ≡ segment_at T vid → (original : ℕ) (b : List ℕ) → is_segment vid (segment_came (came_by S original b)) ≡ true → came_by T original b ≡ came_by S original b
+unfolding came_by
+came_by-same vid S T underlay alike here original b own =
+    ap tunnelled (arrival-same vid S T underlay alike here original b (sym (ap (is_segment vid) (by-tunnelled (arrival_of S original b))) ∙ own))

@@ -1,0 +1,12 @@
+pub mod Arriving
+pub mod Changing
+pub mod Coming
+pub mod Entering
+pub mod Finding
+pub mod Leaving
+pub mod Refusing
+pub mod Rows
+pub mod Running
+pub mod Seeing
+pub mod Shorts
+pub mod Stepping

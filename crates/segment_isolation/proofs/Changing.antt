@@ -19,7 +19,6 @@ use Rattle.endpoint_state.specs.Settings.{Settings, BridgeSettings, SegmentSetti
 use Rattle.endpoint_state.specs.Change.{is_about, in_segment, refused, kind_in, with_flood_of, with_bridge, accepted, changed}
 use Rattle.segment_isolation.proofs.Finding.{tunnels}
 use Rattle.segment_isolation.proofs.Seeing.{Seen, seen, limit_of, own_by, own_of}
-
 use Rattle.segment_isolation.proofs.Refusing.{seen_named, seen_back, refused-same}
 
 -- ---- a flood list

@@ -21,7 +21,7 @@ abbrev pub segment_came : Result Came Refused → Option ℕ
 segment_came (Ok x) = Some x.vid
 segment_came (Err refused) = refused.segment
 
-by-entered : (port : ℕ) (r : Result (ℕ × Frame) Refused) → segment_came (entered port r) ≡ segment_entered r
+pub by-entered : (port : ℕ) (r : Result (ℕ × Frame) Refused) → segment_came (entered port r) ≡ segment_entered r
 by-entered port (Ok found) = refl
 by-entered port (Err refused) = refl
 

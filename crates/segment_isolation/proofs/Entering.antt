@@ -31,7 +31,7 @@ vid_rows P port w stands egress =
     ∷ []
 
 -- what enters, by whether the segment stands and how its frames leave at the port
-entering : List PortRule → Bool → Option Egress → ℕ → List ℕ → Result (ℕ × Frame) Refused
+unfoldable pub entering : List PortRule → Bool → Option Egress → ℕ → List ℕ → Result (ℕ × Frame) Refused
 entering ports stands egress port b =
     unless (first (text_reasons (with_ports ports) port b ++ vid_rows (with_ports ports) port (tag_vid b) stands egress)) (vid_for ports port b, frame_in b)
 
@@ -55,7 +55,7 @@ out_of vid found (row ∷ rows) other all = by row.1 (out_of vid found rows othe
     by false rest = rest
 
 -- a text for another VID
-not_entering : (vid : ℕ) (ports : List PortRule) (stands : Bool) (egress : Option Egress) (port : ℕ) (b : List ℕ) → (vid == vid_for ports port b) ≡ false → is_segment vid (segment_entered (entering ports stands egress port b)) ≡ false
+pub not_entering : (vid : ℕ) (ports : List PortRule) (stands : Bool) (egress : Option Egress) (port : ℕ) (b : List ℕ) → (vid == vid_for ports port b) ≡ false → is_segment vid (segment_entered (entering ports stands egress port b)) ≡ false
 unfolding entering
 not_entering vid ports stands egress port b other =
     out_of vid (vid_for ports port b, frame_in b) (text_reasons (with_ports ports) port b ++ vid_rows (with_ports ports) port (tag_vid b) stands egress) other

@@ -43,4 +43,3 @@ refused-same vid S T h (SetMember v port egress) about = ap (λ (x : Seen). in_s
 refused-same vid S T h (PortUp port) about = ap (port_refused port) h
 refused-same vid S T h (PortDown port) about = ap (port_refused port) h
 refused-same vid S T h (Flush v) about = ap (λ (x : Seen). in_segment (own_of x) (λ s. None)) (seen_named vid v S T h about)
-

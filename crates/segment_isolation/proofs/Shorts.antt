@@ -13,7 +13,6 @@ module _ {K X Y : Type 0} (f : X → Y) where
   abbrev pub short : K × X → K × Y
   short e = (e.0, f e.1)
 
-
   -- the first whose part passes a test
   pub find_short : (p : Y → Bool) (es : List (K × X)) → option_map short (find_where (λ e. p (f e.1)) es) ≡ find_where (λ e. p e.1) (map short es)
   find_short p [] = refl

@@ -74,7 +74,7 @@ by_verdict-segment S x (Ok places) = refl
 by_verdict-segment S x (Err reason) = refl
 
 -- a decision carries the segment that the frame or packet comes to, or is refused in
-decided-segment : (t : ℕ) (B : Bridges) (r : Result Came Refused) → (decided t B r).segment ≡ segment_came r
+pub decided-segment : (t : ℕ) (B : Bridges) (r : Result Came Refused) → (decided t B r).segment ≡ segment_came r
 decided-segment t B (Ok x) = by_verdict-segment B.settings x (verdict t x.vid x.from x.frame B)
 decided-segment t B (Err refused) = refl
 

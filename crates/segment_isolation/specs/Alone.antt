@@ -77,7 +77,7 @@ summary_of s = record { tunnels = s.tunnels; limit = s.limit }
 abbrev pub summary_at : Settings → ℕ → Option Summary
 summary_at S vid = option_map summary_of (segment_at S vid)
 
--- from moment t on, what one state has for the segment of this VID, the other has
+-- from moment t on, two states have the same for the segment of this VID
 pub record Agree (vid t : ℕ) (B C : Bridges) : Type 0 where
   -- what is live of its table
   pub table : (u : ℕ) → t ≤ u → (aged u B).tables vid ≡ (aged u C).tables vid
@@ -86,5 +86,5 @@ pub record Agree (vid t : ℕ) (B C : Bridges) : Type 0 where
   -- the ports, with the state of each
   pub ports : B.settings.ports.ports ≡ C.settings.ports.ports
   pub underlay : B.settings.overlay.underlay ≡ C.settings.overlay.underlay
-  -- which segments there are, each by its VID
+  -- the segments, each by its VID, with its tunnels and its limit
   pub segments : (w : ℕ) → summary_at B.settings w ≡ summary_at C.settings w

@@ -13,3 +13,4 @@ pub mod CallLemmas
 pub mod WorkLemmas
 pub mod Passing
 pub mod Sweeping
+pub mod Sizes

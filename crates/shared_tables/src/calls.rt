@@ -1,5 +1,5 @@
 //! The calls on the tables: the clauses of [`filter_db::Tables`], and beside them the work that each call does.
-ghost use Rattle.std.specs.Prelude.{◌≡◌, ◌↔◌, ◌≤◌, ◌+◌, ℕ, IsTrue, IsSome, IsErr, IsOk};
+ghost use Rattle.std.specs.Prelude.{◌≡◌, ◌↔◌, ◌≤◌, ◌+◌, ℕ, IsTrue, IsSome, IsErr, IsOk, length};
 ghost use Rattle.std.specs.FinMap.{len};
 ghost use Rattle.filter_db.specs.Table.{stands, learned_as, is_full, has_fixed};
 ghost use Rattle.filter_db.specs.Segment.{aged_all, segment_at, adjusted, learn_in, fix_in, unfix_in, flush_place_in, flush_in, set_ageing_in};
@@ -55,6 +55,7 @@ impl Tables for SharedTables {
             ≡ adjusted vid (learn_in now place mac) (aged_all now (segments_of self.old)) }
         ensures moment { self.new.moment ≡ now }
         ensures calls { self.new.calls ≡ self.old.calls + 1 }
+        ensures slots { length self.new.entries ≡ length self.old.entries }
         ensures compared { ComparesFew self.old self.new vid mac }
         ensures visited { VisitsFew self.old self.new now }
         ensures paid { Pays self.old self.new }
@@ -81,6 +82,7 @@ impl Tables for SharedTables {
             ≡ adjusted vid (fix_in place mac) (aged_all now (segments_of self.old)) }
         ensures moment { self.new.moment ≡ now }
         ensures calls { self.new.calls ≡ self.old.calls + 1 }
+        ensures slots { length self.new.entries ≡ length self.old.entries }
         ensures compared { ComparesFew self.old self.new vid mac }
         ensures visited { VisitsFew self.old self.new now }
         ensures paid { Pays self.old self.new }
@@ -110,6 +112,7 @@ impl Tables for SharedTables {
             ≡ adjusted vid (unfix_in mac) (aged_all now (segments_of self.old)) }
         ensures moment { self.new.moment ≡ now }
         ensures calls { self.new.calls ≡ self.old.calls + 1 }
+        ensures slots { length self.new.entries ≡ length self.old.entries }
         ensures compared { ComparesFew self.old self.new vid mac }
         ensures visited { self.new.visited ≡ self.old.visited }
         ensures paid { Pays self.old self.new }
@@ -131,6 +134,7 @@ impl Tables for SharedTables {
             ≡ adjusted vid (flush_place_in place) (aged_all now (segments_of self.old)) }
         ensures moment { self.new.moment ≡ now }
         ensures calls { self.new.calls ≡ self.old.calls + 1 }
+        ensures slots { length self.new.entries ≡ length self.old.entries }
         ensures compared { self.new.compared ≡ self.old.compared }
         ensures visited { self.new.visited ≡ self.old.visited }
         ensures paid { Pays self.old self.new }
@@ -146,6 +150,7 @@ impl Tables for SharedTables {
             ≡ adjusted vid flush_in (aged_all now (segments_of self.old)) }
         ensures moment { self.new.moment ≡ now }
         ensures calls { self.new.calls ≡ self.old.calls + 1 }
+        ensures slots { length self.new.entries ≡ length self.old.entries }
         ensures compared { self.new.compared ≡ self.old.compared }
         ensures visited { self.new.visited ≡ self.old.visited }
         ensures paid { Pays self.old self.new }
@@ -163,6 +168,7 @@ impl Tables for SharedTables {
             ≡ adjusted vid (set_ageing_in now seconds) (aged_all now (segments_of self.old)) }
         ensures moment { self.new.moment ≡ now }
         ensures calls { self.new.calls ≡ self.old.calls + 1 }
+        ensures slots { length self.new.entries ≡ length self.old.entries }
         ensures compared { self.new.compared ≡ self.old.compared }
         ensures visited { VisitsFew self.old self.new now }
         ensures paid { Pays self.old self.new }
@@ -180,6 +186,7 @@ impl Tables for SharedTables {
         ensures after { segments_of self.new ≡ aged_all now (segments_of self.old) }
         ensures moment { self.new.moment ≡ now }
         ensures calls { self.new.calls ≡ self.old.calls + 1 }
+        ensures slots { length self.new.entries ≡ length self.old.entries }
         ensures compared { self.new.compared ≡ self.old.compared }
         ensures visited { VisitsFew self.old self.new now }
         ensures paid { Pays self.old self.new }

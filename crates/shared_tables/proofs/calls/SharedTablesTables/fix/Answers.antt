@@ -7,6 +7,7 @@ use Rattle.shared_tables.specs.Threads.{IsHeld}
 use Rattle.shared_tables.specs.Shared.{Shared, Lacks, Admits, span_of, rule_at}
 use Rattle.shared_tables.proofs.CallLemmas.{Begins, begins, own_is, fix_new, fix_full, fix_again}
 use Rattle.shared_tables.proofs.WorkLemmas.{visits_of, admit_visits}
+use Rattle.shared_tables.proofs.Sizes.{slots_of, refresh_slots, admit_slots}
 use Rattle.shared_tables.proofs.calls.SharedTablesTables.fix.Goals as goal
 
 pub returns-in-Some-clause-full : goal.returns-in-Some-clause-full
@@ -88,3 +89,21 @@ returns-else-admit-clause-visited c =
     let own = own_is old f now v k le has in
     let lacks = subst (λ (w : Shared). Lacks w.entries v mac) (sym c.in-None.ensures.same) c.in-None.ensures.none in
     visits_of old f c.admit.new.tables now k (admit_visits f c.admit.new.tables v (record { vid = v; mac = mac; place = c.args.place; last = None }) c.admit.result refl c.admit.ensures)
+
+pub returns-in-Some-clause-slots : goal.returns-in-Some-clause-slots
+returns-in-Some-clause-slots c =
+    let old = c.args.self.now in let b = c.begin.new.self in let f = c.find.new.self in let now = c.args.now in
+    let k : Begins old f now = begins old b f now _ _ c.begin.ensures.after c.begin.ensures.orderly c.in-Some.ensures.same in
+    slots_of old f c.refresh.new.tables now k (refresh_slots f c.refresh.new.tables c.in-Some.slot _ c.refresh.ensures)
+
+pub returns-then-admit-clause-slots : goal.returns-then-admit-clause-slots
+returns-then-admit-clause-slots c =
+    let old = c.args.self.now in let b = c.begin.new.self in let f = c.find.new.self in let now = c.args.now in
+    let k : Begins old f now = begins old b f now _ _ c.begin.ensures.after c.begin.ensures.orderly c.in-None.ensures.same in
+    slots_of old f c.admit.new.tables now k (admit_slots f c.admit.new.tables c.args.vid _ _ c.admit.result c.admit.ensures)
+
+pub returns-else-admit-clause-slots : goal.returns-else-admit-clause-slots
+returns-else-admit-clause-slots c =
+    let old = c.args.self.now in let b = c.begin.new.self in let f = c.find.new.self in let now = c.args.now in
+    let k : Begins old f now = begins old b f now _ _ c.begin.ensures.after c.begin.ensures.orderly c.in-None.ensures.same in
+    slots_of old f c.admit.new.tables now k (admit_slots f c.admit.new.tables c.args.vid _ _ c.admit.result c.admit.ensures)

@@ -7,6 +7,7 @@ use Rattle.shared_tables.specs.Shared.{Shared, Lacks, Admits, span_of, rule_at}
 use Rattle.shared_tables.specs.Work.{is_dead}
 use Rattle.shared_tables.proofs.CallLemmas.{Begins, begins, own_is, span_is, some_time, learn_new, learn_full, learn_again}
 use Rattle.shared_tables.proofs.WorkLemmas.{visits_of, pays_of, admit_visits, relearn_visits, relearn_pays, seen_lives}
+use Rattle.shared_tables.proofs.Sizes.{slots_of, relearn_slots, admit_slots}
 use Rattle.shared_tables.proofs.calls.SharedTablesTables.learn.Goals as goal
 
 pub returns-in-Some-clause-answer : goal.returns-in-Some-clause-answer
@@ -113,3 +114,21 @@ returns-else-admit-clause-visited c =
     let lacks = subst (λ (w : Shared). Lacks w.entries v mac) (sym c.in-None.ensures.same) c.in-None.ensures.none in
     let time : 0 < span_of (rule_at f.rules v) = subst (λ n. 0 < n) (sym (span_is old f now v k le has)) (some_time old f now v k le has) in
     visits_of old f c.admit.new.tables now k (admit_visits f c.admit.new.tables v (record { vid = v; mac = mac; place = c.args.place; last = Some now }) c.admit.result (subst (λ t. is_dead f.rules f.moment (Some (record { vid = v; mac = mac; place = c.args.place; last = Some t })) ≡ false) k.moment (seen_lives f v mac c.args.place time)) c.admit.ensures)
+
+pub returns-in-Some-clause-slots : goal.returns-in-Some-clause-slots
+returns-in-Some-clause-slots c =
+    let old = c.args.self.now in let b = c.begin.new.self in let f = c.find.new.self in let now = c.args.now in
+    let k : Begins old f now = begins old b f now _ _ c.begin.ensures.after c.begin.ensures.orderly c.in-Some.ensures.same in
+    slots_of old f c.relearn.new.tables now k (relearn_slots f c.relearn.new.tables c.in-Some.slot _ _ c.relearn.result c.relearn.ensures)
+
+pub returns-then-admit-clause-slots : goal.returns-then-admit-clause-slots
+returns-then-admit-clause-slots c =
+    let old = c.args.self.now in let b = c.begin.new.self in let f = c.find.new.self in let now = c.args.now in
+    let k : Begins old f now = begins old b f now _ _ c.begin.ensures.after c.begin.ensures.orderly c.in-None.ensures.same in
+    slots_of old f c.admit.new.tables now k (admit_slots f c.admit.new.tables c.args.vid _ _ c.admit.result c.admit.ensures)
+
+pub returns-else-admit-clause-slots : goal.returns-else-admit-clause-slots
+returns-else-admit-clause-slots c =
+    let old = c.args.self.now in let b = c.begin.new.self in let f = c.find.new.self in let now = c.args.now in
+    let k : Begins old f now = begins old b f now _ _ c.begin.ensures.after c.begin.ensures.orderly c.in-None.ensures.same in
+    slots_of old f c.admit.new.tables now k (admit_slots f c.admit.new.tables c.args.vid _ _ c.admit.result c.admit.ensures)

@@ -5,6 +5,7 @@ use Rattle.shared_tables.specs.Shared.{Sweeps}
 use Rattle.shared_tables.proofs.CallLemmas.{Begins, begins_plain, own_is, rule_there, span_is, stays_all}
 use Rattle.shared_tables.proofs.SegmentsLemmas.{sweep_segments, swept_len}
 use Rattle.shared_tables.proofs.WorkLemmas.{visits_of, swept_visits}
+use Rattle.shared_tables.proofs.Sizes.{slots_of}
 use Rattle.shared_tables.proofs.calls.SharedTablesTables.live.Goals as goal
 
 pub returns-clause-count : goal.returns-clause-count
@@ -31,3 +32,9 @@ returns-clause-visited c =
     let k : Begins old f now = begins_plain old f now _ c.begin.ensures.after c.begin.ensures.orderly in
     let le = c.requires.time in let has = c.requires.has in
     visits_of old f c.sweep.new.tables now k (swept_visits f c.sweep.new.tables v c.sweep.ensures)
+
+pub returns-clause-slots : goal.returns-clause-slots
+returns-clause-slots c =
+    let old = c.args.self.now in let f = c.begin.new.self in let now = c.args.now in
+    let k : Begins old f now = begins_plain old f now _ c.begin.ensures.after c.begin.ensures.orderly in
+    slots_of old f c.sweep.new.tables now k c.sweep.ensures.size

@@ -5,6 +5,7 @@ use Rattle.shared_tables.specs.Shared.{Sweeps}
 use Rattle.shared_tables.proofs.CallLemmas.{Begins, begins_plain, rule_there, span_is, changes}
 use Rattle.shared_tables.proofs.SegmentsLemmas.{seconds_segments}
 use Rattle.shared_tables.proofs.WorkLemmas.{visits_of, swept_visits, Visits}
+use Rattle.shared_tables.proofs.Sizes.{slot_count, slots_of}
 use Rattle.shared_tables.proofs.calls.SharedTablesTables.set_ageing.Goals as goal
 
 pub returns-clause-after : goal.returns-clause-after
@@ -23,3 +24,9 @@ returns-clause-visited c =
     let le = c.requires.time in let has = c.requires.has in
     let same = c.set_seconds.ensures in
     visits_of old f c.set_seconds.new.self now k (subst (Visits f) (sym same) (swept_visits f c.sweep.new.tables v c.sweep.ensures))
+
+pub returns-clause-slots : goal.returns-clause-slots
+returns-clause-slots c =
+    let old = c.args.self.now in let f = c.begin.new.self in let now = c.args.now in
+    let k : Begins old f now = begins_plain old f now _ c.begin.ensures.after c.begin.ensures.orderly in
+    slots_of old f c.set_seconds.new.self now k (ap slot_count c.set_seconds.ensures ∙ c.sweep.ensures.size)

@@ -12,10 +12,8 @@ use Rattle.timeline.specs.Timeline as timeline
 use Rattle.timeline.specs.declared.fault.TimelineFault.{TimelineFault}
 use Rattle.timeline.specs.declared.fault.TimelineFault.TheVariants as faults
 use Rattle.capture_run.specs.Fault.{of_timeline, of_settings, of_changes}
-use Rattle.capture_run.specs.Outputs.{Outputs}
 use Rattle.capture_run.specs.Run.{Gives, Means, run, by_timeline}
-use Rattle.capture_run.specs.declared.fault.RunFault.{RunFault}
-use Rattle.capture_run.specs.declared.fault.RunFault.TheVariants.{OutOfMemory, PortCount}
+use Rattle.capture_run.specs.declared.fault.RunFault.TheVariants.{PortCount}
 
 -- what was read of a text is what it means
 pub read_is : {A B : Type 0} (view : A → B) (r : Meaning A) (meaning_of : List ℕ → Meaning B) (text : List ℕ) (m : Meaning B) → Means meaning_of text m
@@ -48,10 +46,6 @@ pub timeline_fault : (fault : TimelineFault) (s : Settings) (changes : List Time
 timeline_fault (faults.Capture tap fault) s changes n found h = rw h refl
 timeline_fault (faults.Record tap number fault) s changes n found h = rw h refl
 timeline_fault faults.OutOfMemory s changes n found h = tt
-
--- want of memory is always an answer
-pub memory_fault : (fault : RunFault) (found : Result Outputs RunFault) → fault ≡ OutOfMemory → Gives (Err fault) found
-memory_fault fault found h = subst (λ f. Gives (Err f) found) (sym h) tt
 
 pub port_count_fault : (s : Settings) (changes : List TimedChange) (ports : List (Vec ℕ Global)) (underlay : List ℕ) → (length ports == length s.ports) ≡ false
     → run (Ok s) (Ok changes) ports underlay ≡ Err PortCount

@@ -1,7 +1,6 @@
 //! Decision lines.
-ghost use Rattle.std.specs.Prelude.{◌≡◌, ◌++◌, ◌∷◌, [], IfOk, OnOk, None, codes, decimal, string_bytes};
+ghost use Rattle.std.specs.Prelude.{◌≡◌, ◌++◌, IfOk, OnOk, None, string_bytes};
 ghost use Rattle.frame_view.specs.First.{fault_of};
-ghost use Rattle.timeline.specs.Words.{source_of, source_word};
 ghost use Rattle.endpoint_core.specs.Decision.{octets_of};
 ghost use Rattle.endpoint_core.specs.Step.{Decided, Replied};
 ghost use Rattle.capture_run.specs.Lines.{answer_text, cut_line, line, line_front, reply_text, segment_text};

@@ -14,8 +14,6 @@ ghost use Rattle.endpoint_core.specs.Step.{Decided, answer, after};
 ghost use Rattle.endpoint_state.specs.Change.{named};
 ghost use Rattle.endpoint_state.specs.Opened.{settings_told};
 ghost use Rattle.pcap_io.specs.Record.{last_moment};
-ghost use Rattle.std.specs.Option.{option_map};
-ghost use Rattle.capture_run.specs.Lines.{line, answer_text};
 ghost use Rattle.capture_run.specs.Outputs.{event_of, outputs};
 ghost use Rattle.capture_run.specs.Run.{Gives, Means, run};
 ghost use Rattle.capture_run.specs.Writing.{seen, with_cuts, with_event, with_events, with_input};
@@ -27,7 +25,7 @@ use endpoint_core::{Decision, Endpoint};
 use frame_view::Vid;
 use overlay_config::{Change, Settings, TimedChange, changes_of, settings_of};
 use std::alloc::{AllocError, Global};
-use timeline::{Captured, Cut, Event, Happening, Tap, Timeline};
+use timeline::{Cut, Event, Happening, Tap, Timeline};
 
 /// Runs an endpoint with the settings of a text over the captures of its local ports, port 1 first, and of its underlay,
 /// with the changes of a text at their moments.

@@ -1,0 +1,26 @@
+//! Worked rows: whole runs told as texts, with the decision lines and octets that come out of them.
+//!
+//! What is expected was worked out by hand from RFC 7348, RFC 8926, IEEE 802.1Q and docs/FORMATS.md, never taken from a
+//! run. There is nothing here but tests, and nothing stands on this crate.
+#![tactic(auto)]
+
+#[cfg(test)]
+mod arriving_rows;
+#[cfg(test)]
+mod capture_rows;
+#[cfg(test)]
+mod captures;
+#[cfg(test)]
+mod change_rows;
+#[cfg(test)]
+mod learning_rows;
+#[cfg(test)]
+mod octets;
+#[cfg(test)]
+mod segment_rows;
+#[cfg(test)]
+mod sending_rows;
+#[cfg(test)]
+mod settings;
+#[cfg(test)]
+mod transcript;

@@ -2,25 +2,17 @@
 # Programs that must not compile. Each stands on the crates of this repository, and is refused with the stated fault.
 set -u
 cd "$(dirname "$0")/.." || exit 1
-folder=$(mktemp -d)
+source tests/copied_crates.bash
+folder=$(copied_crates)
 trap 'rm -rf "$folder"' EXIT
 status=0
-
-for crate in crates/*/; do
-    mkdir -p "$folder/$crate"
-    for part in src specs proofs; do
-        if [ -d "$crate$part" ]; then
-            cp -r "$crate$part" "$folder/$crate"
-        fi
-    done
-done
 
 # refuses NAME FAULT LIBRARIES: the text on standard input, as the crate of this name, isn't compiled for this fault
 refuses() {
     local name=$1 fault=$2 libraries=$3
     mkdir -p "$folder/crates/$name/src"
     cat >"$folder/crates/$name/src/lib.rt"
-    { cat crates.txt && echo "$name: $libraries"; } >"$folder/crates.txt"
+    echo "$name: $libraries" >>"$folder/crates.txt"
     (cd "$folder/crates/$name" && rt try --test 2>&1) | grep -q "error\[$fault\]" || {
         echo "tests/refused.sh: $name isn't refused for $fault"
         status=1
@@ -66,8 +58,7 @@ pub fn count_of(slots: &Slots) -> usize {
 TEXT
 
 # The decision about a packet borrows its octets: it can't outlive them.
-libraries=$(grep '^endpoint_core:' crates.txt | cut -d: -f2)
-refuses outlives borrow-e0515 "endpoint_core $libraries" <<'TEXT'
+refuses outlives borrow-e0515 "$(libraries_over endpoint_core)" <<'TEXT'
 //! A decision that outlives the octets that it borrows.
 #![tactic(auto)]
 

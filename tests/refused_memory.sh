@@ -1,6 +1,6 @@
 #!/usr/bin/env bash
 # Where a call needs memory and is refused it, it says so and leaves what it was to extend as it was: each growth of the
-# named tests is refused in turn.
+# named tests, and of the program at the end, is refused in turn.
 set -u
 cd "$(dirname "$0")/.." || exit 1
 status=0
@@ -44,12 +44,94 @@ answers filter_db tests::leaves_fixed_entries_alone 3
 answers shared_tables tests::two_segments_share_a_bucket 3
 
 # The room of a source, for one record; no later call of a source or a sink takes memory.
-answers pcap_stream tests::takes_memory_for_one_record_alone 1
+answers pcap_stream sink_tests::takes_memory_for_one_record_alone 1
 
 # The events of a run: the list of captures, the changes and the merge.
 passes timeline tests::refused_memory_is_told 1 2 3
 
-# The parts of the settings, and of the document that they stand in.
-passes overlay_config settings_tests::refused_growths_are_out_of_memory 1 10
+# The settings of two segments, and two changes: a program makes as many requests as it has octets on standard input, and then
+# reads both. It is built once and run for 0 to 119 octets with its 120th request refused, so that each request of the two calls
+# is: first, where none of theirs is, both answer; then the changes are refused, then the settings.
+source tests/copied_crates.bash
+folder=$(copied_crates)
+trap 'rm -rf "$folder"' EXIT
+mkdir -p "$folder/crates/settings_reader/src" "$folder/cases"
+echo "settings_reader: $(libraries_over overlay_config)" >>"$folder/crates.txt"
+cat >"$folder/crates/settings_reader/src/main.rt" <<'TEXT'
+//! Reads settings and changes behind other requests for memory.
+#![tactic(auto)]
+
+use overlay_config::{SettingsFault, changes_of, settings_of};
+use std::io::{self, Read};
+
+const SETTINGS: &str = r#"version = 1
+[underlay]
+mac = "02:00:00:00:aa:01"
+next_hop = "02:00:00:00:aa:fe"
+ip4 = "192.0.2.1"
+ip6 = "2001:db8::1"
+[[port]]
+pvid = 10
+[[port]]
+pvid = 10
+[[port]]
+pvid = 10
+[[segment]]
+vid = 10
+vni = 5000
+tunnel = "vxlan"
+untagged = [1, 2]
+tagged = [3]
+flood = ["192.0.2.2"]
+[[segment]]
+vid = 20
+vni = 6000
+tunnel = "geneve"
+tagged = [2, 3]
+flood = ["192.0.2.2"]
+"#;
+
+const CHANGES: &str = r#"[[change]]
+kind = "fix"
+at = 0
+vid = 10
+mac = "02:00:00:00:00:01"
+remote = "192.0.2.9"
+[[change]]
+kind = "flush"
+at = 1
+vid = 10
+"#;
+
+/// A word for what a call answered.
+fn word(fault: Option<SettingsFault>) -> &'static str {
+    match fault {
+        None => "ok",
+        Some(SettingsFault::OutOfMemory) => "OutOfMemory",
+        Some(_) => "another fault",
+    }
+}
+
+fn main(rt: HostRuntime) -> io::Result<()> {
+    let mut octets = [0u8; 256];
+    let requests = rt.stdin().read(&mut octets)?;
+    let alloc = rt.alloc();
+    for _ in 0..requests {
+        vec![in alloc; 0u8]?;
+    }
+    let settings = word(settings_of(alloc, SETTINGS.as_bytes()).err());
+    let changes = word(changes_of(alloc, CHANGES.as_bytes()).err());
+    println!(rt; "settings {settings}, changes {changes}")
+}
+TEXT
+for n in $(seq -w 0 119); do
+    head -c "$n" /dev/zero >"$folder/cases/$n"
+done
+answered=$(cd "$folder/crates/settings_reader" && rt try --steps 1 --cases ../../cases --fail-alloc 120 2>&1 | grep '^settings ' | uniq)
+wanted="settings ok, changes ok
+settings ok, changes OutOfMemory
+settings OutOfMemory, changes ok"
+[ "$answered" = "$wanted" ] || complain "overlay_config: with a request refused it answers
+$answered"
 
 exit "$status"

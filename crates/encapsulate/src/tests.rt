@@ -18,16 +18,18 @@ const HOST4: Addr = Addr::V4([192, 0, 2, 2]);
 const HOST6: Addr = Addr::V6([0x20, 0x01, 0x0D, 0xB8, 0, 0, 0, 0, 0, 0, 0, 0, 0, 0, 0, 2]);
 
 /// The addresses and the type of a broadcast frame from 02-00-00-00-00-01.
-fn broadcast() -> [u8; 14] {
-    [
-        0xFF, 0xFF, 0xFF, 0xFF, 0xFF, 0xFF, 0x02, 0, 0, 0, 0, 0x01, 0x08, 0x06,
-    ]
-}
+const BROADCAST: [u8; 14] = [
+    0xFF, 0xFF, 0xFF, 0xFF, 0xFF, 0xFF, 0x02, 0, 0, 0, 0, 0x01, 0x08, 0x06,
+];
+
+/// The same with a tag.
+const TAGGED: [u8; 14] = [
+    0xFF, 0xFF, 0xFF, 0xFF, 0xFF, 0xFF, 0x02, 0, 0, 0, 0, 0x01, 0x81, 0x00,
+];
 
 /// Octets and zeros behind them, so many in all where they aren't more.
 fn padded(alloc: Global, front: &[u8], size: usize) -> Result<Vec<u8>, AllocError> {
-    let mut text = Vec::new(alloc);
-    text.extend_from_slice(front)?;
+    let mut text = Vec::from_slice(alloc, front)?;
     text.resize(size.max(front.len()), 0)?;
     Ok(text)
 }
@@ -134,237 +136,225 @@ fn packet(
 }
 
 /// The MAC addresses and the IPv4 header of a packet of 96 octets to 192.0.2.2.
-fn front4() -> [u8; 34] {
-    [
-        0x02, 0, 0, 0, 0xAA, 0xFE, 0x02, 0, 0, 0, 0xAA, 0x01, 0x08, 0x00, 0x45, 0x00, 0x00, 0x60,
-        0x00, 0x00, 0x40, 0x00, 0x40, 0x11, 0xB6, 0x89, 192, 0, 2, 1, 192, 0, 2, 2,
-    ]
-}
+const FRONT4: [u8; 34] = [
+    0x02, 0, 0, 0, 0xAA, 0xFE, 0x02, 0, 0, 0, 0xAA, 0x01, 0x08, 0x00, 0x45, 0x00, 0x00, 0x60, 0x00,
+    0x00, 0x40, 0x00, 0x40, 0x11, 0xB6, 0x89, 192, 0, 2, 1, 192, 0, 2, 2,
+];
 
 /// The MAC addresses and the IPv6 header before 76 octets to 2001:db8::2.
-fn front6() -> [u8; 54] {
-    [
-        0x02, 0, 0, 0, 0xAA, 0xFE, 0x02, 0, 0, 0, 0xAA, 0x01, 0x86, 0xDD, 0x60, 0, 0, 0, 0x00,
-        0x4C, 0x11, 0x40, 0x20, 0x01, 0x0D, 0xB8, 0, 0, 0, 0, 0, 0, 0, 0, 0, 0, 0, 1, 0x20, 0x01,
-        0x0D, 0xB8, 0, 0, 0, 0, 0, 0, 0, 0, 0, 0, 0, 2,
-    ]
-}
+const FRONT6: [u8; 54] = [
+    0x02, 0, 0, 0, 0xAA, 0xFE, 0x02, 0, 0, 0, 0xAA, 0x01, 0x86, 0xDD, 0x60, 0, 0, 0, 0x00, 0x4C,
+    0x11, 0x40, 0x20, 0x01, 0x0D, 0xB8, 0, 0, 0, 0, 0, 0, 0, 0, 0, 0, 0, 1, 0x20, 0x01, 0x0D, 0xB8,
+    0, 0, 0, 0, 0, 0, 0, 0, 0, 0, 0, 2,
+];
 
-const VXLAN_5000: [u8; 8] = [0x08, 0, 0, 0, 0, 0x13, 0x88, 0];
-
-const GENEVE_6000: [u8; 8] = [0, 0, 0x65, 0x58, 0, 0x17, 0x70, 0];
-
-/// Whether a broadcast frame of 60 octets, with these behind its type, is sent behind these headers: up to IP; UDP; tunnel.
-fn sends(
-    alloc: Global,
-    under: &Under,
-    vid: Vid,
-    remote: (Tunnel, Addr),
-    (ip, udp, tunnel): (&[u8], [u8; 8], [u8; 8]),
+/// A packet that a broadcast frame of 60 octets is sent in.
+struct Sent {
+    case: &'static str,
+    sum4: bool,
+    tunnel: Tunnel,
+    addr: Addr,
+    /// What stands behind the type of the frame, and zeros behind it.
     behind_type: [u8; 2],
-) -> Result<bool, Fail> {
-    let mut text = padded(alloc, &broadcast(), 0)?;
-    text.extend_from_slice(&behind_type)?;
-    text.resize(60, 0)?;
-    let mut wanted = padded(alloc, ip, 0)?;
-    wanted.extend_from_slice(&udp)?;
-    wanted.extend_from_slice(&tunnel)?;
-    wanted.extend_from_slice(&text)?;
-    match packet(alloc, under, vid, remote, &text)? {
-        Ok(sent) => Ok(sent.as_slice() == wanted.as_slice()),
-        Err(_) => Ok(false),
-    }
+    front: &'static [u8],
+    /// The UDP header of 76 octets from port 51719, and the tunnel's header: VXLAN 5000 or Geneve 6000.
+    udp_and_tunnel: &'static [u8],
 }
 
-/// A UDP header of 76 octets from port 51719, to this port and with this checksum.
-fn udp(port: [u8; 2], checksum: [u8; 2]) -> [u8; 8] {
-    let ([a, b], [c, d]) = (port, checksum);
-    [0xCA, 0x07, a, b, 0x00, 0x4C, c, d]
+const PACKETS: [Sent; 5] = [
+    Sent {
+        case: "IPv4",
+        sum4: false,
+        tunnel: Tunnel::Vxlan,
+        addr: HOST4,
+        behind_type: [0, 0],
+        front: &FRONT4,
+        udp_and_tunnel: b"\xCA\x07\x12\xB5\x00\x4C\x00\x00\x08\0\0\0\x00\x13\x88\0",
+    },
+    Sent {
+        case: "a checksum",
+        sum4: true,
+        tunnel: Tunnel::Vxlan,
+        addr: HOST4,
+        behind_type: [0, 0],
+        front: &FRONT4,
+        udp_and_tunnel: b"\xCA\x07\x12\xB5\x00\x4C\x04\x7B\x08\0\0\0\x00\x13\x88\0",
+    },
+    Sent {
+        case: "Geneve",
+        sum4: false,
+        tunnel: Tunnel::Geneve,
+        addr: HOST4,
+        behind_type: [0, 0],
+        front: &FRONT4,
+        udp_and_tunnel: b"\xCA\x07\x17\xC1\x00\x4C\x00\x00\0\0\x65\x58\x00\x17\x70\0",
+    },
+    Sent {
+        case: "IPv6",
+        sum4: false,
+        tunnel: Tunnel::Vxlan,
+        addr: HOST6,
+        behind_type: [0, 0],
+        front: &FRONT6,
+        udp_and_tunnel: b"\xCA\x07\x12\xB5\x00\x4C\x2D\x0A\x08\0\0\0\x00\x13\x88\0",
+    },
+    Sent {
+        case: "a computed 0",
+        sum4: false,
+        tunnel: Tunnel::Vxlan,
+        addr: HOST6,
+        behind_type: [0x2D, 0x0A],
+        front: &FRONT6,
+        udp_and_tunnel: b"\xCA\x07\x12\xB5\x00\x4C\xFF\xFF\x08\0\0\0\x00\x13\x88\0",
+    },
+];
+
+/// The packet that is sent, and the one that should be.
+fn sent_and_wanted(alloc: Global, case: &Sent) -> Result<(Vec<u8>, Vec<u8>), Fail> {
+    let vid = Vid::new(10).ok_or("a VID")?;
+    let under = endpoint(alloc, vid, 1550, case.sum4, TagRule::Drop)?;
+    let mut text = padded(alloc, &BROADCAST, 0)?;
+    text.extend_from_slice(&case.behind_type)?;
+    text.resize(60, 0)?;
+    let Ok(sent) = packet(alloc, &under, vid, (case.tunnel, case.addr), &text)? else {
+        return Err(Fail::from("a packet"));
+    };
+    let mut wanted = padded(alloc, case.front, 0)?;
+    wanted.extend_from_slice(case.udp_and_tunnel)?;
+    wanted.extend_from_slice(&text)?;
+    Ok((sent, wanted))
 }
 
 #[test]
 fn packets_have_these_octets(rt: HostRuntime) -> Result<(), Fail> {
-    let alloc = rt.alloc();
-    let vid = Vid::new(10).ok_or("a VID")?;
-    let (front4, front6) = (front4(), front6());
-    let over4 = (Tunnel::Vxlan, HOST4);
-    let over6 = (Tunnel::Vxlan, HOST6);
-    for (case, sum4, remote, front, udp, tunnel, behind_type) in [
-        (
-            "IPv4",
-            false,
-            over4,
-            front4.as_slice(),
-            udp([0x12, 0xB5], [0x00, 0x00]),
-            VXLAN_5000,
-            [0; 2],
-        ),
-        (
-            "a checksum",
-            true,
-            over4,
-            &front4,
-            udp([0x12, 0xB5], [0x04, 0x7B]),
-            VXLAN_5000,
-            [0; 2],
-        ),
-        (
-            "Geneve",
-            false,
-            (Tunnel::Geneve, HOST4),
-            &front4,
-            udp([0x17, 0xC1], [0x00, 0x00]),
-            GENEVE_6000,
-            [0; 2],
-        ),
-        (
-            "IPv6",
-            false,
-            over6,
-            &front6,
-            udp([0x12, 0xB5], [0x2D, 0x0A]),
-            VXLAN_5000,
-            [0; 2],
-        ),
-        (
-            "a computed 0",
-            false,
-            over6,
-            &front6,
-            udp([0x12, 0xB5], [0xFF, 0xFF]),
-            VXLAN_5000,
-            [0x2D, 0x0A],
-        ),
-    ] {
-        let under = endpoint(alloc, vid, 1550, sum4, TagRule::Drop)?;
-        assert!(rt;
-            sends(
-                alloc,
-                &under,
-                vid,
-                remote,
-                (front, udp, tunnel),
-                behind_type
-            )?,
-            "{case}"
-        );
+    for case in &PACKETS {
+        let (sent, wanted) = sent_and_wanted(rt.alloc(), case)?;
+        assert_eq!(rt; sent.as_slice(), wanted.as_slice(), "{}", case.case);
     }
     Ok(())
 }
 
 /// The addresses and the type of a frame between two stations, and the start of an IPv4 packet of UDP from 10.0.0.1 to
-/// 10.0.0.2 and from port 1000 to 53, with these flags and high bits of the fragment offset.
-fn inner_ip4(flags: u8) -> [u8; 38] {
-    [
-        0x02, 0, 0, 0, 0, 0x02, 0x02, 0, 0, 0, 0, 0x01, 0x08, 0x00, 0x45, 0, 0, 0, 0, 0, flags, 0,
-        0, 17, 0, 0, 10, 0, 0, 1, 10, 0, 0, 2, 0x03, 0xE8, 0x00, 0x35,
-    ]
-}
+/// 10.0.0.2 and from port 1000 to 53.
+const UDP4: [u8; 38] = [
+    0x02, 0, 0, 0, 0, 0x02, 0x02, 0, 0, 0, 0, 0x01, 0x08, 0x00, 0x45, 0, 0, 0, 0, 0, 0x40, 0, 0,
+    17, 0, 0, 10, 0, 0, 1, 10, 0, 0, 2, 0x03, 0xE8, 0x00, 0x35,
+];
 
-/// The same of IPv6, from 2001:db8::1 to 2001:db8::2.
-fn inner_ip6() -> [u8; 58] {
-    [
-        0x02, 0, 0, 0, 0, 0x02, 0x02, 0, 0, 0, 0, 0x01, 0x86, 0xDD, 0x60, 0, 0, 0, 0, 0, 17, 0,
-        0x20, 0x01, 0x0D, 0xB8, 0, 0, 0, 0, 0, 0, 0, 0, 0, 0, 0, 1, 0x20, 0x01, 0x0D, 0xB8, 0, 0,
-        0, 0, 0, 0, 0, 0, 0, 0, 0, 2, 0x03, 0xE8, 0x00, 0x35,
-    ]
-}
+/// The same as a fragment that isn't the last.
+const FRAGMENT4: [u8; 38] = [
+    0x02, 0, 0, 0, 0, 0x02, 0x02, 0, 0, 0, 0, 0x01, 0x08, 0x00, 0x45, 0, 0, 0, 0, 0, 0x20, 0, 0,
+    17, 0, 0, 10, 0, 0, 1, 10, 0, 0, 2, 0x03, 0xE8, 0x00, 0x35,
+];
+
+/// The same over IPv6, from 2001:db8::1 to 2001:db8::2.
+const UDP6: [u8; 58] = [
+    0x02, 0, 0, 0, 0, 0x02, 0x02, 0, 0, 0, 0, 0x01, 0x86, 0xDD, 0x60, 0, 0, 0, 0, 0, 17, 0, 0x20,
+    0x01, 0x0D, 0xB8, 0, 0, 0, 0, 0, 0, 0, 0, 0, 0, 0, 1, 0x20, 0x01, 0x0D, 0xB8, 0, 0, 0, 0, 0, 0,
+    0, 0, 0, 0, 0, 2, 0x03, 0xE8, 0x00, 0x35,
+];
+
+/// The first octets of texts, and the source port of their flows.
+const FLOWS: [(&str, &[u8], usize, u16); 5] = [
+    ("a broadcast that isn't IP", &BROADCAST, 14, 51719),
+    ("UDP over IPv4", &UDP4, 38, 58420),
+    ("a fragment, which shows no ports", &FRAGMENT4, 38, 52227),
+    ("a packet cut in its ports", &UDP4, 37, 52227),
+    ("UDP over IPv6", &UDP6, 58, 60035),
+];
 
 #[test]
 fn flows_have_these_source_ports(rt: HostRuntime) -> Result<(), Fail> {
-    let (whole, fragment) = (inner_ip4(0x40), inner_ip4(0x20));
-    for (case, octets, wanted) in [
-        ("a broadcast that isn't IP", broadcast().as_slice(), 51719),
-        ("UDP over IPv4", &whole, 58420),
-        ("a fragment, which shows no ports", &fragment, 52227),
-        ("a packet cut in its ports", &whole[..37], 52227),
-        ("UDP over IPv6", &inner_ip6(), 60035),
-    ] {
-        let frame = frame_of(octets)?;
-        assert_eq!(rt; source_port(&frame), wanted, "{case}");
+    for (case, octets, size, wanted) in &FLOWS {
+        let text = octets.get(..*size).ok_or("a whole text")?;
+        let frame = frame_of(text)?;
+        assert_eq!(rt; source_port(&frame), *wanted, "{case}");
     }
     Ok(())
 }
 
+/// What stands first in a frame, its size, and the octets of its packet, or why it isn't sent.
+fn size_sent(
+    alloc: Global,
+    (mtu, tags): (u16, TagRule),
+    addr: Addr,
+    (front, size): (&[u8], usize),
+) -> Result<Result<usize, Reason>, Fail> {
+    let vid = Vid::new(10).ok_or("a VID")?;
+    let under = endpoint(alloc, vid, mtu, false, tags)?;
+    let text = padded(alloc, front, size)?;
+    Ok(packet(alloc, &under, vid, (Tunnel::Vxlan, addr), &text)?.map(|sent| sent.len()))
+}
+
+/// An MTU, a remote, the size of the largest frame, and that of its headers.
+const LARGEST: [(u16, Addr, usize, usize); 4] = [
+    (65535, HOST4, 65_499, 50),
+    (65535, HOST6, 65_479, 70),
+    (1550, HOST4, 1514, 50),
+    (1550, HOST6, 1494, 70),
+];
+
 #[test]
 fn the_largest_frames_fill_the_mtu(rt: HostRuntime) -> Result<(), Fail> {
-    let alloc = rt.alloc();
-    let vid = Vid::new(10).ok_or("a VID")?;
-    for (mtu, addr, largest, head) in [
-        (65535, HOST4, 65_499, 50),
-        (65535, HOST6, 65_479, 70),
-        (1550, HOST4, 1514, 50),
-        (1550, HOST6, 1494, 70),
-    ] {
-        let under = endpoint(alloc, vid, mtu, false, TagRule::Drop)?;
-        let remote = (Tunnel::Vxlan, addr);
-        let text = padded(alloc, &broadcast(), largest)?;
-        let sent = packet(alloc, &under, vid, remote, &text)?.map(|sent| sent.len());
-        assert_eq!(rt;
-            sent,
-            Ok(largest + head),
-            "the largest at an MTU of {mtu} to {addr:?}"
-        );
-        let text = padded(alloc, &broadcast(), largest + 1)?;
-        let sent = packet(alloc, &under, vid, remote, &text)?.map(|sent| sent.len());
-        assert_eq!(rt;
-            sent,
-            Err(Reason::TooBig),
-            "one more at an MTU of {mtu} to {addr:?}"
-        );
+    for (mtu, addr, largest, head) in &LARGEST {
+        for (more, wanted) in [(0, Ok(*largest + *head)), (1, Err(Reason::TooBig))] {
+            let frame = (BROADCAST.as_slice(), *largest + more);
+            let sent = size_sent(rt.alloc(), (*mtu, TagRule::Drop), *addr, frame)?;
+            assert_eq!(rt; sent, wanted, "{more} more at an MTU of {mtu}");
+        }
     }
     Ok(())
 }
+
+/// Where a packet goes, by the MAC address that it begins with.
+const NEXT_HOPS: [(Addr, [u8; 6]); 5] = [
+    (HOST4, [0x02, 0, 0, 0, 0xAA, 0xFE]),
+    (HOST6, [0x02, 0, 0, 0, 0xAA, 0xFE]),
+    (Addr::V4([192, 0, 2, 7]), [0x02, 0, 0, 0, 0xBB, 0x07]),
+    (
+        Addr::V4([239, 1, 1, 1]),
+        [0x01, 0x00, 0x5E, 0x01, 0x01, 0x01],
+    ),
+    // all DHCP servers
+    (
+        Addr::V6([0xFF, 0x05, 0, 0, 0, 0, 0, 0, 0, 0, 0, 0, 0, 0x01, 0, 0x03]),
+        [0x33, 0x33, 0x00, 0x01, 0x00, 0x03],
+    ),
+];
 
 #[test]
 fn packets_go_to_the_next_hop(rt: HostRuntime) -> Result<(), Fail> {
     let alloc = rt.alloc();
     let vid = Vid::new(10).ok_or("a VID")?;
     let under = endpoint(alloc, vid, 1550, false, TagRule::Drop)?;
-    let text = padded(alloc, &broadcast(), 60)?;
-    let dhcp_servers = [0xFF, 0x05, 0, 0, 0, 0, 0, 0, 0, 0, 0, 0, 0, 0x01, 0, 0x03];
-    for (addr, wanted) in [
-        (HOST4, [0x02, 0, 0, 0, 0xAA, 0xFE]),
-        (HOST6, [0x02, 0, 0, 0, 0xAA, 0xFE]),
-        (Addr::V4([192, 0, 2, 7]), [0x02, 0, 0, 0, 0xBB, 0x07]),
-        (
-            Addr::V4([239, 1, 1, 1]),
-            [0x01, 0x00, 0x5E, 0x01, 0x01, 0x01],
-        ),
-        (Addr::V6(dhcp_servers), [0x33, 0x33, 0x00, 0x01, 0x00, 0x03]),
-    ] {
-        let sent = packet(alloc, &under, vid, (Tunnel::Vxlan, addr), &text)?;
+    let text = padded(alloc, &BROADCAST, 60)?;
+    for (addr, wanted) in &NEXT_HOPS {
+        let sent = packet(alloc, &under, vid, (Tunnel::Vxlan, *addr), &text)?;
         assert!(rt;
-            matches!(&sent, Ok(sent) if sent.starts_with(&wanted)),
+            matches!(&sent, Ok(sent) if sent.starts_with(wanted)),
             "to {addr:?}"
         );
     }
     Ok(())
 }
 
+/// The size of a frame with a tag, and the octets of its packet, or why it isn't sent.
+const TAGS: [(&str, TagRule, usize, Result<usize, Reason>); 3] = [
+    ("dropped", TagRule::Drop, 64, Err(Reason::InnerTagOut)),
+    ("passed", TagRule::Pass, 64, Ok(114)),
+    (
+        "too big and tagged",
+        TagRule::Drop,
+        1515,
+        Err(Reason::TooBig),
+    ),
+];
+
 #[test]
 fn inner_tags_are_passed_or_not(rt: HostRuntime) -> Result<(), Fail> {
-    let alloc = rt.alloc();
-    let vid = Vid::new(10).ok_or("a VID")?;
-    let mut front = broadcast();
-    front[12] = 0x81;
-    front[13] = 0x00;
-    for (case, tags, size, wanted) in [
-        ("dropped", TagRule::Drop, 64, Err(Reason::InnerTagOut)),
-        ("passed", TagRule::Pass, 64, Ok(114)),
-        (
-            "too big and tagged",
-            TagRule::Drop,
-            1515,
-            Err(Reason::TooBig),
-        ),
-    ] {
-        let under = endpoint(alloc, vid, 1550, false, tags)?;
-        let text = padded(alloc, &front, size)?;
-        let sent = packet(alloc, &under, vid, (Tunnel::Vxlan, HOST4), &text)?.map(
-            |sent| sent.len(),
-        );
-        assert_eq!(rt; sent, wanted, "{case}");
+    for (case, tags, size, wanted) in &TAGS {
+        let sent = size_sent(rt.alloc(), (1550, *tags), HOST4, (&TAGGED, *size))?;
+        assert_eq!(rt; sent, *wanted, "{case}");
     }
     Ok(())
 }
@@ -392,32 +382,20 @@ fn leaves(
     Ok(is_whole && tag == wanted && emission.len() == 60 + wanted.len())
 }
 
+/// How a frame leaves, its priority and drop eligible bit, and its tag.
+const LOCAL: [(Egress, (u8, bool), &[u8]); 4] = [
+    (Egress::Untagged, (5, true), &[]),
+    (Egress::Tagged, (0, false), &[0x81, 0x00, 0x00, 0x0A]),
+    (Egress::Tagged, (5, false), &[0x81, 0x00, 0xA0, 0x0A]),
+    (Egress::Tagged, (7, true), &[0x81, 0x00, 0xF0, 0x0A]),
+];
+
 #[test]
 fn local_frames_leave_with_a_tag_or_without(rt: HostRuntime) -> Result<(), Fail> {
     let vid = Vid::new(10).ok_or("a VID")?;
-    let text = padded(rt.alloc(), &broadcast(), 60)?;
-    for (case, egress, priority, tag) in [
-        ("untagged", Egress::Untagged, (5, true), [].as_slice()),
-        (
-            "tagged",
-            Egress::Tagged,
-            (0, false),
-            &[0x81, 0x00, 0x00, 0x0A],
-        ),
-        (
-            "with a priority",
-            Egress::Tagged,
-            (5, false),
-            &[0x81, 0x00, 0xA0, 0x0A],
-        ),
-        (
-            "with a drop eligible bit",
-            Egress::Tagged,
-            (7, true),
-            &[0x81, 0x00, 0xF0, 0x0A],
-        ),
-    ] {
-        assert!(rt; leaves((vid, egress), priority, &text, tag)?, "{case}");
+    let text = padded(rt.alloc(), &BROADCAST, 60)?;
+    for (egress, priority, tag) in &LOCAL {
+        assert!(rt; leaves((vid, *egress), *priority, &text, tag)?, "{tag:?}");
     }
     assert_eq!(rt; Emission::default().len(), 0, "nothing");
     Ok(())

@@ -85,6 +85,25 @@ at = 4294967295999999999
 vid = 10
 "#;
 
+/// What they mean, a moment and a change on each line.
+pub(crate) const ALL_MEANINGS: &str =
+    r#"0: AddFlood { vid: Vid { number: 10 }, addr: V4([192, 0, 2, 9]), tunnel: None }
+1: AddFlood { vid: Vid { number: 4094 }, addr: V6([0, 0, 0, 0, 0, 0, 0, 0, 0, 0, 0, 0, 0, 0, 0, 0]), tunnel: Some(Geneve) }
+1: RemoveFlood { vid: Vid { number: 1 }, addr: V4([255, 255, 255, 255]), tunnel: Some(Vxlan) }
+2: Fix { vid: Vid { number: 10 }, mac: Mac([1, 0, 94, 0, 0, 1]), target: Local(255) }
+2: Fix { vid: Vid { number: 10 }, mac: Mac([2, 0, 0, 0, 0, 1]), target: Remote(V4([239, 1, 1, 1]), None) }
+2: Fix { vid: Vid { number: 10 }, mac: Mac([2, 0, 0, 0, 0, 1]), target: Remote(V4([192, 0, 2, 9]), Some(Geneve)) }
+3: Unfix { vid: Vid { number: 10 }, mac: Mac([255, 255, 255, 255, 255, 255]) }
+4: SetAgeing { vid: Vid { number: 10 }, seconds: 4294967295 }
+5: SetLearning { vid: Vid { number: 10 }, on: false }
+6: SetMember { vid: Vid { number: 10 }, port: 3, egress: Some(Tagged) }
+6: SetMember { vid: Vid { number: 10 }, port: 3, egress: Some(Untagged) }
+6: SetMember { vid: Vid { number: 10 }, port: 0, egress: None }
+7: PortUp { port: 9 }
+8: PortDown { port: 9 }
+4294967295999999999: Flush { vid: Vid { number: 10 } }
+"#;
+
 /// The keys of one change, and the fault that they are; where there are two, the first in the order of the keys.
 pub(crate) const CHANGES: [(&str, &str); 42] = [
     ("at = 5", "Missing change.1.kind"),

@@ -1,10 +1,7 @@
-use crate::change_cases::{ALL_KINDS, CHANGES, LISTS};
-use crate::{Change, Target, TimedChange, changes_of};
-use frame_view::{Mac, Vid};
-use ip_udp_view::{Addr, Tunnel};
+use crate::change_cases::{ALL_KINDS, ALL_MEANINGS, CHANGES, LISTS};
+use crate::changes_of;
 use std::alloc::{AllocError, Global};
 use std::test::Fail;
-use vlan_ports::Egress;
 
 /// The line of a text's fault; "ok" without one.
 fn line_of(alloc: Global, text: &[u8]) -> Result<String, AllocError> {
@@ -17,109 +14,12 @@ fn line_of(alloc: Global, text: &[u8]) -> Result<String, AllocError> {
 
 #[test]
 fn changes_of_each_kind_are_read(rt: HostRuntime) -> Result<(), Fail> {
-    let vid = Vid::new(10).ok_or("10 is a VID")?;
-    let first = Vid::new(1).ok_or("1 is a VID")?;
-    let last = Vid::new(4094).ok_or("4094 is a VID")?;
-    let mac = Mac([2, 0, 0, 0, 0, 1]);
-    let group = Mac([1, 0, 0x5E, 0, 0, 1]);
-    let addr = Addr::V4([192, 0, 2, 9]);
-    let want = [
-        (
-            0,
-            Change::AddFlood {
-                vid,
-                addr,
-                tunnel: None,
-            },
-        ),
-        (
-            1,
-            Change::AddFlood {
-                vid: last,
-                addr: Addr::V6([0; 16]),
-                tunnel: Some(Tunnel::Geneve),
-            },
-        ),
-        (
-            1,
-            Change::RemoveFlood {
-                vid: first,
-                addr: Addr::V4([255; 4]),
-                tunnel: Some(Tunnel::Vxlan),
-            },
-        ),
-        (
-            2,
-            Change::Fix {
-                vid,
-                mac: group,
-                target: Target::Local(255),
-            },
-        ),
-        (
-            2,
-            Change::Fix {
-                vid,
-                mac,
-                target: Target::Remote(Addr::V4([239, 1, 1, 1]), None),
-            },
-        ),
-        (
-            2,
-            Change::Fix {
-                vid,
-                mac,
-                target: Target::Remote(addr, Some(Tunnel::Geneve)),
-            },
-        ),
-        (
-            3,
-            Change::Unfix {
-                vid,
-                mac: Mac([0xFF; 6]),
-            },
-        ),
-        (
-            4,
-            Change::SetAgeing {
-                vid,
-                seconds: 4294967295,
-            },
-        ),
-        (5, Change::SetLearning { vid, on: false }),
-        (
-            6,
-            Change::SetMember {
-                vid,
-                port: 3,
-                egress: Some(Egress::Tagged),
-            },
-        ),
-        (
-            6,
-            Change::SetMember {
-                vid,
-                port: 3,
-                egress: Some(Egress::Untagged),
-            },
-        ),
-        (
-            6,
-            Change::SetMember {
-                vid,
-                port: 0,
-                egress: None,
-            },
-        ),
-        (7, Change::PortUp { port: 9 }),
-        (8, Change::PortDown { port: 9 }),
-        (4294967295999999999, Change::Flush { vid }),
-    ];
-    let changes = changes_of(rt.alloc(), ALL_KINDS.as_bytes())?;
-    assert_eq!(rt; changes.len(), want.len());
-    for (have, (at, change)) in changes.iter().zip(want) {
-        assert_eq!(rt; *have, TimedChange { at, change }, "at {at}");
+    let alloc = rt.alloc();
+    let mut told = String::new(alloc);
+    for timed in &changes_of(alloc, ALL_KINDS.as_bytes())? {
+        told.push_str(&format!(in alloc; "{}: {:?}\n", timed.at, timed.change)?)?;
     }
+    assert_eq!(rt; told.as_str(), ALL_MEANINGS);
     Ok(())
 }
 

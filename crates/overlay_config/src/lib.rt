@@ -30,4 +30,6 @@ mod change_tests;
 #[cfg(test)]
 mod settings_cases;
 #[cfg(test)]
+mod settings_meanings;
+#[cfg(test)]
 mod settings_tests;

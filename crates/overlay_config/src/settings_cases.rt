@@ -1,6 +1,31 @@
 //! Texts of settings, each with its first fault by the rules, or "ok".
 
-/// Lines behind the keys of the underlay, and the fault that they are.
+/// The fewest keys, with a comment in each table that lines are put in place of.
+pub(crate) const FEWEST: &str = r#"version = 1
+[underlay]
+mac = "02:00:00:00:aa:01"
+next_hop = "02:00:00:00:aa:fe"
+ip4 = "192.0.2.1"
+# underlay
+[[port]]
+pvid = 10
+# port
+[[segment]]
+vid = 10
+vni = 5000
+tunnel = "vxlan"
+# segment
+"#;
+
+/// The keys of the underlay alone.
+pub(crate) const UNDERLAY: &str = r#"version = 1
+[underlay]
+mac = "02:00:00:00:aa:01"
+next_hop = "02:00:00:00:aa:fe"
+ip4 = "192.0.2.1"
+"#;
+
+/// Lines of the underlay, and the fault that they are.
 pub(crate) const UNDERLAY_LINES: [(&str, &str); 40] = [
     ("mtu = 1279", "BadValue underlay.mtu"),
     ("mtu = 65536", "BadValue underlay.mtu"),
@@ -62,7 +87,7 @@ pub(crate) const UNDERLAY_LINES: [(&str, &str); 40] = [
     ("gateway = 1", "BadValue underlay.*"),
 ];
 
-/// Lines behind the keys of the port.
+/// Lines of the port.
 pub(crate) const PORT_LINES: [(&str, &str); 8] = [
     ("accept = \"none\"", "BadValue port.1.accept"),
     ("accept = true", "BadValue port.1.accept"),
@@ -74,7 +99,7 @@ pub(crate) const PORT_LINES: [(&str, &str); 8] = [
     ("[[port]]\npvid = true", "BadValue port.2.pvid"),
 ];
 
-/// Lines behind the keys of the segment.
+/// Lines of the segment.
 pub(crate) const SEGMENT_LINES: [(&str, &str); 39] = [
     ("limit = 0", "BadValue segment.1.limit"),
     ("limit = 8193", "BadValue segment.1.limit"),
@@ -247,15 +272,46 @@ pub(crate) const WHOLE: [(&str, &str); 6] = [
     ("version", "NotToml"),
 ];
 
-/// Lines in front of the underlay.
+/// Lines in place of the version, and no table but the underlay.
 pub(crate) const FIRST_LINES: [(&str, &str); 6] = [
-    ("port = 1", "BadValue port"),
-    ("port = []", "Missing port"),
-    ("port = [1]", "BadValue port.1"),
-    ("port = [{ pvid = 1 }]\nsegment = 1", "BadValue segment"),
-    ("port = [{ pvid = 1 }]\nsegment = []", "Missing segment"),
+    ("version = 1\nport = 1", "BadValue port"),
+    ("version = 1\nport = []", "Missing port"),
+    ("version = 1\nport = [1]", "BadValue port.1"),
     (
-        "port = [{ pvid = 1 }]\nsegment = [{}, 1]",
+        "version = 1\nport = [{ pvid = 1 }]\nsegment = 1",
+        "BadValue segment",
+    ),
+    (
+        "version = 1\nport = [{ pvid = 1 }]\nsegment = []",
+        "Missing segment",
+    ),
+    (
+        "version = 1\nport = [{ pvid = 1 }]\nsegment = [{}, 1]",
         "Missing segment.1.vid",
     ),
 ];
+
+/// A part of the fewest keys; the table that is put in its place, so often, each time with its number for `#`; the fault.
+pub(crate) const NUMBERED: [(&str, &str, u16, &str); 9] = [
+    ("# port", "[[port]]\npvid = 10\n", 15, "ok"),
+    ("# port", "[[port]]\npvid = 10\n", 16, "OverLimit port"),
+    ("# underlay", HOP, 64, "ok"),
+    ("# underlay", HOP, 65, "OverLimit underlay.hop"),
+    (SEGMENT, OF_LIMIT_256, 256, "ok"),
+    (SEGMENT, OF_LIMIT_0, 257, "OverLimit segment"),
+    (SEGMENT, OF_LIMIT_8192, 8, "ok"),
+    (SEGMENT, OF_LIMIT_8192, 9, "OverLimit limit"),
+    (SEGMENT, OF_LIMIT_257, 256, "OverLimit limit"),
+];
+
+const HOP: &str = "[[underlay.hop]]\naddr = \"198.51.100.#\"\nmac = \"02:00:00:00:00:01\"\n";
+
+const SEGMENT: &str = "[[segment]]\nvid = 10\nvni = 5000\ntunnel = \"vxlan\"\n";
+
+const OF_LIMIT_0: &str = "[[segment]]\nvid = #\nvni = #\ntunnel = \"vxlan\"\nlimit = 0\n";
+
+const OF_LIMIT_256: &str = "[[segment]]\nvid = #\nvni = #\ntunnel = \"vxlan\"\nlimit = 256\n";
+
+const OF_LIMIT_257: &str = "[[segment]]\nvid = #\nvni = #\ntunnel = \"vxlan\"\nlimit = 257\n";
+
+const OF_LIMIT_8192: &str = "[[segment]]\nvid = #\nvni = #\ntunnel = \"vxlan\"\nlimit = 8192\n";

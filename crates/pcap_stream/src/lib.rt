@@ -25,4 +25,8 @@ pub use sink::Sink;
 pub use source::Source;
 
 #[cfg(test)]
-mod tests;
+mod device_tests;
+#[cfg(test)]
+mod sink_tests;
+#[cfg(test)]
+mod source_tests;

@@ -1,0 +1,119 @@
+//! Captures written to outputs that take little, and to outputs that fail.
+ghost use Rattle.std.specs.Prelude.{◌≢◌, ◌≤◌, None};
+ghost use Rattle.pcap_stream.specs.Source.{New};
+
+use crate::source_tests::{TWO, in_pieces};
+use crate::{DeviceFault, Output, Sink, Source, WriteFault};
+use std::test::Fail;
+
+/// Room for octets that takes at most so many a call. The n-th call fails, or takes none.
+#[derive(Drop)]
+struct Slow {
+    octets: [u8; 64],
+    taken: usize,
+    most: usize,
+    stops_at: u64,
+    fails: bool,
+    calls: u64,
+    failures: u64,
+    ghost fits: { taken ≤ 64 },
+}
+
+fn slowly(most: usize, stops_at: u64, fails: bool) -> Slow {
+    Slow {
+        octets: [0; 64],
+        taken: 0,
+        most,
+        stops_at,
+        fails,
+        calls: 0,
+        failures: 0,
+    }
+}
+
+impl Output for Slow {
+    ghost written = { λ _. None };
+
+    ghost failures = { λ s. s.failures };
+
+    fn write(&mut self, octets: &[u8]) -> Result<usize, DeviceFault> {
+        if octets.is_empty() {
+            return Ok(0);
+        }
+        self.calls = self.calls.saturating_add(1);
+        if self.calls == self.stops_at && self.fails {
+            self.failures = self.failures.wrapping_add(1);
+            return Err(DeviceFault);
+        }
+        let room = 64 - self.taken;
+        let n = octets.len().min(self.most.max(1)).min(room);
+        if self.calls == self.stops_at || n == 0 {
+            self.failures = self.failures.wrapping_add(1);
+            return Ok(0);
+        }
+        self.octets[self.taken..self.taken + n].copy_from_slice(&octets[..n]);
+        self.taken += n;
+        Ok(n)
+    }
+}
+
+fn put_two<W: Output>(sink: &mut Sink<W>) -> Result<(), WriteFault> {
+    sink.begin()?;
+    sink.put(1_000_000_005, &[7], &[8], &[], &[9])?;
+    sink.put(2_000_000_000, &[], &[], &[], &[4])
+}
+
+#[test]
+fn writes_through_an_output_that_takes_little(rt: HostRuntime) {
+    for most in [1, 7, 4096] {
+        let mut sink = Sink::new(slowly(most, 0, false));
+        assert!(rt; put_two(&mut sink).is_ok(), "by {most}");
+        let output = sink.into_inner();
+        assert_eq!(rt; &output.octets[..output.taken], TWO, "by {most}");
+    }
+}
+
+/// How many octets stand before the n-th write, each of at most seven octets, of a header and of two records in parts.
+const BEFORE: [usize; 14] = [0, 7, 14, 21, 24, 31, 38, 40, 41, 42, 43, 50, 57, 59];
+
+#[test]
+fn tells_each_write_that_fails(rt: HostRuntime) {
+    let mut n = 1;
+    for before in BEFORE {
+        for fails in [true, false] {
+            let mut sink = Sink::new(slowly(7, n, fails));
+            assert!(rt; put_two(&mut sink).is_err(), "write {n}");
+            assert!(rt; sink.begin().is_err(), "behind write {n}");
+            assert!(rt;
+                sink.put(0, &[1], &[], &[], &[]).is_err(),
+                "behind write {n}"
+            );
+            let output = sink.into_inner();
+            assert_eq!(rt; &output.octets[..output.taken], &TWO[..before], "write {n}");
+        }
+        n = n.saturating_add(1);
+    }
+    let mut sink = Sink::new(slowly(7, 15, true));
+    assert!(rt; put_two(&mut sink).is_ok());
+}
+
+/// One request for memory, by `Source::new`: what it refuses, it says, and no later call makes another. To refuse it, run
+/// this by `rt try --test --fail-alloc 1`.
+#[test]
+fn takes_memory_for_one_record_alone(rt: HostRuntime) -> Result<(), Fail> {
+    let mut source = Source::new(rt.alloc(), in_pieces(TWO, 7, 0), 1000)?;
+    let mut sink = Sink::new(slowly(7, 0, false));
+    assert!(rt; source.open().is_ok());
+    assert!(rt; sink.begin().is_ok());
+    for _ in 0..2 {
+        assert!(rt; source.fill().is_ok());
+        let record = source.head().ok_or("a record")?;
+        assert!(rt;
+            sink.put(record.moment, record.octets, &[], &[], &[])
+                .is_ok()
+        );
+    }
+    let output = sink.into_inner();
+    assert_eq!(rt; &output.octets[..output.taken], TWO);
+    Ok(())
+}

@@ -52,7 +52,7 @@ pub(crate) fn of_captures(fault: TimelineFault) -> RunFault
 }
 
 /// A fault of the settings text as one of the run.
-pub(crate) fn of_settings(fault: SettingsFault) -> RunFault
+pub fn of_settings(fault: SettingsFault) -> RunFault
     ensures { result ≡ of_settings fault }
 {
     match fault {
@@ -62,7 +62,7 @@ pub(crate) fn of_settings(fault: SettingsFault) -> RunFault
 }
 
 /// A fault of the changes text as one of the run.
-pub(crate) fn of_changes(fault: SettingsFault) -> RunFault
+pub fn of_changes(fault: SettingsFault) -> RunFault
     ensures { result ≡ of_changes fault }
 {
     match fault {

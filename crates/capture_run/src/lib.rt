@@ -9,7 +9,7 @@ mod line;
 mod outputs;
 mod run;
 
-pub use fault::RunFault;
+pub use fault::{RunFault, of_changes, of_settings};
 pub use outputs::Outputs;
 pub use run::run_bytes;
 

@@ -1,0 +1,27 @@
+use Rattle.std.proofs.Common.{◌≡◌, ◌∙◌, ap, sym, subst, [], ◌++◌, List, Vec, ℕ, Global, map, Ok, Err}
+use Rattle.overlay_config.specs.Change.{changes_in}
+use Rattle.overlay_config.specs.Settings.{settings_in}
+use Rattle.pcap_io.specs.Written.{written_header}
+use Rattle.capture_run.specs.Run.{Gives, run}
+use Rattle.dissector.specs.Given.{GivesText, decisions_of}
+use Rattle.dissector.specs.Sample.{captures, settings_text}
+use Rattle.dissector.proofs.SameRun.{fault_given, means_at, same_run}
+use Rattle.dissector.proofs.built_in.sample.Goals as goal
+
+pub returns-in-Ok : goal.returns-in-Ok
+returns-in-Ok c ports is =
+    let s = settings_in settings_text in
+    let changes = changes_in [] in
+    let given = c.in-Ok.ensures s changes (means_at settings_in settings_text c.as_bytes.result.now c.as_bytes.ensures.utf8 c.as_bytes.ensures.value) (means_at changes_in [] c.as_bytes-2.result.now c.as_bytes-2.ensures.utf8 c.as_bytes-2.ensures.value) in
+    let same = same_run s changes ports c.as_slice.result.now written_header (is ∙ sym (ap (map (λ (v : Vec ℕ Global). v.items)) c.as_slice.ensures.value ∙ c.in_ok-ports.ensures)) in
+    let there = c.as_slice-2.ensures.value ∙ c.in_ok-underlay.ensures in
+    ap decisions_of (same ∙ ap (run s changes c.as_slice.result.now) (sym there) ∙ given)
+
+pub returns : goal.returns
+returns c ports is =
+    let s = settings_in settings_text in
+    let changes = changes_in [] in
+    let given = c.in-Err.ensures s changes (means_at settings_in settings_text c.as_bytes.result.now c.as_bytes.ensures.utf8 c.as_bytes.ensures.value) (means_at changes_in [] c.as_bytes-2.result.now c.as_bytes-2.ensures.utf8 c.as_bytes-2.ensures.value) in
+    let same = same_run s changes ports c.as_slice.result.now written_header (is ∙ sym (ap (map (λ (v : Vec ℕ Global). v.items)) c.as_slice.ensures.value ∙ c.in_ok-ports.ensures)) in
+    let there = c.as_slice-2.ensures.value ∙ c.in_ok-underlay.ensures in
+    fault_given c.in-Err.fault (run s changes ports written_header) (subst (Gives (Err c.in-Err.fault)) (sym (same ∙ ap (run s changes c.as_slice.result.now) (sym there))) given)

@@ -1,0 +1,18 @@
+-- What a look at a settings text and a changes text tells.
+use Rattle.std.specs.Prelude.{ℕ, List, [], ◌∷◌, ◌++◌, codes, decimal, length, Result, Ok, Err}
+use Rattle.overlay_config.specs.Fault.{Meaning}
+use Rattle.overlay_config.specs.Settings.{Settings}
+use Rattle.overlay_config.specs.declared.change.TimedChange.{TimedChange}
+use Rattle.capture_run.specs.Fault.{of_changes, of_settings}
+use Rattle.capture_run.specs.declared.fault.RunFault.{RunFault}
+
+-- the numbers of ports, segments and changes, ended by LF
+abbrev pub counts_line : ℕ → ℕ → ℕ → List ℕ
+counts_line ports segments changes =
+    codes "ok: " ++ (decimal ports ++ (codes " ports, " ++ (decimal segments ++ (codes " segments, " ++ (decimal changes ++ codes " changes\n")))))
+
+-- by what the texts mean: the first fault, the settings' before the changes', or else the line
+abbrev pub checked : Meaning Settings → Meaning (List TimedChange) → Result (List ℕ) RunFault
+checked (Err fault) changes = Err (of_settings fault)
+checked (Ok settings) (Err fault) = Err (of_changes fault)
+checked (Ok settings) (Ok changes) = Ok (counts_line (length settings.ports) (length settings.tables) (length changes))

@@ -1,0 +1,5 @@
+pub mod Check
+pub mod Given
+pub mod Sample
+pub mod Status
+pub mod Text

@@ -1,0 +1,51 @@
+//! A look at a settings text and a changes text.
+ghost use Rattle.std.specs.Prelude.{◌≡◌, IfOk, List, length};
+ghost use Rattle.overlay_config.specs.Change.{changes_in};
+ghost use Rattle.overlay_config.specs.Fault.{Meaning};
+ghost use Rattle.overlay_config.specs.Settings.{Settings, settings_in};
+ghost use Rattle.overlay_config.specs.declared.change.TimedChange.{TimedChange};
+ghost use Rattle.capture_run.specs.Run.{Means};
+ghost use Rattle.dissector.specs.Check.{checked, counts_line};
+ghost use Rattle.dissector.specs.Given.{GivesText};
+
+use capture_run::{RunFault, of_changes, of_settings};
+use overlay_config::{changes_of, settings_of};
+use std::alloc::{AllocError, Global};
+use std::fmt::Write;
+
+/// The line `ok: P ports, S segments, C changes` of a settings text and a changes text, ended by LF.
+///
+/// The first fault is answered, the settings' before the changes'. `OutOfMemory` comes only where memory was refused.
+pub fn check_text(alloc: Global, settings: &[u8], changes: &[u8]) -> Result<Vec<u8>, RunFault>
+    ensures { (s : Meaning Settings) (c : Meaning (List TimedChange))
+        → Means settings_in settings.now s → Means changes_in changes.now c → GivesText result (checked s c) }
+{
+    let settings = match settings_of(alloc, settings) {
+        Ok(settings) => settings,
+        Err(fault) => return Err(of_settings(fault)),
+    };
+    let changes = match changes_of(alloc, changes) {
+        Ok(changes) => changes,
+        Err(fault) => return Err(of_changes(fault)),
+    };
+    let ports = settings.ports().len();
+    let segments = settings.tables().len();
+    match counts_line(alloc, ports, segments, changes.len()) {
+        Ok(line) => Ok(line),
+        Err(_) => Err(RunFault::OutOfMemory),
+    }
+}
+
+/// The line that tells so many ports, segments and changes.
+fn counts_line(
+    alloc: Global,
+    ports: usize,
+    segments: usize,
+    changes: usize,
+) -> Result<Vec<u8>, AllocError>
+    ensures { IfOk result (λ line. line.items ≡ counts_line ports segments changes) }
+{
+    let mut line = String::new(alloc);
+    writeln!(line, "ok: {ports} ports, {segments} segments, {changes} changes")?;
+    Ok(line.into_bytes())
+}

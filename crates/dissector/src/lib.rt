@@ -1,0 +1,20 @@
+//! What the program does for its user, as calls over texts: octets in, octets out.
+//!
+//! [`sample`] runs the endpoint on a built-in sample, [`check_text`] looks at a settings text and a changes text, and
+//! [`exit_code`] is the exit status of a [`RunFault`](capture_run::RunFault). [`read_text`] reads a whole text from any
+//! input in a bounded number of reads. [`line_of`] reads the program's words. No file is opened here.
+#![tactic(auto)]
+
+mod built_in;
+mod check;
+mod status;
+mod text;
+
+pub use built_in::sample;
+pub use check::check_text;
+pub use command_line::{Line, LineFault, line_of};
+pub use status::exit_code;
+pub use text::{TextFault, read_text};
+
+#[cfg(test)]
+mod tests;

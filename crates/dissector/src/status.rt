@@ -1,0 +1,15 @@
+//! The exit status of a run's fault.
+ghost use Rattle.std.specs.Prelude.{◌≡◌};
+ghost use Rattle.dissector.specs.Status.{status_of};
+
+use capture_run::RunFault;
+
+/// The exit status of a fault: 1 for a text or a capture that is refused, 3 for want of memory.
+pub fn exit_code(fault: &RunFault) -> u8
+    ensures { result ≡ status_of fault.now }
+{
+    match fault {
+        RunFault::OutOfMemory => 3,
+        _ => 1,
+    }
+}

@@ -1,0 +1,140 @@
+//! What the program does with its words.
+use crate::files::{read_file, read_files, read_if_given, write_outputs};
+use crate::stop::{Output, Stop};
+use capture_run::{RunFault, run_bytes};
+use dissector::{Line, LineFault, check_text, line_of, sample};
+use std::alloc::Global;
+use std::env;
+use std::io::{self, ErrorKind, Write};
+use std::process::ExitCode;
+use std::rt::{Env, Files};
+
+/// The exit status where the words are refused.
+const WORDS_REFUSED: u8 = 2;
+
+/// Gets the words of the process, and does what they ask for.
+pub fn start<R: Env + Files + AllocGlobal + Print + Eprint>(rt: &R) -> ExitCode {
+    let words = match env::args(rt) {
+        Ok(words) => words,
+        Err(error) => {
+            if error.kind() == ErrorKind::OutOfMemory {
+                return ExitCode::from(stopped(rt, &Stop::Run(RunFault::OutOfMemory)));
+            }
+            return ExitCode::from(words_refused(rt));
+        }
+    };
+    match status(rt, words) {
+        Some(code) => ExitCode::from(code),
+        None => ExitCode::from(stopped(rt, &Stop::Run(RunFault::OutOfMemory))),
+    }
+}
+
+/// The exit status, or nothing where memory runs out before the words are read.
+fn status<R: Files + AllocGlobal + Print + Eprint>(rt: &R, words: env::Args<Global>) -> Option<u8> {
+    let words: Vec<String> = words.collect(rt.alloc()).ok()?;
+    let mut texts = Vec::new(rt.alloc());
+    for word in &words {
+        texts.push(word.as_str()).ok()?;
+    }
+    Some(run(rt, texts.as_slice()))
+}
+
+/// Does what the words ask for, the program's name first, and answers the exit status: 0 where it is done, 1 where a text
+/// or a capture is refused, 2 where the words are, and 3 for want of memory or a read or a write that failed.
+pub fn run<'a, R: Files + AllocGlobal + Print + Eprint>(rt: &R, words: &'a [&'a str]) -> u8 {
+    match line_of(rt.alloc(), words) {
+        Ok(line) => match perform(rt, &line) {
+            Ok(()) => 0,
+            Err(stop) => stopped(rt, &stop),
+        },
+        Err(LineFault::OutOfMemory) => stopped(rt, &Stop::Run(RunFault::OutOfMemory)),
+        Err(LineFault::NoValue) => words_refused(rt),
+        Err(LineFault::Refused(error)) => {
+            if error.print(rt).is_err() {
+                return stopped(rt, &Stop::Write(Output::Stdout));
+            }
+            if error.use_stderr() { WORDS_REFUSED } else { 0 }
+        }
+    }
+}
+
+/// Says that the words lack a value.
+fn words_refused(rt: &impl Eprint) -> u8 {
+    let _ = eprintln!(rt; "words");
+    WORDS_REFUSED
+}
+
+/// Says why the program gives up.
+fn stopped(rt: &impl Eprint, stop: &Stop<'_>) -> u8 {
+    let _ = eprintln!(rt; "{stop}");
+    stop.status()
+}
+
+/// Does what a line asks for. Nothing is written before all is read and worked out.
+fn perform<'a, R: Files + AllocGlobal + Print>(rt: &R, line: &Line<'a>) -> Result<(), Stop<'a>> {
+    match line {
+        Line::Sample => print_sample(rt),
+        Line::Check { settings, changes } => check(rt, *settings, *changes),
+        Line::Run {
+            settings,
+            changes,
+            underlay,
+            out,
+            ports,
+        } => run_on_files(rt, *settings, *changes, *underlay, *out, ports.as_slice()),
+    }
+}
+
+/// Prints the decision lines of the sample.
+fn print_sample<R: AllocGlobal + Print>(rt: &R) -> Result<(), Stop<'static>> {
+    match sample(rt.alloc()) {
+        Ok(lines) => print_text(rt, lines.as_slice()),
+        Err(fault) => Err(Stop::Run(fault)),
+    }
+}
+
+/// Looks at the texts, and prints what is in them.
+fn check<'a, R: Files + AllocGlobal + Print>(
+    rt: &R,
+    settings: &'a str,
+    changes: Option<&'a str>,
+) -> Result<(), Stop<'a>> {
+    let settings = read_file(rt, settings)?;
+    let changes = read_if_given(rt, changes)?;
+    match check_text(rt.alloc(), settings.as_slice(), changes.as_slice()) {
+        Ok(line) => print_text(rt, line.as_slice()),
+        Err(fault) => Err(Stop::Run(fault)),
+    }
+}
+
+/// Runs on files, and writes what comes out into a folder.
+fn run_on_files<'a, R: Files + AllocGlobal>(
+    rt: &R,
+    settings: &'a str,
+    changes: Option<&'a str>,
+    underlay: &'a str,
+    out: &str,
+    ports: &[&'a str],
+) -> Result<(), Stop<'a>> {
+    let settings = read_file(rt, settings)?;
+    let changes = read_if_given(rt, changes)?;
+    let underlay = read_file(rt, underlay)?;
+    let ports = read_files(rt, ports)?;
+    match run_bytes(
+        rt.alloc(),
+        settings.as_slice(),
+        changes.as_slice(),
+        ports.as_slice(),
+        underlay.as_slice(),
+    ) {
+        Ok(outputs) => write_outputs(rt, out, &outputs),
+        Err(fault) => Err(Stop::Run(fault)),
+    }
+}
+
+/// Prints a text on standard output.
+fn print_text(rt: &impl Print, text: &[u8]) -> Result<(), Stop<'static>> {
+    io::writer(rt)
+        .write_all(text)
+        .map_err(|_| Stop::Write(Output::Stdout))
+}

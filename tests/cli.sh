@@ -1,0 +1,152 @@
+#!/usr/bin/env bash
+# The program from its words to its status, its texts and its files: what a test within the program can't reach, such as
+# standard error, files that can't be read, and a device that is full.
+set -u
+cd "$(dirname "$0")/.." || exit 1
+folder=$(mktemp -d)
+trap 'rm -rf "$folder"' EXIT
+failures=0
+
+complain() {
+    echo "tests/cli.sh: $*"
+    failures=$((failures + 1))
+}
+
+# ends STATUS LINE WORDS..: tep ends with this status, and says this line on standard error, or nothing where it is empty
+ends() {
+    local status=$1 line=$2 got
+    shift 2
+    ./tep "$@" >"$folder/stdout" 2>"$folder/stderr"
+    got=$?
+    [ "$got" -eq "$status" ] || complain "tep $*: status $got in place of $status"
+    printf '%s' "${line:+$line
+}" | cmp -s - "$folder/stderr" || complain "tep $*: '$(cat "$folder/stderr")' in place of '$line'"
+}
+
+# prints FILE: what the last line printed is this file
+prints() {
+    cmp -s "$1" "$folder/stdout" || complain "$1 isn't what was printed: $(cat "$folder/stdout")"
+}
+
+# says LINE: what the last line printed is this line
+says() {
+    [ "$(cat "$folder/stdout")" = "$1" ] || complain "'$(cat "$folder/stdout")' in place of '$1'"
+}
+
+# runs STATUS LINE SETTINGS CHANGES UNDERLAY PORT..: a run into the folder out ends so; files are named as in examples/
+runs() {
+    local status=$1 line=$2 settings=$3 changes=$4 underlay=$5
+    shift 5
+    ends "$status" "$line" run --settings "$settings" --changes "$changes" --underlay "$underlay" --out "$folder/out" "$@"
+}
+
+# holds NAME..: these files, and no others, stand in the folder out
+holds() {
+    [ "$(ls "$folder/out" 2>&1)" = "$(printf '%s\n' "$@")" ] || complain "out holds: $(ls "$folder/out" 2>&1)"
+}
+
+./tep >/dev/null || {
+    echo "tests/cli.sh: there is no program"
+    exit 1
+}
+mkdir "$folder/out"
+a=examples/a.toml
+changes=examples/changes.toml
+underlay=examples/underlay.pcap
+ports=(examples/port1.pcap examples/port2.pcap examples/port3.pcap)
+
+# What is done.
+ends 0 ""
+prints crates/tep/stdout
+ends 0 "" check --settings $a --changes $changes
+says "ok: 3 ports, 2 segments, 1 changes"
+ends 0 "" check --settings examples/b.toml
+says "ok: 3 ports, 2 segments, 0 changes"
+ends 0 "" check --settings examples/local.toml
+says "ok: 3 ports, 1 segments, 0 changes"
+runs 0 "" $a $changes $underlay "${ports[@]}"
+says ""
+holds decisions.txt port1.pcap port2.pcap port3.pcap underlay.pcap
+cmp examples/decisions.txt "$folder/out/decisions.txt" || complain "the decisions differ"
+ends 0 "" --help
+grep -q '^Usage: tep' "$folder/stdout" || complain "no help"
+ends 0 "" run --help
+grep -q 'Usage: tep run' "$folder/stdout" || complain "no help on run"
+ends 0 "" --version
+grep -q '^tep ' "$folder/stdout" || complain "no version"
+
+# Each output is written anew: what stood there before is gone.
+head -c 100000 /dev/zero >"$folder/out/decisions.txt"
+runs 0 "" $a $changes $underlay "${ports[@]}"
+cmp examples/decisions.txt "$folder/out/decisions.txt" || complain "decisions behind older ones"
+rm "$folder"/out/*
+
+# What is refused: status 1, and nothing is written.
+grep -v '^vni = 5000' $a >"$folder/no_vni.toml"
+ends 1 "settings: Missing segment.1.vni" check --settings "$folder/no_vni.toml"
+sed 's/^vid = 20/vid = 10/' $a >"$folder/twice.toml"
+ends 1 "settings: TwoSegments segment.2" check --settings "$folder/twice.toml"
+ends 1 "settings: NotToml" check --settings "${ports[0]}"
+echo 'x = 1' >"$folder/x.toml"
+ends 1 "changes: BadValue *" check --settings $a --changes "$folder/x.toml"
+runs 1 "settings: BadValue *" "$folder/x.toml" "$folder/x.toml" /dev/null /dev/null
+runs 1 "changes: BadValue *" $a "$folder/x.toml" /dev/null /dev/null
+runs 1 "captures: PortCount" $a $changes /dev/null "${ports[@]:1}"
+runs 1 "p2: NotPcap" $a $changes /dev/null "${ports[0]}" $a "${ports[2]}"
+runs 1 "u: NotPcap" $a $changes /dev/null "${ports[@]}"
+{ head -c 20 $underlay && printf '\145\0\0\0'; } >"$folder/raw.pcap"
+runs 1 "u: BadLink" $a $changes "$folder/raw.pcap" "${ports[@]}"
+{ head -c 40 "${ports[0]}" | head -c 32 && printf '\1\0\4\0\0\0\0\0'; } >"$folder/large.pcap"
+runs 1 "p1: TooLarge 1" $a $changes $underlay "$folder/large.pcap" "${ports[@]:1}"
+{ cat "${ports[1]}" && printf '\1\0\0\0\100\102\17\0\0\0\0\0\0\0\0\0'; } >"$folder/fraction.pcap"
+runs 1 "p2: BadFraction 3" $a $changes $underlay "${ports[0]}" "$folder/fraction.pcap" "${ports[2]}"
+holds
+
+# Captures without records, and one whose last record is cut.
+head -c 24 $underlay >"$folder/empty.pcap"
+runs 0 "" $a /dev/null "$folder/empty.pcap" "$folder/empty.pcap" "$folder/empty.pcap" "$folder/empty.pcap"
+[ -s "$folder/out/decisions.txt" ] && complain "decisions of no events"
+[ "$(stat -c %s "$folder/out/underlay.pcap")" -eq 24 ] || complain "a capture of no emissions isn't its header"
+head -c 103 "${ports[0]}" >"$folder/cut.pcap"
+runs 0 "" $a /dev/null "$folder/empty.pcap" "$folder/cut.pcap" "$folder/empty.pcap" "$folder/empty.pcap"
+[ "$(cat "$folder/out/decisions.txt")" = "1 1000000000 p1 1 10 p2=60 p3=64 192.0.2.2=110
+cut p1 1" ] || complain "a cut capture: $(cat "$folder/out/decisions.txt")"
+rm "$folder"/out/*
+
+# The words: status 2.
+for words in "nothing" "run" "check" "check --depth 1" "run --settings s --underlay u --out o"; do
+    # shellcheck disable=SC2086
+    ./tep $words >"$folder/stdout" 2>"$folder/stderr"
+    got=$?
+    [ $got -eq 2 ] || complain "tep $words: status $got"
+    [ -s "$folder/stderr" ] && [ ! -s "$folder/stdout" ] || complain "tep $words: its text isn't on standard error"
+done
+ends 2 "words" check --settings $'\xff'
+
+# Files that can't be read: status 3, the first in the order of settings, changes, underlay, ports.
+no=$folder/no
+ends 3 "read $no" check --settings "$no" --changes "$folder"
+ends 3 "read $folder" check --settings $a --changes "$folder"
+runs 3 "read $no.s" "$no.s" "$no.c" "$no.u" "$no.1" "$no.2"
+runs 3 "read $no.c" "$folder/x.toml" "$no.c" "$no.u" "$no.1" "$no.2"
+runs 3 "read $no.u" "$folder/x.toml" "$folder/x.toml" "$no.u" "$no.1" "$no.2"
+runs 3 "read $no.1" "$folder/x.toml" "$folder/x.toml" "$folder/x.toml" "$no.1" "$no.2"
+runs 3 "read $no.2" "$folder/x.toml" "$folder/x.toml" "$folder/x.toml" "$folder/x.toml" "$no.2"
+holds
+
+# What can't be written: status 3.
+ends 3 "write port1.pcap" run --settings $a --underlay $underlay --out "$no" "${ports[@]}"
+[ -e "$no" ] && complain "a run made a folder"
+for name in port1.pcap port3.pcap underlay.pcap decisions.txt; do
+    ln -s /dev/full "$folder/out/$name"
+    runs 3 "write $name" $a $changes $underlay "${ports[@]}"
+    rm -f "$folder"/out/*
+done
+for words in "" "--help" "--version" "check --settings $a"; do
+    # shellcheck disable=SC2086
+    ./tep $words >/dev/full 2>"$folder/stderr"
+    got=$?
+    [ $got -eq 3 ] && [ "$(cat "$folder/stderr")" = "write stdout" ] || complain "tep $words on a full device: status $got, '$(cat "$folder/stderr")'"
+done
+
+[ "$failures" -eq 0 ]

@@ -3,5 +3,5 @@ mod Readings
 mod Listed
 mod Hops
 mod Numbers
-mod Meets
+pub mod Meets
 mod Rising

@@ -1,0 +1,13 @@
+pub mod Counting
+pub mod Places
+pub mod Wire
+pub mod Entering
+pub mod Keeping
+pub mod Reached
+pub mod Steps
+pub mod Sent
+pub mod Vnis
+pub mod Counts
+pub mod Meshes
+pub mod Addresses
+pub mod Texts

@@ -41,7 +41,7 @@ impl From<AllocError> for RunFault {
 }
 
 /// A fault of the captures as one of the run.
-pub(crate) fn of_captures(fault: TimelineFault) -> RunFault
+pub fn of_captures(fault: TimelineFault) -> RunFault
     ensures { result ≡ of_timeline fault }
 {
     match fault {

@@ -9,7 +9,8 @@ mod line;
 mod outputs;
 mod run;
 
-pub use fault::{RunFault, of_changes, of_settings};
+pub use fault::{RunFault, of_captures, of_changes, of_settings};
+pub use line::{cut_line, decision_line};
 pub use outputs::Outputs;
 pub use run::run_bytes;
 

@@ -12,8 +12,9 @@ use std::alloc::{AllocError, Global};
 use std::fmt::Write;
 use timeline::{Cut, Event};
 
-/// The line of a decision about a frame or a packet.
-pub(crate) fn decision_line(
+/// The line of a decision about a frame or a packet, which is the event of this number, from 1. `AllocError`: there was no
+/// room for the text.
+pub fn decision_line(
     alloc: Global,
     number: u64,
     event: &Event,
@@ -49,8 +50,8 @@ pub(crate) fn reply_line(
     Ok(text.into_bytes())
 }
 
-/// The line of a capture that ends with a cut rest.
-pub(crate) fn cut_line(alloc: Global, cut: &Cut) -> Result<Vec<u8>, AllocError>
+/// The line of a capture that ends with a cut rest. `AllocError`: there was no room for the text.
+pub fn cut_line(alloc: Global, cut: &Cut) -> Result<Vec<u8>, AllocError>
     ensures { IfOk result (λ text. text.items ≡ cut_line cut.now) }
 {
     let mut text = String::new(alloc);

@@ -3,7 +3,7 @@ use Rattle.std.proofs.Common.{◌≡◌, refl, codes, [], ◌∷◌, Some, None,
 use Rattle.clap.specs.Words.{takes}
 use Rattle.clap.proofs.OnLiterals.{clap_on_literals}
 use Rattle.command_line.specs.App.{tep_app}
-use Rattle.command_line.specs.Meaning.{sample, check, run, words_meant}
+use Rattle.command_line.specs.Meaning.{sample, check, run, explain, words_meant}
 
 no_words : words_meant (codes "tep" ∷ []) ≡ Some sample
 unfolding clap_on_literals
@@ -22,3 +22,15 @@ a_run = refl
 a_run_without_ports_is_refused : takes tep_app (codes "tep" ∷ codes "run" ∷ codes "--settings" ∷ codes "s" ∷ codes "--underlay" ∷ codes "u" ∷ codes "--out" ∷ codes "d" ∷ []) ≡ false
 unfolding clap_on_literals
 a_run_without_ports_is_refused = refl
+
+an_explanation : words_meant (codes "tep" ∷ codes "explain" ∷ codes "--settings" ∷ codes "s" ∷ codes "c" ∷ []) ≡ Some (explain (codes "s") 4 (codes "c"))
+unfolding clap_on_literals
+an_explanation = refl
+
+an_explanation_of_three : words_meant (codes "tep" ∷ codes "explain" ∷ codes "--depth=3" ∷ codes "c" ∷ codes "--settings" ∷ codes "s" ∷ []) ≡ Some (explain (codes "s") 3 (codes "c"))
+unfolding clap_on_literals
+an_explanation_of_three = refl
+
+a_depth_of_five_is_refused : takes tep_app (codes "tep" ∷ codes "explain" ∷ codes "--depth=5" ∷ codes "c" ∷ codes "--settings" ∷ codes "s" ∷ []) ≡ false
+unfolding clap_on_literals
+a_depth_of_five_is_refused = refl

@@ -1,8 +1,9 @@
 -- What `clap` is told of the program.
-use Rattle.std.specs.Prelude.{codes, true, Some, [], ◌∷◌}
+use Rattle.std.specs.Prelude.{codes, true, Some, pos, [], ◌∷◌}
 use Rattle.clap.specs.Words.{App, Rule, Shape, new_app, new_rule, with_rule, with_subcommand}
 use Rattle.clap.specs.Lexer.{usize_max}
 use Rattle.clap.specs.declared.builder.action.ArgAction.TheVariants.{Set, Append}
+use Rattle.clap.specs.declared.builder.value_parser.ValueParser.TheVariants as parser
 
 -- ---- the arguments
 
@@ -41,6 +42,22 @@ ports_rule = record (new_rule (codes "ports")) {
   range = Some (record { start_inclusive = 1; end_inclusive = usize_max });
 }
 
+-- a number of 1 to 4, by default 4
+abbrev pub depth_rule : Rule
+depth_rule = record (new_rule (codes "depth")) {
+  long = Some (codes "depth");
+  action = Some Set;
+  parser = Some (parser.Signed (pos 1) (pos 4));
+  defaults = codes "4" ∷ [];
+}
+
+-- one capture
+abbrev pub capture_rule : Rule
+capture_rule = record (new_rule (codes "capture")) {
+  required = true;
+  action = Some Set;
+}
+
 -- ---- the subcommands
 
 abbrev pub run_settings_app : App
@@ -58,10 +75,19 @@ check_app = with_rule (with_rule (new_app (codes "check")) settings_rule) change
 abbrev pub check_shape : Shape
 check_shape = check_app.top
 
+abbrev pub explain_app : App
+explain_app = with_rule (with_rule (with_rule (new_app (codes "explain")) settings_rule) depth_rule) capture_rule
+
+abbrev pub explain_shape : Shape
+explain_shape = explain_app.top
+
 -- the program's name, and that it has a version to tell
 abbrev pub versioned_app : App
 versioned_app = let app = new_app (codes "tep") in record app { top = record app.top { has_version = true } }
 
+abbrev pub run_and_check_app : App
+run_and_check_app = with_subcommand (with_subcommand versioned_app run_shape) check_shape
+
 -- the program with its subcommands
 abbrev pub tep_app : App
-tep_app = with_subcommand (with_subcommand versioned_app run_shape) check_shape
+tep_app = with_subcommand run_and_check_app explain_shape

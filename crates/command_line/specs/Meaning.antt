@@ -1,8 +1,10 @@
 -- What a command line means.
-use Rattle.std.specs.Prelude.{◌≡◌, List, Option, Some, None, codes, option_and_then, option_map, if◌then◌else◌, ⊤, false}
+use Rattle.std.specs.Prelude.{◌≡◌, ◌≤◌, ℕ, ◌&&◌, nat_le, List, Option, Some, None, codes, option_and_then, option_map, if◌then◌else◌, ⊤, false}
 use Rattle.std.specs.Str.{bytes_eq}
+use Rattle.std.specs.Str.Parse.{digits_value, without_leading_plus}
+use Rattle.clap.specs.ValueTests.{is_unsigned_in}
 use Rattle.clap.specs.Walk.{texts}
-use Rattle.clap.specs.Words.{IsAmong, Row, Text, all_of, fault_of, first_of, kind_of, subcommand_of, takes}
+use Rattle.clap.specs.Words.{IsAmong, Row, Text, all_of, fault_of, first_of, kind_of, one_of, subcommand_of, takes}
 use Rattle.command_line.specs.App.{tep_app}
 use Rattle.command_line.specs.declared.line.Line.{Line}
 use Rattle.command_line.specs.declared.line.Line.TheVariants as line
@@ -10,17 +12,26 @@ use Rattle.command_line.specs.declared.line.LineFault.{LineFault}
 use Rattle.command_line.specs.declared.line.LineFault.TheVariants as fault
 
 -- a command with its values: of `run` the settings, the changes, the underlay, the folder and the ports; of `check` the
--- settings and the changes
+-- settings and the changes; of `explain` the settings, the depth and the capture
 pub data Meaning : Type 0 where
   sample : Meaning
   run : Text → Option Text → Text → Text → List Text → Meaning
   check : Text → Option Text → Meaning
+  explain : Text → ℕ → Text → Meaning
 
 abbrev pub meaning_of : Line → Meaning
 meaning_of line.Sample = sample
 meaning_of (line.Run settings changes underlay out ports) =
     run settings.now (option_map (λ t. t.now) changes) underlay.now out.now (texts ports.items)
 meaning_of (line.Check settings changes) = check settings.now (option_map (λ t. t.now) changes)
+meaning_of (line.Explain settings depth capture) = explain settings.now depth capture.now
+
+-- a depth is 1 to 4
+abbrev pub HasDepth : Line → Type 0
+HasDepth line.Sample = ⊤
+HasDepth (line.Run settings changes underlay out ports) = ⊤
+HasDepth (line.Check settings changes) = ⊤
+HasDepth (line.Explain settings depth capture) = (1 ≤ depth) × (depth ≤ 4)
 
 -- ---- what matches mean: nothing, where a required value is missing
 
@@ -30,6 +41,16 @@ settings_in = first_of (codes "settings")
 abbrev pub changes_in : List Row → Option Text
 changes_in = first_of (codes "changes")
 
+-- the number of 1 to 4 that a text is
+abbrev pub depth_of : Text → Option ℕ
+depth_of text = if is_unsigned_in 1 4 text then Some (digits_value 10 (without_leading_plus text)) else None
+
+abbrev pub small_depth : ℕ → Option ℕ
+small_depth depth = if nat_le 1 depth && nat_le depth 4 then Some depth else None
+
+abbrev pub depth_in : List Row → Option ℕ
+depth_in rows = option_and_then depth_of (one_of (codes "depth") rows)
+
 abbrev pub run_meant : List Row → Option Meaning
 run_meant rows = option_and_then (λ s. option_and_then (λ u. option_and_then (λ o.
     option_map (λ ps. run s (changes_in rows) u o ps) (all_of (codes "ports") rows))
@@ -38,10 +59,15 @@ run_meant rows = option_and_then (λ s. option_and_then (λ u. option_and_then (
 abbrev pub check_meant : List Row → Option Meaning
 check_meant rows = option_map (λ s. check s (changes_in rows)) (settings_in rows)
 
+abbrev pub explain_meant : List Row → Option Meaning
+explain_meant rows = option_and_then (λ s. option_and_then (λ c. option_map (λ d. explain s d c)
+    (depth_in rows)) (first_of (codes "capture") rows)) (settings_in rows)
+
 abbrev pub command_meant : Text → List Row → Option Meaning
 command_meant name rows =
     if bytes_eq name (codes "run") then run_meant rows
-    else (if bytes_eq name (codes "check") then check_meant rows else None)
+    else (if bytes_eq name (codes "check") then check_meant rows
+    else (if bytes_eq name (codes "explain") then explain_meant rows else None))
 
 -- what a parse means that met this subcommand with these matches, or none
 abbrev pub line_meant : Option (Text × List Row) → Option Meaning

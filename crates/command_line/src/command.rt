@@ -2,9 +2,9 @@
 ghost use Rattle.std.specs.Prelude.{◌≡◌, IfOk, false};
 ghost use Rattle.clap.specs.Words.{app_of, rule_of, shape_of};
 ghost use Rattle.clap.specs.declared.builder.Command.TheViews.{out-Command as fields_of};
-ghost use Rattle.command_line.specs.App.{settings_rule, changes_rule, underlay_rule, out_rule, ports_rule, run_settings_app, run_shape, check_shape, tep_app};
+ghost use Rattle.command_line.specs.App.{settings_rule, changes_rule, underlay_rule, out_rule, ports_rule, depth_rule, capture_rule, run_settings_app, run_shape, check_shape, explain_shape, run_and_check_app, tep_app};
 
-use clap::{Arg, ArgAction, Command};
+use clap::{Arg, ArgAction, Command, value_parser};
 use std::alloc::{AllocError, Global};
 
 /// The settings text's file.
@@ -66,6 +66,30 @@ fn ports<'a>(alloc: Global) -> Arg<'a>
         .num_args(1..)
 }
 
+/// How many tunnels are looked into: 1 to 4.
+fn depth<'a>(alloc: Global) -> Arg<'a>
+    ensures rule { rule_of result ≡ depth_rule }
+    ensures local { result.global ≡ false }
+{
+    Arg::new(alloc, "depth")
+        .help("The most tunnels, one in another, that are taken apart")
+        .long("depth")
+        .action(ArgAction::Set)
+        .value_parser(value_parser!(u8).range(1..=4))
+        .default_value("4")
+}
+
+/// The capture that is explained.
+fn capture<'a>(alloc: Global) -> Arg<'a>
+    ensures rule { rule_of result ≡ capture_rule }
+    ensures local { result.global ≡ false }
+{
+    Arg::new(alloc, "capture")
+        .help("A capture of the underlay")
+        .required(true)
+        .action(ArgAction::Set)
+}
+
 /// The first two options of `run`.
 fn run_settings<'a>(alloc: Global) -> Result<Command<'a>, AllocError>
     ensures app { IfOk result (λ c. app_of c ≡ run_settings_app) }
@@ -99,9 +123,22 @@ fn check<'a>(alloc: Global) -> Result<Command<'a>, AllocError>
         .arg(changes(alloc))
 }
 
-/// The whole program.
-pub(crate) fn tep<'a>(alloc: Global) -> Result<Command<'a>, AllocError>
-    ensures { IfOk result (λ c. app_of c ≡ tep_app) }
+/// `explain`.
+fn explain<'a>(alloc: Global) -> Result<Command<'a>, AllocError>
+    ensures shape { IfOk result (λ c. shape_of c ≡ explain_shape) }
+    ensures local { IfOk result (λ c. (fields_of c).has_globals ≡ false) }
+{
+    Command::new(alloc, "explain")
+        .about("Takes the packets of a capture apart")
+        .arg(settings(alloc))?
+        .arg(depth(alloc))?
+        .arg(capture(alloc))
+}
+
+/// The program with its first two commands.
+fn run_and_check<'a>(alloc: Global) -> Result<Command<'a>, AllocError>
+    ensures app { IfOk result (λ c. app_of c ≡ run_and_check_app) }
+    ensures local { IfOk result (λ c. (fields_of c).has_globals ≡ false) }
 {
     Command::new(alloc, "tep")
         .about(
@@ -110,4 +147,11 @@ pub(crate) fn tep<'a>(alloc: Global) -> Result<Command<'a>, AllocError>
         .version("0.1.0")
         .subcommand(run(alloc)?)?
         .subcommand(check(alloc)?)
+}
+
+/// The whole program.
+pub(crate) fn tep<'a>(alloc: Global) -> Result<Command<'a>, AllocError>
+    ensures { IfOk result (λ c. app_of c ≡ tep_app) }
+{
+    run_and_check(alloc)?.subcommand(explain(alloc)?)
 }

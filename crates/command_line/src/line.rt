@@ -3,7 +3,7 @@ ghost use Rattle.std.specs.Prelude.{◌≡◌, IfOk, IfErr, OnOk, Some, []};
 ghost use Rattle.clap.specs.Walk.{texts};
 ghost use Rattle.clap.specs.Words.{fault_of};
 ghost use Rattle.command_line.specs.App.{tep_app};
-ghost use Rattle.command_line.specs.Meaning.{Explains, meaning_of, words_meant};
+ghost use Rattle.command_line.specs.Meaning.{Explains, HasDepth, meaning_of, words_meant};
 
 use crate::command;
 use crate::matches::line_from;
@@ -31,6 +31,13 @@ pub enum Line<'a> {
         settings: &'a str,
         changes: Option<&'a str>,
     },
+    /// The packets of a capture taken apart.
+    Explain {
+        settings: &'a str,
+        /// How many tunnels are looked into: 1 to 4.
+        depth: u8,
+        capture: &'a str,
+    },
 }
 
 /// Why there is no line.
@@ -50,6 +57,7 @@ pub enum LineFault {
 /// Reads all words, the program's name first.
 pub fn line_of<'a>(alloc: Global, words: &'a [&'a str]) -> Result<Line<'a>, LineFault>
     ensures ok { IfOk result (λ line. words_meant (texts words.entry.now) ≡ Some (meaning_of line)) }
+    ensures depth { IfOk result HasDepth }
     ensures taken { OnOk result (fault_of tep_app (texts words.entry.now) ≡ []) }
     ensures fault { IfErr result (Explains (texts words.entry.now)) }
 {

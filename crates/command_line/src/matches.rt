@@ -1,8 +1,8 @@
 //! From `clap`'s matches to a line.
-ghost use Rattle.std.specs.Prelude.{◌≡◌, IfOk, IfErr, Some, option_map};
+ghost use Rattle.std.specs.Prelude.{◌≡◌, ◌≤◌, IfOk, IfErr, IfSome, Some, option_and_then, option_map};
 ghost use Rattle.clap.specs.Words.{all_of, first_of, found_of, rows_of, subcommand_rows_of};
 ghost use Rattle.clap.specs.Walk.{texts};
-ghost use Rattle.command_line.specs.Meaning.{LacksValue, check_meant, line_meant, meaning_of, run_meant};
+ghost use Rattle.command_line.specs.Meaning.{HasDepth, LacksValue, check_meant, depth_in, explain_meant, line_meant, meaning_of, run_meant, small_depth};
 
 use crate::line::{Line, LineFault};
 use clap::ArgMatches;
@@ -11,6 +11,7 @@ use std::alloc::Global;
 /// The line of a whole parse.
 pub(crate) fn line_from<'a>(alloc: Global, matches: &ArgMatches<'a>) -> Result<Line<'a>, LineFault>
     ensures ok { IfOk result (λ line. line_meant (subcommand_rows_of matches.now) ≡ Some (meaning_of line)) }
+    ensures depth { IfOk result HasDepth }
     ensures fault { IfErr result (LacksValue (line_meant (subcommand_rows_of matches.now))) }
 {
     let Some((name, inner)) = matches.subcommand() else {
@@ -19,6 +20,7 @@ pub(crate) fn line_from<'a>(alloc: Global, matches: &ArgMatches<'a>) -> Result<L
     match name {
         "run" => run_from(alloc, inner),
         "check" => check_from(inner),
+        "explain" => explain_from(inner),
         _ => Err(LineFault::NoValue),
     }
 }
@@ -37,9 +39,28 @@ fn values<'m, 'a>(inner: &'m ArgMatches<'a>, id: &str) -> Option<&'m [&'a str]>
     inner.get_raw(id)
 }
 
+/// The depth, where it is 1 to 4.
+fn depth(inner: &ArgMatches) -> Option<u8>
+    ensures range { IfSome result (λ depth. (1 ≤ depth) × (depth ≤ 4)) }
+    ensures value { result ≡ depth_in (rows_of (found_of inner.now)) }
+{
+    small(inner.get_one::<u8>("depth"))
+}
+
+fn small(depth: Option<u8>) -> Option<u8>
+    ensures value { result ≡ option_and_then small_depth depth }
+    ensures range { IfSome result (λ depth. (1 ≤ depth) × (depth ≤ 4)) }
+{
+    match depth {
+        Some(depth) if depth >= 1 && depth <= 4 => Some(depth),
+        _ => None,
+    }
+}
+
 /// The line that asks for a run.
 fn run_from<'a>(alloc: Global, inner: &ArgMatches<'a>) -> Result<Line<'a>, LineFault>
     ensures ok { IfOk result (λ line. run_meant (rows_of (found_of inner.now)) ≡ Some (meaning_of line)) }
+    ensures depth { IfOk result HasDepth }
     ensures fault { IfErr result (LacksValue (run_meant (rows_of (found_of inner.now)))) }
 {
     let Some(settings) = text(inner, "settings") else {
@@ -70,6 +91,7 @@ fn run_from<'a>(alloc: Global, inner: &ArgMatches<'a>) -> Result<Line<'a>, LineF
 /// The line that asks for a look at the texts.
 fn check_from<'a>(inner: &ArgMatches<'a>) -> Result<Line<'a>, LineFault>
     ensures ok { IfOk result (λ line. check_meant (rows_of (found_of inner.now)) ≡ Some (meaning_of line)) }
+    ensures depth { IfOk result HasDepth }
     ensures fault { IfErr result (LacksValue (check_meant (rows_of (found_of inner.now)))) }
 {
     let Some(settings) = text(inner, "settings") else {
@@ -77,4 +99,26 @@ fn check_from<'a>(inner: &ArgMatches<'a>) -> Result<Line<'a>, LineFault>
     };
     let changes = text(inner, "changes");
     Ok(Line::Check { settings, changes })
+}
+
+/// The line that asks for packets taken apart.
+fn explain_from<'a>(inner: &ArgMatches<'a>) -> Result<Line<'a>, LineFault>
+    ensures ok { IfOk result (λ line. explain_meant (rows_of (found_of inner.now)) ≡ Some (meaning_of line)) }
+    ensures depth { IfOk result HasDepth }
+    ensures fault { IfErr result (LacksValue (explain_meant (rows_of (found_of inner.now)))) }
+{
+    let Some(settings) = text(inner, "settings") else {
+        return Err(LineFault::NoValue);
+    };
+    let Some(capture) = text(inner, "capture") else {
+        return Err(LineFault::NoValue);
+    };
+    let Some(depth) = depth(inner) else {
+        return Err(LineFault::NoValue);
+    };
+    Ok(Line::Explain {
+        settings,
+        depth,
+        capture,
+    })
 }

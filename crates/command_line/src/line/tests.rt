@@ -15,6 +15,7 @@ fn told<'a>(alloc: Global, words: &'a [&'a str]) -> Option<(&'a str, Option<&'a 
             },
         ) => Some((settings, changes, ports.len())),
         Ok(Line::Check { settings, changes }) => Some((settings, changes, 0)),
+        Ok(Line::Explain { .. }) => None,
         Err(_) => None,
     }
 }
@@ -45,6 +46,35 @@ fn words_ask_for_a_sample_a_run_or_a_check(rt: HostRuntime) {
     );
 }
 
+/// The settings, the depth and the capture of a line that asks for an explanation.
+fn explained<'a>(alloc: Global, words: &'a [&'a str]) -> Option<(&'a str, u8, &'a str)> {
+    match line_of(alloc, words) {
+        Ok(
+            Line::Explain {
+                settings,
+                depth,
+                capture,
+            },
+        ) => Some((settings, depth, capture)),
+        _ => None,
+    }
+}
+
+#[test]
+fn words_ask_for_an_explanation(rt: HostRuntime) {
+    let alloc = rt.alloc();
+    let words = ["tep", "explain", "--settings", "s", "c"];
+    assert!(rt;
+        explained(alloc, words.as_slice()) == Some(("s", 4, "c")),
+        "a depth of 4 by itself"
+    );
+    let words = ["tep", "explain", "--depth", "2", "c", "--settings=s"];
+    assert!(rt;
+        explained(alloc, words.as_slice()) == Some(("s", 2, "c")),
+        "a depth of 2"
+    );
+}
+
 /// Why `clap` refuses the words.
 fn kind<'a>(alloc: Global, words: &'a [&'a str]) -> Option<ErrorKind> {
     match line_of(alloc, words) {
@@ -63,6 +93,11 @@ fn other_words_are_refused_for_their_kind(rt: HostRuntime) {
     assert!(rt;
         kind(alloc, &["tep", "run"]) == Some(ErrorKind::MissingRequiredArgument),
         "a run of nothing"
+    );
+    assert!(rt;
+        kind(alloc, &["tep", "explain", "--depth=5", "--settings=s", "c"])
+            == Some(ErrorKind::ValueValidation),
+        "too great a depth"
     );
     assert!(rt;
         kind(alloc, &["tep", "check", "--depth"]) == Some(ErrorKind::UnknownArgument),

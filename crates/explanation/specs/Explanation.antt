@@ -1,0 +1,59 @@
+-- What a capture of packets from the underlay brings to a fresh endpoint, packet by packet, each with its layers.
+use Rattle.std.specs.Prelude.{◌≡◌, ℕ, ◌+◌, List, [], ◌∷◌, ◌++◌, map, Vec, None, Result, Ok, Err}
+use Rattle.std.specs.List.{flat_map, zip}
+use Rattle.std.specs.declared.alloc.Global.{Global}
+use Rattle.underlay.specs.Overlay.{Overlay}
+use Rattle.timeline.specs.Timeline.{Timeline, told}
+use Rattle.timeline.specs.declared.event.Event.{Event as Happens}
+use Rattle.timeline.specs.declared.event.Happening.{Happening}
+use Rattle.timeline.specs.declared.event.Happening.TheVariants as happenings
+use Rattle.timeline.specs.declared.fault.TimelineFault.{TimelineFault}
+use Rattle.overlay_config.specs.Fault.{Meaning}
+use Rattle.overlay_config.specs.Settings.{Settings as Told}
+use Rattle.endpoint_state.specs.Opened.{settings_told}
+use Rattle.endpoint_state.specs.Settings.{Settings}
+use Rattle.endpoint_core.specs.Run.{decisions}
+use Rattle.endpoint_core.specs.Step.{Answer}
+use Rattle.capture_run.specs.Fault.{of_timeline, of_settings}
+use Rattle.capture_run.specs.Lines.{line, answer_text, cut_line}
+use Rattle.capture_run.specs.Outputs.{event_of}
+use Rattle.capture_run.specs.declared.fault.RunFault.{RunFault}
+use Rattle.capture_run.specs.declared.fault.RunFault.TheVariants as faults
+use Rattle.packet_layers.specs.Dissection.{dissection}
+use Rattle.explanation.specs.Text.{layers_text}
+
+-- the octets of a record
+abbrev pub octets_in : Happening → List ℕ
+octets_in (happenings.Change index) = []
+octets_in (happenings.Record tap captured) = captured.octets
+
+-- the decision line of an event of this number, and the layers of its packet
+abbrev pub event_text : Overlay → ℕ → ℕ → Happens × Answer → List ℕ
+event_text overlay depth number row =
+    line number row.0 (answer_text None row.1) ++ layers_text (dissection overlay depth (octets_in row.0.happening))
+
+-- the events are numbered on from this many
+abbrev pub event_texts : Overlay → ℕ → ℕ → List (Happens × Answer) → List ℕ
+event_texts overlay depth count [] = []
+event_texts overlay depth count (row ∷ rows) = event_text overlay depth (count + 1) row ++ event_texts overlay depth (count + 1) rows
+
+-- the events of a capture, each as the bridge of its segment decides it, and a line where the capture ends with a cut rest
+abbrev pub explanation : Settings → ℕ → Timeline → List ℕ
+explanation S depth timeline =
+    event_texts S.overlay depth 0 (zip timeline.events (decisions S [] (map (event_of []) timeline.events)))
+    ++ flat_map cut_line timeline.cuts
+
+abbrev pub by_timeline : Told → ℕ → Result Timeline TimelineFault → Result (List ℕ) RunFault
+by_timeline s depth (Ok timeline) = Ok (explanation (settings_told s) depth timeline)
+by_timeline s depth (Err fault) = Err (of_timeline fault)
+
+-- by what the settings mean and the capture tells: the settings' fault first
+abbrev pub explained_run : Meaning Told → List ℕ → ℕ → Result (List ℕ) RunFault
+explained_run (Ok s) capture depth = by_timeline s depth (told [] [] capture)
+explained_run (Err fault) capture depth = Err (of_settings fault)
+
+-- what a function returned is that, unless memory was refused
+abbrev pub Gives : Result (Vec ℕ Global) RunFault → Result (List ℕ) RunFault → Type 0
+Gives (Ok text) found = found ≡ Ok text.items
+Gives (Err faults.OutOfMemory) found = Unit {0}
+Gives (Err fault) found = found ≡ Err fault

@@ -1,0 +1,78 @@
+//! Taking packets apart.
+ghost use Rattle.std.specs.Prelude.{◌≡◌, ◌≤◌, ◌+◌, ◌*◌, length, OnOk};
+ghost use Rattle.frame_view.specs.First.{fault_of};
+ghost use Rattle.packet_layers.specs.Apart.{joined};
+ghost use Rattle.packet_layers.specs.Dissection.{dissection, frame_off};
+ghost use Rattle.packet_layers.specs.Laws.{AllStand, AgreesWithArrival};
+
+use crate::apart::Apart;
+use crate::ether::take_ether;
+use crate::ip::take_ip;
+use crate::tunnel::take_tunnel;
+use crate::udp::{check_sum, take_udp};
+use crate::{Layers, Stop};
+use frame_view::Reason;
+use underlay::Under;
+
+/// Takes a packet apart, with at most `depth` tunnel headers, 1 to 4. Nothing is copied.
+pub fn dissect<'a>(octets: &'a [u8], under: &Under, depth: usize) -> Layers<'a>
+    requires low { 1 ≤ depth }
+    requires high { depth ≤ 4 }
+    ensures layers { result ≡ dissection under.now depth octets.now }
+    ensures whole { joined result.apart ≡ octets.now }
+    ensures places { AllStand octets.now result.apart }
+    ensures agrees { AgreesWithArrival under.now octets.now result }
+{
+    layers_of(octets, under, depth)
+}
+
+/// The layers of a packet, frame by frame.
+fn layers_of<'a>(octets: &'a [u8], under: &Under, depth: usize) -> Layers<'a>
+    requires { depth ≤ 4 }
+    ensures { result ≡ dissection under.now depth octets.now }
+{
+    let mut apart = Apart::whole(octets);
+    let mut left = depth;
+    loop {
+        match take_frame(&mut apart, under, left) {
+            Ok(()) => left -= 1,
+            Err(stop) => return Layers::new(apart, stop),
+        }
+    }
+}
+
+/// Takes off the layers of the frame that is left, where so many more tunnel headers may be taken off.
+fn take_frame(apart: &mut Apart, under: &Under, left: usize) -> Result<(), Stop>
+    requires heads { length apart.old.heads + 7 * left ≤ 28 }
+    requires tails { length apart.old.tails + 2 * left ≤ 8 }
+    ensures taken { frame_off under.now left apart.old ≡ record { apart = apart.new; stop = fault_of result } }
+    ensures left { OnOk result (1 ≤ left) }
+    ensures few_heads { length apart.new.heads ≤ length apart.old.heads + 7 }
+    ensures few_tails { length apart.new.tails ≤ length apart.old.tails + 2 }
+{
+    let typed = match take_ether(apart) {
+        Ok(typed) => typed,
+        Err(reason) => return Err(Stop::At(reason)),
+    };
+    let packet = match take_ip(apart, typed) {
+        Ok(packet) => packet,
+        Err(reason) => return Err(Stop::At(reason)),
+    };
+    let view = match take_udp(apart, &packet) {
+        Ok(view) => view,
+        Err(reason) => return Err(Stop::At(reason)),
+    };
+    let Some(kind) = under.kind_at(view.dport()) else {
+        return Err(Stop::At(Reason::NotTunnel));
+    };
+    if left == 0 {
+        return Err(Stop::Deep);
+    }
+    if let Err(reason) = check_sum(&view, &packet, under.settings()) {
+        return Err(Stop::At(reason));
+    }
+    match take_tunnel(apart, under.known(), kind) {
+        Ok(()) => Ok(()),
+        Err(reason) => Err(Stop::At(reason)),
+    }
+}

@@ -1,0 +1,60 @@
+//! The layers of a packet.
+ghost use Rattle.std.specs.Prelude.{◌≡◌, ◌≤◌, length};
+
+use crate::apart::Apart;
+use crate::{Head, Span, Stop};
+use std::marker::Model;
+
+/// The layers of a packet, seen by contracts as its parts and the stop. Side by side the heads, the payload and the tails
+/// are the packet.
+#[derive(Debug, Drop)]
+pub struct Layers<'a> {
+    apart: Apart<'a>,
+    stop: Stop,
+}
+
+impl<'a> Model for Layers<'a> {
+    ghost use Rattle.packet_layers.specs.Dissection.{Layers};
+
+    ghost Value = { Layers };
+
+    ghost view = { λ l. record { apart = l.apart; stop = l.stop } };
+}
+
+impl<'a> Layers<'a> {
+    pub(crate) fn new(apart: Apart<'a>, stop: Stop) -> Layers<'a>
+        ensures { result ≡ record { apart = apart.entry; stop = stop } }
+    {
+        Layers { apart, stop }
+    }
+
+    /// The headers, from the front on.
+    pub fn heads(&self) -> &[Head<'a>]
+        ensures heads { result.now ≡ self.now.apart.heads }
+        ensures few { length result.now ≤ 34 }
+    {
+        self.apart.heads()
+    }
+
+    /// What stands between the last head and the first tail.
+    pub fn payload(&self) -> &Span<'a>
+        ensures { result.now ≡ self.now.apart.payload }
+    {
+        self.apart.payload()
+    }
+
+    /// What stands behind the length of an IP packet or a UDP datagram, from the innermost on. None is empty.
+    pub fn tails(&self) -> &[Span<'a>]
+        ensures tails { result.now ≡ self.now.apart.tails }
+        ensures few { length result.now ≤ 10 }
+    {
+        self.apart.tails()
+    }
+
+    /// Why no more is taken off.
+    pub fn stop(&self) -> Stop
+        ensures { result ≡ self.now.stop }
+    {
+        self.stop
+    }
+}

@@ -149,87 +149,87 @@ const FRONT6: [u8; 54] = [
 ];
 
 /// A packet that a broadcast frame of 60 octets is sent in.
-struct Sent {
+struct Expected {
     case: &'static str,
     sum4: bool,
     tunnel: Tunnel,
     addr: Addr,
-    /// What stands behind the type of the frame, and zeros behind it.
-    behind_type: [u8; 2],
+    /// The first octets of the frame, and zeros behind them.
+    frame: &'static [u8],
     front: &'static [u8],
     /// The UDP header of 76 octets from port 51719, and the tunnel's header: VXLAN 5000 or Geneve 6000.
     udp_and_tunnel: &'static [u8],
 }
 
-const PACKETS: [Sent; 5] = [
-    Sent {
+const PACKETS: [Expected; 5] = [
+    Expected {
         case: "IPv4",
         sum4: false,
         tunnel: Tunnel::Vxlan,
         addr: HOST4,
-        behind_type: [0, 0],
+        frame: &BROADCAST,
         front: &FRONT4,
         udp_and_tunnel: b"\xCA\x07\x12\xB5\x00\x4C\x00\x00\x08\0\0\0\x00\x13\x88\0",
     },
-    Sent {
+    Expected {
         case: "a checksum",
         sum4: true,
         tunnel: Tunnel::Vxlan,
         addr: HOST4,
-        behind_type: [0, 0],
+        frame: &BROADCAST,
         front: &FRONT4,
         udp_and_tunnel: b"\xCA\x07\x12\xB5\x00\x4C\x04\x7B\x08\0\0\0\x00\x13\x88\0",
     },
-    Sent {
+    Expected {
         case: "Geneve",
         sum4: false,
         tunnel: Tunnel::Geneve,
         addr: HOST4,
-        behind_type: [0, 0],
+        frame: &BROADCAST,
         front: &FRONT4,
         udp_and_tunnel: b"\xCA\x07\x17\xC1\x00\x4C\x00\x00\0\0\x65\x58\x00\x17\x70\0",
     },
-    Sent {
+    Expected {
         case: "IPv6",
         sum4: false,
         tunnel: Tunnel::Vxlan,
         addr: HOST6,
-        behind_type: [0, 0],
+        frame: &BROADCAST,
         front: &FRONT6,
         udp_and_tunnel: b"\xCA\x07\x12\xB5\x00\x4C\x2D\x0A\x08\0\0\0\x00\x13\x88\0",
     },
-    Sent {
+    Expected {
         case: "a computed 0",
         sum4: false,
         tunnel: Tunnel::Vxlan,
         addr: HOST6,
-        behind_type: [0x2D, 0x0A],
+        frame: b"\xFF\xFF\xFF\xFF\xFF\xFF\x02\0\0\0\0\x01\x08\x06\x2D\x0A",
         front: &FRONT6,
         udp_and_tunnel: b"\xCA\x07\x12\xB5\x00\x4C\xFF\xFF\x08\0\0\0\x00\x13\x88\0",
     },
 ];
 
-/// The packet that is sent, and the one that should be.
-fn sent_and_wanted(alloc: Global, case: &Sent) -> Result<(Vec<u8>, Vec<u8>), Fail> {
+/// The packet that is sent.
+fn sent(alloc: Global, case: &Expected) -> Result<Result<Vec<u8>, Reason>, Fail> {
     let vid = Vid::new(10).ok_or("a VID")?;
     let under = endpoint(alloc, vid, 1550, case.sum4, TagRule::Drop)?;
-    let mut text = padded(alloc, &BROADCAST, 0)?;
-    text.extend_from_slice(&case.behind_type)?;
-    text.resize(60, 0)?;
-    let Ok(sent) = packet(alloc, &under, vid, (case.tunnel, case.addr), &text)? else {
-        return Err(Fail::from("a packet"));
-    };
-    let mut wanted = padded(alloc, case.front, 0)?;
-    wanted.extend_from_slice(case.udp_and_tunnel)?;
-    wanted.extend_from_slice(&text)?;
-    Ok((sent, wanted))
+    let text = padded(alloc, case.frame, 60)?;
+    packet(alloc, &under, vid, (case.tunnel, case.addr), &text)
+}
+
+/// The packet that should be sent.
+fn wanted(alloc: Global, case: &Expected) -> Result<Vec<u8>, AllocError> {
+    let mut packet = Vec::from_slice(alloc, case.front)?;
+    packet.extend_from_slice(case.udp_and_tunnel)?;
+    packet.extend_from_slice(&padded(alloc, case.frame, 60)?)?;
+    Ok(packet)
 }
 
 #[test]
 fn packets_have_these_octets(rt: HostRuntime) -> Result<(), Fail> {
     for case in &PACKETS {
-        let (sent, wanted) = sent_and_wanted(rt.alloc(), case)?;
-        assert_eq!(rt; sent.as_slice(), wanted.as_slice(), "{}", case.case);
+        let sent = sent(rt.alloc(), case)?;
+        assert_eq!(rt; sent, Ok(wanted(rt.alloc(), case)?), "{}", case.case);
     }
     Ok(())
 }

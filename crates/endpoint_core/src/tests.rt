@@ -1,7 +1,7 @@
 //! Frames, packets and changes at an endpoint with three ports and two segments.
-use crate::{ChangeFault, Decision, Endpoint, result_text};
+use crate::{Change, ChangeFault, Decision, Endpoint, result_text};
 use frame_view::Vid;
-use overlay_config::{changes_of, settings_of};
+use overlay_config::settings_of;
 use std::alloc::Global;
 use std::test::Fail;
 
@@ -10,36 +10,11 @@ const SECOND: u64 = 1_000_000_000;
 /// The last octet of the broadcast address.
 const ALL: u8 = 0xFF;
 
-/// Three ports, and segments 10 and 20 over them, with comments that lines are put in place of.
-const SETTINGS: &str = r#"version = 1
-[underlay]
-mac = "02:00:00:00:aa:01"
-next_hop = "02:00:00:00:aa:fe"
-# own addresses
-[[port]]
-pvid = 10
-[[port]]
-pvid = 10
-[[port]]
-pvid = 10
-[[segment]]
-vid = 10
-vni = 5000
-tunnel = "vxlan"
-untagged = [1, 2]
-tagged = [3]
-# segment 10
-[[segment]]
-vid = 20
-vni = 6000
-tunnel = "geneve"
-tagged = [2, 3]
-"#;
-
-/// An endpoint with these own addresses and these lines for segment 10.
+/// An endpoint with this own address and these lines for the underlay and for segment 10.
 fn opened(alloc: Global, own: &str, segment: &str) -> Result<Endpoint, Fail> {
-    let text = SETTINGS.replace(alloc, "# own addresses", own)?;
-    let text = text.replace(alloc, "# segment 10", segment)?;
+    let text = format!(in alloc;
+        "version = 1\n[underlay]\nmac = \"02:00:00:00:aa:01\"\nnext_hop = \"02:00:00:00:aa:fe\"\n{own}\n[[port]]\npvid = 10\n[[port]]\npvid = 10\n[[port]]\npvid = 10\n[[segment]]\nvid = 10\nvni = 5000\ntunnel = \"vxlan\"\nuntagged = [1, 2]\ntagged = [3]\n{segment}\n[[segment]]\nvid = 20\nvni = 6000\ntunnel = \"geneve\"\ntagged = [2, 3]\n"
+    )?;
     let settings = settings_of(alloc, text.as_bytes())?;
     Ok(Endpoint::open(alloc, settings)?)
 }
@@ -87,28 +62,28 @@ fn is_printed(alloc: Global, decision: Option<Decision>, expected: &str) -> Resu
     Ok(result_text(alloc, &decision)?.as_slice() == expected.as_bytes())
 }
 
-/// At a second and a port a frame to and from addresses, and what is decided.
-const FRAMES: [(u64, u8, u8, u8, &str); 4] = [
-    (1, 1, ALL, 1, "p2=60 p3=64 192.0.2.2=110"),
-    (2, 2, 1, 2, "p1=60"),
-    (3, 1, 2, 1, "p2=60"),
-    (4, 2, 2, 2, "drop 35 SamePlace"),
-];
-
-/// A segment, or 0 for none; the number of a reason, or 0 for what was sent; and how often it was decided.
-const COUNTS: [(u16, u8, u64); 4] = [(10, 0, 5), (10, 35, 1), (0, 0, 0), (10, 41, 0)];
-
 #[test]
 fn a_bridge_learns_where_frames_come_from(rt: HostRuntime) -> Result<(), Fail> {
     let mut endpoint = opened_a(rt.alloc())?;
-    for (second, port, dst, src, expected) in &FRAMES {
-        let octets = frame(*dst, *src);
-        let decision = decided(&mut endpoint, *second * SECOND, *port, 60, &octets);
-        assert!(rt; is_printed(rt.alloc(), decision, expected)?, "{expected}");
+    for (second, port, dst, src, expected) in [
+        (1, 1, ALL, 1, "p2=60 p3=64 192.0.2.2=110"),
+        (2, 2, 1, 2, "p1=60"),
+        (3, 1, 2, 1, "p2=60"),
+        (4, 2, 2, 2, "drop 35 SamePlace"),
+    ] {
+        let octets = frame(dst, src);
+        let decision = decided(&mut endpoint, second * SECOND, port, 60, &octets);
+        assert!(rt;
+            is_printed(rt.alloc(), decision, expected)?,
+            "frame {second}"
+        );
     }
-    for (segment, number, expected) in &COUNTS {
-        let count = endpoint.count(Vid::new(*segment), *number);
-        assert!(rt; count == *expected, "count {number}");
+    let ten = Vid::new(10);
+    for (segment, number, expected) in [(ten, 0, 5), (ten, 35, 1), (None, 0, 0), (ten, 41, 0)] {
+        assert!(rt;
+            endpoint.count(segment, number) == expected,
+            "count {number}"
+        );
     }
     Ok(())
 }
@@ -160,13 +135,6 @@ const HEADERS: [u8; 50] = [
     0x88, 0x00,
 ];
 
-/// The original length and the captured octets of a packet, and what is decided.
-const PACKETS: [(u32, usize, &str); 3] = [
-    (110, 110, "p1=60 p2=60 p3=64"),
-    (110, 109, "drop 2 Sliced"),
-    (109, 109, "drop 13 BadIp"),
-];
-
 #[test]
 fn a_packet_brings_a_frame_from_its_sender(rt: HostRuntime) -> Result<(), Fail> {
     let mut endpoint = opened(rt.alloc(), "ip4 = \"192.0.2.2\"", "flood = [\"192.0.2.1\"]")?;
@@ -174,10 +142,14 @@ fn a_packet_brings_a_frame_from_its_sender(rt: HostRuntime) -> Result<(), Fail> 
     packet[..50].copy_from_slice(&HEADERS);
     packet[50..].copy_from_slice(&frame(ALL, 1));
     assert!(rt; endpoint.now() == 0, "the first moment");
-    for (original, captured, expected) in &PACKETS {
-        let octets = packet.get(..*captured).ok_or("so many octets")?;
+    let cases = [
+        (110, &packet[..], "p1=60 p2=60 p3=64"),
+        (110, &packet[..109], "drop 2 Sliced"),
+        (109, &packet[..109], "drop 13 BadIp"),
+    ];
+    for (original, octets, expected) in cases {
         if endpoint.now() <= SECOND {
-            let decision = endpoint.packet(SECOND, *original, octets);
+            let decision = endpoint.packet(SECOND, original, octets);
             assert!(rt;
                 is_printed(rt.alloc(), Some(decision), expected)?,
                 "{expected}"
@@ -197,38 +169,35 @@ fn a_packet_brings_a_frame_from_its_sender(rt: HostRuntime) -> Result<(), Fail> 
     Ok(())
 }
 
-/// Changes at one moment.
-const CHANGES: &str = r#"
-change = [
-    { at = 5000000000, kind = "port_down", port = 9 },
-    { at = 5000000000, kind = "flush", vid = 30 },
-    { at = 5000000000, kind = "port_down", port = 2 },
-    { at = 5000000000, kind = "port_down", port = 2 },
-    { at = 5000000000, kind = "port_up", port = 2 },
-]
-"#;
-
-/// What they are answered, and what is decided of a broadcast frame behind each.
-const CHANGED: [(Result<(), ChangeFault>, &str); 5] = [
-    (Err(ChangeFault::NoPort), "p2=60 p3=64 192.0.2.2=110"),
-    (Err(ChangeFault::NoSegment), "p2=60 p3=64 192.0.2.2=110"),
-    (Ok(()), "p3=64 192.0.2.2=110"),
-    (Ok(()), "p3=64 192.0.2.2=110"),
-    (Ok(()), "p2=60 p3=64 192.0.2.2=110"),
-];
-
 #[test]
 fn a_change_holds_from_its_moment_on(rt: HostRuntime) -> Result<(), Fail> {
     let mut endpoint = opened_a(rt.alloc())?;
     let octets = frame(ALL, 1);
-    let changes = changes_of(rt.alloc(), CHANGES.as_bytes())?;
-    assert!(rt; changes.len() == CHANGED.len(), "so many changes");
-    for (timed, (answer, expected)) in changes.iter().zip(&CHANGED) {
-        if endpoint.now() <= timed.at {
-            let answered = endpoint.change(timed.at, timed.change);
-            assert!(rt; answered == *answer, "{expected}");
+    let absent = Vid::new(30).ok_or("30 is a VID")?;
+    let changes = [
+        (
+            Change::PortDown { port: 9 },
+            Err(ChangeFault::NoPort),
+            "p2=60 p3=64 192.0.2.2=110",
+        ),
+        (
+            Change::Flush { vid: absent },
+            Err(ChangeFault::NoSegment),
+            "p2=60 p3=64 192.0.2.2=110",
+        ),
+        (Change::PortDown { port: 2 }, Ok(()), "p3=64 192.0.2.2=110"),
+        (Change::PortDown { port: 2 }, Ok(()), "p3=64 192.0.2.2=110"),
+        (
+            Change::PortUp { port: 2 },
+            Ok(()),
+            "p2=60 p3=64 192.0.2.2=110",
+        ),
+    ];
+    for (change, answer, expected) in changes {
+        if endpoint.now() <= 5 * SECOND {
+            assert!(rt; endpoint.change(5 * SECOND, change) == answer, "{expected}");
         }
-        let decision = decided(&mut endpoint, timed.at, 1, 60, &octets);
+        let decision = decided(&mut endpoint, 5 * SECOND, 1, 60, &octets);
         assert!(rt; is_printed(rt.alloc(), decision, expected)?, "{expected}");
     }
     Ok(())

@@ -134,6 +134,15 @@ runs 3 "read $no.1" "$folder/x.toml" "$folder/x.toml" "$folder/x.toml" "$no.1" "
 runs 3 "read $no.2" "$folder/x.toml" "$folder/x.toml" "$folder/x.toml" "$folder/x.toml" "$no.2"
 holds
 
+# Memory that is refused: status 3. A file of 1 GiB, with room for a part of it.
+truncate -s 1G "$folder/large.toml"
+(
+    ulimit -v 200000
+    ends 3 "memory" check --settings "$folder/large.toml"
+    [ "$failures" -eq 0 ]
+) || failures=$((failures + 1))
+rm "$folder/large.toml"
+
 # What can't be written: status 3.
 ends 3 "write port1.pcap" run --settings $a --underlay $underlay --out "$no" "${ports[@]}"
 [ -e "$no" ] && complain "a run made a folder"

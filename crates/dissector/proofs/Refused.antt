@@ -1,5 +1,5 @@
 -- What a look at texts tells where one is refused.
-use Rattle.std.proofs.Common.{◌≡◌, refl, List, Ok, Err}
+use Rattle.std.proofs.Common.{refl, List, Ok, Err}
 use Rattle.config_text.specs.declared.fault.SettingsFault.{SettingsFault}
 use Rattle.config_text.specs.declared.fault.SettingsFault.TheVariants as text
 use Rattle.overlay_config.specs.Fault.{Meaning, GivesAs}

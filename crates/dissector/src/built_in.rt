@@ -39,9 +39,11 @@ const ALL: [u8; 6] = [0xFF; 6];
 
 /// The MAC addresses of two stations.
 const FIRST: [u8; 6] = [2, 0, 0, 0, 0, 1];
+
 const SECOND: [u8; 6] = [2, 0, 0, 0, 0, 2];
 
 const ARP: [u8; 2] = [0x08, 0x06];
+
 const IP4: [u8; 2] = [0x08, 0x00];
 
 const NANOSECONDS: u64 = 1_000_000_000;

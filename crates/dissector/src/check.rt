@@ -46,6 +46,9 @@ fn counts_line(
     ensures { IfOk result (λ line. line.items ≡ counts_line ports segments changes) }
 {
     let mut line = String::new(alloc);
-    writeln!(line, "ok: {ports} ports, {segments} segments, {changes} changes")?;
+    writeln!(
+        line,
+        "ok: {ports} ports, {segments} segments, {changes} changes"
+    )?;
     Ok(line.into_bytes())
 }

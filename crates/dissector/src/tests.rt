@@ -68,7 +68,11 @@ fn a_look_tells_the_numbers_or_the_first_fault(rt: HostRuntime) -> Result<(), Fa
             "[[change]]\nkind = \"port_up\"\nat = 0\nport = 1\n",
             "ok: 3 ports, 2 segments, 1 changes\n",
         ),
-        (no_vni.as_str(), "x = 1", "settings: Missing segment.1.vni, 1"),
+        (
+            no_vni.as_str(),
+            "x = 1",
+            "settings: Missing segment.1.vni, 1",
+        ),
         (twice.as_str(), "", "settings: TwoSegments segment.2, 1"),
         (SETTINGS, "x = 1", "changes: BadValue *, 1"),
     ];
@@ -147,7 +151,10 @@ fn reads_a_text_in_any_pieces(rt: HostRuntime) -> Result<(), Fail> {
         assert_eq!(rt; input.calls, reads, "reads by {most}");
         let mut input = in_pieces(SETTINGS.as_bytes(), most, 0);
         assert!(rt;
-            matches!(read_text(alloc, &mut input, reads - 1), Err(TextFault::Read)),
+            matches!(
+                read_text(alloc, &mut input, reads - 1),
+                Err(TextFault::Read)
+            ),
             "by {most} with a read too few"
         );
         for n in 1..=reads {

@@ -26,17 +26,13 @@ const CHUNK: usize = 4096;
 /// `Read` is answered only where a read failed, or where `reads` of them, each of which took something, didn't reach the
 /// end. The last read finds the end, so a text takes one read more than those that bring it. `OutOfMemory` comes only
 /// where memory was refused.
-pub fn read_text<R: Input>(
-    alloc: Global,
-    input: &mut R,
-    reads: u64,
-) -> Result<Vec<u8>, TextFault>
+pub fn read_text<R: Input>(alloc: Global, input: &mut R, reads: u64) -> Result<Vec<u8>, TextFault>
     ensures whole { IfOk result (λ text. IfSome (R.remaining input.old) (λ rest. text.items ≡ rest)) }
     ensures end { OnOk result (IsAtEnd (R.remaining input.new)) }
     ensures bound { GoesOnByAtMost reads (R.calls input.old) (R.calls input.new) }
     ensures fault { MatchRead result
-      (GivesUp reads (R.remaining input.old) (R.calls input.old) (R.calls input.new) (R.failures input.old) (R.failures input.new))
-      (R.failures input.new ≡ R.failures input.old) }
+        (GivesUp reads (R.remaining input.old) (R.calls input.old) (R.calls input.new) (R.failures input.old) (R.failures input.new))
+        (R.failures input.new ≡ R.failures input.old) }
 {
     let mut text = Vec::new(alloc);
     let mut chunk = [0; CHUNK];

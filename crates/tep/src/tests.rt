@@ -1,29 +1,24 @@
 //! Whole command lines, with files in a folder of their own.
 use crate::program::run;
 use std::alloc::Global;
-use std::env;
-use std::fs;
 use std::test::Fail;
+use std::{env, fs};
 
 /// Two local ports in one segment without remotes.
 const SETTINGS: &str =
     "version = 1\n[underlay]\nmac = \"02:00:00:00:aa:01\"\nnext_hop = \"02:00:00:00:aa:fe\"\nip4 = \"192.0.2.1\"\n[[port]]\npvid = 10\n[[port]]\npvid = 10\n[[segment]]\nvid = 10\nvni = 5000\ntunnel = \"vxlan\"\nuntagged = [1, 2]\n";
 
-const LINES: &str =
-    "1 1000000000 p1 1 10 p2=14\n2 1000000000 p2 1 10 p1=14\ncut p2 1\n";
+const LINES: &str = "1 1000000000 p1 1 10 p2=14\n2 1000000000 p2 1 10 p1=14\ncut p2 1\n";
 
 /// A capture without records, little-endian and in nanoseconds.
-const EMPTY: &[u8] =
-    b"\x4D\x3C\xB2\xA1\x02\0\x04\0\0\0\0\0\0\0\0\0\0\0\x04\0\x01\0\0\0";
+const EMPTY: &[u8] = b"\x4D\x3C\xB2\xA1\x02\0\x04\0\0\0\0\0\0\0\0\0\0\0\x04\0\x01\0\0\0";
 
 /// A capture of a frame of 14 octets to everybody, at 1 s.
-const ONE: &[u8] =
-    b"\x4D\x3C\xB2\xA1\x02\0\x04\0\0\0\0\0\0\0\0\0\0\0\x04\0\x01\0\0\0\
+const ONE: &[u8] = b"\x4D\x3C\xB2\xA1\x02\0\x04\0\0\0\0\0\0\0\0\0\0\0\x04\0\x01\0\0\0\
 \x01\0\0\0\0\0\0\0\x0E\0\0\0\x0E\0\0\0\xFF\xFF\xFF\xFF\xFF\xFF\x02\0\0\0\0\x01\x08\x06";
 
 /// The same with a rest of three octets behind it.
-const CUT: &[u8] =
-    b"\x4D\x3C\xB2\xA1\x02\0\x04\0\0\0\0\0\0\0\0\0\0\0\x04\0\x01\0\0\0\
+const CUT: &[u8] = b"\x4D\x3C\xB2\xA1\x02\0\x04\0\0\0\0\0\0\0\0\0\0\0\x04\0\x01\0\0\0\
 \x01\0\0\0\0\0\0\0\x0E\0\0\0\x0E\0\0\0\xFF\xFF\xFF\xFF\xFF\xFF\x02\0\0\0\0\x01\x08\x06\x01\0\0";
 
 /// A new folder for a test's files.
@@ -73,10 +68,22 @@ fn a_run_ends_with_its_status_and_its_files(rt: HostRuntime) -> Result<(), Fail>
         ("tep check --settings @/settings", 0),
         ("tep check --settings @/one", 1),
         ("tep check --settings @/none", 3),
-        ("tep run --settings @/settings --underlay @/empty --out @ @/one", 1),
-        ("tep run --settings @/settings --underlay @/empty --out @ @/one @/settings", 1),
-        ("tep run --settings @/settings --underlay @/none --out @ @/one @/cut", 3),
-        ("tep run --settings @/settings --underlay @/empty --out @/none @/one @/cut", 3),
+        (
+            "tep run --settings @/settings --underlay @/empty --out @ @/one",
+            1,
+        ),
+        (
+            "tep run --settings @/settings --underlay @/empty --out @ @/one @/settings",
+            1,
+        ),
+        (
+            "tep run --settings @/settings --underlay @/none --out @ @/one @/cut",
+            3,
+        ),
+        (
+            "tep run --settings @/settings --underlay @/empty --out @/none @/one @/cut",
+            3,
+        ),
     ];
     for (line, status) in cases {
         assert_eq!(rt; status_of(&rt, folder, line)?, status, "{line}");

@@ -1,10 +1,10 @@
-use Rattle.std.proofs.Common.{◌≡◌, ◌∙◌, ap, sym, subst, [], ◌++◌, List, Vec, ℕ, Global, map, Ok, Err}
+use Rattle.std.proofs.Common.{◌∙◌, ap, sym, subst, [], Vec, ℕ, Global, map, Err}
 use Rattle.overlay_config.specs.Change.{changes_in}
 use Rattle.overlay_config.specs.Settings.{settings_in}
 use Rattle.pcap_io.specs.Written.{written_header}
 use Rattle.capture_run.specs.Run.{Gives, run}
-use Rattle.dissector.specs.Given.{GivesText, decisions_of}
-use Rattle.dissector.specs.Sample.{captures, settings_text}
+use Rattle.dissector.specs.Given.{decisions_of}
+use Rattle.dissector.specs.Sample.{settings_text}
 use Rattle.dissector.proofs.SameRun.{fault_given, means_at, same_run}
 use Rattle.dissector.proofs.built_in.sample.Goals as goal
 

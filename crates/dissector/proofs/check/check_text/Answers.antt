@@ -1,4 +1,4 @@
-use Rattle.std.proofs.Common.{◌≡◌, ◌∙◌, ap, arith, length, refl, sym, subst, List, Vec, Global, Ok, Err}
+use Rattle.std.proofs.Common.{◌≡◌, ◌∙◌, ap, arith, length, refl, sym, subst, Vec, Global, Ok, Err}
 use Rattle.overlay_config.specs.Settings.{Settings, settings_in}
 use Rattle.overlay_config.specs.Change.{changes_in}
 use Rattle.overlay_config.specs.declared.change.TimedChange.{TimedChange}

@@ -37,7 +37,7 @@ flood = []
 /// The MAC address of everybody.
 const ALL: [u8; 6] = [0xFF; 6];
 
-/// The MAC addresses of two stations.
+/// The MAC address of one station, and that of another.
 const FIRST: [u8; 6] = [2, 0, 0, 0, 0, 1];
 
 const SECOND: [u8; 6] = [2, 0, 0, 0, 0, 2];

@@ -2,7 +2,8 @@
 //!
 //! [`sample`] runs the endpoint on a built-in sample, [`check_text`] looks at a settings text and a changes text, and
 //! [`exit_code`] is the exit status of a [`RunFault`](capture_run::RunFault). [`read_text`] reads a whole text from any
-//! input in a bounded number of reads. [`line_of`] reads the program's words. No file is opened here.
+//! input in a bounded number of reads. [`line_of`] reads the program's words. [`explain_bytes`] takes the packets of a
+//! capture apart, and [`dissect`] one packet. No file is opened here.
 #![tactic(auto)]
 
 mod built_in;
@@ -13,6 +14,8 @@ mod text;
 pub use built_in::sample;
 pub use check::check_text;
 pub use command_line::{Line, LineFault, line_of};
+pub use explanation::{explain, explain_bytes};
+pub use packet_layers::{Head, HeadKind, Layers, Span, Stop, dissect};
 pub use status::exit_code;
 pub use text::{TextFault, read_text};
 

@@ -9,11 +9,14 @@ use std::test::Fail;
 
 const SECOND: u64 = 1_000_000_000;
 
+/// Settings of the endpoint whose address ends with OWN, which floods to FLOOD.
+const SETTINGS: &str =
+    "version = 1\n[underlay]\nmac = \"02:00:00:00:aa:0OWN\"\nnext_hop = \"02:00:00:00:aa:fe\"\nip4 = \"192.0.2.OWN\"\n[[port]]\npvid = 10\n[[port]]\npvid = 10\n[[port]]\npvid = 10\n[[segment]]\nvid = 10\nvni = 5000\ntunnel = \"vxlan\"\nuntagged = [1, 2]\ntagged = [3]\nflood = [FLOOD]\n";
+
 /// The endpoint whose address ends so, which floods to these.
-fn opened(alloc: Global, own: u8, flood: &str) -> Result<Endpoint, Fail> {
-    let text = format!(in alloc;
-        "version = 1\n[underlay]\nmac = \"02:00:00:00:aa:0{own}\"\nnext_hop = \"02:00:00:00:aa:fe\"\nip4 = \"192.0.2.{own}\"\n[[port]]\npvid = 10\n[[port]]\npvid = 10\n[[port]]\npvid = 10\n[[segment]]\nvid = 10\nvni = 5000\ntunnel = \"vxlan\"\nuntagged = [1, 2]\ntagged = [3]\nflood = [{flood}]\n"
-    )?;
+fn opened(alloc: Global, own: &str, flood: &str) -> Result<Endpoint, Fail> {
+    let text = SETTINGS.replace(alloc, "OWN", own)?;
+    let text = text.replace(alloc, "FLOOD", flood)?;
     let settings = settings_of(alloc, text.as_bytes())?;
     Ok(Endpoint::open(alloc, settings)?)
 }
@@ -53,7 +56,8 @@ fn leaves_at(alloc: Global, decision: &Decision, last: u8, expected: &str) -> Re
     if packet.is_empty() {
         return Ok(expected.is_empty());
     }
-    let mut peer = opened(alloc, last, "\"192.0.2.1\"")?;
+    let own = if last == 2 { "2" } else { "3" };
+    let mut peer = opened(alloc, own, "\"192.0.2.1\"")?;
     if packet.len() > 110 || peer.now() > SECOND {
         return Ok(false);
     }
@@ -82,7 +86,7 @@ fn a_broadcast_leaves_once_at_each_port(rt: HostRuntime) -> Result<(), Fail> {
         ),
     ];
     for (change, sent, at_third) in cases {
-        let mut sender = opened(rt.alloc(), 1, "\"192.0.2.2\", \"192.0.2.3\"")?;
+        let mut sender = opened(rt.alloc(), "1", "\"192.0.2.2\", \"192.0.2.3\"")?;
         let octets = broadcast();
         assert!(rt; sender.now() == 0, "the first moment");
         assert!(rt; sender.change(SECOND, change) == Ok(()), "the change");

@@ -1,8 +1,11 @@
 //! What the program does with its words.
+ghost use Rattle.std.specs.Prelude.{◌≤◌};
+ghost use Rattle.command_line.specs.Meaning.{HasDepth};
+
 use crate::files::{read_file, read_files, read_if_given, write_outputs};
 use crate::stop::{Output, Stop};
 use capture_run::{RunFault, run_bytes};
-use dissector::{Line, LineFault, check_text, line_of, sample};
+use dissector::{Line, LineFault, check_text, explain_bytes, line_of, sample};
 use std::alloc::Global;
 use std::env;
 use std::io::{self, ErrorKind, Write};
@@ -71,7 +74,9 @@ fn stopped(rt: &impl Eprint, stop: &Stop<'_>) -> u8 {
 }
 
 /// Does what a line asks for. Nothing is written before all is read and worked out.
-fn perform<'a, R: Files + AllocGlobal + Print>(rt: &R, line: &Line<'a>) -> Result<(), Stop<'a>> {
+fn perform<'a, R: Files + AllocGlobal + Print>(rt: &R, line: &Line<'a>) -> Result<(), Stop<'a>>
+    requires { HasDepth line.now }
+{
     match line {
         Line::Sample => print_sample(rt),
         Line::Check { settings, changes } => check(rt, *settings, *changes),
@@ -82,6 +87,11 @@ fn perform<'a, R: Files + AllocGlobal + Print>(rt: &R, line: &Line<'a>) -> Resul
             out,
             ports,
         } => run_on_files(rt, *settings, *changes, *underlay, *out, ports.as_slice()),
+        Line::Explain {
+            settings,
+            depth,
+            capture,
+        } => explain(rt, *settings, *depth, *capture),
     }
 }
 
@@ -103,6 +113,29 @@ fn check<'a, R: Files + AllocGlobal + Print>(
     let changes = read_if_given(rt, changes)?;
     match check_text(rt.alloc(), settings.as_slice(), changes.as_slice()) {
         Ok(line) => print_text(rt, line.as_slice()),
+        Err(fault) => Err(Stop::Run(fault)),
+    }
+}
+
+/// Prints how the packets of a capture are made up, and what is decided of them.
+fn explain<'a, R: Files + AllocGlobal + Print>(
+    rt: &R,
+    settings: &'a str,
+    depth: u8,
+    capture: &'a str,
+) -> Result<(), Stop<'a>>
+    requires low { 1 ≤ depth }
+    requires high { depth ≤ 4 }
+{
+    let settings = read_file(rt, settings)?;
+    let capture = read_file(rt, capture)?;
+    match explain_bytes(
+        rt.alloc(),
+        settings.as_slice(),
+        capture.as_slice(),
+        usize::from(depth),
+    ) {
+        Ok(text) => print_text(rt, text.as_slice()),
         Err(fault) => Err(Stop::Run(fault)),
     }
 }

@@ -13,6 +13,3 @@ pub use fault::{RunFault, of_captures, of_changes, of_settings};
 pub use line::{cut_line, decision_line};
 pub use outputs::Outputs;
 pub use run::run_bytes;
-
-#[cfg(test)]
-mod tests;

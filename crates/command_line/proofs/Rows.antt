@@ -1,5 +1,5 @@
 -- What some lines mean, computed.
-use Rattle.std.proofs.Common.{◌≡◌, refl, codes, [], ◌∷◌, Some, None, false, true}
+use Rattle.std.proofs.Common.{◌≡◌, refl, codes, [], ◌∷◌, Some, None, false}
 use Rattle.clap.specs.Words.{takes}
 use Rattle.clap.proofs.OnLiterals.{clap_on_literals}
 use Rattle.command_line.specs.App.{tep_app}

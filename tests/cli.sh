@@ -72,6 +72,27 @@ ends 0 "" --help
 grep -q '^Usage: tep' "$folder/stdout" || complain "no help"
 ends 0 "" run --help
 grep -q 'Usage: tep run' "$folder/stdout" || complain "no help on run"
+cat >"$folder/explained" <<'TEXT'
+1 5000000000 u 1 10 p1=60 p2=60 p3=64
+  ether 0 12
+  type 12 2
+  ip4 14 20
+  udp 34 8
+  vxlan 42 8
+  ether 50 12
+  type 62 2
+  payload 64 46
+  stop 12 NotIp
+2 9000000000 u 2 - drop 12 NotIp
+  ether 0 12
+  type 12 2
+  payload 14 46
+  stop 12 NotIp
+TEXT
+ends 0 "" explain --settings $a $underlay
+prints "$folder/explained"
+ends 0 "" explain --settings $a --depth 1 $underlay
+prints "$folder/explained"
 ends 0 "" --version
 grep -q '^tep ' "$folder/stdout" || complain "no version"
 
@@ -97,6 +118,9 @@ runs 1 "u: NotPcap" $a $changes /dev/null "${ports[@]}"
 { head -c 20 $underlay && printf '\145\0\0\0'; } >"$folder/raw.pcap"
 runs 1 "u: BadLink" $a $changes "$folder/raw.pcap" "${ports[@]}"
 { head -c 40 "${ports[0]}" | head -c 32 && printf '\1\0\4\0\0\0\0\0'; } >"$folder/large.pcap"
+ends 1 "settings: BadValue *" explain --settings "$folder/x.toml" /dev/null
+ends 1 "u: NotPcap" explain --settings $a /dev/null
+ends 1 "u: BadLink" explain --settings $a "$folder/raw.pcap"
 runs 1 "p1: TooLarge 1" $a $changes $underlay "$folder/large.pcap" "${ports[@]:1}"
 { cat "${ports[1]}" && printf '\1\0\0\0\100\102\17\0\0\0\0\0\0\0\0\0'; } >"$folder/fraction.pcap"
 runs 1 "p2: BadFraction 3" $a $changes $underlay "${ports[0]}" "$folder/fraction.pcap" "${ports[2]}"
@@ -113,8 +137,17 @@ runs 0 "" $a /dev/null "$folder/empty.pcap" "$folder/cut.pcap" "$folder/empty.pc
 cut p1 1" ] || complain "a cut capture: $(cat "$folder/out/decisions.txt")"
 rm "$folder"/out/*
 
+head -c 160 $underlay >"$folder/cut.pcap"
+head -n 10 "$folder/explained" >"$folder/cut_explained"
+echo "cut u 1" >>"$folder/cut_explained"
+ends 0 "" explain --settings $a "$folder/cut.pcap"
+prints "$folder/cut_explained"
+ends 0 "" explain --settings $a "$folder/empty.pcap"
+prints /dev/null
+
 # The words: status 2.
-for words in "nothing" "run" "check" "check --depth 1" "run --settings s --underlay u --out o"; do
+for words in "nothing" "run" "check" "check --depth 1" "run --settings s --underlay u --out o" \
+    "explain c" "explain --settings s" "explain --settings s --depth 0 c" "explain --settings s --depth 5 c"; do
     # shellcheck disable=SC2086
     ./tep $words >"$folder/stdout" 2>"$folder/stderr"
     got=$?
@@ -127,6 +160,8 @@ ends 2 "words" check --settings $'\xff'
 no=$folder/no
 ends 3 "read $no" check --settings "$no" --changes "$folder"
 ends 3 "read $folder" check --settings $a --changes "$folder"
+ends 3 "read $no.s" explain --settings "$no.s" "$no.u"
+ends 3 "read $no.u" explain --settings "$folder/x.toml" "$no.u"
 runs 3 "read $no.s" "$no.s" "$no.c" "$no.u" "$no.1" "$no.2"
 runs 3 "read $no.c" "$folder/x.toml" "$no.c" "$no.u" "$no.1" "$no.2"
 runs 3 "read $no.u" "$folder/x.toml" "$folder/x.toml" "$no.u" "$no.1" "$no.2"
@@ -151,7 +186,7 @@ for name in port1.pcap port3.pcap underlay.pcap decisions.txt; do
     runs 3 "write $name" $a $changes $underlay "${ports[@]}"
     rm -f "$folder"/out/*
 done
-for words in "" "--help" "--version" "check --settings $a"; do
+for words in "" "--help" "--version" "check --settings $a" "explain --settings $a $underlay"; do
     # shellcheck disable=SC2086
     ./tep $words >/dev/full 2>"$folder/stderr"
     got=$?

@@ -1,4 +1,4 @@
-//! The tables of all segments in one block of memory, with constant work for each frame.
+//! The tables of all segments in one block of memory, with counts of the work that each call does.
 //!
 //! [`SharedTables`] answers each call of [`filter_db::Tables`] as a list for each segment would. Its entries stand in
 //! one array of slots that is reserved when the tables are opened. Chains of slots over VID and address find an

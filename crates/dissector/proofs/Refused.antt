@@ -7,7 +7,7 @@ use Rattle.overlay_config.specs.Settings.{Settings}
 use Rattle.overlay_config.specs.declared.change.TimedChange.{TimedChange}
 use Rattle.capture_run.specs.Fault.{of_settings, of_changes}
 use Rattle.dissector.specs.Check.{checked}
-use Rattle.dissector.specs.Given.{GivesText}
+use Rattle.explanation.specs.Explanation.{Gives as GivesText}
 
 pub settings_refused : {A : Type 0} (view : A → Settings) (fault : SettingsFault) (s : Meaning Settings) (c : Meaning (List TimedChange))
     → GivesAs view (Err fault) s → GivesText (Err (of_settings fault)) (checked s c)

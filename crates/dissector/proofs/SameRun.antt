@@ -16,7 +16,8 @@ use Rattle.capture_run.specs.Outputs.{Outputs}
 use Rattle.capture_run.specs.Run.{Gives, Means, run, by_timeline}
 use Rattle.capture_run.specs.declared.fault.RunFault.{RunFault}
 use Rattle.capture_run.specs.declared.fault.RunFault.TheVariants as faults
-use Rattle.dissector.specs.Given.{GivesText, decisions_of}
+use Rattle.explanation.specs.Explanation.{Gives as GivesText}
+use Rattle.dissector.specs.Given.{decisions_of}
 
 -- what a text means, where the octets are that text
 pub means_at : {A : Type 0} (meaning_of : List ℕ → Meaning A) (text octets : List ℕ) → IsUtf8 octets → octets ≡ text → Means meaning_of octets (meaning_of text)

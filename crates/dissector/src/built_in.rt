@@ -5,7 +5,8 @@ ghost use Rattle.overlay_config.specs.Change.{changes_in};
 ghost use Rattle.overlay_config.specs.Settings.{settings_in};
 ghost use Rattle.pcap_io.specs.Written.{written_header};
 ghost use Rattle.capture_run.specs.Run.{run};
-ghost use Rattle.dissector.specs.Given.{GivesText, decisions_of};
+ghost use Rattle.explanation.specs.Explanation.{Gives as GivesText};
+ghost use Rattle.dissector.specs.Given.{decisions_of};
 ghost use Rattle.dissector.specs.Sample.{capture_of, captures, settings_text};
 
 use capture_run::{RunFault, run_bytes};

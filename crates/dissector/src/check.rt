@@ -6,7 +6,7 @@ ghost use Rattle.overlay_config.specs.Settings.{Settings, settings_in};
 ghost use Rattle.overlay_config.specs.declared.change.TimedChange.{TimedChange};
 ghost use Rattle.capture_run.specs.Run.{Means};
 ghost use Rattle.dissector.specs.Check.{checked, counts_line};
-ghost use Rattle.dissector.specs.Given.{GivesText};
+ghost use Rattle.explanation.specs.Explanation.{Gives as GivesText};
 
 use capture_run::{RunFault, of_changes, of_settings};
 use overlay_config::{changes_of, settings_of};

@@ -5,7 +5,7 @@ use Rattle.overlay_config.specs.declared.change.TimedChange.{TimedChange}
 use Rattle.capture_run.specs.Fault.{of_changes}
 use Rattle.capture_run.proofs.Faults.{read_is}
 use Rattle.dissector.specs.Check.{checked}
-use Rattle.dissector.specs.Given.{GivesText}
+use Rattle.explanation.specs.Explanation.{Gives as GivesText}
 use Rattle.dissector.proofs.Refused.{changes_refused, settings_refused}
 use Rattle.dissector.proofs.check.check_text.Goals as goal
 

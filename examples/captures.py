@@ -3,6 +3,7 @@
 
     captures.py small FOLDER    port1.pcap, port2.pcap, port3.pcap and underlay.pcap, eight records in all
     captures.py large FOLDER    the same names; 3,000 frames at port 1, 3,000 packets from the underlay
+    captures.py read FOLDER     reads FOLDER/out/underlay.pcap, which has to hold the frames of FOLDER/in/port1.pcap in VXLAN
 """
 import pathlib
 import struct
@@ -93,12 +94,47 @@ def write(path, records):
             out.write(struct.pack("<IIII", *divmod(moment, SECOND), len(octets), len(octets)) + octets)
 
 
+def read(path):
+    """The octets of each record of a little-endian capture."""
+    text, at = path.read_bytes(), 24
+    magic, major, minor, *_, link = struct.unpack_from("<IHHiIII", text)
+    assert magic in (0xA1B2C3D4, 0xA1B23C4D) and (major, minor, link) == (2, 4, 1), "the capture's header"
+    while at < len(text):
+        length, original = struct.unpack_from("<II", text, at + 8)
+        assert length == original and at + 16 + length <= len(text), f"the record at {at}"
+        yield text[at + 16 : at + 16 + length]
+        at += 16 + length
+
+
+def carried(octets):
+    """The frame in a packet that the endpoint of a.toml sends to the peer in VXLAN, with checksums over IPv4."""
+    head, udp, vxlan = octets[14:34], octets[34:42], octets[42:50]
+    assert octets[:14] == mac(0xAAFE) + mac(0xAA01) + IP4, "the addresses of the underlay"
+    assert head[:2] == b"\x45\0" and head[9] == 17 and head[12:] == ENDPOINT + PEER, "the IPv4 header"
+    assert int.from_bytes(head[2:4], "big") == len(octets) - 14 and checksum(head) == 0, "the IPv4 length and checksum"
+    pseudo = ENDPOINT + PEER + struct.pack(">HH", 17, len(octets) - 34)
+    assert udp[2:4] == struct.pack(">H", 4789) and udp[4:6] == struct.pack(">H", len(octets) - 34), "the UDP header"
+    assert udp[6:] != b"\0\0" and checksum(pseudo + octets[34:]) == 0, "the UDP checksum"
+    assert vxlan == struct.pack(">II", 0x08000000, 5000 << 8), "the VXLAN header"
+    return octets[50:]
+
+
+def compare(folder):
+    """Reads what a run sent, and holds it against what came in."""
+    sent = [carried(octets) for octets in read(folder / "out" / "underlay.pcap")]
+    assert sent == list(read(folder / "in" / "port1.pcap")), "the frames of port 1"
+    print(f"{len(sent)} packets, whose frames are those of port 1")
+
+
 def main():
-    if len(sys.argv) != 3 or sys.argv[1] not in ("small", "large"):
+    if len(sys.argv) != 3 or sys.argv[1] not in ("small", "large", "read"):
         sys.exit(__doc__)
+    folder = pathlib.Path(sys.argv[2])
+    if sys.argv[1] == "read":
+        return compare(folder)
     captures = small() if sys.argv[1] == "small" else large()
     for name, records in captures.items():
-        write(pathlib.Path(sys.argv[2]) / f"{name}.pcap", records)
+        write(folder / f"{name}.pcap", records)
 
 
 if __name__ == "__main__":

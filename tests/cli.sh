@@ -69,7 +69,8 @@ says ""
 holds decisions.txt port1.pcap port2.pcap port3.pcap underlay.pcap
 cmp examples/decisions.txt "$folder/out/decisions.txt" || complain "the decisions differ"
 ends 0 "" --help
-grep -q '^Usage: tep' "$folder/stdout" || complain "no help"
+sed 's/tep_help/tep/' crates/tep_help/stdout >"$folder/help"
+prints "$folder/help"
 ends 0 "" run --help
 grep -q 'Usage: tep run' "$folder/stdout" || complain "no help on run"
 cat >"$folder/explained" <<'TEXT'
@@ -93,6 +94,32 @@ ends 0 "" explain --settings $a $underlay
 prints "$folder/explained"
 ends 0 "" explain --settings $a --depth 1 $underlay
 prints "$folder/explained"
+# A packet whose frame is a packet in a tunnel itself: with a depth of 1 the second tunnel stays shut.
+{
+    head -c 24 $underlay
+    printf '\5\0\0\0\0\0\0\0\240\0\0\0\240\0\0\0'
+    tail -c +41 $underlay | head -c 16
+    printf '\0\222'
+    tail -c +59 $underlay | head -c 6
+    printf '\266\127'
+    tail -c +67 $underlay | head -c 12
+    printf '\0\176'
+    tail -c +81 $underlay | head -c 10
+    tail -c +41 $underlay | head -c 110
+} >"$folder/nested.pcap"
+ends 0 "" explain --settings $a --depth 1 "$folder/nested.pcap"
+[ "$(tail -n 4 "$folder/stdout")" = "  ip4 64 20
+  udp 84 8
+  payload 92 68
+  stop Deep" ] || complain "one tunnel deep: $(cat "$folder/stdout")"
+ends 0 "" explain --settings $a --depth 2 "$folder/nested.pcap"
+[ "$(tail -n 7 "$folder/stdout")" = "  ip4 64 20
+  udp 84 8
+  vxlan 92 8
+  ether 100 12
+  type 112 2
+  payload 114 46
+  stop 12 NotIp" ] || complain "two tunnels deep: $(cat "$folder/stdout")"
 ends 0 "" --version
 grep -q '^tep ' "$folder/stdout" || complain "no version"
 
@@ -117,7 +144,7 @@ runs 1 "p2: NotPcap" $a $changes /dev/null "${ports[0]}" $a "${ports[2]}"
 runs 1 "u: NotPcap" $a $changes /dev/null "${ports[@]}"
 { head -c 20 $underlay && printf '\145\0\0\0'; } >"$folder/raw.pcap"
 runs 1 "u: BadLink" $a $changes "$folder/raw.pcap" "${ports[@]}"
-{ head -c 40 "${ports[0]}" | head -c 32 && printf '\1\0\4\0\0\0\0\0'; } >"$folder/large.pcap"
+{ head -c 32 "${ports[0]}" && printf '\1\0\4\0\0\0\0\0'; } >"$folder/large.pcap"
 ends 1 "settings: BadValue *" explain --settings "$folder/x.toml" /dev/null
 ends 1 "u: NotPcap" explain --settings $a /dev/null
 ends 1 "u: BadLink" explain --settings $a "$folder/raw.pcap"
@@ -155,6 +182,8 @@ for words in "nothing" "run" "check" "check --depth 1" "run --settings s --under
     [ -s "$folder/stderr" ] && [ ! -s "$folder/stdout" ] || complain "tep $words: its text isn't on standard error"
 done
 ends 2 "words" check --settings $'\xff'
+./tep nothing 2>/dev/full
+[ $? -eq 2 ] || complain "refused words that can't be told: status $?"
 
 # Files that can't be read: status 3, the first in the order of settings, changes, underlay, ports.
 no=$folder/no

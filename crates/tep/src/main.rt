@@ -1,16 +1,9 @@
-//! The program `tep`: a VXLAN and Geneve tunnel endpoint over captures. What it works out stands in the library
-//! `dissector` and in `capture_run`; here are its words, its files and its exit statuses.
+//! The program `tep`: a VXLAN and Geneve tunnel endpoint over captures. All that it does stands in the library
+//! `tep_program`. The gate runs it without words.
 #![tactic(auto)]
-
-mod files;
-mod program;
-mod stop;
 
 use std::process::ExitCode;
 
 fn main(rt: HostRuntime) -> ExitCode {
-    program::start(&rt)
+    tep_program::start(&rt)
 }
-
-#[cfg(test)]
-mod tests;

@@ -1,6 +1,10 @@
 //! Why the program gives up.
+ghost use Rattle.std.specs.Prelude.{◌≡◌};
+ghost use Rattle.tep_program.specs.Status.{status_of};
+
 use capture_run::RunFault;
-use dissector::exit_code;
+use dissector::{TextFault, exit_code};
+use std::alloc::AllocError;
 use std::fmt;
 use thiserror::Error;
 
@@ -9,7 +13,7 @@ use thiserror::Error;
 pub enum Stop<'a> {
     /// A text or a capture is refused, or memory was.
     #[error("{0}")]
-    Run(RunFault),
+    Run(#[from] RunFault),
     /// The file of this name, as it was given, couldn't be read.
     #[error("read {0}")]
     Read(&'a str),
@@ -39,9 +43,25 @@ impl fmt::Display for Output {
     }
 }
 
-impl Stop<'_> {
+impl<'a> From<AllocError> for Stop<'a> {
+    fn from(error: AllocError) -> Stop<'a> {
+        Stop::Run(RunFault::from(error))
+    }
+}
+
+impl<'a> Stop<'a> {
+    /// That the file of this name couldn't be read whole.
+    pub fn reading(name: &'a str, fault: TextFault) -> Stop<'a> {
+        match fault {
+            TextFault::Read => Stop::Read(name),
+            TextFault::OutOfMemory => Stop::Run(RunFault::OutOfMemory),
+        }
+    }
+
     /// The exit status: 1 for a text or a capture that is refused, 3 for want of memory, a failed read or a failed write.
-    pub fn status(&self) -> u8 {
+    pub fn status(&self) -> u8
+        ensures { result ≡ status_of self.now }
+    {
         match self {
             Stop::Run(fault) => exit_code(fault),
             Stop::Read(_) | Stop::Write(_) => 3,

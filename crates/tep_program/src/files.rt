@@ -1,8 +1,9 @@
 //! The files that the program reads and writes.
 use crate::stop::{Output, Stop};
-use capture_run::{Outputs, RunFault};
-use dissector::{TextFault, read_text};
+use capture_run::Outputs;
+use dissector::read_text;
 use pcap_stream::StdInput;
+use std::alloc::AllocError;
 use std::fs;
 use std::io::Write;
 use std::path::Path;
@@ -16,11 +17,9 @@ pub fn read_file<'a, R: Files + AllocGlobal>(rt: &R, name: &'a str) -> Result<Ve
     let Ok(file) = fs::open(rt, name) else {
         return Err(Stop::Read(name));
     };
-    match read_text(rt.alloc(), &mut StdInput::new(file), READS) {
-        Ok(text) => Ok(text),
-        Err(TextFault::Read) => Err(Stop::Read(name)),
-        Err(TextFault::OutOfMemory) => Err(Stop::Run(RunFault::OutOfMemory)),
-    }
+    read_text(rt.alloc(), &mut StdInput::new(file), READS).map_err(|fault| Stop::reading(
+        name, fault,
+    ))
 }
 
 /// The whole of a file that may be left out, which is empty then.
@@ -41,10 +40,7 @@ pub fn read_files<'a, R: Files + AllocGlobal>(
 ) -> Result<Vec<Vec<u8>>, Stop<'a>> {
     let mut texts = Vec::new(rt.alloc());
     for name in names {
-        let text = read_file(rt, *name)?;
-        if texts.push(text).is_err() {
-            return Err(Stop::Run(RunFault::OutOfMemory));
-        }
+        texts.push(read_file(rt, *name)?).map_err(AllocError::from)?;
     }
     Ok(texts)
 }
@@ -69,12 +65,8 @@ fn write_file<R: Files + AllocGlobal>(
     output: Output,
     text: &[u8],
 ) -> Result<(), Stop<'static>> {
-    let Ok(name) = format!(in rt.alloc(); "{output}") else {
-        return Err(Stop::Run(RunFault::OutOfMemory));
-    };
-    let Ok(path) = Path::new(folder).join(rt.alloc(), name.as_str()) else {
-        return Err(Stop::Run(RunFault::OutOfMemory));
-    };
+    let name = format!(in rt.alloc(); "{output}")?;
+    let path = Path::new(folder).join(rt.alloc(), name.as_str())?;
     let Ok(mut file) = fs::create(rt, path.as_path()) else {
         return Err(Stop::Write(output));
     };

@@ -1,12 +1,14 @@
 //! What the program does with its words.
-ghost use Rattle.std.specs.Prelude.{◌≤◌};
+ghost use Rattle.std.specs.Prelude.{◌≡◌, ◌≤◌};
+ghost use Rattle.clap.specs.Walk.{texts};
 ghost use Rattle.command_line.specs.Meaning.{HasDepth};
+ghost use Rattle.tep_program.specs.Status.{IsStatusOf, status_of};
 
 use crate::files::{read_file, read_files, read_if_given, write_outputs};
 use crate::stop::{Output, Stop};
 use capture_run::{RunFault, run_bytes};
 use dissector::{Line, LineFault, check_text, explain_bytes, line_of, sample};
-use std::alloc::Global;
+use std::alloc::{AllocError, Global};
 use std::env;
 use std::io::{self, ErrorKind, Write};
 use std::process::ExitCode;
@@ -17,34 +19,32 @@ const WORDS_REFUSED: u8 = 2;
 
 /// Gets the words of the process, and does what they ask for.
 pub fn start<R: Env + Files + AllocGlobal + Print + Eprint>(rt: &R) -> ExitCode {
-    let words = match env::args(rt) {
-        Ok(words) => words,
-        Err(error) => {
-            if error.kind() == ErrorKind::OutOfMemory {
-                return ExitCode::from(stopped(rt, &Stop::Run(RunFault::OutOfMemory)));
-            }
-            return ExitCode::from(words_refused(rt));
-        }
+    let status = match env::args(rt) {
+        Ok(words) => status(rt, words),
+        Err(error) if error.kind() == ErrorKind::OutOfMemory => Err(AllocError),
+        Err(_) => Ok(words_refused(rt)),
     };
-    match status(rt, words) {
-        Some(code) => ExitCode::from(code),
-        None => ExitCode::from(stopped(rt, &Stop::Run(RunFault::OutOfMemory))),
-    }
+    ExitCode::from(status.unwrap_or_else(|error| stopped(rt, &Stop::from(error))))
 }
 
-/// The exit status, or nothing where memory runs out before the words are read.
-fn status<R: Files + AllocGlobal + Print + Eprint>(rt: &R, words: env::Args<Global>) -> Option<u8> {
-    let words: Vec<String> = words.collect(rt.alloc()).ok()?;
+/// The exit status, or that memory ran out before the words were read.
+fn status<R: Files + AllocGlobal + Print + Eprint>(
+    rt: &R,
+    words: env::Args<Global>,
+) -> Result<u8, AllocError> {
+    let words: Vec<String> = words.collect(rt.alloc())?;
     let mut texts = Vec::new(rt.alloc());
     for word in &words {
-        texts.push(word.as_str()).ok()?;
+        texts.push(word.as_str())?;
     }
-    Some(run(rt, texts.as_slice()))
+    Ok(run(rt, texts.as_slice()))
 }
 
 /// Does what the words ask for, the program's name first, and answers the exit status: 0 where it is done, 1 where a text
 /// or a capture is refused, 2 where the words are, and 3 for want of memory or a read or a write that failed.
-pub fn run<'a, R: Files + AllocGlobal + Print + Eprint>(rt: &R, words: &'a [&'a str]) -> u8 {
+pub fn run<'a, R: Files + AllocGlobal + Print + Eprint>(rt: &R, words: &'a [&'a str]) -> u8
+    ensures { IsStatusOf (texts words.entry.now) result }
+{
     match line_of(rt.alloc(), words) {
         Ok(line) => match perform(rt, &line) {
             Ok(()) => 0,
@@ -53,22 +53,30 @@ pub fn run<'a, R: Files + AllocGlobal + Print + Eprint>(rt: &R, words: &'a [&'a 
         Err(LineFault::OutOfMemory) => stopped(rt, &Stop::Run(RunFault::OutOfMemory)),
         Err(LineFault::NoValue) => words_refused(rt),
         Err(LineFault::Refused(error)) => {
-            if error.print(rt).is_err() {
-                return stopped(rt, &Stop::Write(Output::Stdout));
+            let printed = error.print(rt);
+            if error.use_stderr() {
+                WORDS_REFUSED
+            } else if printed.is_err() {
+                stopped(rt, &Stop::Write(Output::Stdout))
+            } else {
+                0
             }
-            if error.use_stderr() { WORDS_REFUSED } else { 0 }
         }
     }
 }
 
 /// Says that the words lack a value.
-fn words_refused(rt: &impl Eprint) -> u8 {
+fn words_refused(rt: &impl Eprint) -> u8
+    ensures { result ≡ 2 }
+{
     let _ = eprintln!(rt; "words");
     WORDS_REFUSED
 }
 
 /// Says why the program gives up.
-fn stopped(rt: &impl Eprint, stop: &Stop<'_>) -> u8 {
+fn stopped(rt: &impl Eprint, stop: &Stop<'_>) -> u8
+    ensures { result ≡ status_of stop.now }
+{
     let _ = eprintln!(rt; "{stop}");
     stop.status()
 }
@@ -97,10 +105,8 @@ fn perform<'a, R: Files + AllocGlobal + Print>(rt: &R, line: &Line<'a>) -> Resul
 
 /// Prints the decision lines of the sample.
 fn print_sample<R: AllocGlobal + Print>(rt: &R) -> Result<(), Stop<'static>> {
-    match sample(rt.alloc()) {
-        Ok(lines) => print_text(rt, lines.as_slice()),
-        Err(fault) => Err(Stop::Run(fault)),
-    }
+    let lines = sample(rt.alloc())?;
+    print_text(rt, lines.as_slice())
 }
 
 /// Looks at the texts, and prints what is in them.
@@ -111,10 +117,8 @@ fn check<'a, R: Files + AllocGlobal + Print>(
 ) -> Result<(), Stop<'a>> {
     let settings = read_file(rt, settings)?;
     let changes = read_if_given(rt, changes)?;
-    match check_text(rt.alloc(), settings.as_slice(), changes.as_slice()) {
-        Ok(line) => print_text(rt, line.as_slice()),
-        Err(fault) => Err(Stop::Run(fault)),
-    }
+    let line = check_text(rt.alloc(), settings.as_slice(), changes.as_slice())?;
+    print_text(rt, line.as_slice())
 }
 
 /// Prints how the packets of a capture are made up, and what is decided of them.
@@ -129,15 +133,13 @@ fn explain<'a, R: Files + AllocGlobal + Print>(
 {
     let settings = read_file(rt, settings)?;
     let capture = read_file(rt, capture)?;
-    match explain_bytes(
+    let text = explain_bytes(
         rt.alloc(),
         settings.as_slice(),
         capture.as_slice(),
         usize::from(depth),
-    ) {
-        Ok(text) => print_text(rt, text.as_slice()),
-        Err(fault) => Err(Stop::Run(fault)),
-    }
+    )?;
+    print_text(rt, text.as_slice())
 }
 
 /// Runs on files, and writes what comes out into a folder.
@@ -153,16 +155,14 @@ fn run_on_files<'a, R: Files + AllocGlobal>(
     let changes = read_if_given(rt, changes)?;
     let underlay = read_file(rt, underlay)?;
     let ports = read_files(rt, ports)?;
-    match run_bytes(
+    let outputs = run_bytes(
         rt.alloc(),
         settings.as_slice(),
         changes.as_slice(),
         ports.as_slice(),
         underlay.as_slice(),
-    ) {
-        Ok(outputs) => write_outputs(rt, out, &outputs),
-        Err(fault) => Err(Stop::Run(fault)),
-    }
+    )?;
+    write_outputs(rt, out, &outputs)
 }
 
 /// Prints a text on standard output.

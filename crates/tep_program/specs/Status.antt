@@ -1,0 +1,25 @@
+-- The program's exit statuses.
+use Rattle.std.specs.Prelude.{◌≡◌, ◌≢◌, ◌⊎◌, ℕ, List, None, []}
+use Rattle.clap.specs.Words.{Text, fault_of}
+use Rattle.command_line.specs.App.{tep_app}
+use Rattle.command_line.specs.Meaning.{words_meant}
+use Rattle.dissector.specs.Status as run
+use Rattle.tep_program.specs.declared.stop.Stop.{Stop}
+use Rattle.tep_program.specs.declared.stop.Stop.TheVariants as stop
+
+-- 1 for a text or a capture that is refused, 3 for want of memory, a failed read or a failed write
+abbrev pub status_of : Stop → ℕ
+status_of (stop.Run fault) = run.status_of fault
+status_of (stop.Read name) = 3
+status_of (stop.Write output) = 3
+
+-- words that `clap` doesn't take, among them those that ask for help, or that lack a value
+abbrev pub AreRefused : List Text → Type 0
+AreRefused words = (fault_of tep_app words ≢ []) ⊎ (words_meant words ≡ None)
+
+-- 0 or 3 as it comes; 1 only for words that are taken, 2 only for words that aren't
+abbrev pub IsStatusOf : List Text → ℕ → Type 0
+IsStatusOf words status =
+    (status ≡ 0) ⊎ (status ≡ 3)
+    ⊎ ((status ≡ 1) × (fault_of tep_app words ≡ []))
+    ⊎ ((status ≡ 2) × AreRefused words)

@@ -1,5 +1,5 @@
 -- What a command line means.
-use Rattle.std.specs.Prelude.{◌≡◌, ◌≤◌, ℕ, ◌&&◌, nat_le, List, Option, Some, None, codes, option_and_then, option_map, if◌then◌else◌, ⊤, false}
+use Rattle.std.specs.Prelude.{◌≡◌, ◌≤◌, ℕ, ◌&&◌, nat_le, List, Option, Some, None, codes, option_and_then, option_map, if◌then◌else◌, ⊤, false, []}
 use Rattle.std.specs.Str.{bytes_eq}
 use Rattle.std.specs.Str.Parse.{digits_value, without_leading_plus}
 use Rattle.clap.specs.ValueTests.{is_unsigned_in}
@@ -80,11 +80,12 @@ words_meant words = line_meant (subcommand_of tep_app words)
 
 -- ---- when each fault is answered
 
--- Refused where that definition doesn't take the words, NoValue where its matches lack a required value
+-- Refused where that definition doesn't take the words, NoValue where it takes them and its matches lack a required
+-- value
 abbrev pub Explains : List Text → LineFault → Type 0
 Explains words fault.OutOfMemory = ⊤
 Explains words (fault.Refused e) = (takes tep_app words ≡ false) × IsAmong (kind_of e) (fault_of tep_app words)
-Explains words fault.NoValue = words_meant words ≡ None
+Explains words fault.NoValue = (fault_of tep_app words ≡ []) × (words_meant words ≡ None)
 
 -- the same of the part behind the parse, which refuses nothing
 abbrev pub LacksValue : Option Meaning → LineFault → Type 0

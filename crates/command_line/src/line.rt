@@ -18,8 +18,11 @@ pub enum Line<'a> {
     Sample,
     /// A run on captures.
     Run {
+        /// The settings text's file.
         settings: &'a str,
+        /// The changes text's file.
         changes: Option<&'a str>,
+        /// The capture of the underlay.
         underlay: &'a str,
         /// The folder that outputs are written into.
         out: &'a str,
@@ -28,14 +31,18 @@ pub enum Line<'a> {
     },
     /// A look at the texts alone.
     Check {
+        /// The settings text's file.
         settings: &'a str,
+        /// The changes text's file.
         changes: Option<&'a str>,
     },
     /// The packets of a capture taken apart.
     Explain {
+        /// The settings text's file.
         settings: &'a str,
         /// How many tunnels are looked into: 1 to 4.
         depth: u8,
+        /// The capture of the underlay that is explained.
         capture: &'a str,
     },
 }

@@ -51,10 +51,7 @@ fn small(depth: Option<u8>) -> Option<u8>
     ensures value { result ≡ option_and_then small_depth depth }
     ensures range { IfSome result (λ depth. (1 ≤ depth) × (depth ≤ 4)) }
 {
-    match depth {
-        Some(depth) if depth >= 1 && depth <= 4 => Some(depth),
-        _ => None,
-    }
+    depth.filter(|depth| (1..=4).contains(depth))
 }
 
 /// The line that asks for a run.
@@ -63,19 +60,11 @@ fn run_from<'a>(alloc: Global, inner: &ArgMatches<'a>) -> Result<Line<'a>, LineF
     ensures depth { IfOk result HasDepth }
     ensures fault { IfErr result (LacksValue (run_meant (rows_of (found_of inner.now)))) }
 {
-    let Some(settings) = text(inner, "settings") else {
-        return Err(LineFault::NoValue);
-    };
+    let settings = text(inner, "settings").ok_or(LineFault::NoValue)?;
     let changes = text(inner, "changes");
-    let Some(underlay) = text(inner, "underlay") else {
-        return Err(LineFault::NoValue);
-    };
-    let Some(out) = text(inner, "out") else {
-        return Err(LineFault::NoValue);
-    };
-    let Some(given) = values(inner, "ports") else {
-        return Err(LineFault::NoValue);
-    };
+    let underlay = text(inner, "underlay").ok_or(LineFault::NoValue)?;
+    let out = text(inner, "out").ok_or(LineFault::NoValue)?;
+    let given = values(inner, "ports").ok_or(LineFault::NoValue)?;
     let Ok(ports) = Vec::from_slice(alloc, given) else {
         return Err(LineFault::OutOfMemory);
     };
@@ -94,9 +83,7 @@ fn check_from<'a>(inner: &ArgMatches<'a>) -> Result<Line<'a>, LineFault>
     ensures depth { IfOk result HasDepth }
     ensures fault { IfErr result (LacksValue (check_meant (rows_of (found_of inner.now)))) }
 {
-    let Some(settings) = text(inner, "settings") else {
-        return Err(LineFault::NoValue);
-    };
+    let settings = text(inner, "settings").ok_or(LineFault::NoValue)?;
     let changes = text(inner, "changes");
     Ok(Line::Check { settings, changes })
 }
@@ -107,15 +94,9 @@ fn explain_from<'a>(inner: &ArgMatches<'a>) -> Result<Line<'a>, LineFault>
     ensures depth { IfOk result HasDepth }
     ensures fault { IfErr result (LacksValue (explain_meant (rows_of (found_of inner.now)))) }
 {
-    let Some(settings) = text(inner, "settings") else {
-        return Err(LineFault::NoValue);
-    };
-    let Some(capture) = text(inner, "capture") else {
-        return Err(LineFault::NoValue);
-    };
-    let Some(depth) = depth(inner) else {
-        return Err(LineFault::NoValue);
-    };
+    let settings = text(inner, "settings").ok_or(LineFault::NoValue)?;
+    let capture = text(inner, "capture").ok_or(LineFault::NoValue)?;
+    let depth = depth(inner).ok_or(LineFault::NoValue)?;
     Ok(Line::Explain {
         settings,
         depth,

@@ -29,7 +29,7 @@ pub record IsOwnAddr (a : Addr) : Type 0 where
   pub usable : is_usable a ≡ true
   pub unicast : is_group a ≡ false
 
--- settings within their ranges: the two tunnel ports differ
+-- MAC addresses of 6 octets, own addresses as above, an MTU and ports of 16 bits, and two tunnel ports that differ
 pub record IsUnderlay (U : Underlay) : Type 0 where
   pub mac : length U.mac ≡ 6
   pub next_hop : length U.next_hop ≡ 6

@@ -1,5 +1,5 @@
 //! What leaves at one outlet.
-ghost use Rattle.std.specs.Prelude.{◌≡◌, ◌≤◌, ◌+◌, ◌++◌, [], ◌∷◌, map, length, vec_len, vec_capacity, OnOk, OnErr};
+ghost use Rattle.std.specs.Prelude.{◌≡◌, ◌≤◌, ◌⊎◌, ◌+◌, ◌++◌, [], ◌∷◌, map, length, vec_len, vec_capacity, OnOk, OnErr};
 ghost use Rattle.std.specs.List.{concat};
 ghost use Rattle.encapsulate.specs.Emission.{no_parts, text, around, local_text, local_tag};
 ghost use Rattle.vlan_ports.specs.declared.member.Egress.TheVariants.{Tagged};
@@ -77,6 +77,7 @@ impl<'a> Emission<'a> {
         ensures head { length self.now.head ≤ 70 }
         ensures addresses { length self.now.addresses ≤ 12 }
         ensures tag { length self.now.tag ≤ 4 }
+        ensures whole_tag { (length self.now.tag ≡ 0) ⊎ (length self.now.tag ≡ 4) }
     {
         four(self.head.as_slice(), self.addresses, self.tag(), self.body)
     }
@@ -85,6 +86,7 @@ impl<'a> Emission<'a> {
     fn tag(&self) -> &[u8]
         ensures value { result.now ≡ self.now.tag }
         ensures few { length result.now ≤ 4 }
+        ensures whole { (length result.now ≡ 0) ⊎ (length result.now ≡ 4) }
     {
         match &self.tag {
             Some(tag) => tag,

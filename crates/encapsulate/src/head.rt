@@ -4,8 +4,6 @@ ghost use Rattle.std.specs.Option.{option_map_or};
 ghost use Rattle.arrayvec.specs.ArrayVec.{array_vec_len};
 ghost use Rattle.header_sums.specs.Octets.{octets};
 ghost use Rattle.ip_udp_view.specs.declared.addr.Addr.TheVariants.{V4, V6};
-ghost use Rattle.ip_udp_view.specs.Datagram.{ether_type};
-ghost use Rattle.ip_udp_view.specs.Ip.{Ip4, Ip6};
 ghost use Rattle.flood_lists.specs.Flood.{has_family, own_of};
 ghost use Rattle.underlay.specs.Settings.{own, hop_to};
 ghost use Rattle.encapsulate.specs.Packet.{ip4_header, ip4_sent, ip6_sent, packet, data_of};

@@ -1,5 +1,4 @@
-//! Frames to the underlay and back, and frames to local ports: every octet that leaves an endpoint (RFC 7348, 5;
-//! RFC 8926, 3.3).
+//! Frames to the underlay and to local ports: every octet that leaves an endpoint (RFC 7348, 5; RFC 8926, 3.3).
 //!
 //! [`wrap`] puts a frame of a segment into the outer packet to a remote endpoint, or says why it isn't sent; [`local`] is the
 //! frame at a local port. Both answer an [`Emission`], of which only the outer headers and the tag are written: the rest is

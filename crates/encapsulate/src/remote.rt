@@ -1,6 +1,5 @@
 //! What leaves for a remote endpoint.
 ghost use Rattle.std.specs.Prelude.{◌≡◌, ◌+◌, ◌≤◌, [], IsTrue, IsNone, IfOk, is_some, length};
-ghost use Rattle.frame_view.specs.Frame.{size};
 ghost use Rattle.frame_view.specs.Tag.{begins_tag};
 ghost use Rattle.flood_lists.specs.Flood.{has_family};
 ghost use Rattle.underlay.specs.Overlay.{has_segment, tunnel_at};

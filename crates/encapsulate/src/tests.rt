@@ -59,8 +59,8 @@ fn tunnel(kind: Tunnel, vni: [u8; 3]) -> SegmentTunnel
     }
 }
 
-/// The settings of an endpoint at 192.0.2.1 and 2001:db8::1.
-fn underlay(mtu: u16, sum4: bool) -> Underlay {
+/// The settings of an endpoint at 192.0.2.1 and 2001:db8::1, and whether it computes checksums over IPv4 and over IPv6.
+fn underlay(mtu: u16, (sum4, sum6): (bool, bool)) -> Underlay {
     Underlay {
         mac: Mac([0x02, 0, 0, 0, 0xAA, 0x01]),
         next_hop: Mac([0x02, 0, 0, 0, 0xAA, 0xFE]),
@@ -71,7 +71,7 @@ fn underlay(mtu: u16, sum4: bool) -> Underlay {
         vxlan_port: 4789,
         geneve_port: 6081,
         sum4,
-        sum6: true,
+        sum6,
         zero6: true,
         known: Known::new(),
         hops: hops(),
@@ -84,12 +84,12 @@ fn endpoint(
     alloc: Global,
     vid: Vid,
     mtu: u16,
-    sum4: bool,
+    sums: (bool, bool),
     tags: TagRule,
 ) -> Result<Under, AllocError> {
     let vxlan = tunnel(Tunnel::Vxlan, [0x00, 0x13, 0x88]);
     let geneve = tunnel(Tunnel::Geneve, [0x00, 0x17, 0x70]);
-    let mut under = Under::open(alloc, underlay(mtu, sum4), Vec::new(alloc))?;
+    let mut under = Under::open(alloc, underlay(mtu, sums), Vec::new(alloc))?;
     let taken = under.taken(vxlan.kind, vxlan.vni) || under.taken(geneve.kind, geneve.vni);
     if !under.has(vid) && !taken {
         under.add_segment(TunnelRule {
@@ -151,7 +151,8 @@ const FRONT6: [u8; 54] = [
 /// A packet that a broadcast frame of 60 octets is sent in.
 struct Expected {
     case: &'static str,
-    sum4: bool,
+    /// Whether checksums are computed over IPv4 and over IPv6.
+    sums: (bool, bool),
     tunnel: Tunnel,
     addr: Addr,
     /// The first octets of the frame, and zeros behind them.
@@ -161,10 +162,10 @@ struct Expected {
     udp_and_tunnel: &'static [u8],
 }
 
-const PACKETS: [Expected; 5] = [
+const PACKETS: [Expected; 7] = [
     Expected {
         case: "IPv4",
-        sum4: false,
+        sums: (false, true),
         tunnel: Tunnel::Vxlan,
         addr: HOST4,
         frame: &BROADCAST,
@@ -173,7 +174,7 @@ const PACKETS: [Expected; 5] = [
     },
     Expected {
         case: "a checksum",
-        sum4: true,
+        sums: (true, false),
         tunnel: Tunnel::Vxlan,
         addr: HOST4,
         frame: &BROADCAST,
@@ -182,7 +183,7 @@ const PACKETS: [Expected; 5] = [
     },
     Expected {
         case: "Geneve",
-        sum4: false,
+        sums: (false, true),
         tunnel: Tunnel::Geneve,
         addr: HOST4,
         frame: &BROADCAST,
@@ -191,7 +192,7 @@ const PACKETS: [Expected; 5] = [
     },
     Expected {
         case: "IPv6",
-        sum4: false,
+        sums: (false, true),
         tunnel: Tunnel::Vxlan,
         addr: HOST6,
         frame: &BROADCAST,
@@ -200,19 +201,37 @@ const PACKETS: [Expected; 5] = [
     },
     Expected {
         case: "a computed 0",
-        sum4: false,
+        sums: (false, true),
         tunnel: Tunnel::Vxlan,
         addr: HOST6,
         frame: b"\xFF\xFF\xFF\xFF\xFF\xFF\x02\0\0\0\0\x01\x08\x06\x2D\x0A",
         front: &FRONT6,
         udp_and_tunnel: b"\xCA\x07\x12\xB5\x00\x4C\xFF\xFF\x08\0\0\0\x00\x13\x88\0",
     },
+    Expected {
+        case: "Geneve over IPv6",
+        sums: (false, true),
+        tunnel: Tunnel::Geneve,
+        addr: HOST6,
+        frame: &BROADCAST,
+        front: &FRONT6,
+        udp_and_tunnel: b"\xCA\x07\x17\xC1\x00\x4C\xE2\xA1\0\0\x65\x58\x00\x17\x70\0",
+    },
+    Expected {
+        case: "IPv6 without a checksum",
+        sums: (true, false),
+        tunnel: Tunnel::Vxlan,
+        addr: HOST6,
+        frame: &BROADCAST,
+        front: &FRONT6,
+        udp_and_tunnel: b"\xCA\x07\x12\xB5\x00\x4C\x00\x00\x08\0\0\0\x00\x13\x88\0",
+    },
 ];
 
 /// The packet that is sent.
 fn sent(alloc: Global, case: &Expected) -> Result<Result<Vec<u8>, Reason>, Fail> {
     let vid = Vid::new(10).ok_or("a VID")?;
-    let under = endpoint(alloc, vid, 1550, case.sum4, TagRule::Drop)?;
+    let under = endpoint(alloc, vid, 1550, case.sums, TagRule::Drop)?;
     let text = padded(alloc, case.frame, 60)?;
     packet(alloc, &under, vid, (case.tunnel, case.addr), &text)
 }
@@ -273,7 +292,7 @@ fn flows_have_these_source_ports(rt: HostRuntime) -> Result<(), Fail> {
     Ok(())
 }
 
-/// What stands first in a frame, its size, and the octets of its packet, or why it isn't sent.
+/// The octets of the packet that a frame with this front and of this size is sent in, or why it isn't sent.
 fn size_sent(
     alloc: Global,
     (mtu, tags): (u16, TagRule),
@@ -281,7 +300,7 @@ fn size_sent(
     (front, size): (&[u8], usize),
 ) -> Result<Result<usize, Reason>, Fail> {
     let vid = Vid::new(10).ok_or("a VID")?;
-    let under = endpoint(alloc, vid, mtu, false, tags)?;
+    let under = endpoint(alloc, vid, mtu, (false, true), tags)?;
     let text = padded(alloc, front, size)?;
     Ok(packet(alloc, &under, vid, (Tunnel::Vxlan, addr), &text)?.map(|sent| sent.len()))
 }
@@ -326,7 +345,7 @@ const NEXT_HOPS: [(Addr, [u8; 6]); 5] = [
 fn packets_go_to_the_next_hop(rt: HostRuntime) -> Result<(), Fail> {
     let alloc = rt.alloc();
     let vid = Vid::new(10).ok_or("a VID")?;
-    let under = endpoint(alloc, vid, 1550, false, TagRule::Drop)?;
+    let under = endpoint(alloc, vid, 1550, (false, true), TagRule::Drop)?;
     let text = padded(alloc, &BROADCAST, 60)?;
     for (addr, wanted) in &NEXT_HOPS {
         let sent = packet(alloc, &under, vid, (Tunnel::Vxlan, *addr), &text)?;

@@ -1,14 +1,11 @@
 //! Packets of a capture, explained one by one.
-ghost use Rattle.std.specs.Prelude.{◌≡◌, ◌≤◌, ◌+◌, ◌++◌, ◌∷◌, [], IfOk, OnOk};
+ghost use Rattle.std.specs.Prelude.{◌≡◌, ◌≤◌, ◌+◌, ◌++◌, [], IfOk, OnOk};
 ghost use Rattle.std.specs.List.{AllByRecursion, flat_map};
 ghost use Rattle.overlay_config.specs.Fault.{Meaning};
 ghost use Rattle.overlay_config.specs.Settings.{Settings, settings_in};
 ghost use Rattle.timeline.specs.Events.{IsEventOf};
 ghost use Rattle.timeline.specs.Order.{IsRising};
-ghost use Rattle.timeline.specs.declared.event.Happening.TheVariants.{Record};
-ghost use Rattle.timeline.specs.declared.source.Tap.TheVariants.{Underlay};
 ghost use Rattle.endpoint_state.specs.Opened.{settings_told};
-ghost use Rattle.endpoint_core.specs.Decision.{octets_of};
 ghost use Rattle.endpoint_core.specs.Event.{packet_at};
 ghost use Rattle.endpoint_core.specs.Kept.{state_of};
 ghost use Rattle.endpoint_core.specs.Step.{answer, after};
@@ -52,10 +49,7 @@ pub fn explain_bytes(
         Ok(timeline) => timeline,
         Err(fault) => return Err(of_captures(fault)),
     };
-    match explanation_of(alloc, settings, &timeline, depth) {
-        Ok(text) => Ok(text),
-        Err(_) => Err(RunFault::OutOfMemory),
-    }
+    Ok(explanation_of(alloc, settings, &timeline, depth)?)
 }
 
 /// The text of the packets of a capture.

@@ -105,7 +105,15 @@ fn is_explained(alloc: Global, capture: &[u8], depth: usize, lines: &str) -> boo
     requires low { 1 ≤ depth }
     requires high { depth ≤ 4 }
 {
-    match explain_bytes(alloc, SETTINGS.as_bytes(), capture, depth) {
+    is_explained_by(alloc, SETTINGS, capture, depth, lines)
+}
+
+/// The same at an endpoint with these settings.
+fn is_explained_by(alloc: Global, settings: &str, capture: &[u8], depth: usize, lines: &str) -> bool
+    requires low { 1 ≤ depth }
+    requires high { depth ≤ 4 }
+{
+    match explain_bytes(alloc, settings.as_bytes(), capture, depth) {
         Ok(text) => text.as_slice() == lines.as_bytes(),
         Err(_) => false,
     }
@@ -158,13 +166,63 @@ fn tunnels_are_taken_off_as_deep_as_asked(rt: HostRuntime) -> Result<(), Fail> {
     Ok(())
 }
 
+/// An IPv6 header from 2001:db8::1 to 2001:db8::2 before 79 octets, and a UDP header of 76 octets without a checksum.
+const HEADERS6: [u8; 48] = [
+    0x60, 0, 0, 0, 0x00, 0x4F, 17, 0x40, 0x20, 0x01, 0x0D, 0xB8, 0, 0, 0, 0, 0, 0, 0, 0, 0, 0, 0,
+    1, 0x20, 0x01, 0x0D, 0xB8, 0, 0, 0, 0, 0, 0, 0, 0, 0, 0, 0, 2, 0xCA, 0x07, 0x12, 0xB5, 0x00,
+    0x4C, 0, 0,
+];
+
+/// The broadcast in a VXLAN tunnel over IPv6, with 3 octets behind the datagram and 2 behind the packet.
+fn in_vxlan6(alloc: Global) -> Result<Vec<u8>, Fail> {
+    let frame = joined(alloc, &[&BROADCAST, &[0; 46]])?;
+    let tails = [0xAA, 0xBB, 0xCC, 0, 0];
+    joined(
+        alloc,
+        &[
+            &ADDRESSES,
+            &[0x86, 0xDD],
+            &HEADERS6,
+            &VXLAN_5000,
+            &frame,
+            &tails,
+        ],
+    )
+}
+
+#[test]
+fn each_length_over_ipv6_has_its_tail(rt: HostRuntime) -> Result<(), Fail> {
+    let alloc = rt.alloc();
+    let packet = in_vxlan6(alloc)?;
+    assert_eq!(rt; packet.len(), 135, "its length");
+    let packets = capture(alloc, &[&packet])?;
+    assert!(rt;
+        is_explained(
+            alloc,
+            &packets,
+            4,
+            "1 1000000000 u 1 10 p1=60 p2=60 p3=64\n  ether 0 12\n  type 12 2\n  ip6 14 40\n  udp 54 8\n  vxlan 62 8\n  ether 70 12\n  type 82 2\n  payload 84 46\n  tail 130 3\n  tail 133 2\n  stop 12 NotIp\n"
+        ),
+        "no checksum is needed"
+    );
+    let settings = SETTINGS.replace(alloc, "[underlay]", "[underlay]\nzero6 = false")?;
+    assert!(rt;
+        is_explained_by(
+            alloc,
+            &settings,
+            &packets,
+            4,
+            "1 1000000000 u 1 - drop 21 ZeroSum\n  ether 0 12\n  type 12 2\n  ip6 14 40\n  udp 54 8\n  payload 62 68\n  tail 130 3\n  tail 133 2\n  stop 21 ZeroSum\n"
+        ),
+        "a checksum is needed"
+    );
+    Ok(())
+}
+
 #[test]
 fn a_decision_is_explained(rt: HostRuntime) -> Result<(), Fail> {
     let alloc = rt.alloc();
-    let settings = match settings_of(alloc, SETTINGS.as_bytes()) {
-        Ok(settings) => settings,
-        Err(_) => return Ok(()),
-    };
+    let settings = settings_of(alloc, SETTINGS.as_bytes())?;
     let mut endpoint = Endpoint::open(alloc, settings)?;
     let packet = [0; 14];
     let decision = endpoint.packet(SECOND, 14, &packet);

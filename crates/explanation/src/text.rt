@@ -1,8 +1,8 @@
 //! The texts of layers.
-ghost use Rattle.std.specs.Prelude.{◌≡◌, ◌++◌, IfOk, OnOk, codes, string_bytes};
+ghost use Rattle.std.specs.Prelude.{◌≡◌, ◌++◌, IfOk, OnOk, length, string_bytes};
 ghost use Rattle.std.specs.List.{flat_map};
 ghost use Rattle.endpoint_core.specs.Decision.{octets_of};
-ghost use Rattle.explanation.specs.Text.{kind_word, part_line, head_line, tail_line, payload_line, stop_line, layers_text, explained};
+ghost use Rattle.explanation.specs.Text.{kind_word, part_line, head_line, tail_line, stop_line, layers_text, explained};
 
 use endpoint_core::{Decision, result_text};
 use packet_layers::{Head, HeadKind, Layers, Span, Stop};
@@ -28,7 +28,8 @@ pub(crate) fn layers_text(alloc: Global, layers: &Layers) -> Result<Vec<u8>, All
 {
     let mut text = String::new(alloc);
     put_heads(&mut text, layers.heads())?;
-    put_payload(&mut text, layers.payload())?;
+    let payload = layers.payload();
+    put_part(&mut text, "payload", payload.place(), payload.octets())?;
     put_tails(&mut text, layers.tails())?;
     put_stop(&mut text, layers.stop())?;
     Ok(text.into_bytes())
@@ -38,18 +39,9 @@ fn put_heads(text: &mut String, heads: &[Head]) -> Result<(), AllocError>
     ensures { OnOk result (string_bytes text.new ≡ string_bytes text.old ++ flat_map head_line heads.now) }
 {
     for head in heads {
-        put_head(text, head)?;
+        put_part(text, kind_word(head.kind()), head.place(), head.octets())?;
     }
     Ok(())
-}
-
-fn put_head(text: &mut String, head: &Head) -> Result<(), AllocError>
-    ensures { OnOk result (string_bytes text.new ≡ string_bytes text.old ++ head_line head.now) }
-{
-    let word = kind_word(head.kind());
-    let place = head.place();
-    let length = head.octets().len();
-    writeln!(text, "  {word} {place} {length}")
 }
 
 fn kind_word(kind: HeadKind) -> &'static str
@@ -67,29 +59,22 @@ fn kind_word(kind: HeadKind) -> &'static str
     }
 }
 
-fn put_payload(text: &mut String, payload: &Span) -> Result<(), AllocError>
-    ensures { OnOk result (string_bytes text.new ≡ string_bytes text.old ++ payload_line payload.now) }
-{
-    let place = payload.place();
-    let length = payload.octets().len();
-    writeln!(text, "  payload {place} {length}")
-}
-
 fn put_tails(text: &mut String, tails: &[Span]) -> Result<(), AllocError>
     ensures { OnOk result (string_bytes text.new ≡ string_bytes text.old ++ flat_map tail_line tails.now) }
 {
     for tail in tails {
-        put_tail(text, tail)?;
+        put_part(text, "tail", tail.place(), tail.octets())?;
     }
     Ok(())
 }
 
-fn put_tail(text: &mut String, tail: &Span) -> Result<(), AllocError>
-    ensures { OnOk result (string_bytes text.new ≡ string_bytes text.old ++ tail_line tail.now) }
+/// Puts the line of a part: a word for it, its place and its length in octets.
+fn put_part(text: &mut String, word: &str, place: usize, octets: &[u8]) -> Result<(), AllocError>
+    ensures { OnOk result (string_bytes text.new
+        ≡ string_bytes text.old ++ part_line word.now place (length octets.now)) }
 {
-    let place = tail.place();
-    let length = tail.octets().len();
-    writeln!(text, "  tail {place} {length}")
+    let length = octets.len();
+    writeln!(text, "  {word} {place} {length}")
 }
 
 fn put_stop(text: &mut String, stop: Stop) -> Result<(), AllocError>

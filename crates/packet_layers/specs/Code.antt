@@ -1,4 +1,4 @@
--- The same of what the code has in its hands: the text that stands behind the tags of a frame, and a packet.
+-- The reasons of the layers, said of the text that stands behind the tags of a frame, and of an IP packet.
 use Rattle.std.specs.Prelude.{ℕ, ◌==◌, ◌&&◌, ◌||◌, Bool, not, if◌then◌else◌, List, [], ◌∷◌, drop}
 use Rattle.frame_view.specs.declared.reason.Reason.{Reason}
 use Rattle.frame_view.specs.declared.reason.Reason.TheVariants.{NotIp, Fragment, NotUdp, BadUdp, ZeroSum, BadUdpSum}

@@ -21,7 +21,8 @@ pub record AllStand (b : List ℕ) (a : Apart) : Type 0 where
   pub payload : StandsAt b a.payload.place a.payload.octets
   pub tails : All (λ (t : Span). StandsAt b t.place t.octets) a.tails
 
--- a reason that a packet has from its own octets, whoever asks
+-- a reason of the layers down to the tunnel header: not for who sent the packet, to whom, or for which segment, nor for
+-- the frame in it
 abbrev pub is_of_layers : Reason → Bool
 is_of_layers reason = is_within Runt Runt reason || is_within NotIp BadIpSum reason || is_within Fragment CriticalOption reason
 

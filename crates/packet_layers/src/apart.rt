@@ -87,7 +87,7 @@ impl<'a> Apart<'a> {
         let begin = place + head.len();
         self.heads.push(Head::new(kind, place, head));
         self.payload = Span::new(begin, payload);
-        if tail.len() > 0 {
+        if !tail.is_empty() {
             self.tails.insert(0, Span::new(begin + payload.len(), tail));
         }
     }

@@ -50,29 +50,16 @@ fn take_frame(apart: &mut Apart, under: &Under, left: usize) -> Result<(), Stop>
     ensures few_heads { length apart.new.heads ≤ length apart.old.heads + 7 }
     ensures few_tails { length apart.new.tails ≤ length apart.old.tails + 2 }
 {
-    let typed = match take_ether(apart) {
-        Ok(typed) => typed,
-        Err(reason) => return Err(Stop::At(reason)),
-    };
-    let packet = match take_ip(apart, typed) {
-        Ok(packet) => packet,
-        Err(reason) => return Err(Stop::At(reason)),
-    };
-    let view = match take_udp(apart, &packet) {
-        Ok(view) => view,
-        Err(reason) => return Err(Stop::At(reason)),
-    };
+    let typed = take_ether(apart)?;
+    let packet = take_ip(apart, typed)?;
+    let view = take_udp(apart, &packet)?;
     let Some(kind) = under.kind_at(view.dport()) else {
         return Err(Stop::At(Reason::NotTunnel));
     };
     if left == 0 {
         return Err(Stop::Deep);
     }
-    if let Err(reason) = check_sum(&view, &packet, under.settings()) {
-        return Err(Stop::At(reason));
-    }
-    match take_tunnel(apart, under.known(), kind) {
-        Ok(()) => Ok(()),
-        Err(reason) => Err(Stop::At(reason)),
-    }
+    check_sum(&view, &packet, under.settings())?;
+    take_tunnel(apart, under.known(), kind)?;
+    Ok(())
 }

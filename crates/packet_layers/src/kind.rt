@@ -1,4 +1,7 @@
 //! What a head is, and why no more is taken off.
+ghost use Rattle.std.specs.Prelude.{◌≡◌};
+ghost use Rattle.packet_layers.specs.declared.kind.Stop.TheVariants.{At};
+
 use frame_view::Reason;
 
 /// The header that a head is, or a part of one.
@@ -6,7 +9,7 @@ use frame_view::Reason;
 pub enum HeadKind {
     /// The two addresses of a frame, 12 octets.
     Ether,
-    /// A VLAN tag, 4 octets; printed `tag`.
+    /// A VLAN tag, 4 octets.
     Tag,
     /// The type of a frame, 2 octets; printed `type`.
     Kind,
@@ -29,4 +32,12 @@ pub enum Stop {
     At(Reason),
     /// There is a datagram to a tunnel port, and as many tunnel headers as wanted are taken off.
     Deep,
+}
+
+impl From<Reason> for Stop {
+    ghost from_gives = { λ reason stop. stop ≡ At reason };
+
+    fn from(reason: Reason) -> Stop {
+        Stop::At(reason)
+    }
 }

@@ -2,77 +2,52 @@
 use super::*;
 use std::test::Fail;
 
-/// The settings, the changes and the number of ports that a line names; the settings of the sample are empty.
-fn told<'a>(alloc: Global, words: &'a [&'a str]) -> Option<(&'a str, Option<&'a str>, usize)> {
-    match line_of(alloc, words) {
-        Ok(Line::Sample) => Some(("", None, 0)),
-        Ok(
-            Line::Run {
-                settings,
-                changes,
-                ports,
-                ..
-            },
-        ) => Some((settings, changes, ports.len())),
-        Ok(Line::Check { settings, changes }) => Some((settings, changes, 0)),
-        Ok(Line::Explain { .. }) => None,
-        Err(_) => None,
-    }
+/// The line that the words ask for, field by field.
+fn told<'a>(alloc: Global, words: &'a [&'a str]) -> Result<String, Fail> {
+    let line = line_of(alloc, words)?;
+    let fields = format!(in alloc; "{line:?}")?;
+    Ok(fields)
 }
+
+/// Words, and the line that they ask for.
+const LINES: [(&[&str], &str); 5] = [
+    (&["tep"], "Sample"),
+    (
+        &[
+            "tep",
+            "run",
+            "--settings",
+            "s",
+            "--underlay=u",
+            "--out",
+            "d",
+            "p1",
+            "p2",
+        ],
+        "Run { settings: \"s\", changes: None, underlay: \"u\", out: \"d\", ports: [\"p1\", \"p2\"] }",
+    ),
+    (
+        &["tep", "check", "--changes", "c", "--settings", "s"],
+        "Check { settings: \"s\", changes: Some(\"c\") }",
+    ),
+    (
+        &["tep", "explain", "--settings", "s", "c"],
+        "Explain { settings: \"s\", depth: 4, capture: \"c\" }",
+    ),
+    (
+        &["tep", "explain", "--depth", "2", "c", "--settings=s"],
+        "Explain { settings: \"s\", depth: 2, capture: \"c\" }",
+    ),
+];
 
 #[test]
-fn words_ask_for_a_sample_a_run_or_a_check(rt: HostRuntime) {
+fn words_ask_for_these_lines(rt: HostRuntime) -> Result<(), Fail> {
     let alloc = rt.alloc();
-    assert!(rt; told(alloc, &["tep"]) == Some(("", None, 0)), "no words");
-    let run = [
-        "tep",
-        "run",
-        "--settings",
-        "s",
-        "--underlay=u",
-        "--out",
-        "d",
-        "p1",
-        "p2",
-    ];
-    assert!(rt;
-        told(alloc, run.as_slice()) == Some(("s", None, 2)),
-        "a run on two ports"
-    );
-    let check = ["tep", "check", "--changes", "c", "--settings", "s"];
-    assert!(rt;
-        told(alloc, check.as_slice()) == Some(("s", Some("c"), 0)),
-        "a check with changes"
-    );
-}
-
-/// The settings, the depth and the capture of a line that asks for an explanation.
-fn explained<'a>(alloc: Global, words: &'a [&'a str]) -> Option<(&'a str, u8, &'a str)> {
-    match line_of(alloc, words) {
-        Ok(
-            Line::Explain {
-                settings,
-                depth,
-                capture,
-            },
-        ) => Some((settings, depth, capture)),
-        _ => None,
+    for (words, wanted) in &LINES {
+        let fields = told(alloc, words)?;
+        assert_eq!(rt; fields.as_str(), *wanted, "{words:?}");
     }
-}
-
-#[test]
-fn words_ask_for_an_explanation(rt: HostRuntime) {
-    let alloc = rt.alloc();
-    let words = ["tep", "explain", "--settings", "s", "c"];
-    assert!(rt;
-        explained(alloc, words.as_slice()) == Some(("s", 4, "c")),
-        "a depth of 4 by itself"
-    );
-    let words = ["tep", "explain", "--depth", "2", "c", "--settings=s"];
-    assert!(rt;
-        explained(alloc, words.as_slice()) == Some(("s", 2, "c")),
-        "a depth of 2"
-    );
+    Ok(())
 }
 
 /// Why `clap` refuses the words.

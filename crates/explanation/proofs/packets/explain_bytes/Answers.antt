@@ -22,10 +22,10 @@ returns-in-Err-read c s means =
     (sym (ap (λ m. explained_run m capture c.args.depth) settings))
     (timeline_fault c.in-Err-read.fault c.in-Ok.settings c.args.depth (told [] [] capture) c.in-Err-read.ensures.told))
 
-pub returns-in-Ok-explanation_of : goal.returns-in-Ok-explanation_of
-returns-in-Ok-explanation_of c s means =
+pub returns : goal.returns
+returns c s means =
     let capture = c.args.capture.now in
     let settings = read_is (λ (x : Settings). x) (Ok c.in-Ok.settings) settings_in c.args.settings.now s means c.in-Ok.ensures.document c.in-Ok.ensures.not_text in
     ap (λ m. explained_run m capture c.args.depth) settings
     ∙ ap (by_timeline c.in-Ok.settings c.args.depth) c.in-Ok-read.ensures.told
-    ∙ ap Ok (sym c.in-Ok-explanation_of.ensures)
+    ∙ ap Ok (sym c.in_ok-explanation_of.ensures)

@@ -1,4 +1,5 @@
 use Rattle.std.proofs.Common.{◌≡◌, ◌≢◌, ◌≤◌, length, drop, Option, Some, None, refl, sym, ap, ◌∙◌, arith}
+use Rattle.std.proofs.lemmas.Result.{err_from_is_err_and}
 use Rattle.frame_view.specs.declared.reason.Reason.TheVariants.{NotTunnel}
 use Rattle.ip_udp_view.specs.Datagram.{behind_tags}
 use Rattle.ip_udp_view.specs.declared.addr.Tunnel.{Tunnel}
@@ -10,55 +11,58 @@ use Rattle.packet_layers.proofs.EtherLemmas.{left-ether}
 use Rattle.packet_layers.proofs.FrameLemmas.{ip-reason, udp-reason, ip-is, packet-is, CameToUdp-from, kind-is, port-none, port-some, sum-reason, tunnel-reason, frame-runt, frame-ip, frame-udp, frame-port, frame-deep, frame-tunnel, frame-on, at_udp}
 use Rattle.packet_layers.proofs.dissection.take_frame.Goals as goal
 
-pub returns-in-Err-clause-taken : goal.returns-in-Err-clause-taken
-returns-in-Err-clause-taken c =
+pub returns-in_err-typed-clause-taken : goal.returns-in_err-typed-clause-taken
+returns-in_err-typed-clause-taken c =
     let S = c.args.under.now in
     let a = c.args.apart.now in
-    frame-runt S c.args.left a c.in-Err.reason (refusal-runt S a.payload.octets ∙ sym c.in-Err.ensures.fault)
-    ∙ ap (stopped (At c.in-Err.reason)) (sym c.in-Err.ensures.refused)
+    let stop = err_from_is_err_and c.from_residual.result c.from_residual.ensures.1 in
+    rw (stop.1, stop.2) (frame-runt S c.args.left a c.in_err-typed.field-0.0 (refusal-runt S a.payload.octets ∙ sym c.in_err-typed.ensures.fault)
+    ∙ ap (stopped (At c.in_err-typed.field-0.0)) (sym c.in_err-typed.ensures.refused))
 
 pub take_ip-requires-clause-behind : goal.take_ip-requires-clause-behind
 take_ip-requires-clause-behind c = λ two.
     let a = c.args.apart.now in
     let b = a.payload.octets in
-    let there : 2 ≤ length (behind_tags b) = omega (arith, two, ap length c.in-Ok.ensures.typed) in
-    ap (λ (x : Apart). x.payload.octets) c.in-Ok.ensures.taken ∙ left-ether b a refl there ∙ ap (drop 2) (sym c.in-Ok.ensures.typed)
+    let there : 2 ≤ length (behind_tags b) = omega (arith, two, ap length c.in_ok-typed.ensures.typed) in
+    ap (λ (x : Apart). x.payload.octets) c.in_ok-typed.ensures.taken ∙ left-ether b a refl there ∙ ap (drop 2) (sym c.in_ok-typed.ensures.typed)
 
-pub returns-in-Err-take_ip-clause-taken : goal.returns-in-Err-take_ip-clause-taken
-returns-in-Err-take_ip-clause-taken c =
+pub returns-in_err-packet-clause-taken : goal.returns-in_err-packet-clause-taken
+returns-in_err-packet-clause-taken c =
     let S = c.args.under.now in
     let a = c.args.apart.now in
     let b = a.payload.octets in
-    let reason = c.in-Err-take_ip.reason in
-    frame-ip S c.args.left a reason (refusal-runt S b ∙ sym c.in-Ok.ensures.fault) (ip-reason S b c.in-Ok.typed.now (Some reason) c.in-Ok.ensures.typed c.in-Err-take_ip.ensures.fault)
-    ∙ ap (stopped (At reason)) (sym (c.in-Err-take_ip.ensures.refused ∙ c.in-Ok.ensures.taken))
+    let reason = c.in_err-packet.field-0.0 in
+    let stop = err_from_is_err_and c.from_residual-in_err-packet.result c.from_residual-in_err-packet.ensures.1 in
+    rw (stop.1, stop.2) (frame-ip S c.args.left a reason (refusal-runt S b ∙ sym c.in_ok-typed.ensures.fault) (ip-reason S b c.in_ok-typed.typed.now (Some reason) c.in_ok-typed.ensures.typed c.in_err-packet.ensures.fault)
+    ∙ ap (stopped (At reason)) (sym (c.in_err-packet.ensures.refused ∙ c.in_ok-typed.ensures.taken)))
 
 pub take_udp-requires-clause-tails : goal.take_udp-requires-clause-tails
 take_udp-requires-clause-tails c = omega (arith, c.requires.tails, c.take_ether.ensures.few_tails, c.take_ip.ensures.few_tails)
 
 pub take_udp-requires-clause-payload : goal.take_udp-requires-clause-payload
-take_udp-requires-clause-payload c = sym c.in-Ok-take_ip.ensures.payload
+take_udp-requires-clause-payload c = sym c.in_ok-packet.ensures.payload
 
-pub returns-in-Err-take_udp-clause-taken : goal.returns-in-Err-take_udp-clause-taken
-returns-in-Err-take_udp-clause-taken c =
+pub returns-in_err-view-clause-taken : goal.returns-in_err-view-clause-taken
+returns-in_err-view-clause-taken c =
     let S = c.args.under.now in
     let a = c.args.apart.now in
     let b = a.payload.octets in
-    let t = c.in-Ok.typed.now in
-    let p = c.in-Ok-take_ip.packet in
-    let reason = c.in-Err-take_udp.reason in
-    frame-udp S c.args.left a reason (refusal-runt S b ∙ sym c.in-Ok.ensures.fault) (ip-reason S b t None c.in-Ok.ensures.typed c.in-Ok-take_ip.ensures.fault)
-    (udp-reason S b p (Some reason) (packet-is b t p c.in-Ok.ensures.typed c.in-Ok-take_ip.ensures.packet) c.in-Err-take_udp.ensures.fault)
-    ∙ ap (stopped (At reason)) (sym (c.in-Err-take_udp.ensures.refused ∙ ip-is b t a c.take_ether.new.apart c.take_ip.new.apart c.in-Ok.ensures.typed c.in-Ok.ensures.taken c.in-Ok-take_ip.ensures.taken))
+    let t = c.in_ok-typed.typed.now in
+    let p = c.in_ok-packet.packet in
+    let reason = c.in_err-view.field-0.0 in
+    let stop = err_from_is_err_and c.from_residual-in_err-view.result c.from_residual-in_err-view.ensures.1 in
+    rw (stop.1, stop.2) (frame-udp S c.args.left a reason (refusal-runt S b ∙ sym c.in_ok-typed.ensures.fault) (ip-reason S b t None c.in_ok-typed.ensures.typed c.in_ok-packet.ensures.fault)
+    (udp-reason S b p (Some reason) (packet-is b t p c.in_ok-typed.ensures.typed c.in_ok-packet.ensures.packet) c.in_err-view.ensures.fault)
+    ∙ ap (stopped (At reason)) (sym (c.in_err-view.ensures.refused ∙ ip-is b t a c.take_ether.new.apart c.take_ip.new.apart c.in_ok-typed.ensures.typed c.in_ok-typed.ensures.taken c.in_ok-packet.ensures.taken)))
 
 pub returns-in_default-clause-taken : goal.returns-in_default-clause-taken
 returns-in_default-clause-taken c =
     let S = c.args.under.now in
     let a = c.args.apart.now in
-    let came = CameToUdp-from S a c.take_ether.new.apart c.take_ip.new.apart c.take_udp.new.apart c.in-Ok.typed.now c.in-Ok-take_ip.packet c.in-Ok.ensures.fault c.in-Ok.ensures.taken c.in-Ok.ensures.typed c.in-Ok-take_ip.ensures.fault c.in-Ok-take_ip.ensures.taken c.in-Ok-take_ip.ensures.packet c.in-Ok-take_ip.ensures.payload c.in-Ok-take_udp.ensures.fault c.in-Ok-take_udp.ensures.taken in
+    let came = CameToUdp-from S a c.take_ether.new.apart c.take_ip.new.apart c.take_udp.new.apart c.in_ok-typed.typed.now c.in_ok-packet.packet c.in_ok-typed.ensures.fault c.in_ok-typed.ensures.taken c.in_ok-typed.ensures.typed c.in_ok-packet.ensures.fault c.in_ok-packet.ensures.taken c.in_ok-packet.ensures.packet c.in_ok-packet.ensures.payload c.in_ok-view.ensures.fault c.in_ok-view.ensures.taken in
     let b = a.payload.octets in
-    let p = c.in-Ok-take_ip.packet in
-    let kind_is = kind-is S b p c.in-Ok-take_udp.view c.dport.result c.kind_at.result came.packet_is c.in-Ok-take_udp.ensures.split c.dport.ensures c.kind_at.ensures in
+    let p = c.in_ok-packet.packet in
+    let kind_is = kind-is S b p c.in_ok-view.view c.dport.result c.kind_at.result came.packet_is c.in_ok-view.ensures.split c.dport.ensures c.kind_at.ensures in
     frame-port S c.args.left a NotTunnel came.none (port-none S b (sym (none c.kind_at.result c.in_default.not-Some) ∙ kind_is))
     ∙ ap (stopped (At NotTunnel)) (sym came.udp_is)
   where
@@ -70,57 +74,59 @@ pub returns-then-left-eq0-clause-taken : goal.returns-then-left-eq0-clause-taken
 returns-then-left-eq0-clause-taken c =
     let S = c.args.under.now in
     let a = c.args.apart.now in
-    let came = CameToUdp-from S a c.take_ether.new.apart c.take_ip.new.apart c.take_udp.new.apart c.in-Ok.typed.now c.in-Ok-take_ip.packet c.in-Ok.ensures.fault c.in-Ok.ensures.taken c.in-Ok.ensures.typed c.in-Ok-take_ip.ensures.fault c.in-Ok-take_ip.ensures.taken c.in-Ok-take_ip.ensures.packet c.in-Ok-take_ip.ensures.payload c.in-Ok-take_udp.ensures.fault c.in-Ok-take_udp.ensures.taken in
+    let came = CameToUdp-from S a c.take_ether.new.apart c.take_ip.new.apart c.take_udp.new.apart c.in_ok-typed.typed.now c.in_ok-packet.packet c.in_ok-typed.ensures.fault c.in_ok-typed.ensures.taken c.in_ok-typed.ensures.typed c.in_ok-packet.ensures.fault c.in_ok-packet.ensures.taken c.in_ok-packet.ensures.packet c.in_ok-packet.ensures.payload c.in_ok-view.ensures.fault c.in_ok-view.ensures.taken in
     let b = a.payload.octets in
-    let p = c.in-Ok-take_ip.packet in
-    let kind_is = kind-is S b p c.in-Ok-take_udp.view c.dport.result c.kind_at.result came.packet_is c.in-Ok-take_udp.ensures.split c.dport.ensures c.kind_at.ensures in
+    let p = c.in_ok-packet.packet in
+    let kind_is = kind-is S b p c.in_ok-view.view c.dport.result c.kind_at.result came.packet_is c.in_ok-view.ensures.split c.dport.ensures c.kind_at.ensures in
     frame-deep S c.args.left a came.none (port-some S b c.in-Some.kind (sym c.in-Some.is ∙ kind_is)) c.if-left-eq0.true
     ∙ ap (stopped Deep) (sym came.udp_is)
 
-pub returns-in-Err-check_sum-clause-taken : goal.returns-in-Err-check_sum-clause-taken
-returns-in-Err-check_sum-clause-taken c =
+pub returns-in_err-check_sum-clause-taken : goal.returns-in_err-check_sum-clause-taken
+returns-in_err-check_sum-clause-taken c =
     let S = c.args.under.now in
     let a = c.args.apart.now in
-    let came = CameToUdp-from S a c.take_ether.new.apart c.take_ip.new.apart c.take_udp.new.apart c.in-Ok.typed.now c.in-Ok-take_ip.packet c.in-Ok.ensures.fault c.in-Ok.ensures.taken c.in-Ok.ensures.typed c.in-Ok-take_ip.ensures.fault c.in-Ok-take_ip.ensures.taken c.in-Ok-take_ip.ensures.packet c.in-Ok-take_ip.ensures.payload c.in-Ok-take_udp.ensures.fault c.in-Ok-take_udp.ensures.taken in
+    let came = CameToUdp-from S a c.take_ether.new.apart c.take_ip.new.apart c.take_udp.new.apart c.in_ok-typed.typed.now c.in_ok-packet.packet c.in_ok-typed.ensures.fault c.in_ok-typed.ensures.taken c.in_ok-typed.ensures.typed c.in_ok-packet.ensures.fault c.in_ok-packet.ensures.taken c.in_ok-packet.ensures.packet c.in_ok-packet.ensures.payload c.in_ok-view.ensures.fault c.in_ok-view.ensures.taken in
     let b = a.payload.octets in
-    let p = c.in-Ok-take_ip.packet in
-    let kind_is = kind-is S b p c.in-Ok-take_udp.view c.dport.result c.kind_at.result came.packet_is c.in-Ok-take_udp.ensures.split c.dport.ensures c.kind_at.ensures in
-    let reason = c.in-Err-check_sum.reason in
-    frame-tunnel S c.args.left a reason came.none (port-some S b c.in-Some.kind (sym c.in-Some.is ∙ kind_is)) c.if-left-eq0.false
-    (sum-reason S b p c.settings.result.now reason came.packet_is c.settings.ensures c.in-Err-check_sum.ensures)
-    ∙ ap (stopped (At reason)) (sym came.udp_is)
+    let p = c.in_ok-packet.packet in
+    let kind_is = kind-is S b p c.in_ok-view.view c.dport.result c.kind_at.result came.packet_is c.in_ok-view.ensures.split c.dport.ensures c.kind_at.ensures in
+    let reason = c.in_err-check_sum.field-0.0 in
+    let stop = err_from_is_err_and c.from_residual-in_err-check_sum.result c.from_residual-in_err-check_sum.ensures.1 in
+    rw (stop.1, stop.2) (frame-tunnel S c.args.left a reason came.none (port-some S b c.in-Some.kind (sym c.in-Some.is ∙ kind_is)) c.if-left-eq0.false
+    (sum-reason S b p c.settings.result.now reason came.packet_is c.settings.ensures c.in_err-check_sum.ensures)
+    ∙ ap (stopped (At reason)) (sym came.udp_is))
 
-pub returns-in-Err-take_tunnel-clause-taken : goal.returns-in-Err-take_tunnel-clause-taken
-returns-in-Err-take_tunnel-clause-taken c =
+pub returns-in_err-take_tunnel-clause-taken : goal.returns-in_err-take_tunnel-clause-taken
+returns-in_err-take_tunnel-clause-taken c =
     let S = c.args.under.now in
     let a = c.args.apart.now in
-    let came = CameToUdp-from S a c.take_ether.new.apart c.take_ip.new.apart c.take_udp.new.apart c.in-Ok.typed.now c.in-Ok-take_ip.packet c.in-Ok.ensures.fault c.in-Ok.ensures.taken c.in-Ok.ensures.typed c.in-Ok-take_ip.ensures.fault c.in-Ok-take_ip.ensures.taken c.in-Ok-take_ip.ensures.packet c.in-Ok-take_ip.ensures.payload c.in-Ok-take_udp.ensures.fault c.in-Ok-take_udp.ensures.taken in
+    let came = CameToUdp-from S a c.take_ether.new.apart c.take_ip.new.apart c.take_udp.new.apart c.in_ok-typed.typed.now c.in_ok-packet.packet c.in_ok-typed.ensures.fault c.in_ok-typed.ensures.taken c.in_ok-typed.ensures.typed c.in_ok-packet.ensures.fault c.in_ok-packet.ensures.taken c.in_ok-packet.ensures.packet c.in_ok-packet.ensures.payload c.in_ok-view.ensures.fault c.in_ok-view.ensures.taken in
     let b = a.payload.octets in
-    let p = c.in-Ok-take_ip.packet in
-    let kind_is = kind-is S b p c.in-Ok-take_udp.view c.dport.result c.kind_at.result came.packet_is c.in-Ok-take_udp.ensures.split c.dport.ensures c.kind_at.ensures in
+    let p = c.in_ok-packet.packet in
+    let kind_is = kind-is S b p c.in_ok-view.view c.dport.result c.kind_at.result came.packet_is c.in_ok-view.ensures.split c.dport.ensures c.kind_at.ensures in
     let k = c.in-Some.kind in
     let k_is = sym c.in-Some.is ∙ kind_is in
-    let reason = c.in-Err-take_tunnel.reason in
-    frame-tunnel S c.args.left a reason came.none (port-some S b k k_is) c.if-left-eq0.false
-    (tunnel-reason S b p c.settings.result.now k c.known.result.now c.take_udp.new.apart.payload.octets (Some reason) came.packet_is c.settings.ensures c.in_default-check_sum.ensures k_is c.known.ensures came.data_is c.in-Err-take_tunnel.ensures.fault)
-    ∙ ap (stopped (At reason)) (sym (c.in-Err-take_tunnel.ensures.refused ∙ came.udp_is))
+    let reason = c.in_err-take_tunnel.field-0.0 in
+    let stop = err_from_is_err_and c.from_residual-in_err-take_tunnel.result c.from_residual-in_err-take_tunnel.ensures.1 in
+    rw (stop.1, stop.2) (frame-tunnel S c.args.left a reason came.none (port-some S b k k_is) c.if-left-eq0.false
+    (tunnel-reason S b p c.settings.result.now k c.known.result.now c.take_udp.new.apart.payload.octets (Some reason) came.packet_is c.settings.ensures c.in_ok-check_sum.ensures k_is c.known.ensures came.data_is c.in_err-take_tunnel.ensures.fault)
+    ∙ ap (stopped (At reason)) (sym (c.in_err-take_tunnel.ensures.refused ∙ came.udp_is)))
 
-pub returns-in-Ok-take_tunnel-clause-taken : goal.returns-in-Ok-take_tunnel-clause-taken
-returns-in-Ok-take_tunnel-clause-taken c =
+pub returns-clause-taken : goal.returns-clause-taken
+returns-clause-taken c =
     let S = c.args.under.now in
     let a = c.args.apart.now in
-    let came = CameToUdp-from S a c.take_ether.new.apart c.take_ip.new.apart c.take_udp.new.apart c.in-Ok.typed.now c.in-Ok-take_ip.packet c.in-Ok.ensures.fault c.in-Ok.ensures.taken c.in-Ok.ensures.typed c.in-Ok-take_ip.ensures.fault c.in-Ok-take_ip.ensures.taken c.in-Ok-take_ip.ensures.packet c.in-Ok-take_ip.ensures.payload c.in-Ok-take_udp.ensures.fault c.in-Ok-take_udp.ensures.taken in
+    let came = CameToUdp-from S a c.take_ether.new.apart c.take_ip.new.apart c.take_udp.new.apart c.in_ok-typed.typed.now c.in_ok-packet.packet c.in_ok-typed.ensures.fault c.in_ok-typed.ensures.taken c.in_ok-typed.ensures.typed c.in_ok-packet.ensures.fault c.in_ok-packet.ensures.taken c.in_ok-packet.ensures.packet c.in_ok-packet.ensures.payload c.in_ok-view.ensures.fault c.in_ok-view.ensures.taken in
     let b = a.payload.octets in
-    let p = c.in-Ok-take_ip.packet in
-    let kind_is = kind-is S b p c.in-Ok-take_udp.view c.dport.result c.kind_at.result came.packet_is c.in-Ok-take_udp.ensures.split c.dport.ensures c.kind_at.ensures in
+    let p = c.in_ok-packet.packet in
+    let kind_is = kind-is S b p c.in_ok-view.view c.dport.result c.kind_at.result came.packet_is c.in_ok-view.ensures.split c.dport.ensures c.kind_at.ensures in
     let k = c.in-Some.kind in
     let k_is = sym c.in-Some.is ∙ kind_is in
     let on : Option Tunnel → Apart → Taken = λ o x. record { apart = tunnel_off o x; stop = None } in
     frame-on S c.args.left a came.none (port-some S b k k_is) c.if-left-eq0.false
-    (tunnel-reason S b p c.settings.result.now k c.known.result.now c.take_udp.new.apart.payload.octets None came.packet_is c.settings.ensures c.in_default-check_sum.ensures k_is c.known.ensures came.data_is c.in-Ok-take_tunnel.ensures.fault)
+    (tunnel-reason S b p c.settings.result.now k c.known.result.now c.take_udp.new.apart.payload.octets None came.packet_is c.settings.ensures c.in_ok-check_sum.ensures k_is c.known.ensures came.data_is c.in_ok-take_tunnel.ensures.fault)
     ∙ ap (λ o. on o (at_udp a)) (sym k_is)
     ∙ ap (on (Some k)) (sym came.udp_is)
-    ∙ ap (λ x. record { apart = x; stop = None }) (sym c.in-Ok-take_tunnel.ensures.taken)
+    ∙ ap (λ x. record { apart = x; stop = None }) (sym c.in_ok-take_tunnel.ensures.taken)
 
 pub take_tunnel-requires-clause-heads : goal.take_tunnel-requires-clause-heads
 take_tunnel-requires-clause-heads c =

@@ -25,7 +25,7 @@ use endpoint_core::{Decision, Endpoint};
 use frame_view::Vid;
 use overlay_config::{Change, Settings, TimedChange, changes_of, settings_of};
 use std::alloc::{AllocError, Global};
-use timeline::{Cut, Event, Happening, Tap, Timeline};
+use timeline::{Captured, Cut, Event, Happening, Tap, Timeline};
 
 /// Runs an endpoint with the settings of a text over the captures of its local ports, port 1 first, and of its underlay,
 /// with the changes of a text at their moments.
@@ -59,10 +59,8 @@ pub fn run_bytes(
         Ok(timeline) => timeline,
         Err(fault) => return Err(of_captures(fault)),
     };
-    match outputs_of(alloc, settings, changes.as_slice(), ports.len(), &timeline) {
-        Ok(outputs) => Ok(outputs),
-        Err(_) => Err(RunFault::OutOfMemory),
-    }
+    let outputs = outputs_of(alloc, settings, changes.as_slice(), ports.len(), &timeline)?;
+    Ok(outputs)
 }
 
 /// What comes out of a run of these events, on so many ports.
@@ -160,18 +158,19 @@ fn put_frame(
     number: u64,
     event: &Event,
     port: u8,
-    original: u32,
-    octets: &[u8],
+    frame: &Captured,
 ) -> Result<(), AllocError>
     requires time { (state_of endpoint.old).moment ≤ event.now.moment }
     requires moment { event.now.moment ≤ last_moment }
     requires low { 1 ≤ port }
     requires high { port ≤ length (state_of endpoint.old).bridges.settings.ports.ports }
-    ensures state { state_of endpoint.new ≡ after (state_of endpoint.old) (frame_at event.now.moment port original octets.now) }
+    ensures state { state_of endpoint.new
+        ≡ after (state_of endpoint.old) (frame_at event.now.moment port frame.now.original frame.now.octets) }
     ensures outputs { OnOk result (seen outputs.new
-        ≡ with_input number None (seen outputs.old) event.now (answer (state_of endpoint.old) (frame_at event.now.moment port original octets.now))) }
+        ≡ with_input number None (seen outputs.old) event.now
+        (answer (state_of endpoint.old) (frame_at event.now.moment port frame.now.original frame.now.octets))) }
 {
-    let decision = endpoint.frame(event.moment, port, original, octets);
+    let decision = endpoint.frame(event.moment, port, frame.original, frame.octets);
     put_decision(alloc, outputs, number, event, &decision)
 }
 
@@ -182,16 +181,17 @@ fn put_packet(
     endpoint: &mut Endpoint,
     number: u64,
     event: &Event,
-    original: u32,
-    octets: &[u8],
+    packet: &Captured,
 ) -> Result<(), AllocError>
     requires time { (state_of endpoint.old).moment ≤ event.now.moment }
     requires moment { event.now.moment ≤ last_moment }
-    ensures state { state_of endpoint.new ≡ after (state_of endpoint.old) (packet_at event.now.moment original octets.now) }
+    ensures state { state_of endpoint.new
+        ≡ after (state_of endpoint.old) (packet_at event.now.moment packet.now.original packet.now.octets) }
     ensures outputs { OnOk result (seen outputs.new
-        ≡ with_input number None (seen outputs.old) event.now (answer (state_of endpoint.old) (packet_at event.now.moment original octets.now))) }
+        ≡ with_input number None (seen outputs.old) event.now
+        (answer (state_of endpoint.old) (packet_at event.now.moment packet.now.original packet.now.octets))) }
 {
-    let decision = endpoint.packet(event.moment, original, octets);
+    let decision = endpoint.packet(event.moment, packet.original, packet.octets);
     put_decision(alloc, outputs, number, event, &decision)
 }
 
@@ -216,25 +216,12 @@ fn put_event(
             let change = changes[*index].change;
             put_change(alloc, outputs, endpoint, number, event, change)
         }
-        Happening::Record(Tap::Port(port), captured) => put_frame(
-            alloc,
-            outputs,
-            endpoint,
-            number,
-            event,
-            *port,
-            captured.original,
-            captured.octets,
-        ),
-        Happening::Record(Tap::Underlay, captured) => put_packet(
-            alloc,
-            outputs,
-            endpoint,
-            number,
-            event,
-            captured.original,
-            captured.octets,
-        ),
+        Happening::Record(Tap::Port(port), frame) => {
+            put_frame(alloc, outputs, endpoint, number, event, *port, frame)
+        }
+        Happening::Record(Tap::Underlay, packet) => {
+            put_packet(alloc, outputs, endpoint, number, event, packet)
+        }
     }
 }
 

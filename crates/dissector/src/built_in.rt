@@ -39,15 +39,15 @@ flood = []
 const ALL: [u8; 6] = [0xFF; 6];
 
 /// The MAC address of one station, and that of another.
-const FIRST: [u8; 6] = [2, 0, 0, 0, 0, 1];
+const FIRST_STATION: [u8; 6] = [2, 0, 0, 0, 0, 1];
 
-const SECOND: [u8; 6] = [2, 0, 0, 0, 0, 2];
+const SECOND_STATION: [u8; 6] = [2, 0, 0, 0, 0, 2];
 
 const ARP: [u8; 2] = [0x08, 0x06];
 
 const IP4: [u8; 2] = [0x08, 0x00];
 
-const NANOSECONDS: u64 = 1_000_000_000;
+const SECOND_IN_NANOSECONDS: u64 = 1_000_000_000;
 
 /// A frame of 60 octets, all zero behind its type, and the second at which it comes.
 #[derive(Clone, Copy)]
@@ -63,13 +63,13 @@ const AT_FIRST: [Passing; 2] = [
     Passing {
         second: 1,
         dst: ALL,
-        src: FIRST,
+        src: FIRST_STATION,
         kind: ARP,
     },
     Passing {
         second: 3,
-        dst: SECOND,
-        src: FIRST,
+        dst: SECOND_STATION,
+        src: FIRST_STATION,
         kind: IP4,
     },
 ];
@@ -78,14 +78,14 @@ const AT_FIRST: [Passing; 2] = [
 const AT_SECOND: [Passing; 2] = [
     Passing {
         second: 2,
-        dst: FIRST,
-        src: SECOND,
+        dst: FIRST_STATION,
+        src: SECOND_STATION,
         kind: IP4,
     },
     Passing {
         second: 4,
-        dst: SECOND,
-        src: SECOND,
+        dst: SECOND_STATION,
+        src: SECOND_STATION,
         kind: IP4,
     },
 ];
@@ -97,7 +97,7 @@ fn capture(alloc: Global, frames: &[Passing]) -> Result<Vec<u8>, AllocError>
     let mut capture = Vec::new(alloc);
     put_header(&mut capture)?;
     for frame in frames {
-        let moment = u64::from(frame.second) * NANOSECONDS;
+        let moment = u64::from(frame.second) * SECOND_IN_NANOSECONDS;
         put_record(
             &mut capture,
             moment,
@@ -130,14 +130,12 @@ pub fn sample(alloc: Global) -> Result<Vec<u8>, RunFault>
 {
     let ports = captures(alloc)?;
     let underlay = capture(alloc, &[])?;
-    match run_bytes(
+    let outputs = run_bytes(
         alloc,
         SETTINGS.as_bytes(),
         "".as_bytes(),
         ports.as_slice(),
         underlay.as_slice(),
-    ) {
-        Ok(outputs) => Ok(outputs.decisions),
-        Err(fault) => Err(fault),
-    }
+    )?;
+    Ok(outputs.decisions)
 }

@@ -30,10 +30,8 @@ pub fn check_text(alloc: Global, settings: &[u8], changes: &[u8]) -> Result<Vec<
     };
     let ports = settings.ports().len();
     let segments = settings.tables().len();
-    match counts_line(alloc, ports, segments, changes.len()) {
-        Ok(line) => Ok(line),
-        Err(_) => Err(RunFault::OutOfMemory),
-    }
+    let line = counts_line(alloc, ports, segments, changes.len())?;
+    Ok(line)
 }
 
 /// The line that tells so many ports, segments and changes.

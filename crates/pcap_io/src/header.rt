@@ -87,7 +87,8 @@ fn header_in(order: Order, text: &[u8]) -> Header
     }
 }
 
-/// How a capture writes its numbers, or why it isn't read.
+/// How a capture writes its numbers. `NotPcap`: the text has fewer than 24 octets, another magic number or another
+/// version than 2.4. `BadLink`: it has none of these, and its link type isn't 1, Ethernet.
 #[tactic(auto, unfolding(crate::specs::Header::style_of))]
 pub fn open_header(text: &[u8]) -> Result<Style, CaptureFault>
     ensures style { result ≡ style_of text.now }

@@ -23,4 +23,6 @@ pub use style::{Order, Precision, Style};
 pub use write::{global_header, put_header, put_record, record_header};
 
 #[cfg(test)]
-mod tests;
+mod capture_tests;
+#[cfg(test)]
+mod write_tests;

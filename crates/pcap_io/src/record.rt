@@ -99,7 +99,8 @@ fn header_in(order: Order, text: &[u8]) -> RecordHeader
     }
 }
 
-/// The header that the first 16 octets of a text are, or why a record with it isn't read, whatever stands behind it.
+/// The header that the first 16 octets of a text are, whatever stands behind it. `TooLarge`: the record claims more
+/// than 262,144 octets. `BadFraction`: it doesn't, but its fraction is a second or more.
 #[tactic(auto, unfolding(crate::specs::Next::readable))]
 pub fn open_record(style: Style, text: &[u8]) -> Result<RecordHeader, RecordFault>
     requires { 16 ≤ length text.now }

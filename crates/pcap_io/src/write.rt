@@ -30,7 +30,8 @@ pub fn put_header(out: &mut Vec<u8>) -> Result<(), AllocError>
     out.extend_from_slice(&global_header())
 }
 
-/// What stands before the octets of a record that holds a whole frame, by its length.
+/// What stands before the octets of a record that holds a whole frame, by its length. `moment` is in nanoseconds, at
+/// most 4,294,967,295,999,999,999.
 pub fn record_header(moment: u64, size: u32) -> [u8; RECORD_HEADER_LENGTH]
     requires { moment ≤ last_moment }
     ensures { result ≡ record_header_of moment size size }

@@ -4,9 +4,8 @@ use Rattle.std.specs.Prelude.{IsErr, MatchBool}
 use Rattle.std.proofs.KnownBytes.{Appends-nil, Appends-trans}
 use Rattle.std.proofs.Math.Seq.{take-append-add}
 use Rattle.std.proofs.lemmas.List.{take-append-le}
-use Rattle.std.proofs.lemmas.List.Concat.{flat_map-cons}
 use Rattle.std.specs.Io.KnownBytes.{Appends}
-use Rattle.std.specs.List.{flat_map}
+use Rattle.std.specs.List.{concat}
 use Rattle.pcap_io.specs.Capture.{opened, opened_by}
 use Rattle.pcap_io.specs.Header.{style_of}
 use Rattle.pcap_io.specs.Next.{Whole, Cut, Faulty, Next, Another, Ends, next_of}
@@ -128,9 +127,6 @@ lends_all_that_is_there old mid new rs text result told run out = ends text rs m
 
 -- ---- a sink
 
-abbrev texts_of : List (List ℕ) → List ℕ
-texts_of = flat_map (λ text. text)
-
 -- a sink that gave up stays as it is
 stays : (old new : Drain) (texts : List (List ℕ)) → old.is_failed ≡ true → PutsInTurn old texts new → new ≡ old
 stays old new [] failed puts = sym puts
@@ -151,26 +147,23 @@ part_behind a b c front text before part =
     (length front + part.0, fits, subst (Appends a c) (sym (take-append-add front text part.0)) (Appends-trans a b c _ _ before part.2))
 
 pub writes_what_was_put : (old new : Drain) (texts : List (List ℕ)) → old.is_failed ≡ false → PutsInTurn old texts new
-    → MatchBool new.is_failed (AppendsPart old.written new.written (flat_map (λ text. text) texts)) (Appends old.written new.written (flat_map (λ text. text) texts))
+    → MatchBool new.is_failed (AppendsPart old.written new.written (concat texts)) (Appends old.written new.written (concat texts))
 writes_what_was_put old new [] sound puts =
     subst (λ (d : Drain). MatchBool d.is_failed (AppendsPart old.written d.written []) (Appends old.written d.written [])) puts
     (rw sound (Appends-nil old.written))
 writes_what_was_put old new (text ∷ texts) sound puts =
     by_result (λ sound. writes_what_was_put puts.0 new texts sound puts.3) puts.1 (subst (λ b. MatchBool b (IsErr puts.1 × (puts.0 ≡ old)) (Writes old puts.0 text puts.1)) sound puts.2)
   where
-    all : text ++ texts_of texts ≡ texts_of (text ∷ texts)
-    all = sym (flat_map-cons (λ t. t) text texts)
+    behind : (b : Bool) → Appends old.written puts.0.written text → MatchBool b (AppendsPart puts.0.written new.written (concat texts)) (Appends puts.0.written new.written (concat texts))
+        → MatchBool b (AppendsPart old.written new.written (concat (text ∷ texts))) (Appends old.written new.written (concat (text ∷ texts)))
+    behind true before later = part_behind old.written puts.0.written new.written text (concat texts) before later
+    behind false before later = Appends-trans old.written puts.0.written new.written _ _ before later
 
-    behind : (b : Bool) → Appends old.written puts.0.written text → MatchBool b (AppendsPart puts.0.written new.written (texts_of texts)) (Appends puts.0.written new.written (texts_of texts))
-        → MatchBool b (AppendsPart old.written new.written (texts_of (text ∷ texts))) (Appends old.written new.written (texts_of (text ∷ texts)))
-    behind true before later = subst (AppendsPart old.written new.written) all (part_behind old.written puts.0.written new.written text (texts_of texts) before later)
-    behind false before later = subst (Appends old.written new.written) all (Appends-trans old.written puts.0.written new.written _ _ before later)
-
-    by_result : (puts.0.is_failed ≡ false → MatchBool new.is_failed (AppendsPart puts.0.written new.written (texts_of texts)) (Appends puts.0.written new.written (texts_of texts)))
+    by_result : (puts.0.is_failed ≡ false → MatchBool new.is_failed (AppendsPart puts.0.written new.written (concat texts)) (Appends puts.0.written new.written (concat texts)))
         → (result : Result (Unit {0}) WriteFault) → Writes old puts.0 text result
-        → MatchBool new.is_failed (AppendsPart old.written new.written (texts_of (text ∷ texts))) (Appends old.written new.written (texts_of (text ∷ texts)))
+        → MatchBool new.is_failed (AppendsPart old.written new.written (concat (text ∷ texts))) (Appends old.written new.written (concat (text ∷ texts)))
     by_result later (Ok x) h = behind new.is_failed h.2 (later h.0)
     by_result later (Err e) h =
         let same = stays puts.0 new texts h.0 puts.3 in
-        subst (λ (d : Drain). MatchBool d.is_failed (AppendsPart old.written d.written (texts_of (text ∷ texts))) (Appends old.written d.written (texts_of (text ∷ texts)))) (sym same)
-        (rw h.0 (subst (AppendsPart old.written puts.0.written) all (part_more old.written puts.0.written text (texts_of texts) h.2)))
+        subst (λ (d : Drain). MatchBool d.is_failed (AppendsPart old.written d.written (concat (text ∷ texts))) (Appends old.written d.written (concat (text ∷ texts)))) (sym same)
+        (rw h.0 (part_more old.written puts.0.written text (concat texts) h.2))

@@ -1,7 +1,7 @@
 -- Whole runs: all records of a capture in turn, and all texts that were put.
 use Rattle.std.specs.Prelude.{◌≡◌, ◌≢◌, ℕ, false, List, [], ◌∷◌, ◌++◌, MatchBool, Option, Some, None, Result, Ok, Err}
 use Rattle.std.specs.Io.KnownBytes.{Appends}
-use Rattle.std.specs.List.{flat_map}
+use Rattle.std.specs.List.{concat}
 use Rattle.pcap_io.specs.Capture.{opened}
 use Rattle.pcap_io.specs.Next.{End}
 use Rattle.pcap_io.specs.Reading.{Reading, records}
@@ -81,4 +81,4 @@ PutsInTurn old (text ∷ texts) new =
 -- a law: what was written is these texts side by side, and after a fault a part of them
 abbrev pub WritesWhatWasPut : Type 0
 WritesWhatWasPut = (old new : Drain) (texts : List (List ℕ)) → old.is_failed ≡ false → PutsInTurn old texts new
-    → MatchBool new.is_failed (AppendsPart old.written new.written (flat_map (λ text. text) texts)) (Appends old.written new.written (flat_map (λ text. text) texts))
+    → MatchBool new.is_failed (AppendsPart old.written new.written (concat texts)) (Appends old.written new.written (concat texts))

@@ -24,7 +24,7 @@ pub struct Fetched {
 pub enum State {
     New,
     Open(Style, Option<Fetched>),
-    Ended(bool),
+    Ended { is_cut: bool },
     Failed(SourceFault),
 }
 
@@ -61,7 +61,7 @@ pub fn fetch<R: Input>(
     let mut head = [0; RECORD_HEADER_LENGTH];
     let got = supply.fill(&mut head)?;
     if got < RECORD_HEADER_LENGTH {
-        return Ok(State::Ended(got > 0));
+        return Ok(State::Ended { is_cut: got > 0 });
     }
     let header = match open_record(style, &head) {
         Ok(header) => header,
@@ -70,7 +70,7 @@ pub fn fetch<R: Input>(
     let captured = header.captured as usize;
     let got = supply.fill(&mut room[..captured])?;
     if got < captured {
-        return Ok(State::Ended(true));
+        return Ok(State::Ended { is_cut: true });
     }
     let fetched = Fetched {
         moment: header.moment(style.precision),

@@ -1,9 +1,8 @@
 //! Captures written to outputs that take little, and to outputs that fail.
-ghost use Rattle.std.specs.Prelude.{◌≢◌, ◌≤◌, None};
-ghost use Rattle.pcap_stream.specs.Source.{New};
+ghost use Rattle.std.specs.Prelude.{◌≤◌, None};
 
-use crate::source_tests::{TWO, in_pieces};
-use crate::{DeviceFault, Output, Sink, Source, WriteFault};
+use crate::source_tests::TWO;
+use crate::{DeviceFault, Output, Sink, WriteFault};
 use std::test::Fail;
 
 /// Room for octets that takes at most so many a call. The n-th call fails, or takes none.
@@ -97,23 +96,12 @@ fn tells_each_write_that_fails(rt: HostRuntime) {
     assert!(rt; put_two(&mut sink).is_ok());
 }
 
-/// One request for memory, by `Source::new`: what it refuses, it says, and no later call makes another. To refuse it, run
-/// this by `rt try --test --fail-alloc 1`.
 #[test]
-fn takes_memory_for_one_record_alone(rt: HostRuntime) -> Result<(), Fail> {
-    let mut source = Source::new(rt.alloc(), in_pieces(TWO, 7, 0), 1000)?;
-    let mut sink = Sink::new(slowly(7, 0, false));
-    assert!(rt; source.open().is_ok());
-    assert!(rt; sink.begin().is_ok());
-    for _ in 0..2 {
-        assert!(rt; source.fill().is_ok());
-        let record = source.head().ok_or("a record")?;
-        assert!(rt;
-            sink.put(record.moment, record.octets, &[], &[], &[])
-                .is_ok()
-        );
-    }
-    let output = sink.into_inner();
-    assert_eq!(rt; &output.octets[..output.taken], TWO);
+fn faults_of_devices_and_of_writes_have_texts(rt: HostRuntime) -> Result<(), Fail> {
+    assert_eq!(rt;
+        DeviceFault.to_string(rt.alloc())?.as_str(),
+        "the device failed"
+    );
+    assert_eq!(rt; WriteFault.to_string(rt.alloc())?.as_str(), "Write");
     Ok(())
 }

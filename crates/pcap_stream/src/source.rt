@@ -61,6 +61,8 @@ impl<R: Input> Source<R> {
     }
 
     /// Reads the global header. It answers `Read` only where a read failed, or one more was needed than are left.
+    /// `NotPcap`: there are fewer than 24 octets, another magic number or another version than 2.4. `BadLink`: the link
+    /// type isn't 1, Ethernet.
     pub fn open(&mut self) -> Result<(), SourceFault>
         requires { self.old.standing ≡ New }
         ensures opened { IsOpened self.old self.new result }
@@ -94,7 +96,7 @@ impl<R: Input> Source<R> {
         let style = match self.state {
             State::Open(style, _) => style,
             State::New => unreachable!(),
-            State::Ended(_) => return Ok(()),
+            State::Ended { .. } => return Ok(()),
             State::Failed(fault) => return Err(fault),
         };
         match fetch(style, &mut self.supply, self.room.as_mut_slice()) {
@@ -129,7 +131,7 @@ impl<R: Input> Source<R> {
         ensures { result ≡ ends_cut self.now.standing }
     {
         match self.state {
-            State::Ended(is_cut) => is_cut,
+            State::Ended { is_cut } => is_cut,
             _ => false,
         }
     }

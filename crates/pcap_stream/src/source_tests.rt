@@ -8,7 +8,7 @@ use std::test::Fail;
 
 /// Octets that come at most so many at a time, and a read that fails.
 #[derive(Drop)]
-pub(crate) struct Pieces<'a> {
+struct Pieces<'a> {
     octets: &'a [u8],
     most: usize,
     fails_at: u64,
@@ -16,7 +16,7 @@ pub(crate) struct Pieces<'a> {
     failures: u64,
 }
 
-pub(crate) fn in_pieces<'a>(octets: &'a [u8], most: usize, fails_at: u64) -> Pieces<'a> {
+fn in_pieces<'a>(octets: &'a [u8], most: usize, fails_at: u64) -> Pieces<'a> {
     Pieces {
         octets,
         most,

@@ -50,7 +50,7 @@ fn a_packet_brings_a_frame(rt: HostRuntime) -> Result<(), Fail> {
 #[test]
 fn a_vxlan_header_is_read(rt: HostRuntime) -> Result<(), Fail> {
     let rows = [(
-        "reserved bits, no VNI, another VNI",
+        "reserved bits, no I flag, another VNI",
         "B
 1s u 110 OUTER12 FFFFFFFF 001388FF ALL M1 0806
 > 1 1000000000 u 1 10 p1=60 p2=60 p3=64
@@ -66,7 +66,7 @@ fn a_vxlan_header_is_read(rt: HostRuntime) -> Result<(), Fail> {
 fn a_geneve_header_is_read(rt: HostRuntime) -> Result<(), Fail> {
     let rows = [
         (
-            "options",
+            "a critical option, another, one beyond Opt Len, options beyond the datagram",
             "B
 1s u 118 ETHER 45000068 00004000 4011B681 C0000201 C0000202 CA0717C1 00540000 02006558 00177000 01028001 00000000 ALL M1 0806
 > 1 1000000000 u 1 - drop 29 CriticalOption
@@ -85,6 +85,14 @@ fn a_geneve_header_is_read(rt: HostRuntime) -> Result<(), Fail> {
 ~ ip6 = => known = [[258, 128]];ip6 =
 1s u 118 ETHER 45000068 00004000 4011B681 C0000201 C0000202 CA0717C1 00540000 02006558 00177000 01028001 00000000 ALL M1 0806
 > 1 1000000000 u 1 20 p2=64 p3=64",
+        ),
+        (
+            "over IPv6",
+            "B
+1s u 130 ETHER6 60000000 004C1140 20010DB8 00*11 01 20010DB8 00*11 02 CA0717C1 004CE2A1 00006558 00177000 ALL M1 0806
+> 1 1000000000 u 1 20 p2=64 p3=64
+< 1s p2 64 ALL M1 81000014 0806
+< 1s p3 64 ALL M1 81000014 0806",
         ),
         (
             "version, control, protocol",

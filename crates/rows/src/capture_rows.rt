@@ -24,6 +24,13 @@ fn captures_are_read_and_written(rt: HostRuntime) -> Result<(), Fail> {
 < = p3 PCAP 01000000 0065CD1D 3C000000 3C000000 ALL M1 0806 00*46",
         ),
         (
+            "a cut rest behind a whole record",
+            "L
+= p1 PCAP 01000000 00000000 3C000000 3C000000 ALL M1 0806 00*46 02000000 00000000 3C000000
+> 1 1000000000 p1 1 10 p2=60 p3=60
+> cut p1 1",
+        ),
+        (
             "cut rests, told behind the last event",
             "L
 = p1 PCAP 01000000 00000000 3C000000 3C000000 ALL M1 0806 00*46 02000000 00000000 3C000000

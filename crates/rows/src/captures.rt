@@ -1,4 +1,6 @@
 //! Captures of three ports and of the underlay, as lines.
+//!
+//! Those that a run should give are put together by `put_header` and `put_record`, whose octets are proved.
 use crate::octets::octets_of;
 use pcap_io::{put_header, put_record};
 use std::alloc::{AllocError, Global};

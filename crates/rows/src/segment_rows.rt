@@ -53,7 +53,7 @@ fn tags_are_taken_off_and_put_in(rt: HostRuntime) -> Result<(), Fail> {
 < 1s u 110 OUTER12 08000000 00138800 ALL M1 0806",
         ),
         (
-            "tags that an untagged port refuses",
+            "VID 4095, a VID at a port for untagged frames, a cut tag",
             "A
 ~ 2001:db8::1\";[[port]] => 2001:db8::1\";[[port]];accept = \"untagged\"
 1s p1 64 ALL M1 81000FFF 0806
@@ -64,7 +64,7 @@ fn tags_are_taken_off_and_put_in(rt: HostRuntime) -> Result<(), Fail> {
 > 3 3000000000 p1 3 - drop 7 CutTag",
         ),
         (
-            "segments that port 1 isn't in",
+            "a VID without a segment, and a segment that port 1 isn't in",
             "A
 1s p1 64 ALL M1 8100001E 0806
 > 1 1000000000 p1 1 - drop 10 NoSegment
@@ -75,7 +75,9 @@ fn tags_are_taken_off_and_put_in(rt: HostRuntime) -> Result<(), Fail> {
             "a second tag stays, and isn't sent into a tunnel",
             "A
 1s p1 68 ALL M1 8100000A 81000064 0806
-> 1 1000000000 p1 1 10 p2=64 p3=68 192.0.2.2!InnerTagOut",
+> 1 1000000000 p1 1 10 p2=64 p3=68 192.0.2.2!InnerTagOut
+< 1s p2 64 ALL M1 81000064 0806
+< 1s p3 68 ALL M1 8100000A 81000064 0806",
         ),
     ];
     check_rows(&rt, rt.alloc(), &rows)

@@ -30,9 +30,10 @@ fn a_frame_is_sent_over_ipv4(rt: HostRuntime) -> Result<(), Fail> {
 
 #[test]
 fn a_frame_is_sent_over_ipv6(rt: HostRuntime) -> Result<(), Fail> {
-    let rows = [(
-        "with a UDP checksum, which is never sent as 0",
-        "A
+    let rows = [
+        (
+            "with a UDP checksum, which is never sent as 0",
+            "A
 ~ tagged = [3];flood = [\"192.0.2.2\"] => tagged = [3];flood = [\"2001:db8::2\"]
 1s p1 60 ALL M1 0806
 > 1 1000000000 p1 1 10 p2=60 p3=64 2001:0db8:0000:0000:0000:0000:0000:0002=130
@@ -44,14 +45,24 @@ fn a_frame_is_sent_over_ipv6(rt: HostRuntime) -> Result<(), Fail> {
 < 2s p2 60 ALL M1 0806 2D0A
 < 2s p3 64 ALL M1 8100000A 0806 2D0A
 < 2s u 130 02000000AAFE 02000000AA01 86DD 60000000 004C1140 20010DB8 00*11 01 20010DB8 00*11 02 CA0712B5 004CFFFF 08000000 00138800 ALL M1 0806 2D0A",
-    )];
+        ),
+        (
+            "in Geneve",
+            "A
+~ tagged = [2, 3];flood = [\"192.0.2.2\"] => tagged = [2, 3];flood = [\"2001:db8::2\"]
+1s p3 64 ALL M1 81000014 0806
+> 1 1000000000 p3 1 20 p2=64 2001:0db8:0000:0000:0000:0000:0000:0002=130
+< 1s p2 64 ALL M1 81000014 0806
+< 1s u 130 ETHER6 60000000 004C1140 20010DB8 00*11 01 20010DB8 00*11 02 CA0717C1 004CE2A1 00006558 00177000 ALL M1 0806",
+        ),
+    ];
     check_rows(&rt, rt.alloc(), &rows)
 }
 
 #[test]
 fn a_frame_is_sent_to_a_group(rt: HostRuntime) -> Result<(), Fail> {
     let rows = [(
-        "to the group's own address",
+        "to the group's own MAC address",
         "A
 ~ tagged = [3];flood = [\"192.0.2.2\"] => tagged = [3];flood = [\"239.1.1.1\", \"ff05::1:3\"]
 1s p1 60 ALL M1 0806

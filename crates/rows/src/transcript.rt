@@ -24,7 +24,7 @@ pub(crate) struct Transcript {
 }
 
 impl Transcript {
-    /// One of no lines.
+    /// A transcript without lines.
     fn empty(alloc: Global) -> Result<Transcript, AllocError> {
         Ok(Transcript {
             settings: String::new(alloc),
@@ -36,7 +36,7 @@ impl Transcript {
         })
     }
 
-    /// That of a text.
+    /// The transcript that a text tells.
     pub(crate) fn read(alloc: Global, text: &str) -> Result<Transcript, Fail> {
         let mut transcript = Transcript::empty(alloc)?;
         for line in text.lines() {

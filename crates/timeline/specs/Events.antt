@@ -1,5 +1,5 @@
 -- The events of each source.
-use Rattle.std.specs.Prelude.{◌<◌, ◌≤◌, ℕ, ◌+◌, ◌^◌, max, List, [], ◌∷◌, ◌++◌, length}
+use Rattle.std.specs.Prelude.{◌≡◌, ◌<◌, ◌≤◌, ℕ, ◌+◌, ◌^◌, max, List, [], ◌∷◌, ◌++◌, length, slice_get, take, option_map}
 use Rattle.std.specs.List.{flat_map}
 use Rattle.pcap_io.specs.Record.{Record, last_moment, longest}
 use Rattle.timeline.specs.Captured.{Captured}
@@ -29,6 +29,26 @@ record_events tap count latest (r ∷ rs) =
 
 abbrev pub events_of : Opened → List Event
 events_of c = record_events c.tap 0 0 c.capture.records
+
+-- the greatest moment of some records, or 0
+abbrev pub greatest : List Record → ℕ
+greatest [] = 0
+greatest (r ∷ rs) = max r.moment (greatest rs)
+
+-- the event of a record that is the last one of these in its capture
+abbrev pub event_behind : Tap → List Record → Record → Event
+event_behind tap rs r = record {
+  moment = greatest rs;
+  number = length rs;
+  happening = happenings.Record tap (record { original = r.original; octets = r.octets });
+}
+
+-- a law: the events of a capture are its records, each with its number from 1 and at the greatest moment up to its own
+abbrev pub TellsEachRecord : Type 0
+TellsEachRecord =
+    (c : Opened) (k : ℕ)
+    → slice_get (events_of c) k
+    ≡ option_map (event_behind c.tap (take (k + 1) c.capture.records)) (slice_get c.capture.records k)
 
 -- the events of all sources: the changes, and then those of the captures in their order
 abbrev pub all_events : List ℕ → List Opened → List Event

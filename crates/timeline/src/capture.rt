@@ -52,15 +52,9 @@ pub fn open_all<'a>(
     let mut port = 0;
     for octets in ports {
         port += 1;
-        match open(Tap::Port(port), octets.as_slice()) {
-            Ok(capture) => captures.push(capture)?,
-            Err(fault) => return Err(fault),
-        }
+        captures.push(open(Tap::Port(port), octets.as_slice())?)?;
     }
-    match open(Tap::Underlay, underlay) {
-        Ok(capture) => captures.push(capture)?,
-        Err(fault) => return Err(fault),
-    }
+    captures.push(open(Tap::Underlay, underlay)?)?;
     Ok(captures)
 }
 

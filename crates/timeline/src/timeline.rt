@@ -74,10 +74,8 @@ fn collect<'a>(
     let mut events = change_events(alloc, changes)?;
     let mut cuts = Vec::new(alloc);
     for capture in captures {
-        match read_capture(&mut events, capture) {
-            Ok(Some(cut)) => cuts.push(cut)?,
-            Ok(None) => {}
-            Err(fault) => return Err(fault),
+        if let Some(cut) = read_capture(&mut events, capture)? {
+            cuts.push(cut)?;
         }
     }
     Ok((events, cuts))

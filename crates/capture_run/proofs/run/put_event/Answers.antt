@@ -1,12 +1,12 @@
-use Rattle.std.proofs.Common.{rules, ◌≡◌, ◌∙◌, ap, sym, subst, ℕ, ◌<◌, Option, map, length, slice_index_or}
+use Rattle.std.proofs.Common.{◌≡◌, ◌∙◌, ap, sym, subst, ℕ, ◌<◌, Option, map, length, slice_index_or}
 use Rattle.std.proofs.lemmas.Result.{on_ok_weaker}
 use Rattle.timeline.specs.Events.{HappensIn}
 use Rattle.endpoint_state.specs.Change.{named}
 use Rattle.overlay_config.specs.declared.change.TimedChange.{TimedChange}
-use Rattle.endpoint_core.specs.Event.{Input, Asks, frame_at, packet_at}
+use Rattle.endpoint_core.specs.Event.{Input, Asks}
 use Rattle.endpoint_core.specs.Kept.{state_of}
 use Rattle.endpoint_core.specs.Step.{after, answer}
-use Rattle.capture_run.specs.Outputs.{event_of, input_of, named_by}
+use Rattle.capture_run.specs.Outputs.{input_of, named_by}
 use Rattle.capture_run.specs.Writing.{seen, with_input}
 use Rattle.capture_run.proofs.Changes.{change_there}
 use Rattle.capture_run.proofs.run.put_event.Goals as goal
@@ -32,13 +32,3 @@ returns-in-Change-clause-outputs c =
     let names : named found.change ≡ named_by changes c.args.event.now.happening = ap named (sym there) ∙ ap (named_by changes) (sym c.in-Change.is) in
     let told = λ (n : Option ℕ) (input : Input). with_input c.args.number n (seen c.args.outputs.now) c.args.event.now (answer (state_of c.args.endpoint.now) (record { at = c.args.event.now.moment; input = input })) in
     on_ok_weaker c.put_change.result (λ e. e ∙ ap (λ n. told n (Asks found.change)) names ∙ ap (told (named_by changes c.args.event.now.happening)) asked) c.put_change.ensures.outputs
-
-pub returns-in-Record-Port-default-clause-state : goal.returns-in-Record-Port-default-clause-state
-returns-in-Record-Port-default-clause-state c =
-    let is : frame_at c.args.event.now.moment c.in-Record-Port-default.port c.captured.inside.original c.captured.inside.octets.now ≡ event_of (map (λ (t : TimedChange). t.change) c.args.changes.now) c.args.event.now = search rules in
-    c.put_frame.ensures.state ∙ ap (after (state_of c.args.endpoint.now)) is
-
-pub returns-in-Record-Underlay-default-clause-state : goal.returns-in-Record-Underlay-default-clause-state
-returns-in-Record-Underlay-default-clause-state c =
-    let is : packet_at c.args.event.now.moment c.captured-in-Record-Underlay-default.inside.original c.captured-in-Record-Underlay-default.inside.octets.now ≡ event_of (map (λ (t : TimedChange). t.change) c.args.changes.now) c.args.event.now = search rules in
-    c.put_packet.ensures.state ∙ ap (after (state_of c.args.endpoint.now)) is

@@ -50,8 +50,8 @@ returns-in-Err-read c s' c' means_s means_c =
     (sym (ap (λ m. run m c' ports underlay) settings ∙ ap (λ m. run (Ok c.in-Ok.settings) m ports underlay) changes ∙ ports_counted c.in-Ok.settings read ports underlay same))
     (timeline_fault c.in-Err-read.fault c.in-Ok.settings read (length ports) (told (map (λ (t : TimedChange). t.at) read) ports underlay) found))
 
-pub returns-in-Ok-outputs_of : goal.returns-in-Ok-outputs_of
-returns-in-Ok-outputs_of c s' c' means_s means_c =
+pub returns : goal.returns
+returns c s' c' means_s means_c =
     let ports = c.args.ports.now in
     let underlay = c.args.underlay.now in
     let read = c.in-Ok-changes_of.changes.items in
@@ -64,4 +64,4 @@ returns-in-Ok-outputs_of c s' c' means_s means_c =
     ∙ ap (λ m. run (Ok c.in-Ok.settings) m ports underlay) changes
     ∙ ports_counted c.in-Ok.settings read ports underlay same
     ∙ ap (by_timeline c.in-Ok.settings read (length ports)) found
-    ∙ ap Ok (sym (c.in-Ok-outputs_of.ensures ∙ ap (λ cs. outputs (settings_told c.in-Ok.settings) (map (λ (t : TimedChange). t.change) cs) (length ports) c.in-Ok-read.timeline) c.as_slice-3.ensures.value))
+    ∙ ap Ok (sym (c.in_ok-outputs.ensures ∙ ap (λ cs. outputs (settings_told c.in-Ok.settings) (map (λ (t : TimedChange). t.change) cs) (length ports) c.in-Ok-read.timeline) c.as_slice-3.ensures.value))

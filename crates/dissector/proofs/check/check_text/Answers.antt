@@ -22,11 +22,11 @@ returns-in-Err-changes_of c s' c' means_s means_c =
     subst (λ f. GivesText (Err f) (checked s' c')) (sym c.of_changes.ensures)
     (subst (λ m. GivesText (Err (of_changes fault)) (checked m c')) (sym settings) (changes_refused (λ (v : Vec TimedChange Global). v.items) fault c.in-Ok.settings c' changes))
 
-pub returns-in-Ok-counts_line : goal.returns-in-Ok-counts_line
-returns-in-Ok-counts_line c s' c' means_s means_c =
+pub returns : goal.returns
+returns c s' c' means_s means_c =
     let settings = read_is (λ (x : Settings). x) (Ok c.in-Ok.settings) settings_in c.args.settings.now s' means_s c.in-Ok.ensures.document c.in-Ok.ensures.not_text in
     let changes = read_is (λ (v : Vec TimedChange Global). v.items) (Ok c.in-Ok-changes_of.changes) changes_in c.args.changes.now c' means_c c.in-Ok-changes_of.ensures.document c.in-Ok-changes_of.ensures.not_text in
     let count : c.len.result ≡ length c.in-Ok-changes_of.changes.items = omega (arith, c.len.ensures, c.in-Ok-changes_of.changes.ok.0) in
     ap (λ m. checked m c') settings
     ∙ ap (checked (Ok c.in-Ok.settings)) changes
-    ∙ ap Ok (sym (c.in-Ok-counts_line.ensures ∙ rw (c.ports-ports.ensures.value, c.tables-segments.ensures.value, count) refl))
+    ∙ ap Ok (sym (c.in_ok-line.ensures ∙ rw (c.ports-ports.ensures.value, c.tables-segments.ensures.value, count) refl))

@@ -1,4 +1,5 @@
-use crate::{Capture, put_header, put_record};
+//! Captures that are read, from octets written by hand and by tcpdump.
+use crate::Capture;
 use std::alloc::{AllocError, Global};
 use std::test::Fail;
 
@@ -16,8 +17,8 @@ const BIG_RECORD: &[u8] = b"\0\0\0\x01\0\x07\xA1\x20\0\0\0\x02\0\0\0\x03\x07\x08
 
 const LITTLE_RECORD: &[u8] = b"\x01\0\0\0\x20\xA1\x07\0\x02\0\0\0\x03\0\0\0\x07\x08";
 
-// Made by `tcpdump -i lo -U --time-stamp-precision=nano -w FILE "udp port 9"` (4.99.3) in a network namespace of its own,
-// with one datagram to 127.0.0.1 meanwhile. For it `tcpdump -e -tt --time-stamp-precision=nano -r FILE` prints
+// Made by `tcpdump -i lo -U --time-stamp-precision=nano -w FILE "udp port 9"` (4.99.3) in a network namespace of its
+// own, with one datagram to 127.0.0.1 meanwhile. For it `tcpdump -e -tt --time-stamp-precision=nano -r FILE` prints
 // 1795338051.276203733 and length 45.
 const TCPDUMP_NANO: &[u8] = b"\x4D\x3C\xB2\xA1\x02\0\x04\0\0\0\0\0\0\0\0\0\0\0\x04\0\x01\0\0\0\
 \x43\xAF\x02\x6B\xD5\x88\x76\x10\x2D\0\0\0\x2D\0\0\0\0\0\0\0\0\0\0\0\0\0\0\0\x08\0\
@@ -251,89 +252,5 @@ fn reads_what_tcpdump_wrote(rt: HostRuntime) -> Result<(), Fail> {
         assert_eq!(rt; record.octets, &TCPDUMP_MICRO[at..at + 20], "at {at}");
     }
     assert!(rt; capture.next().is_none());
-    Ok(())
-}
-
-/// A header; a record of a tagged frame at 1.5 seconds, in four parts; a record of nothing at the last moment.
-const WRITTEN: &[u8] = b"\x4D\x3C\xB2\xA1\x02\0\x04\0\0\0\0\0\0\0\0\0\0\0\x04\0\x01\0\0\0\
-\x01\0\0\0\0\x65\xCD\x1D\x0A\0\0\0\x0A\0\0\0\x01\x02\x03\x04\x81\0\0\x0A\x08\x06\
-\xFF\xFF\xFF\xFF\xFF\xC9\x9A\x3B\0\0\0\0\0\0\0\0";
-
-/// Where the header and the two records of `WRITTEN` begin and end.
-const PLACES: [(usize, usize); 3] = [(0, 24), (24, 50), (50, 66)];
-
-/// Adds the part of `WRITTEN` that begins at a place.
-fn put_at(out: &mut Vec<u8>, place: usize) -> Result<(), AllocError> {
-    match place {
-        0 => put_header(out),
-        24 => put_record(
-            out,
-            1_500_000_000,
-            b"\x01",
-            b"\x02\x03\x04",
-            b"\x81\0\0\x0A",
-            b"\x08\x06",
-        ),
-        _ => put_record(out, 4_294_967_295_999_999_999, b"", b"", b"", b""),
-    }
-}
-
-#[test]
-fn writes_little_endian_nanoseconds(rt: HostRuntime) -> Result<(), Fail> {
-    let mut out = Vec::new(rt.alloc());
-    for (begin, end) in PLACES {
-        put_at(&mut out, begin)?;
-        assert_eq!(rt; out.as_slice(), &WRITTEN[..end], "at {begin}");
-    }
-    Ok(())
-}
-
-/// A capture of one record, as long as they come.
-fn longest(alloc: Global) -> Result<Vec<u8>, AllocError> {
-    let body = vec![in alloc; 0xA5; 262_132]?;
-    let mut out = Vec::new(alloc);
-    put_header(&mut out)?;
-    put_record(&mut out, 7, b"", &[1; 12], b"", &body)?;
-    Ok(out)
-}
-
-#[test]
-fn writes_and_reads_the_longest_record(rt: HostRuntime) -> Result<(), Fail> {
-    let text = longest(rt.alloc())?;
-    let mut capture = Capture::open(&text)?;
-    let Some(Ok(record)) = capture.next() else {
-        panic!(rt; "no record");
-    };
-    assert_eq!(rt; (record.moment, record.original), (7, 262_144));
-    assert_eq!(rt; record.octets.len(), 262_144);
-    assert_eq!(rt;
-        &record.octets[..13],
-        b"\x01\x01\x01\x01\x01\x01\x01\x01\x01\x01\x01\x01\xA5".as_slice()
-    );
-    assert_eq!(rt; record.octets.last(), Some(&0xA5));
-    assert!(rt; capture.next().is_none());
-    Ok(())
-}
-
-/// A text with no spare room, made again where the memory for it is refused.
-fn tight(alloc: Global, text: &[u8]) -> Result<Vec<u8>, AllocError> {
-    match Vec::from_slice(alloc, text) {
-        Ok(made) => Ok(made),
-        Err(_) => Vec::from_slice(alloc, text),
-    }
-}
-
-/// A refused growth leaves the text as it was, and the same call adds all where memory is there. To refuse the growths
-/// of the three calls, run it by `rt try --test --fail-alloc N` with 1, 3 and 5.
-#[test]
-fn a_refused_growth_changes_nothing(rt: HostRuntime) -> Result<(), Fail> {
-    for (begin, end) in PLACES {
-        let mut out = tight(rt.alloc(), &WRITTEN[..begin])?;
-        if put_at(&mut out, begin).is_err() {
-            assert_eq!(rt; out.as_slice(), &WRITTEN[..begin], "refused at {begin}");
-            put_at(&mut out, begin)?;
-        }
-        assert_eq!(rt; out.as_slice(), &WRITTEN[..end], "at {begin}");
-    }
     Ok(())
 }

@@ -1,5 +1,6 @@
 -- A list without repeats: what its tests decide, and what adding to it and removing from it leave.
-use Rattle.std.proofs.Common.{◌≡◌, ◌≢◌, ℕ, zero, suc, ◌<◌, ◌≤◌, Bool, true, false, not, ltb, [], ◌∷◌, ◌++◌, length, get_or, filter, Some, None, refl, sym, ap, ◌∙◌, arith, inl, inr}
+use Rattle.std.specs.Prelude.{is_some}
+use Rattle.std.proofs.Common.{Option, ◌≡◌, ◌≢◌, ℕ, zero, suc, ◌<◌, ◌≤◌, Bool, true, false, not, ltb, [], ◌∷◌, ◌++◌, length, get_or, filter, Some, None, refl, sym, ap, ◌∙◌, arith, inl, inr}
 use Rattle.std.specs.List.{position, position_or_len, remove}
 use Rattle.std.proofs.lemmas.Bool.{cases_Bool, cases_order, and_parts, and_from, cond-true, cond-false, false≢true, false_from_ne_true, ltb-false}
 use Rattle.std.proofs.lemmas.List.{get_or_default}
@@ -80,6 +81,14 @@ holds-not_found flood tunnel addr none =
     let p = is_entry tunnel addr in
     let past = no_position p flood none in
     list_any_none p flood (λ k d lt. fails_before_first p flood k d (omega arith))
+
+-- a list holds an entry exactly where the entry has a place
+pub holds-place : (flood : Entries) (tunnel : Tunnel) (addr : Addr) → is_some (position (is_entry tunnel addr) flood) ≡ holds flood tunnel addr
+holds-place flood tunnel addr = by (position (is_entry tunnel addr) flood) refl
+  where
+    by : (found : Option ℕ) → position (is_entry tunnel addr) flood ≡ found → is_some (position (is_entry tunnel addr) flood) ≡ holds flood tunnel addr
+    by None is = ap is_some is ∙ sym (holds-not_found flood tunnel addr is)
+    by (Some k) is = ap is_some is ∙ sym (holds-found flood tunnel addr k is)
 
 -- ---- removing
 

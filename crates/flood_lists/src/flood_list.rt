@@ -81,9 +81,7 @@ impl FloodList {
     pub fn holds(&self, tunnel: Tunnel, addr: Addr) -> bool
         ensures { result ≡ holds self.now tunnel addr }
     {
-        self.entries
-            .iter()
-            .any(|entry| entry.tunnel == tunnel && entry.addr == addr)
+        self.place(tunnel, addr).is_some()
     }
 
     /// The entries, in the order in which they were added.

@@ -1,5 +1,5 @@
 -- What stands behind the tags of a text.
-use Rattle.std.proofs.Common.{◌≡◌, ◌⊎◌, ℕ, zero, suc, ◌+◌, ◌-◌, ◌<◌, ◌≤◌, Bool, true, false, ◌&&◌, ◌||◌, cond, leb, nat_eq, List, [], ◌∷◌, ◌++◌, length, take, drop, refl, sym, ap, ◌∙◌, append_assoc, arith, inl, inr}
+use Rattle.std.proofs.Common.{◌≡◌, ◌⊎◌, ℕ, zero, suc, ◌+◌, ◌-◌, ◌<◌, ◌≤◌, Bool, true, false, ◌&&◌, ◌||◌, leb, nat_eq, List, [], ◌∷◌, ◌++◌, length, take, drop, refl, sym, ap, ◌∙◌, append_assoc, arith, inl, inr}
 use Rattle.std.specs.List.{concat, AllByRecursion}
 use Rattle.std.proofs.lemmas.Bool.{cases_Bool, cond-true, cond-false, and_parts, leb-true, le-leb}
 use Rattle.std.proofs.lemmas.List.{length-append, length-take, take-append-drop, take-take, take_at}
@@ -17,11 +17,6 @@ without_tags-more (suc n) t h e =
 pub without_tags-none : (n : ℕ) (t : List ℕ) → has_outer_tag t ≡ false → without_tags n t ≡ t
 without_tags-none zero t e = refl
 without_tags-none (suc n) t e = cond-false (has_outer_tag t) (without_tags n (drop 4 t)) t e
-
--- none may be taken
-pub without_tags-zero : (n : ℕ) (t : List ℕ) → n ≡ 0 → without_tags n t ≡ t
-without_tags-zero zero t e = refl
-without_tags-zero (suc n) t e = absurd (omega arith)
 
 -- ---- the longest front of tags, in words and as a function
 

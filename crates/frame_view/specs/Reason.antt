@@ -1,9 +1,9 @@
--- The reasons of a drop, in the order of the checks: their numbers from 1, and their names.
+-- The reasons of a drop, with their numbers and names.
 use Rattle.std.specs.Prelude.{ℕ, List, codes}
 use Rattle.frame_view.specs.declared.reason.Reason.{Reason}
 use Rattle.frame_view.specs.declared.reason.Reason.TheVariants.{TooLong, Sliced, Runt, PortDown, BadSource, Reserved, CutTag, BadVid, FrameType, NoSegment, NotMember, NotIp, BadIp, BadIpSum, BadOuterSource, NotForUs, Fragment, NotUdp, BadUdp, NotTunnel, ZeroSum, BadUdpSum, ShortTunnel, NoVniFlag, BadVersion, Control, NotEthernet, BadOptions, CriticalOption, UnknownVni, WrongGroup, UnknownPeer, InnerRunt, InnerTag, SamePlace, Horizon, Unreachable, NoOutlet, TooBig, InnerTagOut}
 
--- its place in the order of the checks, from 1
+-- its number, from 1
 abbrev pub number_of : Reason → ℕ
 number_of TooLong = 1
 number_of Sliced = 2

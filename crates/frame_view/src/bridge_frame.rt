@@ -25,5 +25,8 @@ impl<'a> Model for BridgeFrame<'a> {
 
     ghost view = { λ f. record { dst = f.dst; src = f.src; pcp = f.pcp; dei = f.dei; body = f.body.now } };
 
-    ghost invariant = { λ f. (f.addresses.now ≡ f.dst ++ f.src) × (length f.addresses.now ≡ 12) × (f.pcp < 8) × (2 ≤ length f.body.now) };
+    ghost invariant = { λ f. (f.addresses.now ≡ f.dst ++ f.src)
+        × (length f.addresses.now ≡ 12)
+        × (f.pcp < 8)
+        × (2 ≤ length f.body.now) };
 }

@@ -15,6 +15,10 @@ const CUSTOMER_TAG: u16 = 0x8100;
 const SERVICE_TAG: u16 = 0x88A8;
 /// The octets of a tag: its type and its control information.
 const TAG_LENGTH: usize = 4;
+/// The octets of both addresses.
+const ADDRESSES: usize = 12;
+/// The octets of the shortest frame: both addresses and a type.
+const SHORTEST: usize = ADDRESSES + 2;
 
 /// Fewer than 14 octets.
 #[derive(Clone, Copy, Debug, PartialEq, Eq, Error)]
@@ -55,7 +59,7 @@ impl<'a> EtherView<'a> {
         ensures whole { IfOk result (λ view. view ≡ octets.now) }
         ensures long { OnOk result (14 ≤ length octets.now) }
     {
-        if octets.len() < 14 {
+        if octets.len() < SHORTEST {
             return Err(Runt);
         }
         Ok(EtherView { octets })
@@ -81,7 +85,7 @@ impl<'a> EtherView<'a> {
         ensures both { result.now ≡ take 6 self.now ++ part 6 6 self.now }
         ensures len { length result.now ≡ 12 }
     {
-        &self.octets[..12]
+        &self.octets[..ADDRESSES]
     }
 
     /// What stands behind the addresses, from octet 12 on.
@@ -90,7 +94,7 @@ impl<'a> EtherView<'a> {
         ensures whole { take 12 self.now ++ result.now ≡ self.now }
         ensures len { 2 ≤ length result.now }
     {
-        &self.octets[12..]
+        &self.octets[ADDRESSES..]
     }
 
     /// Takes one customer tag off what stands behind the addresses (IEEE 802.1Q, 9.6).

@@ -1,8 +1,9 @@
 //! Ethernet frames and VLAN tags (IEEE 802.1Q) as borrowed slices, and the reasons why frames and packets are dropped.
 //!
-//! [`EtherView`] reads a frame: its addresses, its tag ([`Tagging`]) and what stands behind a packet's tags. Each part
-//! is a slice of the octets that were read, so nothing is copied. [`BridgeFrame`] is what a bridge sees of a frame: no
-//! tag is in it, nor any tunnel header. [`Reason`] lists all reasons of a drop, in the order of the checks.
+//! [`EtherView`] reads a frame: its addresses, its tag ([`Tagging`]) and what stands behind a packet's tags.
+//! Destination and source are copies, each longer part is a slice of the octets that were read. [`BridgeFrame`] is
+//! what a bridge sees of a frame: no tag is in it, nor any tunnel header. [`Reason`] lists all reasons of a drop, with
+//! their numbers.
 #![tactic(auto)]
 
 mod address;

@@ -5,10 +5,11 @@ ghost use Rattle.frame_view.specs.declared.reason.Reason.{Reason};
 
 use crate::Vid;
 
-/// Why a frame, a packet or its copy for one outlet isn't sent. The order is that of the checks.
+/// Why a frame, a packet or its copy for one outlet isn't sent. The numbers are the order of the checks, but that a
+/// Geneve header's version is asked before the room for its options, and 5 and 6 of a frame in a tunnel behind 33.
 ///
-/// 1 to 11 and 35 to 38 are those of local frames, 1 to 3, 12 to 34 and 35 to 38 those of outer packets, 39 and 40
-/// those of a copy for one remote outlet.
+/// 1 to 11 and 35 to 38 are those of local frames, 1 to 3, 12 to 34 (with 5 and 6 of the inner frame) and 35 to 38
+/// those of outer packets, 39 and 40 those of a copy for one remote outlet.
 #[derive(Clone, Copy, Debug, PartialEq, Eq)]
 pub enum Reason {
     /// A local frame of more than 65,535 octets, a packet of more than 65,549.
@@ -35,11 +36,11 @@ pub enum Reason {
     NotMember = 11,
     /// Behind at most two tags (8100 or 88A8) the type is neither 0800 nor 86DD.
     NotIp = 12,
-    /// The IP header isn't whole, or tells lengths beyond what is there.
+    /// The IP header is cut or has another version, or tells a length below its own or beyond what is there.
     BadIp = 13,
     /// The IPv4 header checksum is wrong.
     BadIpSum = 14,
-    /// The outer source isn't usable, a group, or the endpoint's own.
+    /// The outer source isn't usable, or is a group or the endpoint's own.
     BadOuterSource = 15,
     /// The outer destination is neither a group nor the endpoint's own.
     NotForUs = 16,

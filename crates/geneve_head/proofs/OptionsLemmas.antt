@@ -1,5 +1,5 @@
 -- The options that a text is read as are those whose texts it is.
-use Rattle.std.proofs.Common.{◌≡◌, ℕ, zero, suc, ◌+◌, ◌*◌, ◌/◌, ◌%◌, ◌<◌, ◌≤◌, Bool, true, false, cond, ltb, List, [], ◌∷◌, ◌++◌, length, take, drop, Option, Some, None, refl, sym, ap, ◌∙◌, subst, arith, inl, inr}
+use Rattle.std.proofs.Common.{◌≡◌, ℕ, zero, suc, ◌+◌, ◌*◌, ◌/◌, ◌%◌, ◌≤◌, Bool, true, false, cond, ltb, List, [], ◌∷◌, ◌++◌, length, take, drop, Option, Some, None, refl, sym, ap, ◌∙◌, subst, arith, inl, inr}
 use Rattle.std.specs.Prelude.{IsTrue, is_some, unwrap_or}
 use Rattle.std.proofs.lemmas.Bool.{ltb-false, le-ltb, cond-false, cond-true, cases_Bool}
 use Rattle.std.proofs.lemmas.List.{take-append-drop, length-take, length-drop, length-append, take_at, drop_at, drop-drop}
@@ -154,15 +154,6 @@ options_in-next text split e there =
         → IsTrue (is_some others) × (unwrap_or (options_in text) [] ≡ split.0 ∷ unwrap_or others [])
     of None t q = absurd cc
     of (Some options) t q = (refl, q)
-
--- what stands behind an option is shorter
-pub split_option-shorter : (text : List ℕ) (split : TunnelOption × List ℕ) → split_option text ≡ Some split → length split.1 < length text
-split_option-shorter text split e =
-    let size = option_length text in
-    let through = let_through (ltb (length text) size) (Some (option_at text, drop size text)) split e in
-    let long = ltb-false _ _ through.0 in
-    let same : drop size text ≡ split.1 = ap (λ (s : Option (TunnelOption × List ℕ)). (unwrap_or s split).1) through.1 in
-    omega (arith, ap length same, length-drop size text)
 
 -- an option takes four octets or more
 few_at : (n : ℕ) (text : List ℕ) (options : List TunnelOption) → options_at n text ≡ Some options → 4 * length options ≤ length text

@@ -2,6 +2,7 @@
 ghost use Rattle.std.specs.Prelude.{◌≡◌, ◌++◌, ℕ, List, []};
 ghost use Rattle.geneve_head.specs.Geneve.{IsGeneve, geneve_header};
 
+use crate::view::ETHERNET;
 use vxlan_head::Vni;
 
 /// The header of a network's packets (RFC 8926, 3.4): version 0, no options, the protocol type of Ethernet frames, the
@@ -11,5 +12,6 @@ pub fn gn_head(vni: Vni) -> [u8; 8]
     ensures read_back { (inner : List ℕ) → IsGeneve (result ++ inner) vni [] inner }
 {
     let [high, middle, low] = vni.octets();
-    [0, 0, 0x65, 0x58, high, middle, low, 0]
+    let [type_high, type_low] = ETHERNET.to_be_bytes();
+    [0, 0, type_high, type_low, high, middle, low, 0]
 }

@@ -30,14 +30,6 @@ impl Model for Known {
     ghost inverse = { λ pairs. record { pairs = record { items = pairs } } };
 }
 
-impl From<ArrayVec<(u16, u8), CAPACITY>> for Known {
-    ghost from_gives = { λ pairs known. known ≡ pairs.items };
-
-    fn from(pairs: ArrayVec<(u16, u8), CAPACITY>) -> Known {
-        Known { pairs }
-    }
-}
-
 impl Known {
     /// The list of none.
     pub fn new() -> Known

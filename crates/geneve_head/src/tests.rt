@@ -1,5 +1,4 @@
 use crate::{GnFault, GnOption, GnView, Known, KnownFull, gn_head};
-use arrayvec::ArrayVec;
 use frame_view::Reason;
 use std::test::Fail;
 use vxlan_head::Vni;
@@ -77,8 +76,6 @@ fn takes_known_critical_options(rt: HostRuntime) -> Result<(), Fail> {
         let is_taken = GnView::read(&packet, &known).is_ok();
         assert_eq!(rt; is_taken, wanted, "class {class}, type {kind} known");
     }
-    let known = Known::from(ArrayVec::from([(258, 128); 16]));
-    assert!(rt; GnView::read(&packet, &known).is_ok(), "a full list");
     Ok(())
 }
 

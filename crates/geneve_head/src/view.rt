@@ -17,7 +17,7 @@ use vxlan_head::Vni;
 /// The octets of a header without its options.
 const FIXED_LENGTH: usize = 8;
 /// The protocol type of Ethernet frames (RFC 8926, 3.4).
-const ETHERNET: u16 = 0x6558;
+pub(crate) const ETHERNET: u16 = 0x6558;
 
 /// Why a text is no Geneve packet, or none that is taken.
 #[derive(Clone, Copy, Debug, PartialEq, Eq, Error)]

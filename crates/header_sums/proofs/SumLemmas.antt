@@ -1,8 +1,8 @@
 -- Laws of the sums.
-use Rattle.std.proofs.Common.{◌≡◌, ℕ, zero, suc, ◌+◌, ◌-◌, ◌*◌, ◌%◌, ◌/◌, ◌<◌, ◌≤◌, List, [], ◌∷◌, ◌++◌, length, take, drop, refl, sym, ap, ◌∙◌, arith, get_or}
-use Rattle.std.proofs.Common.{cond, eqb, Bool, true, false, subst, append_assoc}
+use Rattle.std.proofs.Common.{◌≡◌, ℕ, zero, suc, ◌+◌, ◌-◌, ◌*◌, ◌%◌, ◌/◌, ◌<◌, ◌≤◌, List, [], ◌∷◌, ◌++◌, length, refl, arith}
+use Rattle.std.proofs.Common.{eqb, subst, append_assoc}
 use Rattle.std.proofs.lemmas.Bool.{cond_both, eqb-true, eqb-false}
-use Rattle.header_sums.specs.Octets.{IsText, octets}
+use Rattle.header_sums.specs.Octets.{octets}
 use Rattle.std.proofs.lemmas.List.{length-append}
 use Rattle.header_sums.specs.Sum.{total, folded, check, sent, pseudo4, pseudo6}
 
@@ -18,10 +18,19 @@ total-append (suc k) (x ∷ y ∷ a) b e = omega (arith, total-append k a b (ome
 pub total-append_even : (a b : List ℕ) → length a % 2 ≡ 0 → total (a ++ b) ≡ total a + total b
 total-append_even a b e = total-append (length a / 2) a b (omega arith)
 
--- a sum that isn't 0 folds to what it is apart from a multiple of 65535
-pub folded-between : (s : ℕ) → 0 < s → (0 < folded s) × (folded s ≤ 65535)
-folded-between zero h = absurd (omega arith)
-folded-between (suc s) h = (omega arith, omega arith)
+-- a sum of 16 bits is folded already
+pub folded-word : (s : ℕ) → s < 65536 → folded s ≡ s
+folded-word zero h = refl
+folded-word (suc s) h = omega arith
+
+-- the carries are added to the low 16 bits
+pub folded-carries : (s : ℕ) → folded s ≡ folded (s / 65536 + s % 65536)
+folded-carries zero = refl
+folded-carries (suc s) = by (suc s / 65536 + suc s % 65536) refl
+  where
+    by : (t : ℕ) → suc s / 65536 + suc s % 65536 ≡ t → folded (suc s) ≡ folded t
+    by zero e = absurd (omega arith)
+    by (suc t) e = omega arith
 
 folded-multiple : (q : ℕ) → folded (65535 * q + 65535) ≡ 65535
 folded-multiple q =
@@ -47,29 +56,6 @@ folded-more (suc s) e =
     let same : suc s + 65535 ≡ suc (s + 65535) = omega arith in
     let rest : (s + 65535) % 65535 ≡ s % 65535 = omega arith in
     rw (same, rest) e
-
--- a folded sum depends on the folded parts alone
-folded-shifted : (q r t : ℕ) → 0 < r → folded (65535 * q + r + t) ≡ folded (r + t)
-folded-shifted q zero t h = absurd (omega arith)
-folded-shifted q (suc r) t h =
-    let left : 65535 * q + suc r + t ≡ suc (65535 * q + (r + t)) = omega arith in
-    let right : suc r + t ≡ suc (r + t) = omega arith in
-    let rest : (65535 * q + (r + t)) % 65535 ≡ (r + t) % 65535 = omega arith in
-    rw (left, right, rest) refl
-
-folded-left : (s t : ℕ) → folded (s + t) ≡ folded (folded s + t)
-folded-left zero t = refl
-folded-left (suc s) t =
-    let split : suc s ≡ 65535 * (s / 65535) + folded (suc s) = omega arith in
-    ap (λ (x : ℕ). folded (x + t)) split ∙ folded-shifted (s / 65535) (folded (suc s)) t (omega arith)
-
-pub folded-parts : (s t : ℕ) → folded (s + t) ≡ folded (folded s + folded t)
-folded-parts s t =
-    let turned : (a b : ℕ) → a + b ≡ b + a = λ a b. omega arith in
-    folded-left s t
-    ∙ ap folded (turned (folded s) t)
-    ∙ folded-left t (folded s)
-    ∙ ap folded (turned (folded t) (folded s))
 
 -- the sum with a checksum put in
 pub total-inserted : (k c : ℕ) (a b : List ℕ) → length a ≡ 2 * k → c ≤ 65535 → total (a ++ (octets 2 c ++ b)) ≡ total (a ++ 0 ∷ 0 ∷ b) + c
@@ -116,10 +102,6 @@ sent-not_zero b = cond_both (eqb (check b) 0) 65535 (check b) (λ x. 0 < x) (λ 
 
 pub sent-below : (b : List ℕ) → sent b ≤ 65535
 sent-below b = cond_both (eqb (check b) 0) 65535 (check b) (λ x. x ≤ 65535) (λ zero_is. omega arith) (λ other. omega arith)
-
--- the sum of the two octets of a number
-pub total-octets2 : (n : ℕ) → n < 65536 → total (octets 2 n) ≡ n
-total-octets2 n h = omega arith
 
 -- the sum of a pseudo header and what comes behind it
 pub total-pseudo4 : (src dst d : List ℕ) (len : ℕ) → length src ≡ 4 → length dst ≡ 4 → len < 65536 → total (pseudo4 src dst len ++ d) ≡ total src + total dst + 17 + len + total d

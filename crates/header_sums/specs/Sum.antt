@@ -1,5 +1,5 @@
 -- The Internet checksum: RFC 1071, 1; RFC 791, 3.1 (header checksum); RFC 768 (checksum); RFC 8200, 8.1.
-use Rattle.std.specs.Prelude.{ℕ, zero, suc, ◌+◌, ◌-◌, ◌*◌, ◌%◌, ◌==◌, if◌then◌else◌, List, [], ◌∷◌, ◌++◌, length, take, drop}
+use Rattle.std.specs.Prelude.{ℕ, zero, suc, ◌+◌, ◌-◌, ◌*◌, ◌%◌, ◌==◌, if◌then◌else◌, List, [], ◌∷◌, ◌++◌, take, drop}
 use Rattle.header_sums.specs.Octets.{octets}
 
 -- the sum of the 16-bit words of a text, an odd end padded with zero

@@ -9,6 +9,7 @@
 mod datagram;
 mod ip4;
 mod ip6;
+pub mod laws;
 mod sum;
 
 pub use ip4::{ip4_sum, udp4_sum};

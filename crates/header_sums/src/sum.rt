@@ -4,7 +4,7 @@ ghost use Rattle.header_sums.specs.Sum.{total, folded};
 
 use byteorder::{BigEndian, ByteOrder};
 
-/// The sum of the 16-bit big-endian words, an odd end padded with a zero octet (RFC 1071, 1).
+/// The sum of the 16-bit big-endian words, an odd end padded with a zero octet (RFC 1071, 1). Of 65,535 octets at most.
 pub fn words(bytes: &[u8]) -> u64
     requires { length bytes.now ≤ 65535 }
     ensures sum { result ≡ total bytes.now }
@@ -22,7 +22,8 @@ pub fn words(bytes: &[u8]) -> u64
     }
 }
 
-/// A sum of words and the sum of one more part, which begins at a word's first octet.
+/// A sum of words and the sum of one more part, which begins at a word's first octet. The sum is at most 2^40, the part
+/// has at most 65,535 octets.
 pub fn add_words(sum: u64, part: &[u8]) -> u64
     requires small { sum ≤ 2 ^ 40 }
     requires short { length part.now ≤ 65535 }

@@ -21,9 +21,6 @@ Octets = List ℕ
 abbrev Shown : Type 0
 Shown = FinMap (slice_cmp nat_cmp) Octets
 
-abbrev shown_of : List Hop → Shown
-shown_of hops = from_sorted (map exception hops)
-
 no_hop : Hop
 no_hop = record { addr = V4 []; mac = [] }
 

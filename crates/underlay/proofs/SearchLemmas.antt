@@ -1,6 +1,8 @@
 -- What is at a place of a finite map, and what is left when an entry is put there or taken from there.
 use Rattle.std.proofs.Common.{◌≡◌, ℕ, zero, suc, ◌<◌, ◌≤◌, Bool, true, false, cond, not, ◌&&◌, T, List, [], ◌∷◌, length, get_or, Option, None, Some, Result, Ok, Err, refl, sym, ap, ◌∙◌, subst, arith, add-one}
 use Rattle.std.specs.Prelude.{MatchResult}
+use Rattle.std.specs.Result.{result_ok}
+use Rattle.std.proofs.lemmas.Option.{none-some, same_Some}
 use Rattle.std.specs.List.{insert as insert_at, remove as remove_at, HoldsAt, AllWithin}
 use Rattle.std.specs.List.Sorted.{IsSearchInRange, IsBinarySearchResult, IsNonDecreasingBy}
 use Rattle.std.proofs.lemmas.List.Sorted.{searchable_from_sorted}
@@ -12,6 +14,15 @@ use Rattle.std.proofs.lemmas.Cmp.{tied_back, alike_right, eq_by_cmp_equiv}
 use Rattle.std.specs.FinMap.{FinMap, empty, empty_of_len, len-entries, same_map, get_tied, find, put, is_sorted, entries, entries_sorted, from_sorted, get, insert, remove, IsAntisymmetric, get-entries, get-remove, entries-insert, entries-from_sorted, same_entries_map}
 use Rattle.std.specs.FinMap.Entries.{where_key, below_all, by_order, find-where_key, is_sorted-where_key, same_entries}
 use Rattle.underlay.specs.Search.{IsAt, IsGapFor}
+
+-- what is known of the place where a search found, and of the gap where it did not
+pub found_place : {K V : Type 0} {R : K → K → Ordering} (m : FinMap R V) (k : K) (r : Result ℕ ℕ) (i : ℕ) → MatchResult r (IsAt m k) (IsGapFor m k) → Some i ≡ result_ok r → IsAt m k i
+found_place m k (Ok j) i at is = subst (IsAt m k) (sym (same_Some i j is)) at
+found_place m k (Err j) i gap is = absurd (none-some i (sym is))
+
+pub gap_place : {K V : Type 0} {R : K → K → Ordering} (m : FinMap R V) (k : K) (r : Result ℕ ℕ) → MatchResult r (IsAt m k) (IsGapFor m k) → None ≡ result_ok r → (i : ℕ) × IsGapFor m k i
+gap_place m k (Ok j) at is = absurd (none-some j is)
+gap_place m k (Err j) gap is = (j, gap)
 
 pub first_part : (a b : Bool) → T (a && b) → T a
 first_part true b h = tt

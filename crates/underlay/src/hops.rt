@@ -29,7 +29,7 @@ impl Default for Hop {
 }
 
 /// At most 64 exceptions from the next hop, seen by contracts as a finite map from the octets of an address to the MAC
-/// address. One is found in logarithmic time.
+/// address. One is found by a binary search.
 #[derive(Debug, Drop)]
 pub struct Hops {
     /// In the order of the addresses' octets.
@@ -76,10 +76,8 @@ impl Hops {
     pub fn get(&self, addr: Addr) -> Option<Mac>
         ensures { result ≡ get self.now (address addr) }
     {
-        match self.search(addr) {
-            Ok(place) => Some(self.exceptions[place].mac),
-            Err(_) => None,
-        }
+        let place = self.search(addr).ok()?;
+        Some(self.exceptions[place].mac)
     }
 
     /// Adds an exception for an address that has none. There are fewer than 64 before.

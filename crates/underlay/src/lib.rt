@@ -2,7 +2,7 @@
 //! the tunnels of each segment with its flood list.
 //!
 //! [`Underlay`] has the settings that no change touches, [`TunnelRule`] those of one segment, and [`Under`] both of all
-//! segments, with each segment found by its VID in constant time, and by tunnel kind and VNI in logarithmic time.
+//! segments, with each segment found by its VID by one index, and by tunnel kind and VNI by a binary search.
 #![tactic(auto)]
 
 mod hops;

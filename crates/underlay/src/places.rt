@@ -54,14 +54,14 @@ impl SegmentPlaces {
     pub(crate) fn get(&self, vid: Vid) -> Option<&Segment>
         ensures { option_copied result ≡ get self.now vid }
     {
-        self.places[vid.get() as usize].as_ref()
+        self.places[usize::from(vid.get())].as_ref()
     }
 
     /// Puts a segment at its place, in place of any other.
     pub(crate) fn put(&mut self, vid: Vid, segment: Segment)
         ensures { self.new ≡ insert self.old vid segment }
     {
-        self.places[vid.get() as usize] = Some(segment);
+        self.places[usize::from(vid.get())] = Some(segment);
     }
 
     /// Takes the segment with this VID from its place.
@@ -69,7 +69,7 @@ impl SegmentPlaces {
         ensures taken { result ≡ get self.old vid }
         ensures left { self.new ≡ remove self.old vid }
     {
-        self.places[vid.get() as usize].take()
+        self.places[usize::from(vid.get())].take()
     }
 
     /// Puts an entry last on the flood list of a segment that is there. A list that refuses stays as it was.
@@ -82,13 +82,12 @@ impl SegmentPlaces {
     ) -> Result<(), FloodFault>
         requires there { IsTrue (is_some (get self.old vid)) }
         ensures fault { fault_of result ≡ first (add_faults own.now (flood_in self.old vid) kind addr) }
-        ensures added { OnOk result (self.new ≡ flooding self.old vid (flood_in self.old vid ++ record { tunnel = kind; addr = addr } ∷ [])) }
+        ensures added { OnOk result
+            (self.new ≡ flooding self.old vid (flood_in self.old vid ++ record { tunnel = kind; addr = addr } ∷ [])) }
         ensures refused { OnErr result (self.new ≡ self.old) }
     {
-        match &mut self.places[vid.get() as usize] {
-            Some(segment) => segment.flood.add(kind, addr, own),
-            None => Ok(()),
-        }
+        let segment = self.places[usize::from(vid.get())].as_mut().unwrap();
+        segment.flood.add(kind, addr, own)
     }
 
     /// Takes an entry from the flood list of a segment that is there. A list that refuses stays as it was.
@@ -103,9 +102,7 @@ impl SegmentPlaces {
         ensures removed { OnOk result (self.new ≡ flooding self.old vid (without (flood_in self.old vid) kind addr)) }
         ensures refused { OnErr result (self.new ≡ self.old) }
     {
-        match &mut self.places[vid.get() as usize] {
-            Some(segment) => segment.flood.remove(kind, addr),
-            None => Ok(()),
-        }
+        let segment = self.places[usize::from(vid.get())].as_mut().unwrap();
+        segment.flood.remove(kind, addr)
     }
 }

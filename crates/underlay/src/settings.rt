@@ -15,18 +15,21 @@ pub struct Underlay {
     pub mac: Mac,
     /// Where packets go that have no exception, a MAC address of no group.
     pub next_hop: Mac,
-    /// The endpoint's own addresses. There is one at least.
+    /// The endpoint's own IPv4 address. There is one of either family at least.
     pub ip4: Option<[u8; 4]>,
+    /// The endpoint's own IPv6 address.
     pub ip6: Option<[u8; 16]>,
     /// The most octets of an outer IP packet, 1,280 to 65,535.
     pub mtu: u16,
     /// The TTL or hop limit that is sent, 1 to 255.
     pub ttl: u8,
-    /// The UDP ports of the two kinds of tunnel, 1 to 65,535, which differ.
+    /// The UDP port of VXLAN tunnels, 1 to 65,535.
     pub vxlan_port: u16,
+    /// The UDP port of Geneve tunnels, 1 to 65,535 and another than VXLAN's.
     pub geneve_port: u16,
-    /// Whether UDP checksums are computed over IPv4, and over IPv6; else 0 is sent (RFC 768; RFC 6935, 5).
+    /// Whether UDP checksums are computed over IPv4; else 0 is sent (RFC 768).
     pub sum4: bool,
+    /// Whether UDP checksums are computed over IPv6; else 0 is sent (RFC 6935, 5).
     pub sum6: bool,
     /// Whether a UDP checksum of 0 is accepted over IPv6 (RFC 6935, 5).
     pub zero6: bool,
@@ -51,10 +54,7 @@ impl Underlay {
     pub fn is_own(&self, addr: Addr) -> bool
         ensures { result ≡ is_own self.now addr }
     {
-        match addr {
-            Addr::V4(octets) => self.ip4 == Some(octets),
-            Addr::V6(octets) => self.ip6 == Some(octets),
-        }
+        self.own().is_own(addr)
     }
 
     /// The kind of the tunnels at a UDP port, where it is a tunnel port.

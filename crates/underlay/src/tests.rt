@@ -1,5 +1,5 @@
 //! The underlay's settings, and the ways to a segment.
-ghost use Rattle.std.specs.Prelude.{◌≡◌, ◌≤◌, ◌<◌, ◌+◌};
+ghost use Rattle.std.specs.Prelude.{◌≡◌, ◌≤◌, ◌<◌, ◌+◌, [], ◌∷◌};
 ghost use Rattle.std.specs.FinMap.{len};
 
 use crate::{Hops, PeerRule, SegmentTunnel, TagRule, TunnelRule, Tunnels, Under, Underlay};
@@ -130,6 +130,20 @@ fn geneve_5000() -> SegmentTunnel {
     tunnel(Tunnel::Geneve, [0x00, 0x13, 0x88])
 }
 
+/// A rule for a segment with one tunnel and no flood list.
+fn rule(vid: Vid, tunnel: SegmentTunnel) -> TunnelRule
+    ensures vid { result.vid ≡ vid }
+    ensures tunnels { result.tunnels ≡ tunnel ∷ [] }
+{
+    TunnelRule {
+        vid,
+        tunnels: Tunnels::one(tunnel),
+        flood: FloodList::new(),
+        peers: PeerRule::Any,
+        tags: TagRule::Drop,
+    }
+}
+
 /// Adds a segment with one tunnel, where neither its VID nor its kind and VNI are there; whether it did.
 #[tactic(auto, using(crate::proofs::ToldLemmas::segments_more))]
 fn add(under: &mut Under, vid: Vid, tunnel: SegmentTunnel) -> bool
@@ -139,37 +153,25 @@ fn add(under: &mut Under, vid: Vid, tunnel: SegmentTunnel) -> bool
     if under.has(vid) || under.taken(tunnel.kind, tunnel.vni) {
         return false;
     }
-    under.add_segment(TunnelRule {
-        vid,
-        tunnels: Tunnels::one(tunnel),
-        flood: FloodList::new(),
-        peers: PeerRule::Any,
-        tags: TagRule::Drop,
-    });
+    under.add_segment(rule(vid, tunnel));
     true
 }
 
 #[test]
 #[tactic(auto, using(crate::proofs::ToldLemmas::no_segments))]
 fn a_segment_is_found_by_its_vid_and_by_its_tunnel(rt: HostRuntime) -> Result<(), Fail> {
-    let (Some(ten), Some(twenty), Some(thirty)) = (Vid::new(10), Vid::new(20), Vid::new(30)) else {
-        return Ok(());
-    };
+    let ten = Vid::new(10).ok_or("10 is a VID")?;
+    let twenty = Vid::new(20).ok_or("20 is a VID")?;
+    let thirty = Vid::new(30).ok_or("30 is a VID")?;
     let mut under = Under::open(rt.alloc(), underlay(), Vec::new(rt.alloc()))?;
-    assert_eq!(rt;
+    assert!(rt;
         add(&mut under, ten, vxlan_5000()),
-        true,
         "VID 10 with VXLAN 5000"
     );
-    assert_eq!(rt;
-        add(&mut under, twenty, vxlan_5000()),
-        false,
-        "VXLAN 5000 again"
-    );
-    assert_eq!(rt; add(&mut under, ten, geneve_5000()), false, "VID 10 again");
-    assert_eq!(rt;
+    assert!(rt; !add(&mut under, twenty, vxlan_5000()), "VXLAN 5000 again");
+    assert!(rt; !add(&mut under, ten, geneve_5000()), "VID 10 again");
+    assert!(rt;
         add(&mut under, twenty, geneve_5000()),
-        true,
         "VID 20 with Geneve 5000"
     );
     for (vid, wanted) in [(ten, true), (twenty, true), (thirty, false)] {
@@ -203,18 +205,15 @@ fn a_segment_is_found_by_its_vid_and_by_its_tunnel(rt: HostRuntime) -> Result<()
             "the {kind:?} tunnel of {vid:?}"
         );
     }
-    if under.has(ten) {
-        under.remove_segment(ten);
-    }
-    assert_eq!(rt; under.has(ten), false, "VID 10 removed");
-    assert_eq!(rt;
-        under.taken(Tunnel::Vxlan, vxlan_5000().vni),
-        false,
+    assert!(rt; under.has(ten), "VID 10 before its removal");
+    under.remove_segment(ten);
+    assert!(rt; !under.has(ten), "VID 10 removed");
+    assert!(rt;
+        !under.taken(Tunnel::Vxlan, vxlan_5000().vni),
         "VXLAN 5000 removed"
     );
-    assert_eq!(rt;
+    assert!(rt;
         under.taken(Tunnel::Geneve, geneve_5000().vni),
-        true,
         "Geneve 5000 stays"
     );
     Ok(())
@@ -223,18 +222,15 @@ fn a_segment_is_found_by_its_vid_and_by_its_tunnel(rt: HostRuntime) -> Result<()
 #[test]
 #[tactic(auto, using(crate::proofs::ToldLemmas::no_segments))]
 fn a_flood_list_changes_alone(rt: HostRuntime) -> Result<(), Fail> {
-    let (Some(ten), Some(twenty)) = (Vid::new(10), Vid::new(20)) else {
-        return Ok(());
-    };
+    let ten = Vid::new(10).ok_or("10 is a VID")?;
+    let twenty = Vid::new(20).ok_or("20 is a VID")?;
     let mut under = Under::open(rt.alloc(), underlay(), Vec::new(rt.alloc()))?;
-    assert_eq!(rt;
+    assert!(rt;
         add(&mut under, ten, tunnel(Tunnel::Vxlan, [0, 0, 1])),
-        true,
         "VID 10"
     );
-    assert_eq!(rt;
+    assert!(rt;
         add(&mut under, twenty, tunnel(Tunnel::Vxlan, [0, 0, 2])),
-        true,
         "VID 20"
     );
     for (addr, wanted) in [
@@ -242,37 +238,56 @@ fn a_flood_list_changes_alone(rt: HostRuntime) -> Result<(), Fail> {
         (host4(2), Err(FloodFault::AlreadyThere)),
         (host4(1), Err(FloodFault::OwnAddress)),
     ] {
-        if under.has(ten) {
-            assert_eq!(rt;
-                under.add_flood(ten, Tunnel::Vxlan, addr),
-                wanted,
-                "{addr:?} added"
-            );
-        }
+        assert!(rt; under.has(ten), "VID 10");
+        assert_eq!(rt;
+            under.add_flood(ten, Tunnel::Vxlan, addr),
+            wanted,
+            "{addr:?} added"
+        );
     }
     for (vid, wanted) in [(ten, 1), (twenty, 0)] {
-        if under.has(vid) {
-            assert_eq!(rt;
-                under.flood(vid).targets().len(),
-                wanted,
-                "the flood list of {vid:?}"
-            );
-            assert_eq!(rt;
-                under.segment(vid).flood.targets().len(),
-                wanted,
-                "the same, by the segment"
-            );
-        }
+        assert!(rt; under.has(vid), "{vid:?}");
+        assert_eq!(rt;
+            under.flood(vid).targets().len(),
+            wanted,
+            "the flood list of {vid:?}"
+        );
+        assert_eq!(rt;
+            under.segment(vid).flood.targets().len(),
+            wanted,
+            "the same, by the segment"
+        );
     }
     for (addr, wanted) in [(host4(2), Ok(())), (host4(2), Err(NotThere))] {
-        if under.has(ten) {
-            assert_eq!(rt;
-                under.remove_flood(ten, Tunnel::Vxlan, addr),
-                wanted,
-                "{addr:?} removed"
-            );
-        }
+        assert!(rt; under.has(ten), "VID 10");
+        assert_eq!(rt;
+            under.remove_flood(ten, Tunnel::Vxlan, addr),
+            wanted,
+            "{addr:?} removed"
+        );
     }
+    Ok(())
+}
+
+#[test]
+fn two_rules_tell_two_segments(rt: HostRuntime) -> Result<(), Fail> {
+    let ten = Vid::new(10).ok_or("10 is a VID")?;
+    let twenty = Vid::new(20).ok_or("20 is a VID")?;
+    let rules = vec![in rt.alloc();
+        rule(ten, tunnel(Tunnel::Vxlan, [0x00, 0x13, 0x88])),
+        rule(twenty, tunnel(Tunnel::Geneve, [0x00, 0x13, 0x88])),
+    ]?;
+    let under = Under::open(rt.alloc(), underlay(), rules)?;
+    assert_eq!(rt;
+        under.tunnel_of(ten, Tunnel::Vxlan),
+        Some(vxlan_5000()),
+        "the VXLAN tunnel of VID 10"
+    );
+    assert_eq!(rt;
+        under.tunnel_of(twenty, Tunnel::Geneve),
+        Some(geneve_5000()),
+        "the Geneve tunnel of VID 20"
+    );
     Ok(())
 }
 
@@ -282,7 +297,7 @@ fn the_settings_stay(rt: HostRuntime) -> Result<(), Fail> {
     assert_eq!(rt; under.settings().mtu, 1550, "the MTU");
     assert_eq!(rt; under.own().ip4, Some(OWN4), "the own address");
     assert_eq!(rt; under.kind_at(6081), Some(Tunnel::Geneve), "port 6081");
-    assert_eq!(rt; under.zero6(), true, "checksum 0 over IPv6");
+    assert!(rt; under.zero6(), "checksum 0 over IPv6");
     assert_eq!(rt; under.known().pairs().len(), 0, "the known options");
     Ok(())
 }
@@ -293,10 +308,10 @@ fn a_segment_has_one_or_two_tunnels(rt: HostRuntime) {
     let geneve = tunnel(Tunnel::Geneve, [0, 0, 2]);
     let one = Tunnels::one(vxlan);
     assert_eq!(rt; one.first(), vxlan, "the first of one");
-    assert_eq!(rt; one.are_two(), false, "one");
+    assert!(rt; !one.are_two(), "one");
     assert_eq!(rt; one.of(Tunnel::Geneve), None, "Geneve of one");
     let two = Tunnels::two(geneve, vxlan);
     assert_eq!(rt; two.first(), geneve, "the first of two");
-    assert_eq!(rt; two.are_two(), true, "two");
+    assert!(rt; two.are_two(), "two");
     assert_eq!(rt; two.of(Tunnel::Vxlan), Some(vxlan), "VXLAN of two");
 }

@@ -21,8 +21,8 @@ use vxlan_head::Vni;
 /// The settings of the underlay, and the tunnels of at most 256 segments; seen by contracts as the settings and a
 /// finite map from VID to segment.
 ///
-/// Only [`Under::open`] takes memory. A segment is found by its VID in constant time, and by the kind and VNI of a tunnel
-/// in logarithmic time.
+/// Only [`Under::open`] takes memory. A segment is found by its VID by one index, and by the kind and VNI of a tunnel
+/// by a binary search.
 #[derive(Drop)]
 pub struct Under {
     underlay: Underlay,
@@ -49,8 +49,9 @@ impl Model for Under {
 }
 
 impl Under {
-    /// The settings, and the segments of these rules: at most 256, no two of which are for one VID or have tunnels of one
-    /// kind and VNI. It reserves the places of 256 segments, and `AllocError` says that there was no room for them.
+    /// The settings, and the segments of these rules: at most 256, no two of which are for one VID or have tunnels of
+    /// one kind and VNI. It reserves a place for each VID and 256 in each of the two indexes of VNIs. `AllocError`:
+    /// there was no room for them.
     pub fn open(
         alloc: Global,
         underlay: Underlay,
@@ -133,13 +134,8 @@ impl Under {
     pub fn segment_by(&self, kind: Tunnel, vni: Vni) -> Option<(Vid, &Segment)>
         ensures { option_map (λ found. (found.0, found.1.now)) result ≡ segment_by self.now kind vni }
     {
-        let Some(vid) = self.index(kind).get(vni) else {
-            return None;
-        };
-        match self.segments.get(vid) {
-            Some(segment) => Some((vid, segment)),
-            None => None,
-        }
+        let vid = self.index(kind).get(vni)?;
+        Some((vid, self.segments.get(vid)?))
     }
 
     /// Whether a segment has a tunnel of this kind and VNI.
@@ -153,10 +149,7 @@ impl Under {
     pub fn tunnel_of(&self, vid: Vid, kind: Tunnel) -> Option<SegmentTunnel>
         ensures { result ≡ tunnel_at self.now vid kind }
     {
-        match self.segments.get(vid) {
-            Some(segment) => segment.tunnels.of(kind),
-            None => None,
-        }
+        self.segments.get(vid)?.tunnels.of(kind)
     }
 
     /// The flood list of a segment that is there.
@@ -171,7 +164,8 @@ impl Under {
     pub fn add_flood(&mut self, vid: Vid, kind: Tunnel, addr: Addr) -> Result<(), FloodFault>
         requires there { IsTrue (has_segment self.old vid) }
         ensures fault { fault_of result ≡ first (add_faults (own self.old.underlay) (flood_at self.old vid) kind addr) }
-        ensures added { OnOk result (self.new ≡ with_flood self.old vid (flood_at self.old vid ++ record { tunnel = kind; addr = addr } ∷ [])) }
+        ensures added { OnOk result
+            (self.new ≡ with_flood self.old vid (flood_at self.old vid ++ record { tunnel = kind; addr = addr } ∷ [])) }
         ensures refused { OnErr result (self.new ≡ self.old) }
     {
         let own = self.own();

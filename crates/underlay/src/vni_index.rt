@@ -51,10 +51,8 @@ impl VniIndex {
     pub(crate) fn get(&self, vni: Vni) -> Option<Vid>
         ensures { result ≡ get self.now vni }
     {
-        match self.search(vni) {
-            Ok(place) => Some(self.entries[place].1),
-            Err(_) => None,
-        }
+        let place = self.search(vni).ok()?;
+        Some(self.entries[place].1)
     }
 
     /// Adds a segment, whose VNI isn't there yet.

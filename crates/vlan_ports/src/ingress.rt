@@ -12,7 +12,7 @@ use frame_view::{BridgeFrame, EtherView, Reason, Refused, Tagging, Vid};
 const RESERVED_VID: u16 = 4095;
 
 /// The segment that a frame of these octets enters at a port, and the frame without its outermost tag; or the first
-/// reason, of 3 to 11, why it enters none. Its parts are slices of the octets.
+/// reason, of 3 to 11, why it enters none. Its parts are slices of the octets. The port is 1 to [`PortSet::ports`].
 ///
 /// A frame with VID 0 in its tag takes the port's VID and keeps its priority; one without a tag takes the port's VID
 /// and priority 0. At every port a frame enters only segments that the port is a member of (ingress filtering).
@@ -63,7 +63,8 @@ fn segment_of(ports: &PortSet, port: u8, tag_vid: u16) -> Result<Vid, Refused>
     requires low { 1 ≤ port }
     requires high { port ≤ length ports.now.ports }
     requires bits { tag_vid < 4096 }
-    ensures { result ≡ unless (first (vid_reasons ports.now port tag_vid)) (segment_vid (port_at ports.now port).pvid tag_vid) }
+    ensures { let pvid = (port_at ports.now port).pvid in
+        result ≡ unless (first (vid_reasons ports.now port tag_vid)) (segment_vid pvid tag_vid) }
 {
     if tag_vid == RESERVED_VID {
         return Err(nowhere(Reason::BadVid));
@@ -86,7 +87,8 @@ fn segment_of(ports: &PortSet, port: u8, tag_vid: u16) -> Result<Vid, Refused>
 fn frame_of<'a>(view: &EtherView<'a>, pcp: u8, dei: bool, body: &'a [u8]) -> BridgeFrame<'a>
     requires pcp { pcp < 8 }
     requires body { 2 ≤ length body.now }
-    ensures { result ≡ record { dst = take 6 view.now; src = part 6 6 view.now; pcp = pcp; dei = dei; body = body.now } }
+    ensures { let src = part 6 6 view.now in
+        result ≡ record { dst = take 6 view.now; src = src; pcp = pcp; dei = dei; body = body.now } }
 {
     BridgeFrame {
         dst: view.dst(),

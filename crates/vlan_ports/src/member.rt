@@ -1,6 +1,7 @@
 //! The members of a segment, as they are told.
 ghost use Rattle.std.specs.Prelude.{◌≡◌, ◌<◌, ◌≤◌, [], ◌∷◌, ◌++◌, length};
 
+use crate::member_set::MOST_PORTS;
 use arrayvec::ArrayVec;
 use frame_view::Vid;
 use std::marker::Model;
@@ -17,7 +18,7 @@ pub enum Egress {
 /// A list of at most 16 port numbers, seen by contracts as the list.
 #[derive(Debug, Drop)]
 pub struct PortList {
-    numbers: ArrayVec<u8, 16>,
+    numbers: ArrayVec<u8, MOST_PORTS>,
 }
 
 impl Model for PortList {

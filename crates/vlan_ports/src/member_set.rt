@@ -68,7 +68,7 @@ impl MemberSet {
         requires high { port ≤ 16 }
         ensures { result ≡ get self.now port }
     {
-        self.egress[port as usize - 1]
+        self.egress[usize::from(port) - 1]
     }
 
     /// Makes a port a member whose frames leave so, or no member.
@@ -77,6 +77,6 @@ impl MemberSet {
         requires high { port ≤ 16 }
         ensures { self.new ≡ member_set self.old port egress }
     {
-        self.egress[port as usize - 1] = egress;
+        self.egress[usize::from(port) - 1] = egress;
     }
 }

@@ -66,7 +66,7 @@ impl PortSet {
         ensures { self.new ≡ with_rule self.old rule.now }
     {
         if !self.has(rule.vid) {
-            self.segments[rule.vid.get() as usize] = Some(MemberSet::of(rule));
+            self.segments[usize::from(rule.vid.get())] = Some(MemberSet::of(rule));
         }
     }
 
@@ -84,10 +84,10 @@ impl PortSet {
         requires high { port ≤ length self.now.ports }
         ensures { result.now ≡ port_at self.now port }
     {
-        &self.ports[port as usize - 1]
+        &self.ports[usize::from(port) - 1]
     }
 
-    /// Whether a port is up.
+    /// Whether a port is up. The port is 1 to [`PortSet::ports`].
     pub fn is_up(&self, port: u8) -> bool
         requires low { 1 ≤ port }
         requires high { port ≤ length self.now.ports }
@@ -100,38 +100,40 @@ impl PortSet {
     pub fn has(&self, vid: Vid) -> bool
         ensures { result ≡ has_segment self.now vid }
     {
-        self.segments[vid.get() as usize].is_some()
+        self.segments[usize::from(vid.get())].is_some()
     }
 
-    /// How the frames of a segment leave at a port; None where the port is no member, or there is no such segment.
+    /// How the frames of a segment leave at a port; None where the port is no member, or there is no such segment. The
+    /// port is 1 to [`PortSet::ports`].
     pub fn egress(&self, vid: Vid, port: u8) -> Option<Egress>
         requires low { 1 ≤ port }
         requires high { port ≤ length self.now.ports }
         ensures { result ≡ egress_at self.now vid port }
     {
-        match &self.segments[vid.get() as usize] {
+        match &self.segments[usize::from(vid.get())] {
             Some(members) => members.at(port),
             None => None,
         }
     }
 
-    /// Takes a port up or down.
+    /// Takes a port up or down. The port is 1 to [`PortSet::ports`].
     pub fn set_up(&mut self, port: u8, up: bool)
         requires low { 1 ≤ port }
         requires high { port ≤ length self.old.ports }
         ensures { self.new ≡ with_up self.old port up }
     {
-        self.ports[port as usize - 1].up = up;
+        self.ports[usize::from(port) - 1].up = up;
     }
 
-    /// Makes a port a member of a segment whose frames leave so, or no member.
+    /// Makes a port a member of a segment that is there, whose frames leave so, or no member. The port is 1 to
+    /// [`PortSet::ports`].
     pub fn set_member(&mut self, vid: Vid, port: u8, egress: Option<Egress>)
         requires there { IsTrue (has_segment self.old vid) }
         requires low { 1 ≤ port }
         requires high { port ≤ length self.old.ports }
         ensures { self.new ≡ with_member self.old vid port egress }
     {
-        if let Some(members) = &mut self.segments[vid.get() as usize] {
+        if let Some(members) = &mut self.segments[usize::from(vid.get())] {
             members.set(port, egress);
         }
     }
@@ -141,7 +143,7 @@ impl PortSet {
         requires new { IsTrue (not (has_segment self.old vid)) }
         ensures { self.new ≡ with_segment self.old vid }
     {
-        self.segments[vid.get() as usize] = Some(MemberSet::new());
+        self.segments[usize::from(vid.get())] = Some(MemberSet::new());
     }
 
     /// Removes a segment that is there.
@@ -149,7 +151,7 @@ impl PortSet {
         requires there { IsTrue (has_segment self.old vid) }
         ensures { self.new ≡ without_segment self.old vid }
     {
-        self.segments[vid.get() as usize] = None;
+        self.segments[usize::from(vid.get())] = None;
     }
 }
 

@@ -1,5 +1,2 @@
 pub mod Reading
 pub mod Vxlan
--- the words of the crates below that the clauses here cite
-pub use Rattle.frame_view.specs.First
-pub use Rattle.header_sums.specs.Octets

@@ -3,6 +3,7 @@ ghost use Rattle.std.specs.Prelude.{◌≡◌, ◌++◌, ℕ, List};
 ghost use Rattle.vxlan_head.specs.Vxlan.{IsVxlan, vxlan_header};
 
 use crate::Vni;
+use crate::view::VNI_IS_VALID;
 
 /// The header of a network's packets (RFC 7348, 5): the flag I, the identifier, and 0 in all reserved bits.
 pub fn vx_head(vni: Vni) -> [u8; 8]
@@ -10,5 +11,5 @@ pub fn vx_head(vni: Vni) -> [u8; 8]
     ensures read_back { (inner : List ℕ) → IsVxlan (result ++ inner) vni inner }
 {
     let [high, middle, low] = vni.octets();
-    [0x08, 0, 0, 0, high, middle, low, 0]
+    [VNI_IS_VALID, 0, 0, 0, high, middle, low, 0]
 }

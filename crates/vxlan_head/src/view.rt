@@ -11,6 +11,8 @@ use thiserror::Error;
 
 /// The octets of a header.
 const HEADER_LENGTH: usize = 8;
+/// The flag I among the flags, the first octet: the identifier is valid (RFC 7348, 5).
+pub(crate) const VNI_IS_VALID: u8 = 0x08;
 
 /// Why a text is no VXLAN packet, in the order of the checks.
 #[derive(Clone, Copy, Debug, PartialEq, Eq, Error)]
@@ -65,7 +67,7 @@ impl<'a> VxView<'a> {
         if octets.len() < HEADER_LENGTH {
             return Err(VxFault::ShortTunnel);
         }
-        if octets[0] / 8 % 2 == 0 {
+        if octets[0] / VNI_IS_VALID % 2 == 0 {
             return Err(VxFault::NoVniFlag);
         }
         Ok(VxView {

@@ -1,4 +1,4 @@
-use Rattle.std.proofs.Common.{arith, ◌-◌, ◌∙◌, length, drop, sym, ap}
+use Rattle.std.proofs.Common.{arith, ◌-◌, ◌∙◌, length, sym, ap}
 use Rattle.std.proofs.lemmas.List.{take_rest, length-drop}
 use Rattle.frame_view.specs.Tag.{without_tags}
 use Rattle.frame_view.proofs.TagLemmas.{without_tags-more}

@@ -1,6 +1,5 @@
-use Rattle.std.proofs.Common.{◌≡◌, ◌+◌, ◌%◌, ◌++◌, length, arith}
+use Rattle.std.proofs.Common.{◌≡◌, ◌%◌, ◌++◌, length, arith}
 use Rattle.std.proofs.lemmas.List.{length-append}
-use Rattle.header_sums.specs.Sum.{total}
 use Rattle.header_sums.proofs.SumLemmas.{total-append_even}
 use Rattle.header_sums.proofs.datagram.parts_sum.Goals as goal
 

@@ -1,5 +1,5 @@
-use Rattle.std.proofs.Common.{◌≡◌, ◌+◌, ◌++◌, length, ap, sym, ◌∙◌, ℕ, arith, rules}
-use Rattle.header_sums.specs.Sum.{total, complement, sent, sent_of, pseudo6}
+use Rattle.std.proofs.Common.{◌≡◌, ◌+◌, ◌++◌, length, ap, ◌∙◌, ℕ, arith, rules}
+use Rattle.header_sums.specs.Sum.{total, complement, sent_of, pseudo6}
 use Rattle.header_sums.proofs.SumLemmas.{total-pseudo6}
 use Rattle.std.proofs.lemmas.List.{length-append}
 use Rattle.header_sums.proofs.ip6.udp6_sum.Goals as goal

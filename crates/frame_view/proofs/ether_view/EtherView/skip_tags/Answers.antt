@@ -1,5 +1,5 @@
-use Rattle.std.proofs.Common.{◌≡◌, ◌∙◌, ◌-◌, List, ℕ, length, drop, take, sym, ap, subst}
-use Rattle.frame_view.specs.Tag.{SkipsTags, without_tags}
+use Rattle.std.proofs.Common.{◌∙◌, ◌-◌, List, ℕ, length, take, sym, subst}
+use Rattle.frame_view.specs.Tag.{SkipsTags}
 use Rattle.frame_view.proofs.TagLemmas.{SkipsTags-without_tags}
 use Rattle.frame_view.proofs.ether_view.EtherView.skip_tags.Goals as goal
 

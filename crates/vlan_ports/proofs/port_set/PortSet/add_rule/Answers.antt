@@ -12,6 +12,6 @@ returns-then-not-has c =
     let with_members = λ (m : Members). let t : Ports = record s { segments = insert s.segments rule.vid m } in t in
     let lt : rule.vid < length c.self.inside.segments.items = omega arith in
     let lacks : has_segment s rule.vid ≡ false = sym c.has.ensures ∙ c.if-not-has.true in
-    shown-set _ _ s _ rule.vid c.of.result c.self.view_is c.get.ensures.value lt
+    shown-set _ _ s _ rule.vid c.of.result c.self.view_is (c.from.ensures ∙ c.get.ensures.value) lt
     ∙ ap with_members c.of.ensures
     ∙ sym (cond-false (has_segment s rule.vid) s (with_members (members_of rule)) lacks)

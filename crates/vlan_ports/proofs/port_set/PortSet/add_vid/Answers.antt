@@ -8,5 +8,5 @@ pub returns : goal.returns
 returns c =
     let s = c.args.self.now in
     let lt : c.args.vid < length c.self.inside.segments.items = omega arith in
-    shown-set _ _ s _ c.args.vid c.new.result c.self.view_is c.get.ensures.value lt
+    shown-set _ _ s _ c.args.vid c.new.result c.self.view_is (c.from.ensures ∙ c.get.ensures.value) lt
     ∙ ap (λ (m : Members). let t : Ports = record s { segments = insert s.segments c.args.vid m } in t) c.new.ensures

@@ -11,10 +11,10 @@ pub returns : goal.returns
 returns c =
     let s = c.args.self.now in
     let lt : c.args.vid < length c.self.inside.segments.items = omega arith in
-    let read : c.index_mut.result.now ≡ members_at s c.args.vid = read-members _ _ s _ c.args.vid _ c.self.view_is c.index_mut.ensures.value c.get.ensures.value lt in
+    let read : c.index_mut.result.now ≡ members_at s c.args.vid = read-members _ _ s _ c.args.vid _ c.self.view_is c.index_mut.ensures.value (c.from.ensures ∙ c.get.ensures.value) lt in
     elim c.match-index_mut.branch [
       | in-Some w ↦
           ap the_view w.self-inside-is
-          ∙ shown-set_member _ _ s _ c.args.vid c.args.port c.args.egress w.in-Some.members w.set.new.self c.self.view_is (sym w.in-Some.is ∙ read) w.set.ensures c.get.ensures.value lt
+          ∙ shown-set_member _ _ s _ c.args.vid c.args.port c.args.egress w.in-Some.members w.set.new.self c.self.view_is (sym w.in-Some.is ∙ read) w.set.ensures (c.from.ensures ∙ c.get.ensures.value) lt
       | in_default w ↦ absurd (false≢true (ap is_some (sym w.in_default.is ∙ read) ∙ c.requires.there))
     ]

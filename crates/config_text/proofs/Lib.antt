@@ -1,5 +1,7 @@
 mod Keys
 mod Items
-mod Halves
+mod Cut
 mod Separated
+mod Dotted
+mod ColonHex
 pub mod Names

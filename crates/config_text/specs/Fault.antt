@@ -13,6 +13,11 @@ abbrev pub ◌>>=◌ : {A B : Type 0} → Meaning A → (A → Meaning B) → Me
 (Ok x) >>= f = f x
 (Err e) >>= f = Err e
 
+-- what a function returned, its value seen by view
+abbrev pub seen : {A B : Type 0} → (A → B) → Meaning A → Meaning B
+seen view (Ok x) = Ok (view x)
+seen view (Err e) = Err e
+
 -- what a function returned, seen by view, is the meaning, unless memory was refused
 abbrev pub GivesAs : {A B : Type 0} → (A → B) → Meaning A → Meaning B → Type 0
 GivesAs view (Ok x) meaning = meaning ≡ Ok (view x)

@@ -1,7 +1,8 @@
 //! Columns: how the value of a key is read.
-ghost use Rattle.std.specs.Prelude.{◌≡◌, Option};
+ghost use Rattle.std.specs.Prelude.{◌≡◌, ◌≤◌, IfSome, Option};
 ghost use Rattle.toml.specs.Data.{Data};
 ghost use Rattle.toml.specs.View.{view};
+ghost use Rattle.config_text.specs.Column.{is_endpoint, range};
 
 use crate::address::{addr_of, ip4_of, ip6_of, mac_of};
 use frame_view::{Mac, Vid};
@@ -20,6 +21,15 @@ pub trait Column {
 }
 
 /// A whole number, both ends included.
+fn number_within(value: &Value, low: u64, high: u64) -> Option<u64>
+    ensures value { result ≡ range low high (view value.now) }
+    ensures bounded { IfSome result (λ n. n ≤ high) }
+{
+    let n = u64::try_from(value.as_integer()?).ok()?;
+    if low <= n && n <= high { Some(n) } else { None }
+}
+
+/// A whole number, both ends included.
 #[derive(Clone, Copy, Debug)]
 pub struct U64Range {
     pub low: u64,
@@ -34,12 +44,7 @@ impl Column for U64Range {
     ghost reads = { λ c. range c.low c.high };
 
     fn read(&self, value: &Value) -> Option<u64> {
-        let n = u64::try_from(value.as_integer()?).ok()?;
-        if self.low <= n && n <= self.high {
-            Some(n)
-        } else {
-            None
-        }
+        number_within(value, self.low, self.high)
     }
 }
 
@@ -58,10 +63,8 @@ impl Column for U32Range {
     ghost reads = { λ c. range c.low c.high };
 
     fn read(&self, value: &Value) -> Option<u32> {
-        match value.as_integer() {
-            Some(n) if i64::from(self.low) <= n && n <= i64::from(self.high) => Some(n as u32),
-            _ => None,
-        }
+        let n = number_within(value, u64::from(self.low), u64::from(self.high))?;
+        Some(n as u32)
     }
 }
 
@@ -80,10 +83,8 @@ impl Column for U16Range {
     ghost reads = { λ c. range c.low c.high };
 
     fn read(&self, value: &Value) -> Option<u16> {
-        match value.as_integer() {
-            Some(n) if i64::from(self.low) <= n && n <= i64::from(self.high) => Some(n as u16),
-            _ => None,
-        }
+        let n = number_within(value, u64::from(self.low), u64::from(self.high))?;
+        Some(n as u16)
     }
 }
 
@@ -102,10 +103,8 @@ impl Column for U8Range {
     ghost reads = { λ c. range c.low c.high };
 
     fn read(&self, value: &Value) -> Option<u8> {
-        match value.as_integer() {
-            Some(n) if i64::from(self.low) <= n && n <= i64::from(self.high) => Some(n as u8),
-            _ => None,
-        }
+        let n = number_within(value, u64::from(self.low), u64::from(self.high))?;
+        Some(n as u8)
     }
 }
 
@@ -121,10 +120,7 @@ impl Column for VidNumber {
     ghost reads = { λ _. range 1 4094 };
 
     fn read(&self, value: &Value) -> Option<Vid> {
-        match value.as_integer() {
-            Some(n) if 1 <= n && n <= 4094 => Vid::new(n as u16),
-            _ => None,
-        }
+        Vid::new(u16::try_from(value.as_integer()?).ok()?)
     }
 }
 
@@ -217,8 +213,6 @@ impl Column for AnyAddr {
         addr_of(value.as_str()?)
     }
 }
-
-ghost use Rattle.config_text.specs.Column.{is_endpoint};
 
 /// Whether one endpoint can have the address: it is usable, and no group's.
 fn is_endpoint(addr: Addr) -> bool

@@ -17,7 +17,7 @@ pub trait ListColumn {
         ensures { result ≡ puts self.now list (view value.now) };
 }
 
-/// The list of these items, each put behind those before it.
+/// The list of these items, each put behind those before it; none where the column refuses one.
 pub fn gather<L: ListColumn>(column: &L, empty: L::List, items: &[Value]) -> Option<L::List>
     ensures { result ≡ gathered (L.puts column.now) empty (map view items.now) }
 {

@@ -5,7 +5,7 @@ ghost use Rattle.config_text.specs.Address.{cut, joined};
 use arrayvec::ArrayVec;
 
 /// What one part of a text writes.
-pub trait Part {
+pub(crate) trait Part {
     type Out: Default + Drop;
 
     /// What a part writes, or nothing.
@@ -19,16 +19,12 @@ pub trait Part {
 fn cut(separator: u8, text: &[u8]) -> Option<(&[u8], &[u8])>
     ensures { option_map (λ h. (h.0.now, h.1.now)) result ≡ cut separator text.now }
 {
-    for i in 0..text.len() {
-        if text[i] == separator {
-            return Some((&text[..i], &text[i + 1..]));
-        }
-    }
-    None
+    let at = text.iter().position(|c| *c == separator)?;
+    Some((&text[..at], &text[at + 1..]))
 }
 
 /// At most eight parts, with a separator between them.
-pub fn joined<P: Part>(separator: u8, text: &[u8]) -> Option<ArrayVec<P::Out, 8>>
+pub(crate) fn joined<P: Part>(separator: u8, text: &[u8]) -> Option<ArrayVec<P::Out, 8>>
     ensures { option_map (λ v. v.items) result ≡ joined P.reads separator 8 text.now }
 {
     let mut parts = ArrayVec::new();

@@ -1,5 +1,9 @@
 //! A table that is read key by key.
-ghost use Rattle.std.specs.Prelude.{◌≤◌, length};
+ghost use Rattle.std.specs.Prelude.{◌≡◌, ◌≤◌, length, map, nat_eq};
+ghost use Rattle.std.specs.List.{list_any};
+ghost use Rattle.std.specs.Cmp.Lexicographic.{pointwise};
+ghost use Rattle.toml.specs.View.{table_view};
+ghost use Rattle.config_text.specs.Table.{all_known};
 
 use crate::column::Column;
 use crate::fault::SettingsFault;
@@ -21,7 +25,7 @@ impl<'a> Reader<'a> {
     ghost use Rattle.std.specs.Prelude.{◌≡◌, ◌≤◌, ◌+◌, decimal, length, map, option_map, IfOk};
     ghost use Rattle.toml.specs.Data.{get_member};
     ghost use Rattle.toml.specs.View.{view, table_view};
-    ghost use Rattle.config_text.specs.Fault.{Gives, GivesAs};
+    ghost use Rattle.config_text.specs.Fault.{seen};
     ghost use Rattle.config_text.specs.Table.{top, path, fits, absent, required, defaulted, optional, only, items, limited_items, required_items, listed, row_place, subtable};
     ghost use Rattle.config_text.specs.Reader.{place_of};
 
@@ -39,7 +43,7 @@ impl<'a> Reader<'a> {
     /// is no table.
     pub fn row(name: &str, number: u16, value: &'a Value) -> Result<Reader<'a>, SettingsFault>
         requires { length name.now + length (decimal number) ≤ 19 }
-        ensures { GivesAs place_of result (row_place name.now number (view value.now)) }
+        ensures { seen place_of result ≡ row_place name.now number (view value.now) }
     {
         let name = Key::numbered(name, number);
         match value.as_table() {
@@ -55,7 +59,7 @@ impl<'a> Reader<'a> {
     pub fn subtable(&self, key: &str) -> Result<Reader<'a>, SettingsFault>
         requires few { length key.now ≤ 11 }
         requires short { length (place_of self.now).prefix + length key.now ≤ 20 }
-        ensures { GivesAs place_of result (subtable (place_of self.now) key.now) }
+        ensures { seen place_of result ≡ subtable (place_of self.now) key.now }
     {
         let path = self.path(key);
         let table = match self.get(key) {
@@ -92,7 +96,7 @@ impl<'a> Reader<'a> {
     /// What a key's value means, where it means anything.
     fn fits<T: Drop>(&self, key: &str, meaning: Option<T>) -> Result<T, SettingsFault>
         requires { length key.now ≤ 11 }
-        ensures { Gives result (fits (path (place_of self.now) key.now) meaning) }
+        ensures { result ≡ fits (path (place_of self.now) key.now) meaning }
     {
         match meaning {
             Some(x) => Ok(x),
@@ -102,7 +106,7 @@ impl<'a> Reader<'a> {
 
     /// No other keys than these. `BadValue` of the path of `*`: there is another one.
     pub fn only(&self, keys: &[&str]) -> Result<(), SettingsFault>
-        ensures { Gives result (only (place_of self.now) (map (λ k. k.now) keys.now)) }
+        ensures { result ≡ only (place_of self.now) (map (λ k. k.now) keys.now) }
     {
         match self.table {
             Some(table) if !all_known(table, keys) => Err(SettingsFault::BadValue(self.path("*"))),
@@ -113,7 +117,7 @@ impl<'a> Reader<'a> {
     /// A key that has to be there. `Missing`, or `BadValue` where its column refuses the value.
     pub fn required<C: Column>(&self, key: &str, column: &C) -> Result<C::Out, SettingsFault>
         requires { length key.now ≤ 11 }
-        ensures { Gives result (required (place_of self.now) key.now (C.reads column.now)) }
+        ensures { result ≡ required (place_of self.now) key.now (C.reads column.now) }
     {
         match self.get(key) {
             Some(value) => self.fits(key, column.read(value)),
@@ -129,7 +133,7 @@ impl<'a> Reader<'a> {
         default: C::Out,
     ) -> Result<C::Out, SettingsFault>
         requires { length key.now ≤ 11 }
-        ensures { Gives result (defaulted (place_of self.now) key.now (C.reads column.now) default) }
+        ensures { result ≡ defaulted (place_of self.now) key.now (C.reads column.now) default }
     {
         match self.get(key) {
             Some(value) => self.fits(key, column.read(value)),
@@ -144,7 +148,7 @@ impl<'a> Reader<'a> {
         column: &C,
     ) -> Result<Option<C::Out>, SettingsFault>
         requires { length key.now ≤ 11 }
-        ensures { Gives result (optional (place_of self.now) key.now (C.reads column.now)) }
+        ensures { result ≡ optional (place_of self.now) key.now (C.reads column.now) }
     {
         match self.get(key) {
             Some(value) => Ok(Some(self.fits(key, column.read(value))?)),
@@ -155,7 +159,7 @@ impl<'a> Reader<'a> {
     /// A key that may not be there. `BadValue`: it is, whatever its value.
     pub fn absent(&self, key: &str) -> Result<(), SettingsFault>
         requires { length key.now ≤ 11 }
-        ensures { Gives result (absent (place_of self.now) key.now) }
+        ensures { result ≡ absent (place_of self.now) key.now }
     {
         match self.get(key) {
             Some(_) => Err(SettingsFault::BadValue(self.path(key))),
@@ -167,7 +171,7 @@ impl<'a> Reader<'a> {
     #[tactic(auto, using(crate::proofs::Items::list_of_view))]
     pub fn items(&self, key: &str) -> Result<&'a [Value], SettingsFault>
         requires { length key.now ≤ 11 }
-        ensures { GivesAs (λ v. map view v.now) result (items (place_of self.now) key.now) }
+        ensures { seen (λ v. map view v.now) result ≡ items (place_of self.now) key.now }
     {
         let Some(value) = self.get(key) else {
             return Ok(&[]);
@@ -181,7 +185,7 @@ impl<'a> Reader<'a> {
     /// A list of at most so many items. `OverLimit`: it has more.
     pub fn limited_items(&self, key: &str, limit: usize) -> Result<&'a [Value], SettingsFault>
         requires { length key.now ≤ 11 }
-        ensures value { GivesAs (λ v. map view v.now) result (limited_items (place_of self.now) key.now limit) }
+        ensures value { seen (λ v. map view v.now) result ≡ limited_items (place_of self.now) key.now limit }
         ensures few { IfOk result (λ v. length v.now ≤ limit) }
     {
         let items = self.items(key)?;
@@ -194,7 +198,7 @@ impl<'a> Reader<'a> {
     /// A list of at most so many tables, and of one at least. `Missing`: it is empty or absent.
     pub fn required_items(&self, key: &str, limit: usize) -> Result<&'a [Value], SettingsFault>
         requires { length key.now ≤ 11 }
-        ensures value { GivesAs (λ v. map view v.now) result (required_items (place_of self.now) key.now limit) }
+        ensures value { seen (λ v. map view v.now) result ≡ required_items (place_of self.now) key.now limit }
         ensures few { IfOk result (λ v. length v.now ≤ limit) }
     {
         let tables = self.limited_items(key, limit)?;
@@ -213,18 +217,12 @@ impl<'a> Reader<'a> {
         empty: L::List,
     ) -> Result<L::List, SettingsFault>
         requires { length key.now ≤ 11 }
-        ensures { Gives result (listed (place_of self.now) key.now limit (L.puts column.now) empty) }
+        ensures { result ≡ listed (place_of self.now) key.now limit (L.puts column.now) empty }
     {
         let items = self.limited_items(key, limit)?;
         self.fits(key, gather(column, empty, items))
     }
 }
-
-ghost use Rattle.std.specs.Prelude.{◌≡◌, nat_eq, map};
-ghost use Rattle.std.specs.List.{list_any};
-ghost use Rattle.std.specs.Cmp.Lexicographic.{pointwise};
-ghost use Rattle.toml.specs.View.{table_view};
-ghost use Rattle.config_text.specs.Table.{all_known};
 
 /// Whether the key is among these.
 fn is_known(key: &str, keys: &[&str]) -> bool

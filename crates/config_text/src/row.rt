@@ -1,7 +1,7 @@
 //! Lists of tables.
 ghost use Rattle.std.specs.Prelude.{◌≡◌, ◌+◌, ◌≤◌, ◌<◌, List, [], length, map, vec_len, IfOk};
 ghost use Rattle.toml.specs.View.{view};
-ghost use Rattle.config_text.specs.Fault.{Meaning, Gives, GivesAs};
+ghost use Rattle.config_text.specs.Fault.{Meaning, GivesAs};
 ghost use Rattle.config_text.specs.Table.{FitNumbers, Place, each};
 
 use crate::fault::SettingsFault;
@@ -20,10 +20,12 @@ pub trait Row {
 
     fn read(&self, earlier: &[Self::Out], at: &Reader) -> Result<Self::Out, SettingsFault>
         requires { length earlier.now < 10000 }
-        ensures { Gives result (means self.now earlier.now (place_of at.now)) };
+        ensures { result ≡ means self.now earlier.now (place_of at.now) };
 }
 
 /// The tables of a list, in order, each read behind those before it. The name and each number have 19 octets at most.
+/// The first fault is the answer: `BadValue` of an item's own path, as `port.2`, where it is no table, or what its row
+/// answers. `OutOfMemory`: memory was refused.
 pub fn read_rows<R: Row>(
     alloc: Global,
     row: &R,

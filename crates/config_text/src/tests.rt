@@ -1,3 +1,4 @@
+//! Addresses read from their texts, and faults as they are printed.
 use crate::{Key, SettingsFault, addr_of, ip4_of, ip6_of, mac_of};
 use frame_view::Mac;
 use ip_udp_view::Addr;
@@ -61,6 +62,7 @@ fn ipv6_addresses_are_eight_groups(rt: HostRuntime) {
         0xAB, 0xCD, 0xEF, 0x01, 0x23, 0x45, 0x67, 0x89, 0xAB, 0xCD, 0xEF, 0x01, 0x23, 0x45, 0x67,
         0x89,
     ];
+    let seven = [0, 1, 0, 2, 0, 3, 0, 4, 0, 5, 0, 6, 0, 7, 0, 0];
     for (text, want) in [
         ("ABCD:EF01:2345:6789:ABCD:EF01:2345:6789", full),
         ("2001:DB8:0:0:8:800:200C:417A", unicast),
@@ -72,6 +74,7 @@ fn ipv6_addresses_are_eight_groups(rt: HostRuntime) {
         ("::1", loopback),
         ("::", zero),
         ("0::0", zero),
+        ("1:2:3:4:5:6:7::", seven),
     ] {
         assert_eq!(rt; ip6_of(text), Some(want), "{text}");
     }

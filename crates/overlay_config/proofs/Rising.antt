@@ -1,8 +1,11 @@
 -- The moments of changes that are read rise.
-use Rattle.std.proofs.Common.{◌≡◌, ◌+◌, [], ◌∷◌, List, length, nat_lt, Ok, codes, subst}
+use Rattle.std.proofs.Common.{◌≡◌, ◌+◌, [], ◌∷◌, List, length, nat_lt, Result, Ok, Err, IfOk, Vec, codes, subst}
 use Rattle.std.proofs.lemmas.Bool.{ltb-false}
+use Rattle.std.specs.declared.alloc.Global.{Global}
 use Rattle.toml.specs.Data.{Members}
+use Rattle.config_text.specs.declared.fault.SettingsFault.{SettingsFault}
 use Rattle.config_text.specs.declared.fault.SettingsFault.TheVariants.{NotRising}
+use Rattle.config_text.specs.Fault.{GivesAs}
 use Rattle.config_text.specs.Column.{range, one_of}
 use Rattle.config_text.specs.Table.{Place, top, only, required, limited_items, numbered, refuse_if}
 use Rattle.overlay_config.specs.declared.change.TimedChange.{TimedChange}
@@ -28,3 +31,7 @@ changes_rise members changes e =
     bind_then (only (top members) (codes "change" ∷ [])) _ changes e (λ known known-is e0.
     bind_then (limited_items (top members) (codes "change") 10000) _ changes e0 (λ tables tables-is e1.
     (from_none IsRising (length tables) changes (each_meets IsRising change_of (codes "change") change_rises [] tables changes e1)).0))
+
+pub given_changes_rise : (table : Members) (r : Result (Vec TimedChange Global) SettingsFault) → GivesAs (λ v. v.items) r (changes_of table) → IfOk r (λ changes. EachBehind IsRising [] changes.items)
+given_changes_rise table (Ok v) e = changes_rise table v.items e
+given_changes_rise table (Err f) e = tt

@@ -74,18 +74,18 @@ target_of at = do
   remote ← optional at (codes "remote") any_addr
   target_in at port remote
 
+-- an address of a flood list, in its VLAN
+unfoldable pub remote_of : Place → Meaning (ℕ × Addr × Option Tunnel)
+remote_of at = do
+  vid ← vid_at at
+  addr ← addr_at at
+  tunnel ← tunnel_at at
+  Ok (vid, addr, tunnel)
+
 -- the keys of each kind behind `at`, in order
 unfoldable pub change_in : Kind → Place → Meaning Change
-change_in kinds.AddFlood at = do
-  vid ← vid_at at
-  addr ← addr_at at
-  tunnel ← tunnel_at at
-  Ok (changes.AddFlood vid addr tunnel)
-change_in kinds.RemoveFlood at = do
-  vid ← vid_at at
-  addr ← addr_at at
-  tunnel ← tunnel_at at
-  Ok (changes.RemoveFlood vid addr tunnel)
+change_in kinds.AddFlood at = remote_of at >>= λ r. Ok (changes.AddFlood r.0 r.1 r.2)
+change_in kinds.RemoveFlood at = remote_of at >>= λ r. Ok (changes.RemoveFlood r.0 r.1 r.2)
 change_in kinds.Fix at = do
   vid ← vid_at at
   mac ← mac_at at

@@ -2,9 +2,9 @@
 ghost use Rattle.std.specs.Prelude.{◌≡◌, IsUtf8, Err, IfOk, [], map};
 ghost use Rattle.toml.specs.View.{table_view};
 ghost use Rattle.config_text.specs.declared.fault.SettingsFault.TheVariants.{NotToml};
-ghost use Rattle.overlay_config.specs.Fault.{Gives, GivesAs};
+ghost use Rattle.overlay_config.specs.Fault.{GivesAs};
 ghost use Rattle.config_text.specs.Reader.{place_of};
-ghost use Rattle.overlay_config.specs.Change.{keys_of, moment_before, target_of, change_in, change_of, changes_in, changes_of, IsRising};
+ghost use Rattle.overlay_config.specs.Change.{keys_of, moment_before, target_of, remote_of, change_in, change_of, changes_in, changes_of, IsRising};
 ghost use Rattle.overlay_config.specs.Rules.{EachBehind};
 
 use crate::change::{Change, Target, TimedChange};
@@ -14,7 +14,8 @@ use config_text::{
     AnyAddr, AnyMac, Key, Reader, Row, SettingsFault, Truth, U8Range, U32Range, U64Range,
     VidNumber, Words, read_rows,
 };
-use ip_udp_view::Tunnel;
+use frame_view::Vid;
+use ip_udp_view::{Addr, Tunnel};
 use std::alloc::Global;
 use toml::Table;
 use vlan_ports::Egress;
@@ -106,7 +107,7 @@ impl Kind {
 /// Where a fixed entry stands: one of a port and a remote, and for a remote the kind of tunnel, where it is told.
 #[tactic(auto, unfolding(crate::specs::Change::target_of))]
 fn read_target(at: &Reader) -> Result<Target, SettingsFault>
-    ensures { Gives result (target_of (place_of at.now)) }
+    ensures { result ≡ target_of (place_of at.now) }
 {
     let port = at.optional("port", &ANY_PORT)?;
     let remote = at.optional("remote", &AnyAddr)?;
@@ -124,22 +125,29 @@ fn read_target(at: &Reader) -> Result<Target, SettingsFault>
     }
 }
 
+/// An address of a flood list: the VID, the address, and the kind of tunnel to it, where it is told.
+#[tactic(auto, unfolding(crate::specs::Change::remote_of))]
+fn read_remote(at: &Reader) -> Result<(Vid, Addr, Option<Tunnel>), SettingsFault>
+    ensures { result ≡ remote_of (place_of at.now) }
+{
+    let vid = at.required("vid", &VidNumber)?;
+    let addr = at.required("addr", &AnyAddr)?;
+    let tunnel = at.optional("tunnel", &Words { words: &TUNNELS })?;
+    Ok((vid, addr, tunnel))
+}
+
 /// What a change of this kind does.
 #[tactic(auto, unfolding(crate::specs::Change::change_in))]
 fn read_change(kind: Kind, at: &Reader) -> Result<Change, SettingsFault>
-    ensures { Gives result (change_in kind (place_of at.now)) }
+    ensures { result ≡ change_in kind (place_of at.now) }
 {
     match kind {
         Kind::AddFlood => {
-            let vid = at.required("vid", &VidNumber)?;
-            let addr = at.required("addr", &AnyAddr)?;
-            let tunnel = at.optional("tunnel", &Words { words: &TUNNELS })?;
+            let (vid, addr, tunnel) = read_remote(at)?;
             Ok(Change::AddFlood { vid, addr, tunnel })
         }
         Kind::RemoveFlood => {
-            let vid = at.required("vid", &VidNumber)?;
-            let addr = at.required("addr", &AnyAddr)?;
-            let tunnel = at.optional("tunnel", &Words { words: &TUNNELS })?;
+            let (vid, addr, tunnel) = read_remote(at)?;
             Ok(Change::RemoveFlood { vid, addr, tunnel })
         }
         Kind::Fix => {
@@ -185,10 +193,7 @@ fn read_change(kind: Kind, at: &Reader) -> Result<Change, SettingsFault>
 fn moment_before(earlier: &[TimedChange]) -> u64
     ensures { result ≡ moment_before earlier.now }
 {
-    match earlier.last() {
-        Some(last) => last.at,
-        None => 0,
-    }
+    earlier.last().map_or(0, |last| last.at)
 }
 
 /// The table of a change.
@@ -224,13 +229,13 @@ fn read_changes(alloc: Global, table: &Table) -> Result<Vec<TimedChange>, Settin
     read_rows(alloc, &ChangeRow, "change", tables)
 }
 
-/// The changes that a text means, or its first fault.
+/// The changes that a text means, in its order, where no moment is below the one before; or the first fault: `NotToml`
+/// where the text isn't UTF-8 or no TOML document, then those of the list and of its changes from the first, each
+/// change's in the order of `docs/FORMATS.md`, with `NotRising` last. `OutOfMemory`: memory was refused.
 pub fn changes_of(alloc: Global, text: &[u8]) -> Result<Vec<TimedChange>, SettingsFault>
     ensures document { IsUtf8 text.now → GivesAs (λ v. v.items) result (changes_in text.now) }
     ensures not_text { (IsUtf8 text.now → ⊥) → GivesAs (λ v. v.items) result (Err NotToml) }
     ensures rising { IfOk result (λ changes. EachBehind IsRising [] changes.items) }
 {
-    let table = read_document(alloc, text)?;
-    let changes = read_changes(alloc, &table)?;
-    Ok(changes)
+    read_changes(alloc, &read_document(alloc, text)?)
 }

@@ -1,3 +1,4 @@
+//! Texts of changes, and what they mean or their first fault.
 use crate::change_cases::{ALL_KINDS, ALL_MEANINGS, CHANGES, LISTS};
 use crate::changes_of;
 use std::alloc::{AllocError, Global};

@@ -1,5 +1,5 @@
 //! The list of known options.
-ghost use Rattle.std.specs.Prelude.{Option, List, ℕ};
+ghost use Rattle.std.specs.Prelude.{◌≡◌, Option, List, ℕ};
 ghost use Rattle.toml.specs.View.{view};
 ghost use Rattle.overlay_config.specs.Underlay.{known_option, put_known};
 
@@ -25,8 +25,6 @@ fn known_option(value: &Value) -> Option<(u16, u8)>
         _ => None,
     }
 }
-
-ghost use Rattle.std.specs.Prelude.{◌≡◌};
 
 /// Options without repeats, at most 16.
 #[derive(Clone, Copy, Debug)]

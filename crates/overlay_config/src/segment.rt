@@ -1,6 +1,5 @@
 //! The table of a segment.
-ghost use Rattle.std.specs.Prelude.{◌≡◌};
-ghost use Rattle.config_text.specs.Fault.{Gives};
+ghost use Rattle.std.specs.Prelude.{◌≡◌, ◌≤◌, length};
 ghost use Rattle.config_text.specs.Reader.{place_of};
 ghost use Rattle.overlay_config.specs.Segment.{is_alike, is_taken, members_of, segment_of, vni_number};
 ghost use Rattle.underlay.specs.Overlay.{has_tunnel, segment_of as told};
@@ -68,10 +67,7 @@ impl Column for VniNumber {
     ghost reads = { λ _. vni_number };
 
     fn read(&self, value: &Value) -> Option<Vni> {
-        match value.as_integer() {
-            Some(n) if 0 <= n && n <= 16777215 => Vni::new(n as u32),
-            _ => None,
-        }
+        Vni::new(u32::try_from(value.as_integer()?).ok()?)
     }
 }
 
@@ -79,17 +75,16 @@ impl Column for VniNumber {
 fn has_tunnel(rule: &TunnelRule, kind: Tunnel, vni: Vni) -> bool
     ensures { result ≡ has_tunnel kind vni (told rule.now) }
 {
-    match rule.tunnels.of(kind) {
-        Some(tunnel) => tunnel.vni.get() == vni.get(),
-        None => false,
-    }
+    rule.tunnels
+        .of(kind)
+        .is_some_and(|tunnel| tunnel.vni == vni)
 }
 
 /// Whether a segment has this VID, or a tunnel of this kind and VNI.
 fn is_alike(rule: &TunnelRule, vid: Vid, kind: Tunnel, vni: Vni) -> bool
     ensures { result ≡ is_alike vid kind vni rule.now }
 {
-    rule.vid.get() == vid.get() || has_tunnel(rule, kind, vni)
+    rule.vid == vid || has_tunnel(rule, kind, vni)
 }
 
 /// Whether one of these segments has this VID, or a tunnel of this kind and VNI.
@@ -106,7 +101,7 @@ fn is_taken(segments: &[Segment], vid: Vid, kind: Tunnel, vni: Vni) -> bool
 fn read_members(at: &Reader, key: &str, ports: u8, other: &[u8]) -> Result<PortList, SettingsFault>
     requires short { length key.now ≤ 11 }
     requires few { ports ≤ 16 }
-    ensures { Gives result (members_of (place_of at.now) key.now ports other.now) }
+    ensures { result ≡ members_of (place_of at.now) key.now ports other.now }
 {
     let column = MemberPorts { ports, other };
     match gather(&column, MemberList::new(), at.items(key)?) {
@@ -114,8 +109,6 @@ fn read_members(at: &Reader, key: &str, ports: u8, other: &[u8]) -> Result<PortL
         None => Err(SettingsFault::BadValue(at.path(key))),
     }
 }
-
-ghost use Rattle.std.specs.Prelude.{◌≤◌, length};
 
 /// The table of a segment, beside the endpoint's own addresses and the number of its ports.
 #[derive(Clone, Copy, Debug)]

@@ -67,14 +67,6 @@ impl Settings {
     ghost use Rattle.std.specs.Prelude.{◌≡◌};
     ghost use Rattle.overlay_config.specs.Rules.{MeetsRules};
 
-    /// The underlay.
-    pub fn underlay(&self) -> &Underlay
-        ensures value { result.now ≡ self.now.underlay }
-        ensures rules { MeetsRules self.now }
-    {
-        &self.parts.underlay
-    }
-
     /// The local ports: the k-th is port k.
     pub fn ports(&self) -> &[PortRule]
         ensures value { result.now ≡ self.now.ports }
@@ -89,14 +81,6 @@ impl Settings {
         ensures rules { MeetsRules self.now }
     {
         self.parts.members.as_slice()
-    }
-
-    /// The tunnels of each segment, with its flood list.
-    pub fn tunnels(&self) -> &[TunnelRule]
-        ensures value { result.now ≡ self.now.tunnels }
-        ensures rules { MeetsRules self.now }
-    {
-        self.parts.tunnels.as_slice()
     }
 
     /// The limit and the ageing of each segment's table.
@@ -214,7 +198,9 @@ fn read_settings(alloc: Global, table: &Table) -> Result<Settings, SettingsFault
     Ok(Settings { parts })
 }
 
-/// The settings that a text means, or its first fault.
+/// The settings that a text means, or its first fault: `NotToml` where the text isn't UTF-8 or no TOML document, then
+/// the faults of its keys in the order of `docs/FORMATS.md`, in each table `BadValue` for a key that it doesn't have
+/// before those that it has, and last `OverLimit` for the sum of the limits. `OutOfMemory`: memory was refused.
 pub fn settings_of(alloc: Global, text: &[u8]) -> Result<Settings, SettingsFault>
     ensures document { IsUtf8 text.now → Gives result (settings_in text.now) }
     ensures not_text { (IsUtf8 text.now → ⊥) → Gives result (Err NotToml) }

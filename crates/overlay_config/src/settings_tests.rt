@@ -1,3 +1,4 @@
+//! Texts of settings, and what they mean or their first fault.
 use crate::settings_cases::{
     FEWEST, FIRST_LINES, NUMBERED, PARTS, PORT_LINES, SEGMENT_LINES, UNDERLAY, UNDERLAY_LINES,
     WHOLE,

@@ -85,7 +85,7 @@ pub(crate) fn read_underlay(alloc: Global, at: &Reader) -> Result<Underlay, Sett
 /// The endpoint's own addresses, of which there is one at least.
 #[tactic(auto, unfolding(crate::specs::Underlay::own_addrs_of))]
 fn read_own_addrs(at: &Reader) -> Result<(Option<[u8; 4]>, Option<[u8; 16]>), SettingsFault>
-    ensures { Gives result (own_addrs_of (place_of at.now)) }
+    ensures { result ≡ own_addrs_of (place_of at.now) }
 {
     let ip4 = at.optional("ip4", &OwnIp4)?;
     let ip6 = at.optional("ip6", &OwnIp6)?;
@@ -98,7 +98,7 @@ fn read_own_addrs(at: &Reader) -> Result<(Option<[u8; 4]>, Option<[u8; 16]>), Se
 /// The UDP ports of VXLAN and of Geneve, which differ.
 #[tactic(auto, unfolding(crate::specs::Underlay::tunnel_ports_of))]
 fn read_tunnel_ports(at: &Reader) -> Result<(u16, u16), SettingsFault>
-    ensures { Gives result (tunnel_ports_of (place_of at.now)) }
+    ensures { result ≡ tunnel_ports_of (place_of at.now) }
 {
     let vxlan_port = at.defaulted("vxlan_port", &PORT, 4789)?;
     let geneve_port = at.defaulted("geneve_port", &PORT, 6081)?;

@@ -1,5 +1,5 @@
 -- What one more leaves of the counts.
-use Rattle.std.proofs.Common.{◌≡◌, ◌≢◌, ℕ, zero, suc, ◌+◌, ◌<◌, Bool, true, false, cond, ◌&&◌, refl, sym, ap, subst, ◌∙◌, List, [], ◌∷◌, ◌++◌, length, get_or, set, replicate, Option, Some, None, min, arith, eqb}
+use Rattle.std.proofs.Common.{◌≡◌, ◌≢◌, ℕ, zero, suc, ◌+◌, ◌<◌, Bool, true, false, cond, ◌&&◌, refl, sym, ap, subst, ◌∙◌, List, [], length, get_or, set, replicate, Option, Some, None, min, arith, eqb}
 use Rattle.std.proofs.Math.Path.{fun_ext}
 use Rattle.std.proofs.lemmas.List.{get_or-set_same, get_or-set_other, get_or_default}
 use Rattle.std.proofs.lemmas.Bool.Decides.{nat_tests}
@@ -13,12 +13,11 @@ index-zeros zero k = refl
 index-zeros (suc n) zero = refl
 index-zeros (suc n) (suc k) = index-zeros n k
 
--- rows of zeros, of which one more is put last
-pub zeros-push : (rows : List (List ℕ)) (row : List ℕ) → ((v k : ℕ) → get_or (get_or rows v []) k 0 ≡ 0) → ((k : ℕ) → get_or row k 0 ≡ 0) → (v k : ℕ) → get_or (get_or (rows ++ row ∷ []) v []) k 0 ≡ 0
-zeros-push [] row old new zero k = new k
-zeros-push [] row old new (suc v) k = refl
-zeros-push (r ∷ rows) row old new zero k = old zero k
-zeros-push (r ∷ rows) row old new (suc v) k = zeros-push rows row (λ w. old (suc w)) new v k
+-- rows, all of them one of zeros
+pub zeros-rows : (row : List ℕ) → ((k : ℕ) → get_or row k 0 ≡ 0) → (n v k : ℕ) → get_or (get_or (replicate {A = List ℕ} n row) v []) k 0 ≡ 0
+zeros-rows row zeros zero v k = refl
+zeros-rows row zeros (suc n) zero k = zeros k
+zeros-rows row zeros (suc n) (suc v) k = zeros-rows row zeros n v k
 
 pub none-yet : (c : Cells) → ((k : ℕ) → get_or c.nowhere k 0 ≡ 0) → ((v k : ℕ) → get_or (get_or c.segments v []) k 0 ≡ 0) → count_in c ≡ no_counts
 none-yet c first rest = fun_ext (λ segment. fun_ext (λ k. by segment k))

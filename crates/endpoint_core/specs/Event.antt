@@ -2,11 +2,13 @@
 use Rattle.std.specs.Prelude.{◌≤◌, ℕ, List, [], ◌∷◌}
 use Rattle.overlay_config.specs.declared.change.Change.{Change}
 
+-- a frame, a packet or a change
 pub data Input : Type 0 where
   -- a local frame: its port, its original length, and its octets as far as they were captured
   FrameAt : (port original : ℕ) (octets : List ℕ) → Input
   -- an outer packet: its original length, and its octets as far as they were captured
   Packet : (original : ℕ) (octets : List ℕ) → Input
+  -- a change of the settings
   Asks : (change : Change) → Input
 
 -- what comes at a moment

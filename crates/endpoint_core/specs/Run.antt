@@ -21,17 +21,20 @@ use Rattle.endpoint_core.specs.Step.{Answer, Decided, Replied, answer_by}
 
 -- ---- the settings in force
 
+-- after one event: a change may change them
 abbrev pub settings_after_input : Settings → Input → Settings
 settings_after_input S (FrameAt port original b) = S
 settings_after_input S (Packet original b) = S
 settings_after_input S (Asks c) = changed S c
 
+-- after events
 abbrev pub settings_after : Settings → List Event → Settings
 settings_after S [] = S
 settings_after S (e ∷ es) = settings_after (settings_after_input S e.input) es
 
 -- ---- the bridge of one segment
 
+-- a frame or packet comes to the segment of this VID
 abbrev pub comes_to : ℕ → Result Came Refused → Bool
 comes_to vid (Ok x) = vid == x.vid
 comes_to vid (Err refused) = false

@@ -21,6 +21,7 @@ use Rattle.endpoint_core.specs.Counts.{Counts, no_counts, counted}
 use Rattle.endpoint_core.specs.Decision.{Sent, Decision, refused_as, dropped_in, forwarded}
 use Rattle.endpoint_core.specs.Event.{Input, FrameAt, Packet, Asks, Event}
 
+-- the state of an endpoint
 pub record State : Type 0 where
   -- the settings in force, and of each segment's table what is live at the moment
   pub bridges : Bridges
@@ -64,6 +65,7 @@ after_came t B (Err refused) = B
 
 -- ---- an event
 
+-- what an event is answered: a decision of a frame or packet, or a reply to a change
 pub data Answer : Type 0 where
   Decided : (decision : Decision) → Answer
   -- None: the change is made
@@ -100,10 +102,12 @@ after s e = record {
 
 -- ---- many events
 
+-- the state after events, one after another
 abbrev pub state_after : State → List Event → State
 state_after s [] = s
 state_after s (e ∷ es) = state_after (after s e) es
 
+-- the answers to events, one after another
 abbrev pub answers : State → List Event → List Answer
 answers s [] = []
 answers s (e ∷ es) = answer s e ∷ answers (after s e) es

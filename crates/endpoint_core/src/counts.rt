@@ -22,8 +22,7 @@ type Row = [u64; NUMBERS];
 
 /// The counts of each segment and of none.
 ///
-/// Each VID has its row from `open` on, also one without a segment: a segment that is removed and added again goes on
-/// counting, and no row is looked for.
+/// Each VID has its row from `open` on, also one without a segment, so that no row is looked for.
 #[derive(Drop)]
 pub(crate) struct Counts {
     /// In no segment.
@@ -129,9 +128,6 @@ fn no_rows(alloc: Global) -> Result<Vec<Row>, AllocError>
     ensures zeros { IfOk result (λ rows. (vid k : ℕ) → slice_index_or (slice_index_or rows.items vid []) k 0 ≡ 0) }
     ensures long { IfOk result (λ rows. 4094 < vec_len rows) }
 {
-    let mut rows = Vec::with_capacity(alloc, ROWS)?;
-    for _ in 0..ROWS {
-        rows.push_reserved(no_row());
-    }
+    let rows = vec![in alloc; no_row(); ROWS]?;
     Ok(rows)
 }

@@ -116,7 +116,7 @@ impl<'a> Decision<'a> {
     }
 
     /// Whether the segment has two tunnels, so that a remote is told with the kind of its tunnel.
-    pub fn has_two_tunnels(&self) -> bool
+    pub(crate) fn has_two_tunnels(&self) -> bool
         ensures { result ≡ self.now.two_tunnels }
     {
         self.two_tunnels

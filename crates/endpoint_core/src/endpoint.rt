@@ -79,7 +79,8 @@ impl Endpoint {
     }
 
     /// How often an outcome was decided in a segment, or in none: number 0 for what was sent, and a reason's number for
-    /// the drops and the outcomes that weren't sent for that reason. Each count ends at 2^64 - 1.
+    /// the drops and the outcomes that weren't sent for that reason; 0 for any other number. Each count ends at
+    /// 2^64 - 1.
     pub fn count(&self, segment: Option<Vid>, number: u8) -> u64
         ensures { result ≡ (state_of self.now).counts segment number }
     {
@@ -87,6 +88,7 @@ impl Endpoint {
     }
 
     /// A frame of this original length came in at a local port at a moment, in nanoseconds: what is decided of it.
+    /// `now` isn't before `self.now()`, and the port is 1 to `ports()`.
     pub fn frame<'a>(&mut self, now: u64, port: u8, original: u32, octets: &'a [u8]) -> Decision<'a>
         requires moment { (state_of self.old).moment ≤ now }
         requires low { 1 ≤ port }
@@ -102,6 +104,7 @@ impl Endpoint {
     }
 
     /// A packet of this original length came in from the underlay at a moment, in nanoseconds: what is decided of it.
+    /// `now` isn't before `self.now()`.
     pub fn packet<'a>(&mut self, now: u64, original: u32, octets: &'a [u8]) -> Decision<'a>
         requires { (state_of self.old).moment ≤ now }
         ensures answer { Decided (octets_of result) ≡ answer (state_of self.old) (packet_at now original octets.now) }
@@ -115,6 +118,7 @@ impl Endpoint {
     }
 
     /// Makes a change of the settings at a moment, in nanoseconds, or refuses it: then nothing but the moment is another.
+    /// `now` isn't before `self.now()`.
     pub fn change(&mut self, now: u64, change: Change) -> Result<(), ChangeFault>
         requires { (state_of self.old).moment ≤ now }
         ensures answer { Replied (fault_of result) ≡ answer (state_of self.old) (change_at now change) }

@@ -13,7 +13,30 @@ const ALL: u8 = 0xFF;
 /// An endpoint with this own address and these lines for the underlay and for segment 10.
 fn opened(alloc: Global, own: &str, segment: &str) -> Result<Endpoint, Fail> {
     let text = format!(in alloc;
-        "version = 1\n[underlay]\nmac = \"02:00:00:00:aa:01\"\nnext_hop = \"02:00:00:00:aa:fe\"\n{own}\n[[port]]\npvid = 10\n[[port]]\npvid = 10\n[[port]]\npvid = 10\n[[segment]]\nvid = 10\nvni = 5000\ntunnel = \"vxlan\"\nuntagged = [1, 2]\ntagged = [3]\n{segment}\n[[segment]]\nvid = 20\nvni = 6000\ntunnel = \"geneve\"\ntagged = [2, 3]\n"
+        r#"version = 1
+[underlay]
+mac = "02:00:00:00:aa:01"
+next_hop = "02:00:00:00:aa:fe"
+{own}
+[[port]]
+pvid = 10
+[[port]]
+pvid = 10
+[[port]]
+pvid = 10
+[[segment]]
+vid = 10
+vni = 5000
+tunnel = "vxlan"
+untagged = [1, 2]
+tagged = [3]
+{segment}
+[[segment]]
+vid = 20
+vni = 6000
+tunnel = "geneve"
+tagged = [2, 3]
+"#
     )?;
     let settings = settings_of(alloc, text.as_bytes())?;
     Ok(Endpoint::open(alloc, settings)?)
@@ -148,13 +171,12 @@ fn a_packet_brings_a_frame_from_its_sender(rt: HostRuntime) -> Result<(), Fail> 
         (109, &packet[..109], "drop 13 BadIp"),
     ];
     for (original, octets, expected) in cases {
-        if endpoint.now() <= SECOND {
-            let decision = endpoint.packet(SECOND, original, octets);
-            assert!(rt;
-                is_printed(rt.alloc(), Some(decision), expected)?,
-                "{expected}"
-            );
-        }
+        assert!(rt; endpoint.now() <= SECOND, "the moment");
+        let decision = endpoint.packet(SECOND, original, octets);
+        assert!(rt;
+            is_printed(rt.alloc(), Some(decision), expected)?,
+            "{expected}"
+        );
     }
     let answer = frame(1, 2);
     let decision = decided(&mut endpoint, 2 * SECOND, 1, 60, &answer);
@@ -194,9 +216,8 @@ fn a_change_holds_from_its_moment_on(rt: HostRuntime) -> Result<(), Fail> {
         ),
     ];
     for (change, answer, expected) in changes {
-        if endpoint.now() <= 5 * SECOND {
-            assert!(rt; endpoint.change(5 * SECOND, change) == answer, "{expected}");
-        }
+        assert!(rt; endpoint.now() <= 5 * SECOND, "the moment");
+        assert!(rt; endpoint.change(5 * SECOND, change) == answer, "{expected}");
         let decision = decided(&mut endpoint, 5 * SECOND, 1, 60, &octets);
         assert!(rt; is_printed(rt.alloc(), decision, expected)?, "{expected}");
     }

@@ -4,7 +4,7 @@
 --     refused      why the settings refuse it
 --     changed      the settings after it
 --     table_fault, entries_changed      why a table refuses it, and the table after it
-use Rattle.std.specs.Prelude.{ℕ, ◌==◌, Bool, true, false, not, ◌||◌, nat_lt, List, [], ◌∷◌, ◌++◌, length, is_none, if◌then◌else◌, Option, Some, None}
+use Rattle.std.specs.Prelude.{◌≡◌, ℕ, ◌==◌, Bool, true, false, not, ◌||◌, nat_lt, List, [], ◌∷◌, ◌++◌, length, is_none, if◌then◌else◌, IfSome, Option, Some, None}
 use Rattle.std.specs.Option.{option_map, option_map_or, unwrap_or}
 use Rattle.frame_view.specs.First.{first}
 use Rattle.frame_view.specs.Address.{is_group as is_group_mac}
@@ -81,6 +81,10 @@ abbrev pub target_fault : Own → ℕ → List SegmentTunnel → Target → Opti
 target_fault own ports tunnels (target.Local port) = port_fault ports port
 target_fault own ports tunnels (target.Remote addr tunnel) = at_tunnel (kind_named tunnels tunnel) (λ kind. first (addr_faults own addr))
 
+-- why a fixed entry of a segment can't stand there
+abbrev pub fault_at : Settings → ℕ → Target → Option ChangeFault
+fault_at S vid target = in_segment (segment_at S vid) (λ s. target_fault (own S.overlay.underlay) (length S.ports.ports) s.tunnels target)
+
 -- the first cause in the order of the checks, of those that depend on the settings alone
 abbrev pub refused : Settings → Change → Option ChangeFault
 refused S (AddFlood vid addr tunnel) = in_segment (segment_at S vid) (λ s. at_tunnel (kind_named s.tunnels tunnel) (λ kind. option_map of_flood (first (add_faults (own S.overlay.underlay) s.flood kind addr))))
@@ -129,6 +133,10 @@ changed S c = if is_none (refused S c) then accepted S c else S
 abbrev pub place_of : List SegmentTunnel → Target → Place
 place_of tunnels (target.Local port) = Local port
 place_of tunnels (target.Remote addr tunnel) = Remote (kind_in tunnels tunnel) addr
+
+-- where a fixed entry of a segment is to stand, if there is the segment
+abbrev pub IsPlaceOf : Settings → ℕ → Target → Place → Type 0
+IsPlaceOf S vid target place = IfSome (segment_at S vid) (λ s. place ≡ place_of s.tunnels target)
 
 -- why the table of its segment refuses a change that the settings don't: there is no room for a fixed entry, or none to
 -- take out

@@ -19,7 +19,7 @@ settings_of held = state.settings_of segments_of held
 abbrev pub state_at : ℕ → Held → State
 state_at t held = state.state_of segments_of t held
 
--- the latest moment that its tables were asked at
+-- the tables' moment: that of their last call but a look-up
 abbrev pub moment_of : Held → ℕ
 moment_of held = held.tables.moment
 

@@ -17,6 +17,7 @@ use Rattle.endpoint_state.specs.Learning.{learns}
 use Rattle.endpoint_state.specs.Settings.{Settings, BridgeSettings, SegmentSettings, segment_at}
 use Rattle.endpoint_state.specs.Change.{named, is_about, refused, accepted, table_fault, entries_changed}
 
+-- what the bridges of an endpoint go by at a moment
 pub record State : Type 0 where
   -- those in force
   pub settings : Settings
@@ -72,6 +73,7 @@ abbrev pub table_changed : ℕ → Change → Option SegmentSettings → ℕ →
 table_changed t c None vid m = m
 table_changed t c (Some s) vid m = if is_about vid c then entries_changed t s c m else m
 
+-- the state after a change that the settings don't refuse
 abbrev pub accepted_state : ℕ → Change → State → State
 accepted_state t c S = record { settings = accepted S.settings c; tables = λ vid. table_changed t c (segment_at S.settings vid) vid (S.tables vid) }
 

@@ -54,5 +54,6 @@ abbrev pub verdict_in : Ports → Option SegmentSettings → Place → Frame →
 verdict_in ports None from f m = Err NoSegment
 verdict_in ports (Some s) from f m = outlets (config_of ports s) from f m
 
+-- where a frame goes that came to a segment from a place at moment t, its source learned first; or why it goes nowhere
 abbrev pub verdict : ℕ → ℕ → Place → Frame → State → Result (List Place) Reason
 verdict t vid from f S = verdict_in S.settings.ports (segment_at S.settings vid) from f ((after_frame t vid from f S).tables vid)

@@ -37,13 +37,8 @@ impl<T: Tables> Parts<T> {
         ensures there { IfOk result (λ kind. IsSome (T.segments self.now.tables vid)) }
         ensures tunnel { IfOk result (λ kind. is_some (tunnel_at self.now.under vid kind) ≡ true) }
     {
-        if !self.tables.has(vid) {
-            return Err(ChangeFault::NoSegment);
-        }
-        match kind_of(&self.under.segment(vid).tunnels, tunnel) {
-            Some(kind) => Ok(kind),
-            None => Err(ChangeFault::NoTunnel),
-        }
+        self.check_segment(vid)?;
+        kind_of(&self.under.segment(vid).tunnels, tunnel).ok_or(ChangeFault::NoTunnel)
     }
 }
 

@@ -2,10 +2,9 @@
 ghost use Rattle.std.specs.Prelude.{◌≡◌, ◌≤◌, ℕ, is_some, true};
 ghost use Rattle.std.specs.Option.{option_map};
 ghost use Rattle.frame_view.specs.First.{fault_of};
-ghost use Rattle.underlay.specs.Overlay.{Overlay};
-ghost use Rattle.filter_db.specs.Segment.{aged_all, adjusted, flush_place_in, segment_at as table_of};
+ghost use Rattle.filter_db.specs.Segment.{aged_all, adjusted, flush_place_in};
 ghost use Rattle.overlay_config.specs.declared.change.Change.TheVariants.{SetMember, PortUp, PortDown};
-ghost use Rattle.endpoint_state.specs.Sound.{IsSound, AreReached};
+ghost use Rattle.endpoint_state.specs.Sound.{IsSound, StaysReached};
 ghost use Rattle.endpoint_state.specs.State.{state_of, fault, after_change};
 
 use crate::ChangeFault;
@@ -77,7 +76,7 @@ fn flush_everywhere<T: Tables>(tables: &mut T, place: Place, now: u64)
     requires vids { (vid : ℕ) → is_some (T.segments tables.old vid) ≡ true → (1 ≤ vid) × (vid ≤ 4094) }
     requires time { T.moment tables.old ≤ now }
     ensures after { (vid : ℕ) → aged_all now (T.segments tables.new) vid ≡ option_map (flush_place_in place) (aged_all now (T.segments tables.old) vid) }
-    ensures reached { (S : Overlay) (vid : ℕ) → AreReached S vid (table_of vid (T.segments tables.old)).entries → AreReached S vid (table_of vid (T.segments tables.new)).entries }
+    ensures reached { StaysReached (T.segments tables.old) (T.segments tables.new) }
     ensures time { T.moment tables.new ≤ now }
 {
     for number in 1..VIDS {
@@ -91,7 +90,7 @@ fn flush_everywhere<T: Tables>(tables: &mut T, place: Place, now: u64)
 fn flush_at<T: Tables>(tables: &mut T, vid: Vid, place: Place, now: u64)
     requires time { T.moment tables.old ≤ now }
     ensures after { aged_all now (T.segments tables.new) ≡ adjusted vid (flush_place_in place) (aged_all now (T.segments tables.old)) }
-    ensures reached { (S : Overlay) (vid : ℕ) → AreReached S vid (table_of vid (T.segments tables.old)).entries → AreReached S vid (table_of vid (T.segments tables.new)).entries }
+    ensures reached { StaysReached (T.segments tables.old) (T.segments tables.new) }
     ensures time { T.moment tables.new ≤ now }
 {
     if tables.has(vid) {

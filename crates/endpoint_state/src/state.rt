@@ -1,5 +1,5 @@
 //! What an endpoint holds.
-ghost use Rattle.std.specs.Prelude.{◌≡◌, ◌≤◌, ℕ, IfOk, IsSome, IsTrue, is_some, true};
+ghost use Rattle.std.specs.Prelude.{◌≡◌, ◌≤◌, ℕ, IfOk, IsSome, IsTrue, None, is_some, replicate, true};
 ghost use Rattle.std.specs.List.{list_all, sum_by};
 ghost use Rattle.frame_view.specs.First.{fault_of};
 ghost use Rattle.filter_db.specs.declared.tables.TableRule.{TableRule};
@@ -60,6 +60,8 @@ impl EndpointState {
     pub fn open(alloc: Global, settings: Settings) -> Result<EndpointState, AllocError>
         ensures state { IfOk result (λ state. (t : ℕ) → state_at t state ≡ opened settings) }
         ensures moment { IfOk result (λ state. moment_of state ≡ 0) }
+        ensures slots { let limits = sum_by (λ (rule : TableRule). rule.limit) settings.tables in
+            IfOk result (λ state. state.tables.entries ≡ replicate limits None) }
     {
         let ports = PortSet::open(alloc, settings.ports(), settings.members())?;
         let rules = settings.tables();
@@ -94,7 +96,7 @@ impl EndpointState {
         &self.parts.under
     }
 
-    /// The latest moment that its tables were asked at, in nanoseconds.
+    /// The tables' moment: that of their last call but a look-up, in nanoseconds; 0 before the first.
     pub fn moment(&self) -> u64
         ensures { result ≡ moment_of self.now }
     {

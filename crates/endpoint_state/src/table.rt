@@ -1,11 +1,9 @@
 //! Changes of a segment's table.
-ghost use Rattle.std.specs.Prelude.{◌≡◌, ◌≤◌, ℕ, IfOk, IfSome, IsSome, length, true};
+ghost use Rattle.std.specs.Prelude.{◌≡◌, ◌≤◌, ℕ, IfOk, IsSome, true};
 ghost use Rattle.frame_view.specs.First.{fault_of};
 ghost use Rattle.overlay_config.specs.declared.change.Change.TheVariants.{Fix, Unfix, SetAgeing, SetLearning, Flush};
-ghost use Rattle.endpoint_state.specs.Settings.{segment_at};
 ghost use Rattle.overlay_config.specs.declared.change.Target.TheVariants.{Remote};
-ghost use Rattle.underlay.specs.Settings.{own};
-ghost use Rattle.endpoint_state.specs.Change.{refused, in_segment, target_fault, place_of};
+ghost use Rattle.endpoint_state.specs.Change.{refused, fault_at, IsPlaceOf};
 ghost use Rattle.endpoint_state.specs.Sound.{IsSound, is_reached};
 ghost use Rattle.endpoint_state.specs.State.{settings_of, state_of, fault, after_change};
 
@@ -27,7 +25,7 @@ impl<T: Tables> Parts<T> {
     fn place_for(&self, vid: Vid, mac: Mac, target: Target) -> Result<Place, ChangeFault>
         requires sound { IsSound T.segments self.now }
         ensures fault { fault_of result ≡ refused (settings_of T.segments self.now) (Fix vid mac target) }
-        ensures place { IfOk result (λ place. IfSome (segment_at (settings_of T.segments self.now) vid) (λ s. place ≡ place_of s.tunnels target)) }
+        ensures place { IfOk result (IsPlaceOf (settings_of T.segments self.now) vid target) }
         ensures there { IfOk result (λ place. IsSome (T.segments self.now.tables vid)) }
         ensures reached { IfOk result (λ place. is_reached self.now.under vid place ≡ true) }
     {
@@ -52,8 +50,8 @@ impl<T: Tables> Parts<T> {
         tunnel: Option<Tunnel>,
     ) -> Result<Place, ChangeFault>
         requires sound { IsSound T.segments self.now }
-        ensures fault { fault_of result ≡ in_segment (segment_at (settings_of T.segments self.now) vid) (λ s. target_fault (own self.now.under.underlay) (length self.now.ports.ports) s.tunnels (Remote addr tunnel)) }
-        ensures place { IfOk result (λ place. IfSome (segment_at (settings_of T.segments self.now) vid) (λ s. place ≡ place_of s.tunnels (Remote addr tunnel))) }
+        ensures fault { fault_of result ≡ fault_at (settings_of T.segments self.now) vid (Remote addr tunnel) }
+        ensures place { IfOk result (IsPlaceOf (settings_of T.segments self.now) vid (Remote addr tunnel)) }
         ensures reached { IfOk result (λ place. is_reached self.now.under vid place ≡ true) }
     {
         let kind = self.kind_named(vid, tunnel)?;

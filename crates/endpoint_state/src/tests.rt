@@ -26,7 +26,33 @@ const ALL: u8 = 0xFF;
 /// Three ports, and segments 10 and 20 over them; with a line for the underlay and one for segment 10.
 fn opened(alloc: Global, underlay: &str, segment: &str) -> Result<EndpointState, Fail> {
     let text = format!(in alloc;
-        "version = 1\n[underlay]\nmac = \"02:00:00:00:aa:01\"\nnext_hop = \"02:00:00:00:aa:fe\"\nip4 = \"192.0.2.1\"\n{underlay}\n[[port]]\npvid = 10\n[[port]]\npvid = 10\n[[port]]\npvid = 10\n[[segment]]\nvid = 10\nvni = 5000\ntunnel = \"vxlan\"\nuntagged = [1, 2]\ntagged = [3]\nflood = [\"192.0.2.2\"]\n{segment}\n[[segment]]\nvid = 20\nvni = 6000\ntunnel = \"geneve\"\ntagged = [2, 3]\nflood = [\"192.0.2.2\"]\n"
+        r#"version = 1
+[underlay]
+mac = "02:00:00:00:aa:01"
+next_hop = "02:00:00:00:aa:fe"
+ip4 = "192.0.2.1"
+{underlay}
+[[port]]
+pvid = 10
+[[port]]
+pvid = 10
+[[port]]
+pvid = 10
+[[segment]]
+vid = 10
+vni = 5000
+tunnel = "vxlan"
+untagged = [1, 2]
+tagged = [3]
+flood = ["192.0.2.2"]
+{segment}
+[[segment]]
+vid = 20
+vni = 6000
+tunnel = "geneve"
+tagged = [2, 3]
+flood = ["192.0.2.2"]
+"#
     )?;
     let settings = settings_of(alloc, text.as_bytes())?;
     Ok(EndpointState::open(alloc, settings)?)

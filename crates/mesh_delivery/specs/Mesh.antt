@@ -59,6 +59,7 @@ pub record Left : Type 0 where
   pub by : Option Flying
   pub octets : List ℕ
 
+-- the endpoints, the packets on their way, and what left at local ports
 pub record Mesh : Type 0 where
   -- by their numbers
   pub endpoints : ℕ → State
@@ -96,6 +97,7 @@ flying_of origin S vid sent = flat_map (λ o. flying_one origin S vid o.place o.
 
 -- ---- what happens
 
+-- one thing that happens at one endpoint
 pub data Happening : Type 0 where
   -- at an endpoint and a moment, a frame at a local port, with its original length
   Comes : (endpoint t port original : ℕ) (octets : List ℕ) → Happening
@@ -143,12 +145,14 @@ delivered m endpoint t place (Some y) =
     then after_delivery m endpoint (packet_at t (length y.octets) y.octets) y (remove m.flying place) (came_by (settings_at m endpoint).overlay (length y.octets) y.octets)
     else m
 
+-- the mesh after one thing happened
 abbrev pub mesh_after : Mesh → Happening → Mesh
 mesh_after m (Comes endpoint t port original octets) =
     after_local m endpoint port (frame_at t port original octets) (came_at (settings_at m endpoint).ports port original octets)
 mesh_after m (Changes endpoint t change) = record { endpoints = with_event m endpoint (change_at t change); flying = m.flying; left = m.left; frames = m.frames }
 mesh_after m (Delivers endpoint t place) = delivered m endpoint t place (slice_get m.flying place)
 
+-- the mesh after these things happened, one after another
 abbrev pub mesh_run : Mesh → List Happening → Mesh
 mesh_run m [] = m
 mesh_run m (h ∷ hs) = mesh_run (mesh_after m h) hs

@@ -10,8 +10,25 @@ use std::test::Fail;
 const SECOND: u64 = 1_000_000_000;
 
 /// Settings of the endpoint whose address ends with OWN, which floods to FLOOD.
-const SETTINGS: &str =
-    "version = 1\n[underlay]\nmac = \"02:00:00:00:aa:0OWN\"\nnext_hop = \"02:00:00:00:aa:fe\"\nip4 = \"192.0.2.OWN\"\n[[port]]\npvid = 10\n[[port]]\npvid = 10\n[[port]]\npvid = 10\n[[segment]]\nvid = 10\nvni = 5000\ntunnel = \"vxlan\"\nuntagged = [1, 2]\ntagged = [3]\nflood = [FLOOD]\n";
+const SETTINGS: &str = r#"version = 1
+[underlay]
+mac = "02:00:00:00:aa:0OWN"
+next_hop = "02:00:00:00:aa:fe"
+ip4 = "192.0.2.OWN"
+[[port]]
+pvid = 10
+[[port]]
+pvid = 10
+[[port]]
+pvid = 10
+[[segment]]
+vid = 10
+vni = 5000
+tunnel = "vxlan"
+untagged = [1, 2]
+tagged = [3]
+flood = [FLOOD]
+"#;
 
 /// The endpoint whose address ends so, which floods to these.
 fn opened(alloc: Global, own: &str, flood: &str) -> Result<Endpoint, Fail> {

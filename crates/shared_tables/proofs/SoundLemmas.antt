@@ -44,6 +44,10 @@ kept_is es lines vid share moment h = omega (arith, h.count, (h.thread true).siz
 pub rule_is : (shares : List (Option Share)) (v : ℕ) (share : Share) → share_at shares v ≡ Some share → rule_at (map (option_map rule_of) shares) v ≡ Some (rule_of share)
 rule_is shares v share here = get_or-map (option_map rule_of) shares v None ∙ ap (option_map rule_of) here
 
+-- the share that was read in the same shares
+pub share_read : (xs ys : List (Option Share)) (v : ℕ) (o : Option Share) (share : Share) → xs ≡ ys → o ≡ share_at xs v → o ≡ Some share → share_at ys v ≡ Some share
+share_read xs ys v o share same read is = sym (read ∙ ap (λ (zs : List (Option Share)). share_at zs v) same) ∙ is
+
 -- a segment that has room counts less than its limit
 pub room_is : (es : List (Option Held)) (cs ls : List Links) (heads : List (Option ℕ)) (shares : List (Option Share)) (moment v : ℕ) (share : Share)
     → IsSound es cs ls heads shares moment → share_at shares v ≡ Some share → HasRoom (rule_at (map (option_map rule_of) shares) v) (kept_count v es) → share.count < share.limit

@@ -9,10 +9,17 @@ use Rattle.shared_tables.specs.declared.share.Share.{Share}
 use Rattle.filter_db.specs.Table.{is_young}
 use Rattle.shared_tables.specs.Pool.{entry_at, is_dead_in}
 use Rattle.shared_tables.specs.Line.{first_of, is_on, weight}
-use Rattle.shared_tables.specs.Shared.{Shared, line_key, last_at, last_in_entry, last_seen, NoneAges, IsOldest, Frees, Sweeps, KeepsOrFrees, IsOf, is_held, held_count, same_bool, Refreshes, Drops, KeepsOrDrops}
+use Rattle.shared_tables.specs.Shared.{Shared, line_key, last_at, last_in_entry, last_seen, NoneAges, IsOldest, Sweeps, KeepsOrFrees, IsOf, is_held, held_count, same_bool, Refreshes, Drops, KeepsOrDrops}
 use Rattle.shared_tables.specs.Sound.{IsLines, IsAged}
 use Rattle.shared_tables.proofs.Linked.{by_bool, equal, nat_eq_refl, first_on}
 use Rattle.shared_tables.proofs.Threaded.{in_entries}
+
+-- some dead entries of the segment have gone
+pub record Frees (old new : Shared) (vid ageing : ℕ) : Type 0 where
+  pub same : new ≡ record old { entries = new.entries; visited = new.visited }
+  pub size : length new.entries ≡ length old.entries
+  pub each : (i : ℕ) → KeepsOrFrees (entry_at old.entries i) (entry_at new.entries i) vid ageing old.moment
+  pub paid : new.visited + held_count new.entries ≡ old.visited + held_count old.entries
 
 -- no entry of a queue was seen before the first
 aged_least : (es : List (Option Held)) (is : List ℕ) (low high j : ℕ) → IsAged es low is high → is_on j is ≡ true → low ≤ last_at es j

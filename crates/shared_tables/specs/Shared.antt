@@ -111,7 +111,7 @@ pub record IsOldest (entries : List (Option Held)) (vid slot : ℕ) : Type 0 whe
   pub ages : line_key vid false (entry_at entries slot) ≡ true
   pub first : (j : ℕ) → line_key vid false (entry_at entries j) ≡ true → last_at entries slot ≤ last_at entries j
 
--- 1 for a slot that holds an entry
+-- a slot holds an entry
 abbrev pub is_held : Option Held → Bool
 is_held None = false
 is_held (Some e) = true
@@ -123,13 +123,6 @@ held_count entries = sum_by (weight is_held) entries
 -- a slot keeps its entry, or lets a dead one of the segment go
 abbrev pub KeepsOrFrees : Option Held → Option Held → ℕ → ℕ → ℕ → Type 0
 KeepsOrFrees old new vid ageing now = (new ≡ old) ⊎ ((new ≡ None) × (line_key vid false old ≡ true) × (is_dead_in old ageing now ≡ true))
-
--- some dead entries of the segment have gone
-pub record Frees (old new : Shared) (vid ageing : ℕ) : Type 0 where
-  pub same : new ≡ record old { entries = new.entries; visited = new.visited }
-  pub size : length new.entries ≡ length old.entries
-  pub each : (i : ℕ) → KeepsOrFrees (entry_at old.entries i) (entry_at new.entries i) vid ageing old.moment
-  pub paid : new.visited + held_count new.entries ≡ old.visited + held_count old.entries
 
 -- all dead entries of the segment have gone, for one visit more than have gone
 pub record Sweeps (old new : Shared) (vid ageing : ℕ) : Type 0 where

@@ -48,7 +48,7 @@ abbrev pub CountsSome : Option Share → Type 0
 CountsSome None = ⊥
 CountsSome (Some share) = 0 < share.count
 
--- the shares without an entry that had these neighbours on its line
+-- a share without an entry that had these neighbours on its line
 abbrev pub share_without : Bool → Links → Share → Share
 share_without fixed own share = record (with_line share fixed (ends_without (line_at share fixed) own)) { count = share.count - 1 }
 
@@ -80,8 +80,8 @@ pub record IsChain (entries : List (Option Held)) (chains : List Links) (bucket 
   pub list : List ℕ
   pub thread : IsThread chains entries (chain_key bucket) first (last_of list None) list
 
--- each slot is free, or on the chain of its bucket and on one line of its segment; there are as many slots as the
--- limits promise
+-- each slot is free, or on the chain of its bucket and on one line of its segment; there are at least as many slots as
+-- the limits sum to
 pub record IsSound (entries : List (Option Held)) (chains lines : List Links) (heads : List (Option ℕ)) (shares : List (Option Share)) (moment : ℕ) : Type 0 where
   pub chain_links : length chains ≡ length entries
   pub line_links : length lines ≡ length entries

@@ -16,7 +16,7 @@ is_dead rules now (Some e) = is_dead_in (Some e) (span_of (rule_at rules e.vid))
 abbrev pub dead_count : List (Option Rule) → ℕ → List (Option Held) → ℕ
 dead_count rules now entries = sum_by (weight (is_dead rules now)) entries
 
--- an address was compared with a slot's at most once for each entry that was kept in its bucket
+-- an address was compared with a slot's at most as often as entries were kept in its bucket
 abbrev pub ComparesFew : Shared → Shared → ℕ → List ℕ → Type 0
 ComparesFew old new vid mac = new.compared ≤ old.compared + bucket_count (bucket_of vid mac) old.entries
 

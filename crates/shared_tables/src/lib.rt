@@ -1,9 +1,9 @@
-//! The tables of all segments in one block of memory, with counts of the work that each call does.
+//! The tables of all segments, all entries in one array of slots, with counts of the work that each call does.
 //!
-//! [`SharedTables`] answers each call of [`filter_db::Tables`] as a list for each segment would. Its entries stand in
-//! one array of slots that is reserved when the tables are opened. Chains of slots over VID and address find an
-//! address, for each segment an age queue finds what is dead (IEEE 802.1Q, 8.8.3), and a free list finds a slot: no
-//! other call takes memory, and no segment takes a slot that another's limit promises. Contracts see how often an
+//! [`SharedTables`] answers each call of [`filter_db::Tables`] as a list for each segment would. The slots are reserved
+//! when the tables are opened. Chains of slots over VID and address find an address, for each segment an age queue
+//! finds what is dead (IEEE 802.1Q, 8.8.3), and a free list finds a slot: no other call takes memory, and no segment
+//! takes a slot that another's limit promises. Contracts see how often an
 //! address was compared with a slot's, and how often an entry's age was told.
 #![tactic(auto)]
 

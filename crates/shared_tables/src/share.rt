@@ -1,5 +1,5 @@
 //! What the pool keeps of each segment.
-ghost use Rattle.std.specs.Prelude.{◌≡◌, ℕ, ◌<◌, Some, None, Option, slice_set, vec_len};
+ghost use Rattle.std.specs.Prelude.{◌≡◌, ℕ, ◌<◌, Some, None, Option, length, slice_set, vec_len};
 ghost use Rattle.shared_tables.specs.Sound.{line_at, with_line, share_at};
 
 use crate::threads::Ends;
@@ -37,27 +37,23 @@ pub fn with_line_of(share: &Share, fixed: bool, ends: Ends, count: u32) -> Share
 {
     if fixed {
         Share {
-            limit: share.limit,
-            ageing: share.ageing,
             count,
-            queue: share.queue,
             fixed: ends,
+            ..*share
         }
     } else {
         Share {
-            limit: share.limit,
-            ageing: share.ageing,
             count,
             queue: ends,
-            fixed: share.fixed,
+            ..*share
         }
     }
 }
 
 /// The share of a VID's segment.
-pub fn share_at(shares: &Vec<Option<Share>>, vid: Vid) -> Option<Share>
-    requires { vec_len shares.now ≡ 4096 }
-    ensures { result ≡ share_at shares.now.items vid }
+pub fn share_at(shares: &[Option<Share>], vid: Vid) -> Option<Share>
+    requires { length shares.now ≡ 4096 }
+    ensures { result ≡ share_at shares.now vid }
 {
     shares[usize::from(vid.get())]
 }

@@ -203,11 +203,8 @@ impl SharedTables {
     {
         if let Some(share) = share::share_at(&self.shares, vid) {
             let other = Share {
-                limit: share.limit,
                 ageing: seconds,
-                count: share.count,
-                queue: share.queue,
-                fixed: share.fixed,
+                ..share
             };
             share::set_share(&mut self.shares, vid, other);
         }
@@ -267,9 +264,8 @@ impl SharedTables {
         requires { IsSome (rule_at self.old.rules vid) }
         ensures { DropsPlace self.old self.new vid place }
     {
-        let share = match share::share_at(&self.shares, vid) {
-            Some(share) => share,
-            None => return,
+        let Some(share) = share::share_at(&self.shares, vid) else {
+            return;
         };
         let mut cursor = share.queue.first;
         for _entry in 0..share.count {
@@ -299,12 +295,14 @@ fn keeps_no_address_beside_the_slots(rt: HostRuntime) -> Result<(), Fail> {
     }];
     let tables = SharedTables::open(rt.alloc(), &rules, 1)?;
     let SharedTables {
-        slots: _,
+        slots,
         heads,
         shares,
         moment,
-        calls: _,
+        calls,
     } = &tables;
+    let _slots: &Slots = slots;
+    let _calls: &Count = calls;
     let heads: &Vec<Option<SlotId>> = heads;
     let shares: &Vec<Option<Share>> = shares;
     let moment: &u64 = moment;
@@ -316,17 +314,24 @@ fn keeps_no_address_beside_the_slots(rt: HostRuntime) -> Result<(), Fail> {
                 limit,
                 ageing,
                 count,
-                queue: Ends { first, last: _ },
-                fixed: _,
+                queue,
+                fixed,
             },
         ) = share
         {
-            let first: &Option<SlotId> = first;
+            let limit: &u32 = limit;
+            let ageing: &u32 = ageing;
+            let count: &u32 = count;
             assert!(rt;
                 *limit == 1 && *ageing == 10 && *count == 0,
                 "the share of VID 10"
             );
-            assert!(rt; first.is_none(), "an empty queue");
+            let Ends { first, last } = queue;
+            let newest: &Option<SlotId> = last;
+            let oldest: &Option<SlotId> = first;
+            assert!(rt; oldest.is_none() && newest.is_none(), "an empty queue");
+            let fixed: &Ends = fixed;
+            assert!(rt; fixed.first.is_none(), "no fixed entries");
         }
     }
     Ok(())

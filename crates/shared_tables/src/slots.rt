@@ -107,14 +107,12 @@ fn with_links(slot: Slot, thread: Thread, links: Links) -> Slot
 {
     match thread {
         Thread::Chain => Slot {
-            entry: slot.entry,
             chain: links,
-            line: slot.line,
+            ..slot
         },
         Thread::Line => Slot {
-            entry: slot.entry,
-            chain: slot.chain,
             line: links,
+            ..slot
         },
     }
 }
@@ -283,20 +281,29 @@ fn keeps_addresses_and_moments_in_entries_alone(rt: HostRuntime) -> Result<(), F
     let Slots {
         slots,
         free,
-        compared: _,
-        visited: _,
+        compared,
+        visited,
     } = &pool;
+    let _compared: &Count = compared;
+    let _visited: &Count = visited;
     let free: &Option<SlotId> = free;
     assert!(rt; free.is_some(), "a free list");
     let slots: &Vec<Slot> = slots;
     assert_eq!(rt; slots.len(), 2);
     for Slot { entry, chain, line } in slots {
-        let Links { previous, next: _ } = chain;
-        let before: &Option<SlotId> = previous;
+        let entry: &Option<Held> = entry;
         assert!(rt; entry.is_none(), "an entry in a free slot");
-        assert!(rt; before.is_none(), "a free slot on a chain");
-        let Links { previous, next: _ } = line;
-        assert!(rt; previous.is_none(), "a free slot on a line");
+        let Links { previous, next } = chain;
+        let before: &Option<SlotId> = previous;
+        let behind: &Option<SlotId> = next;
+        assert!(rt;
+            before.is_none() && behind.is_none(),
+            "a free slot on a chain"
+        );
+        let Links { previous, next } = line;
+        let before: &Option<SlotId> = previous;
+        let _behind: &Option<SlotId> = next;
+        assert!(rt; before.is_none(), "a free slot behind another");
     }
     Ok(())
 }

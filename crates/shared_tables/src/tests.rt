@@ -1,12 +1,9 @@
-ghost use Rattle.std.specs.Prelude.{◌≤◌};
-
+//! Both bodies of the trait side by side, and two segments in one bucket.
 use crate::SharedTables;
 use crate::bucket::bucket;
 use filter_db::{Learned, ListTables, NotThere, Place, TableFull, TableRule, Tables};
 use frame_view::{Mac, Vid};
 use ip_udp_view::{Addr, Tunnel};
-use std::alloc::Global;
-use std::process::Abort;
 use std::test::Fail;
 
 const SECOND: u64 = 1_000_000_000;
@@ -78,170 +75,43 @@ fn call_on<T: Tables>(tables: &mut T, vid: Vid, now: u64, call: Call) -> Answer 
     }
 }
 
-/// Opens tables with this limit and ageing for VID 9 and VID 10, and calls them: a VID, a moment, a call and its
-/// answer each.
-fn run(
-    rt: &impl Abort,
-    alloc: Global,
-    name: &str,
-    limit: u16,
-    ageing: u32,
-    calls: &[(u16, u64, Call, Answer)],
-) -> Result<(), Fail>
-    requires limit { (1 ≤ limit) × (limit ≤ 8192) }
-    requires ageing { (10 ≤ ageing) × (ageing ≤ 1000000) }
-{
-    let nine = Vid::new(9).ok_or("VID 9")?;
-    let ten = Vid::new(10).ok_or("VID 10")?;
-    let rules = [
-        TableRule {
-            vid: nine,
-            limit,
-            ageing,
-        },
-        TableRule {
-            vid: ten,
-            limit,
-            ageing,
-        },
-    ];
-    let mut tables = SharedTables::open(alloc, &rules, 2 * u32::from(limit))?;
-    for (number, (vid, now, call, wanted)) in calls.iter().enumerate() {
-        let vid = if *vid == 9 { nine } else { ten };
-        let given = call_on(&mut tables, vid, *now, *call);
-        assert!(rt; given == *wanted, "{name}, call {number}");
-    }
-    Ok(())
-}
-
-#[test]
-fn forgets_at_the_ageing(rt: HostRuntime) -> Result<(), Fail> {
-    let long = [
-        (10, 0, Call::Learn(1, PORT_1), Answer::Learned(Learned::New)),
-        (
-            10,
-            299_999_999_999,
-            Call::Look(1),
-            Answer::Stands(Some(PORT_1)),
-        ),
-        (10, 300 * SECOND, Call::Look(1), Answer::Stands(None)),
-        (10, 299_999_999_999, Call::Live, Answer::Count(1)),
-        (10, 300 * SECOND, Call::Live, Answer::Count(0)),
-    ];
-    run(&rt, rt.alloc(), "ageing 300", 8, 300, &long)?;
-    let short = [
-        (10, 0, Call::Learn(2, PORT_2), Answer::Learned(Learned::New)),
-        (
-            10,
-            9_999_999_999,
-            Call::Look(2),
-            Answer::Stands(Some(PORT_2)),
-        ),
-        (10, 10 * SECOND, Call::Look(2), Answer::Stands(None)),
-        (
-            10,
-            5 * SECOND,
-            Call::Learn(2, PORT_2),
-            Answer::Learned(Learned::Refreshed),
-        ),
-        (
-            10,
-            14_999_999_999,
-            Call::Look(2),
-            Answer::Stands(Some(PORT_2)),
-        ),
-        (
-            10,
-            15 * SECOND,
-            Call::Learn(2, PORT_1),
-            Answer::Learned(Learned::New),
-        ),
-    ];
-    run(&rt, rt.alloc(), "ageing 10", 8, 10, &short)?;
-    let raised = [
-        (10, 0, Call::Learn(2, PORT_2), Answer::Learned(Learned::New)),
-        (
-            10,
-            15 * SECOND,
-            Call::Learn(3, PORT_2),
-            Answer::Learned(Learned::New),
-        ),
-        (10, 20 * SECOND, Call::SetAgeing(300), Answer::Done),
-        (10, 20 * SECOND, Call::Look(2), Answer::Stands(None)),
-        (10, 20 * SECOND, Call::Live, Answer::Count(1)),
-        (
-            10,
-            314 * SECOND,
-            Call::Look(3),
-            Answer::Stands(Some(PORT_2)),
-        ),
-        (10, 314 * SECOND, Call::SetAgeing(10), Answer::Done),
-        (10, 314 * SECOND, Call::Live, Answer::Count(0)),
-    ];
-    run(&rt, rt.alloc(), "ageing raised", 8, 10, &raised)
-}
-
-#[test]
-fn keeps_to_its_limit(rt: HostRuntime) -> Result<(), Fail> {
-    let two = [
-        (10, 0, Call::Learn(1, PORT_1), Answer::Learned(Learned::New)),
-        (
-            10,
-            SECOND,
-            Call::Learn(2, PORT_1),
-            Answer::Learned(Learned::New),
-        ),
-        (
-            10,
-            2 * SECOND,
-            Call::Learn(3, PORT_2),
-            Answer::Learned(Learned::Full),
-        ),
-        (
-            10,
-            2 * SECOND,
-            Call::Fix(3, PORT_2),
-            Answer::Fixed(Err(TableFull)),
-        ),
-        (10, 2 * SECOND, Call::Look(3), Answer::Stands(None)),
-        (
-            10,
-            3 * SECOND,
-            Call::Learn(2, PORT_1),
-            Answer::Learned(Learned::Refreshed),
-        ),
-        (
-            10,
-            10 * SECOND,
-            Call::Learn(3, PORT_2),
-            Answer::Learned(Learned::New),
-        ),
-        (10, 10 * SECOND, Call::Look(1), Answer::Stands(None)),
-        (10, 10 * SECOND, Call::Fix(2, PORT_1), Answer::Fixed(Ok(()))),
-        (10, 20 * SECOND, Call::Live, Answer::Count(1)),
-    ];
-    run(&rt, rt.alloc(), "limit 2", 2, 10, &two)
-}
-
 #[test]
 fn two_segments_share_a_bucket(rt: HostRuntime) -> Result<(), Fail> {
     let nine = Vid::new(9).ok_or("VID 9")?;
     let ten = Vid::new(10).ok_or("VID 10")?;
     assert_eq!(rt; bucket(ten, mac(1)), 523);
     assert_eq!(rt; bucket(nine, mac(2)), 523);
-    let calls = [
-        (10, 5, Call::Learn(1, PORT_1), Answer::Learned(Learned::New)),
-        (9, 5, Call::Learn(2, PORT_1), Answer::Learned(Learned::New)),
-        (9, 5, Call::Learn(1, PORT_1), Answer::Learned(Learned::Full)),
+    let rules = [
+        TableRule {
+            vid: nine,
+            limit: 1,
+            ageing: 10,
+        },
+        TableRule {
+            vid: ten,
+            limit: 1,
+            ageing: 10,
+        },
+    ];
+    let mut tables = SharedTables::open(rt.alloc(), &rules, 2)?;
+    for (number, (vid, call, wanted)) in [
+        (ten, Call::Learn(1, PORT_1), Answer::Learned(Learned::New)),
+        (nine, Call::Learn(2, PORT_1), Answer::Learned(Learned::New)),
+        (nine, Call::Learn(1, PORT_1), Answer::Learned(Learned::Full)),
         (
-            10,
-            5,
+            ten,
             Call::Learn(1, PORT_1),
             Answer::Learned(Learned::Refreshed),
         ),
-        (9, 5, Call::Look(1), Answer::Stands(None)),
-    ];
-    run(&rt, rt.alloc(), "two segments in one bucket", 1, 10, &calls)
+        (nine, Call::Look(1), Answer::Stands(None)),
+    ]
+    .iter()
+    .enumerate()
+    {
+        let given = call_on(&mut tables, *vid, 5, *call);
+        assert!(rt; given == *wanted, "call {number}");
+    }
+    Ok(())
 }
 
 /// The next number of a linear congruential sequence.
@@ -304,7 +174,7 @@ fn answers_as_a_list_for_each_segment(rt: HostRuntime) -> Result<(), Fail> {
         let vid = if (number >> 5) % 2 == 0 { nine } else { ten };
         let wanted = call_on(&mut lists, vid, now, call_of(number));
         let given = call_on(&mut shared, vid, now, call_of(number));
-        assert!(rt; given == wanted, "call {call}");
+        assert!(rt; wanted != Answer::Out && given == wanted, "call {call}");
     }
     Ok(())
 }

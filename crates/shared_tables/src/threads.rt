@@ -131,9 +131,9 @@ pub fn unchain(slots: &mut Slots, heads: &mut Vec<Option<SlotId>>, bucket: usize
 }
 
 /// The first slot of a chain.
-pub fn head(heads: &Vec<Option<SlotId>>, bucket: usize) -> Option<SlotId>
-    requires { bucket < vec_len heads.now }
-    ensures { result ≡ slice_index_or heads.now.items bucket None }
+pub fn head(heads: &[Option<SlotId>], bucket: usize) -> Option<SlotId>
+    requires { bucket < length heads.now }
+    ensures { result ≡ slice_index_or heads.now bucket None }
 {
     heads[bucket]
 }

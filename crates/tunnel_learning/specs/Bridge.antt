@@ -22,6 +22,7 @@ use Rattle.filter_db.specs.Table.{Table, stands}
 use Rattle.filter_db.specs.Segment.{Segments, adjusted, aged_all, learn_in}
 use Rattle.tunnel_learning.specs.declared.bridge.Bridge.{Bridge}
 
+-- what the bridge of a segment goes by
 pub record Config : Type 0 where
   -- whether port 1, port 2 and so on are up
   pub up : List Bool
@@ -33,6 +34,7 @@ pub record Config : Type 0 where
   -- the horizon groups of its VXLAN and of its Geneve tunnel
   pub groups : ℕ × ℕ
 
+-- the configuration that a value tells; a segment without members has none
 abbrev pub config_of : Bridge → Config
 config_of b = record {
   up = map (λ port. port.up) b.ports.now.ports;
@@ -97,6 +99,7 @@ local_places c from = filter (is_local_outlet c from) (map Local (range_with_len
 abbrev pub is_remote_outlet : Config → Place → Place → Bool
 is_remote_outlet c from to = not (in_one_group c from to)
 
+-- the place of a remote that is flooded to
 abbrev pub place_of : Target → Place
 place_of target = Remote target.tunnel target.addr
 
@@ -104,6 +107,7 @@ place_of target = Remote target.tunnel target.addr
 abbrev pub remote_places : Config → Place → List Place
 remote_places c from = filter (is_remote_outlet c from) (map place_of c.flood)
 
+-- these places, or NoOutlet where there are none
 abbrev pub or_no_outlet : List Place → Result (List Place) Reason
 or_no_outlet [] = Err NoOutlet
 or_no_outlet (to ∷ places) = Ok (to ∷ places)
@@ -112,6 +116,7 @@ or_no_outlet (to ∷ places) = Ok (to ∷ places)
 abbrev pub everywhere : Config → Place → Result (List Place) Reason
 everywhere c from = or_no_outlet (local_places c from ++ remote_places c from)
 
+-- to where the destination stands, or everywhere else where that isn't known
 abbrev pub toward : Config → Place → Option Place → Result (List Place) Reason
 toward c from None = everywhere c from
 toward c from (Some to) = to_place c from to

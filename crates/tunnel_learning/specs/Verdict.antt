@@ -5,6 +5,7 @@ use Rattle.filter_db.specs.declared.place.Place.{Place}
 use Rattle.tunnel_learning.specs.declared.verdict.Verdict.{Verdict}
 use Rattle.tunnel_learning.specs.declared.verdict.Verdict.TheVariants.{Outlets, Dropped}
 
+-- the places that a frame leaves by, in order, or the reason why there are none
 abbrev pub seen : Verdict → Result (List Place) Reason
 seen (Outlets places) = Ok places.items
 seen (Dropped reason) = Err reason

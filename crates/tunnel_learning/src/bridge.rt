@@ -11,12 +11,15 @@ use vlan_ports::PortSet;
 /// The configuration of one segment's bridge.
 #[derive(Clone, Copy)]
 pub struct Bridge<'s> {
+    /// The segment.
     pub vid: Vid,
     /// Whether sources are learned.
     pub learning: bool,
     /// The horizon groups of the segment's VXLAN and Geneve tunnel, 0 for a kind that it lacks.
     pub groups: [u8; 2],
+    /// The local ports, and the members of each segment.
     pub ports: &'s PortSet,
+    /// The remotes that the segment floods to, in order.
     pub flood: &'s FloodList,
 }
 

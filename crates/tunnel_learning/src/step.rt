@@ -12,6 +12,7 @@ use frame_view::{BridgeFrame, Reason};
 
 /// A frame came from a place at a moment: learns where its source stands, where the segment learns (IEEE 802.1Q, 8.7),
 /// and then answers where it goes (8.6 and 8.8, with split horizon among the remotes of a group).
+/// `now` is in nanoseconds and isn't before the tables' own; the segment has a table.
 pub fn bridge_step<T: Tables>(
     tables: &mut T,
     bridge: &Bridge,

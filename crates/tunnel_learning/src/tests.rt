@@ -47,7 +47,7 @@ fn three_ports(alloc: Global) -> Result<PortSet, Fail>
     Ok(PortSet::open(alloc, &[port, port, port], &[members])?)
 }
 
-/// A table of segment 10 with this ageing in seconds.
+/// An empty table of segment 10: 256 entries, live for 300 seconds.
 fn one_table(alloc: Global) -> Result<ListTables, Fail> {
     let rule = TableRule {
         vid: vid()?,

@@ -3,6 +3,9 @@
 //! A [`Count`] is a number that contracts see and no octet keeps, so it has no upper end and costs nothing when a
 //! program runs. A type that holds one as a private field says by it how often some step was taken: the one method
 //! that takes the step ticks it, and each other one's contract says that the count stays.
+//!
+//! Its two proofs are written by hand, since only such a proof can change a count. No other function of the
+//! repository has one, which a script in `tests/` checks.
 #![tactic(auto)]
 
 ghost use Rattle.std.specs.Prelude.{◌≡◌, ℕ, ◌+◌};

@@ -6,14 +6,15 @@ use Rattle.shared_tables.specs.Shared.{Shared, DropsAll}
 use Rattle.shared_tables.specs.SharedInside.{shared_of}
 use Rattle.shared_tables.proofs.Dropping.{drop_chain_previous, drop_chain_next, drop_line_previous, drop_line_next, drop_counted}
 use Rattle.shared_tables.proofs.Passing.{Passes, seen_there, pass_starts, pass_held, pass_stays, pass_keep, pass_drop, pass_none, pass_ends, stands_is}
+use Rattle.shared_tables.proofs.SoundLemmas.{share_read}
 use Rattle.shared_tables.proofs.shared_tables.SharedTables.drop_place.Goals as goal
-use Rattle.shared_tables.proofs.shared_tables.SharedTables.drop_place.Goals.{in-Some-cursor+then-is_same, in-Some-cursor+else-is_same, in_default}
+use Rattle.shared_tables.proofs.shared_tables.SharedTables.drop_place.Goals.{in-Some-cursor+then-is_same, in-Some-cursor+else-is_same, in_default-cursor}
 
 pub loop-entry-init : goal.loop-entry-init
 loop-entry-init c =
     let i = c.self.inside in
     record {
-      passes = pass_starts i.slots i.heads.items i.shares.items i.moment c.args.vid c.args.place c.in-Some.share c.self.invariant (sym c.share_at.ensures ∙ c.in-Some.is);
+      passes = pass_starts i.slots i.heads.items i.shares.items i.moment c.args.vid c.args.place c.in-Some.share c.self.invariant (share_read _ _ c.args.vid c.share_at.result c.in-Some.share c.deref.ensures.value c.share_at.ensures c.in-Some.is);
       moment = refl;
       calls = refl;
     }
@@ -98,11 +99,11 @@ loop-entry-preserved c = elim c.match-cursor.branch [
         moment = ap (λ (i : Inside). i.moment) w.self-inside-is ∙ c.loop-entry.invariant.moment;
         calls = ap (λ (i : Inside). i.calls.total) w.self-inside-is ∙ c.loop-entry.invariant.calls;
       }
-  | in_default w ↦
+  | in_default-cursor w ↦
       let now = c.loop-entry.self-inside in let count = c.in-Some.share.count in
-      let p = subst (λ (o : Option ℕ). Passes c.self.inside.slots now.slots now.heads.items c.self.inside.shares.items now.shares.items now.moment c.args.vid c.args.place o c.loop-entry._entry count) w.in_default.is c.loop-entry.invariant.passes in
+      let p = subst (λ (o : Option ℕ). Passes c.self.inside.slots now.slots now.heads.items c.self.inside.shares.items now.shares.items now.moment c.args.vid c.args.place o c.loop-entry._entry count) w.in_default-cursor.is c.loop-entry.invariant.passes in
       record {
-        passes = subst (λ (o : Option ℕ). Passes c.self.inside.slots c.match-cursor.self-inside.slots c.match-cursor.self-inside.heads.items c.self.inside.shares.items c.match-cursor.self-inside.shares.items c.match-cursor.self-inside.moment c.args.vid c.args.place o (c.loop-entry._entry + 1) c.in-Some.share.count) (sym (w.cursor-is ∙ w.in_default.is))
+        passes = subst (λ (o : Option ℕ). Passes c.self.inside.slots c.match-cursor.self-inside.slots c.match-cursor.self-inside.heads.items c.self.inside.shares.items c.match-cursor.self-inside.shares.items c.match-cursor.self-inside.moment c.args.vid c.args.place o (c.loop-entry._entry + 1) c.in-Some.share.count) (sym (w.cursor-is ∙ w.in_default-cursor.is))
             (subst (λ (i : Inside). Passes c.self.inside.slots i.slots i.heads.items c.self.inside.shares.items i.shares.items i.moment c.args.vid c.args.place None (c.loop-entry._entry + 1) c.in-Some.share.count) (sym w.self-inside-is)
             (pass_none c.self.inside.slots now.slots now.heads.items c.self.inside.shares.items now.shares.items now.moment c.args.vid c.args.place c.loop-entry._entry count c.loop-entry-test.true p));
         moment = ap (λ (i : Inside). i.moment) w.self-inside-is ∙ c.loop-entry.invariant.moment;

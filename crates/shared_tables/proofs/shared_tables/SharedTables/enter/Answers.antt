@@ -7,14 +7,14 @@ use Rattle.shared_tables.specs.Pool.{Pool, entry_at, alone}
 use Rattle.shared_tables.specs.Threads.{HoldsAny, pushed_back, pushed_front, ends_with}
 use Rattle.shared_tables.specs.Shared.{Shared, HasRoom, rule_at, kept_count, Lacks, IsNow, chain_key, line_key}
 use Rattle.shared_tables.specs.Sound.{share_at, rule_of, line_at, with_line, head_at}
-use Rattle.shared_tables.proofs.SoundLemmas.{none_is, room_is, holds_first, holds_last, holds_more, sound_at, same_shared, rules_stay, rule_of-with_line}
+use Rattle.shared_tables.proofs.SoundLemmas.{none_is, room_is, holds_first, holds_last, holds_more, sound_at, same_shared, rules_stay, rule_of-with_line, share_read}
 use Rattle.shared_tables.proofs.Entering.{enter_free, enter_sound}
 use Rattle.shared_tables.proofs.shared_tables.SharedTables.enter.Goals as goal
 
 pub take-slot-requires : goal.take-slot-requires
 take-slot-requires c =
     let i = c.self.inside in
-    let here : share_at i.shares.items c.args.vid ≡ Some c.in-Some.share = sym c.share_at.ensures ∙ c.in-Some.is in
+    let here : share_at i.shares.items c.args.vid ≡ Some c.in-Some.share = share_read _ _ c.args.vid c.share_at.result c.in-Some.share c.deref.ensures.value c.share_at.ensures c.in-Some.is in
     enter_free i.slots.entries i.slots.chains i.slots.lines i.heads.items i.shares.items i.moment c.args.vid c.in-Some.share c.self.invariant here
     (room_is i.slots.entries i.slots.chains i.slots.lines i.heads.items i.shares.items i.moment c.args.vid c.in-Some.share c.self.invariant here
     (subst (λ (s : Shared). HasRoom (rule_at s.rules c.args.vid) (kept_count c.args.vid s.entries)) (sym c.self.view_is) c.requires.room))
@@ -30,7 +30,7 @@ enchain-requires-clause-first c =
 pub push_back-ends-requires-clause-last : goal.push_back-ends-requires-clause-last
 push_back-ends-requires-clause-last c =
     let i = c.self.inside in
-    let here : share_at i.shares.items c.args.vid ≡ Some c.in-Some.share = sym c.share_at.ensures ∙ c.in-Some.is in
+    let here : share_at i.shares.items c.args.vid ≡ Some c.in-Some.share = share_read _ _ c.args.vid c.share_at.result c.in-Some.share c.deref.ensures.value c.share_at.ensures c.in-Some.is in
     let fixed = c.is_none-fixed.result in
     let lines = c.self.invariant.lined c.args.vid c.in-Some.share here in
     subst (λ es. HoldsAny es c.line_of-line.result.last) (sym (ap (λ (p : Pool). p.entries) c.enchain.ensures.pool ∙ ap (λ (p : Pool). p.entries) c.take-slot.ensures.pool))
@@ -41,7 +41,7 @@ push_back-ends-requires-clause-last c =
 pub overflow_add-share : goal.overflow_add-share
 overflow_add-share c =
     let i = c.self.inside in
-    let here : share_at i.shares.items c.args.vid ≡ Some c.in-Some.share = sym c.share_at.ensures ∙ c.in-Some.is in
+    let here : share_at i.shares.items c.args.vid ≡ Some c.in-Some.share = share_read _ _ c.args.vid c.share_at.result c.in-Some.share c.deref.ensures.value c.share_at.ensures c.in-Some.is in
     let below : c.in-Some.share.count < c.in-Some.share.limit = room_is i.slots.entries i.slots.chains i.slots.lines i.heads.items i.shares.items i.moment c.args.vid c.in-Some.share c.self.invariant here
     (subst (λ (s : Shared). HasRoom (rule_at s.rules c.args.vid) (kept_count c.args.vid s.entries)) (sym c.self.view_is) c.requires.room) in
     search rules
@@ -49,7 +49,7 @@ overflow_add-share c =
 pub invariant_of-self : goal.invariant_of-self
 invariant_of-self c =
     let i = c.self.inside in
-    let here : share_at i.shares.items c.args.vid ≡ Some c.in-Some.share = sym c.share_at.ensures ∙ c.in-Some.is in
+    let here : share_at i.shares.items c.args.vid ≡ Some c.in-Some.share = share_read _ _ c.args.vid c.share_at.result c.in-Some.share c.deref.ensures.value c.share_at.ensures c.in-Some.is in
     let share = c.in-Some.share in
     let below : share.count < share.limit = room_is i.slots.entries i.slots.chains i.slots.lines i.heads.items i.shares.items i.moment c.args.vid share c.self.invariant here
     (subst (λ (s : Shared). HasRoom (rule_at s.rules c.args.vid) (kept_count c.args.vid s.entries)) (sym c.self.view_is) c.requires.room) in
@@ -77,7 +77,7 @@ invariant_of-self c =
 pub returns : goal.returns
 returns c =
     let i = c.self.inside in
-    let here : share_at i.shares.items c.args.vid ≡ Some c.in-Some.share = sym c.share_at.ensures ∙ c.in-Some.is in
+    let here : share_at i.shares.items c.args.vid ≡ Some c.in-Some.share = share_read _ _ c.args.vid c.share_at.result c.in-Some.share c.deref.ensures.value c.share_at.ensures c.in-Some.is in
     let share = c.in-Some.share in
     let e : Held = record { vid = c.args.vid; mac = c.args.mac; place = c.args.place; last = c.args.last } in
     let s = c.take-slot.result in

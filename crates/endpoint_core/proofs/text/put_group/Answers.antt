@@ -1,0 +1,23 @@
+use Rattle.std.proofs.Common.{◌≡◌, ◌∙◌, List, [], ℕ, false, Option, Some, ap, sym, subst, append_assoc}
+use Rattle.std.proofs.lemmas.Fmt.{hex_byte}
+use Rattle.std.specs.Fmt.{◌++?◌, AppendsText, format_spec, padded_integral, styled_digits_output}
+use Rattle.std.specs.Option.{option_map}
+use Rattle.std.specs.Result.{OnOk}
+use Rattle.std.specs.String.{string_bytes}
+use Rattle.endpoint_core.specs.Text.{hex_octet}
+use Rattle.endpoint_core.proofs.text.put_group.Goals as goal
+
+-- what is printed of an octet
+abbrev printed : List ℕ → List ℕ
+printed digits = padded_integral (format_spec 32 0 4 2 18446744073709551615) false [] digits
+
+pub returns : goal.returns
+returns c =
+    let old = string_bytes c.args.text.now in let new = string_bytes c.write.new.self in
+    let first : styled_digits_output c.in_radix.result c.laid_out.result ≡ Some (hex_octet c.args.a) =
+    ap (λ s. styled_digits_output c.in_radix.result s) c.laid_out.ensures ∙ ap (option_map printed) c.in_radix.ensures ∙ ap Some (hex_byte false c.args.a c.ranges.a.fits) in
+    let second : styled_digits_output c.in_radix-2.result c.laid_out-2.result ≡ Some (hex_octet c.args.b) =
+    ap (λ s. styled_digits_output c.in_radix-2.result s) c.laid_out-2.ensures ∙ ap (option_map printed) c.in_radix-2.ensures ∙ ap Some (hex_byte false c.args.b c.ranges.b.fits) in
+    let both = ap (λ (o : Option (List ℕ)). o ++? styled_digits_output c.in_radix-2.result c.laid_out-2.result) first ∙ ap (λ (o : Option (List ℕ)). Some (hex_octet c.args.a) ++? o) second in
+    subst (λ (t : List ℕ). OnOk c.write.result (new ≡ t)) (sym (append_assoc old (hex_octet c.args.a) (hex_octet c.args.b)))
+    (subst (λ (o : Option (List ℕ)). OnOk c.write.result (AppendsText old new o)) both c.write.ensures.bytes)

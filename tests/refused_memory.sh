@@ -46,9 +46,9 @@ cat >"$program/src/calls.rt" <<'TEXT'
 //! The calls, by their names.
 use crate::settings::endpoint;
 use crate::transcript::Transcript;
-use capture_run::{Outputs, RunFault};
+use capture_run::RunFault;
 use dissector::{TextFault, check_text, explain_bytes, read_text, sample};
-use endpoint_core::{Decision, Endpoint, result_text};
+use endpoint_core::{Endpoint, result_text};
 use filter_db::{ListTables, TableRule};
 use frame_view::Vid;
 use overlay_config::{Settings, settings_of};

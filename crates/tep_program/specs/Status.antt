@@ -1,6 +1,7 @@
 -- The program's exit statuses.
 use Rattle.std.specs.Prelude.{◌≡◌, ◌≢◌, ◌⊎◌, ℕ, List, None, []}
-use Rattle.clap.specs.Words.{Text, fault_of}
+use Rattle.clap.specs.Words.{IsAmong, Text, fault_of}
+use Rattle.clap.specs.declared.error.kind.ErrorKind.TheVariants.{DisplayHelp, DisplayVersion}
 use Rattle.command_line.specs.App.{tep_app}
 use Rattle.command_line.specs.Meaning.{words_meant}
 use Rattle.dissector.specs.Status as run
@@ -17,9 +18,15 @@ status_of (stop.Write output) = 3
 abbrev pub AreRefused : List Text → Type 0
 AreRefused words = (fault_of tep_app words ≢ []) ⊎ (words_meant words ≡ None)
 
--- 0 or 3 as it comes; 1 only for words that are taken, 2 only for words that aren't
+-- words that ask for help or for the version, which `clap` tells as a fault
+abbrev pub AskForText : List Text → Type 0
+AskForText words = IsAmong DisplayHelp (fault_of tep_app words) ⊎ IsAmong DisplayVersion (fault_of tep_app words)
+
+-- 0 only for words that are taken or that ask for help or for the version, 1 only for words that are taken, 2 only for
+-- words that aren't; 3 as it comes
 abbrev pub IsStatusOf : List Text → ℕ → Type 0
 IsStatusOf words status =
-    (status ≡ 0) ⊎ (status ≡ 3)
+    ((status ≡ 0) × ((fault_of tep_app words ≡ []) ⊎ AskForText words))
+    ⊎ (status ≡ 3)
     ⊎ ((status ≡ 1) × (fault_of tep_app words ≡ []))
     ⊎ ((status ≡ 2) × AreRefused words)

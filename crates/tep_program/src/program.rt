@@ -7,6 +7,7 @@ ghost use Rattle.tep_program.specs.Status.{IsStatusOf, status_of};
 use crate::files::{read_file, read_files, read_if_given, write_outputs};
 use crate::stop::{Output, Stop};
 use capture_run::{RunFault, run_bytes};
+use clap::error::ErrorKind as Refusal;
 use dissector::{Line, LineFault, check_text, explain_bytes, line_of, sample};
 use std::alloc::{AllocError, Global};
 use std::env;
@@ -54,12 +55,12 @@ pub fn run<'a, R: Files + AllocGlobal + Print + Eprint>(rt: &R, words: &'a [&'a 
         Err(LineFault::NoValue) => words_refused(rt),
         Err(LineFault::Refused(error)) => {
             let printed = error.print(rt);
-            if error.use_stderr() {
-                WORDS_REFUSED
-            } else if printed.is_err() {
-                stopped(rt, &Stop::Write(Output::Stdout))
-            } else {
-                0
+            match error.kind() {
+                Refusal::DisplayHelp | Refusal::DisplayVersion if printed.is_ok() => 0,
+                Refusal::DisplayHelp | Refusal::DisplayVersion => {
+                    stopped(rt, &Stop::Write(Output::Stdout))
+                }
+                _ => WORDS_REFUSED,
             }
         }
     }

@@ -13,7 +13,7 @@ use Rattle.flood_lists.specs.Flood.{own_of}
 use Rattle.underlay.specs.declared.settings.Underlay.{Underlay}
 use Rattle.underlay.specs.Overlay.{Overlay, segment_at, tunnel_at, drops_tags}
 use Rattle.underlay.specs.Settings.{own, port_of}
-use Rattle.encapsulate.specs.Emission.{Parts, text}
+use Rattle.encapsulate.specs.Emission.{Parts, text, around}
 use Rattle.encapsulate.specs.Flow.{source_port}
 use Rattle.encapsulate.specs.Packet.{tunnelled, packet}
 
@@ -58,3 +58,8 @@ sending S vid kind a f = elim (admits S vid a f) [ Some reason ↦ Err reason | 
 abbrev pub texts : Result Parts Reason → Result (List ℕ) Reason
 texts (Ok e) = Ok (text e)
 texts (Err reason) = Err reason
+
+-- the frame behind a head that was written, where it was
+abbrev pub text_behind : {A : Type 0} → List ℕ → Frame → Result A Reason → Result (List ℕ) Reason
+text_behind head f (Ok _) = Ok (text (around head [] f))
+text_behind head f (Err reason) = Err reason

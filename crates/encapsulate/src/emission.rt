@@ -12,7 +12,7 @@ use std::marker::Model;
 use vlan_ports::Egress;
 
 /// The headers in front of a frame, of at most 70 octets: an Ethernet, an IPv6, a UDP and a tunnel header.
-pub(crate) type Head = ArrayVec<u8, 70>;
+pub type Head = ArrayVec<u8, 70>;
 
 /// The octets that leave at one outlet, in four parts, seen by contracts as these parts. Only the head and the tag are
 /// its own; the addresses and the body are slices of the frame.
@@ -121,7 +121,12 @@ fn put(out: &mut Vec<u8>, octets: &[u8])
 }
 
 /// Four slices as one array, where each may live longer than the array.
-fn four<'b>(first: &'b [u8], second: &'b [u8], third: &'b [u8], fourth: &'b [u8]) -> [&'b [u8]; 4]
+pub(crate) fn four<'b>(
+    first: &'b [u8],
+    second: &'b [u8],
+    third: &'b [u8],
+    fourth: &'b [u8],
+) -> [&'b [u8]; 4]
     ensures { map (λ part. part.now) result ≡ first.now ∷ second.now ∷ third.now ∷ fourth.now ∷ [] }
 {
     [first, second, third, fourth]
@@ -146,7 +151,7 @@ pub fn local<'a>(vid: Vid, egress: Egress, frame: &BridgeFrame<'a>) -> Emission<
 }
 
 /// The tag of a frame in a segment (IEEE 802.1Q, 9.6).
-fn tag_of(vid: Vid, frame: &BridgeFrame) -> [u8; 4]
+pub(crate) fn tag_of(vid: Vid, frame: &BridgeFrame) -> [u8; 4]
     ensures { result ≡ local_tag vid Tagged frame.now }
 {
     let tci = u16::from(frame.pcp) * 8192 + u16::from(frame.dei) * 4096 + vid.get();

@@ -23,48 +23,46 @@ const DF: u8 = 0x40;
 const IP6_FIRST: u8 = 0x60;
 
 /// The headers of the packet with this datagram, from the own address of the family to an address.
-pub(crate) fn outer_head(underlay: &Underlay, addr: Addr, datagram: &Datagram) -> Head
+pub(crate) fn outer_head(underlay: &Underlay, addr: Addr, datagram: &Datagram, head: &mut Head)
     requires family { IsTrue (has_family (own underlay.now) addr) }
     requires fits { 48 + length datagram.now.body ≤ 65535 }
     ensures { let l = datagram.now in
-        result.items ++ (l.addresses ++ l.body)
+        head.new.items ++ (l.addresses ++ l.body)
         ≡ option_map_or (λ src. packet underlay.now src addr l.sport l.dport (data_of l)) (own_of (own underlay.now) addr) [] }
 {
     match addr {
-        Addr::V4(dst) => head4(underlay, underlay.ip4.unwrap(), dst, datagram),
-        Addr::V6(dst) => head6(underlay, underlay.ip6.unwrap(), dst, datagram),
+        Addr::V4(dst) => head4(underlay, underlay.ip4.unwrap(), dst, datagram, head),
+        Addr::V6(dst) => head6(underlay, underlay.ip6.unwrap(), dst, datagram, head),
     }
 }
 
 /// The headers of the IPv4 packet with this datagram, from an own address.
-fn head4(underlay: &Underlay, src: [u8; 4], dst: [u8; 4], datagram: &Datagram) -> Head
+fn head4(underlay: &Underlay, src: [u8; 4], dst: [u8; 4], datagram: &Datagram, head: &mut Head)
     requires { 48 + length datagram.now.body ≤ 65535 }
     ensures { let l = datagram.now in
-        result.items ++ (l.addresses ++ l.body) ≡ packet underlay.now src (V4 dst) l.sport l.dport (data_of l) }
+        head.new.items ++ (l.addresses ++ l.body) ≡ packet underlay.now src (V4 dst) l.sport l.dport (data_of l) }
 {
     let sum = datagram.sum4(underlay.sum4, src, dst);
-    let mut head = Head::new();
-    put_link(&mut head, underlay, Addr::V4(dst), IP4);
+    head.clear();
+    put_link(head, underlay, Addr::V4(dst), IP4);
     put(
-        &mut head,
+        head,
         &ip4_head(underlay.ttl, src, dst, 20 + datagram.len() as u16),
     );
-    put(&mut head, &datagram.head(sum));
-    head
+    put(head, &datagram.head(sum));
 }
 
 /// The headers of the IPv6 packet with this datagram, from an own address.
-fn head6(underlay: &Underlay, src: [u8; 16], dst: [u8; 16], datagram: &Datagram) -> Head
+fn head6(underlay: &Underlay, src: [u8; 16], dst: [u8; 16], datagram: &Datagram, head: &mut Head)
     requires { 28 + length datagram.now.body ≤ 65535 }
     ensures { let l = datagram.now in
-        result.items ++ (l.addresses ++ l.body) ≡ packet underlay.now src (V6 dst) l.sport l.dport (data_of l) }
+        head.new.items ++ (l.addresses ++ l.body) ≡ packet underlay.now src (V6 dst) l.sport l.dport (data_of l) }
 {
     let sum = datagram.sum6(underlay.sum6, src, dst);
-    let mut head = Head::new();
-    put_link(&mut head, underlay, Addr::V6(dst), IP6);
-    put_ip6(&mut head, underlay.ttl, src, dst, datagram.len() as u16);
-    put(&mut head, &datagram.head(sum));
-    head
+    head.clear();
+    put_link(head, underlay, Addr::V6(dst), IP6);
+    put_ip6(head, underlay.ttl, src, dst, datagram.len() as u16);
+    put(head, &datagram.head(sum));
 }
 
 /// Puts the MAC addresses and the type of a packet to an address.

@@ -11,14 +11,16 @@ mod emission;
 mod flow;
 mod head;
 pub mod laws;
+mod leaving;
 mod numbers;
 mod remote;
 #[cfg(test)]
 mod tests;
 
 pub use decapsulate::{Arrived, unwrap};
-pub use emission::{Emission, local};
-pub use remote::wrap;
+pub use emission::{Emission, Head, local};
+pub use leaving::{Leaving, local_in};
+pub use remote::{unsent, wrap, wrap_in};
 pub use underlay::{
     Hops, PeerRule, Segment, SegmentTunnel, TagRule, TunnelRule, Tunnels, Under, Underlay,
 };

@@ -5,12 +5,13 @@ ghost use Rattle.flood_lists.specs.Flood.{has_family};
 ghost use Rattle.underlay.specs.Overlay.{has_segment, tunnel_at};
 ghost use Rattle.underlay.specs.Settings.{own};
 ghost use Rattle.encapsulate.specs.Emission.{around};
-ghost use Rattle.encapsulate.specs.Remote.{largest, drops_tags_at, sending, texts, admits};
+ghost use Rattle.encapsulate.specs.Remote.{largest, drops_tags_at, sending, text_behind, texts, admits};
 
 use crate::datagram::Datagram;
-use crate::emission::Emission;
+use crate::emission::{Emission, Head};
 use crate::flow::source_port;
 use crate::head::outer_head;
+use crate::leaving::Leaving;
 use crate::numbers::CUSTOMER_TAG;
 use byteorder::{BigEndian, ByteOrder};
 use frame_view::{BridgeFrame, Reason, Vid};
@@ -41,17 +42,54 @@ pub fn wrap<'a>(
     ensures sent { texts result ≡ sending under.now vid kind addr frame.now }
     ensures parts { IfOk result (λ e. e ≡ around e.head [] frame.now) }
 {
+    let mut head = Head::new();
+    put_head(under, vid, kind, addr, frame, &mut head)?;
+    Ok(Emission::behind(head, frame))
+}
+
+/// The packet that a frame of a segment is sent in to a remote endpoint, its head in a room.
+pub fn wrap_in<'h, 'a>(
+    under: &Under,
+    vid: Vid,
+    kind: Tunnel,
+    addr: Addr,
+    frame: &BridgeFrame<'a>,
+    room: &'h mut Head,
+) -> Result<Leaving<'h, 'a>, Reason>
+    requires tunnel { IsTrue (is_some (tunnel_at under.now vid kind)) }
+    requires family { IsTrue (has_family (own under.now.underlay) addr) }
+    ensures sent { texts result ≡ sending under.now vid kind addr frame.now }
+    ensures parts { IfOk result (λ e. e ≡ around e.head [] frame.now) }
+{
+    put_head(under, vid, kind, addr, frame, room)?;
+    Ok(Leaving::behind(room.as_slice(), frame))
+}
+
+/// Writes the headers of that packet over a head.
+fn put_head(
+    under: &Under,
+    vid: Vid,
+    kind: Tunnel,
+    addr: Addr,
+    frame: &BridgeFrame,
+    head: &mut Head,
+) -> Result<(), Reason>
+    requires tunnel { IsTrue (is_some (tunnel_at under.now vid kind)) }
+    requires family { IsTrue (has_family (own under.now.underlay) addr) }
+    ensures sent { text_behind head.new.items frame.now result ≡ sending under.now vid kind addr frame.now }
+{
     if let Some(reason) = unsent(under, vid, addr, frame) {
         return Err(reason);
     }
     let underlay = under.settings();
     let vni = under.tunnel_of(vid, kind).unwrap().vni;
     let datagram = Datagram::of(source_port(frame), underlay.port_of(kind), kind, vni, frame);
-    Ok(Emission::behind(outer_head(underlay, addr, &datagram), frame))
+    outer_head(underlay, addr, &datagram, head);
+    Ok(())
 }
 
 /// Why a frame of a segment isn't sent to an address.
-fn unsent(under: &Under, vid: Vid, addr: Addr, frame: &BridgeFrame) -> Option<Reason>
+pub fn unsent(under: &Under, vid: Vid, addr: Addr, frame: &BridgeFrame) -> Option<Reason>
     requires there { IsTrue (has_segment under.now vid) }
     ensures value { result ≡ admits under.now vid addr frame.now }
     ensures fits { IsNone result → 48 + length frame.now.body ≤ 65535 }

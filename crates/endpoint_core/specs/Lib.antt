@@ -1,6 +1,7 @@
 pub mod Arrival
 pub mod Cells
 pub mod Counts
+pub mod Course
 pub mod Decision
 pub mod Event
 pub mod Kept

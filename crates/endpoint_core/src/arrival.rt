@@ -28,6 +28,15 @@ pub struct Came<'a> {
     pub(crate) frame: BridgeFrame<'a>,
 }
 
+impl<'a> Came<'a> {
+    /// The VID of the segment.
+    pub fn segment(&self) -> Vid
+        ensures { result ≡ self.now.vid }
+    {
+        self.vid
+    }
+}
+
 /// The frame that these octets at a local port are, in its segment; or the first reason, of 1 to 11, why it comes to none.
 #[tactic(auto, unfolding(crate::specs::Arrival::came_at))]
 pub(crate) fn come_at<'a>(

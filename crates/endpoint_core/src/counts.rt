@@ -1,13 +1,17 @@
 //! How often each thing was decided.
-ghost use Rattle.std.specs.Prelude.{◌≡◌, ◌≤◌, ◌<◌, ℕ, length, [], slice_index_or, vec_len, IfOk, map};
-ghost use Rattle.endpoint_core.specs.Counts.{no_counts, one_more, counted, counted_all, mark_sent, marks_all, number_sent, most};
+ghost use Rattle.std.specs.Prelude.{◌≡◌, ◌≤◌, ◌<◌, ℕ, length, [], slice_index_or, vec_len, IfOk, IsSome, Some, map};
+ghost use Rattle.endpoint_core.specs.Counts.{no_counts, one_more, counted, counted_all, marks_all, most};
 ghost use Rattle.endpoint_core.specs.Cells.{count_in, bumped};
-ghost use Rattle.endpoint_core.specs.Decision.{octets_of, sent_of};
-ghost use Rattle.encapsulate.specs.Remote.{texts};
+ghost use Rattle.endpoint_core.specs.Course.{decision_of, IsThere};
+ghost use Rattle.endpoint_core.specs.Step.{sent_at};
+ghost use Rattle.endpoint_state.specs.Held.{settings_of};
+ghost use Rattle.endpoint_state.specs.Settings.{segment_at};
 
-use crate::{Decision, Outcome};
-use encapsulate::Emission;
-use frame_view::{Reason, Vid};
+use crate::Course;
+use crate::emit::number_at;
+use endpoint_state::EndpointState;
+use filter_db::Place;
+use frame_view::{BridgeFrame, Vid};
 use std::alloc::{AllocError, Global};
 use std::marker::Model;
 
@@ -64,22 +68,31 @@ impl Counts {
         row.get(number as usize).copied().unwrap_or(0)
     }
 
-    /// Counts a drop, or each outcome.
-    pub(crate) fn tally(&mut self, decision: &Decision)
-        ensures { count_in self.new ≡ counted (count_in self.old) (octets_of decision.now) }
+    /// Counts a drop, or what is sent at each place.
+    pub(crate) fn tally(&mut self, state: &EndpointState, course: &Course, places: &[Place])
+        requires { IsThere (settings_of state.now) course.now }
+        ensures { count_in self.new ≡ counted (count_in self.old) (decision_of (settings_of state.now) course.now places.now) }
     {
-        match decision.dropped() {
-            Some(reason) => self.add(decision.segment(), reason.number()),
-            None => self.tally_outcomes(&decision.segment(), decision.outcomes()),
+        match course {
+            Course::Dropped(refused) => self.add(refused.segment, refused.reason.number()),
+            Course::Leaves(came) => self.tally_places(state, came.vid, &came.frame, places),
         }
     }
 
-    /// Counts each outcome.
-    fn tally_outcomes(&mut self, segment: &Option<Vid>, outcomes: &[Outcome])
-        ensures { count_in self.new ≡ counted_all (count_in self.old) (marks_all segment.now (map sent_of outcomes.now)) }
+    /// Counts what is sent at each place.
+    fn tally_places(
+        &mut self,
+        state: &EndpointState,
+        vid: Vid,
+        frame: &BridgeFrame,
+        places: &[Place],
+    )
+        requires { IsSome (segment_at (settings_of state.now) vid) }
+        ensures { let S = settings_of state.now in
+            count_in self.new ≡ counted_all (count_in self.old) (marks_all (Some vid) (map (sent_at S vid frame.now) places.now)) }
     {
-        for outcome in outcomes {
-            self.add(*segment, number_sent(&outcome.sent));
+        for place in places {
+            self.add(Some(vid), number_at(state, vid, frame, *place));
         }
     }
 
@@ -92,17 +105,6 @@ impl Counts {
             None => add_in(&mut self.nowhere, number),
             Some(vid) => add_in(&mut self.segments[vid.get() as usize], number),
         }
-    }
-}
-
-/// The number under which an outcome is counted.
-fn number_sent(sent: &Result<Emission, Reason>) -> u8
-    ensures value { result ≡ number_sent (texts sent.now) }
-    ensures in_range { result ≤ 40 }
-{
-    match sent {
-        Ok(_) => 0,
-        Err(reason) => reason.number(),
     }
 }
 

@@ -6,9 +6,11 @@ ghost use Rattle.filter_db.specs.Place.{no_place};
 ghost use Rattle.endpoint_state.specs.Held.{settings_of};
 ghost use Rattle.endpoint_state.specs.Settings.{segment_at};
 ghost use Rattle.endpoint_state.specs.Step.{can_leave};
+ghost use Rattle.endpoint_core.specs.Course.{decision_of, IsThere, IsShortFrame, CanLeave};
 ghost use Rattle.endpoint_core.specs.Decision.{refused_as, forwarded, octets_of, IsShort};
 ghost use Rattle.endpoint_core.specs.Step.{sent_at, has_two_tunnels};
 
+use crate::Course;
 use crate::emit::emit;
 use arrayvec::ArrayVec;
 use encapsulate::Emission;
@@ -62,8 +64,22 @@ impl<'a> Model for Decision<'a> {
 }
 
 impl<'a> Decision<'a> {
+    /// What a course decides, with the places in a list.
+    pub(crate) fn of(state: &EndpointState, course: &Course<'a>, places: &[Place]) -> Decision<'a>
+        requires there { IsThere (settings_of state.now) course.now }
+        requires short { IsShortFrame course.now }
+        requires leave { CanLeave (settings_of state.now) course.now places.now }
+        requires few { length places.now ≤ 32 }
+        ensures { octets_of result ≡ decision_of (settings_of state.now) course.now places.now }
+    {
+        match course {
+            Course::Dropped(refused) => Decision::refused(*refused),
+            Course::Leaves(came) => Decision::forwarded(state, came.vid, places, &came.frame),
+        }
+    }
+
     /// A drop.
-    pub(crate) fn refused(refused: Refused) -> Decision<'a>
+    fn refused(refused: Refused) -> Decision<'a>
         ensures { octets_of result ≡ refused_as refused }
     {
         Decision {
@@ -75,7 +91,7 @@ impl<'a> Decision<'a> {
     }
 
     /// A frame of a segment that leaves at these places.
-    pub(crate) fn forwarded(
+    fn forwarded(
         state: &EndpointState,
         vid: Vid,
         places: &[Place],

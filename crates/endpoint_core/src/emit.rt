@@ -1,18 +1,72 @@
 //! What is sent of a frame at an outlet.
-ghost use Rattle.std.specs.Prelude.{◌≡◌, IfOk, IsTrue};
+ghost use Rattle.std.specs.Prelude.{◌≡◌, ◌≤◌, IfOk, IsSome, IsTrue};
 ghost use Rattle.filter_db.specs.declared.place.Place.TheVariants.{Local};
 ghost use Rattle.encapsulate.specs.Emission.{text};
+ghost use Rattle.encapsulate.specs.Remote.{texts};
 ghost use Rattle.endpoint_state.specs.Held.{settings_of};
+ghost use Rattle.endpoint_state.specs.Settings.{segment_at};
 ghost use Rattle.endpoint_state.specs.Step.{can_leave};
 ghost use Rattle.endpoint_core.specs.Arrival.{local_octets};
+ghost use Rattle.endpoint_core.specs.Counts.{number_sent};
 ghost use Rattle.endpoint_core.specs.Decision.{sent_of};
 ghost use Rattle.endpoint_core.specs.Step.{sent_at};
 
 use crate::Outcome;
-use encapsulate::{Emission, local, wrap};
+use encapsulate::{Emission, Head, Leaving, local, local_in, unsent, wrap, wrap_in};
 use endpoint_state::EndpointState;
 use filter_db::Place;
-use frame_view::{BridgeFrame, Vid};
+use frame_view::{BridgeFrame, Reason, Vid};
+
+/// What is sent of a frame of a segment at a place where it can leave, its head in a room, or why nothing is.
+#[tactic(auto, unfolding(crate::specs::Arrival::emitted))]
+pub(crate) fn emit_in<'h, 'a>(
+    state: &EndpointState,
+    vid: Vid,
+    frame: &BridgeFrame<'a>,
+    place: Place,
+    room: &'h mut Head,
+) -> Result<Leaving<'h, 'a>, Reason>
+    requires { IsTrue (can_leave (settings_of state.now) vid place) }
+    ensures value { texts result ≡ (sent_at (settings_of state.now) vid frame.now place).sent }
+    ensures body { IfOk result (λ e. e.body ≡ frame.now.body) }
+{
+    match place {
+        Place::Local(port) => Ok(emit_local_in(state, vid, frame, port, room)),
+        Place::Remote(kind, addr) => wrap_in(state.under(), vid, kind, addr, frame, room),
+    }
+}
+
+/// What is sent at a local port of the segment.
+fn emit_local_in<'h, 'a>(
+    state: &EndpointState,
+    vid: Vid,
+    frame: &BridgeFrame<'a>,
+    port: u8,
+    room: &'h mut Head,
+) -> Leaving<'h, 'a>
+    requires { IsTrue (can_leave (settings_of state.now) vid (Local port)) }
+    ensures value { text result ≡ local_octets (settings_of state.now).ports vid frame.now port }
+    ensures body { result.body ≡ frame.now.body }
+{
+    let egress = state.ports().egress(vid, port).unwrap();
+    local_in(vid, egress, frame, room)
+}
+
+/// The number under which what is sent of a frame at a place is counted.
+#[tactic(auto, unfolding(crate::specs::Arrival::emitted))]
+pub(crate) fn number_at(state: &EndpointState, vid: Vid, frame: &BridgeFrame, place: Place) -> u8
+    requires { IsSome (segment_at (settings_of state.now) vid) }
+    ensures value { result ≡ number_sent (sent_at (settings_of state.now) vid frame.now place).sent }
+    ensures in_range { result ≤ 40 }
+{
+    match place {
+        Place::Local(_) => 0,
+        Place::Remote(_, addr) => match unsent(state.under(), vid, addr, frame) {
+            Some(reason) => reason.number(),
+            None => 0,
+        },
+    }
+}
 
 /// What is sent of a frame of a segment at a place where it can leave, or why nothing is.
 #[tactic(auto, unfolding(crate::specs::Arrival::emitted))]

@@ -1,20 +1,28 @@
 //! The endpoint.
-ghost use Rattle.std.specs.Prelude.{◌≡◌, ◌≤◌, IfOk, length};
+ghost use Rattle.std.specs.Prelude.{◌≡◌, ◌≤◌, IfOk, IsSome, IsTrue, length};
 ghost use Rattle.frame_view.specs.First.{fault_of};
 ghost use Rattle.endpoint_state.specs.Opened.{settings_told};
 ghost use Rattle.endpoint_core.specs.Decision.{octets_of};
 ghost use Rattle.endpoint_core.specs.Event.{frame_at, packet_at, change_at};
-ghost use Rattle.endpoint_core.specs.Step.{Decided, Replied, opened, answer, after};
+ghost use Rattle.endpoint_core.specs.Step.{Decided, Replied, opened, answer, after, sent_at, has_two_tunnels};
+ghost use Rattle.endpoint_core.specs.Course.{decision_of, IsThere, IsShortFrame, CanLeave, IsEmptied};
+ghost use Rattle.encapsulate.specs.Remote.{texts};
+ghost use Rattle.endpoint_state.specs.Settings.{segment_at};
+ghost use Rattle.endpoint_state.specs.Step.{can_leave};
 
-use crate::Decision;
-use crate::arrival::{come_at, come_by};
+use crate::arrival::{Came, come_at, come_by};
 use crate::counts::Counts;
 use crate::decide::decide;
+use crate::emit::emit_in;
+use crate::{Course, Decision};
+use encapsulate::{Head, Leaving};
 use endpoint_state::{Change, ChangeFault, EndpointState};
-use frame_view::Vid;
+use filter_db::Place;
+use frame_view::{Reason, Vid};
 use overlay_config::Settings;
 use std::alloc::{AllocError, Global};
 use std::marker::Model;
+use tunnel_learning::Outlets;
 use underlay::Under;
 
 /// A tunnel endpoint, seen by contracts as what it keeps: the settings in force and the tables, the counts, and the moment
@@ -87,6 +95,79 @@ impl Endpoint {
         self.counts.get(segment, number)
     }
 
+    /// A frame of this original length came in at a local port at a moment, in nanoseconds: where it goes, with the places
+    /// in a list that is written over, and empty where it is dropped. `now` isn't before `self.now()`, and the port is 1 to `ports()`.
+    pub fn take_frame<'a>(
+        &mut self,
+        now: u64,
+        port: u8,
+        original: u32,
+        octets: &'a [u8],
+        places: &mut Outlets,
+    ) -> Course<'a>
+        requires moment { (state_of self.old).moment ≤ now }
+        requires low { 1 ≤ port }
+        requires high { port ≤ length (state_of self.old).bridges.settings.ports.ports }
+        ensures answer { Decided (decision_of (state_of self.new).bridges.settings result places.new.items) ≡ answer (state_of self.old) (frame_at now port original octets.now) }
+        ensures after { state_of self.new ≡ after (state_of self.old) (frame_at now port original octets.now) }
+        ensures there { IsThere (state_of self.new).bridges.settings result }
+        ensures short { IsShortFrame result }
+        ensures leave { CanLeave (state_of self.new).bridges.settings result places.new.items }
+        ensures empty { IsEmptied result places.new.items }
+    {
+        let came = come_at(self.state.ports(), port, original, octets);
+        let course = decide(&mut self.state, now, came, places);
+        self.counts.tally(&self.state, &course, places.as_slice());
+        self.moment = now;
+        course
+    }
+
+    /// A packet of this original length came in from the underlay at a moment, in nanoseconds: where its frame goes, with
+    /// the places in a list that is written over, and empty where it is dropped. `now` isn't before `self.now()`.
+    pub fn take_packet<'a>(
+        &mut self,
+        now: u64,
+        original: u32,
+        octets: &'a [u8],
+        places: &mut Outlets,
+    ) -> Course<'a>
+        requires { (state_of self.old).moment ≤ now }
+        ensures answer { Decided (decision_of (state_of self.new).bridges.settings result places.new.items) ≡ answer (state_of self.old) (packet_at now original octets.now) }
+        ensures after { state_of self.new ≡ after (state_of self.old) (packet_at now original octets.now) }
+        ensures there { IsThere (state_of self.new).bridges.settings result }
+        ensures short { IsShortFrame result }
+        ensures leave { CanLeave (state_of self.new).bridges.settings result places.new.items }
+        ensures empty { IsEmptied result places.new.items }
+    {
+        let came = come_by(self.state.under(), original, octets);
+        let course = decide(&mut self.state, now, came, places);
+        self.counts.tally(&self.state, &course, places.as_slice());
+        self.moment = now;
+        course
+    }
+
+    /// Whether the segment of a frame has two tunnels, so that a remote is told with the kind of its tunnel.
+    pub fn has_two_tunnels(&self, came: &Came) -> bool
+        requires { IsSome (segment_at (state_of self.now).bridges.settings came.now.vid) }
+        ensures { result ≡ has_two_tunnels (state_of self.now).bridges.settings.overlay came.now.vid }
+    {
+        self.state.under().segment(came.vid).tunnels.are_two()
+    }
+
+    /// What is sent of a frame at a place where it can leave, its head in a room, or why nothing is: TooBig or InnerTagOut.
+    pub fn emit<'h, 'a>(
+        &self,
+        came: &Came<'a>,
+        place: Place,
+        room: &'h mut Head,
+    ) -> Result<Leaving<'h, 'a>, Reason>
+        requires { IsTrue (can_leave (state_of self.now).bridges.settings came.now.vid place) }
+        ensures sent { texts result ≡ (sent_at (state_of self.now).bridges.settings came.now.vid came.now.frame place).sent }
+        ensures body { IfOk result (λ e. e.body ≡ came.now.frame.body) }
+    {
+        emit_in(&self.state, came.vid, &came.frame, place, room)
+    }
+
     /// A frame of this original length came in at a local port at a moment, in nanoseconds: what is decided of it.
     /// `now` isn't before `self.now()`, and the port is 1 to `ports()`.
     pub fn frame<'a>(&mut self, now: u64, port: u8, original: u32, octets: &'a [u8]) -> Decision<'a>
@@ -96,11 +177,9 @@ impl Endpoint {
         ensures answer { Decided (octets_of result) ≡ answer (state_of self.old) (frame_at now port original octets.now) }
         ensures after { state_of self.new ≡ after (state_of self.old) (frame_at now port original octets.now) }
     {
-        let came = come_at(self.state.ports(), port, original, octets);
-        let decision = decide(&mut self.state, now, came);
-        self.counts.tally(&decision);
-        self.moment = now;
-        decision
+        let mut places = Outlets::new();
+        let course = self.take_frame(now, port, original, octets, &mut places);
+        Decision::of(&self.state, &course, places.as_slice())
     }
 
     /// A packet of this original length came in from the underlay at a moment, in nanoseconds: what is decided of it.
@@ -110,11 +189,9 @@ impl Endpoint {
         ensures answer { Decided (octets_of result) ≡ answer (state_of self.old) (packet_at now original octets.now) }
         ensures after { state_of self.new ≡ after (state_of self.old) (packet_at now original octets.now) }
     {
-        let came = come_by(self.state.under(), original, octets);
-        let decision = decide(&mut self.state, now, came);
-        self.counts.tally(&decision);
-        self.moment = now;
-        decision
+        let mut places = Outlets::new();
+        let course = self.take_packet(now, original, octets, &mut places);
+        Decision::of(&self.state, &course, places.as_slice())
     }
 
     /// Makes a change of the settings at a moment, in nanoseconds, or refuses it: then nothing but the moment is another.

@@ -9,6 +9,7 @@
 
 mod arrival;
 mod counts;
+mod course;
 mod decide;
 mod decision;
 mod emit;
@@ -16,10 +17,14 @@ mod endpoint;
 pub mod laws;
 mod text;
 
+pub use arrival::Came;
+pub use course::Course;
 pub use decision::{Decision, Outcome};
+pub use encapsulate::{Head, Leaving};
 pub use endpoint::Endpoint;
 pub use endpoint_state::{Change, ChangeFault, Target};
 pub use text::result_text;
+pub use tunnel_learning::Outlets;
 
 #[cfg(test)]
 mod tests;

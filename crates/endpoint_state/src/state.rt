@@ -1,9 +1,9 @@
 //! What an endpoint holds.
-ghost use Rattle.std.specs.Prelude.{◌≡◌, ◌≤◌, ℕ, IfOk, IsSome, IsTrue, None, is_some, replicate, true};
+ghost use Rattle.std.specs.Prelude.{◌≡◌, ◌≤◌, ℕ, [], IfOk, OnErr, IsSome, IsTrue, None, is_some, replicate, true};
 ghost use Rattle.std.specs.List.{list_all, sum_by};
 ghost use Rattle.frame_view.specs.First.{fault_of};
 ghost use Rattle.filter_db.specs.declared.tables.TableRule.{TableRule};
-ghost use Rattle.tunnel_learning.specs.Verdict.{seen};
+ghost use Rattle.tunnel_learning.specs.Verdict.{put_or};
 ghost use Rattle.vlan_ports.specs.Ports.{has_segment as has_members};
 ghost use Rattle.underlay.specs.Overlay.{has_segment, flood_at};
 ghost use Rattle.endpoint_state.specs.Opened.{opened};
@@ -16,12 +16,12 @@ use crate::learning::Learning;
 use crate::parts::Parts;
 use crate::{Change, ChangeFault};
 use filter_db::{Place, TableRule, Tables};
-use frame_view::{BridgeFrame, Vid};
+use frame_view::{BridgeFrame, Reason, Vid};
 use overlay_config::Settings;
 use shared_tables::SharedTables;
 use std::alloc::{AllocError, Global};
 use std::marker::Model;
-use tunnel_learning::Verdict;
+use tunnel_learning::Outlets;
 use underlay::Under;
 use vlan_ports::PortSet;
 
@@ -129,15 +129,23 @@ impl EndpointState {
 
     /// A frame came to a segment at a moment, which isn't before any earlier one, from a place that the segment can send
     /// to: learns where the source stands, and answers where the frame goes, which are places where it can leave.
-    pub fn step(&mut self, now: u64, vid: Vid, from: Place, frame: &BridgeFrame) -> Verdict
+    pub fn step(
+        &mut self,
+        now: u64,
+        vid: Vid,
+        from: Place,
+        frame: &BridgeFrame,
+        places: &mut Outlets,
+    ) -> Result<(), Reason>
         requires time { moment_of self.old ≤ now }
         requires there { IsSome (segment_at (settings_of self.old) vid) }
         requires reached { is_reached (settings_of self.old).overlay vid from ≡ true }
-        ensures verdict { seen result ≡ verdict now vid from frame.now (state_at now self.old) }
+        ensures verdict { put_or places.new.items result ≡ verdict now vid from frame.now (state_at now self.old) }
         ensures after { state_at now self.new ≡ after_frame now vid from frame.now (state_at now self.old) }
-        ensures leaves { IfOk (seen result) (λ places. IsTrue (list_all (can_leave (settings_of self.old) vid) places)) }
+        ensures leaves { IfOk (put_or places.new.items result) (λ places. IsTrue (list_all (can_leave (settings_of self.old) vid) places)) }
+        ensures empty { OnErr result (places.new.items ≡ []) }
         ensures time { moment_of self.new ≤ now }
     {
-        self.parts.step(now, vid, from, frame)
+        self.parts.step(now, vid, from, frame, places)
     }
 }

@@ -1,30 +1,38 @@
 //! A frame at the bridge of a segment.
-ghost use Rattle.std.specs.Prelude.{◌≡◌, ◌≤◌, ◌∷◌, [], IfOk, IsSome, IsTrue, true};
+ghost use Rattle.std.specs.Prelude.{◌≡◌, ◌≤◌, ◌∷◌, [], IfOk, OnErr, IsSome, IsTrue, true};
 ghost use Rattle.std.specs.List.{list_all};
 ghost use Rattle.ip_udp_view.specs.declared.addr.Tunnel.TheVariants.{Vxlan, Geneve};
-ghost use Rattle.tunnel_learning.specs.Verdict.{seen};
+ghost use Rattle.tunnel_learning.specs.Verdict.{put_or};
 ghost use Rattle.endpoint_state.specs.Sound.{IsSound, is_reached};
 ghost use Rattle.endpoint_state.specs.State.{settings_of, state_of};
 ghost use Rattle.endpoint_state.specs.Step.{can_leave, group_in, after_frame, verdict};
 
 use crate::parts::Parts;
 use filter_db::{Place, Tables};
-use frame_view::{BridgeFrame, Vid};
+use frame_view::{BridgeFrame, Reason, Vid};
 use ip_udp_view::Tunnel;
-use tunnel_learning::{Bridge, Verdict, bridge_step};
+use tunnel_learning::{Bridge, Outlets, bridge_step_into};
 use underlay::Tunnels;
 
 impl<T: Tables> Parts<T> {
     /// A frame came to a segment from a place, one that it can send to: learns where the source stands, and answers where
     /// the frame goes.
-    pub(crate) fn step(&mut self, now: u64, vid: Vid, from: Place, frame: &BridgeFrame) -> Verdict
+    pub(crate) fn step(
+        &mut self,
+        now: u64,
+        vid: Vid,
+        from: Place,
+        frame: &BridgeFrame,
+        places: &mut Outlets,
+    ) -> Result<(), Reason>
         requires sound { IsSound T.segments self.old }
         requires time { T.moment self.old.tables ≤ now }
         requires there { IsSome (T.segments self.old.tables vid) }
         requires reached { is_reached self.old.under vid from ≡ true }
-        ensures verdict { seen result ≡ verdict now vid from frame.now (state_of T.segments now self.old) }
+        ensures verdict { put_or places.new.items result ≡ verdict now vid from frame.now (state_of T.segments now self.old) }
         ensures after { state_of T.segments now self.new ≡ after_frame now vid from frame.now (state_of T.segments now self.old) }
-        ensures leaves { IfOk (seen result) (λ places. IsTrue (list_all (can_leave (settings_of T.segments self.old) vid) places)) }
+        ensures leaves { IfOk (put_or places.new.items result) (λ places. IsTrue (list_all (can_leave (settings_of T.segments self.old) vid) places)) }
+        ensures empty { OnErr result (places.new.items ≡ []) }
         ensures sound { IsSound T.segments self.new }
         ensures time { T.moment self.new.tables ≤ now }
     {
@@ -36,7 +44,7 @@ impl<T: Tables> Parts<T> {
             ports: &self.ports,
             flood: &segment.flood,
         };
-        bridge_step(&mut self.tables, &bridge, now, from, frame)
+        bridge_step_into(&mut self.tables, &bridge, now, from, frame, places)
     }
 }
 

@@ -6,7 +6,7 @@ use ip_udp_view::{Addr, Tunnel};
 use overlay_config::settings_of;
 use std::alloc::Global;
 use std::test::Fail;
-use tunnel_learning::Verdict;
+use tunnel_learning::Outlets;
 
 const SECOND: u64 = 1_000_000_000;
 
@@ -109,9 +109,10 @@ fn goes_to(
         addresses: view.addresses(),
         body: view.after_addresses(),
     };
-    match (state.step(now, vid, from, &frame), expected) {
-        (Verdict::Outlets(places), Ok(expected)) => places.as_slice() == expected,
-        (Verdict::Dropped(reason), Err(expected)) => reason == expected,
+    let mut places = Outlets::new();
+    match (state.step(now, vid, from, &frame, &mut places), expected) {
+        (Ok(()), Ok(expected)) => places.as_slice() == expected,
+        (Err(reason), Err(expected)) => reason == expected && places.is_empty(),
         _ => false,
     }
 }

@@ -1,8 +1,8 @@
 //! The checksum of a UDP datagram, whatever the family of its addresses.
-ghost use Rattle.std.specs.Prelude.{◌≡◌, ◌≤◌, ◌+◌, ◌*◌, ◌%◌, ◌++◌, length};
-ghost use Rattle.header_sums.specs.Sum.{total, sent_of, complement};
+ghost use Rattle.std.specs.Prelude.{◌≡◌, ◌≤◌, ◌+◌, ◌*◌, ◌%◌, ◌^◌, ◌++◌, length};
+ghost use Rattle.header_sums.specs.Sum.{total, folded, sent_of, complement};
 
-use crate::sum::{fold, words};
+use crate::sum::{folded, sent_sum, words};
 
 /// UDP's protocol number, as it stands in both pseudo headers.
 const UDP: u64 = 17;
@@ -17,20 +17,17 @@ pub(crate) fn datagram_sum(addresses: u64, first: &[u8], second: &[u8], third: &
         result ≡ sent_of (complement (addresses + 17 + length datagram + total datagram)) }
 {
     let length = first.len() + second.len() + third.len();
-    let sum = addresses + UDP + length as u64 + parts_sum(first, second, third);
-    match 65535 - fold(sum) {
-        0 => 65535,
-        checksum => checksum,
-    }
+    let front = addresses + UDP + length as u64;
+    sent_sum(parts_sum(front, first, second, third))
 }
 
-/// The sum of three parts side by side.
-fn parts_sum(first: &[u8], second: &[u8], third: &[u8]) -> u64
+/// A number that folds to what this one and the sum of three parts side by side fold to.
+fn parts_sum(front: u64, first: &[u8], second: &[u8], third: &[u8]) -> u64
+    requires small { front ≤ 2 ^ 32 }
     requires first_even { length first.now % 2 ≡ 0 }
     requires second_even { length second.now % 2 ≡ 0 }
     requires fits { length first.now + length second.now + length third.now ≤ 65535 }
-    ensures sum { result ≡ total (first.now ++ second.now ++ third.now) }
-    ensures small { result ≤ 65535 * (length first.now + length second.now + length third.now) }
+    ensures { folded result ≡ folded (front + total (first.now ++ second.now ++ third.now)) }
 {
-    words(first) + words(second) + words(third)
+    front + words(first) + words(second) + u64::from(folded(third))
 }

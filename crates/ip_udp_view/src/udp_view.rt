@@ -1,13 +1,13 @@
 //! UDP datagrams.
 ghost use Rattle.std.specs.Prelude.{◌≡◌, ◌^◌, ◌≤◌, ◌++◌, length, IsTrue, IfOk};
-ghost use Rattle.header_sums.specs.Sum.{total};
+ghost use Rattle.header_sums.specs.Sum.{total, folded};
 ghost use Rattle.frame_view.specs.First.{fault_of, first};
 ghost use Rattle.ip_udp_view.specs.Addr.{address, same_family};
 ghost use Rattle.ip_udp_view.specs.Udp.{SplitsUdp, udp_parts, udp_faults, sport, dport, pseudo, sum_state};
 
 use crate::Addr;
 use byteorder::{BigEndian, ByteOrder};
-use header_sums::{fold, words};
+use header_sums::{fold, folded, words};
 use std::marker::Model;
 use thiserror::Error;
 
@@ -111,22 +111,22 @@ impl<'a> UdpView<'a> {
     {
         if BigEndian::read_u16(&self.head[6..]) == 0 {
             SumState::Zero
-        } else if fold(self.sum_between(src, dst)) == u16::MAX {
+        } else if self.sum_between(src, dst) == u16::MAX {
             SumState::Right
         } else {
             SumState::Wrong
         }
     }
 
-    /// The sum of the datagram and of its pseudo header between these addresses (RFC 768; RFC 8200, 8.1).
-    fn sum_between(&self, src: Addr, dst: Addr) -> u64
+    /// The folded sum of the datagram and of its pseudo header between these addresses (RFC 768; RFC 8200, 8.1).
+    fn sum_between(&self, src: Addr, dst: Addr) -> u16
         requires { IsTrue (same_family src dst) }
         ensures { let datagram = self.now.head ++ self.now.payload in
-            result ≡ total (pseudo src dst (length datagram) ++ datagram) }
+            result ≡ folded (total (pseudo src dst (length datagram) ++ datagram)) }
     {
         let length = u64::from(BigEndian::read_u16(&self.head[4..]));
         let pseudo = address_words(src) + address_words(dst) + UDP + length;
-        pseudo + words(self.head) + words(self.payload)
+        fold(pseudo + words(self.head) + u64::from(folded(self.payload)))
     }
 }
 

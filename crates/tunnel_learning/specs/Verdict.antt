@@ -9,3 +9,8 @@ use Rattle.tunnel_learning.specs.declared.verdict.Verdict.TheVariants.{Outlets, 
 abbrev pub seen : Verdict → Result (List Place) Reason
 seen (Outlets places) = Ok places.items
 seen (Dropped reason) = Err reason
+
+-- the same of places that were put in a list, and a result that says whether they are the verdict
+abbrev pub put_or : {A : Type 0} → List Place → Result A Reason → Result (List Place) Reason
+put_or places (Ok _) = Ok places
+put_or places (Err reason) = Err reason

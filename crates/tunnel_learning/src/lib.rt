@@ -11,7 +11,7 @@ mod step;
 mod verdict;
 
 pub use bridge::Bridge;
-pub use step::bridge_step;
+pub use step::{Outlets, bridge_step, bridge_step_into};
 pub use verdict::Verdict;
 
 #[cfg(test)]

@@ -1,9 +1,9 @@
 //! One step.
-ghost use Rattle.std.specs.Prelude.{◌≡◌, ◌≤◌, IsSome, ◌++◌, if◌then◌else◌};
+ghost use Rattle.std.specs.Prelude.{◌≡◌, ◌≤◌, IsSome, OnErr, [], ◌++◌, if◌then◌else◌};
 ghost use Rattle.filter_db.specs.Segment.{segment_at, aged_all};
 ghost use Rattle.arrayvec.specs.ArrayVec.{array_vec_len};
 ghost use Rattle.tunnel_learning.specs.Bridge.{config_of, to_place, everywhere, local_places, remote_places, outlets, learned};
-ghost use Rattle.tunnel_learning.specs.Verdict.{seen};
+ghost use Rattle.tunnel_learning.specs.Verdict.{seen, put_or};
 
 use crate::{Bridge, Verdict};
 use arrayvec::ArrayVec;
@@ -29,51 +29,83 @@ pub fn bridge_step<T: Tables>(
     // A step that learns moves the tables' moment on, and a look-up doesn't.
     ensures moment { T.moment tables.new ≡ (if bridge.now.learning then now else T.moment tables.old) }
 {
+    let mut places = Outlets::new();
+    match bridge_step_into(tables, bridge, now, from, frame, &mut places) {
+        Ok(()) => Verdict::Outlets(places),
+        Err(reason) => Verdict::Dropped(reason),
+    }
+}
+
+/// The places that a frame leaves by, in order, none of them twice: at most 16 local ports and 16 remotes.
+pub type Outlets = ArrayVec<Place, 32>;
+
+/// The same into a list that is emptied first. After an `Err`, one of SamePlace, Horizon, Unreachable and NoOutlet, it is empty.
+pub fn bridge_step_into<T: Tables>(
+    tables: &mut T,
+    bridge: &Bridge,
+    now: u64,
+    from: Place,
+    frame: &BridgeFrame,
+    places: &mut Outlets,
+) -> Result<(), Reason>
+    requires has { IsSome (T.segments tables.old bridge.now.vid) }
+    requires time { T.moment tables.old ≤ now }
+    ensures verdict { let entries = (segment_at bridge.now.vid (aged_all now (T.segments tables.new))).entries in
+        put_or places.new.items result ≡ outlets (config_of bridge.now) from frame.now entries }
+    ensures empty { OnErr result (places.new.items ≡ []) }
+    ensures tables { let c = config_of bridge.now in
+        T.segments tables.new ≡ learned c bridge.now.vid now from frame.now (T.segments tables.old) }
+    // A step that learns moves the tables' moment on, and a look-up doesn't.
+    ensures moment { T.moment tables.new ≡ (if bridge.now.learning then now else T.moment tables.old) }
+{
+    places.clear();
     if bridge.learning {
         let _ = tables.learn(bridge.vid, frame.src, from, now);
     }
     if frame.dst.is_group() {
-        return everywhere(bridge, from);
+        return everywhere(bridge, from, places);
     }
     match tables.look(bridge.vid, frame.dst, now) {
-        Some(to) => to_place(bridge, from, to),
-        None => everywhere(bridge, from),
+        Some(to) => to_place(bridge, from, to, places),
+        None => everywhere(bridge, from, places),
     }
 }
 
 /// To the place where the destination stands.
-fn to_place(bridge: &Bridge, from: Place, to: Place) -> Verdict
-    ensures { seen result ≡ to_place (config_of bridge.now) from to }
+fn to_place(bridge: &Bridge, from: Place, to: Place, places: &mut Outlets) -> Result<(), Reason>
+    requires { places.old.items ≡ [] }
+    ensures value { put_or places.new.items result ≡ to_place (config_of bridge.now) from to }
+    ensures empty { OnErr result (places.new.items ≡ []) }
 {
     if to.is_same(from) {
-        return Verdict::Dropped(Reason::SamePlace);
+        return Err(Reason::SamePlace);
     }
     if bridge.in_one_group(from, to) {
-        return Verdict::Dropped(Reason::Horizon);
+        return Err(Reason::Horizon);
     }
     if bridge.is_shut(to) {
-        return Verdict::Dropped(Reason::Unreachable);
+        return Err(Reason::Unreachable);
     }
-    let mut places = ArrayVec::new();
     places.push(to);
-    Verdict::Outlets(places)
+    Ok(())
 }
 
 /// Everywhere else: the up members, and the remotes of the flood list.
-fn everywhere(bridge: &Bridge, from: Place) -> Verdict
-    ensures { seen result ≡ everywhere (config_of bridge.now) from }
+fn everywhere(bridge: &Bridge, from: Place, places: &mut Outlets) -> Result<(), Reason>
+    requires { places.old.items ≡ [] }
+    ensures value { put_or places.new.items result ≡ everywhere (config_of bridge.now) from }
+    ensures empty { OnErr result (places.new.items ≡ []) }
 {
-    let mut places = ArrayVec::new();
-    put_local(bridge, from, &mut places);
-    put_remote(bridge, from, &mut places);
+    put_local(bridge, from, places);
+    put_remote(bridge, from, places);
     if places.is_empty() {
-        return Verdict::Dropped(Reason::NoOutlet);
+        return Err(Reason::NoOutlet);
     }
-    Verdict::Outlets(places)
+    Ok(())
 }
 
 /// Puts the up members but the port that the frame came from, rising.
-fn put_local(bridge: &Bridge, from: Place, places: &mut ArrayVec<Place, 32>)
+fn put_local(bridge: &Bridge, from: Place, places: &mut Outlets)
     requires { array_vec_len places.old ≤ 0 }
     ensures items { places.new.items ≡ places.old.items ++ local_places (config_of bridge.now) from }
     ensures few { array_vec_len places.new ≤ 16 }
@@ -88,7 +120,7 @@ fn put_local(bridge: &Bridge, from: Place, places: &mut ArrayVec<Place, 32>)
 }
 
 /// Puts the remotes of the flood list but those of the horizon group that the frame came from, in its order.
-fn put_remote(bridge: &Bridge, from: Place, places: &mut ArrayVec<Place, 32>)
+fn put_remote(bridge: &Bridge, from: Place, places: &mut Outlets)
     requires { array_vec_len places.old ≤ 16 }
     ensures { places.new.items ≡ places.old.items ++ remote_places (config_of bridge.now) from }
 {

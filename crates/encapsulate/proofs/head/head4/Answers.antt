@@ -18,4 +18,4 @@ returns c =
     let udp : c.head.result ≡ udp_sent U.sum4 (V4 src) (V4 dst) l.sport l.dport d ++ l.tunnel =
     c.head.ensures ∙ ap (λ (x : ℕ). udp_header l.sport l.dport x d ++ l.tunnel) c.sum4-sum.ensures in
     joined-head (hop_to U (V4 dst) ++ U.mac) (0x08 ∷ 0x00 ∷ []) (ip4_sent U.ttl src dst (28 + length d)) (udp_sent U.sum4 (V4 src) (V4 dst) l.sport l.dport d) l.tunnel l.addresses l.body
-    _ _ _ (c.put_link.ensures.items ∙ ap (λ (x : List ℕ). x ++ (hop_to U (V4 dst) ++ U.mac ++ 0x08 ∷ 0x00 ∷ [])) c.new-head.ensures) (c.put.ensures.items ∙ ap (λ (x : List ℕ). c.put_link.new.head.items ++ x) ip) (c.put-2.ensures.items ∙ ap (λ (x : List ℕ). c.put.new.head.items ++ x) udp)
+    _ _ _ (c.put_link.ensures.items ∙ ap (λ (x : List ℕ). x ++ (hop_to U (V4 dst) ++ U.mac ++ 0x08 ∷ 0x00 ∷ [])) c.clear.ensures) (c.put.ensures.items ∙ ap (λ (x : List ℕ). c.put_link.new.head.items ++ x) ip) (c.put-2.ensures.items ∙ ap (λ (x : List ℕ). c.put.new.head.items ++ x) udp)

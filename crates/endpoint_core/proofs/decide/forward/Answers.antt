@@ -4,6 +4,6 @@ use Rattle.endpoint_state.specs.Settings.{Settings, segment_at}
 use Rattle.endpoint_state.specs.State.{State}
 use Rattle.endpoint_core.proofs.decide.forward.Goals as goal
 
-pub forwarded-requires-clause-there : goal.forwarded-requires-clause-there
-forwarded-requires-clause-there c =
-    subst (λ (S : Settings). IsSome (segment_at S c.args.came.now.vid)) (sym (ap (λ (B : State). B.settings) c.step.ensures.after)) c.requires.there
+pub returns-in-Ok-clause-there : goal.returns-in-Ok-clause-there
+returns-in-Ok-clause-there c =
+    subst (λ (S : Settings). IsSome (segment_at S c.args.came.vid)) (sym (ap (λ (B : State). B.settings) c.step.ensures.after)) c.requires.there

@@ -1,6 +1,8 @@
-use Rattle.std.proofs.Common.{sym, ◌∙◌}
-use Rattle.endpoint_core.proofs.CountsLemmas.{counted-drop}
+use Rattle.std.proofs.Common.{◌∙◌, ℕ, ap}
+use Rattle.endpoint_core.specs.Cells.{count_in}
+use Rattle.endpoint_core.specs.Counts.{one_more}
 use Rattle.endpoint_core.proofs.counts.Counts.tally.Goals as goal
 
-pub returns-in-Some : goal.returns-in-Some
-returns-in-Some c = counted-drop _ _ c.args.decision.now c.in-Some.reason _ _ (sym c.dropped.ensures ∙ c.in-Some.is) c.segment.ensures c.number.ensures.value c.add.ensures
+pub returns-in-Dropped : goal.returns-in-Dropped
+returns-in-Dropped c =
+    rw c.in-Dropped.is (c.add.ensures ∙ ap (λ (n : ℕ). one_more (count_in c.args.self.now) (record { segment = c.in-Dropped.refused.segment; number = n })) c.number.ensures.value)

@@ -24,10 +24,10 @@ pub returns-clause-after : goal.returns-clause-after
 returns-clause-after g c =
     let parts = c.args.self.now in
     let segments = g.T.Tables.segments parts.tables in
-    let new = g.T.Tables.segments c.bridge_step.new.tables in
+    let new = g.T.Tables.segments c.bridge_step_into.new.tables in
     let it = stands parts.ports parts.under parts.learning segments c.args.vid c.requires.sound c.requires.there in
-    after-learned c.args.now c.args.vid c.args.from c.args.frame.now parts.ports parts.under parts.learning segments new it c.get.result (sym c.get.ensures) c.bridge_step.ensures.tables
-    (settled c.args.now _ _ c.get.result new c.bridge_step.ensures.moment (g.met.T.Tables.settled c.bridge_step.new.tables))
+    after-learned c.args.now c.args.vid c.args.from c.args.frame.now parts.ports parts.under parts.learning segments new it c.get.result (sym c.get.ensures) c.bridge_step_into.ensures.tables
+    (settled c.args.now _ _ c.get.result new c.bridge_step_into.ensures.moment (g.met.T.Tables.settled c.bridge_step_into.new.tables))
 
 pub returns-clause-verdict : goal.returns-clause-verdict
 returns-clause-verdict g c =
@@ -36,12 +36,12 @@ returns-clause-verdict g c =
     let vid = c.args.vid in
     let f = c.args.frame.now in
     let segments = g.T.Tables.segments parts.tables in
-    let new = g.T.Tables.segments c.bridge_step.new.tables in
+    let new = g.T.Tables.segments c.bridge_step_into.new.tables in
     let it = stands parts.ports parts.under parts.learning segments vid c.requires.sound c.requires.there in
     let own = joined (bridge_of (learns parts.learning vid) it.table) it.tunneled it.members in
     let config = config-told parts.ports parts.under parts.learning segments vid it c.get.result c.segment-segment.result.now c.groups_of.result c.get.ensures c.segment-segment.ensures c.groups_of.ensures in
     let after = returns-clause-after g c in
-    c.bridge_step.ensures.verdict
+    c.bridge_step_into.ensures.verdict
     ∙ ap (λ (x : Config). outlets x c.args.from f (tables_at now new vid)) config
     ∙ ap (λ (x : State). outlets (config_of parts.ports own) c.args.from f (x.tables vid)) after
     ∙ sym (ap (λ (o : Option SegmentSettings). verdict_in parts.ports o c.args.from f ((after_frame now vid c.args.from f (state_of g.T.Tables.segments now parts)).tables vid)) it.settings)
@@ -49,7 +49,7 @@ returns-clause-verdict g c =
 pub returns-clause-sound : goal.returns-clause-sound
 returns-clause-sound g c =
     let parts = c.args.self.now in
-    sound-learned c.args.now c.args.vid c.args.from c.args.frame.now parts.ports parts.under (g.T.Tables.segments parts.tables) (g.T.Tables.segments c.bridge_step.new.tables) c.get.result c.requires.reached c.requires.sound c.bridge_step.ensures.tables
+    sound-learned c.args.now c.args.vid c.args.from c.args.frame.now parts.ports parts.under (g.T.Tables.segments parts.tables) (g.T.Tables.segments c.bridge_step_into.new.tables) c.get.result c.requires.reached c.requires.sound c.bridge_step_into.ensures.tables
 
 pub returns-clause-leaves : goal.returns-clause-leaves
 returns-clause-leaves g c =
@@ -57,12 +57,12 @@ returns-clause-leaves g c =
     let vid = c.args.vid in
     let f = c.args.frame.now in
     let segments = g.T.Tables.segments parts.tables in
-    let new = g.T.Tables.segments c.bridge_step.new.tables in
+    let new = g.T.Tables.segments c.bridge_step_into.new.tables in
     let it = stands parts.ports parts.under parts.learning segments vid c.requires.sound c.requires.there in
     let own = joined (bridge_of (learns parts.learning vid) it.table) it.tunneled it.members in
     let config = config-told parts.ports parts.under parts.learning segments vid it c.get.result c.segment-segment.result.now c.groups_of.result c.get.ensures c.segment-segment.ensures c.groups_of.ensures in
     let sound = returns-clause-sound g c in
     let flood = ap (λ (o : Option Segment). list_all (λ r. reaches parts.under vid r.tunnel r.addr) (option_map_or (λ h. h.flood) o [])) (sym it.has_tunnels) ∙ c.requires.sound.flood vid in
     subst (λ (r : Result (List Place) Reason). IfOk r (λ places. IsTrue (list_all (can_leave (settings_of g.T.Tables.segments parts) vid) places)))
-    (sym (c.bridge_step.ensures.verdict ∙ ap (λ (x : Config). outlets x c.args.from f (tables_at c.args.now new vid)) config))
+    (sym (c.bridge_step_into.ensures.verdict ∙ ap (λ (x : Config). outlets x c.args.from f (tables_at c.args.now new vid)) config))
     (outlets-leave (settings_of g.T.Tables.segments parts) vid own it.has_members c.args.from f (tables_at c.args.now new vid) flood (aged-reached parts.under vid c.args.now (new vid) (sound.tables vid)))

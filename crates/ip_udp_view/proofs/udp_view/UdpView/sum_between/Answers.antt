@@ -1,6 +1,7 @@
-use Rattle.std.proofs.Common.{rules, arith, ◌≡◌, ◌+◌, ◌++◌, length, ◌∙◌, subst}
+use Rattle.std.proofs.Common.{rules, arith, ◌≡◌, ◌+◌, ◌++◌, length, ◌∙◌, subst, ap}
 use Rattle.std.proofs.lemmas.List.{length-append}
-use Rattle.header_sums.specs.Sum.{total}
+use Rattle.header_sums.specs.Sum.{total, folded}
+use Rattle.header_sums.proofs.FoldLemmas.{folded-added}
 use Rattle.header_sums.proofs.OctetsLemmas.{field-slice}
 use Rattle.ip_udp_view.specs.Addr.{IsAddr}
 use Rattle.ip_udp_view.specs.Parts.{Parts}
@@ -19,6 +20,9 @@ returns c =
     let fits = c.read_u16.type_inv in
     let len : length (h ++ d) ≡ c.from-length.result = omega (arith, length-append h d, told) in
     let sums = total-datagram c.args.src c.args.dst c.from-length.result h d src dst c.requires octets len (omega arith) in
-    let sum = c.address_words.result + c.address_words-2.result + 17 + c.from-length.result + c.words.result + c.words-2.result in
-    let P : Parts → Type 0 = λ v. let datagram = v.head ++ v.payload in sum ≡ total (pseudo c.args.src c.args.dst (length datagram) ++ datagram) in
-    subst P c.self.view_is (omega (arith, sums, c.address_words.ensures.sum, c.address_words-2.ensures.sum, c.words.ensures.sum, c.words-2.ensures.sum))
+    let front = c.address_words.result + c.address_words-2.result + 17 + c.from-length.result + c.words.result in
+    let P : Parts → Type 0 = λ v. let datagram = v.head ++ v.payload in
+    folded (front + folded (total d)) ≡ folded (total (pseudo c.args.src c.args.dst (length datagram) ++ datagram)) in
+    let whole : front + total d ≡ total (pseudo c.args.src c.args.dst (length (h ++ d)) ++ (h ++ d)) =
+    omega (arith, sums, c.address_words.ensures.sum, c.address_words-2.ensures.sum, c.words.ensures.sum) in
+    rw (c.fold.ensures, c.from.ensures, c.folded.ensures) (subst P c.self.view_is (folded-added front (total d) ∙ ap folded whole))

@@ -7,6 +7,7 @@ use Rattle.clap.specs.declared.builder.value_parser.ValueParser.TheVariants as p
 
 -- ---- the arguments
 
+-- `--settings FILE`, required
 abbrev pub settings_rule : Rule
 settings_rule = record (new_rule (codes "settings")) {
   long = Some (codes "settings");
@@ -14,12 +15,14 @@ settings_rule = record (new_rule (codes "settings")) {
   action = Some Set;
 }
 
+-- `--changes FILE`
 abbrev pub changes_rule : Rule
 changes_rule = record (new_rule (codes "changes")) {
   long = Some (codes "changes");
   action = Some Set;
 }
 
+-- `--underlay FILE`, required
 abbrev pub underlay_rule : Rule
 underlay_rule = record (new_rule (codes "underlay")) {
   long = Some (codes "underlay");
@@ -27,6 +30,7 @@ underlay_rule = record (new_rule (codes "underlay")) {
   action = Some Set;
 }
 
+-- `--out DIR`, required
 abbrev pub out_rule : Rule
 out_rule = record (new_rule (codes "out")) {
   long = Some (codes "out");
@@ -60,24 +64,31 @@ capture_rule = record (new_rule (codes "capture")) {
 
 -- ---- the subcommands
 
+-- `run` with the texts that it reads
 abbrev pub run_settings_app : App
 run_settings_app = with_rule (with_rule (new_app (codes "run")) settings_rule) changes_rule
 
+-- `run` with its captures and its folder
 abbrev pub run_app : App
 run_app = with_rule (with_rule (with_rule run_settings_app underlay_rule) out_rule) ports_rule
 
+-- what `clap` keeps of `run`
 abbrev pub run_shape : Shape
 run_shape = run_app.top
 
+-- `check` with the texts that it reads
 abbrev pub check_app : App
 check_app = with_rule (with_rule (new_app (codes "check")) settings_rule) changes_rule
 
+-- what `clap` keeps of `check`
 abbrev pub check_shape : Shape
 check_shape = check_app.top
 
+-- `explain` with a settings text, a depth and a capture
 abbrev pub explain_app : App
 explain_app = with_rule (with_rule (with_rule (new_app (codes "explain")) settings_rule) depth_rule) capture_rule
 
+-- what `clap` keeps of `explain`
 abbrev pub explain_shape : Shape
 explain_shape = explain_app.top
 
@@ -85,6 +96,7 @@ explain_shape = explain_app.top
 abbrev pub versioned_app : App
 versioned_app = let app = new_app (codes "tep") in record app { top = record app.top { has_version = true } }
 
+-- the program with its first two subcommands
 abbrev pub run_and_check_app : App
 run_and_check_app = with_subcommand (with_subcommand versioned_app run_shape) check_shape
 

@@ -19,6 +19,7 @@ pub data Meaning : Type 0 where
   check : Text → Option Text → Meaning
   explain : Text → ℕ → Text → Meaning
 
+-- what a command line is as such a meaning
 abbrev pub meaning_of : Line → Meaning
 meaning_of line.Sample = sample
 meaning_of (line.Run settings changes underlay out ports) =
@@ -35,9 +36,11 @@ HasDepth (line.Explain settings depth capture) = (1 ≤ depth) × (depth ≤ 4)
 
 -- ---- what matches mean: nothing, where a required value is missing
 
+-- the file of the settings
 abbrev pub settings_in : List Row → Option Text
 settings_in = first_of (codes "settings")
 
+-- the file of the changes, where one is named
 abbrev pub changes_in : List Row → Option Text
 changes_in = first_of (codes "changes")
 
@@ -45,24 +48,30 @@ changes_in = first_of (codes "changes")
 abbrev pub depth_of : Text → Option ℕ
 depth_of text = if is_unsigned_in 1 4 text then Some (digits_value 10 (without_leading_plus text)) else None
 
+-- a number, where it is one of 1 to 4
 abbrev pub small_depth : ℕ → Option ℕ
 small_depth depth = if nat_le 1 depth && nat_le depth 4 then Some depth else None
 
+-- the depth, where the matches have one that is allowed
 abbrev pub depth_in : List Row → Option ℕ
 depth_in rows = option_and_then depth_of (one_of (codes "depth") rows)
 
+-- what `run` is asked to do
 abbrev pub run_meant : List Row → Option Meaning
 run_meant rows = option_and_then (λ s. option_and_then (λ u. option_and_then (λ o.
     option_map (λ ps. run s (changes_in rows) u o ps) (all_of (codes "ports") rows))
     (first_of (codes "out") rows)) (first_of (codes "underlay") rows)) (settings_in rows)
 
+-- what `check` is asked to do
 abbrev pub check_meant : List Row → Option Meaning
 check_meant rows = option_map (λ s. check s (changes_in rows)) (settings_in rows)
 
+-- what `explain` is asked to do
 abbrev pub explain_meant : List Row → Option Meaning
 explain_meant rows = option_and_then (λ s. option_and_then (λ c. option_map (λ d. explain s d c)
     (depth_in rows)) (first_of (codes "capture") rows)) (settings_in rows)
 
+-- what a subcommand of this name is asked to do
 abbrev pub command_meant : Text → List Row → Option Meaning
 command_meant name rows =
     if bytes_eq name (codes "run") then run_meant rows

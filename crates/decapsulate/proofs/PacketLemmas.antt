@@ -1,15 +1,12 @@
 -- How the packet in a frame is read.
-use Rattle.std.proofs.Common.{◌≡◌, ℕ, ◌≤◌, Bool, true, false, List, [], ◌∷◌, length, take, nat_eq, option_map, refl, sym, ap, ◌∙◌}
-use Rattle.std.proofs.lemmas.Bool.{le-ltb}
-use lib.Pointwise.{pointwise, bytes_decides}
+use Rattle.std.proofs.Common.{◌≡◌, ℕ, Bool, true, false, List, [], ◌∷◌, option_map, refl, sym, ap, ◌∙◌}
 use Rattle.frame_view.specs.First.{first}
 use Rattle.frame_view.specs.declared.reason.Reason.{Reason}
 use Rattle.ip_udp_view.specs.declared.addr.Addr.{Addr}
 use Rattle.ip_udp_view.specs.Parts.{Parts}
-use Rattle.ip_udp_view.specs.Ip.{Family, Ip4, SplitsIp, packet_parts, source, destination, is_fragment, protocol}
-use Rattle.ip_udp_view.specs.Datagram.{behind_tags, has_type, ip_text}
+use Rattle.ip_udp_view.specs.Ip.{Family, SplitsIp, packet_parts, source, destination, is_fragment, protocol}
 use Rattle.ip_udp_view.proofs.IpLemmas.{ReadsAs-from}
-use Rattle.decapsulate.specs.Arrival.{Packet, packet_at, ip_reasons, frame_reasons, as_reasons}
+use Rattle.decapsulate.specs.Arrival.{Packet, packet_at, packet_of, as_reasons}
 
 -- what is read of the parts of a text is read of the text
 pub packet_at-parts : (f : Family) (r : List ℕ) (v : Parts) (src dst : Addr) (part : Bool) (kind : ℕ) (p : List ℕ) → SplitsIp f r v → v ≡ packet_parts f r
@@ -24,13 +21,11 @@ packet_at-parts f r v src dst part kind p split parts src_is dst_is part_is kind
     ∙ ap (λ (x : ℕ). Make (source f r) (destination f r) (is_fragment f r) x p) (kind_is ∙ sym reads.protocol_is)
     ∙ ap (λ (x : List ℕ). Make (source f r) (destination f r) (is_fragment f r) (protocol f r) x) (p_is ∙ ap (λ (w : Parts). w.payload) parts)
 
--- the type of IPv4, stripped off
-pub has_type-stripped : (t : List ℕ) → pointwise nat_eq (take 2 t) (0x08 ∷ 0x00 ∷ []) ≡ true → has_type Ip4 t ≡ true
-has_type-stripped t h = ap (pointwise nat_eq (0x08 ∷ 0x00 ∷ [])) ((bytes_decides (take 2 t) (0x08 ∷ 0x00 ∷ [])).0 h)
-
--- a frame with the type of IPv4 is refused as the text behind it is
-pub frame_reasons-ip4 : (b : List ℕ) → 14 ≤ length b → has_type Ip4 (behind_tags b) ≡ true → first (frame_reasons b) ≡ first (ip_reasons Ip4 (ip_text b))
-frame_reasons-ip4 b long four = rw (le-ltb _ _ long, four) refl
+-- the packet of these parts is that of the text
+pub packet_of-parts : (f : Family) (r : List ℕ) (g : Family) (v : Parts) → g ≡ f → v ≡ packet_parts f r → SplitsIp f r v → packet_of g v ≡ packet_at f r
+packet_of-parts f r g v family_is parts split =
+    ap (λ (x : Family). packet_of x v) family_is
+    ∙ packet_at-parts f r v (source f v.head) (destination f v.head) (is_fragment f v.head) (protocol f v.head) v.payload split parts refl refl refl refl refl
 
 by_test : {A : Type 0} (reason_of : A → Reason) (fault : A) (b : Bool) (faults : List (A × Bool)) → first (as_reasons reason_of faults) ≡ option_map reason_of (first faults)
     → first (as_reasons reason_of ((fault, b) ∷ faults)) ≡ option_map reason_of (first ((fault, b) ∷ faults))

@@ -2,7 +2,7 @@
 --     outer_reasons, inner_reasons      why nothing arrives, in the order of the checks
 --     arrival      what arrives, or the first of the reasons
 --     Arrives      the same in whole texts
-use Rattle.std.specs.Prelude.{◌≡◌, ◌≢◌, ◌↔◌, ◌<◌, ◌⊎◌, ℕ, ◌+◌, ◌==◌, ◌&&◌, ◌||◌, nat_lt, Bool, true, false, not, IsTrue, List, [], ◌∷◌, ◌++◌, length, map, Option, Some, None, is_none, Result, Ok, Err}
+use Rattle.std.specs.Prelude.{◌≡◌, ◌≢◌, ◌↔◌, ◌<◌, ◌⊎◌, ℕ, ◌+◌, ◌==◌, ◌&&◌, ◌||◌, nat_lt, Bool, true, false, not, IsTrue, if◌then◌else◌, List, [], ◌∷◌, ◌++◌, length, drop, map, Option, Some, None, is_none, Result, Ok, Err}
 use Rattle.header_sums.specs.Octets.{IsText}
 use Rattle.header_sums.specs.Sum.{total, folded}
 use Rattle.frame_view.specs.Address.{is_group as is_group_mac, is_reserved}
@@ -20,9 +20,10 @@ use Rattle.ip_udp_view.specs.declared.addr.Tunnel.TheVariants.{Vxlan, Geneve}
 use Rattle.ip_udp_view.specs.declared.udp_view.SumState.{SumState}
 use Rattle.ip_udp_view.specs.declared.udp_view.SumState.TheVariants.{Zero, Right, Wrong}
 use Rattle.ip_udp_view.specs.Addr.{is_group, is_usable}
-use Rattle.ip_udp_view.specs.Ip.{Family, header_length, is_bad_ip, is_bad_ip_sum, is_fragment, protocol, source, destination, payload}
+use Rattle.ip_udp_view.specs.Parts.{Parts}
+use Rattle.ip_udp_view.specs.Ip.{Family, Ip4, Ip6, header_length, is_bad_ip, is_bad_ip_sum, is_fragment, protocol, source, destination, payload}
 use Rattle.ip_udp_view.specs.Udp.{dport, udp_header, datagram, data_of, is_bad_udp, pseudo, sum_state}
-use Rattle.ip_udp_view.specs.Datagram.{Datagram, is_ip, family, ip_text, tags_text}
+use Rattle.ip_udp_view.specs.Datagram.{Datagram, has_type, is_ip, family, ip_text, tags_text}
 use Rattle.vxlan_head.specs.Vxlan.{IsVxlan}
 use Rattle.vxlan_head.specs.Reading.{vxlan_vni, vxlan_inner, vxlan_faults, reason_of as vxlan_reason}
 use Rattle.geneve_head.specs.Options.{TunnelOption, allowed}
@@ -36,6 +37,7 @@ pub use Rattle.decapsulate.specs.declared.arrived.Arrived.{Arrived}
 
 -- ---- the tunnel header by its places
 
+-- the network's number in it (VNI)
 abbrev pub vni_of : Tunnel → List ℕ → ℕ
 vni_of Vxlan d = vxlan_vni d
 vni_of Geneve d = geneve_vni d
@@ -68,6 +70,10 @@ pub record Packet : Type 0 where
 abbrev pub packet_at : Family → List ℕ → Packet
 packet_at f r = record { source = source f r; destination = destination f r; is_fragment = is_fragment f r; protocol = protocol f r; payload = payload f r }
 
+-- the same of a packet of a family in its parts
+abbrev pub packet_of : Family → Parts → Packet
+packet_of f v = record { source = source f v.head; destination = destination f v.head; is_fragment = is_fragment f v.head; protocol = protocol f v.head; payload = v.payload }
+
 -- the packet in a frame
 abbrev pub packet_in : List ℕ → Packet
 packet_in b = packet_at (family b) (ip_text b)
@@ -96,11 +102,13 @@ abbrev pub needs_sum : Underlay → Addr → Bool
 needs_sum U (V4 b) = false
 needs_sum U (V6 b) = not U.zero6
 
+-- there is none
 abbrev pub is_zero : SumState → Bool
 is_zero Zero = true
 is_zero Right = false
 is_zero Wrong = false
 
+-- it is wrong
 abbrev pub is_wrong : SumState → Bool
 is_wrong Zero = false
 is_wrong Right = false
@@ -109,6 +117,14 @@ is_wrong Wrong = true
 -- no IP packet of this family
 abbrev pub ip_reasons : Family → List ℕ → List (Reason × Bool)
 ip_reasons f r = (BadIp, is_bad_ip f r) ∷ (BadIpSum, is_bad_ip_sum f r) ∷ []
+
+-- the family of the type that a text begins with
+abbrev pub family_named : List ℕ → Family
+family_named t = if has_type Ip4 t then Ip4 else Ip6
+
+-- why a text that begins with a type is no IP packet
+abbrev pub typed_reasons : List ℕ → List (Reason × Bool)
+typed_reasons t = (NotIp, not (has_type Ip4 t || has_type Ip6 t)) ∷ ip_reasons (family_named t) (drop 2 t)
 
 -- no frame with an IP packet
 abbrev pub frame_reasons : List ℕ → List (Reason × Bool)
@@ -137,6 +153,7 @@ abbrev pub data_reasons : List (ℕ × ℕ) → Option Tunnel → List ℕ → L
 data_reasons known None d = []
 data_reasons known (Some kind) d = tunnel_reasons known kind d
 
+-- all of them, from the Ethernet header to the tunnel header
 abbrev pub outer_reasons : Overlay → List ℕ → List (Reason × Bool)
 outer_reasons S b =
     let U = S.underlay in

@@ -34,7 +34,7 @@ pub(crate) fn datagram_of<'a>(
 }
 
 /// Whether datagrams from this address need a checksum: over IPv6, unless `zero6` is set (RFC 6935, 5).
-fn needs_sum(underlay: &Underlay, source: Addr) -> bool
+pub fn needs_sum(underlay: &Underlay, source: Addr) -> bool
     ensures { result ≡ needs_sum underlay.now source }
 {
     match source {

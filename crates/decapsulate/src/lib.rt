@@ -16,4 +16,6 @@ mod packet;
 mod tests;
 
 pub use arrived::Arrived;
+pub use datagram::needs_sum;
 pub use outer::unwrap;
+pub use packet::{Packet, ip_view};

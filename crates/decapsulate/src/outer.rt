@@ -34,18 +34,10 @@ pub fn unwrap<'a>(under: &Under, octets: &'a [u8]) -> Result<Arrived<'a>, Refuse
 {
     let carried = match carried_in(under, octets) {
         Ok(carried) => carried,
-        Err(reason) => {
-            return Err(Refused {
-                segment: None,
-                reason,
-            });
-        }
+        Err(reason) => return Err(Refused::nowhere(reason)),
     };
     let Some((vid, segment)) = under.segment_by(carried.kind, carried.vni) else {
-        return Err(Refused {
-            segment: None,
-            reason: Reason::UnknownVni,
-        });
+        return Err(Refused::nowhere(Reason::UnknownVni));
     };
     let from = (carried.kind, carried.source);
     match frame_in(
@@ -56,10 +48,7 @@ pub fn unwrap<'a>(under: &Under, octets: &'a [u8]) -> Result<Arrived<'a>, Refuse
         carried.inner,
     ) {
         Ok(frame) => Ok(Arrived { vid, from, frame }),
-        Err(reason) => Err(Refused {
-            segment: Some(vid),
-            reason,
-        }),
+        Err(reason) => Err(Refused::within(vid, reason)),
     }
 }
 

@@ -1,32 +1,27 @@
 //! The IP packet in an outer frame.
-ghost use Rattle.std.specs.Prelude.{◌≡◌, IfOk};
-ghost use Rattle.decapsulate.specs.Arrival.{packet_at, packet_in, ip_reasons, frame_reasons, packet_reasons};
+ghost use Rattle.std.specs.Prelude.{◌≡◌, ◌≤◌, IfOk, length, drop};
+ghost use Rattle.decapsulate.specs.Arrival.{packet_in, packet_of, frame_reasons, family_named, typed_reasons, packet_reasons};
 ghost use Rattle.frame_view.specs.First.{first, fault_of};
-ghost use Rattle.ip_udp_view.specs.Ip.{Ip4, Ip6};
+ghost use Rattle.ip_udp_view.specs.Ip.{SplitsIp, packet_parts};
+ghost use Rattle.ip_udp_view.specs.View.{family_of, parts_of};
 
 use frame_view::{EtherView, Reason};
-use ip_udp_view::{Addr, Ip4View, Ip6View, IpFault};
+use ip_udp_view::{Addr, IP4_TYPE, IP6_TYPE, IpFault, IpView, UDP};
 use std::marker::Model;
 use underlay::Underlay;
 
 /// The most VLAN tags in front of the type of an outer frame.
 const MOST_TAGS: usize = 2;
-/// The type of a frame with an IPv4 packet (RFC 894).
-const IP4: [u8; 2] = [0x08, 0x00];
-/// The type of a frame with an IPv6 packet (RFC 2464, 3).
-const IP6: [u8; 2] = [0x86, 0xDD];
-/// UDP's protocol number.
-const UDP: u8 = 17;
 
 /// A packet of either family, as far as the checks ask for it.
 #[derive(Debug, Drop)]
-pub(crate) struct Packet<'a> {
-    pub(crate) source: Addr,
-    pub(crate) destination: Addr,
-    is_fragment: bool,
-    protocol: u8,
+pub struct Packet<'a> {
+    pub source: Addr,
+    pub destination: Addr,
+    pub is_fragment: bool,
+    pub protocol: u8,
     /// What stands behind the IP header.
-    pub(crate) payload: &'a [u8],
+    pub payload: &'a [u8],
 }
 
 impl<'a> Model for Packet<'a> {
@@ -56,50 +51,24 @@ impl<'a> Packet<'a> {
         let Ok(frame) = EtherView::read(octets) else {
             return Err(Reason::Runt);
         };
-        let (_tags, rest) = frame.skip_tags(MOST_TAGS);
-        if let Some(text) = rest.strip_prefix(&IP4) {
-            Packet::read4(text)
-        } else if let Some(text) = rest.strip_prefix(&IP6) {
-            Packet::read6(text)
-        } else {
-            Err(Reason::NotIp)
+        let (_tags, typed) = frame.skip_tags(MOST_TAGS);
+        match ip_view(typed) {
+            Ok(view) => Ok(Packet::of(&view)),
+            Err(reason) => Err(reason),
         }
     }
 
-    /// The IPv4 packet that a text begins with.
-    fn read4(text: &'a [u8]) -> Result<Packet<'a>, Reason>
-        ensures fault { fault_of result ≡ first (ip_reasons Ip4 text.now) }
-        ensures packet { IfOk result (λ packet. packet ≡ packet_at Ip4 text.now) }
+    /// A packet of either family.
+    pub fn of(view: &IpView<'a>) -> Packet<'a>
+        ensures { result ≡ packet_of (family_of view.now) (parts_of view.now) }
     {
-        match Ip4View::read(text) {
-            Ok(ip4) => Ok(Packet {
-                source: ip4.src(),
-                destination: ip4.dst(),
-                is_fragment: ip4.is_fragment(),
-                protocol: ip4.proto(),
-                payload: ip4.payload(),
-            }),
-            Err(IpFault::BadIp) => Err(Reason::BadIp),
-            Err(IpFault::BadIpSum) => Err(Reason::BadIpSum),
+        Packet {
+            source: view.src(),
+            destination: view.dst(),
+            is_fragment: view.is_fragment(),
+            protocol: view.proto(),
+            payload: view.payload(),
         }
-    }
-
-    /// The IPv6 packet that a text begins with.
-    fn read6(text: &'a [u8]) -> Result<Packet<'a>, Reason>
-        ensures fault { fault_of result ≡ first (ip_reasons Ip6 text.now) }
-        ensures packet { IfOk result (λ packet. packet ≡ packet_at Ip6 text.now) }
-    {
-        // Its header has no checksum, so there is one fault.
-        let Ok(ip6) = Ip6View::read(text) else {
-            return Err(Reason::BadIp);
-        };
-        Ok(Packet {
-            source: ip6.src(),
-            destination: ip6.dst(),
-            is_fragment: ip6.is_fragment(),
-            protocol: ip6.proto(),
-            payload: ip6.payload(),
-        })
     }
 
     /// Whether it is a whole packet from another endpoint to this one, or to a group, that carries UDP.
@@ -120,5 +89,29 @@ impl<'a> Packet<'a> {
             return Err(Reason::NotUdp);
         }
         Ok(())
+    }
+}
+
+/// The IP packet that stands behind the type of a frame: `typed` is the type and what follows.
+///
+/// `NotIp`: the type is neither IPv4's nor IPv6's. `BadIp`, `BadIpSum`: as [`IpView`] reads the packet.
+pub fn ip_view(typed: &[u8]) -> Result<IpView<'_>, Reason>
+    ensures fault { fault_of result ≡ first (typed_reasons typed.now) }
+    ensures family { IfOk result (λ view. family_of view ≡ family_named typed.now) }
+    ensures parts { IfOk result (λ view. parts_of view ≡ packet_parts (family_named typed.now) (drop 2 typed.now)) }
+    ensures long { IfOk result (λ view. 2 ≤ length typed.now) }
+    ensures split { IfOk result (λ view. SplitsIp (family_named typed.now) (drop 2 typed.now) (parts_of view)) }
+{
+    let read = if let Some(text) = typed.strip_prefix(&IP4_TYPE) {
+        IpView::read4(text)
+    } else if let Some(text) = typed.strip_prefix(&IP6_TYPE) {
+        IpView::read6(text)
+    } else {
+        return Err(Reason::NotIp);
+    };
+    match read {
+        Ok(view) => Ok(view),
+        Err(IpFault::BadIp) => Err(Reason::BadIp),
+        Err(IpFault::BadIpSum) => Err(Reason::BadIpSum),
     }
 }

@@ -19,6 +19,7 @@ abbrev pub own_of : Own → Addr → Option (List ℕ)
 own_of own (V4 octets) = own.ip4
 own_of own (V6 octets) = own.ip6
 
+-- there is an own address of the family
 abbrev pub has_family : Own → Addr → Bool
 has_family own addr = is_some (own_of own addr)
 
@@ -27,6 +28,7 @@ abbrev pub is_there : Option (List ℕ) → List ℕ → Bool
 is_there None octets = false
 is_there (Some own) octets = is_same own octets
 
+-- an address is one's own
 abbrev pub is_own : Own → Addr → Bool
 is_own own addr = is_there (own_of own addr) (address addr)
 
@@ -44,9 +46,11 @@ blank = record { tunnel = Vxlan; addr = V4 (replicate 4 0) }
 abbrev pub IsWithoutRepeats : Entries → Type 0
 IsWithoutRepeats flood = AllPairs (λ entry later. entry ≢ later) flood
 
+-- an entry is this tunnel's to this address
 abbrev pub is_entry : Tunnel → Addr → Remote → Bool
 is_entry tunnel addr entry = same_kind entry.tunnel tunnel && same_addr entry.addr addr
 
+-- a list has this entry
 abbrev pub holds : Entries → Tunnel → Addr → Bool
 holds flood tunnel addr = list_any (is_entry tunnel addr) flood
 
@@ -56,6 +60,7 @@ without flood tunnel addr = filter (λ entry. not (is_entry tunnel addr entry)) 
 
 -- ---- why an entry isn't added, in the order of the checks
 
+-- an address that no packet can be sent to, one of a family without an own address, an entry that is there, or no room
 abbrev pub add_faults : Own → Entries → Tunnel → Addr → List (FloodFault × Bool)
 add_faults own flood tunnel addr =
     (OutOfRange, not (is_usable addr))

@@ -24,6 +24,7 @@ pub data Split : Type 0 where
   WithTag : (tci : ℕ) (body : List ℕ) → Split
   CutShort : Split
 
+-- the same of what reading a tag answers
 abbrev pub seen : Tagging → Split
 seen (Plain body) = Untagged body.now
 seen (Tagged tci body) = WithTag tci body.now

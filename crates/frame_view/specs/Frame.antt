@@ -11,6 +11,7 @@ pub record Frame : Type 0 where
   pub dei : Bool
   pub body : List ℕ
 
+-- two addresses of 6 octets, a priority of 3 bits, and a body of at least 2 octets, the type
 pub record IsFrame (f : Frame) : Type 0 where
   pub dst : length f.dst ≡ 6
   pub src : length f.src ≡ 6
@@ -21,6 +22,7 @@ pub record IsFrame (f : Frame) : Type 0 where
 abbrev pub plain : Frame → List ℕ
 plain f = f.dst ++ (f.src ++ f.body)
 
+-- its octets with a tag of this VID (IEEE 802.1Q, 9.5 and 9.6)
 abbrev pub tagged : Frame → ℕ → List ℕ
 tagged f vid = f.dst ++ (f.src ++ (tag_text (tci_of f.pcp f.dei vid) ++ f.body))
 
@@ -32,6 +34,7 @@ size f = 12 + length f.body
 abbrev pub frame_of : List ℕ → Frame
 frame_of b = record { dst = take 6 b; src = part 6 6 b; pcp = 0; dei = false; body = drop 12 b }
 
+-- the frame that these octets are behind one tag
 abbrev pub frame_behind_tag : List ℕ → Frame
 frame_behind_tag b =
     record { dst = take 6 b; src = part 6 6 b; pcp = pcp_of (field 14 2 b); dei = dei_of (field 14 2 b); body = drop 16 b }

@@ -4,4 +4,5 @@ pub mod First
 pub mod Frame
 pub mod Octets
 pub mod Reason
+pub mod Refusal
 pub mod Tag

@@ -46,6 +46,7 @@ number_of NoOutlet = 38
 number_of TooBig = 39
 number_of InnerTagOut = 40
 
+-- its name
 abbrev pub name_of : Reason → List ℕ
 name_of TooLong = codes "TooLong"
 name_of Sliced = codes "Sliced"

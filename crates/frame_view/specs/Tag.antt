@@ -8,15 +8,19 @@ use Rattle.header_sums.specs.Octets.{octets, begins}
 abbrev pub IsVid : ℕ → Type 0
 IsVid n = (1 ≤ n) × (n ≤ 4094)
 
+-- the priority code point, the high 3 bits
 abbrev pub pcp_of : ℕ → ℕ
 pcp_of tci = tci / 8192
 
+-- the drop eligible indicator, the bit below
 abbrev pub dei_of : ℕ → Bool
 dei_of tci = tci / 4096 % 2 == 1
 
+-- the VID, the low 12 bits
 abbrev pub vid_of : ℕ → ℕ
 vid_of tci = tci % 4096
 
+-- a bit as a number
 abbrev pub bit : Bool → ℕ
 bit true = 1
 bit false = 0
@@ -39,6 +43,7 @@ tag_text tci = 0x81 ∷ 0x00 ∷ octets 2 tci
 abbrev pub has_outer_tag : List ℕ → Bool
 has_outer_tag t = (begins_tag t || begins (0x88 ∷ 0xA8 ∷ []) t) && nat_le 4 (length t)
 
+-- 4 octets of a customer or a service tag
 abbrev pub IsOuterTag : List ℕ → Type 0
 IsOuterTag t = (length t ≡ 4) × IsTrue (has_outer_tag t)
 

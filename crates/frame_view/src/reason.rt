@@ -1,5 +1,6 @@
 //! Why a frame or a packet is dropped.
 ghost use Rattle.std.specs.Prelude.{◌≡◌, ◌≤◌};
+ghost use Rattle.frame_view.specs.Refusal.{nowhere, within};
 ghost use Rattle.frame_view.specs.Reason.{number_of, name_of};
 ghost use Rattle.frame_view.specs.declared.reason.Reason.{Reason};
 
@@ -159,4 +160,26 @@ impl Reason {
 pub struct Refused {
     pub segment: Option<Vid>,
     pub reason: Reason,
+}
+
+impl Refused {
+    /// A refusal before the segment is known.
+    pub fn nowhere(reason: Reason) -> Refused
+        ensures { result ≡ nowhere reason }
+    {
+        Refused {
+            segment: None,
+            reason,
+        }
+    }
+
+    /// A refusal in a segment.
+    pub fn within(vid: Vid, reason: Reason) -> Refused
+        ensures { result ≡ within vid reason }
+    {
+        Refused {
+            segment: Some(vid),
+            reason,
+        }
+    }
 }

@@ -25,6 +25,7 @@ check b = complement (total b)
 abbrev pub sent_of : ℕ → ℕ
 sent_of c = if c == 0 then 65535 else c
 
+-- the checksum of a text as UDP sends it
 abbrev pub sent : List ℕ → ℕ
 sent b = sent_of (check b)
 
@@ -36,5 +37,6 @@ blanked4 header = take 10 header ++ 0 ∷ 0 ∷ drop 12 header
 abbrev pub pseudo4 : List ℕ → List ℕ → ℕ → List ℕ
 pseudo4 src dst len = src ++ dst ++ 0 ∷ 17 ∷ octets 2 len
 
+-- the same over IPv6 (RFC 8200, 8.1)
 abbrev pub pseudo6 : List ℕ → List ℕ → ℕ → List ℕ
 pseudo6 src dst len = src ++ dst ++ octets 4 len ++ 0 ∷ 0 ∷ 0 ∷ 17 ∷ []

@@ -25,9 +25,11 @@ BadIpHasNoSplit = (f : Family) (r : List ℕ) → (is_bad_ip f r ≡ true) ↔ (
 abbrev pub UdpSplitIsFound : Type 0
 UdpSplitIsFound = (p : List ℕ) → is_bad_udp p ≡ false → SplitsUdp p (udp_parts p)
 
+-- and nothing else is a split of it
 abbrev pub UdpSplitIsOnly : Type 0
 UdpSplitIsOnly = (p : List ℕ) (v : Parts) → SplitsUdp p v → (is_bad_udp p ≡ false) × (udp_parts p ≡ v)
 
+-- a text that is no datagram has none
 abbrev pub BadUdpHasNoSplit : Type 0
 BadUdpHasNoSplit = (p : List ℕ) → (is_bad_udp p ≡ true) ↔ ((v : Parts) → ¬ SplitsUdp p v)
 

@@ -4,3 +4,4 @@ pub mod Ip
 pub mod Laws
 pub mod Parts
 pub mod Udp
+pub mod View

@@ -28,7 +28,8 @@ use Rattle.packet_layers.specs.declared.kind.Stop.TheVariants.{At}
 use Rattle.packet_layers.specs.Apart.{Head, Apart, whole, split, put, front}
 use Rattle.packet_layers.specs.Dissection.{rows, ip_kind, tag_off, type_off, Taken, stopped, frame_off, Layers, dissection}
 use Rattle.packet_layers.specs.Laws.{is_of_layers, is_tunnel, HasNoTunnel, AgreesWithArrival}
-use Rattle.packet_layers.specs.Code.{typed_reasons, udp_reasons, sum_reasons}
+use Rattle.decapsulate.specs.Arrival.{typed_reasons}
+use Rattle.packet_layers.specs.Code.{udp_reasons, sum_reasons}
 use Rattle.packet_layers.proofs.RefusalLemmas.{data_rows, refusal-runt, refusal-ip, refusal-udp, refusal-port, refusal-tunnel}
 use Rattle.packet_layers.proofs.FrameLemmas.{at_ether, at_ip, at_udp, HasUdp, frame-runt, frame-ip, frame-udp, frame-port, frame-tunnel, from-stop}
 

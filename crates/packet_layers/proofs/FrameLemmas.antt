@@ -21,7 +21,8 @@ use Rattle.packet_layers.specs.declared.kind.Stop.{Stop}
 use Rattle.packet_layers.specs.declared.kind.Stop.TheVariants.{At, Deep}
 use Rattle.packet_layers.specs.Apart.{Apart, split}
 use Rattle.packet_layers.specs.Dissection.{rows, refusal, ip_kind, ether_off, ip_off, udp_off, tunnel_off, stopped, frame_off, or_next, layers_from}
-use Rattle.packet_layers.specs.Code.{family_of, typed_reasons, udp_reasons, sum_reasons}
+use Rattle.decapsulate.specs.Arrival.{family_named, typed_reasons}
+use Rattle.packet_layers.specs.Code.{udp_reasons, sum_reasons}
 use Rattle.packet_layers.proofs.RefusalLemmas.{data_rows, refusal-runt, refusal-ip, refusal-udp, refusal-port, refusal-tunnel}
 
 -- a frame so far: what is left of it behind each of its layers
@@ -56,18 +57,18 @@ pub udp-reason : (S : Overlay) (b : List ℕ) (p : Packet) (o : Option Reason) �
 udp-reason S b p o p_is told = refusal-udp S b ∙ ap (λ (x : Packet). first (udp_reasons x)) (sym p_is) ∙ sym told
 
 pub ip-is : (b t : List ℕ) (a e i : Apart) → t ≡ behind_tags b → e ≡ ether_off b a
-    → i ≡ split (ip_kind (family_of t)) (packet_parts (family_of t) e.payload.octets) e → i ≡ ip_off b (ether_off b a)
+    → i ≡ split (ip_kind (family_named t)) (packet_parts (family_named t) e.payload.octets) e → i ≡ ip_off b (ether_off b a)
 ip-is b t a e i t_is e_is i_is =
     i_is
-    ∙ ap (λ (x : List ℕ). split (ip_kind (family_of x)) (packet_parts (family_of x) e.payload.octets) e) t_is
+    ∙ ap (λ (x : List ℕ). split (ip_kind (family_named x)) (packet_parts (family_named x) e.payload.octets) e) t_is
     ∙ ap (ip_off b) e_is
 
-pub packet-is : (b t : List ℕ) (p : Packet) → t ≡ behind_tags b → p ≡ packet_at (family_of t) (drop 2 t) → p ≡ packet_in b
-packet-is b t p t_is p_is = p_is ∙ ap (λ (x : List ℕ). packet_at (family_of x) (drop 2 x)) t_is
+pub packet-is : (b t : List ℕ) (p : Packet) → t ≡ behind_tags b → p ≡ packet_at (family_named t) (drop 2 t) → p ≡ packet_in b
+packet-is b t p t_is p_is = p_is ∙ ap (λ (x : List ℕ). packet_at (family_named x) (drop 2 x)) t_is
 
 pub CameToUdp-from : (S : Overlay) (a e i u : Apart) (t : List ℕ) (p : Packet)
     → None ≡ first (rows Runt Runt (frame_reasons a.payload.octets)) → e ≡ at_ether a → t ≡ behind_tags a.payload.octets
-    → None ≡ first (typed_reasons t) → i ≡ split (ip_kind (family_of t)) (packet_parts (family_of t) e.payload.octets) e → p ≡ packet_at (family_of t) (drop 2 t) → p.payload ≡ i.payload.octets
+    → None ≡ first (typed_reasons t) → i ≡ split (ip_kind (family_named t)) (packet_parts (family_named t) e.payload.octets) e → p ≡ packet_at (family_named t) (drop 2 t) → p.payload ≡ i.payload.octets
     → None ≡ first (udp_reasons p) → u ≡ udp_off i → CameToUdp S a u p
 CameToUdp-from S a e i u t p runt e_is t_is ip i_is p_is left udp u_is =
     let b = a.payload.octets in

@@ -19,7 +19,8 @@ use Rattle.packet_layers.specs.declared.kind.Stop.{Stop}
 use Rattle.packet_layers.specs.declared.kind.Stop.TheVariants.{Deep}
 use Rattle.packet_layers.specs.Apart.{Apart, whole, put}
 use Rattle.packet_layers.specs.Dissection.{refusal, ip_kind, tunnel_kind, tag_off, type_off, ether_off, tunnel_off, Taken, stopped, unless, frame_off, Layers, or_next, layers_from, dissection}
-use Rattle.packet_layers.specs.Code.{typed_reasons, udp_reasons}
+use Rattle.decapsulate.specs.Arrival.{typed_reasons}
+use Rattle.packet_layers.specs.Code.{udp_reasons}
 use Rattle.packet_layers.proofs.RefusalLemmas.{refusal-ip, refusal-udp}
 use Rattle.packet_layers.proofs.EtherLemmas.{left-ether}
 use Rattle.packet_layers.proofs.FrameLemmas.{at_ether, at_ip, at_udp}

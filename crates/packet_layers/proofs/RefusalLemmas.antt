@@ -11,7 +11,8 @@ use Rattle.ip_udp_view.specs.Datagram.{behind_tags}
 use Rattle.underlay.specs.Overlay.{Overlay}
 use Rattle.decapsulate.specs.Arrival.{packet_in, kind_to, frame_reasons, data_reasons}
 use Rattle.packet_layers.specs.Dissection.{rows, refusal}
-use Rattle.packet_layers.specs.Code.{typed_reasons, udp_reasons, sum_reasons}
+use Rattle.decapsulate.specs.Arrival.{typed_reasons}
+use Rattle.packet_layers.specs.Code.{udp_reasons, sum_reasons}
 
 -- the table of a tunnel header has none of the reasons of the layers before it
 no_runt : (known : List (ℕ × ℕ)) (k : Option Tunnel) (d : List ℕ) → first (rows Runt Runt (data_reasons known k d)) ≡ None

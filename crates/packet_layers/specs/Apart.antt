@@ -17,6 +17,7 @@ pub record Head : Type 0 where
   pub place : ℕ
   pub octets : List ℕ
 
+-- a text of which headers and tails are taken off
 pub record Apart : Type 0 where
   -- from the front on
   pub heads : List Head
@@ -28,6 +29,7 @@ pub record Apart : Type 0 where
 abbrev pub no_span : Span
 no_span = record { place = 0; octets = [] }
 
+-- what stands in a free place of a list of heads
 abbrev pub no_head : Head
 no_head = record { kind = Ether; place = 0; octets = [] }
 

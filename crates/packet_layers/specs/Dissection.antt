@@ -51,6 +51,7 @@ ether_off b a =
     let tags = length (tags_text b) in
     type_off (tag_off (nat_le 8 tags) (tag_off (nat_le 4 tags) (put Ether 12 a)))
 
+-- the head of a family
 abbrev pub ip_kind : Family → HeadKind
 ip_kind family_4 = Ip4
 ip_kind family_6 = Ip6
@@ -63,6 +64,7 @@ ip_off b a = split (ip_kind (family b)) (packet_parts (family b) a.payload.octet
 abbrev pub udp_off : Apart → Apart
 udp_off a = split Udp (udp_parts a.payload.octets) a
 
+-- the head of a tunnel of a kind
 abbrev pub tunnel_kind : Tunnel → HeadKind
 tunnel_kind tunnel.Vxlan = Vxlan
 tunnel_kind tunnel.Geneve = Geneve
@@ -79,6 +81,7 @@ pub record Taken : Type 0 where
   pub apart : Apart
   pub stop : Option Stop
 
+-- no more is taken off, for this cause
 abbrev pub stopped : Stop → Apart → Taken
 stopped stop a = record { apart = a; stop = Some stop }
 

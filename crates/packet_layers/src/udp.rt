@@ -2,21 +2,18 @@
 ghost use Rattle.std.specs.Prelude.{◌≡◌, ◌≤◌, ◌<◌, ◌+◌, length, IfOk, OnOk, OnErr};
 ghost use Rattle.frame_view.specs.First.{first, fault_of};
 ghost use Rattle.ip_udp_view.specs.Udp.{SplitsUdp, udp_parts};
-ghost use Rattle.decapsulate.specs.Arrival.{needs_sum};
 ghost use Rattle.packet_layers.specs.Dissection.{udp_off};
 ghost use Rattle.packet_layers.specs.Code.{udp_reasons, sum_reasons};
 
 use crate::HeadKind;
 use crate::apart::Apart;
-use crate::ip::Packet;
+use decapsulate::{Packet, needs_sum};
 use frame_view::Reason;
-use ip_udp_view::{Addr, SumState, UdpView};
+use ip_udp_view::{SumState, UDP, UdpView};
 use underlay::Underlay;
 
 /// The octets of a header.
 const HEADER: usize = 8;
-/// UDP's protocol number.
-const UDP: u8 = 17;
 
 /// Takes the UDP header off a packet whose IP header is taken off, and what stands behind the UDP length.
 pub(crate) fn take_udp<'a>(
@@ -58,15 +55,5 @@ pub(crate) fn check_sum(view: &UdpView, packet: &Packet, underlay: &Underlay) ->
         SumState::Zero if needs_sum(underlay, packet.source) => Err(Reason::ZeroSum),
         SumState::Wrong => Err(Reason::BadUdpSum),
         _ => Ok(()),
-    }
-}
-
-/// Whether datagrams from this address need a checksum: over IPv6, unless `zero6` is set (RFC 6935, 5).
-fn needs_sum(underlay: &Underlay, source: Addr) -> bool
-    ensures { result ≡ needs_sum underlay.now source }
-{
-    match source {
-        Addr::V4(_) => false,
-        Addr::V6(_) => !underlay.zero6,
     }
 }

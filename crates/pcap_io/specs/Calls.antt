@@ -13,6 +13,7 @@ next_by [] Whole = None
 next_by [] Cut = None
 next_by [] (Faulty fault) = Some (Err fault)
 
+-- the answer of a call of `next`
 abbrev pub next_answer : Reading → Option (Result Record RecordFault)
 next_answer reading = next_by reading.records reading.end
 
@@ -23,6 +24,7 @@ left_by [] Whole = whole []
 left_by [] Cut = record { records = []; end = Cut }
 left_by [] (Faulty fault) = whole []
 
+-- what it leaves
 abbrev pub left_after : Reading → Reading
 left_after reading = left_by reading.records reading.end
 
@@ -32,6 +34,7 @@ faults_of Whole = []
 faults_of Cut = []
 faults_of (Faulty fault) = Err fault ∷ []
 
+-- all answers in turn
 abbrev pub answers : Reading → List (Result Record RecordFault)
 answers reading = map (λ r. Ok r) reading.records ++ faults_of reading.end
 
@@ -53,6 +56,7 @@ abbrev pub is_cut_by : List Record → End → Bool
 is_cut_by [] end = ends_cut end
 is_cut_by (r ∷ rs) end = false
 
+-- what is left is nothing but a cut rest
 abbrev pub is_cut : Reading → Bool
 is_cut reading = is_cut_by reading.records reading.end
 
@@ -63,5 +67,6 @@ pub record HasTaken (old : Reading) (taken : List (Result Record RecordFault)) (
   pub end : is_cut now ≡ ends_cut old.end
   pub nothing_left : answers now ≡ []
 
+-- calls until None hand out all in turn
 abbrev pub TakesAllInTurn : Type 0
 TakesAllInTurn = (old now : Reading) (taken : List (Result Record RecordFault)) → YieldsThen IsNext old taken None now → HasTaken old taken now

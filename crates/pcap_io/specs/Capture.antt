@@ -20,6 +20,7 @@ abbrev pub opened_by : Result Style CaptureFault → List ℕ → Result Reading
 opened_by (Err fault) text = Err fault
 opened_by (Ok style) text = Ok (records style (drop 24 text))
 
+-- a text opened: its records, or why it is no capture
 abbrev pub opened : List ℕ → Result Reading CaptureFault
 opened text = opened_by (style_of text) text
 
@@ -27,5 +28,6 @@ opened text = opened_by (style_of text) text
 abbrev pub OpensWhatIsThere : Type 0
 OpensWhatIsThere = (text : List ℕ) (reading : Reading) → IsText text → opened text ≡ Ok reading → IsCapture text reading
 
+-- a capture is opened as what it is
 abbrev pub OpensNothingElse : Type 0
 OpensNothingElse = (text : List ℕ) (reading : Reading) → IsCapture text reading → opened text ≡ Ok reading

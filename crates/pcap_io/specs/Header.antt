@@ -25,6 +25,7 @@ header_by number text = record {
   link = number 4 (drop 20 text);
 }
 
+-- the header of a text in this order of octets
 unfoldable pub header_in : Order → List ℕ → Header
 header_in order text = header_by (number_of order) text
 
@@ -40,6 +41,7 @@ style_by_magic text = find (λ style. number_of style.order 4 text == magic_of s
 abbrev pub is_version_2_4 : Header → Bool
 is_version_2_4 header = header.major == 2 && header.minor == 4
 
+-- the link type of Ethernet (LINKTYPE_ETHERNET)
 abbrev pub ethernet : ℕ
 ethernet = 1
 

@@ -34,6 +34,7 @@ abbrev pub unless_faulty : Option RecordFault → RecordHeader → Result Record
 unless_faulty (Some fault) header = Err fault
 unless_faulty None header = Ok header
 
+-- a record header, or the first fault that it has
 unfoldable pub readable : Style → RecordHeader → Result RecordHeader RecordFault
 readable style header = unless_faulty (first_row (record_faults style header)) header
 

@@ -22,6 +22,7 @@ record_header_by number text = record {
   original = number 4 (drop 12 text);
 }
 
+-- the header of a record in this order of octets
 unfoldable pub record_header_in : Order → List ℕ → RecordHeader
 record_header_in order text = record_header_by (number_of order) text
 

@@ -5,12 +5,14 @@ use Rattle.pcap_io.specs.Record.{IsWithinLimits}
 use Rattle.pcap_io.specs.declared.record.Next.{Next as Found}
 use Rattle.pcap_io.specs.declared.record.Next.TheVariants as found
 
+-- what a call of the reader finds, as the definition says it
 abbrev pub next_seen : Found → Next
 next_seen (found.Another r rest) = Another r rest.now
 next_seen found.Whole = Ends Whole
 next_seen found.Cut = Ends Cut
 next_seen (found.Faulty fault) = Ends (Faulty fault)
 
+-- a record that is found is within the limits of a capture
 abbrev pub FoundIsWithinLimits : Found → Type 0
 FoundIsWithinLimits (found.Another r rest) = IsWithinLimits r
 FoundIsWithinLimits found.Whole = ⊤

@@ -11,6 +11,7 @@ use Rattle.pcap_io.specs.declared.style.Order.TheVariants.{Little}
 use Rattle.pcap_io.specs.declared.style.Precision.TheVariants.{Nano}
 use Rattle.pcap_io.specs.declared.style.Style.{Style}
 
+-- captures are written low octet first, in nanoseconds
 abbrev pub written_style : Style
 written_style = record { order = Little; precision = Nano }
 
@@ -27,6 +28,7 @@ record_header_of moment captured original = record_header_text Little (record {
   original = original;
 })
 
+-- the octets of a record as it is written
 unfoldable pub written_record : Record → List ℕ
 written_record r = record_header_of r.moment (length r.octets) r.original ++ r.octets
 

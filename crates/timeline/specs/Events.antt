@@ -27,6 +27,7 @@ record_events tap count latest (r ∷ rs) =
     }
     ∷ record_events tap (count + 1) (max r.moment latest) rs
 
+-- the events of a capture, one for each record
 abbrev pub events_of : Opened → List Event
 events_of c = record_events c.tap 0 0 c.capture.records
 
@@ -59,15 +60,18 @@ abbrev pub IsTapOf : ℕ → Tap → Type 0
 IsTapOf ports (Port port) = (1 ≤ port) × (port ≤ ports)
 IsTapOf ports Underlay = Unit {0}
 
+-- a record of a capture as an event has it, on so many ports
 pub record IsRecordOf (ports instant : ℕ) (place : Tap) (c : Captured) : Type 0 where
   pub moment : instant ≤ last_moment
   pub tap : IsTapOf ports place
   pub original : c.original < 2 ^ 32
   pub octets : length c.octets ≤ longest
 
+-- what can happen in a run with so many changes and ports
 abbrev pub HappensIn : ℕ → ℕ → ℕ → Happening → Type 0
 HappensIn changes ports moment (happenings.Change index) = index < changes
 HappensIn changes ports moment (happenings.Record tap c) = IsRecordOf ports moment tap c
 
+-- an event of such a run
 abbrev pub IsEventOf : ℕ → ℕ → Event → Type 0
 IsEventOf changes ports e = HappensIn changes ports e.moment e.happening

@@ -16,6 +16,7 @@ abbrev pub refused_by : Tap → Result Reading CaptureFault → Option TimelineF
 refused_by tap (Ok reading) = None
 refused_by tap (Err fault) = Some (faults.Capture tap fault)
 
+-- why captures aren't opened, in their order
 abbrev pub opening_faults : List Input → List TimelineFault
 opening_faults inputs = filter_map (λ input. refused_by input.tap (opened input.text)) inputs
 
@@ -25,9 +26,11 @@ ended_by tap count Whole = None
 ended_by tap count Cut = None
 ended_by tap count (Faulty fault) = Some (faults.Record tap (count + 1) fault)
 
+-- the fault that the records of a capture end with
 abbrev pub record_fault : Opened → Option TimelineFault
 record_fault c = ended_by c.tap (length c.capture.records) c.capture.end
 
+-- the same of all captures, in their order
 abbrev pub record_faults : List Opened → List TimelineFault
 record_faults captures = filter_map record_fault captures
 

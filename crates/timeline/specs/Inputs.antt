@@ -29,6 +29,7 @@ abbrev pub opened_by : Tap → Result Reading CaptureFault → Option Opened
 opened_by tap (Ok reading) = Some (record { tap = tap; capture = reading })
 opened_by tap (Err fault) = None
 
+-- the captures that can be opened
 abbrev pub opened_captures : List Input → List Opened
 opened_captures inputs = filter_map (λ input. opened_by input.tap (opened input.text)) inputs
 

@@ -32,6 +32,7 @@ merged (e ∷ es) = put_in e (merged es)
 abbrev pub MergedIsInOrder : Type 0
 MergedIsInOrder = (all : List Event) → IsInOrder all (merged all)
 
+-- and there is no other such list
 abbrev pub NothingElseIsInOrder : Type 0
 NothingElseIsInOrder = (all es : List Event) → IsInOrder all es → es ≡ merged all
 
@@ -39,5 +40,6 @@ NothingElseIsInOrder = (all es : List Event) → IsInOrder all es → es ≡ mer
 abbrev pub CapturesRise : Type 0
 CapturesRise = (c : Opened) → IsRising 0 (events_of c)
 
+-- what rises among all stays in its order
 abbrev pub KeepsWhatRises : Type 0
 KeepsWhatRises = (test : Event → Bool) (all : List Event) → IsRising 0 (filter test all) → filter test (merged all) ≡ filter test all

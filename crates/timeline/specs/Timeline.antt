@@ -25,9 +25,11 @@ cut_by tap count Whole = None
 cut_by tap count Cut = Some (record { tap = tap; whole = count })
 cut_by tap count (Faulty fault) = None
 
+-- the cut rest that a capture ends with, where it does
 abbrev pub cut_of : Opened → Option CutRest
 cut_of c = cut_by c.tap (length c.capture.records) c.capture.end
 
+-- those of all captures, in their order
 abbrev pub cuts_of : List Opened → List CutRest
 cuts_of captures = filter_map cut_of captures
 

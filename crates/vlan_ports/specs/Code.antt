@@ -7,6 +7,7 @@ use Rattle.vlan_ports.specs.contracts.member.Egress as egress
 use Rattle.vlan_ports.specs.contracts.port.PortRule as port_rule
 use Rattle.vlan_ports.specs.declared.port.PortRule.{PortRule}
 
+-- members are stored as pairs of a port and how frames leave there
 abbrev pub members_code : Coded Members
 members_code = code coded_ℕ egress.the_row.coded
 

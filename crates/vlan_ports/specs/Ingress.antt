@@ -12,6 +12,7 @@ use Rattle.frame_view.specs.Reason.{number_of}
 use Rattle.frame_view.specs.declared.reason.Reason.{Reason}
 use Rattle.frame_view.specs.declared.reason.Reason.TheVariants.{Runt, PortDown, BadSource, Reserved, CutTag, BadVid, FrameType, NoSegment, NotMember}
 use Rattle.frame_view.specs.declared.reason.Refused.{Refused}
+pub use Rattle.frame_view.specs.Refusal.{nowhere, within}
 use Rattle.vlan_ports.specs.Ports.{Ports, port_at, is_up, has_segment, members_at, egress_at}
 use Rattle.vlan_ports.specs.declared.port.Accept.{Accept}
 use Rattle.vlan_ports.specs.declared.port.Accept.TheVariants as accept
@@ -29,6 +30,7 @@ pub record IsEntering (b : List ℕ) (f : Frame) (w : ℕ) : Type 0 where
 abbrev pub destination : List ℕ → List ℕ
 destination b = take 6 b
 
+-- the second six octets
 abbrev pub source : List ℕ → List ℕ
 source b = part 6 6 b
 
@@ -61,13 +63,6 @@ abbrev pub vid_at : Ports → ℕ → List ℕ → ℕ
 vid_at s port b = segment_vid (port_at s port).pvid (tag_vid b)
 
 -- ---- why a frame enters no segment
-
--- a refusal before the segment is known, and one in a segment
-abbrev pub nowhere : Reason → Refused
-nowhere reason = record { segment = None; reason = reason }
-
-abbrev pub within : ℕ → Reason → Refused
-within vid reason = record { segment = Some vid; reason = reason }
 
 -- those of the text itself and of the state of the port
 abbrev pub text_reasons : Ports → ℕ → List ℕ → List (Refused × Bool)
@@ -154,6 +149,7 @@ pub record IsRefused (s : Ports) (port : ℕ) (b : List ℕ) (refused : Refused)
 abbrev pub ReadsWhereLongEnough : Type 0
 ReadsWhereLongEnough = (b : List ℕ) → IsText b → ((f : Frame) × (w : ℕ) × IsEntering b f w) ↔ ((14 ≤ length b) × (has_tag b ≡ true → 18 ≤ length b))
 
+-- it is the text of one frame and VID alone
 abbrev pub ReadsOneFrame : Type 0
 ReadsOneFrame = (b : List ℕ) (f : Frame) (w : ℕ) → IsEntering b f w → (f ≡ frame_in b) × (w ≡ tag_vid b)
 

@@ -18,6 +18,7 @@ Members = FinMap nat_cmp Egress
 abbrev pub Segments : Type 0
 Segments = FinMap nat_cmp Members
 
+-- the ports, and the members of each segment
 pub record Ports : Type 0 where
   -- port 1, port 2 and so on
   pub ports : List PortRule
@@ -31,6 +32,7 @@ no_port = record { pvid = 0; accept = All; up = false }
 abbrev pub port_at : Ports → ℕ → PortRule
 port_at s port = slice_index_or s.ports (port - 1) no_port
 
+-- a port is up
 abbrev pub is_up : Ports → ℕ → Bool
 is_up s port = (port_at s port).up
 
@@ -38,6 +40,7 @@ is_up s port = (port_at s port).up
 abbrev pub members_at : Ports → ℕ → Option Members
 members_at s vid = get s.segments vid
 
+-- there is a segment with this VID
 abbrev pub has_segment : Ports → ℕ → Bool
 has_segment s vid = is_some (members_at s vid)
 
@@ -51,6 +54,7 @@ egress_at s vid port = option_and_then (λ members. get members port) (members_a
 abbrev pub is_port : ℕ → ℕ → Bool
 is_port count number = nat_le 1 number && nat_le number count
 
+-- all of them are numbers of ports
 abbrev pub are_ports : ℕ → List ℕ → Bool
 are_ports count numbers = list_all (is_port count) numbers
 
@@ -86,6 +90,7 @@ abbrev pub member_set : Members → ℕ → Option Egress → Members
 member_set members port (Some egress) = insert members port egress
 member_set members port None = remove members port
 
+-- with a port made a member of a segment, or no member
 abbrev pub with_member : Ports → ℕ → ℕ → Option Egress → Ports
 with_member s vid port egress = record s { segments = insert s.segments vid (member_set (unwrap_or (members_at s vid) empty) port egress) }
 

@@ -20,5 +20,6 @@ MemberKeepsSegments = (s : Ports) (vid port : ℕ) (egress : Option Egress) (v :
 abbrev pub SegmentAlone : Type 0
 SegmentAlone = (s : Ports) (vid v : ℕ) → members_at (with_segment s vid) v ≡ (if v == vid then Some empty else members_at s v)
 
+-- taking a segment away changes no other
 abbrev pub RemovalAlone : Type 0
 RemovalAlone = (s : Ports) (vid v : ℕ) → members_at (without_segment s vid) v ≡ (if v == vid then None else members_at s v)

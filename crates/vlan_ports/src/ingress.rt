@@ -2,7 +2,7 @@
 ghost use Rattle.std.specs.Prelude.{◌≡◌, ◌≤◌, ◌<◌, length, take, if◌then◌else◌, IfSome};
 ghost use Rattle.vlan_ports.specs.Octets.{part};
 ghost use Rattle.vlan_ports.specs.Frame.{first};
-ghost use Rattle.vlan_ports.specs.Ingress.{enters, nowhere, within, unless, vid_reasons, segment_vid, is_cut, tag_vid, frame_in};
+ghost use Rattle.vlan_ports.specs.Ingress.{enters, unless, vid_reasons, segment_vid, is_cut, tag_vid, frame_in};
 ghost use Rattle.vlan_ports.specs.Ports.{port_at};
 
 use crate::PortSet;
@@ -26,19 +26,19 @@ pub fn classify<'a>(
     ensures { result ≡ enters ports.now port octets.now }
 {
     let Ok(view) = EtherView::read(octets) else {
-        return Err(nowhere(Reason::Runt));
+        return Err(Refused::nowhere(Reason::Runt));
     };
     if !ports.is_up(port) {
-        return Err(nowhere(Reason::PortDown));
+        return Err(Refused::nowhere(Reason::PortDown));
     }
     if view.src().is_group() {
-        return Err(nowhere(Reason::BadSource));
+        return Err(Refused::nowhere(Reason::BadSource));
     }
     if view.dst().is_reserved() {
-        return Err(nowhere(Reason::Reserved));
+        return Err(Refused::nowhere(Reason::Reserved));
     }
     let Some((tag_vid, frame)) = without_tag(&view) else {
-        return Err(nowhere(Reason::CutTag));
+        return Err(Refused::nowhere(Reason::CutTag));
     };
     let vid = segment_of(ports, port, tag_vid)?;
     Ok((vid, frame))
@@ -67,18 +67,18 @@ fn segment_of(ports: &PortSet, port: u8, tag_vid: u16) -> Result<Vid, Refused>
         result ≡ unless (first (vid_reasons ports.now port tag_vid)) (segment_vid pvid tag_vid) }
 {
     if tag_vid == RESERVED_VID {
-        return Err(nowhere(Reason::BadVid));
+        return Err(Refused::nowhere(Reason::BadVid));
     }
     let rule = ports.rule(port);
     if !rule.accept.accepts(tag_vid) {
-        return Err(nowhere(Reason::FrameType));
+        return Err(Refused::nowhere(Reason::FrameType));
     }
     let vid = Vid::new(tag_vid).unwrap_or(rule.pvid);
     if !ports.has(vid) {
-        return Err(nowhere(Reason::NoSegment));
+        return Err(Refused::nowhere(Reason::NoSegment));
     }
     if ports.egress(vid, port).is_none() {
-        return Err(within(vid, Reason::NotMember));
+        return Err(Refused::within(vid, Reason::NotMember));
     }
     Ok(vid)
 }
@@ -97,25 +97,5 @@ fn frame_of<'a>(view: &EtherView<'a>, pcp: u8, dei: bool, body: &'a [u8]) -> Bri
         dei,
         addresses: view.addresses(),
         body,
-    }
-}
-
-/// A refusal before the segment is known.
-fn nowhere(reason: Reason) -> Refused
-    ensures { result ≡ nowhere reason }
-{
-    Refused {
-        segment: None,
-        reason,
-    }
-}
-
-/// A refusal in a segment.
-fn within(vid: Vid, reason: Reason) -> Refused
-    ensures { result ≡ within vid reason }
-{
-    Refused {
-        segment: Some(vid),
-        reason,
     }
 }

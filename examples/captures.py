@@ -87,11 +87,12 @@ def large():
 
 
 def write(path, records):
-    """A capture of pairs of a moment, in microseconds, and octets."""
+    """A capture of records: a moment, in microseconds, the octets, and the original length where it is another."""
     with path.open("wb") as out:
         out.write(struct.pack("<IHHiIII", 0xA1B2C3D4, 2, 4, 0, 0, 262144, 1))
-        for moment, octets in records:
-            out.write(struct.pack("<IIII", *divmod(moment, SECOND), len(octets), len(octets)) + octets)
+        for moment, octets, *original in records:
+            lengths = len(octets), *(original or [len(octets)])
+            out.write(struct.pack("<IIII", *divmod(moment, SECOND), *lengths) + octets)
 
 
 def read(path):

@@ -38,17 +38,16 @@ refuses_within() {
 # What a slot of the pool holds is told by `same` and `dead` alone: no other module reads an address or a moment.
 refuses_within shared_tables reads private-field 3 <<'TEXT'
 //! Reads what a slot holds past the slots' own module.
-use crate::slots::{Held, Slots};
-use frame_view::Mac;
+use crate::slots::{Slot, Slots};
 
-/// The address of an entry.
-pub fn address_of(entry: &Held) -> Mac {
-    entry.mac
+/// The VID and the address of an entry.
+pub fn key_of(slot: &Slot) -> u64 {
+    slot.key
 }
 
 /// When an entry was last seen.
-pub fn moment_of(entry: &Held) -> Option<u64> {
-    entry.last
+pub fn moment_of(slot: &Slot) -> u64 {
+    slot.last
 }
 
 /// How many slots there are.

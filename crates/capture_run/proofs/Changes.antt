@@ -1,9 +1,9 @@
 -- The changes of a run, by their indices; and that no event adds or removes a port.
 use Rattle.std.proofs.Common.{◌≡◌, refl, ℕ, zero, suc, ◌+◌, ◌<◌, arith, Bool, true, false, cond, List, [], ◌∷◌, drop, length, map, slice_index_or, Option, Some, None, Result, Ok, Err}
 use Rattle.std.proofs.lemmas.List.{get_or-map, length-set}
-use Rattle.overlay_config.specs.declared.change.Change.{Change}
-use Rattle.overlay_config.specs.declared.change.Change.TheVariants.{AddFlood, RemoveFlood, Fix, Unfix, SetAgeing, SetLearning, SetMember, PortUp, PortDown, Flush}
-use Rattle.overlay_config.specs.declared.change.TimedChange.{TimedChange}
+use Rattle.overlay_settings.specs.declared.change.Change.{Change}
+use Rattle.overlay_settings.specs.declared.change.Change.TheVariants.{AddFlood, RemoveFlood, Fix, Unfix, SetAgeing, SetLearning, SetMember, PortUp, PortDown, Flush}
+use Rattle.overlay_settings.specs.declared.change.TimedChange.{TimedChange}
 use Rattle.endpoint_state.specs.Settings.{Settings, SegmentSettings, segment_at}
 use Rattle.endpoint_state.specs.Change.{refused, accepted}
 use Rattle.endpoint_core.specs.Event.{Input, Event, FrameAt, Packet, Asks}
@@ -13,7 +13,7 @@ use Rattle.std.specs.Prelude.{is_none}
 use Rattle.frame_view.specs.declared.reason.Refused.{Refused}
 use Rattle.underlay.specs.Overlay.{Overlay}
 use Rattle.endpoint_state.specs.State.{State as Bridges, aged, accepted_state}
-use Rattle.endpoint_core.specs.declared.arrival.Came.{Came}
+use Rattle.endpoint_core.specs.Came.{Came}
 use Rattle.endpoint_core.specs.Arrival.{came_at, came_by}
 use Rattle.capture_run.specs.Outputs.{change_at, no_change}
 

@@ -17,12 +17,12 @@ use Rattle.endpoint_state.specs.Settings.{Settings}
 use Rattle.endpoint_core.specs.Event as event
 use Rattle.endpoint_core.specs.Run.{decisions}
 use Rattle.endpoint_core.proofs.Runs.{answers-decisions}
-use Rattle.capture_run.specs.Lines.{cut_line}
+use Rattle.decision_lines.specs.Lines.{cut_line}
 use Rattle.filter_db.specs.declared.place.Place.{Place}
 use Rattle.filter_db.specs.declared.place.Place.TheVariants.{Local, Remote}
 use Rattle.pcap_io.specs.Written.{written, written_header, written_record}
 use Rattle.timeline.specs.declared.event.Event.{Event as Happens}
-use Rattle.overlay_config.specs.declared.change.Change.{Change}
+use Rattle.overlay_settings.specs.declared.change.Change.{Change}
 use Rattle.endpoint_core.specs.Decision.{Sent}
 use Rattle.endpoint_core.specs.Step.{Answer, Decided, Replied, State, opened, answer, answers, after}
 use Rattle.capture_run.specs.Sendings.{Sending, sending_of, sendings_of, sent_by, is_at_port, is_at_underlay, record_of, capture_of, port_captures, underlay_capture}

@@ -1,5 +1,4 @@
 pub mod Sendings
-pub mod Lines
 pub mod Outputs
 pub mod Fault
 pub mod Run

@@ -4,7 +4,7 @@ use Rattle.std.specs.declared.alloc.Global.{Global}
 use Rattle.config_text.specs.declared.fault.SettingsFault.TheVariants.{NotToml}
 use Rattle.overlay_config.specs.Fault.{Meaning}
 use Rattle.overlay_config.specs.Settings.{Settings}
-use Rattle.overlay_config.specs.declared.change.TimedChange.{TimedChange}
+use Rattle.overlay_settings.specs.declared.change.TimedChange.{TimedChange}
 use Rattle.timeline.specs.Timeline.{Timeline, told}
 use Rattle.timeline.specs.declared.fault.TimelineFault.{TimelineFault}
 use Rattle.endpoint_state.specs.Opened.{settings_told}

@@ -5,11 +5,11 @@ use Rattle.filter_db.specs.declared.place.Place.{Place}
 use Rattle.filter_db.specs.declared.place.Place.TheVariants.{Local, Remote}
 use Rattle.pcap_io.specs.Written.{written_header, written_record}
 use Rattle.timeline.specs.declared.event.Event.{Event as Happens}
-use Rattle.overlay_config.specs.declared.change.Change.{Change}
+use Rattle.overlay_settings.specs.declared.change.Change.{Change}
 use Rattle.endpoint_core.specs.Decision.{Sent}
 use Rattle.endpoint_core.specs.Step.{Answer, Decided, Replied, State, answer, after}
 use Rattle.timeline.specs.declared.timeline.Cut.{Cut}
-use Rattle.capture_run.specs.Lines.{answer_text, cut_line, line}
+use Rattle.decision_lines.specs.Lines.{answer_text, cut_line, line}
 use Rattle.capture_run.specs.Sendings.{Sending, sending_of, record_of}
 use Rattle.capture_run.specs.Outputs.{Outputs, event_of, named_by}
 use Rattle.capture_run.specs.declared.outputs.Outputs.{Outputs as Texts}

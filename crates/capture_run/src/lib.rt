@@ -5,11 +5,10 @@
 #![tactic(auto)]
 
 mod fault;
-mod line;
 mod outputs;
 mod run;
+mod step;
 
 pub use fault::{RunFault, of_captures, of_changes, of_settings};
-pub use line::{cut_line, decision_line};
 pub use outputs::Outputs;
 pub use run::run_bytes;

@@ -1,14 +1,14 @@
 //! What comes out of a run.
-ghost use Rattle.std.specs.Prelude.{◌≡◌, ◌≤◌, ◌++◌, length, map, IfOk, OnOk, All};
+ghost use Rattle.std.specs.Prelude.{◌≡◌, ◌≤◌, ◌++◌, length, map, IfOk, OnOk};
 ghost use Rattle.pcap_io.specs.Record.{last_moment};
 ghost use Rattle.pcap_io.specs.Written.{whole_frame, written_record};
 ghost use Rattle.encapsulate.specs.Emission.{text};
-ghost use Rattle.endpoint_core.specs.Decision.{IsShort, sent_of};
-ghost use Rattle.capture_run.specs.Writing.{empty_outputs, put_at, seen, with_all_sent, with_line, with_sent};
+ghost use Rattle.encapsulate.specs.Remote.{texts};
+ghost use Rattle.capture_run.specs.Writing.{empty_outputs, put_at, seen, with_line, with_sent};
 
-use encapsulate::Emission;
-use endpoint_core::Outcome;
+use endpoint_core::Leaving;
 use filter_db::Place;
+use frame_view::Reason;
 use pcap_io::{put_header, put_record};
 use std::alloc::{AllocError, Global};
 
@@ -48,34 +48,23 @@ impl Outputs {
         })
     }
 
-    /// Puts what came of all outlets at a moment.
-    pub(crate) fn put_all_sent(
+    /// Puts what came of an outlet: a record into the capture of its place, if something was sent.
+    pub(crate) fn put_sent(
         &mut self,
         moment: u64,
-        outcomes: &[Outcome],
+        place: Place,
+        sent: &Result<Leaving, Reason>,
     ) -> Result<(), AllocError>
         requires moment { moment ≤ last_moment }
-        requires short { All IsShort outcomes.now }
-        ensures { OnOk result (seen self.new ≡ with_all_sent moment (seen self.old) (map sent_of outcomes.now)) }
+        requires short { IfOk sent.now (λ e. length e.body ≤ 65549) }
+        ensures { OnOk result (seen self.new ≡ with_sent moment (seen self.old) (record { place = place; sent = texts sent.now })) }
     {
-        for outcome in outcomes {
-            self.put_sent(moment, outcome)?;
-        }
-        Ok(())
-    }
-
-    /// Puts what came of an outlet: a record into the capture of its place, if something was sent.
-    fn put_sent(&mut self, moment: u64, outcome: &Outcome) -> Result<(), AllocError>
-        requires moment { moment ≤ last_moment }
-        requires short { IsShort outcome.now }
-        ensures { OnOk result (seen self.new ≡ with_sent moment (seen self.old) (sent_of outcome.now)) }
-    {
-        let Ok(emission) = &outcome.sent else {
+        let Ok(leaving) = sent else {
             return Ok(());
         };
-        match outcome.place {
-            Place::Local(port) => put_at(&mut self.ports, port, moment, emission),
-            Place::Remote(..) => put_emission(&mut self.underlay, moment, emission),
+        match place {
+            Place::Local(port) => put_at(&mut self.ports, port, moment, leaving),
+            Place::Remote(..) => put_leaving(&mut self.underlay, moment, leaving),
         }
     }
 
@@ -87,30 +76,30 @@ impl Outputs {
     }
 }
 
-/// Puts a record with an emission into the capture of a port, where there is one of this number.
+/// Puts a record with what leaves into the capture of a port, where there is one of this number.
 fn put_at(
     captures: &mut Vec<Vec<u8>>,
     port: u8,
     moment: u64,
-    emission: &Emission,
+    leaving: &Leaving,
 ) -> Result<(), AllocError>
     requires moment { moment ≤ last_moment }
-    requires short { length emission.now.body ≤ 65549 }
+    requires short { length leaving.now.body ≤ 65549 }
     ensures { OnOk result (map (λ v. v.items) captures.new.items
-        ≡ put_at port (written_record (whole_frame moment (text emission.now))) (map (λ v. v.items) captures.old.items)) }
+        ≡ put_at port (written_record (whole_frame moment (text leaving.now))) (map (λ v. v.items) captures.old.items)) }
 {
     if port == 0 || usize::from(port) > captures.len() {
         return Ok(());
     }
-    put_emission(&mut captures[usize::from(port) - 1], moment, emission)
+    put_leaving(&mut captures[usize::from(port) - 1], moment, leaving)
 }
 
-/// Puts a record with an emission into a capture.
-fn put_emission(capture: &mut Vec<u8>, moment: u64, emission: &Emission) -> Result<(), AllocError>
+/// Puts a record with what leaves into a capture.
+fn put_leaving(capture: &mut Vec<u8>, moment: u64, leaving: &Leaving) -> Result<(), AllocError>
     requires moment { moment ≤ last_moment }
-    requires short { length emission.now.body ≤ 65549 }
-    ensures { OnOk result (capture.new.items ≡ capture.old.items ++ written_record (whole_frame moment (text emission.now))) }
+    requires short { length leaving.now.body ≤ 65549 }
+    ensures { OnOk result (capture.new.items ≡ capture.old.items ++ written_record (whole_frame moment (text leaving.now))) }
 {
-    let [head, addresses, tag, body] = emission.parts();
+    let [head, addresses, tag, body] = leaving.parts();
     put_record(capture, moment, head, addresses, tag, body)
 }

@@ -80,6 +80,3 @@ pub fn line_of<'a>(alloc: Global, words: &'a [&'a str]) -> Result<Line<'a>, Line
         _ => Err(LineFault::Refused(error)),
     }
 }
-
-#[cfg(test)]
-mod tests;

@@ -5,3 +5,4 @@ mod Separated
 mod Dotted
 mod ColonHex
 pub mod Names
+pub mod Addresses

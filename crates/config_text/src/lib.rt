@@ -25,6 +25,3 @@ pub use key::Key;
 pub use list_column::{ListColumn, gather};
 pub use reader::Reader;
 pub use row::{Row, read_rows};
-
-#[cfg(test)]
-mod tests;

@@ -12,8 +12,6 @@ mod inner;
 pub mod laws;
 mod outer;
 mod packet;
-#[cfg(test)]
-mod tests;
 
 pub use arrived::Arrived;
 pub use datagram::needs_sum;

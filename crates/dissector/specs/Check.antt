@@ -2,7 +2,7 @@
 use Rattle.std.specs.Prelude.{ℕ, List, ◌++◌, codes, decimal, length, Result, Ok, Err}
 use Rattle.overlay_config.specs.Fault.{Meaning}
 use Rattle.overlay_config.specs.Settings.{Settings}
-use Rattle.overlay_config.specs.declared.change.TimedChange.{TimedChange}
+use Rattle.overlay_settings.specs.declared.change.TimedChange.{TimedChange}
 use Rattle.capture_run.specs.Fault.{of_changes, of_settings}
 use Rattle.capture_run.specs.declared.fault.RunFault.{RunFault}
 
@@ -15,4 +15,4 @@ counts_line ports segments changes =
 abbrev pub checked : Meaning Settings → Meaning (List TimedChange) → Result (List ℕ) RunFault
 checked (Err fault) changes = Err (of_settings fault)
 checked (Ok settings) (Err fault) = Err (of_changes fault)
-checked (Ok settings) (Ok changes) = Ok (counts_line (length settings.ports) (length settings.tables) (length changes))
+checked (Ok settings) (Ok changes) = Ok (counts_line (length settings.ports) (length settings.segments) (length changes))

@@ -3,7 +3,7 @@ ghost use Rattle.std.specs.Prelude.{◌≡◌, IfOk, List, length};
 ghost use Rattle.overlay_config.specs.Change.{changes_in};
 ghost use Rattle.overlay_config.specs.Fault.{Meaning};
 ghost use Rattle.overlay_config.specs.Settings.{Settings, settings_in};
-ghost use Rattle.overlay_config.specs.declared.change.TimedChange.{TimedChange};
+ghost use Rattle.overlay_settings.specs.declared.change.TimedChange.{TimedChange};
 ghost use Rattle.capture_run.specs.Run.{Means};
 ghost use Rattle.dissector.specs.Check.{checked, counts_line};
 ghost use Rattle.explanation.specs.Explanation.{Gives as GivesText};
@@ -29,7 +29,7 @@ pub fn check_text(alloc: Global, settings: &[u8], changes: &[u8]) -> Result<Vec<
         Err(fault) => return Err(of_changes(fault)),
     };
     let ports = settings.ports().len();
-    let segments = settings.tables().len();
+    let segments = settings.segments().len();
     let line = counts_line(alloc, ports, segments, changes.len())?;
     Ok(line)
 }

@@ -18,6 +18,3 @@ pub use explanation::{explain, explain_bytes};
 pub use packet_layers::{Head, HeadKind, Layers, Span, Stop, dissect};
 pub use status::exit_code;
 pub use text::{TextFault, read_text};
-
-#[cfg(test)]
-mod tests;

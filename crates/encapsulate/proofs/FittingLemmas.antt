@@ -17,10 +17,10 @@ use Rattle.underlay.specs.Settings.{port_of}
 use Rattle.encapsulate.specs.Flow.{source_port}
 use Rattle.encapsulate.specs.Packet.{tunnelled}
 use Rattle.encapsulate.specs.Remote.{largest, drops_tags_at, admits, remote_text}
-use Rattle.encapsulate.specs.Peer.{own_addr, IsOwnAddr, IsUnderlay}
+use Rattle.encapsulate.specs.Sender.{own_addr, IsOwnAddr, IsUnderlay}
 use Rattle.encapsulate.specs.Fitting.{TooBigAboveTheMtu}
 use Rattle.encapsulate.proofs.Sending.{length-tunnelled, length-packet4, length-packet6}
-use Rattle.encapsulate.proofs.PeerLemmas.{own-is, own-octets, packet-sent}
+use Rattle.encapsulate.proofs.SenderLemmas.{own-is, own-octets, packet-sent}
 
 -- the octets of the headers in front of a frame
 abbrev headers : Addr → ℕ

@@ -1,5 +1,6 @@
 pub mod FlowLemmas
-pub mod HeadLemmas
 pub mod Sending
-pub mod PeerLemmas
+pub mod SenderLemmas
 pub mod FittingLemmas
+pub mod RemoteLemmas
+pub mod SumsLemmas

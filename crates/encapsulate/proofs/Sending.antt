@@ -23,7 +23,7 @@ use Rattle.underlay.specs.Settings.{hop_to}
 use Rattle.encapsulate.specs.Flow.{source_port}
 use Rattle.encapsulate.specs.Packet.{tunnelled, sum_sent, udp_sent, ip4_sent, ip6_sent, packet}
 use Rattle.encapsulate.specs.Remote.{unsent_reasons, admits}
-use Rattle.encapsulate.specs.Peer.{IsUnderlay}
+use Rattle.encapsulate.specs.Sender.{IsUnderlay}
 
 -- ---- the MAC address to send to
 

@@ -7,7 +7,7 @@ use Rattle.ip_udp_view.specs.declared.addr.Tunnel.{Tunnel}
 use Rattle.ip_udp_view.specs.Addr.{IsAddr}
 use Rattle.underlay.specs.declared.tunnels.SegmentTunnel.{SegmentTunnel}
 use Rattle.underlay.specs.Overlay.{Overlay, tunnel_at}
-use Rattle.encapsulate.specs.Peer.{own_addr, IsUnderlay}
+use Rattle.encapsulate.specs.Sender.{own_addr, IsUnderlay}
 use Rattle.encapsulate.specs.Remote.{admits, remote_text}
 
 -- a frame is TooBig exactly where its outer IP packet, which stands behind an Ethernet header of 14 octets, is longer than the

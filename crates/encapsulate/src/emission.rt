@@ -5,14 +5,11 @@ ghost use Rattle.encapsulate.specs.Emission.{no_parts, text, around, local_text,
 ghost use Rattle.vlan_ports.specs.declared.member.Egress.TheVariants.{Tagged};
 
 use crate::numbers::CUSTOMER_TAG;
-use arrayvec::ArrayVec;
 use frame_view::{BridgeFrame, Vid};
+use outer_head::Head;
 use std::alloc::AllocError;
 use std::marker::Model;
 use vlan_ports::Egress;
-
-/// The headers in front of a frame, of at most 70 octets: an Ethernet, an IPv6, a UDP and a tunnel header.
-pub type Head = ArrayVec<u8, 70>;
 
 /// The octets that leave at one outlet, in four parts, seen by contracts as these parts. Only the head and the tag are
 /// its own; the addresses and the body are slices of the frame.

@@ -3,8 +3,9 @@ ghost use Rattle.std.specs.Prelude.{◌≡◌, ◌≤◌, ◌⊎◌, ◌+◌, �
 ghost use Rattle.std.specs.List.{concat};
 ghost use Rattle.encapsulate.specs.Emission.{text, around, local_text, local_tag};
 
-use crate::emission::{Head, four, tag_of};
+use crate::emission::{four, tag_of};
 use frame_view::{BridgeFrame, Vid};
+use outer_head::Head;
 use std::marker::Model;
 use vlan_ports::Egress;
 

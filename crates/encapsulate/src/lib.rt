@@ -2,25 +2,23 @@
 //!
 //! [`wrap`] puts a frame of a segment into the outer packet to a remote endpoint, or says why it isn't sent; [`local`] is the
 //! frame at a local port. Both answer an [`Emission`], of which only the outer headers and the tag are written: the rest is
-//! slices of the frame. [`unwrap`] reads what [`wrap`] writes, by the settings that [`Under`] has, and [`laws`] says that a
-//! peer gets the same frame. Only [`Emission::append_to`] and [`Under::open`] take memory.
+//! slices of the frame. The outer headers are copied from the heads that [`Under`] has ready; [`FrameSums`] has what all
+//! packets with one frame share. Only [`Emission::append_to`] and [`Under::open`] take memory.
 #![tactic(auto)]
 
-mod datagram;
 mod emission;
 mod flow;
-mod head;
 pub mod laws;
 mod leaving;
 mod numbers;
 mod remote;
-#[cfg(test)]
-mod tests;
+mod sums;
 
-pub use decapsulate::{Arrived, unwrap};
-pub use emission::{Emission, Head, local};
+pub use emission::{Emission, local};
 pub use leaving::{Leaving, local_in};
+pub use outer_head::Head;
 pub use remote::{unsent, wrap, wrap_in};
+pub use sums::FrameSums;
 pub use underlay::{
     Hops, PeerRule, Segment, SegmentTunnel, TagRule, TunnelRule, Tunnels, Under, Underlay,
 };

@@ -1,21 +1,23 @@
 //! What leaves for a remote endpoint.
-ghost use Rattle.std.specs.Prelude.{◌≡◌, ◌+◌, ◌≤◌, [], IsTrue, IsNone, IfOk, is_some, length};
+ghost use Rattle.std.specs.Prelude.{◌≡◌, ◌+◌, ◌++◌, ◌≤◌, [], IsTrue, IsNone, IfOk, is_some, length};
 ghost use Rattle.frame_view.specs.Tag.{begins_tag};
 ghost use Rattle.flood_lists.specs.Flood.{has_family};
 ghost use Rattle.underlay.specs.Overlay.{has_segment, tunnel_at};
 ghost use Rattle.underlay.specs.Settings.{own};
 ghost use Rattle.encapsulate.specs.Emission.{around};
-ghost use Rattle.encapsulate.specs.Remote.{largest, drops_tags_at, sending, text_behind, texts, admits};
+ghost use Rattle.ip_udp_view.specs.declared.addr.Addr.TheVariants.{V4, V6};
+ghost use Rattle.frame_view.specs.Frame.{plain};
+ghost use Rattle.encapsulate.specs.Remote.{largest, drops_tags_at, remote_text, sending, text_behind, texts, admits};
+ghost use Rattle.encapsulate.specs.Sums.{AreSums};
 
-use crate::datagram::Datagram;
-use crate::emission::{Emission, Head};
-use crate::flow::source_port;
-use crate::head::outer_head;
+use crate::emission::Emission;
 use crate::leaving::Leaving;
 use crate::numbers::CUSTOMER_TAG;
+use crate::sums::FrameSums;
 use byteorder::{BigEndian, ByteOrder};
 use frame_view::{BridgeFrame, Reason, Vid};
 use ip_udp_view::{Addr, Tunnel};
+use outer_head::Head;
 use underlay::{TagRule, Under, Underlay};
 
 /// The octets of the outer IPv4, UDP and tunnel headers.
@@ -26,7 +28,8 @@ const IP6_HEADERS: u16 = 56;
 const ADDRESSES: usize = 12;
 
 /// The packet that a frame of a segment is sent in to a remote endpoint, in the segment's tunnel of a kind (RFC 7348, 5;
-/// RFC 8926, 3.4). The segment is there and has such a tunnel, and the endpoint has an own address of the family.
+/// RFC 8926, 3.4). The segment is there and has such a tunnel, and the endpoint has an own address of the family. The sums
+/// are those of the frame.
 ///
 /// `TooBig`: the outer IP packet would be longer than the MTU. `InnerTagOut`: the body begins with a tag, and the
 /// segment drops those (RFC 7348, 6.1).
@@ -36,14 +39,16 @@ pub fn wrap<'a>(
     kind: Tunnel,
     addr: Addr,
     frame: &BridgeFrame<'a>,
+    sums: &FrameSums,
 ) -> Result<Emission<'a>, Reason>
     requires tunnel { IsTrue (is_some (tunnel_at under.now vid kind)) }
     requires family { IsTrue (has_family (own under.now.underlay) addr) }
+    requires sums { AreSums frame.now sums.now }
     ensures sent { texts result ≡ sending under.now vid kind addr frame.now }
     ensures parts { IfOk result (λ e. e ≡ around e.head [] frame.now) }
 {
     let mut head = Head::new();
-    put_head(under, vid, kind, addr, frame, &mut head)?;
+    put_head(under, vid, kind, addr, frame, sums, &mut head)?;
     Ok(Emission::behind(head, frame))
 }
 
@@ -54,14 +59,16 @@ pub fn wrap_in<'h, 'a>(
     kind: Tunnel,
     addr: Addr,
     frame: &BridgeFrame<'a>,
+    sums: &FrameSums,
     room: &'h mut Head,
 ) -> Result<Leaving<'h, 'a>, Reason>
     requires tunnel { IsTrue (is_some (tunnel_at under.now vid kind)) }
     requires family { IsTrue (has_family (own under.now.underlay) addr) }
+    requires sums { AreSums frame.now sums.now }
     ensures sent { texts result ≡ sending under.now vid kind addr frame.now }
     ensures parts { IfOk result (λ e. e ≡ around e.head [] frame.now) }
 {
-    put_head(under, vid, kind, addr, frame, room)?;
+    put_head(under, vid, kind, addr, frame, sums, room)?;
     Ok(Leaving::behind(room.as_slice(), frame))
 }
 
@@ -72,20 +79,68 @@ fn put_head(
     kind: Tunnel,
     addr: Addr,
     frame: &BridgeFrame,
+    sums: &FrameSums,
     head: &mut Head,
 ) -> Result<(), Reason>
     requires tunnel { IsTrue (is_some (tunnel_at under.now vid kind)) }
     requires family { IsTrue (has_family (own under.now.underlay) addr) }
+    requires sums { AreSums frame.now sums.now }
     ensures sent { text_behind head.new.items frame.now result ≡ sending under.now vid kind addr frame.now }
 {
     if let Some(reason) = unsent(under, vid, addr, frame) {
         return Err(reason);
     }
-    let underlay = under.settings();
-    let vni = under.tunnel_of(vid, kind).unwrap().vni;
-    let datagram = Datagram::of(source_port(frame), underlay.port_of(kind), kind, vni, frame);
-    outer_head(underlay, addr, &datagram, head);
+    match addr {
+        Addr::V4(dst) => put_head4(under, vid, kind, dst, frame, sums, head),
+        Addr::V6(dst) => put_head6(under, vid, kind, dst, frame, sums, head),
+    }
     Ok(())
+}
+
+/// Writes the headers of the packet to an IPv4 address over a head.
+fn put_head4(
+    under: &Under,
+    vid: Vid,
+    kind: Tunnel,
+    dst: [u8; 4],
+    frame: &BridgeFrame,
+    sums: &FrameSums,
+    head: &mut Head,
+)
+    requires tunnel { IsTrue (is_some (tunnel_at under.now vid kind)) }
+    requires family { IsTrue (has_family (own under.now.underlay) (V4 dst)) }
+    requires sums { AreSums frame.now sums.now }
+    requires fits { 48 + length frame.now.body ≤ 65535 }
+    ensures { head.new.items ++ plain frame.now ≡ remote_text under.now vid kind (V4 dst) frame.now }
+{
+    let underlay = under.settings();
+    let template = under.head4(vid, kind).unwrap();
+    let hop = underlay.hop_to(Addr::V4(dst));
+    let sum = sums.for_checksum(underlay.sum4, frame);
+    template.write(hop, dst, frame, sums.port, sum, head);
+}
+
+/// Writes the headers of the packet to an IPv6 address over a head.
+fn put_head6(
+    under: &Under,
+    vid: Vid,
+    kind: Tunnel,
+    dst: [u8; 16],
+    frame: &BridgeFrame,
+    sums: &FrameSums,
+    head: &mut Head,
+)
+    requires tunnel { IsTrue (is_some (tunnel_at under.now vid kind)) }
+    requires family { IsTrue (has_family (own under.now.underlay) (V6 dst)) }
+    requires sums { AreSums frame.now sums.now }
+    requires fits { 48 + length frame.now.body ≤ 65535 }
+    ensures { head.new.items ++ plain frame.now ≡ remote_text under.now vid kind (V6 dst) frame.now }
+{
+    let underlay = under.settings();
+    let template = under.head6(vid, kind).unwrap();
+    let hop = underlay.hop_to(Addr::V6(dst));
+    let sum = sums.for_checksum(underlay.sum6, frame);
+    template.write(hop, dst, frame, sums.port, sum, head);
 }
 
 /// Why a frame of a segment isn't sent to an address.

@@ -12,12 +12,12 @@ use Rattle.underlay.specs.Overlay.{Overlay}
 use Rattle.filter_db.specs.Table.{Table, nanoseconds}
 use Rattle.filter_db.specs.Ageing.{live-live}
 use Rattle.filter_db.proofs.TableLemmas.{kept-empty}
-use Rattle.overlay_config.specs.declared.change.Change.{Change}
-use Rattle.overlay_config.specs.declared.change.Change.TheVariants.{AddFlood, RemoveFlood, Fix, Unfix, SetAgeing, SetLearning, SetMember, PortUp, PortDown, Flush}
+use Rattle.overlay_settings.specs.declared.change.Change.{Change}
+use Rattle.overlay_settings.specs.declared.change.Change.TheVariants.{AddFlood, RemoveFlood, Fix, Unfix, SetAgeing, SetLearning, SetMember, PortUp, PortDown, Flush}
 use Rattle.endpoint_state.specs.Settings.{Settings, BridgeSettings, SegmentSettings, segment_at}
 use Rattle.endpoint_state.specs.Change.{is_about, refused, accepted}
 use Rattle.endpoint_state.specs.State.{State as Bridges, live_in, aged, accepted_state, table_changed}
-use Rattle.endpoint_core.specs.declared.arrival.Came.{Came}
+use Rattle.endpoint_core.specs.Came.{Came}
 use Rattle.endpoint_core.specs.Arrival.{came_at, came_by}
 use Rattle.endpoint_core.specs.Event.{Input, FrameAt, Packet, Asks, Event, IsRising}
 use Rattle.endpoint_core.specs.Step.{State, opened, after_came, bridges_after, answer_by, answer, after, answers, state_after, last_moment}

@@ -5,7 +5,7 @@ use Rattle.frame_view.specs.declared.reason.Refused.{Refused}
 use Rattle.endpoint_state.specs.Held.{Held, state_at}
 use Rattle.endpoint_state.specs.State.{State as Bridges, aged}
 use Rattle.endpoint_state.proofs.LaterLemmas.{held-later}
-use Rattle.endpoint_core.specs.declared.arrival.Came.{Came}
+use Rattle.endpoint_core.specs.Came.{Came}
 use Rattle.endpoint_core.specs.Cells.{Cells, count_in}
 use Rattle.endpoint_core.specs.Counts.{counted}
 use Rattle.endpoint_core.specs.Decision.{Decision}

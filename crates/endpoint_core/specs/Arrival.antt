@@ -15,7 +15,7 @@ use Rattle.decapsulate.specs.Arrival.{arrival_of}
 use Rattle.decapsulate.specs.declared.arrived.Arrived.{Arrived}
 use Rattle.encapsulate.specs.Emission.{local_text}
 use Rattle.encapsulate.specs.Remote.{sending}
-use Rattle.endpoint_core.specs.declared.arrival.Came.{Came}
+use Rattle.endpoint_core.specs.Came.{Came}
 
 -- ---- by a local port
 

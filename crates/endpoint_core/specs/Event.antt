@@ -1,6 +1,6 @@
 -- What comes to an endpoint: frames at its local ports, packets from its underlay, and changes of its settings.
 use Rattle.std.specs.Prelude.{◌≤◌, ℕ, List, [], ◌∷◌}
-use Rattle.overlay_config.specs.declared.change.Change.{Change}
+use Rattle.overlay_settings.specs.declared.change.Change.{Change}
 
 -- a frame, a packet or a change
 pub data Input : Type 0 where

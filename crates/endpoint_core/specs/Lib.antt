@@ -1,4 +1,5 @@
 pub mod Arrival
+pub mod Came
 pub mod Cells
 pub mod Counts
 pub mod Course

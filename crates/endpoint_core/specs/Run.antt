@@ -8,12 +8,12 @@ use Rattle.std.specs.List.{flat_map}
 use Rattle.std.specs.FinMap.{empty}
 use Rattle.frame_view.specs.declared.reason.Refused.{Refused}
 use Rattle.filter_db.specs.Table.{Table}
-use Rattle.overlay_config.specs.declared.change.Change.{Change}
+use Rattle.overlay_settings.specs.declared.change.Change.{Change}
 use Rattle.endpoint_state.specs.Settings.{Settings, SegmentSettings, segment_at}
 use Rattle.endpoint_state.specs.Change.{is_about, refused, changed, entries_changed}
 use Rattle.endpoint_state.specs.State.{State as Bridges, live_in}
 use Rattle.endpoint_state.specs.Step.{table_learned}
-use Rattle.endpoint_core.specs.declared.arrival.Came.{Came}
+use Rattle.endpoint_core.specs.Came.{Came}
 use Rattle.endpoint_core.specs.Arrival.{came_at, came_by}
 use Rattle.endpoint_core.specs.Decision.{Decision}
 use Rattle.endpoint_core.specs.Event.{Input, FrameAt, Packet, Asks, Event}

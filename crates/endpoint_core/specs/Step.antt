@@ -15,7 +15,7 @@ use Rattle.endpoint_state.specs.declared.fault.ChangeFault.{ChangeFault}
 use Rattle.endpoint_state.specs.Settings.{Settings}
 use Rattle.endpoint_state.specs.State.{State as Bridges, aged, fault, after_change}
 use Rattle.endpoint_state.specs.Step.{verdict, after_frame}
-use Rattle.endpoint_core.specs.declared.arrival.Came.{Came}
+use Rattle.endpoint_core.specs.Came.{Came}
 use Rattle.endpoint_core.specs.Arrival.{came_at, came_by, emitted}
 use Rattle.endpoint_core.specs.Counts.{Counts, no_counts, counted}
 use Rattle.endpoint_core.specs.Decision.{Sent, Decision, refused_as, dropped_in, forwarded}

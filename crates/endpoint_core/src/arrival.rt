@@ -6,12 +6,16 @@ ghost use Rattle.vlan_ports.specs.Ports.{has_segment as has_members};
 ghost use Rattle.underlay.specs.Overlay.{has_segment, flood_at};
 ghost use Rattle.endpoint_state.specs.Sound.{reaches, is_reached};
 ghost use Rattle.vlan_ports.specs.Ingress.{nowhere};
+ghost use Rattle.encapsulate.specs.Sums.{AreSums};
 ghost use Rattle.endpoint_core.specs.Arrival.{came_at, came_by};
 
 use decapsulate::unwrap;
+use encapsulate::FrameSums;
 use filter_db::Place;
 use frame_view::{BridgeFrame, Reason, Refused, Vid};
-use underlay::Under;
+use ip_udp_view::Addr;
+use std::marker::Model;
+use underlay::{Under, Underlay};
 use vlan_ports::{PortSet, classify};
 
 /// The most octets of a local frame.
@@ -26,14 +30,89 @@ pub struct Came<'a> {
     pub(crate) vid: Vid,
     pub(crate) from: Place,
     pub(crate) frame: BridgeFrame<'a>,
+    /// What all packets with the frame share, where it goes to remote endpoints.
+    sums: Option<FrameSums>,
+}
+
+impl<'a> Model for Came<'a> {
+    ghost use Rattle.std.specs.Prelude.{IfSome};
+    ghost use Rattle.encapsulate.specs.Sums.{AreSums};
+    ghost use Rattle.endpoint_core.specs.Came.{Came};
+
+    ghost Value = { Came };
+
+    ghost view = { λ c. record { vid = c.vid; from = c.from; frame = c.frame } };
+
+    ghost invariant = { λ c. IfSome c.sums (AreSums c.frame) };
 }
 
 impl<'a> Came<'a> {
+    /// A frame in a segment.
+    fn at(vid: Vid, from: Place, frame: BridgeFrame<'a>) -> Came<'a>
+        ensures { result ≡ record { vid = vid; from = from; frame = frame.entry } }
+    {
+        Came {
+            vid,
+            from,
+            frame,
+            sums: None,
+        }
+    }
+
     /// The VID of the segment.
     pub fn segment(&self) -> Vid
         ensures { result ≡ self.now.vid }
     {
         self.vid
+    }
+
+    /// Computes what all packets with the frame share, where a place that it goes to is a remote endpoint.
+    pub(crate) fn sum_for(&mut self, places: &[Place], underlay: &Underlay)
+        ensures { self.new ≡ self.old }
+    {
+        if has_remote(places) {
+            self.sums = Some(FrameSums::of(&self.frame, has_checksum(places, underlay)));
+        }
+    }
+
+    /// What all packets with the frame share.
+    pub(crate) fn sums(&self) -> FrameSums
+        ensures { AreSums self.now.frame result }
+    {
+        match self.sums {
+            Some(sums) => sums,
+            None => FrameSums::of(&self.frame, false),
+        }
+    }
+}
+
+/// Whether a place is a remote endpoint.
+fn has_remote(places: &[Place]) -> bool {
+    for at in 0..places.len() {
+        if let Place::Remote(_, _) = places[at] {
+            return true;
+        }
+    }
+    false
+}
+
+/// Whether a place is a remote endpoint to which packets have a checksum.
+fn has_checksum(places: &[Place], underlay: &Underlay) -> bool {
+    for at in 0..places.len() {
+        if let Place::Remote(_, addr) = places[at] {
+            if computes_sum(addr, underlay) {
+                return true;
+            }
+        }
+    }
+    false
+}
+
+/// Whether packets to an address have a checksum.
+fn computes_sum(addr: Addr, underlay: &Underlay) -> bool {
+    match addr {
+        Addr::V4(_) => underlay.sum4,
+        Addr::V6(_) => underlay.sum6,
     }
 }
 
@@ -59,11 +138,7 @@ pub(crate) fn come_at<'a>(
         return Err(nowhere(Reason::Sliced));
     }
     let (vid, frame) = classify(ports, port, octets)?;
-    Ok(Came {
-        vid,
-        from: Place::Local(port),
-        frame,
-    })
+    Ok(Came::at(vid, Place::Local(port), frame))
 }
 
 /// The frame that an outer packet brings, in its segment; or the first reason, of 1 to 3, 5, 6 and 12 to 34, why it brings
@@ -88,11 +163,7 @@ pub(crate) fn come_by<'a>(
     }
     let arrived = unwrap(under, octets)?;
     let (kind, addr) = arrived.from;
-    Ok(Came {
-        vid: arrived.vid,
-        from: Place::Remote(kind, addr),
-        frame: arrived.frame,
-    })
+    Ok(Came::at(arrived.vid, Place::Remote(kind, addr), arrived.frame))
 }
 
 /// A refusal before the segment is known.

@@ -45,7 +45,7 @@ pub(crate) fn decide<'a>(
 fn forward<'a>(
     state: &mut EndpointState,
     now: u64,
-    came: Came<'a>,
+    mut came: Came<'a>,
     places: &mut Outlets,
 ) -> Course<'a>
     requires time { moment_of state.old ≤ now }
@@ -61,7 +61,10 @@ fn forward<'a>(
     ensures time { moment_of state.new ≤ now }
 {
     match state.step(now, came.vid, came.from, &came.frame, places) {
-        Ok(()) => Course::Leaves(came),
+        Ok(()) => {
+            came.sum_for(places.as_slice(), state.under().settings());
+            Course::Leaves(came)
+        }
         Err(reason) => Course::Dropped(Refused {
             segment: Some(came.vid),
             reason,

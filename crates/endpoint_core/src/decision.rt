@@ -11,12 +11,13 @@ ghost use Rattle.endpoint_core.specs.Decision.{refused_as, forwarded, octets_of,
 ghost use Rattle.endpoint_core.specs.Step.{sent_at, has_two_tunnels};
 
 use crate::Course;
+use crate::arrival::Came;
 use crate::emit::emit;
 use arrayvec::ArrayVec;
 use encapsulate::Emission;
 use endpoint_state::EndpointState;
 use filter_db::Place;
-use frame_view::{BridgeFrame, Reason, Refused, Vid};
+use frame_view::{Reason, Refused, Vid};
 use std::marker::Model;
 
 /// What came of one outlet.
@@ -74,7 +75,7 @@ impl<'a> Decision<'a> {
     {
         match course {
             Course::Dropped(refused) => Decision::refused(*refused),
-            Course::Leaves(came) => Decision::forwarded(state, came.vid, places, &came.frame),
+            Course::Leaves(came) => Decision::forwarded(state, came, places),
         }
     }
 
@@ -91,27 +92,22 @@ impl<'a> Decision<'a> {
     }
 
     /// A frame of a segment that leaves at these places.
-    fn forwarded(
-        state: &EndpointState,
-        vid: Vid,
-        places: &[Place],
-        frame: &BridgeFrame<'a>,
-    ) -> Decision<'a>
-        requires there { IsSome (segment_at (settings_of state.now) vid) }
+    fn forwarded(state: &EndpointState, came: &Came<'a>, places: &[Place]) -> Decision<'a>
+        requires there { IsSome (segment_at (settings_of state.now) came.now.vid) }
         requires few { length places.now ≤ 32 }
-        requires short { length frame.now.body ≤ 65549 }
-        requires leave { IsTrue (list_all (can_leave (settings_of state.now) vid) places.now) }
-        ensures { let S = settings_of state.now in
-            octets_of result ≡ forwarded vid (has_two_tunnels S.overlay vid) (map (sent_at S vid frame.now) places.now) }
+        requires short { length came.now.frame.body ≤ 65549 }
+        requires leave { IsTrue (list_all (can_leave (settings_of state.now) came.now.vid) places.now) }
+        ensures { let S = settings_of state.now in let vid = came.now.vid in
+            octets_of result ≡ forwarded vid (has_two_tunnels S.overlay vid) (map (sent_at S vid came.now.frame) places.now) }
     {
         let mut outcomes = ArrayVec::new();
         for place in places {
-            outcomes.push(emit(state, vid, frame, *place));
+            outcomes.push(emit(state, came, *place));
         }
         Decision {
-            segment: Some(vid),
+            segment: Some(came.vid),
             dropped: None,
-            two_tunnels: state.under().segment(vid).tunnels.are_two(),
+            two_tunnels: state.under().segment(came.vid).tunnels.are_two(),
             outcomes,
         }
     }

@@ -12,6 +12,7 @@ ghost use Rattle.endpoint_core.specs.Decision.{sent_of};
 ghost use Rattle.endpoint_core.specs.Step.{sent_at};
 
 use crate::Outcome;
+use crate::arrival::Came;
 use encapsulate::{Emission, Head, Leaving, local, local_in, unsent, wrap, wrap_in};
 use endpoint_state::EndpointState;
 use filter_db::Place;
@@ -21,18 +22,25 @@ use frame_view::{BridgeFrame, Reason, Vid};
 #[tactic(auto, unfolding(crate::specs::Arrival::emitted))]
 pub(crate) fn emit_in<'h, 'a>(
     state: &EndpointState,
-    vid: Vid,
-    frame: &BridgeFrame<'a>,
+    came: &Came<'a>,
     place: Place,
     room: &'h mut Head,
 ) -> Result<Leaving<'h, 'a>, Reason>
-    requires { IsTrue (can_leave (settings_of state.now) vid place) }
-    ensures value { texts result ≡ (sent_at (settings_of state.now) vid frame.now place).sent }
-    ensures body { IfOk result (λ e. e.body ≡ frame.now.body) }
+    requires { IsTrue (can_leave (settings_of state.now) came.now.vid place) }
+    ensures value { texts result ≡ (sent_at (settings_of state.now) came.now.vid came.now.frame place).sent }
+    ensures body { IfOk result (λ e. e.body ≡ came.now.frame.body) }
 {
     match place {
-        Place::Local(port) => Ok(emit_local_in(state, vid, frame, port, room)),
-        Place::Remote(kind, addr) => wrap_in(state.under(), vid, kind, addr, frame, room),
+        Place::Local(port) => Ok(emit_local_in(state, came.vid, &came.frame, port, room)),
+        Place::Remote(kind, addr) => wrap_in(
+            state.under(),
+            came.vid,
+            kind,
+            addr,
+            &came.frame,
+            &came.sums(),
+            room,
+        ),
     }
 }
 
@@ -70,24 +78,26 @@ pub(crate) fn number_at(state: &EndpointState, vid: Vid, frame: &BridgeFrame, pl
 
 /// What is sent of a frame of a segment at a place where it can leave, or why nothing is.
 #[tactic(auto, unfolding(crate::specs::Arrival::emitted))]
-pub(crate) fn emit<'a>(
-    state: &EndpointState,
-    vid: Vid,
-    frame: &BridgeFrame<'a>,
-    place: Place,
-) -> Outcome<'a>
-    requires { IsTrue (can_leave (settings_of state.now) vid place) }
-    ensures value { sent_of result ≡ sent_at (settings_of state.now) vid frame.now place }
-    ensures body { IfOk result.sent (λ e. e.body ≡ frame.now.body) }
+pub(crate) fn emit<'a>(state: &EndpointState, came: &Came<'a>, place: Place) -> Outcome<'a>
+    requires { IsTrue (can_leave (settings_of state.now) came.now.vid place) }
+    ensures value { sent_of result ≡ sent_at (settings_of state.now) came.now.vid came.now.frame place }
+    ensures body { IfOk result.sent (λ e. e.body ≡ came.now.frame.body) }
 {
     match place {
         Place::Local(port) => Outcome {
             place,
-            sent: Ok(emit_local(state, vid, frame, port)),
+            sent: Ok(emit_local(state, came.vid, &came.frame, port)),
         },
         Place::Remote(kind, addr) => Outcome {
             place,
-            sent: wrap(state.under(), vid, kind, addr, frame),
+            sent: wrap(
+                state.under(),
+                came.vid,
+                kind,
+                addr,
+                &came.frame,
+                &came.sums(),
+            ),
         },
     }
 }

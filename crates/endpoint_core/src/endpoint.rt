@@ -19,7 +19,7 @@ use encapsulate::{Head, Leaving};
 use endpoint_state::{Change, ChangeFault, EndpointState};
 use filter_db::Place;
 use frame_view::{Reason, Vid};
-use overlay_config::Settings;
+use overlay_settings::Settings;
 use std::alloc::{AllocError, Global};
 use std::marker::Model;
 use tunnel_learning::Outlets;
@@ -165,7 +165,7 @@ impl Endpoint {
         ensures sent { texts result ≡ (sent_at (state_of self.now).bridges.settings came.now.vid came.now.frame place).sent }
         ensures body { IfOk result (λ e. e.body ≡ came.now.frame.body) }
     {
-        emit_in(&self.state, came.vid, &came.frame, place, room)
+        emit_in(&self.state, came, place, room)
     }
 
     /// A frame of this original length came in at a local port at a moment, in nanoseconds: what is decided of it.

@@ -25,6 +25,3 @@ pub use endpoint::Endpoint;
 pub use endpoint_state::{Change, ChangeFault, Target};
 pub use text::result_text;
 pub use tunnel_learning::Outlets;
-
-#[cfg(test)]
-mod tests;

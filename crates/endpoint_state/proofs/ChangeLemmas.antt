@@ -7,9 +7,9 @@ use Rattle.std.proofs.lemmas.Bool.{false≢true, eqb-true}
 use Rattle.frame_view.specs.First.{first}
 use Rattle.std.specs.FinMap.{insert, remove}
 use Rattle.filter_db.specs.Table.{Table, is_full, has_fixed, fix, unfix}
-use Rattle.overlay_config.specs.declared.change.Change.{Change}
-use Rattle.overlay_config.specs.declared.change.Change.TheVariants.{AddFlood, RemoveFlood, Fix, Unfix, SetAgeing, SetLearning, SetMember, PortUp, PortDown, Flush}
-use Rattle.overlay_config.specs.declared.change.Target.{Target}
+use Rattle.overlay_settings.specs.declared.change.Change.{Change}
+use Rattle.overlay_settings.specs.declared.change.Change.TheVariants.{AddFlood, RemoveFlood, Fix, Unfix, SetAgeing, SetLearning, SetMember, PortUp, PortDown, Flush}
+use Rattle.overlay_settings.specs.declared.change.Target.{Target}
 use Rattle.endpoint_state.specs.declared.fault.ChangeFault.{ChangeFault}
 use Rattle.endpoint_state.specs.declared.fault.ChangeFault.TheVariants.{TableFull, NotThere}
 use Rattle.endpoint_state.specs.Settings.{SegmentSettings, segment_at}

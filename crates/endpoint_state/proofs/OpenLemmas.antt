@@ -1,5 +1,5 @@
 -- What an endpoint is opened with.
-use Rattle.std.proofs.Common.{◌≡◌, ℕ, ◌≤◌, ◌==◌, eqb, Bool, true, false, cond, ◌&&◌, ◌||◌, inl, inr, List, [], ◌∷◌, ◌++◌, map, Option, Some, None, find, refl, sym, ap, ◌∙◌, subst}
+use Rattle.std.proofs.Common.{◌≡◌, ℕ, ◌≤◌, ◌==◌, eqb, Bool, true, false, cond, ◌&&◌, ◌||◌, inl, inr, List, [], ◌∷◌, ◌++◌, length, map, Option, Some, None, find, refl, sym, ap, ◌∙◌, subst}
 use Rattle.std.specs.Prelude.{is_some, is_none, IsTrue}
 use Rattle.std.specs.List.{list_any, list_all}
 use Rattle.std.specs.List as list
@@ -27,8 +27,9 @@ use Rattle.underlay.specs.declared.segment.Segment.{Segment as Tunneled}
 use Rattle.underlay.specs.declared.segment.TunnelRule.{TunnelRule}
 use Rattle.underlay.specs.declared.settings.Underlay.{Underlay}
 use Rattle.underlay.specs.declared.tunnels.SegmentTunnel.{SegmentTunnel}
-use Rattle.overlay_config.specs.Settings.{Settings as Told}
-use Rattle.overlay_config.specs.Rules.{EachBehind, IsRemote, IsTunnelRule, MeetsRules}
+use Rattle.overlay_settings.specs.declared.segment.SegmentRule.{SegmentRule}
+use Rattle.overlay_settings.specs.Settings.{Settings as Told, member_rule, table_rule, tunnel_rule}
+use Rattle.overlay_settings.specs.Rules.{EachBehind, IsRemote, IsSegment, MeetsRules}
 use Rattle.endpoint_state.specs.Learning.{learns, tells_learning}
 use Rattle.endpoint_state.specs.Opened.{settings_told, opened}
 use Rattle.endpoint_state.specs.Settings.{BridgeSettings}
@@ -70,13 +71,18 @@ some-map : {X Y : Type 0} (f : X → Y) (o : Option X) → is_some (option_map f
 some-map f None = refl
 some-map f (Some x) = refl
 
--- the VIDs of rules are in range
-within : (o : Own) (earlier rules : List TunnelRule) (w : ℕ) → EachBehind (IsTunnelRule o) earlier rules → is_among w (map (λ r. r.vid) rules) ≡ true → (1 ≤ w) × (w ≤ 4094)
-within o earlier [] w each h = absurd (false≢true h)
-within o earlier (r ∷ rules) w each h = by (w == r.vid) refl (within o (earlier ++ r ∷ []) rules w each.1) h
+-- what is told of segments is for their VIDs
+same-vids : {X : Type 0} (f : SegmentRule → X) (key : X → ℕ) (same : (s : SegmentRule) → key (f s) ≡ s.vid) (segments : List SegmentRule) → map key (map f segments) ≡ map (λ s. s.vid) segments
+same-vids f key same [] = refl
+same-vids f key same (s ∷ segments) = ap (λ (n : ℕ). n ∷ map key (map f segments)) (same s) ∙ ap (λ (l : List ℕ). s.vid ∷ l) (same-vids f key same segments)
+
+-- the VIDs of segments are in range
+within : (o : Own) (n : ℕ) (earlier segments : List SegmentRule) (w : ℕ) → EachBehind (IsSegment o n) earlier segments → is_among w (map (λ s. s.vid) segments) ≡ true → (1 ≤ w) × (w ≤ 4094)
+within o n earlier [] w each h = absurd (false≢true h)
+within o n earlier (s ∷ segments) w each h = by (w == s.vid) refl (within o n (earlier ++ s ∷ []) segments w each.1) h
   where
-    by : (b : Bool) → (w == r.vid) ≡ b → (is_among w (map (λ x. x.vid) rules) ≡ true → (1 ≤ w) × (w ≤ 4094)) → (b || is_among w (map (λ x. x.vid) rules)) ≡ true → (1 ≤ w) × (w ≤ 4094)
-    by true same rest h = subst (λ (v : ℕ). (1 ≤ v) × (v ≤ 4094)) (sym (eqb-true w r.vid same)) each.0.vid
+    by : (b : Bool) → (w == s.vid) ≡ b → (is_among w (map (λ x. x.vid) segments) ≡ true → (1 ≤ w) × (w ≤ 4094)) → (b || is_among w (map (λ x. x.vid) segments)) ≡ true → (1 ≤ w) × (w ≤ 4094)
+    by true same rest h = subst (λ (v : ℕ). (1 ≤ v) × (v ≤ 4094)) (sym (eqb-true w s.vid same)) each.0.vid
     by false other rest h = rest h
 
 -- ---- flood lists
@@ -101,7 +107,7 @@ flood-reached : (o : Own) (tunnels : List SegmentTunnel) (earlier flood : Entrie
 flood-reached o tunnels earlier [] each = refl
 flood-reached o tunnels earlier (r ∷ flood) each =
     and_from (reached_with o tunnels r) (list_all (reached_with o tunnels) flood)
-    (and_from (is_some (of_kind r.tunnel tunnels)) (has_family o r.addr) (any-found (λ t. same_kind t.kind r.tunnel) tunnels each.0.0) (family-added o earlier r.tunnel r.addr (sym (none_is (first (add_faults o earlier r.tunnel r.addr)) each.0.1))))
+    (and_from (is_some (of_kind r.tunnel tunnels)) (has_family o r.addr) (any-found (λ t. same_kind t.kind r.tunnel) tunnels each.0.kind) (family-added o earlier r.tunnel r.addr (sym (none_is (first (add_faults o earlier r.tunnel r.addr)) each.0.taken))))
     (flood-reached o tunnels (earlier ++ r ∷ []) flood each.1)
 
 -- what holds of the segments of all rules holds of each that they tell
@@ -118,13 +124,13 @@ told-each p (r ∷ rules) w g all is =
 abbrev flood_reached : Own → Tunneled → Bool
 flood_reached o g = list_all (reached_with o g.tunnels) g.flood
 
-rules-reached : (o : Own) (earlier rules : List TunnelRule) → EachBehind (IsTunnelRule o) earlier rules → list_all (λ r. flood_reached o (overlay.segment_of r)) rules ≡ true
-rules-reached o earlier [] each = refl
-rules-reached o earlier (r ∷ rules) each =
-    and_from (flood_reached o (overlay.segment_of r)) (list_all (λ x. flood_reached o (overlay.segment_of x)) rules) (flood-reached o r.tunnels [] r.flood each.0.flood) (rules-reached o (earlier ++ r ∷ []) rules each.1)
+segments-reached : (o : Own) (n : ℕ) (earlier segments : List SegmentRule) → EachBehind (IsSegment o n) earlier segments → list_all (λ r. flood_reached o (overlay.segment_of r)) (map tunnel_rule segments) ≡ true
+segments-reached o n earlier [] each = refl
+segments-reached o n earlier (s ∷ segments) each =
+    and_from (flood_reached o (overlay.segment_of (tunnel_rule s))) (list_all (λ r. flood_reached o (overlay.segment_of r)) (map tunnel_rule segments)) (flood-reached o s.tunnels [] s.flood each.0.flood) (segments-reached o n (earlier ++ s ∷ []) segments each.1)
 
-told-reached : (U : Underlay) (rules : List TunnelRule) (w : ℕ) → EachBehind (IsTunnelRule (own U)) [] rules → list_all (λ r. reaches (overlay.told U rules) w r.tunnel r.addr) (overlay.flood_at (overlay.told U rules) w) ≡ true
-told-reached U rules w each = by (overlay.segment_at (overlay.told U rules) w) (λ g is. told-each (flood_reached (own U)) rules w g (rules-reached (own U) [] rules each) is)
+told-reached : (U : Underlay) (n : ℕ) (segments : List SegmentRule) (w : ℕ) → EachBehind (IsSegment (own U) n) [] segments → list_all (λ r. reaches (overlay.told U (map tunnel_rule segments)) w r.tunnel r.addr) (overlay.flood_at (overlay.told U (map tunnel_rule segments)) w) ≡ true
+told-reached U n segments w each = by (overlay.segment_at (overlay.told U (map tunnel_rule segments)) w) (λ g is. told-each (flood_reached (own U)) (map tunnel_rule segments) w g (segments-reached (own U) n [] segments each) is)
   where
     by : (o : Option Tunneled) → ((g : Tunneled) → o ≡ Some g → flood_reached (own U) g ≡ true) → list_all (λ r. is_some (option_and_then (λ h. overlay.tunnel_of h r.tunnel) o) && has_family (own U) r.addr) (option_map_or (λ h. h.flood) o []) ≡ true
     by None all = refl
@@ -150,38 +156,60 @@ new-reached S w rules = λ mac.
 
 -- ---- what is opened
 
-pub sound-opened : (s : Told) → MeetsRules s → AreSound (ports.told s.ports s.members) (overlay.told s.underlay s.tunnels) (new_segments s.tables)
+-- the parts that settings tell
+abbrev ports-told : Told → ports.Ports
+ports-told s = ports.told s.ports (map member_rule s.segments)
+
+abbrev overlay-told : Told → overlay.Overlay
+overlay-told s = overlay.told s.underlay (map tunnel_rule s.segments)
+
+abbrev tables-told : Told → Segments
+tables-told s = new_segments (map table_rule s.segments)
+
+pub sound-opened : (s : Told) → MeetsRules s → AreSound (ports-told s) (overlay-told s) (tables-told s)
 sound-opened s rules = record {
-  members = λ w. get-told (λ r. r.vid) ports.members_of s.members w ∙ ap (is_among w) (rules.members_vids ∙ sym rules.tables_vids) ∙ sym (stand w);
-  tunnels = λ w. get-told (λ r. r.vid) overlay.segment_of s.tunnels w ∙ ap (is_among w) (sym rules.tables_vids) ∙ sym (stand w);
-  vids = λ w there. within (own s.underlay) [] s.tunnels w rules.tunnels (ap (is_among w) (sym rules.tables_vids) ∙ sym (stand w) ∙ there);
-  flood = λ w. told-reached s.underlay s.tunnels w rules.tunnels;
-  tables = λ w. new-reached (overlay.told s.underlay s.tunnels) w s.tables;
+  members = λ w. get-told (λ r. r.vid) ports.members_of (map member_rule s.segments) w ∙ ap (is_among w) (same-vids member_rule (λ r. r.vid) (λ x. refl) s.segments) ∙ sym (stand w);
+  tunnels = λ w. get-told (λ r. r.vid) overlay.segment_of (map tunnel_rule s.segments) w ∙ ap (is_among w) (same-vids tunnel_rule (λ r. r.vid) (λ x. refl) s.segments) ∙ sym (stand w);
+  vids = λ w there. within (own s.underlay) (length s.ports) [] s.segments w rules.segments (sym (stand w) ∙ there);
+  flood = λ w. told-reached s.underlay (length s.ports) s.segments w rules.segments;
+  tables = λ w. new-reached (overlay-told s) w (map table_rule s.segments);
 }
   where
-    stand : (w : ℕ) → is_some (new_segments s.tables w) ≡ is_among w (map (λ r. r.vid) s.tables)
-    stand w = some-map new_segment (find (λ r. r.vid == w) s.tables) ∙ find-told s.tables w
+    stand : (w : ℕ) → is_some (tables-told s w) ≡ is_among w (map (λ x. x.vid) s.segments)
+    stand w = some-map new_segment (find (λ r. r.vid == w) (map table_rule s.segments)) ∙ find-told (map table_rule s.segments) w ∙ ap (is_among w) (same-vids table_rule (λ r. r.vid) (λ x. refl) s.segments)
 
-bridge-new : (b c : Bool) (o : Option TableRule) → b ≡ c → option_map (bridge_of b) (option_map new_segment o) ≡ option_map (λ (rule : TableRule). let bridge : BridgeSettings = record { limit = rule.limit; ageing = rule.ageing; learning = c } in bridge) o
+-- the table of a VID is told by its segment
+find-rule : (segments : List SegmentRule) (w : ℕ) → find (λ r. r.vid == w) (map table_rule segments) ≡ option_map table_rule (find (λ s. s.vid == w) segments)
+find-rule [] w = refl
+find-rule (s ∷ segments) w = by (s.vid == w) (find-rule segments w)
+  where
+    by : (b : Bool) → find (λ r. r.vid == w) (map table_rule segments) ≡ option_map table_rule (find (λ x. x.vid == w) segments) → cond b (Some (table_rule s)) (find (λ r. r.vid == w) (map table_rule segments)) ≡ option_map table_rule (cond b (Some s) (find (λ x. x.vid == w) segments))
+    by true rest = refl
+    by false rest = rest
+
+abbrev bridge-told : Bool → SegmentRule → BridgeSettings
+bridge-told learning s = record { limit = s.limit; ageing = s.ageing; learning = learning }
+
+bridge-new : (b c : Bool) (o : Option SegmentRule) → b ≡ c → option_map (bridge_of b) (option_map new_segment (option_map table_rule o)) ≡ option_map (bridge-told c) o
 bridge-new b c None same = refl
-bridge-new b c (Some rule) same = ap (λ (x : Bool). let bridge : BridgeSettings = record { limit = rule.limit; ageing = rule.ageing; learning = x } in Some bridge) same
+bridge-new b c (Some s) same = ap (λ (x : Bool). Some (bridge-told x s)) same
 
-pub state-opened : (s : Told) (t : ℕ) (learning : List Bool) → ((vid : ℕ) → learns learning vid ≡ tells_learning s.learning vid) → ◌≡◌ {A = State} (record { settings = settings_by (ports.told s.ports s.members) (overlay.told s.underlay s.tunnels) learning (new_segments s.tables); tables = tables_at t (new_segments s.tables) }) (opened s)
+pub state-opened : (s : Told) (t : ℕ) (learning : List Bool) → ((vid : ℕ) → learns learning vid ≡ tells_learning s.segments vid) → ◌≡◌ {A = State} (record { settings = settings_by (ports-told s) (overlay-told s) learning (tables-told s); tables = tables_at t (tables-told s) }) (opened s)
 state-opened s t learning same =
-    ap (λ (x : ℕ → Option BridgeSettings). let S : State = record { settings = record { ports = ports.told s.ports s.members; overlay = overlay.told s.underlay s.tunnels; bridges = x }; tables = tables_at t (new_segments s.tables) } in S)
-    (fun_ext (λ vid. bridge-new (learns learning vid) (tells_learning s.learning vid) (find (λ r. r.vid == vid) s.tables) (same vid)))
-    ∙ ap (λ (x : ℕ → Table). let S : State = record { settings = settings_told s; tables = x } in S) (tables-new t s.tables)
+    ap (λ (x : ℕ → Option BridgeSettings). let S : State = record { settings = record { ports = ports-told s; overlay = overlay-told s; bridges = x }; tables = tables_at t (tables-told s) } in S)
+    (fun_ext (λ vid. ap (λ (o : Option TableRule). option_map (bridge_of (learns learning vid)) (option_map new_segment o)) (find-rule s.segments vid) ∙ bridge-new (learns learning vid) (tells_learning s.segments vid) (find (λ x. x.vid == vid) s.segments) (same vid)))
+    ∙ ap (λ (x : ℕ → Table). let S : State = record { settings = settings_told s; tables = x } in S) (tables-new t (map table_rule s.segments))
 
 -- the same, of parts that are these
-pub sound-as : (s : Told) (p : ports.Ports) (u : overlay.Overlay) (g : Segments) → MeetsRules s → p ≡ ports.told s.ports s.members → u ≡ overlay.told s.underlay s.tunnels → g ≡ new_segments s.tables → AreSound p u g
+pub sound-as : (s : Told) (p : ports.Ports) (u : overlay.Overlay) (g : Segments) → MeetsRules s → p ≡ ports-told s → u ≡ overlay-told s → g ≡ tables-told s → AreSound p u g
 sound-as s p u g rules is_p is_u is_g =
     subst (λ (x : ports.Ports). AreSound x u g) (sym is_p)
-    (subst (λ (x : overlay.Overlay). AreSound (ports.told s.ports s.members) x g) (sym is_u)
-    (subst (λ (x : Segments). AreSound (ports.told s.ports s.members) (overlay.told s.underlay s.tunnels) x) (sym is_g) (sound-opened s rules)))
+    (subst (λ (x : overlay.Overlay). AreSound (ports-told s) x g) (sym is_u)
+    (subst (λ (x : Segments). AreSound (ports-told s) (overlay-told s) x) (sym is_g) (sound-opened s rules)))
 
-pub state-as : (s : Told) (t : ℕ) (p : ports.Ports) (u : overlay.Overlay) (g : Segments) (learning : List Bool) → p ≡ ports.told s.ports s.members → u ≡ overlay.told s.underlay s.tunnels → g ≡ new_segments s.tables → ((vid : ℕ) → learns learning vid ≡ tells_learning s.learning vid) → ◌≡◌ {A = State} (record { settings = settings_by p u learning g; tables = tables_at t g }) (opened s)
+pub state-as : (s : Told) (t : ℕ) (p : ports.Ports) (u : overlay.Overlay) (g : Segments) (learning : List Bool) → p ≡ ports-told s → u ≡ overlay-told s → g ≡ tables-told s → ((vid : ℕ) → learns learning vid ≡ tells_learning s.segments vid) → ◌≡◌ {A = State} (record { settings = settings_by p u learning g; tables = tables_at t g }) (opened s)
 state-as s t p u g learning is_p is_u is_g same =
     ap (λ (x : ports.Ports). let S : State = record { settings = settings_by x u learning g; tables = tables_at t g } in S) is_p
-    ∙ ap (λ (x : overlay.Overlay). let S : State = record { settings = settings_by (ports.told s.ports s.members) x learning g; tables = tables_at t g } in S) is_u
-    ∙ ap (λ (x : Segments). let S : State = record { settings = settings_by (ports.told s.ports s.members) (overlay.told s.underlay s.tunnels) learning x; tables = tables_at t x } in S) is_g
+    ∙ ap (λ (x : overlay.Overlay). let S : State = record { settings = settings_by (ports-told s) x learning g; tables = tables_at t g } in S) is_u
+    ∙ ap (λ (x : Segments). let S : State = record { settings = settings_by (ports-told s) (overlay-told s) learning x; tables = tables_at t x } in S) is_g
     ∙ state-opened s t learning same

@@ -6,7 +6,7 @@ use Rattle.ip_udp_view.specs.declared.addr.Addr.{Addr}
 use Rattle.ip_udp_view.specs.declared.addr.Tunnel.{Tunnel}
 use Rattle.flood_lists.specs.declared.own.Own.{Own}
 use Rattle.frame_view.specs.First.{first}
-use Rattle.overlay_config.specs.declared.change.Target.TheVariants as target
+use Rattle.overlay_settings.specs.declared.change.Target.TheVariants as target
 use Rattle.endpoint_state.specs.Settings.{SegmentSettings, kind_named}
 use Rattle.endpoint_state.specs.Change.{in_segment, at_tunnel, addr_faults, target_fault, is_ageing}
 use Rattle.endpoint_state.specs.Tunnel.{or_no_tunnel, tunnel_in}

@@ -1,6 +1,5 @@
 -- Changes of the settings while an endpoint runs: why one is refused, what it makes of the settings, and what it does to
 -- the table of a segment.
---     named, is_about      the segments that it is about
 --     refused      why the settings refuse it
 --     changed      the settings after it
 --     table_fault, entries_changed      why a table refuses it, and the table after it
@@ -21,31 +20,15 @@ use Rattle.vlan_ports.specs.Ports.{is_port, with_up, with_member}
 use Rattle.underlay.specs.Settings.{own}
 use Rattle.underlay.specs.Overlay.{with_flood}
 use Rattle.underlay.specs.declared.tunnels.SegmentTunnel.{SegmentTunnel}
-use Rattle.overlay_config.specs.declared.change.Target.{Target}
-use Rattle.overlay_config.specs.declared.change.Target.TheVariants as target
-use Rattle.overlay_config.specs.declared.change.Change.{Change}
-use Rattle.overlay_config.specs.declared.change.Change.TheVariants.{AddFlood, RemoveFlood, Fix, Unfix, SetAgeing, SetLearning, SetMember, PortUp, PortDown, Flush}
+use Rattle.overlay_settings.specs.declared.change.Target.{Target}
+use Rattle.overlay_settings.specs.declared.change.Target.TheVariants as target
+use Rattle.overlay_settings.specs.declared.change.Change.{Change}
+use Rattle.overlay_settings.specs.declared.change.Change.TheVariants.{AddFlood, RemoveFlood, Fix, Unfix, SetAgeing, SetLearning, SetMember, PortUp, PortDown, Flush}
+pub use Rattle.overlay_settings.specs.Change.{named, is_about}
 use Rattle.endpoint_state.specs.declared.fault.ChangeFault.{ChangeFault}
 use Rattle.endpoint_state.specs.declared.fault.ChangeFault.TheVariants.{NoSegment, NoPort, NotThere, TableFull, GroupAddress, OutOfRange, NoFamily, OwnAddress, NoTunnel}
 use Rattle.endpoint_state.specs.Fault.{of_flood}
 use Rattle.endpoint_state.specs.Settings.{Settings, BridgeSettings, SegmentSettings, segment_at, kind_named}
-
--- the VID of the segment that a change names; a change of a port names none
-abbrev pub named : Change → Option ℕ
-named (AddFlood vid addr tunnel) = Some vid
-named (RemoveFlood vid addr tunnel) = Some vid
-named (Fix vid mac target) = Some vid
-named (Unfix vid mac) = Some vid
-named (SetAgeing vid seconds) = Some vid
-named (SetLearning vid on) = Some vid
-named (SetMember vid port egress) = Some vid
-named (PortUp port) = None
-named (PortDown port) = None
-named (Flush vid) = Some vid
-
--- it names the segment of this VID, or it is of a port and thereby about every segment
-abbrev pub is_about : ℕ → Change → Bool
-is_about vid c = option_map_or (λ own. vid == own) (named c) true
 
 -- ---- why the settings refuse a change
 

@@ -1,6 +1,6 @@
 -- Laws of the state and of changes.
 use Rattle.std.specs.Prelude.{◌≡◌, ℕ, ◌≤◌, IsSome}
-use Rattle.overlay_config.specs.declared.change.Change.{Change}
+use Rattle.overlay_settings.specs.declared.change.Change.{Change}
 use Rattle.endpoint_state.specs.Change.{changed}
 use Rattle.endpoint_state.specs.Held.{Held, state_at}
 use Rattle.endpoint_state.specs.State.{State, aged, fault, after_change}

@@ -1,10 +1,10 @@
 -- What an endpoint begins with.
-use Rattle.std.specs.Prelude.{◌==◌, find}
+use Rattle.std.specs.Prelude.{◌==◌, find, map}
 use Rattle.std.specs.Option.{option_map}
 use Rattle.std.specs.FinMap.{empty}
 use Rattle.vlan_ports.specs.Ports as ports
 use Rattle.underlay.specs.Overlay as overlay
-use Rattle.overlay_config.specs.Settings.{Settings as Told}
+use Rattle.overlay_settings.specs.Settings.{Settings as Told, member_rule, tunnel_rule}
 use Rattle.endpoint_state.specs.Learning.{tells_learning}
 use Rattle.endpoint_state.specs.Settings.{Settings}
 use Rattle.endpoint_state.specs.State.{State}
@@ -12,9 +12,9 @@ use Rattle.endpoint_state.specs.State.{State}
 -- the settings in force that settings tell
 abbrev pub settings_told : Told → Settings
 settings_told s = record {
-  ports = ports.told s.ports s.members;
-  overlay = overlay.told s.underlay s.tunnels;
-  bridges = λ vid. option_map (λ rule. record { limit = rule.limit; ageing = rule.ageing; learning = tells_learning s.learning vid }) (find (λ rule. rule.vid == vid) s.tables);
+  ports = ports.told s.ports (map member_rule s.segments);
+  overlay = overlay.told s.underlay (map tunnel_rule s.segments);
+  bridges = λ vid. option_map (λ rule. record { limit = rule.limit; ageing = rule.ageing; learning = tells_learning s.segments vid }) (find (λ rule. rule.vid == vid) s.segments);
 }
 
 -- nothing is learned yet

@@ -10,7 +10,7 @@ use Rattle.filter_db.specs.Table.{Table, nanoseconds, live}
 use Rattle.filter_db.specs.Segment.{Segment, Segments, aged_all, segment_at as table_of}
 use Rattle.vlan_ports.specs.Ports.{Ports}
 use Rattle.underlay.specs.Overlay.{Overlay}
-use Rattle.overlay_config.specs.declared.change.Change.{Change}
+use Rattle.overlay_settings.specs.declared.change.Change.{Change}
 use Rattle.endpoint_state.specs.declared.fault.ChangeFault.{ChangeFault}
 use Rattle.endpoint_state.specs.declared.parts.Parts.{Parts}
 use Rattle.endpoint_state.specs.Learning.{learns}

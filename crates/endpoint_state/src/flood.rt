@@ -1,7 +1,7 @@
 //! Changes of flood lists.
 ghost use Rattle.std.specs.Prelude.{◌≡◌, ◌≤◌, ℕ};
 ghost use Rattle.frame_view.specs.First.{fault_of};
-ghost use Rattle.overlay_config.specs.declared.change.Change.TheVariants.{AddFlood, RemoveFlood};
+ghost use Rattle.overlay_settings.specs.declared.change.Change.TheVariants.{AddFlood, RemoveFlood};
 ghost use Rattle.endpoint_state.specs.Sound.{IsSound};
 ghost use Rattle.endpoint_state.specs.State.{state_of, fault, after_change};
 

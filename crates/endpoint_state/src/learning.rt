@@ -3,7 +3,7 @@ ghost use Rattle.std.specs.Prelude.{◌≡◌, ◌==◌, ℕ, if◌then◌else�
 ghost use Rattle.endpoint_state.specs.Learning.{learns, tells_learning};
 
 use frame_view::Vid;
-use overlay_config::LearningRule;
+use overlay_settings::SegmentRule;
 use std::alloc::{AllocError, Global};
 use std::marker::Model;
 
@@ -26,7 +26,7 @@ impl Model for Learning {
 
 impl Learning {
     /// Those segments learn of which a rule says so.
-    pub(crate) fn open(alloc: Global, rules: &[LearningRule]) -> Result<Learning, AllocError>
+    pub(crate) fn open(alloc: Global, rules: &[SegmentRule]) -> Result<Learning, AllocError>
         ensures { IfOk result (λ learning. (vid : ℕ) → learns learning vid ≡ tells_learning rules.now vid) }
     {
         let mut learning = Learning::none(alloc)?;

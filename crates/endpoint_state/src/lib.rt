@@ -10,15 +10,14 @@ mod checks;
 mod fault;
 mod flood;
 pub mod laws;
+mod layers;
 mod learning;
 mod parts;
 mod ports;
 mod state;
 mod step;
 mod table;
-#[cfg(test)]
-mod tests;
 
 pub use fault::ChangeFault;
-pub use overlay_config::{Change, Target};
+pub use overlay_settings::{Change, Target};
 pub use state::EndpointState;

@@ -3,7 +3,7 @@ ghost use Rattle.std.specs.Prelude.{◌≡◌, ◌≤◌, ℕ, is_some, true};
 ghost use Rattle.std.specs.Option.{option_map};
 ghost use Rattle.frame_view.specs.First.{fault_of};
 ghost use Rattle.filter_db.specs.Segment.{aged_all, adjusted, flush_place_in};
-ghost use Rattle.overlay_config.specs.declared.change.Change.TheVariants.{SetMember, PortUp, PortDown};
+ghost use Rattle.overlay_settings.specs.declared.change.Change.TheVariants.{SetMember, PortUp, PortDown};
 ghost use Rattle.endpoint_state.specs.Sound.{IsSound, StaysReached};
 ghost use Rattle.endpoint_state.specs.State.{state_of, fault, after_change};
 

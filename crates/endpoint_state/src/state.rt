@@ -1,37 +1,30 @@
 //! What an endpoint holds.
 ghost use Rattle.std.specs.Prelude.{◌≡◌, ◌≤◌, ℕ, [], IfOk, OnErr, IsSome, IsTrue, None, is_some, replicate, true};
-ghost use Rattle.std.specs.List.{list_all, sum_by};
+ghost use Rattle.std.specs.List.{list_all};
 ghost use Rattle.frame_view.specs.First.{fault_of};
-ghost use Rattle.filter_db.specs.declared.tables.TableRule.{TableRule};
 ghost use Rattle.tunnel_learning.specs.Verdict.{put_or};
 ghost use Rattle.vlan_ports.specs.Ports.{has_segment as has_members};
 ghost use Rattle.underlay.specs.Overlay.{has_segment, flood_at};
+ghost use Rattle.overlay_settings.specs.Settings.{sum_of_limits};
 ghost use Rattle.endpoint_state.specs.Opened.{opened};
 ghost use Rattle.endpoint_state.specs.Settings.{segment_at};
 ghost use Rattle.endpoint_state.specs.Sound.{reaches, is_reached};
 ghost use Rattle.endpoint_state.specs.State.{fault, after_change};
 ghost use Rattle.endpoint_state.specs.Step.{can_leave, after_frame, verdict};
 
+use crate::layers::{layer_rules, slots_for, table_rules};
 use crate::learning::Learning;
 use crate::parts::Parts;
 use crate::{Change, ChangeFault};
-use filter_db::{Place, TableRule, Tables};
+use filter_db::{Place, Tables};
 use frame_view::{BridgeFrame, Reason, Vid};
-use overlay_config::Settings;
+use overlay_settings::Settings;
 use shared_tables::SharedTables;
 use std::alloc::{AllocError, Global};
 use std::marker::Model;
 use tunnel_learning::Outlets;
 use underlay::Under;
 use vlan_ports::PortSet;
-
-/// How many slots these tables need: the sum of their limits.
-fn slots_for(rules: &[TableRule]) -> u32
-    requires { sum_by (λ (rule : TableRule). rule.limit) rules.now ≤ 65536 }
-    ensures { result ≡ sum_by (λ (rule : TableRule). rule.limit) rules.now }
-{
-    rules.iter().map(|rule| u32::from(rule.limit)).sum()
-}
 
 /// What an endpoint holds: ports with the members of segments, the underlay with tunnels and flood lists, the segments'
 /// tables, and which of them learn. No call but `open` takes memory.
@@ -60,15 +53,15 @@ impl EndpointState {
     pub fn open(alloc: Global, settings: Settings) -> Result<EndpointState, AllocError>
         ensures state { IfOk result (λ state. (t : ℕ) → state_at t state ≡ opened settings) }
         ensures moment { IfOk result (λ state. moment_of state ≡ 0) }
-        ensures slots { let limits = sum_by (λ (rule : TableRule). rule.limit) settings.tables in
-            IfOk result (λ state. state.tables.entries ≡ replicate limits None) }
+        ensures slots { IfOk result (λ state. state.tables.entries ≡ replicate (sum_of_limits settings.segments) None) }
     {
-        let ports = PortSet::open(alloc, settings.ports(), settings.members())?;
-        let rules = settings.tables();
-        let tables = SharedTables::open(alloc, rules, slots_for(rules))?;
-        let learning = Learning::open(alloc, settings.learning())?;
-        let (underlay, tunnels) = settings.into_overlay();
-        let under = Under::open(alloc, underlay, tunnels)?;
+        let told = settings.into_parts();
+        let rules = table_rules(alloc, told.segments.as_slice())?;
+        let tables = SharedTables::open(alloc, rules.as_slice(), slots_for(rules.as_slice()))?;
+        let learning = Learning::open(alloc, told.segments.as_slice())?;
+        let (members, tunnels) = layer_rules(alloc, told.segments)?;
+        let ports = PortSet::open(alloc, told.ports.as_slice(), members.as_slice())?;
+        let under = Under::open(alloc, told.underlay, tunnels)?;
         Ok(EndpointState {
             parts: Parts {
                 ports,

@@ -1,8 +1,8 @@
 //! Changes of a segment's table.
 ghost use Rattle.std.specs.Prelude.{◌≡◌, ◌≤◌, ℕ, IfOk, IsSome, true};
 ghost use Rattle.frame_view.specs.First.{fault_of};
-ghost use Rattle.overlay_config.specs.declared.change.Change.TheVariants.{Fix, Unfix, SetAgeing, SetLearning, Flush};
-ghost use Rattle.overlay_config.specs.declared.change.Target.TheVariants.{Remote};
+ghost use Rattle.overlay_settings.specs.declared.change.Change.TheVariants.{Fix, Unfix, SetAgeing, SetLearning, Flush};
+ghost use Rattle.overlay_settings.specs.declared.change.Target.TheVariants.{Remote};
 ghost use Rattle.endpoint_state.specs.Change.{refused, fault_at, IsPlaceOf};
 ghost use Rattle.endpoint_state.specs.Sound.{IsSound, is_reached};
 ghost use Rattle.endpoint_state.specs.State.{settings_of, state_of, fault, after_change};

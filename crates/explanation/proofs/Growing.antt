@@ -14,10 +14,10 @@ use Rattle.endpoint_state.specs.Settings.{Settings}
 use Rattle.endpoint_state.specs.State.{State as Bridges, aged}
 use Rattle.endpoint_core.specs.Event as event
 use Rattle.endpoint_core.specs.Arrival.{came_at, came_by}
-use Rattle.endpoint_core.specs.declared.arrival.Came.{Came}
+use Rattle.endpoint_core.specs.Came.{Came}
 use Rattle.endpoint_core.specs.Step.{Answer, State, opened, answer, answers, after, after_came, bridges_after}
 use Rattle.endpoint_core.proofs.Runs.{answers-decisions}
-use Rattle.capture_run.specs.Lines.{cut_line}
+use Rattle.decision_lines.specs.Lines.{cut_line}
 use Rattle.capture_run.specs.Outputs.{event_of, input_of}
 use Rattle.explanation.specs.Explanation.{event_text, event_texts, explanation}
 use Rattle.explanation.specs.Growing.{texts_from}

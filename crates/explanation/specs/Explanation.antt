@@ -15,7 +15,7 @@ use Rattle.endpoint_state.specs.Settings.{Settings}
 use Rattle.endpoint_core.specs.Run.{decisions}
 use Rattle.endpoint_core.specs.Step.{Answer}
 use Rattle.capture_run.specs.Fault.{of_timeline, of_settings}
-use Rattle.capture_run.specs.Lines.{line, answer_text, cut_line}
+use Rattle.decision_lines.specs.Lines.{line, answer_text, cut_line}
 use Rattle.capture_run.specs.Outputs.{event_of}
 use Rattle.capture_run.specs.declared.fault.RunFault.{RunFault}
 use Rattle.capture_run.specs.declared.fault.RunFault.TheVariants as faults

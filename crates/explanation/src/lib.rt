@@ -9,6 +9,3 @@ mod text;
 
 pub use packets::explain_bytes;
 pub use text::explain;
-
-#[cfg(test)]
-mod tests;

@@ -9,7 +9,7 @@ ghost use Rattle.endpoint_state.specs.Opened.{settings_told};
 ghost use Rattle.endpoint_core.specs.Event.{packet_at};
 ghost use Rattle.endpoint_core.specs.Kept.{state_of};
 ghost use Rattle.endpoint_core.specs.Step.{answer, after};
-ghost use Rattle.capture_run.specs.Lines.{line, answer_text, cut_line};
+ghost use Rattle.decision_lines.specs.Lines.{line, answer_text, cut_line};
 ghost use Rattle.capture_run.specs.Outputs.{event_of};
 ghost use Rattle.capture_run.specs.Run.{Means};
 ghost use Rattle.packet_layers.specs.Dissection.{dissection};
@@ -18,7 +18,8 @@ ghost use Rattle.explanation.specs.Explanation.{explanation, explained_run, Give
 ghost use Rattle.explanation.specs.Growing.{text_at, texts_from};
 
 use crate::text::layers_text;
-use capture_run::{RunFault, cut_line, decision_line, of_captures, of_settings};
+use capture_run::{RunFault, of_captures, of_settings};
+use decision_lines::{Desk, Line};
 use endpoint_core::Endpoint;
 use overlay_config::{Settings, settings_of};
 use packet_layers::dissect;
@@ -65,9 +66,17 @@ fn explanation_of(
     ensures { IfOk result (λ text. text.items ≡ explanation (settings_told settings) depth timeline.now) }
 {
     let mut endpoint = Endpoint::open(alloc, settings)?;
+    let mut desk = Desk::new();
     let mut text = Vec::new(alloc);
-    put_events(alloc, &mut text, &mut endpoint, depth, timeline.events())?;
-    put_cuts(alloc, &mut text, timeline.cuts())?;
+    put_events(
+        alloc,
+        &mut text,
+        &mut endpoint,
+        &mut desk,
+        depth,
+        timeline.events(),
+    )?;
+    put_cuts(&mut text, &mut desk.line, timeline.cuts())?;
     Ok(text)
 }
 
@@ -76,8 +85,8 @@ fn put_packet(
     alloc: Global,
     text: &mut Vec<u8>,
     endpoint: &mut Endpoint,
+    desk: &mut Desk,
     depth: usize,
-    number: u64,
     event: &Event,
     original: u32,
     octets: &[u8],
@@ -87,12 +96,14 @@ fn put_packet(
     requires time { (state_of endpoint.old).moment ≤ event.now.moment }
     ensures state { state_of endpoint.new ≡ after (state_of endpoint.old) (packet_at event.now.moment original octets.now) }
     ensures text { OnOk result (text.new.items ≡ text.old.items
-        ++ (line number event.now (answer_text None (answer (state_of endpoint.old) (packet_at event.now.moment original octets.now)))
+        ++ (line desk.old.number event.now (answer_text None (answer (state_of endpoint.old) (packet_at event.now.moment original octets.now)))
         ++ layers_text (dissection (state_of endpoint.old).bridges.settings.overlay depth octets.now))) }
+    ensures number { desk.new.number ≡ desk.old.number }
 {
     let layers = dissect(octets, endpoint.under(), depth);
-    let decision = endpoint.packet(event.moment, original, octets);
-    text.extend_from_slice(decision_line(alloc, number, event, &decision)?.as_slice())?;
+    let course = endpoint.take_packet(event.moment, original, octets, &mut desk.places);
+    desk.write_course(event, endpoint, &course);
+    text.extend_from_slice(desk.line.text())?;
     text.extend_from_slice(layers_text(alloc, &layers)?.as_slice())
 }
 
@@ -101,8 +112,8 @@ fn put_event(
     alloc: Global,
     text: &mut Vec<u8>,
     endpoint: &mut Endpoint,
+    desk: &mut Desk,
     depth: usize,
-    number: u64,
     event: &Event,
 ) -> Result<(), AllocError>
     requires low { 1 ≤ depth }
@@ -110,15 +121,16 @@ fn put_event(
     requires time { (state_of endpoint.old).moment ≤ event.now.moment }
     requires known { IsEventOf 0 0 event.now }
     ensures state { state_of endpoint.new ≡ after (state_of endpoint.old) (event_of [] event.now) }
-    ensures text { OnOk result (text.new.items ≡ text.old.items ++ text_at depth number (state_of endpoint.old) event.now) }
+    ensures text { OnOk result (text.new.items ≡ text.old.items ++ text_at depth desk.old.number (state_of endpoint.old) event.now) }
+    ensures number { desk.new.number ≡ desk.old.number }
 {
     match &event.happening {
         Happening::Record(Tap::Underlay, captured) => put_packet(
             alloc,
             text,
             endpoint,
+            desk,
             depth,
-            number,
             event,
             captured.original,
             captured.octets,
@@ -133,27 +145,31 @@ fn put_events(
     alloc: Global,
     text: &mut Vec<u8>,
     endpoint: &mut Endpoint,
+    desk: &mut Desk,
     depth: usize,
     events: &[Event],
 ) -> Result<(), AllocError>
     requires low { 1 ≤ depth }
     requires high { depth ≤ 4 }
+    requires first { desk.old.number ≡ 0 }
     requires rising { IsRising (state_of endpoint.old).moment events.now }
     requires known { AllByRecursion (IsEventOf 0 0) events.now }
     ensures { OnOk result (text.new.items ≡ text.old.items ++ texts_from depth 0 (state_of endpoint.old) events.now) }
 {
-    for (index, event) in events.iter().enumerate() {
-        put_event(alloc, text, endpoint, depth, index as u64 + 1, event)?;
+    for event in events {
+        desk.number.add_one();
+        put_event(alloc, text, endpoint, desk, depth, event)?;
     }
     Ok(())
 }
 
 /// Puts the lines of the captures that are cut.
-fn put_cuts(alloc: Global, text: &mut Vec<u8>, cuts: &[Cut]) -> Result<(), AllocError>
+fn put_cuts(text: &mut Vec<u8>, line: &mut Line, cuts: &[Cut]) -> Result<(), AllocError>
     ensures { OnOk result (text.new.items ≡ text.old.items ++ flat_map cut_line cuts.now) }
 {
     for cut in cuts {
-        text.extend_from_slice(cut_line(alloc, cut)?.as_slice())?;
+        line.write_cut(cut);
+        text.extend_from_slice(line.text())?;
     }
     Ok(())
 }

@@ -12,8 +12,6 @@ mod place;
 mod rows;
 mod table;
 mod tables;
-#[cfg(test)]
-mod tests;
 
 pub use list_tables::ListTables;
 pub use place::Place;

@@ -9,8 +9,6 @@ mod fault;
 mod flood_list;
 mod own;
 mod remote;
-#[cfg(test)]
-mod tests;
 
 pub use fault::{FloodFault, NotThere};
 pub use flood_list::FloodList;

@@ -17,6 +17,3 @@ pub use bridge_frame::BridgeFrame;
 pub use ether_view::{EtherView, Runt, Tagging};
 pub use reason::{Reason, Refused};
 pub use tag::{Tci, Vid};
-
-#[cfg(test)]
-mod tests;

@@ -15,6 +15,3 @@ pub use header::gn_head;
 pub use known::{Known, KnownFull};
 pub use options::{GnOption, GnOptions};
 pub use view::{GnFault, GnView};
-
-#[cfg(test)]
-mod tests;

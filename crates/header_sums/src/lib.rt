@@ -16,6 +16,3 @@ mod sum;
 pub use ip4::{ip4_sum, udp4_sum};
 pub use ip6::udp6_sum;
 pub use sum::{add_words, fold, folded, sent_sum, words};
-
-#[cfg(test)]
-mod tests;

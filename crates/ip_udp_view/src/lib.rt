@@ -22,6 +22,3 @@ pub use ip_view::{IP4_TYPE, IP6_TYPE, IpView, UDP};
 pub use ip4_view::Ip4View;
 pub use ip6_view::Ip6View;
 pub use udp_view::{BadUdp, SumState, UdpView};
-
-#[cfg(test)]
-mod tests;

@@ -6,7 +6,7 @@ use Rattle.std.proofs.lemmas.Bool.Decides.{nat_tests}
 use Rattle.underlay.specs.declared.settings.Underlay.{Underlay}
 use Rattle.underlay.specs.Settings.{is_own}
 use Rattle.endpoint_state.specs.Settings.{Settings, SegmentSettings, segment_at}
-use Rattle.endpoint_core.specs.declared.arrival.Came.{Came}
+use Rattle.endpoint_core.specs.Came.{Came}
 use Rattle.endpoint_core.specs.Decision.{Sent}
 use Rattle.mesh_delivery.specs.Mesh.{Origin, Flying, Left, left_of, flying_of}
 use Rattle.mesh_delivery.specs.Offspring.{is_left}

@@ -11,7 +11,7 @@ use Rattle.frame_view.proofs.FirstLemmas.{NothingHolds-from}
 use Rattle.filter_db.specs.declared.place.Place.TheVariants.{Local}
 use Rattle.vlan_ports.specs.Ports.{Ports}
 use Rattle.vlan_ports.specs.Ingress.{enters, reasons, vid_at, frame_in, unless as unless_refused}
-use Rattle.endpoint_core.specs.declared.arrival.Came.{Came}
+use Rattle.endpoint_core.specs.Came.{Came}
 use Rattle.endpoint_core.specs.Arrival.{came_at, capture_reasons, entered, unless}
 use Rattle.mesh_delivery.proofs.Wire.{IsWhole}
 

@@ -17,8 +17,8 @@ use Rattle.underlay.specs.Settings.{own}
 use Rattle.underlay.specs.Tunnels.{of_kind}
 use Rattle.underlay.specs.Overlay.{Overlay, flood_at, tunnel_at, tunnel_of, with_flood, segment_at as under_at}
 use Rattle.underlay.specs.declared.segment.Segment.{Segment}
-use Rattle.overlay_config.specs.declared.change.Change.{Change}
-use Rattle.overlay_config.specs.declared.change.Change.TheVariants.{AddFlood, RemoveFlood, Fix, Unfix, SetAgeing, SetLearning, SetMember, PortUp, PortDown, Flush}
+use Rattle.overlay_settings.specs.declared.change.Change.{Change}
+use Rattle.overlay_settings.specs.declared.change.Change.TheVariants.{AddFlood, RemoveFlood, Fix, Unfix, SetAgeing, SetLearning, SetMember, PortUp, PortDown, Flush}
 use Rattle.endpoint_state.specs.Settings.{Settings, BridgeSettings, SegmentSettings, joined, segment_at}
 use Rattle.endpoint_state.specs.Change.{kind_in, accepted}
 use Rattle.endpoint_state.specs.Sound.{reaches, is_reached_if}

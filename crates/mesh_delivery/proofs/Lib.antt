@@ -9,5 +9,4 @@ pub mod Sent
 pub mod Vnis
 pub mod Counts
 pub mod Meshes
-pub mod Addresses
-pub mod Texts
+pub mod Underlays

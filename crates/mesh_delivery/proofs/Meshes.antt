@@ -8,14 +8,14 @@ use Rattle.ip_udp_view.specs.declared.addr.Tunnel.{Tunnel}
 use Rattle.ip_udp_view.specs.declared.addr.Tunnel.TheVariants.{Vxlan, Geneve}
 use Rattle.underlay.specs.declared.settings.Underlay.{Underlay}
 use Rattle.underlay.specs.Settings.{is_own, port_of}
-use Rattle.overlay_config.specs.Settings.{Settings as Told}
-use Rattle.encapsulate.specs.Peer.{IsUnderlay}
+use Rattle.overlay_settings.specs.Settings.{Settings as Told}
+use Rattle.encapsulate.specs.Sender.{IsUnderlay}
 use Rattle.endpoint_state.specs.Opened.{settings_told}
 use Rattle.endpoint_state.specs.Settings.{Settings, SegmentSettings, segment_at}
 use Rattle.endpoint_state.specs.Sound.{is_reached}
 use Rattle.endpoint_state.specs.Step.{can_leave}
 use Rattle.endpoint_state.specs.State.{State as Bridges, aged}
-use Rattle.endpoint_core.specs.declared.arrival.Came.{Came}
+use Rattle.endpoint_core.specs.Came.{Came}
 use Rattle.endpoint_core.specs.Arrival.{came_at, came_by, emitted}
 use Rattle.endpoint_core.specs.Decision.{Sent}
 use Rattle.endpoint_core.specs.Event.{Event, frame_at, packet_at, change_at}
@@ -31,7 +31,7 @@ use Rattle.mesh_delivery.proofs.Sent.{is_for, first_false, second_false, left-co
 use Rattle.mesh_delivery.proofs.Steps.{Sends, sends, sends-leaving, sends-locally, came-far}
 use Rattle.mesh_delivery.proofs.Wire.{IsReadAs, delivered-as}
 use Rattle.mesh_delivery.proofs.Counts.{unequal, regroup, less_one, counts-local, later, this_one}
-use Rattle.mesh_delivery.proofs.Texts.{AreSettings, settings-told}
+use Rattle.mesh_delivery.proofs.Underlays.{underlay-kept}
 use Rattle.mesh_delivery.proofs.Vnis.{vnis-told}
 
 -- ---- what is kept
@@ -73,8 +73,8 @@ module _ (told : ℕ → Told) (mesh : IsMesh told) where
   abbrev U : ℕ → Underlay
   U n = (told n).underlay
 
-  proper : (n : ℕ) → AreSettings (told n)
-  proper n = let t = mesh.texts n in settings-told t.0 (told n) t.1
+  kept-underlay : (n : ℕ) → IsUnderlay (told n).underlay
+  kept-underlay n = underlay-kept (told n).underlay (mesh.rules n).underlay
 
   -- each flood list has at most one entry of each endpoint
   once-on : (m : Mesh) → Kept told m → AreFull m → (endpoint vid n : ℕ) (s : SegmentSettings) → segment_at (settings_at m endpoint) vid ≡ Some s → how_many (λ r. is_own (U n) r.addr) s.flood ≤ 1
@@ -167,11 +167,11 @@ module _ (told : ℕ → Told) (mesh : IsMesh told) where
       let none_flies : flying_of y.origin S x.vid sent ≡ [] = flying-local y.origin S x.vid sent local in
       let read : IsReadAs y.sender.overlay S.overlay y.vid y.kind y.origin.frame x.vid x.frame =
       delivered-as y.sender.overlay S.overlay y.vid y.kind y.addr y.origin.frame y.octets (length y.octets) x
-      (subst IsUnderlay (sym ok.keeps.underlay) (proper y.origin.endpoint).underlay)
-      (subst IsUnderlay (sym here.underlay) (proper endpoint).underlay)
+      (subst IsUnderlay (sym ok.keeps.underlay) (kept-underlay y.origin.endpoint))
+      (subst IsUnderlay (sym here.underlay) (kept-underlay endpoint))
       ok.whole
       (ap (λ (u : Underlay). port_of u y.kind) ok.keeps.underlay ∙ port-same y.origin.endpoint endpoint y.kind ∙ sym (ap (λ (u : Underlay). port_of u y.kind) here.underlay))
-      (λ tunnel there. vnis-told (told y.origin.endpoint) (proper y.origin.endpoint).rules y.vid y.kind tunnel (sym (ok.keeps.tunnels y.vid y.kind) ∙ there))
+      (λ tunnel there. vnis-told (told y.origin.endpoint) (mesh.rules y.origin.endpoint) y.vid y.kind tunnel (sym (ok.keeps.tunnels y.vid y.kind) ∙ there))
       owned ok.sent is in
       let other : endpoint ≡ y.origin.endpoint → ⊥ = λ same. read.another (here.underlay ∙ ap (λ (n : ℕ). (told n).underlay) same ∙ sym ok.keeps.underlay) in
       let owned_here : is_own (U endpoint) y.addr ≡ true = ap (λ (u : Underlay). is_own u y.addr) (sym here.underlay) ∙ owned in
@@ -219,7 +219,7 @@ module _ (told : ℕ → Told) (mesh : IsMesh told) where
 
   Kept-new : Kept told (new_mesh told)
   Kept-new = record {
-    knows = λ n. Knows-opened (told n) (proper n).rules;
+    knows = λ n. Knows-opened (told n) (mesh.rules n);
     keeps = λ n. Keeps-itself (settings_told (told n));
     counts = λ number n p. none_yet;
     old_left = tt;

@@ -21,12 +21,12 @@ use Rattle.vlan_ports.proofs.PlacesLemmas.{get-insert_at}
 use Rattle.underlay.specs.Settings.{own}
 use Rattle.underlay.specs.Overlay.{Overlay, flood_at, tunnel_at, with_flood, segment_at as under_at}
 use Rattle.underlay.specs.declared.segment.Segment.{Segment}
-use Rattle.overlay_config.specs.declared.change.Change.{Change}
-use Rattle.overlay_config.specs.declared.change.Change.TheVariants.{AddFlood, RemoveFlood, Fix, Unfix, SetAgeing, SetLearning, SetMember, PortUp, PortDown, Flush}
-use Rattle.overlay_config.specs.declared.change.Target.{Target as Goal}
-use Rattle.overlay_config.specs.declared.change.Target.TheVariants as target
-use Rattle.overlay_config.specs.Rules.{MeetsRules}
-use Rattle.overlay_config.specs.Settings.{Settings as Told}
+use Rattle.overlay_settings.specs.declared.change.Change.{Change}
+use Rattle.overlay_settings.specs.declared.change.Change.TheVariants.{AddFlood, RemoveFlood, Fix, Unfix, SetAgeing, SetLearning, SetMember, PortUp, PortDown, Flush}
+use Rattle.overlay_settings.specs.declared.change.Target.{Target as Goal}
+use Rattle.overlay_settings.specs.declared.change.Target.TheVariants as target
+use Rattle.overlay_settings.specs.Rules.{MeetsRules}
+use Rattle.overlay_settings.specs.Settings.{Settings as Told}
 use Rattle.endpoint_state.specs.Opened.{settings_told}
 use Rattle.endpoint_state.specs.declared.fault.ChangeFault.{ChangeFault}
 use Rattle.endpoint_state.specs.Fault.{of_flood}
@@ -37,7 +37,7 @@ use Rattle.endpoint_state.specs.State.{State as Bridges, live_in, aged, table_ch
 use Rattle.endpoint_state.specs.Step.{table_learned, after_frame}
 use Rattle.endpoint_state.proofs.SoundLemmas.{reached-kept, reached-learn, reached-fix, reached-unfix, reached-added, reached-without, kind-there, family-added, family-fixed}
 use Rattle.endpoint_state.proofs.OpenLemmas.{sound-opened}
-use Rattle.endpoint_core.specs.declared.arrival.Came.{Came}
+use Rattle.endpoint_core.specs.Came.{Came}
 use Rattle.endpoint_core.specs.Arrival.{came_at, came_by}
 use Rattle.endpoint_core.specs.Event.{Input, FrameAt, Packet, Asks, Event}
 use Rattle.endpoint_core.specs.Step.{State, opened, after_came, bridges_after, after, state_after}

@@ -18,7 +18,7 @@ use Rattle.underlay.specs.Overlay.{Overlay}
 use Rattle.underlay.specs.Settings.{is_own}
 use Rattle.encapsulate.specs.Emission.{local_text}
 use Rattle.encapsulate.specs.Remote.{sending}
-use Rattle.overlay_config.specs.Settings.{Settings as Told}
+use Rattle.overlay_settings.specs.Settings.{Settings as Told}
 use Rattle.endpoint_state.specs.Opened.{settings_told}
 use Rattle.endpoint_state.specs.Settings.{Settings}
 use Rattle.endpoint_state.specs.Step.{can_leave}

@@ -22,14 +22,15 @@ use Rattle.underlay.specs.Overlay.{Overlay, flood_at, tunnel_at}
 use Rattle.underlay.specs.Settings.{own, is_own}
 use Rattle.underlay.specs.Tunnels.{of_kind}
 use Rattle.tunnel_learning.specs.Bridge.{group_of, in_one_group, outlets, place_of}
-use Rattle.overlay_config.specs.Settings.{Settings as Told, settings_in}
+use Rattle.overlay_settings.specs.Rules.{MeetsRules}
+use Rattle.overlay_settings.specs.Settings.{Settings as Told}
 use Rattle.endpoint_state.specs.Opened.{settings_told}
 use Rattle.endpoint_state.specs.Settings.{Settings, SegmentSettings, segment_at}
 use Rattle.endpoint_state.specs.Sound.{reaches, is_reached, is_reached_if, AreReached}
 use Rattle.endpoint_state.specs.State.{State as Bridges, aged}
 use Rattle.endpoint_state.specs.Step.{group_in, config_of, can_leave, after_frame, verdict_in, verdict}
 use Rattle.endpoint_state.proofs.StepLemmas.{outlets-leave}
-use Rattle.endpoint_core.specs.declared.arrival.Came.{Came}
+use Rattle.endpoint_core.specs.Came.{Came}
 use Rattle.endpoint_core.specs.Arrival.{came_at, came_by, emitted}
 use Rattle.endpoint_core.specs.Decision.{Sent}
 use Rattle.endpoint_core.specs.Event.{Event, frame_at, packet_at}
@@ -38,7 +39,6 @@ use Rattle.mesh_delivery.specs.Full.{AreOneGroup}
 use Rattle.mesh_delivery.specs.Mesh.{outcomes_of}
 use Rattle.mesh_delivery.specs.Offspring.{IsLocal, is_remote_of}
 use Rattle.mesh_delivery.proofs.Counting.{how_many, how_many-count}
-use Rattle.mesh_delivery.proofs.Texts.{settings-told}
 use Rattle.mesh_delivery.proofs.Wire.{came_by-arrived}
 use Rattle.mesh_delivery.proofs.Places.{places_of, is_local_at, outlets-local, outlets-remote, outlets-back, outlets-far}
 use Rattle.mesh_delivery.proofs.Keeping.{is-of, reached}
@@ -217,11 +217,11 @@ packet-locally s t original b knows groups = by (came_by B.settings.overlay orig
         let k = Knows-aged t s.bridges knows in
         sends-locally t B x far.0 far.1 k far.2 (came-reached B.settings.overlay original b x k.flood is) (groups x.vid)
 
-pub deliveries-stay-local : (text : List ℕ) (told : Told) (es : List Event) (t original : ℕ) (b : List ℕ) → settings_in text ≡ Ok told
+pub deliveries-stay-local : (told : Told) (es : List Event) (t original : ℕ) (b : List ℕ) → MeetsRules told
     → ((vid : ℕ) (s : SegmentSettings) → segment_at (state_after (opened (settings_told told)) es).bridges.settings vid ≡ Some s → AreOneGroup s.tunnels)
     → AllByRecursion (λ o. IsLocal o.place) (outcomes_of (answer (state_after (opened (settings_told told)) es) (packet_at t original b)))
-deliveries-stay-local text told es t original b means groups =
-    packet-locally (state_after (opened (settings_told told)) es) t original b (Knows-run (opened (settings_told told)) es (Knows-opened told (settings-told text told means).rules)) groups
+deliveries-stay-local told es t original b rules groups =
+    packet-locally (state_after (opened (settings_told told)) es) t original b (Knows-run (opened (settings_told told)) es (Knows-opened told rules)) groups
 
 pub once-to-each : (s : State) (t port original : ℕ) (b : List ℕ) (U : Underlay) → ((vid : ℕ) (segment : SegmentSettings) → segment_at s.bridges.settings vid ≡ Some segment → count_by (λ r. is_own U r.addr) segment.flood ≤ 1)
     → count_by (λ o. is_remote_of U o.place) (outcomes_of (answer s (frame_at t port original b))) ≤ 1

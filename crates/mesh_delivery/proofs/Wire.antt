@@ -36,10 +36,10 @@ use Rattle.decapsulate.proofs.ArrivalLemmas.{Reads, Reads-from, kind_at-port, fr
 use Rattle.encapsulate.specs.Flow.{source_port}
 use Rattle.encapsulate.specs.Packet.{tunnelled, sum_sent}
 use Rattle.encapsulate.specs.Remote.{admits, packet_from, sending, remote_text}
-use Rattle.encapsulate.specs.Peer.{IsOwnAddr, IsUnderlay}
+use Rattle.encapsulate.specs.Sender.{IsOwnAddr, IsUnderlay}
 use Rattle.encapsulate.proofs.Sending.{source_port-below, Datagram4, Datagram6, fits4, fits6}
-use Rattle.encapsulate.proofs.PeerLemmas.{packet-sent}
-use Rattle.endpoint_core.specs.declared.arrival.Came.{Came}
+use Rattle.encapsulate.proofs.SenderLemmas.{packet-sent}
+use Rattle.endpoint_core.specs.Came.{Came}
 use Rattle.endpoint_core.specs.Arrival.{came_by, tunnelled as of_tunnel}
 
 -- ---- small steps

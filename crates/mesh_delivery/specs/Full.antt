@@ -1,18 +1,19 @@
 -- A full mesh: each endpoint sends straight to each other, and hands no packet on (the split horizon of RFC 4762, 4.4).
-use Rattle.std.specs.Prelude.{◌≡◌, ℕ, ◌≤◌, ◌==◌, IsTrue, not, List, [], ◌∷◌, Some, Ok}
+use Rattle.std.specs.Prelude.{◌≡◌, ℕ, ◌≤◌, ◌==◌, IsTrue, not, List, [], ◌∷◌, Some}
 use Rattle.std.specs.List.{list_all, count_by}
 use Rattle.ip_udp_view.specs.Addr.{is_group}
 use Rattle.underlay.specs.declared.settings.Underlay.{Underlay}
 use Rattle.underlay.specs.declared.tunnels.SegmentTunnel.{SegmentTunnel}
 use Rattle.underlay.specs.Settings.{is_own}
-use Rattle.overlay_config.specs.Settings.{Settings as Told, settings_in}
+use Rattle.overlay_settings.specs.Rules.{MeetsRules}
+use Rattle.overlay_settings.specs.Settings.{Settings as Told}
 use Rattle.endpoint_state.specs.Settings.{SegmentSettings, segment_at}
 use Rattle.mesh_delivery.specs.Mesh.{Mesh, Happening, settings_at, mesh_after}
 
--- endpoints with the settings that texts mean, and with the same two tunnel ports. Two may own one address: a packet is
--- delivered to one of them
+-- endpoints with settings that keep to the rules, and with the same two tunnel ports. Two may own one address: a packet
+-- is delivered to one of them
 pub record IsMesh (told : ℕ → Told) : Type 0 where
-  pub texts : (n : ℕ) → (text : List ℕ) × (settings_in text ≡ Ok (told n))
+  pub rules : (n : ℕ) → MeetsRules (told n)
   pub vxlan_port : (n k : ℕ) → (told n).underlay.vxlan_port ≡ (told k).underlay.vxlan_port
   pub geneve_port : (n k : ℕ) → (told n).underlay.geneve_port ≡ (told k).underlay.geneve_port
 

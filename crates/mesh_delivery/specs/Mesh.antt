@@ -13,11 +13,11 @@ use Rattle.ip_udp_view.specs.declared.addr.Tunnel.{Tunnel}
 use Rattle.filter_db.specs.declared.place.Place.{Place}
 use Rattle.filter_db.specs.declared.place.Place.TheVariants.{Local, Remote}
 use Rattle.underlay.specs.Settings.{is_own}
-use Rattle.overlay_config.specs.Settings.{Settings as Told}
-use Rattle.overlay_config.specs.declared.change.Change.{Change}
+use Rattle.overlay_settings.specs.Settings.{Settings as Told}
+use Rattle.overlay_settings.specs.declared.change.Change.{Change}
 use Rattle.endpoint_state.specs.Opened.{settings_told}
 use Rattle.endpoint_state.specs.Settings.{Settings}
-use Rattle.endpoint_core.specs.declared.arrival.Came.{Came}
+use Rattle.endpoint_core.specs.Came.{Came}
 use Rattle.endpoint_core.specs.Arrival.{came_at, came_by}
 use Rattle.endpoint_core.specs.Decision.{Sent}
 use Rattle.endpoint_core.specs.Event.{Event, frame_at, packet_at, change_at}

@@ -3,7 +3,8 @@ ghost use Rattle.std.specs.Prelude.{◌≡◌, ◌≤◌, ℕ, List, Some, Ok};
 ghost use Rattle.std.specs.List.{AllByRecursion, count_by};
 ghost use Rattle.underlay.specs.declared.settings.Underlay.{Underlay};
 ghost use Rattle.underlay.specs.Settings.{is_own};
-ghost use Rattle.overlay_config.specs.Settings.{Settings as Told, settings_in};
+ghost use Rattle.overlay_settings.specs.Rules.{MeetsRules};
+ghost use Rattle.overlay_settings.specs.Settings.{Settings as Told};
 ghost use Rattle.endpoint_state.specs.Opened.{settings_told};
 ghost use Rattle.endpoint_state.specs.Settings.{SegmentSettings, segment_at};
 ghost use Rattle.endpoint_core.specs.Event.{Event, frame_at, packet_at};
@@ -22,10 +23,10 @@ pub fn mesh()
         AllByRecursion IsOffspring (mesh_run (new_mesh told) hs).left }
 {}
 
-/// From the opening with the settings of a text on, over any events, what comes by a tunnel goes to local ports alone, where
+/// From the opening with settings that keep to the rules on, over any events, what comes by a tunnel goes to local ports alone, where
 /// all tunnels of each segment are of one horizon group.
 pub fn deliveries_stay_local()
-    ensures { (text : List ℕ) (told : Told) (es : List Event) (t original : ℕ) (b : List ℕ) → settings_in text ≡ Ok told →
+    ensures { (told : Told) (es : List Event) (t original : ℕ) (b : List ℕ) → MeetsRules told →
         ((vid : ℕ) (s : SegmentSettings) → segment_at (state_after (opened (settings_told told)) es).bridges.settings vid ≡ Some s → AreOneGroup s.tunnels) →
         AllByRecursion (λ o. IsLocal o.place) (outcomes_of (answer (state_after (opened (settings_told told)) es) (packet_at t original b))) }
 {}

@@ -8,8 +8,9 @@ use Rattle.std.proofs.lemmas.Map.Views.{tells_apart}
 use Rattle.std.proofs.lemmas.Option.{none-some, same_Some}
 use Rattle.ip_udp_view.specs.declared.addr.Addr.{Addr}
 use Rattle.ip_udp_view.specs.Addr.{address}
-use Rattle.overlay_config.specs.Underlay.{Exceptions, with_exception, exceptions}
-use Rattle.overlay_config.specs.Rules.{EachBehind, IsHop, AreHops}
+use Rattle.overlay_settings.specs.Settings.{Exceptions}
+use Rattle.overlay_config.specs.Underlay.{with_exception, exceptions}
+use Rattle.overlay_settings.specs.Rules.{EachBehind, IsHop, AreHops}
 
 -- one more at most
 pub size : (hops : Exceptions) (octets mac : List ℕ) → len (insert hops octets mac) ≤ len hops + 1

@@ -1,6 +1,5 @@
 mod Pairs
 mod Readings
-mod Listed
 mod Hops
 mod Numbers
 pub mod Meets

@@ -1,50 +1,49 @@
 -- Settings that are read keep to the rules.
-use Rattle.std.proofs.Common.{◌≡◌, ℕ, ◌≤◌, ◌+◌, ◌++◌, ◌∷◌, [], Bool, true, false, cond, ◌&&◌, ◌||◌, nat_lt, List, length, map, get_or, eqb, nat_le, ◌<◌, Option, Some, None, option_map, is_some, is_none, Ok, codes, refl, sym, ap, subst, ◌∙◌, lit≤, arith}
+use Rattle.std.proofs.Common.{◌≡◌, ℕ, ◌≤◌, ◌+◌, ◌++◌, ◌∷◌, [], Bool, true, false, cond, ◌&&◌, ◌||◌, not, nat_lt, List, length, Option, Some, None, option_map, is_some, is_none, Ok, codes, refl, sym, subst, lit≤, arith}
 use Rattle.std.specs.Prelude.{IsTrue, IsFalse, IfSome, ◌==◌}
 use Rattle.std.specs.List.{list_any}
-use Rattle.std.proofs.lemmas.Bool.{ltb-false, le-leb, and_from, or_from, eq-eqb, false≢true}
-use Rattle.std.proofs.lemmas.List.{get_or-map, length-map}
-use Rattle.toml.specs.Data.{Data, Members, Items, no_items, item, as_array}
+use Rattle.std.proofs.lemmas.Bool.{ltb-false, and_parts, false≢true}
+use Rattle.toml.specs.Data.{Data, Members, Items, no_items, item, as_array, as_str}
 use Rattle.ip_udp_view.specs.declared.addr.Addr.{Addr}
 use Rattle.ip_udp_view.specs.declared.addr.Addr.TheVariants.{V4, V6}
 use Rattle.ip_udp_view.specs.declared.addr.Tunnel.{Tunnel}
 use Rattle.ip_udp_view.specs.declared.addr.Tunnel.TheVariants.{Vxlan, Geneve}
-use Rattle.ip_udp_view.specs.Addr.{same_addr, same_kind}
+use Rattle.frame_view.specs.Address.{is_group as is_group_mac}
+use Rattle.ip_udp_view.specs.Addr.{IsAddr, is_group, is_usable, same_addr, same_kind}
 use Rattle.std.specs.FinMap.{empty, len}
 use Rattle.flood_lists.specs.declared.own.Own.{Own}
 use Rattle.flood_lists.specs.declared.remote.Remote.{Remote}
 use Rattle.flood_lists.specs.First.{first}
 use Rattle.flood_lists.specs.Flood.{Entries, add_faults}
-use Rattle.filter_db.specs.Segment.{IsRule, AreForDistinctVids}
-use Rattle.filter_db.specs.declared.tables.TableRule.{TableRule}
 use Rattle.geneve_head.specs.Options.{holds}
-use Rattle.vlan_ports.specs.declared.member.MemberRule.{MemberRule}
 use Rattle.vlan_ports.specs.declared.port.Accept.TheVariants.{All}
 use Rattle.vlan_ports.specs.declared.port.PortRule.{PortRule}
-use Rattle.vlan_ports.specs.Ports.{is_port, are_ports, lists_ports}
 use Rattle.underlay.specs.declared.segment.PeerRule.TheVariants.{Any}
 use Rattle.underlay.specs.declared.segment.TagRule.TheVariants.{Drop}
-use Rattle.underlay.specs.declared.segment.TunnelRule.{TunnelRule}
 use Rattle.underlay.specs.declared.tunnels.SegmentTunnel.{SegmentTunnel}
 use Rattle.underlay.specs.declared.settings.Underlay.{Underlay}
-use Rattle.underlay.specs.Overlay.{AreApart, clash}
-use Rattle.underlay.specs.Overlay as overlay
 use Rattle.underlay.specs.Settings.{own}
 use Rattle.config_text.specs.declared.fault.SettingsFault.TheVariants.{Missing, BadValue, TwoSegments, OverLimit}
 use Rattle.config_text.specs.Address.{mac_of, ip4_of, ip6_of, addr_of}
 use Rattle.config_text.specs.Column.{range, truth, text, one_of, any_addr, gathered, individual_mac, is_individual, is_endpoint, endpoint_addr, own_ip4, own_ip6}
 use Rattle.config_text.specs.Table.{Place, top, path, required, only, defaulted, optional, listed, items, limited_items, required_items, subtable, each, numbered, refuse_if}
-use Rattle.overlay_config.specs.declared.segment.Segment.{Segment}
+use Rattle.config_text.proofs.Addresses.{kept_some, then_some, mac_length, ip4_is, ip6_is, addr_is}
+use Rattle.overlay_settings.specs.declared.segment.SegmentRule.{SegmentRule}
+use Rattle.overlay_config.specs.declared.local_rules.LocalRules.{LocalRules}
+use Rattle.overlay_config.specs.LocalRules.{local_of, members_of, peer_words, tag_words}
 use Rattle.overlay_config.specs.Port.{port_of, port_keys, accept_words}
-use Rattle.overlay_config.specs.Underlay.{Exceptions, exceptions, underlay_of, underlay_keys, own_addrs_of, tunnel_ports_of, pair_in, known_option, with_known, put_known, hop_of, hop_keys, hops_of}
-use Rattle.overlay_config.specs.Members.{is_member, with_member, put_member}
+use Rattle.overlay_settings.specs.Settings.{Exceptions}
+use Rattle.overlay_config.specs.Underlay.{exceptions, underlay_of, underlay_keys, own_addrs_of, tunnel_ports_of, pair_in, known_option, with_known, put_known, hop_of, hop_keys, hops_of}
+use Rattle.overlay_settings.specs.Settings.{is_member}
+use Rattle.overlay_config.specs.Members.{with_member, put_member}
 use Rattle.overlay_config.specs.Flood.{with_remote, put_remote}
-use Rattle.overlay_config.specs.Segment.{segment_of, segment_keys, members_of, is_alike, is_taken, one_tunnel, sum_of_limits, tunnel_words, peer_words, tag_words, vni_number}
-use Rattle.overlay_config.specs.Settings.{Settings, segments_of, settings_of, told_by, top_keys}
-use Rattle.overlay_config.specs.Rules.{IsWithin, EachBehind, IsKnown, IsHop, AreHops, IsUnderlay, IsPort, IsMember, IsMemberRule, IsRemote, IsTunnelRule, MeetsRules}
+use Rattle.overlay_config.specs.Segment.{segment_of, segment_keys, flood_of, is_taken, tunnel_of, tunnel_words, vni_number}
+use Rattle.overlay_settings.specs.Settings.{Settings, sum_of_limits}
+use Rattle.overlay_config.specs.Settings.{segments_of, settings_of, settings_in, top_keys}
+use Rattle.overlay_config.specs.Document.{document}
+use Rattle.overlay_settings.specs.Rules.{IsWithin, EachBehind, IsKnown, IsEndpoint, IsIndividual, IsHop, AreHops, IsUnderlay, IsPort, IsMember, IsTunnel, IsRemote, IsSegment, MeetsRules}
 use Rattle.overlay_config.proofs.Hops.{all_size, none_size, hops_are}
-use Rattle.overlay_config.proofs.Listed.{each_mapped, all_mapped, same_numbers, all_pass, pairs_from}
-use Rattle.overlay_config.proofs.Readings.{bind_then, ok_is, fits_ok, refuse_ok, kept_meets, range_meets, required_meets, optional_meets, required_range, defaulted_range, limited_items_ok, required_items_ok, Longer, from_none, each_meets, gathered_meets, and_then_ok, some_is, unless_ok, when_ok, or_left}
+use Rattle.overlay_config.proofs.Readings.{bind_then, ok_is, fits_ok, refuse_ok, range_meets, required_meets, optional_meets, required_range, defaulted_range, limited_items_ok, required_items_ok, Longer, from_none, each_meets, gathered_meets, some_is, unless_ok, when_ok, or_left}
 
 -- ---- ports
 
@@ -59,17 +58,40 @@ port_meets earlier at p e =
 
 -- ---- the underlay
 
-mac_meets : (d : Data) (x : List ℕ) → individual_mac d ≡ Some x → IsTrue (is_individual x)
-mac_meets d x e = kept_meets is_individual (text mac_of d) x e
+-- what a text tells
+written : {A : Type 0} (reading : List ℕ → Option A) (d : Data) (x : A) → text reading d ≡ Some x → (t : List ℕ) × (reading t ≡ Some x)
+written reading d x e = let a = then_some reading (as_str d) x e in (a.0, a.2)
 
-ip4_meets : (d : Data) (x : List ℕ) → own_ip4 d ≡ Some x → IsTrue (is_endpoint (V4 x))
-ip4_meets d x e = kept_meets (λ ip. is_endpoint (V4 ip)) (text ip4_of d) x e
+not_true : (b : Bool) → not b ≡ true → b ≡ false
+not_true true h = absurd (false≢true h)
+not_true false h = refl
 
-ip6_meets : (d : Data) (x : List ℕ) → own_ip6 d ≡ Some x → IsTrue (is_endpoint (V6 x))
-ip6_meets d x e = kept_meets (λ ip. is_endpoint (V6 ip)) (text ip6_of d) x e
+mac_meets : (d : Data) (x : List ℕ) → individual_mac d ≡ Some x → IsIndividual x
+mac_meets d x e =
+    let k = kept_some is_individual (text mac_of d) x e in
+    let a = written mac_of d x k.0 in
+    record { six = mac_length a.0 x a.1; unicast = not_true (is_group_mac x) k.1 }
 
-endpoint_meets : (d : Data) (x : Addr) → endpoint_addr d ≡ Some x → IsTrue (is_endpoint x)
-endpoint_meets d x e = kept_meets is_endpoint (text addr_of d) x e
+endpoint_is : (a : Addr) → IsAddr a → is_endpoint a ≡ true → IsEndpoint a
+endpoint_is a is e = let both = and_parts (is_usable a) (not (is_group a)) e in record { is_addr = is; usable = both.0; unicast = not_true (is_group a) both.1 }
+
+ip4_meets : (d : Data) (x : List ℕ) → own_ip4 d ≡ Some x → IsEndpoint (V4 x)
+ip4_meets d x e =
+    let k = kept_some (λ ip. is_endpoint (V4 ip)) (text ip4_of d) x e in
+    let a = written ip4_of d x k.0 in
+    endpoint_is (V4 x) (ip4_is a.0 x a.1) k.1
+
+ip6_meets : (d : Data) (x : List ℕ) → own_ip6 d ≡ Some x → IsEndpoint (V6 x)
+ip6_meets d x e =
+    let k = kept_some (λ ip. is_endpoint (V6 ip)) (text ip6_of d) x e in
+    let a = written ip6_of d x k.0 in
+    endpoint_is (V6 x) (ip6_is a.0 x a.1) k.1
+
+addr_meets : (d : Data) (x : Addr) → any_addr d ≡ Some x → IsAddr x
+addr_meets d x e = let a = written addr_of d x e in addr_is a.0 x a.1
+
+endpoint_meets : (d : Data) (x : Addr) → endpoint_addr d ≡ Some x → IsEndpoint x
+endpoint_meets d x e = let k = kept_some is_endpoint (text addr_of d) x e in endpoint_is x (addr_meets d x k.0) k.1
 
 one_family : (a b : Option (List ℕ)) → (is_none a && is_none b) ≡ false → IsTrue (is_some a || is_some b)
 one_family None None e = absurd cc
@@ -77,7 +99,7 @@ one_family None (Some y) e = refl
 one_family (Some x) b e = refl
 
 abbrev HasOwn : Option (List ℕ) × Option (List ℕ) → Type 0
-HasOwn own = IfSome own.0 (λ ip. IsTrue (is_endpoint (V4 ip))) × IfSome own.1 (λ ip. IsTrue (is_endpoint (V6 ip))) × IsTrue (is_some own.0 || is_some own.1)
+HasOwn own = IfSome own.0 (λ ip. IsEndpoint (V4 ip)) × IfSome own.1 (λ ip. IsEndpoint (V6 ip)) × IsTrue (is_some own.0 || is_some own.1)
 
 own_meets : (at : Place) (own : Option (List ℕ) × Option (List ℕ)) → own_addrs_of at ≡ Ok own → HasOwn own
 unfolding own_addrs_of
@@ -86,8 +108,8 @@ own_meets at own e =
     bind_then (optional at (codes "ip6") own_ip6) _ own e0 (λ ip6 ip6-is e1.
     bind_then (refuse_if (is_none ip4 && is_none ip6) (Missing (path at (codes "ip4")))) _ own e1 (λ family family-is e2.
     subst HasOwn (ok_is (ip4, ip6) own e2) (
-      optional_meets (λ ip. IsTrue (is_endpoint (V4 ip))) own_ip4 ip4_meets at (codes "ip4") ip4 ip4-is,
-      optional_meets (λ ip. IsTrue (is_endpoint (V6 ip))) own_ip6 ip6_meets at (codes "ip6") ip6 ip6-is,
+      optional_meets (λ ip. IsEndpoint (V4 ip)) own_ip4 ip4_meets at (codes "ip4") ip4 ip4-is,
+      optional_meets (λ ip. IsEndpoint (V6 ip)) own_ip6 ip6_meets at (codes "ip6") ip6 ip6-is,
       one_family ip4 ip6 (refuse_ok _ _ family family-is),
     ))))
 
@@ -124,8 +146,8 @@ hop_meets earlier at h e =
     bind_then (refuse_if (list_any (λ x. same_addr x.0 addr) earlier) (BadValue (path at (codes "addr")))) _ h e1 (λ new new-is e2.
     bind_then (required at (codes "mac") individual_mac) _ h e2 (λ mac mac-is e3.
     subst (IsRow earlier) (ok_is (addr, mac) h e3) (
-      required_meets (λ a. IsTrue (is_endpoint a)) endpoint_addr endpoint_meets at (codes "addr") addr addr-is,
-      required_meets (λ m. IsTrue (is_individual m)) individual_mac mac_meets at (codes "mac") mac mac-is,
+      required_meets IsEndpoint endpoint_addr endpoint_meets at (codes "addr") addr addr-is,
+      required_meets IsIndividual individual_mac mac_meets at (codes "mac") mac mac-is,
     )))))
 
 hops_meet : (at : Place) (hops : Exceptions) → hops_of at ≡ Ok hops → (len hops ≤ 64) × AreHops hops
@@ -152,15 +174,15 @@ pair_in_meets : (ds : Items) (x : ℕ × ℕ) → pair_in ds ≡ Some x → IsOp
 pair_in_meets no_items x e = absurd cc
 pair_in_meets (item c no_items) x e = absurd cc
 pair_in_meets (item c (item k no_items)) x e =
-    let a = and_then_ok (range 0 65535 c) (λ class. option_map (λ kind. (class, kind)) (range 0 255 k)) x e in
+    let a = then_some (λ class. option_map (λ kind. (class, kind)) (range 0 255 k)) (range 0 65535 c) x e in
     let b = pair_of a.0 (range 0 255 k) x a.2 in
     subst IsOption b.2 (range_meets 0 65535 c a.0 a.1, range_meets 0 255 k b.0 b.1)
 pair_in_meets (item c (item k (item m ds))) x e = absurd cc
 
 known_meets : (earlier : List (ℕ × ℕ)) (d : Data) (longer : List (ℕ × ℕ)) → put_known earlier d ≡ Some longer → Longer IsKnown earlier longer
 known_meets earlier d longer e =
-    let a = and_then_ok (known_option d) (with_known earlier) longer e in
-    let b = and_then_ok (as_array d) pair_in a.0 a.1 in
+    let a = then_some (with_known earlier) (known_option d) longer e in
+    let b = then_some pair_in (as_array d) a.0 a.1 in
     let o = pair_in_meets b.0 a.0 b.2 in
     let k = unless_ok (holds earlier a.0.0 a.0.1) (cond (nat_lt (length earlier) 16) (Some (earlier ++ a.0 ∷ [])) None) longer a.2 in
     let m = when_ok (nat_lt (length earlier) 16) (earlier ++ a.0 ∷ []) longer k.1 in
@@ -204,8 +226,8 @@ underlay_meets at u e =
     let k = listed_meets IsKnown put_known known_meets at (codes "known") 16 known known-is in
     let h = hops_meet at hops hops-is in
     subst IsUnderlay (ok_is _ u e11) (record {
-      mac = required_meets (λ m. IsTrue (is_individual m)) individual_mac mac_meets at (codes "mac") mac mac-is;
-      next_hop = required_meets (λ m. IsTrue (is_individual m)) individual_mac mac_meets at (codes "next_hop") next next-is;
+      mac = required_meets IsIndividual individual_mac mac_meets at (codes "mac") mac mac-is;
+      next_hop = required_meets IsIndividual individual_mac mac_meets at (codes "next_hop") next next-is;
       ip4 = o.0;
       ip6 = o.1;
       family = o.2;
@@ -228,7 +250,7 @@ either_false false b e = (refl, e)
 
 member_meets : (ports : ℕ) (other earlier : List ℕ) (d : Data) (longer : List ℕ) → put_member ports other earlier d ≡ Some longer → Longer (IsMember ports other) earlier longer
 member_meets ports other earlier d longer e =
-    let a = and_then_ok (range 1 ports d) (with_member other earlier) longer e in
+    let a = then_some (with_member other earlier) (range 1 ports d) longer e in
     let k = unless_ok (is_member earlier a.0 || is_member other a.0) (Some (earlier ++ a.0 ∷ [])) longer a.2 in
     let g = either_false (is_member earlier a.0) (is_member other a.0) k.0 in
     record { last = a.0; is = sym (some_is (earlier ++ a.0 ∷ []) longer k.1); meets = (range_meets 1 ports d a.0 a.1, g.0, g.1) }
@@ -246,11 +268,12 @@ same_kind_refl Geneve = refl
 abbrev remote : Tunnel → Addr → Remote
 remote kind addr = record { tunnel = kind; addr = addr }
 
-remote_meets : (own : Own) (kind : Tunnel) (vni : ℕ) (earlier : Entries) (d : Data) (longer : Entries) → put_remote own kind earlier d ≡ Some longer → Longer (IsRemote own (one_tunnel kind vni)) earlier longer
-remote_meets own kind vni earlier d longer e =
-    let a = and_then_ok (any_addr d) (with_remote own kind earlier) longer e in
+remote_meets : (own : Own) (tunnel : SegmentTunnel) (earlier : Entries) (d : Data) (longer : Entries) → put_remote own tunnel.kind earlier d ≡ Some longer → Longer (IsRemote own (tunnel ∷ [])) earlier longer
+remote_meets own tunnel earlier d longer e =
+    let kind = tunnel.kind in
+    let a = then_some (with_remote own kind earlier) (any_addr d) longer e in
     let k = when_ok (is_none (first (add_faults own earlier kind a.0))) (earlier ++ remote kind a.0 ∷ []) longer a.2 in
-    record { last = remote kind a.0; is = sym k.1; meets = (or_left (same_kind kind kind) false (same_kind_refl kind), k.0) }
+    record { last = remote kind a.0; is = sym k.1; meets = record { kind = or_left (same_kind kind kind) false (same_kind_refl kind); taken = k.0; is_addr = addr_meets d a.0 a.1 } }
 
 vni_meets : (d : Data) (x : ℕ) → vni_number d ≡ Some x → IsWithin 0 16777215 x
 vni_meets d x e = range_meets 0 16777215 d x e
@@ -267,145 +290,74 @@ one_or_two = (lit≤ tt, lit≤ tt)
 group_zero : IsWithin 0 255 0
 group_zero = (lit≤ tt, lit≤ tt)
 
-or_false : (b : Bool) → b ≡ false → (b || false) ≡ false
-or_false true e = absurd cc
-or_false false e = refl
+-- the rules that say nothing of tunnels
+record AreLocal (ports : ℕ) (x : LocalRules) : Type 0 where
+  limit : IsWithin 1 8192 x.limit
+  ageing : IsWithin 10 1000000 x.ageing
+  untagged : EachBehind (IsMember ports []) [] x.untagged
+  tagged : EachBehind (IsMember ports x.untagged) [] x.tagged
 
--- a segment that is like none before it has tunnels apart from theirs
-module _ (vid : ℕ) (kind : Tunnel) (vni : ℕ) (rule : TunnelRule) (of-vid : rule.vid ≡ vid) (of-kind : rule.tunnels ≡ one_tunnel kind vni) where
-  alike : (earlier : TunnelRule) → is_alike vid kind vni earlier ≡ false → clash earlier rule ≡ false
-  alike earlier h =
-      let both = either_false (earlier.vid == vid) (overlay.has_tunnel kind vni (overlay.segment_of earlier)) h in
-      ap (λ (tunnels : List SegmentTunnel). (earlier.vid == rule.vid) || list_any (λ t. overlay.has_tunnel t.kind t.vni (overlay.segment_of earlier)) tunnels) of-kind
-      ∙ or_from (earlier.vid == rule.vid) _ (ap (λ (n : ℕ). earlier.vid == n) of-vid ∙ both.0) (or_false (overlay.has_tunnel kind vni (overlay.segment_of earlier)) both.1)
+local_meets : (ports : ℕ) (at : Place) (x : LocalRules) → local_of ports at ≡ Ok x → AreLocal ports x
+unfolding local_of
+local_meets ports at x e =
+    bind_then (defaulted at (codes "limit") (range 1 8192) 256) _ x e (λ limit limit-is e0.
+    bind_then (defaulted at (codes "ageing") (range 10 1000000) 300) _ x e0 (λ ageing ageing-is e1.
+    bind_then (defaulted at (codes "learn") truth true) _ x e1 (λ learning learning-is e2.
+    bind_then (defaulted at (codes "peers") (one_of peer_words) Any) _ x e2 (λ peers peers-is e3.
+    bind_then (defaulted at (codes "tags") (one_of tag_words) Drop) _ x e3 (λ tags tags-is e4.
+    bind_then (members_of at (codes "untagged") ports []) _ x e4 (λ untagged untagged-is e5.
+    bind_then (members_of at (codes "tagged") ports untagged) _ x e5 (λ tagged tagged-is e6.
+    subst (AreLocal ports) (ok_is _ x e6) (record {
+      limit = defaulted_range at (codes "limit") 1 8192 256 limit default_limit limit-is;
+      ageing = defaulted_range at (codes "ageing") 10 1000000 300 ageing default_ageing ageing-is;
+      untagged = members_meet at (codes "untagged") ports [] untagged untagged-is;
+      tagged = members_meet at (codes "tagged") ports untagged tagged tagged-is;
+    }))))))))
 
-  not_taken : (earlier : List Segment) → is_taken vid kind vni earlier ≡ false → list_any (λ e. clash e rule) (map (λ s. s.tunnels) earlier) ≡ false
-  not_taken [] h = refl
-  not_taken (s ∷ earlier) h =
-      let both = either_false (is_alike vid kind vni s.tunnels) (is_taken vid kind vni earlier) h in
-      or_from (clash s.tunnels rule) _ (alike s.tunnels both.0) (not_taken earlier both.1)
+tunnel_meets : (at : Place) (t : SegmentTunnel) → tunnel_of at ≡ Ok t → IsTunnel [] t
+unfolding tunnel_of
+tunnel_meets at t e =
+    bind_then (required at (codes "vni") vni_number) _ t e (λ vni vni-is e0.
+    bind_then (required at (codes "tunnel") (one_of tunnel_words)) _ t e0 (λ kind kind-is e1.
+    subst (IsTunnel []) (ok_is _ t e1) (required_meets (IsWithin 0 16777215) vni_number vni_meets at (codes "vni") vni vni-is, group_zero, refl)))
 
--- what the table of a segment tells
-record IsSegment (own : Own) (ports : ℕ) (earlier : List Segment) (s : Segment) : Type 0 where
-  tunnels : IsTunnelRule own (map (λ e. e.tunnels) earlier) s.tunnels
-  members : IsMemberRule ports (map (λ e. e.members) earlier) s.members
-  table : IsRule s.table
-  members_vid : s.members.vid ≡ s.tunnels.vid
-  table_vid : s.table.vid ≡ s.tunnels.vid
-  learning_vid : s.learning.vid ≡ s.tunnels.vid
-
-segment_meets : (own : Own) (ports : ℕ) (earlier : List Segment) (at : Place) (s : Segment) → segment_of own ports earlier at ≡ Ok s → IsSegment own ports earlier s
+segment_meets : (own : Own) (ports : ℕ) (earlier : List SegmentRule) (at : Place) (s : SegmentRule) → segment_of own ports earlier at ≡ Ok s → IsSegment own ports earlier s
 unfolding segment_of
 segment_meets own ports earlier at s e =
     bind_then (only at segment_keys) _ s e (λ known known-is e0.
     bind_then (required at (codes "vid") (range 1 4094)) _ s e0 (λ vid vid-is e1.
-    bind_then (required at (codes "vni") vni_number) _ s e1 (λ vni vni-is e2.
-    bind_then (required at (codes "tunnel") (one_of tunnel_words)) _ s e2 (λ kind kind-is e3.
-    bind_then (defaulted at (codes "limit") (range 1 8192) 256) _ s e3 (λ limit limit-is e4.
-    bind_then (defaulted at (codes "ageing") (range 10 1000000) 300) _ s e4 (λ ageing ageing-is e5.
-    bind_then (defaulted at (codes "learn") truth true) _ s e5 (λ learning learning-is e6.
-    bind_then (defaulted at (codes "peers") (one_of peer_words) Any) _ s e6 (λ peers peers-is e7.
-    bind_then (defaulted at (codes "tags") (one_of tag_words) Drop) _ s e7 (λ tags tags-is e8.
-    bind_then (members_of at (codes "untagged") ports []) _ s e8 (λ untagged untagged-is e9.
-    bind_then (members_of at (codes "tagged") ports untagged) _ s e9 (λ tagged tagged-is e10.
-    bind_then (listed at (codes "flood") 16 (put_remote own kind) []) _ s e10 (λ flood flood-is e11.
-    bind_then (refuse_if (is_taken vid kind vni earlier) (TwoSegments (numbered (codes "segment") (length earlier + 1)))) _ s e11 (λ apart apart-is e12.
-    let f = listed_meets (IsRemote own (one_tunnel kind vni)) (put_remote own kind) (remote_meets own kind vni) at (codes "flood") 16 flood flood-is in
-    let l = defaulted_range at (codes "limit") 1 8192 256 limit default_limit limit-is in
-    let a = defaulted_range at (codes "ageing") 10 1000000 300 ageing default_ageing ageing-is in
-    let rule : TunnelRule = record { vid = vid; tunnels = one_tunnel kind vni; flood = flood; peers = peers; tags = tags } in
-    subst (IsSegment own ports earlier) (ok_is _ s e12) (record {
-      tunnels = record {
-        vid = required_range at (codes "vid") 1 4094 vid vid-is;
-        tunnel_count = one_or_two;
-        tunnels = ((required_meets (IsWithin 0 16777215) vni_number vni_meets at (codes "vni") vni vni-is, group_zero, refl), tt);
-        flood_count = f.0;
-        flood = f.1;
-        apart = not_taken vid kind vni rule refl refl earlier (refuse_ok _ _ apart apart-is);
-      };
-      members = (members_meet at (codes "untagged") ports [] untagged untagged-is, members_meet at (codes "tagged") ports untagged tagged tagged-is);
-      table = record { some_entries = l.0; at_most = l.1; long_enough = a.0; not_too_long = a.1 };
-      members_vid = refl;
-      table_vid = refl;
-      learning_vid = refl;
-    }))))))))))))))
-
--- ---- what the openers ask for
-
-number_is : (ports : ℕ) (other earlier : List ℕ) (p : ℕ) → IsMember ports other earlier p → is_port ports p ≡ true
-number_is ports other earlier p is = and_from (nat_le 1 p) (nat_le p ports) (le-leb 1 p is.0.0) (le-leb p ports is.0.1)
-
-lists : (ports : ℕ) (earlier : List MemberRule) (m : MemberRule) → IsMemberRule ports earlier m → lists_ports ports m ≡ true
-lists ports earlier m is =
-    and_from (are_ports ports m.untagged) (are_ports ports m.tagged)
-    (all_pass (IsMember ports []) (is_port ports) (number_is ports []) [] m.untagged is.0)
-    (all_pass (IsMember ports m.untagged) (is_port ports) (number_is ports m.untagged) [] m.tagged is.1)
-
--- tables for the VIDs of tunnels that are apart are for distinct VIDs
-module _ (tables : List TableRule) (tunnels : List TunnelRule) (same : map (λ t. t.vid) tables ≡ map (λ t. t.vid) tunnels) where
-  some_rule : TableRule → TunnelRule
-  some_rule d = record { vid = d.vid; tunnels = []; flood = []; peers = Any; tags = Drop }
-
-  as_many : length tables ≡ length tunnels
-  as_many = sym (length-map tables (λ t. t.vid)) ∙ ap length same ∙ length-map tunnels (λ t. t.vid)
-
-  vid_at : (k : ℕ) (d : TableRule) → k < length tables → (get_or tables k d).vid ≡ (get_or tunnels k (some_rule d)).vid
-  vid_at k d lt =
-      sym (get_or-map (λ t. t.vid) tables k d d.vid lt)
-      ∙ ap (λ (vids : List ℕ). get_or vids k d.vid) same
-      ∙ get_or-map (λ t. t.vid) tunnels k (some_rule d) d.vid (omega (arith, lt, as_many))
-
-  distinct_vids : AreApart tunnels → AreForDistinctVids tables
-  distinct_vids apart i j d lt within is =
-      let clashes = apart i j (some_rule d) lt (omega (arith, within, as_many)) in
-      let differ = (either_false (eqb (get_or tunnels i (some_rule d)).vid (get_or tunnels j (some_rule d)).vid) _ clashes).0 in
-      let equal = sym (vid_at i d (omega (arith, lt, within))) ∙ is ∙ vid_at j d within in
-      absurd (false≢true (sym differ ∙ eq-eqb _ _ equal))
+    bind_then (tunnel_of at) _ s e1 (λ tunnel tunnel-is e2.
+    bind_then (local_of ports at) _ s e2 (λ local local-is e3.
+    bind_then (flood_of own tunnel.kind at) _ s e3 (λ flood flood-is e4.
+    bind_then (refuse_if (is_taken vid (tunnel ∷ []) earlier) (TwoSegments (numbered (codes "segment") (length earlier + 1)))) _ s e4 (λ apart apart-is e5.
+    let l = local_meets ports at local local-is in
+    let f = listed_meets (IsRemote own (tunnel ∷ [])) (put_remote own tunnel.kind) (remote_meets own tunnel) at (codes "flood") 16 flood flood-is in
+    subst (IsSegment own ports earlier) (ok_is _ s e5) (record {
+      vid = required_range at (codes "vid") 1 4094 vid vid-is;
+      tunnel_count = one_or_two;
+      tunnels = (tunnel_meets at tunnel tunnel-is, tt);
+      flood_count = f.0;
+      flood = f.1;
+      limit = l.limit;
+      ageing = l.ageing;
+      untagged = l.untagged;
+      tagged = l.tagged;
+      apart = refuse_ok _ _ apart apart-is;
+    })))))))
 
 -- ---- all
 
-told_meet : (u : Underlay) (ports : List PortRule) (segments : List Segment)
-    → IsUnderlay u
-    → IsWithin 1 16 (length ports)
-    → EachBehind IsPort [] ports
-    → IsWithin 1 256 (length segments)
-    → EachBehind (IsSegment (own u) (length ports)) [] segments
-    → sum_of_limits (map (λ s. s.table) segments) ≤ 65536
-    → MeetsRules (told_by u ports segments)
-told_meet u ports segments underlay port_count ports-are segment_count each-is limits =
-    let P = IsSegment (own u) (length ports) in
-    let tunnels = each_mapped (λ s. s.tunnels) P (IsTunnelRule (own u)) (λ earlier s is. is.tunnels) [] segments each-is in
-    let members = each_mapped (λ s. s.members) P (IsMemberRule (length ports)) (λ earlier s is. is.members) [] segments each-is in
-    let apart : AreApart (map (λ s. s.tunnels) segments) = pairs_from clash (IsTunnelRule (own u)) (λ earlier r is. is.apart) (map (λ s. s.tunnels) segments) tunnels in
-    let vids : map (λ t. t.vid) (map (λ s. s.table) segments) ≡ map (λ t. t.vid) (map (λ s. s.tunnels) segments) = same_numbers P (λ s. s.table) (λ t. t.vid) (λ s. s.tunnels) (λ t. t.vid) (λ earlier s is. is.table_vid) [] segments each-is in
-    record {
-      underlay = underlay;
-      port_count = port_count;
-      ports = ports-are;
-      segment_count = subst (IsWithin 1 256) (sym (length-map segments (λ s. s.tunnels))) segment_count;
-      members_vids = same_numbers P (λ s. s.members) (λ m. m.vid) (λ s. s.tunnels) (λ t. t.vid) (λ earlier s is. is.members_vid) [] segments each-is;
-      tables_vids = vids;
-      learning_vids = same_numbers P (λ s. s.learning) (λ l. l.vid) (λ s. s.tunnels) (λ t. t.vid) (λ earlier s is. is.learning_vid) [] segments each-is;
-      members = members;
-      tunnels = tunnels;
-      tables = all_mapped (λ s. s.table) P IsRule (λ earlier s is. is.table) [] segments each-is;
-      limits = limits;
-      listed = all_pass (IsMemberRule (length ports)) (lists_ports (length ports)) (lists (length ports)) [] (map (λ s. s.members) segments) members;
-      apart = apart;
-      distinct = distinct_vids (map (λ s. s.table) segments) (map (λ s. s.tunnels) segments) vids apart;
-    }
-
-segments_meet : (own : Own) (ports : ℕ) (at : Place) (segments : List Segment) → segments_of own ports at ≡ Ok segments
-    → IsWithin 1 256 (length segments) × EachBehind (IsSegment own ports) [] segments × (sum_of_limits (map (λ x. x.table) segments) ≤ 65536)
+segments_meet : (own : Own) (ports : ℕ) (at : Place) (segments : List SegmentRule) → segments_of own ports at ≡ Ok segments
+    → IsWithin 1 256 (length segments) × EachBehind (IsSegment own ports) [] segments × (sum_of_limits segments ≤ 65536)
 unfolding segments_of
 segments_meet own ports at segments e =
     bind_then (required_items at (codes "segment") 256) _ segments e (λ tables tables-is e0.
     bind_then (each (segment_of own ports) (codes "segment") [] tables) _ segments e0 (λ all all-is e1.
-    bind_then (refuse_if (nat_lt 65536 (sum_of_limits (map (λ x. x.table) all))) (OverLimit (codes "limit"))) _ segments e1 (λ total total-is e2.
+    bind_then (refuse_if (nat_lt 65536 (sum_of_limits all)) (OverLimit (codes "limit"))) _ segments e1 (λ total total-is e2.
     let q = from_none (IsSegment own ports) (length tables) all (each_meets (IsSegment own ports) (segment_of own ports) (codes "segment") (segment_meets own ports) [] tables all all-is) in
     let few = required_items_ok at (codes "segment") 256 tables tables-is in
-    subst (λ l. IsWithin 1 256 (length l) × EachBehind (IsSegment own ports) [] l × (sum_of_limits (map (λ x. x.table) l) ≤ 65536)) (ok_is all segments e2)
-    (subst (IsWithin 1 256) (sym q.1) few, q.0, ltb-false 65536 (sum_of_limits (map (λ x. x.table) all)) (refuse_ok _ _ total total-is)))))
+    subst (λ l. IsWithin 1 256 (length l) × EachBehind (IsSegment own ports) [] l × (sum_of_limits l ≤ 65536)) (ok_is all segments e2)
+    (subst (IsWithin 1 256) (sym q.1) few, q.0, ltb-false 65536 (sum_of_limits all) (refuse_ok _ _ total total-is)))))
 
 -- settings that are read keep to the rules
 pub settings_meet : (members : Members) (s : Settings) → settings_of members ≡ Ok s → MeetsRules s
@@ -421,5 +373,14 @@ settings_meet members s e =
     let p = from_none IsPort (length tables) ports (each_meets IsPort (λ earlier at. port_of at) (codes "port") port_meets [] tables ports ports-is) in
     let few = required_items_ok (top members) (codes "port") 16 tables tables-is in
     let q = segments_meet (own underlay) (length ports) (top members) segments segments-is in
-    subst MeetsRules (ok_is (told_by underlay ports segments) s e6)
-    (told_meet underlay ports segments (underlay_meets below underlay underlay-is) (subst (IsWithin 1 16) (sym p.1) few) p.0 q.0 q.1 q.2))))))))
+    subst MeetsRules (ok_is _ s e6) (record {
+      underlay = underlay_meets below underlay underlay-is;
+      port_count = subst (IsWithin 1 16) (sym p.1) few;
+      ports = p.0;
+      segment_count = q.0;
+      segments = q.1;
+      limits = q.2;
+    }))))))))
+
+pub texts_meet : (text : List ℕ) (s : Settings) → settings_in text ≡ Ok s → MeetsRules s
+texts_meet text s e = bind_then (document text) settings_of s e (λ members members-is e0. settings_meet members s e0)

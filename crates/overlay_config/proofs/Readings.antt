@@ -1,16 +1,16 @@
 -- What reading without a fault says of the values that were read.
 use Rattle.std.proofs.Common.{◌≡◌, ℕ, suc, ◌≤◌, ◌+◌, ◌++◌, ◌∷◌, [], Bool, true, false, cond, ◌&&◌, ◌||◌, nat_le, nat_lt, List, length, Option, Some, None, option_and_then, Ok, Err, ℤ, pos, negsuc, refl, sym, ap, subst, ◌∙◌, append_assoc, inl, inr, arith}
-use Rattle.std.specs.Prelude.{IsTrue, IfSome}
+use Rattle.std.specs.Prelude.{IfSome}
 use Rattle.std.proofs.lemmas.Bool.{leb-true, ltb-false, and_parts, cases_Bool}
 use Rattle.std.proofs.lemmas.List.{append-nil}
 use Rattle.toml.specs.Data.{Data, get_member, as_integer}
 use Rattle.config_text.specs.declared.fault.SettingsFault.{SettingsFault}
 use Rattle.config_text.specs.declared.fault.SettingsFault.TheVariants.{OverLimit}
 use Rattle.config_text.specs.Fault.{Meaning, ◌>>=◌}
-use Rattle.config_text.specs.Address.{kept_if}
 use Rattle.config_text.specs.Column.{in_range, range, gathered}
 use Rattle.config_text.specs.Table.{Place, path, fits, required_value, required, default_value, defaulted, optional_value, optional, items, limited, limited_items, some_items, required_items, each, row_place, refuse_if}
-use Rattle.overlay_config.specs.Rules.{IsWithin, EachBehind}
+use Rattle.config_text.proofs.Addresses.{then_some}
+use Rattle.overlay_settings.specs.Rules.{IsWithin, EachBehind}
 
 -- ---- steps
 
@@ -54,10 +54,6 @@ unless_ok false o y e = (refl, e)
 pub or_left : (a b : Bool) → a ≡ true → (a || b) ≡ true
 or_left true b e = refl
 or_left false b e = absurd cc
-
-pub kept_meets : {A : Type 0} (test : A → Bool) (o : Option A) (x : A) → kept_if test o ≡ Some x → IsTrue (test x)
-kept_meets test None x e = absurd cc
-kept_meets test (Some y) x e = let k = kept_ok (test y) y x e in subst (λ z. test z ≡ true) k.1 k.0
 
 in_range_ok : (low high : ℕ) (z : ℤ) (x : ℕ) → in_range low high z ≡ Some x → IsWithin low high x
 in_range_ok low high (pos n) x e =
@@ -164,10 +160,6 @@ module _ {A : Type 0} (P : List A → A → Type 0) (row : List A → Place → 
       let b = bind_ok (row earlier a.0) _ all a.2 in
       one_behind P earlier b.0 (length ds) all (meets earlier a.0 b.0 b.1) (each_meets (earlier ++ b.0 ∷ []) ds all b.2)
 
-pub and_then_ok : {A B : Type 0} (o : Option A) (f : A → Option B) (y : B) → option_and_then f o ≡ Some y → (x : A) × (o ≡ Some x) × (f x ≡ Some y)
-and_then_ok None f y e = absurd cc
-and_then_ok (Some x) f y e = (x, refl, e)
-
 pub some_is : {A : Type 0} (x y : A) → Some x ≡ Some y → x ≡ y
 some_is x y e = cc
 
@@ -175,7 +167,7 @@ module _ {A : Type 0} (P : List A → A → Type 0) (put : List A → Data → O
   pub gathered_meets : (earlier : List A) (ds : List Data) (all : List A) → gathered put earlier ds ≡ Some all → Behind P earlier (length ds) all
   gathered_meets earlier [] all e = none_behind P earlier all (some_is earlier all e)
   gathered_meets earlier (d ∷ ds) all e =
-      let a = and_then_ok (put earlier d) (λ longer. gathered put longer ds) all e in
+      let a = then_some (λ longer. gathered put longer ds) (put earlier d) all e in
       let b = meets earlier d a.0 a.1 in
       let rest : Behind P (earlier ++ b.last ∷ []) (length ds) all = subst (λ l. Behind P l (length ds) all) b.is (gathered_meets a.0 ds all a.2) in
       one_behind P earlier b.last (length ds) all b.meets rest

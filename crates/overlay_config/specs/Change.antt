@@ -10,16 +10,16 @@ use Rattle.config_text.specs.declared.fault.SettingsFault.TheVariants.{Missing, 
 use Rattle.config_text.specs.Fault.{Meaning, ◌>>=◌}
 use Rattle.config_text.specs.Column.{range, truth, one_of, any_mac, any_addr}
 use Rattle.config_text.specs.Table.{Place, top, path, only, required, optional, absent, limited_items, each, numbered, refuse_if}
-use Rattle.overlay_config.specs.declared.change.Target.{Target}
-use Rattle.overlay_config.specs.declared.change.Target.TheVariants.{Local, Remote}
-use Rattle.overlay_config.specs.declared.change.Change.{Change}
-use Rattle.overlay_config.specs.declared.change.Change.TheVariants as changes
-use Rattle.overlay_config.specs.declared.change.TimedChange.{TimedChange}
+use Rattle.overlay_settings.specs.declared.change.Target.{Target}
+use Rattle.overlay_settings.specs.declared.change.Target.TheVariants.{Local, Remote}
+use Rattle.overlay_settings.specs.declared.change.Change.{Change}
+use Rattle.overlay_settings.specs.declared.change.Change.TheVariants as changes
+use Rattle.overlay_settings.specs.declared.change.TimedChange.{TimedChange}
 use Rattle.overlay_config.specs.declared.change_row.Kind.{Kind}
 use Rattle.overlay_config.specs.declared.change_row.Kind.TheVariants as kinds
 use Rattle.overlay_config.specs.Document.{document}
 use Rattle.overlay_config.specs.Segment.{tunnel_words}
-use Rattle.overlay_config.specs.Rules.{IsWithin}
+use Rattle.overlay_settings.specs.Rules.{IsWithin}
 
 abbrev pub kind_words : List (List ℕ × Kind)
 kind_words = (codes "add_flood", kinds.AddFlood) ∷ (codes "remove_flood", kinds.RemoveFlood) ∷ (codes "fix", kinds.Fix) ∷ (codes "unfix", kinds.Unfix) ∷ (codes "set_ageing", kinds.SetAgeing)

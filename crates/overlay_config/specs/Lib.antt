@@ -4,8 +4,7 @@ pub mod Underlay
 pub mod Port
 pub mod Members
 pub mod Flood
+pub mod LocalRules
 pub mod Segment
 pub mod Settings
-pub mod Rules
 pub mod Change
-pub mod Code

@@ -1,11 +1,9 @@
 -- The items of `segment.k.untagged` and `segment.k.tagged`.
-use Rattle.std.specs.Prelude.{◌≤◌, ℕ, List, [], ◌∷◌, ◌++◌, Bool, ◌||◌, nat_eq, IsTrue, if◌then◌else◌, Option, Some, None, option_and_then}
-use Rattle.std.specs.List.{list_any, IsDistinct}
+use Rattle.std.specs.Prelude.{◌≤◌, ℕ, List, [], ◌∷◌, ◌++◌, ◌||◌, nat_eq, IsTrue, if◌then◌else◌, Option, Some, None, option_and_then}
+use Rattle.std.specs.List.{IsDistinct}
 use Rattle.toml.specs.Data.{Data}
 use Rattle.config_text.specs.Column.{range}
-
-abbrev pub is_member : List ℕ → ℕ → Bool
-is_member members port = list_any (nat_eq port) members
+use Rattle.overlay_settings.specs.Settings.{is_member}
 
 -- members with one more port, which stands neither among them nor on the other list
 abbrev pub with_member : List ℕ → List ℕ → ℕ → Option (List ℕ)

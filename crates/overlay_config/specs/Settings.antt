@@ -1,54 +1,29 @@
 -- What a settings text means.
-use Rattle.std.specs.Prelude.{ℕ, nat_lt, List, [], ◌∷◌, length, map, Ok, codes}
+pub use Rattle.overlay_settings.specs.Settings.{Settings}
+use Rattle.std.specs.Prelude.{ℕ, nat_lt, List, [], ◌∷◌, length, Ok, codes}
 use Rattle.toml.specs.Data.{Members}
 use Rattle.flood_lists.specs.declared.own.Own.{Own}
-use Rattle.filter_db.specs.declared.tables.TableRule.{TableRule}
-use Rattle.vlan_ports.specs.declared.member.MemberRule.{MemberRule}
-use Rattle.vlan_ports.specs.declared.port.PortRule.{PortRule}
-use Rattle.underlay.specs.declared.segment.TunnelRule.{TunnelRule}
-use Rattle.underlay.specs.declared.settings.Underlay.{Underlay}
 use Rattle.underlay.specs.Settings.{own}
 use Rattle.config_text.specs.declared.fault.SettingsFault.TheVariants.{OverLimit}
 use Rattle.config_text.specs.Fault.{Meaning, ◌>>=◌}
 use Rattle.config_text.specs.Column.{range}
 use Rattle.config_text.specs.Table.{Place, top, only, required, subtable, required_items, each, refuse_if}
-use Rattle.overlay_config.specs.declared.segment.LearningRule.{LearningRule}
-use Rattle.overlay_config.specs.declared.segment.Segment.{Segment}
+use Rattle.overlay_settings.specs.declared.segment.SegmentRule.{SegmentRule}
+use Rattle.overlay_settings.specs.Settings.{sum_of_limits}
 use Rattle.overlay_config.specs.Document.{document}
 use Rattle.overlay_config.specs.Underlay.{underlay_of}
 use Rattle.overlay_config.specs.Port.{port_of}
-use Rattle.overlay_config.specs.Segment.{segment_of, sum_of_limits}
-
-pub record Settings : Type 0 where
-  pub underlay : Underlay
-  -- port 1, port 2 and so on
-  pub ports : List PortRule
-  -- of each segment, in one order
-  pub members : List MemberRule
-  pub tunnels : List TunnelRule
-  pub tables : List TableRule
-  pub learning : List LearningRule
-
--- the rules that the tables of segments tell
-abbrev pub told_by : Underlay → List PortRule → List Segment → Settings
-told_by underlay ports segments = record {
-  underlay = underlay;
-  ports = ports;
-  members = map (λ s. s.members) segments;
-  tunnels = map (λ s. s.tunnels) segments;
-  tables = map (λ s. s.table) segments;
-  learning = map (λ s. s.learning) segments;
-}
+use Rattle.overlay_config.specs.Segment.{segment_of}
 
 abbrev pub top_keys : List (List ℕ)
 top_keys = codes "version" ∷ codes "underlay" ∷ codes "port" ∷ codes "segment" ∷ []
 
 -- beside the endpoint's own addresses and the number of its ports
-unfoldable pub segments_of : Own → ℕ → Place → Meaning (List Segment)
+unfoldable pub segments_of : Own → ℕ → Place → Meaning (List SegmentRule)
 segments_of own ports at = do
   tables ← required_items at (codes "segment") 256
   segments ← each (segment_of own ports) (codes "segment") [] tables
-  total ← refuse_if (nat_lt 65536 (sum_of_limits (map (λ s. s.table) segments))) (OverLimit (codes "limit"))
+  total ← refuse_if (nat_lt 65536 (sum_of_limits segments)) (OverLimit (codes "limit"))
   Ok segments
 
 unfoldable pub settings_of : Members → Meaning Settings
@@ -60,7 +35,7 @@ settings_of members = do
   tables ← required_items (top members) (codes "port") 16
   ports ← each (λ earlier at. port_of at) (codes "port") [] tables
   segments ← segments_of (own underlay) (length ports) (top members)
-  Ok (told_by underlay ports segments)
+  Ok (record { underlay = underlay; ports = ports; segments = segments })
 
 -- the settings that a text means, or its first fault
 abbrev pub settings_in : List ℕ → Meaning Settings

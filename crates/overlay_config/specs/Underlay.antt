@@ -1,9 +1,7 @@
 -- The keys of `underlay` and of `underlay.hop.k`.
 use Rattle.std.specs.Prelude.{ℕ, List, [], ◌∷◌, ◌++◌, length, true, false, ◌==◌, ◌&&◌, nat_lt, if◌then◌else◌, Option, Some, None, is_none, option_map, option_and_then, Ok, codes}
 use Rattle.std.specs.List.{list_any}
-use Rattle.std.specs.Ordering.{nat_cmp}
-use Rattle.std.specs.Cmp.Lexicographic.{slice_cmp}
-use Rattle.std.specs.FinMap.{FinMap, empty, get, insert}
+use Rattle.std.specs.FinMap.{empty, get, insert}
 use Rattle.toml.specs.Data.{Data, Items, no_items, item, as_array}
 use Rattle.ip_udp_view.specs.declared.addr.Addr.{Addr}
 use Rattle.ip_udp_view.specs.Addr.{address, same_addr}
@@ -12,6 +10,7 @@ use Rattle.underlay.specs.declared.settings.Underlay.{Underlay}
 use Rattle.config_text.specs.declared.fault.SettingsFault.TheVariants.{Missing, BadValue}
 use Rattle.config_text.specs.Fault.{Meaning, ◌>>=◌}
 use Rattle.config_text.specs.Column.{range, truth, individual_mac, endpoint_addr, own_ip4, own_ip6}
+use Rattle.overlay_settings.specs.Settings.{Exceptions}
 use Rattle.config_text.specs.Table.{Place, path, only, required, defaulted, optional, listed, limited_items, each, refuse_if}
 
 abbrev pub underlay_keys : List (List ℕ)
@@ -59,10 +58,6 @@ hop_of earlier at = do
   new ← refuse_if (list_any (λ h. same_addr h.0 addr) earlier) (BadValue (path at (codes "addr")))
   mac ← required at (codes "mac") individual_mac
   Ok (addr, mac)
-
--- the next hops by the octets of the addresses to which they lead
-abbrev pub Exceptions : Type 0
-Exceptions = FinMap (slice_cmp nat_cmp) (List ℕ)
 
 -- with one more, where there is none for its address
 abbrev pub with_exception : Exceptions → Addr × List ℕ → Exceptions

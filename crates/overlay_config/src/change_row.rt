@@ -5,9 +5,8 @@ ghost use Rattle.config_text.specs.declared.fault.SettingsFault.TheVariants.{Not
 ghost use Rattle.overlay_config.specs.Fault.{GivesAs};
 ghost use Rattle.config_text.specs.Reader.{place_of};
 ghost use Rattle.overlay_config.specs.Change.{keys_of, moment_before, target_of, remote_of, change_in, change_of, changes_in, changes_of, IsRising};
-ghost use Rattle.overlay_config.specs.Rules.{EachBehind};
+ghost use Rattle.overlay_settings.specs.Rules.{EachBehind};
 
-use crate::change::{Change, Target, TimedChange};
 use crate::document::read_document;
 use crate::segment::TUNNELS;
 use config_text::{
@@ -16,6 +15,7 @@ use config_text::{
 };
 use frame_view::Vid;
 use ip_udp_view::{Addr, Tunnel};
+use overlay_settings::{Change, Target, TimedChange};
 use std::alloc::Global;
 use toml::Table;
 use vlan_ports::Egress;

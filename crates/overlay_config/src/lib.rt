@@ -1,35 +1,24 @@
 //! What an operator writes: the settings of a tunnel endpoint, and the changes made to them while it runs, each as a
 //! TOML document.
 //!
-//! [`settings_of`] reads [`Settings`], which keep to every rule there is for them, so that what stands on them checks
-//! nothing again. [`changes_of`] reads a list of [`TimedChange`], each a [`Change`] and its moment. Both answer the
-//! first fault instead, with the path of its key.
+//! [`settings_of`] reads [`Settings`], which keep to every rule there is for them. [`changes_of`] reads a list of
+//! [`TimedChange`], each a [`Change`] and its moment. Both answer the first fault instead, with the path of its key.
+//! What is read stands in `overlay_settings`, which knows no text.
 #![tactic(auto)]
 
-mod change;
 mod change_row;
 mod document;
 mod flood;
 mod known;
+pub mod laws;
+mod local_rules;
 mod members;
 mod port;
 mod segment;
 mod settings;
 mod underlay_table;
 
-pub use change::{Change, Target, TimedChange};
 pub use change_row::changes_of;
 pub use config_text::{Key, SettingsFault};
-pub use segment::LearningRule;
-pub use settings::{Settings, settings_of};
-
-#[cfg(test)]
-mod change_cases;
-#[cfg(test)]
-mod change_tests;
-#[cfg(test)]
-mod settings_cases;
-#[cfg(test)]
-mod settings_meanings;
-#[cfg(test)]
-mod settings_tests;
+pub use overlay_settings::{Change, SegmentRule, Settings, Target, TimedChange};
+pub use settings::settings_of;

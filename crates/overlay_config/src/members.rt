@@ -26,7 +26,7 @@ impl Model for MemberList {
 
 impl MemberList {
     ghost use Rattle.std.specs.Prelude.{◌≡◌, ◌≤◌, ◌++◌, ◌∷◌, [], IsFalse};
-    ghost use Rattle.overlay_config.specs.Members.{is_member};
+    ghost use Rattle.overlay_settings.specs.Settings.{is_member};
 
     /// No port.
     #[tactic(auto, using(crate::proofs::Numbers::no_numbers))]
@@ -77,7 +77,7 @@ pub(crate) struct MemberPorts<'a> {
 
 impl MemberPorts<'_> {
     ghost use Rattle.std.specs.Prelude.{◌≡◌, ◌||◌};
-    ghost use Rattle.overlay_config.specs.Members.{is_member};
+    ghost use Rattle.overlay_settings.specs.Settings.{is_member};
 
     /// Whether a port stands among these members, or on the other list.
     fn is_listed(&self, members: &[u8], port: u8) -> bool

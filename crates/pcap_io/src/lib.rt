@@ -21,8 +21,3 @@ pub use header::{CaptureFault, HEADER_LENGTH, open_header};
 pub use record::{LONGEST, RECORD_HEADER_LENGTH, Record, RecordFault, RecordHeader, open_record};
 pub use style::{Order, Precision, Style};
 pub use write::{global_header, put_header, put_record, record_header};
-
-#[cfg(test)]
-mod capture_tests;
-#[cfg(test)]
-mod write_tests;

@@ -1,5 +1,5 @@
 -- Texts that are read or written part by part.
-use Rattle.std.proofs.Common.{◌≡◌, ◌∙◌, sym, ap, subst, ℕ, suc, ◌+◌, ◌<◌, ◌≤◌, ◌≢◌, List, ◌∷◌, ◌++◌, length, length-take-le, take, drop, get_or, arith, length-append, Option, None, Some, IfSome}
+use Rattle.std.proofs.Common.{◌≡◌, ◌∙◌, sym, ap, subst, ℕ, suc, ◌+◌, ◌<◌, ◌≤◌, ◌≢◌, List, ◌∷◌, ◌++◌, length, length-take-le, take, drop, get_or, arith, length-append, Option, None, Some, IfSome, OnErr, Result, Ok, Err}
 use Rattle.std.proofs.KnownBytes.{Appends-trans, Consumes-kept, Consumes-trans}
 use Rattle.std.proofs.Math.Seq.{drop-cons, take-add, take-append-add}
 use Rattle.std.proofs.lemmas.Bool.{ne_eqb}
@@ -31,6 +31,24 @@ written_more a b c text at n before more = subst (Appends a c) (sym (take-add at
 -- a write that took something is no refusal
 pub took_some : (old new n size : ℕ) → n ≢ 0 → MatchBool (n == 0 && nat_lt 0 size) (GoesOnBy 1 old new) (new ≡ old) → new ≡ old
 took_some old new n size some counted = rw (ne_eqb n 0 some) at counted
+
+-- a part of a text is a part of it and what is behind it
+pub part_more : (a b : Option (List ℕ)) (text rest : List ℕ) → AppendsPart a b text → AppendsPart a b (text ++ rest)
+part_more a b text rest part =
+    let fits : part.0 < length (text ++ rest) = omega (arith, part.1, length-append text rest) in
+    (part.0, fits, subst (Appends a b) (sym (take-append-le part.0 text rest (omega (arith, part.1)))) part.2)
+
+-- and a part of it behind a text is a part of both
+pub part_behind : (a b c : Option (List ℕ)) (front text : List ℕ) → Appends a b front → AppendsPart b c text → AppendsPart a c (front ++ text)
+part_behind a b c front text before part =
+    let fits : length front + part.0 < length (front ++ text) = omega (arith, part.1, length-append front text) in
+    (length front + part.0, fits, subst (Appends a c) (sym (take-append-add front text part.0)) (Appends-trans a b c _ _ before part.2))
+
+-- the same where that is what an answer says
+pub part_behind_on : {T E : Type 0} (a b c : Option (List ℕ)) (front text : List ℕ) (result : Result T E) → Appends a b front → OnErr result (AppendsPart b c text)
+    → OnErr result (AppendsPart a c (front ++ text))
+part_behind_on a b c front text (Ok x) before part = tt
+part_behind_on a b c front text (Err e) before part = part_behind a b c front text before part
 
 -- a part of one of several texts, behind those before it, is a part of all
 pub part_of_all : {A : Type 0} (a b c : Option (List ℕ)) (f : A → List ℕ) (xs : List A) (i : ℕ) (d : A) → i < length xs

@@ -1,9 +1,7 @@
 -- Whole runs, call by call.
-use Rattle.std.proofs.Common.{◌≡◌, ◌≢◌, ◌∙◌, refl, sym, ap, subst, ℕ, ◌+◌, ◌<◌, Bool, true, false, List, [], ◌∷◌, ◌++◌, length, drop, arith, append_assoc, append-nil, length-append, Option, None, Some, IfSome, Result, Ok, Err}
+use Rattle.std.proofs.Common.{◌≡◌, ◌≢◌, ◌∙◌, refl, sym, ap, subst, ℕ, Bool, true, false, List, [], ◌∷◌, ◌++◌, drop, append_assoc, append-nil, Option, None, Some, IfSome, Result, Ok, Err}
 use Rattle.std.specs.Prelude.{IsErr, MatchBool}
 use Rattle.std.proofs.KnownBytes.{Appends-nil, Appends-trans}
-use Rattle.std.proofs.Math.Seq.{take-append-add}
-use Rattle.std.proofs.lemmas.List.{take-append-le}
 use Rattle.std.specs.Io.KnownBytes.{Appends}
 use Rattle.std.specs.List.{concat}
 use Rattle.pcap_io.specs.Capture.{opened, opened_by}
@@ -14,6 +12,7 @@ use Rattle.pcap_io.specs.Record.{Record}
 use Rattle.pcap_io.specs.declared.header.CaptureFault.{CaptureFault}
 use Rattle.pcap_io.specs.declared.style.Style.{Style}
 use Rattle.pcap_io.proofs.Readings.{records-next}
+use Rattle.pcap_stream.proofs.Parts.{part_behind, part_more}
 use Rattle.pcap_stream.specs.InTurn.{IsReading, IsReadOut, IsReadTo, IsWhole, LendsInTurn, PutsInTurn, with_records}
 use Rattle.pcap_stream.specs.Sink.{AppendsPart, Drain, Writes}
 use Rattle.pcap_stream.specs.Source.{Stream, Open, IsFilled, IsFilledFrom, IsOpened, MatchRead, ReadsNext, after_header, after_next, answer, left_by_next, lent}
@@ -38,7 +37,7 @@ told_next style (Some t) b text next is h =
     let same : t ≡ text = cc in subst (λ t. (next ≡ next_of style t) × (b ≡ Some (left_by_next t next))) same h
 
 -- behind the header none was lent yet
-begins : (old new : Stream) (text : List ℕ) → old.supply.rest ≡ Some text → IsOpened {T = Unit {0}} old new (Ok tt) → answer new.standing ≡ Ok tt → IsReading text [] new
+pub begins : (old new : Stream) (text : List ℕ) → old.supply.rest ≡ Some text → IsOpened {T = Unit {0}} old new (Ok tt) → answer new.standing ≡ Ok tt → IsReading text [] new
 begins old new text told opened is_open = by_header opened.header (opened.standing_is) (told_header _ _ text opened.header told opened.octets)
   where
     by_header : (header : Result Style CaptureFault) → new.standing ≡ after_header header → (header ≡ style_of text) × (new.supply.rest ≡ Some (drop 24 text)) → IsReading text [] new
@@ -58,7 +57,7 @@ goes_on : (old new : Stream) (style : Style) (last : Option Record) (result : Re
 goes_on old new style last result is filled = subst (λ s. IsFilledFrom s old new result) is filled
 
 -- one more record
-one_more : (text : List ℕ) (rs : List Record) (r : Record) (old new : Stream) → IsReading text rs old → IsFilled {T = Unit {0}} old new (Ok tt) → lent new.standing ≡ Some r
+pub one_more : (text : List ℕ) (rs : List Record) (r : Record) (old new : Stream) → IsReading text rs old → IsFilled {T = Unit {0}} old new (Ok tt) → lent new.standing ≡ Some r
     → IsReading text (rs ++ r ∷ []) new
 one_more text rs r old new so_far filled lends =
     let read = goes_on old new so_far.style so_far.last (Ok tt) so_far.stands filled in
@@ -104,7 +103,7 @@ no_failure P Q (Err fault.BadLink) other h = h
 no_failure P Q (Err fault.TooLarge) other h = h
 no_failure P Q (Err fault.BadFraction) other h = h
 
-ends : (text : List ℕ) (rs : List Record) (old new : Stream) (result : Result (Unit {0}) SourceFault) → IsReading text rs old → IsReadOut old new result → IsWhole text rs new
+pub ends : (text : List ℕ) (rs : List Record) (old new : Stream) (result : Result (Unit {0}) SourceFault) → IsReading text rs old → IsReadOut old new result → IsWhole text rs new
 ends text rs old new result so_far out =
     let read : ReadsNext so_far.style old.supply new.supply new.standing = no_failure (GivesUp old.supply new.supply) _ result out.no_failure (goes_on old new so_far.style so_far.last result so_far.stands out.filled) in
     by_next read.next read.standing_is (told_next so_far.style _ _ so_far.rest read.next so_far.left read.octets)
@@ -133,18 +132,6 @@ stays old new [] failed puts = sym puts
 stays old new (text ∷ texts) failed puts =
     let put = subst (λ b. MatchBool b (IsErr puts.1 × (puts.0 ≡ old)) (Writes old puts.0 text puts.1)) failed puts.2 in
     stays puts.0 new texts (ap (λ (d : Drain). d.is_failed) put.1 ∙ failed) puts.3 ∙ put.1
-
--- a part of a text is a part of it and what is behind it
-part_more : (a b : Option (List ℕ)) (text rest : List ℕ) → AppendsPart a b text → AppendsPart a b (text ++ rest)
-part_more a b text rest part =
-    let fits : part.0 < length (text ++ rest) = omega (arith, part.1, length-append text rest) in
-    (part.0, fits, subst (Appends a b) (sym (take-append-le part.0 text rest (omega (arith, part.1)))) part.2)
-
--- and a part of it behind a text is a part of both
-part_behind : (a b c : Option (List ℕ)) (front text : List ℕ) → Appends a b front → AppendsPart b c text → AppendsPart a c (front ++ text)
-part_behind a b c front text before part =
-    let fits : length front + part.0 < length (front ++ text) = omega (arith, part.1, length-append front text) in
-    (length front + part.0, fits, subst (Appends a c) (sym (take-append-add front text part.0)) (Appends-trans a b c _ _ before part.2))
 
 pub writes_what_was_put : (old new : Drain) (texts : List (List ℕ)) → old.is_failed ≡ false → PutsInTurn old texts new
     → MatchBool new.is_failed (AppendsPart old.written new.written (concat texts)) (Appends old.written new.written (concat texts))

@@ -1,12 +1,12 @@
 -- A source of records, and what its calls make of it.
-use Rattle.std.specs.Prelude.{◌≡◌, ℕ, Bool, true, false, List, [], drop, Option, Some, None, Result, Ok, Err, IfSome}
+use Rattle.std.specs.Prelude.{◌≡◌, ◌<◌, ℕ, Bool, true, false, List, [], length, drop, Option, Some, None, Result, Ok, Err, IfSome, ⊤}
 use Rattle.pcap_io.specs.Header.{style_of}
 use Rattle.pcap_io.specs.Next.{End, Whole, Cut, Faulty, Next, Another, Ends, next_of}
 use Rattle.pcap_io.specs.Record.{Record}
 use Rattle.pcap_io.specs.declared.header.CaptureFault.{CaptureFault}
 use Rattle.pcap_io.specs.declared.style.Style.{Style}
 use Rattle.pcap_stream.specs.Fault.{capture_fault, record_fault}
-use Rattle.pcap_stream.specs.Supply.{GivesUp, Supply}
+use Rattle.pcap_stream.specs.Supply.{GivesUp, StopsShort, Supply}
 use Rattle.pcap_stream.specs.declared.fault.SourceFault.{SourceFault}
 use Rattle.pcap_stream.specs.declared.fault.SourceFault.TheVariants as fault
 
@@ -82,6 +82,21 @@ pub record ReadsNext (style : Style) (old new : Supply) (standing : Standing) : 
   pub octets : IfSome old.rest (λ text. (next ≡ next_of style text) × (new.rest ≡ Some (left_by_next text next)))
   pub quiet : new.failures ≡ old.failures
 
+-- octets in front of which no whole header stands
+abbrev pub IsShortHeader : List ℕ → Type 0
+IsShortHeader taken = length taken < 24
+
+-- octets that would be a cut rest, or none: no whole record, and no fault
+abbrev pub IsUnfinished : Next → Type 0
+IsUnfinished (Another r rest) = ⊥
+IsUnfinished (Ends Whole) = ⊤
+IsUnfinished (Ends Cut) = ⊤
+IsUnfinished (Ends (Faulty fault)) = ⊥
+
+-- octets that don't settle what comes next
+abbrev pub IsShortRecord : Style → List ℕ → Type 0
+IsShortRecord style taken = IsUnfinished (next_of style taken)
+
 module _ {T : Type 0} where
   -- one fact for the fault `Read`, and one for all other answers
   abbrev pub MatchRead : Result T SourceFault → Type 0 → Type 0 → Type 0
@@ -106,3 +121,17 @@ module _ {T : Type 0} where
 
   abbrev pub IsFilled : Stream → Stream → Result T SourceFault → Type 0
   IsFilled old new result = IsFilledFrom old.standing old new result
+
+  -- `Read` comes only where a read failed, or where the octets of all reads that were left don't settle what comes next
+  abbrev pub OpensToTheBound : Stream → Stream → Result T SourceFault → Type 0
+  OpensToTheBound old new result = MatchRead result (StopsShort IsShortHeader old.supply new.supply) ⊤
+
+  -- the same of `fill`, by where the source stood
+  abbrev pub FillsToTheBoundFrom : Standing → Stream → Stream → Result T SourceFault → Type 0
+  FillsToTheBoundFrom New old new result = ⊤
+  FillsToTheBoundFrom (Open style last) old new result = MatchRead result (StopsShort (IsShortRecord style) old.supply new.supply) ⊤
+  FillsToTheBoundFrom (Ended is_cut) old new result = ⊤
+  FillsToTheBoundFrom (Failed fault) old new result = ⊤
+
+  abbrev pub FillsToTheBound : Stream → Stream → Result T SourceFault → Type 0
+  FillsToTheBound old new result = FillsToTheBoundFrom old.standing old new result

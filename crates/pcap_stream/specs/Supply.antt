@@ -1,5 +1,6 @@
 -- An input of which only so many reads may still be made.
 use Rattle.std.specs.Prelude.{◌≡◌, ◌⊎◌, ◌≤◌, ℕ, ◌+◌, ◌-◌, List, length, Option, IfSome}
+use Rattle.std.specs.Io.KnownBytes.{Consumes}
 use Rattle.pcap_stream.specs.Counts.{GoesOnBy}
 
 -- the octets that the input has left, where it tells them, its counts of reads and of failures, and how many reads may
@@ -18,6 +19,19 @@ pub record Spends (old new : Supply) : Type 0 where
 -- a read failed, or none was left
 abbrev pub GivesUp : Supply → Supply → Type 0
 GivesUp old new = GoesOnBy 1 old.failures new.failures ⊎ ((new.failures ≡ old.failures) × (new.reads ≡ 0))
+
+-- no read failed and none is left: those that were made took some octets, at least one each, and these are too few
+pub record RunsOut (IsShort : List ℕ → Type 0) (old new : Supply) : Type 0 where
+  pub quiet : new.failures ≡ old.failures
+  pub none_left : new.reads ≡ 0
+  pub taken : List ℕ
+  pub consumed : Consumes old.rest new.rest taken
+  pub one_each : old.reads ≤ length taken
+  pub short : IsShort taken
+
+-- a read failed, or one more was needed than were left
+abbrev pub StopsShort : (List ℕ → Type 0) → Supply → Supply → Type 0
+StopsShort IsShort old new = GoesOnBy 1 old.failures new.failures ⊎ RunsOut IsShort old new
 
 -- where the input tells its octets, each read but one took at least one of them
 abbrev pub IsThrifty : Supply → Supply → Type 0

@@ -1,9 +1,9 @@
 //! The global header and the records of a capture, from an input.
 ghost use Rattle.std.specs.Prelude.{◌≡◌, ◌<◌, ℕ, List, IfOk, OnErr, OnOk, length};
 ghost use Rattle.pcap_io.specs.Record.{longest};
-ghost use Rattle.pcap_stream.specs.Source.{ReadsHeader, ReadsNext};
+ghost use Rattle.pcap_stream.specs.Source.{IsShortHeader, IsShortRecord, ReadsHeader, ReadsNext};
 ghost use Rattle.pcap_stream.specs.State.{IsSound, standing_of};
-ghost use Rattle.pcap_stream.specs.Supply.{GivesUp, IsThrifty, Spends};
+ghost use Rattle.pcap_stream.specs.Supply.{GivesUp, IsThrifty, Spends, StopsShort};
 
 use crate::device::DeviceFault;
 use crate::fault::SourceFault;
@@ -35,6 +35,7 @@ pub fn fetch_header<R: Input>(supply: &mut Supply<R>) -> Result<State, DeviceFau
     ensures spent { Spends supply.old supply.new }
     ensures thrift { IsThrifty supply.old supply.new }
     ensures gives_up { OnErr result (GivesUp supply.old supply.new) }
+    ensures short { OnErr result (StopsShort IsShortHeader supply.old supply.new) }
 {
     let mut header = [0; HEADER_LENGTH];
     let got = supply.fill(&mut header)?;
@@ -57,6 +58,7 @@ pub fn fetch<R: Input>(
     ensures thrift { IsThrifty supply.old supply.new }
     ensures fewer { OnOk result (supply.new.reads < supply.old.reads) }
     ensures gives_up { OnErr result (GivesUp supply.old supply.new) }
+    ensures short { OnErr result (StopsShort (IsShortRecord style) supply.old supply.new) }
 {
     let mut head = [0; RECORD_HEADER_LENGTH];
     let got = supply.fill(&mut head)?;

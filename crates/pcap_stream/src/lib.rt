@@ -23,10 +23,4 @@ pub use input::{Input, StdInput};
 pub use output::{Output, StdOutput};
 pub use sink::Sink;
 pub use source::Source;
-
-#[cfg(test)]
-mod device_tests;
-#[cfg(test)]
-mod sink_tests;
-#[cfg(test)]
-mod source_tests;
+pub use write::write_full;

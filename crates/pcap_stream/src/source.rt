@@ -1,7 +1,7 @@
 //! The records of a capture, one after another.
 ghost use Rattle.std.specs.Prelude.{◌≡◌, ◌≢◌, ◌<◌, ℕ, List, IfOk, IfSome, IsSome};
 ghost use Rattle.pcap_io.specs.Record.{IsWithinLimits};
-ghost use Rattle.pcap_stream.specs.Source.{IsFilled, IsOpened, New, answer, ends_cut, lent};
+ghost use Rattle.pcap_stream.specs.Source.{FillsToTheBound, IsFilled, IsOpened, New, OpensToTheBound, answer, ends_cut, lent};
 ghost use Rattle.pcap_stream.specs.State.{standing_of};
 ghost use Rattle.pcap_stream.specs.Supply.{IsThrifty, Spends};
 
@@ -66,6 +66,7 @@ impl<R: Input> Source<R> {
     pub fn open(&mut self) -> Result<(), SourceFault>
         requires { self.old.standing ≡ New }
         ensures opened { IsOpened self.old self.new result }
+        ensures bound { OpensToTheBound self.old self.new result }
         ensures answer { result ≡ answer self.new.standing }
         ensures begun { self.new.standing ≢ New }
         ensures spent { Spends self.old.supply self.new.supply }
@@ -87,6 +88,7 @@ impl<R: Input> Source<R> {
     pub fn fill(&mut self) -> Result<(), SourceFault>
         requires { self.old.standing ≢ New }
         ensures filled { IsFilled self.old self.new result }
+        ensures bound { FillsToTheBound self.old self.new result }
         ensures answer { result ≡ answer self.new.standing }
         ensures begun { self.new.standing ≢ New }
         ensures spent { Spends self.old.supply self.new.supply }

@@ -1,8 +1,9 @@
 //! An input of which only so many reads may be made.
-ghost use Rattle.std.specs.Prelude.{◌≡◌, ◌<◌, ◌≤◌, ◌+◌, drop, take, length, IfOk, OnErr, OnOk};
+ghost use Rattle.std.specs.Prelude.{◌≡◌, ◌<◌, ◌≤◌, ◌⊎◌, ◌+◌, drop, take, length, IfOk, OnErr, OnOk};
 ghost use Rattle.std.specs.Io.{ReadsAtMost};
 ghost use Rattle.std.specs.Io.KnownBytes.{Consumes, IsAtEnd, Keeps};
-ghost use Rattle.pcap_stream.specs.Supply.{GivesUp, IsThrifty, Spends};
+ghost use Rattle.pcap_stream.specs.Counts.{GoesOnBy};
+ghost use Rattle.pcap_stream.specs.Supply.{GivesUp, IsThrifty, Spends, StopsShort};
 
 use crate::device::DeviceFault;
 use crate::input::Input;
@@ -55,6 +56,7 @@ impl<R: Input> Supply<R> {
         ensures fewer { OnOk result (self.new.reads < self.old.reads) }
         ensures quiet { OnOk result (self.new.failures ≡ self.old.failures) }
         ensures gives_up { OnErr result (GivesUp self.old self.new) }
+        ensures failed { OnErr result (GoesOnBy 1 self.old.failures self.new.failures ⊎ ((self.new ≡ self.old) × (self.old.reads ≡ 0))) }
     {
         if self.reads == 0 {
             return Err(DeviceFault);
@@ -75,6 +77,7 @@ impl<R: Input> Supply<R> {
         ensures thrift { OnErr result (IsThrifty self.old self.new) }
         ensures quiet { OnOk result (self.new.failures ≡ self.old.failures) }
         ensures gives_up { OnErr result (GivesUp self.old self.new) }
+        ensures short { OnErr result (StopsShort (λ taken. length taken < length octets.new) self.old self.new) }
     {
         let mut at = 0;
         while at < octets.len() {

@@ -1,5 +1,5 @@
 //! Whole texts to an output.
-ghost use Rattle.std.specs.Prelude.{◌≡◌, ◌≤◌, ◌+◌, ◌++◌, OnErr, OnOk, length};
+ghost use Rattle.std.specs.Prelude.{◌≡◌, ◌≤◌, ◌<◌, ◌+◌, ◌^◌, ◌++◌, OnErr, OnOk, length, take};
 ghost use Rattle.std.specs.Io.KnownBytes.{Appends};
 ghost use Rattle.pcap_io.specs.Record.{last_moment, longest};
 ghost use Rattle.pcap_io.specs.Written.{whole_frame, written_record};
@@ -65,6 +65,70 @@ fn write_five<'p, W: Output>(
     write_parts(output, &[before, head, addresses, tag, body])
 }
 
+/// The octets that stand before a frame's body at most: a record's header, outer headers of 70, two addresses and a tag.
+const FRONT: usize = 102;
+
+/// Puts a text behind the first `at` octets of a room, and says where it ends.
+fn put_behind(room: &mut [u8], at: usize, text: &[u8]) -> usize
+    requires { at + length text.now ≤ length room.old }
+    ensures end { result ≡ at + length text.now }
+    ensures text { take result room.new ≡ take at room.old ++ text.now }
+{
+    let end = at + text.len();
+    room[at..end].copy_from_slice(text);
+    end
+}
+
+/// Puts four texts into the front of a room, one behind another, and says where they end.
+fn put_four(room: &mut [u8], before: &[u8], head: &[u8], addresses: &[u8], tag: &[u8]) -> usize
+    requires { length before.now + length head.now + length addresses.now + length tag.now ≤ length room.old }
+    ensures end { result ≤ length room.new }
+    ensures texts { take result room.new ≡ before.now ++ (head.now ++ (addresses.now ++ tag.now)) }
+{
+    let before_end = put_behind(room, 0, before);
+    let head_end = put_behind(room, before_end, head);
+    let addresses_end = put_behind(room, head_end, addresses);
+    put_behind(room, addresses_end, tag)
+}
+
+/// Writes two texts, one behind the other.
+fn write_two<W: Output>(output: &mut W, front: &[u8], body: &[u8]) -> Result<(), WriteFault>
+    ensures ok { OnOk result (Appends (W.written output.old) (W.written output.new) (front.now ++ body.now)) }
+    ensures err { OnErr result (AppendsPart (W.written output.old) (W.written output.new) (front.now ++ body.now)) }
+    ensures quiet { OnOk result (W.failures output.new ≡ W.failures output.old) }
+    ensures cause { OnErr result (GoesOnBy 1 (W.failures output.old) (W.failures output.new)) }
+{
+    if let Err(fault) = write_full(output, front) {
+        return Err(fault);
+    }
+    write_full(output, body)
+}
+
+/// Writes five texts, one behind another: the first four at once, where they are as short as an endpoint's are.
+fn write_gathered<W: Output>(
+    output: &mut W,
+    before: &[u8],
+    head: &[u8],
+    addresses: &[u8],
+    tag: &[u8],
+    body: &[u8],
+) -> Result<(), WriteFault>
+    requires { length before.now + length head.now + length addresses.now + length tag.now < 2 ^ 64 }
+    ensures ok { OnOk result (Appends (W.written output.old) (W.written output.new)
+        (before.now ++ (head.now ++ (addresses.now ++ (tag.now ++ body.now))))) }
+    ensures err { OnErr result (AppendsPart (W.written output.old) (W.written output.new)
+        (before.now ++ (head.now ++ (addresses.now ++ (tag.now ++ body.now))))) }
+    ensures quiet { OnOk result (W.failures output.new ≡ W.failures output.old) }
+    ensures cause { OnErr result (GoesOnBy 1 (W.failures output.old) (W.failures output.new)) }
+{
+    if before.len() + head.len() + addresses.len() + tag.len() > FRONT {
+        return write_five(output, before, head, addresses, tag, body);
+    }
+    let mut front = [0; FRONT];
+    let end = put_four(&mut front, before, head, addresses, tag);
+    write_two(output, &front[..end], body)
+}
+
 /// Writes a record that holds a whole frame, the four slices side by side.
 pub fn write_record<W: Output>(
     output: &mut W,
@@ -85,5 +149,5 @@ pub fn write_record<W: Output>(
 {
     let size = (head.len() + addresses.len() + tag.len() + body.len()) as u32;
     let before = record_header(moment, size);
-    write_five(output, &before, head, addresses, tag, body)
+    write_gathered(output, &before, head, addresses, tag, body)
 }

@@ -9,18 +9,12 @@ mod arriving_rows;
 #[cfg(test)]
 mod capture_rows;
 #[cfg(test)]
-mod captures;
-#[cfg(test)]
 mod change_rows;
 #[cfg(test)]
 mod learning_rows;
 #[cfg(test)]
-mod octets;
-#[cfg(test)]
 mod segment_rows;
 #[cfg(test)]
 mod sending_rows;
-#[cfg(test)]
-mod settings;
 #[cfg(test)]
 mod transcript;

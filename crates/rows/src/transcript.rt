@@ -1,10 +1,10 @@
 //! Runs told line by line.
-use crate::captures::Captures;
-use crate::settings::{endpoint, local, peer};
 use capture_run::{Outputs, RunFault, run_bytes};
 use std::alloc::{AllocError, Global};
 use std::process::Abort;
 use std::test::Fail;
+use test_inputs::Captures;
+use test_inputs::settings::{BRIDGE, ENDPOINT, PEER};
 
 /// A run told line by line:
 /// - `A`, `B` and `L` stand for the settings of an endpoint, of its peer, and of a learning bridge alone;
@@ -62,12 +62,13 @@ impl Transcript {
 
     /// Takes settings by their name.
     fn choose(&mut self, alloc: Global, name: &str) -> Result<(), Fail> {
-        self.settings = match name {
-            "A" => endpoint(alloc)?,
-            "B" => peer(alloc)?,
-            "L" => local(alloc)?,
+        let settings = match name {
+            "A" => ENDPOINT,
+            "B" => PEER,
+            "L" => BRIDGE,
             _ => return Err(Fail::new("no such settings")),
         };
+        self.settings = String::from_str(alloc, settings)?;
         Ok(())
     }
 

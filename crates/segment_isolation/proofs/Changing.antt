@@ -12,8 +12,8 @@ use Rattle.vlan_ports.specs.declared.port.PortRule.{PortRule}
 use Rattle.vlan_ports.proofs.PlacesLemmas.{get-insert_at, get-insert_same}
 use Rattle.underlay.specs.Overlay.{Segments, flooding, with_flood}
 use Rattle.underlay.specs.declared.segment.Segment.{Segment}
-use Rattle.overlay_config.specs.declared.change.Change.{Change}
-use Rattle.overlay_config.specs.declared.change.Change.TheVariants.{AddFlood, RemoveFlood, Fix, Unfix, SetAgeing, SetLearning, SetMember, PortUp, PortDown, Flush}
+use Rattle.overlay_settings.specs.declared.change.Change.{Change}
+use Rattle.overlay_settings.specs.declared.change.Change.TheVariants.{AddFlood, RemoveFlood, Fix, Unfix, SetAgeing, SetLearning, SetMember, PortUp, PortDown, Flush}
 use Rattle.endpoint_state.specs.declared.fault.ChangeFault.{ChangeFault}
 use Rattle.endpoint_state.specs.Settings.{Settings, BridgeSettings, SegmentSettings, segment_at}
 use Rattle.endpoint_state.specs.Change.{is_about, in_segment, refused, kind_in, with_flood_of, with_bridge, accepted, changed}

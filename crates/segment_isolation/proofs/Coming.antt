@@ -9,7 +9,7 @@ use Rattle.vlan_ports.specs.Ingress.{enters}
 use Rattle.underlay.specs.Overlay.{Overlay, segment_at}
 use Rattle.decapsulate.specs.declared.arrived.Arrived.{Arrived}
 use Rattle.decapsulate.specs.Arrival.{arrival_of}
-use Rattle.endpoint_core.specs.declared.arrival.Came.{Came}
+use Rattle.endpoint_core.specs.Came.{Came}
 use Rattle.endpoint_core.specs.Arrival.{capture_reasons, unless, entered, tunnelled, came_at, came_by}
 use Rattle.segment_isolation.specs.Alone.{is_segment}
 use Rattle.segment_isolation.proofs.Entering.{segment_entered, enters-same}

@@ -7,8 +7,8 @@ use Rattle.frame_view.specs.First.{first}
 use Rattle.frame_view.specs.Address.{is_group as is_group_mac}
 use Rattle.flood_lists.specs.Flood.{add_faults, holds}
 use Rattle.underlay.specs.Settings.{own}
-use Rattle.overlay_config.specs.declared.change.Change.{Change}
-use Rattle.overlay_config.specs.declared.change.Change.TheVariants.{AddFlood, RemoveFlood, Fix, Unfix, SetAgeing, SetLearning, SetMember, PortUp, PortDown, Flush}
+use Rattle.overlay_settings.specs.declared.change.Change.{Change}
+use Rattle.overlay_settings.specs.declared.change.Change.TheVariants.{AddFlood, RemoveFlood, Fix, Unfix, SetAgeing, SetLearning, SetMember, PortUp, PortDown, Flush}
 use Rattle.endpoint_state.specs.declared.fault.ChangeFault.{ChangeFault}
 use Rattle.endpoint_state.specs.declared.fault.ChangeFault.TheVariants.{NotThere, GroupAddress, OutOfRange}
 use Rattle.endpoint_state.specs.Fault.{of_flood}

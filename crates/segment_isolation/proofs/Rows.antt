@@ -8,7 +8,7 @@ use Rattle.vlan_ports.specs.declared.member.Egress.TheVariants.{Tagged, Untagged
 use Rattle.vlan_ports.specs.declared.port.Accept.TheVariants.{All}
 use Rattle.vlan_ports.proofs.PlacesLemmas.{get-insert_same}
 use Rattle.endpoint_state.specs.State.{aged}
-use Rattle.overlay_config.specs.declared.change.Change.TheVariants.{SetLearning, SetMember, PortDown, Flush}
+use Rattle.overlay_settings.specs.declared.change.Change.TheVariants.{SetLearning, SetMember, PortDown, Flush}
 use Rattle.endpoint_core.specs.Arrival.{came_at, came_by, entered}
 use Rattle.endpoint_core.specs.Event.{Event, frame_at, packet_at, change_at}
 use Rattle.endpoint_core.specs.Step.{State, after}

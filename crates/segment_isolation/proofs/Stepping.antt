@@ -11,14 +11,14 @@ use Rattle.vlan_ports.specs.Ports.{Ports}
 use Rattle.underlay.specs.declared.segment.Segment.{Segment}
 use Rattle.filter_db.specs.declared.place.Place.{Place}
 use Rattle.filter_db.specs.Table.{Table}
-use Rattle.overlay_config.specs.declared.change.Change.{Change}
+use Rattle.overlay_settings.specs.declared.change.Change.{Change}
 use Rattle.endpoint_state.specs.declared.fault.ChangeFault.{ChangeFault}
 use Rattle.endpoint_state.specs.Settings.{Settings, SegmentSettings, segment_at}
 use Rattle.endpoint_state.specs.Change.{named, is_about, refused, changed, table_fault}
 use Rattle.endpoint_state.specs.State.{State as Bridges, fault, table_changed, accepted_state, after_change}
 use Rattle.endpoint_state.specs.Step.{table_learned, verdict_in, verdict}
 use Rattle.endpoint_state.proofs.ChangeLemmas.{settings-alone}
-use Rattle.endpoint_core.specs.declared.arrival.Came.{Came}
+use Rattle.endpoint_core.specs.Came.{Came}
 use Rattle.endpoint_core.specs.Arrival.{came_at, came_by}
 use Rattle.endpoint_core.specs.Decision.{Sent, forwarded}
 use Rattle.endpoint_core.specs.Event.{Input, FrameAt, Packet, Asks}

@@ -13,7 +13,7 @@ use Rattle.filter_db.specs.Place.{same_place}
 use Rattle.filter_db.specs.Table.{Table, is_live, is_young, is_fixed, nanoseconds, stands, passes, learned_as, learned_over, is_learned, is_full, has_fixed}
 use Rattle.filter_db.specs.Segment.{Segment, Segments, aged_all, segment_at, adjusted, no_segment, learn_in, fix_in, unfix_in}
 use Rattle.filter_db.specs.Ageing.{sifted}
-use Rattle.shared_tables.specs.declared.slots.Held.{Held}
+use Rattle.shared_tables.specs.Pool.{Held}
 use Rattle.shared_tables.specs.Pool.{entry_at, IfHeld, is_dead_in, is_fixed_in}
 use Rattle.shared_tables.specs.Threads.{IsHeld}
 use Rattle.shared_tables.specs.Shared.{Shared, Rule, rule_at, span_of, vid_key, kept_count, Lacks, IsOrderly, IsAtLimit, HasRoom, Sweeps, Admits, Relearns, Refreshes, Enters, answer_of, live_place}
@@ -323,7 +323,7 @@ module _ (old f : Shared) (now v : ℕ) (k : Begins old f now) (le : old.moment 
       abbrev learned_seg : Place → Bool → Segment
       learned_seg place b = record { limit = rule.limit; ageing = rule.ageing; entries = cond b (insert table mac (record { place = place; last = Some now })) table }
 
-      pub learn_again : (place : Place) (new : Shared) (answer : Learned) → Relearns f new slot (span_of (rule_at f.rules v)) (record { vid = v; mac = mac; place = place; last = Some f.moment }) answer
+      pub learn_again : (place : Place) (new : Shared) (answer : Learned) → Relearns f new slot (span_of (rule_at f.rules v)) place answer
           → (answer ≡ learned_as own.limit place mac own.entries) × (segments_of new ≡ adjusted v (learn_in now place mac) (aged_all now (segments_of old)))
       learn_again place new answer h = by (is_fixed_in (entry_at f.entries slot)) refl
         where
@@ -360,17 +360,17 @@ module _ (old f : Shared) (now v : ℕ) (k : Begins old f now) (le : old.moment 
             ages learned_one,
             fits new (put mac (record { place = place; last = Some f.moment })) (learn_in now place mac)
                 (ap (λ t. let s : Segment = record { limit = rule.limit; ageing = rule.ageing; entries = insert table mac (record { place = place; last = Some t }) } in s) k.moment ∙ sym (ap (learned_seg place) (learns learned_one)))
-                (refresh_segments (record f { visited = f.visited + 1 }) new v slot (record { vid = v; mac = mac; place = place; last = Some f.moment }) in_pool.in_pool k.orderly.unique refl held (lives_now place) (h.moves learned_one)),
+                (refresh_segments (record f { visited = f.visited + 1 }) new v slot mac place (Some f.moment) in_pool.in_pool k.orderly.unique held (lives_now place) (h.moves learned_one)),
           )
 
       -- fixing
-      pub fix_again : (place : Place) (new : Shared) → Refreshes f new slot (record { vid = v; mac = mac; place = place; last = None })
+      pub fix_again : (place : Place) (new : Shared) → Refreshes f new slot place None
           → (is_full own.limit mac own.entries ≡ false) × (segments_of new ≡ adjusted v (fix_in place mac) (aged_all now (segments_of old)))
       fix_again place new h = (
         not_full,
         fits new (put mac (record { place = place; last = None })) (fix_in place mac)
             (sym (ap (λ b. let s : Segment = record { limit = rule.limit; ageing = rule.ageing; entries = cond b table (insert table mac (record { place = place; last = None })) } in s) not_full))
-            (refresh_segments f new v slot (record { vid = v; mac = mac; place = place; last = None }) in_pool.in_pool k.orderly.unique refl held (fixed_lives place) h),
+            (refresh_segments f new v slot mac place None in_pool.in_pool k.orderly.unique held (fixed_lives place) h),
       )
 
       -- taking a fixed entry out

@@ -3,10 +3,10 @@ use Rattle.std.proofs.Common.{inl, inr, ◌⊎◌, ◌≡◌, ℕ, ◌-◌, ◌<
 use Rattle.std.proofs.lemmas.Bool.{cases_lt}
 use Rattle.std.proofs.lemmas.List.{get_or-set_same, get_or_past}
 use Rattle.std.specs.Option.{option_map}
-use Rattle.shared_tables.specs.declared.slots.Held.{Held}
+use Rattle.shared_tables.specs.Pool.{Held}
 use Rattle.shared_tables.specs.declared.slots.Links.{Links}
 use Rattle.shared_tables.specs.declared.share.Share.{Share}
-use Rattle.shared_tables.specs.Pool.{entry_at, links_at, alone, is_fixed_in, bucket_in, IfHeld}
+use Rattle.shared_tables.specs.Pool.{entry_at, links_at, alone, is_fixed_in, chain_in, IfHeld}
 use Rattle.shared_tables.specs.Threads.{IsHeld, HoldsAny, unlinked, heads_without, ends_without}
 use Rattle.shared_tables.specs.Shared.{rule_at, HasRoom, kept_count, Lacks, IsOf, line_key}
 use Rattle.shared_tables.specs.Sound.{share_at, shares_without, share_without, share_written, CountsSome, rule_of, line_at, IsSound}
@@ -64,10 +64,10 @@ module _ (es : List (Option Held)) (cs ls : List Links) (heads : List (Option �
       ap (λ o. shares_without shares v (is_fixed_in o) (links_at ls s)) k.at_slot
       ∙ ap (λ o. share_written shares v (option_map (share_without fixed (links_at ls s)) o)) k.here
 
-  pub drop_sound : IsSound (set es s None) (set (unlinked cs s) s alone) (set (unlinked ls s) s alone) (heads_without heads (bucket_in (entry_at es s)) (links_at cs s)) (shares_without shares v (is_fixed_in (entry_at es s)) (links_at ls s)) moment
+  pub drop_sound : IsSound (set es s None) (set (unlinked cs s) s alone) (set (unlinked ls s) s alone) (heads_without heads (chain_in (entry_at es s)) (links_at cs s)) (shares_without shares v (is_fixed_in (entry_at es s)) (links_at ls s)) moment
   drop_sound =
-      subst (λ x. IsSound (set es s None) (set (unlinked cs s) s alone) (set (unlinked ls s) s alone) (heads_without heads (bucket_in (entry_at es s)) (links_at cs s)) x moment) (sym shares_are)
-      (subst (λ o. IsSound (set es s None) (set (unlinked cs s) s alone) (set (unlinked ls s) s alone) (heads_without heads (bucket_in o) (links_at cs s)) (set shares v (Some (share_without fixed (links_at ls s) k.share))) moment) (sym k.at_slot)
+      subst (λ x. IsSound (set es s None) (set (unlinked cs s) s alone) (set (unlinked ls s) s alone) (heads_without heads (chain_in (entry_at es s)) (links_at cs s)) x moment) (sym shares_are)
+      (subst (λ o. IsSound (set es s None) (set (unlinked cs s) s alone) (set (unlinked ls s) s alone) (heads_without heads (chain_in o) (links_at cs s)) (set shares v (Some (share_without fixed (links_at ls s) k.share))) moment) (sym k.at_slot)
       (leave_sound es cs ls heads shares moment h v k.share k.here k.entry k.is_of s k.at_slot))
 
   pub drop_rules : map (option_map rule_of) (shares_without shares v (is_fixed_in (entry_at es s)) (links_at ls s)) ≡ map (option_map rule_of) shares

@@ -5,24 +5,25 @@ use Rattle.std.proofs.Common.{suc, inl, inr, ◌⊎◌, ◌≡◌, ◌≢◌, �
 use Rattle.std.proofs.lemmas.List.{get_or-set_same, get_or-set_other, length-set}
 use Rattle.std.proofs.lemmas.List.Sums.{sum_by-set, sum_by-cons}
 use Rattle.std.specs.List.{sum_by}
-use Rattle.shared_tables.specs.Bucket.{bucket_of}
+use Rattle.shared_tables.specs.Bucket.{chain_of}
 use Rattle.shared_tables.specs.declared.slots.Links.{Links}
-use Rattle.shared_tables.specs.declared.slots.Held.{Held}
+use Rattle.shared_tables.specs.Pool.{Held}
 use Rattle.shared_tables.specs.declared.share.Share.{Share}
 use Rattle.shared_tables.specs.Pool.{entry_at, alone, vacancy, free_count, IfHeld}
 use Rattle.shared_tables.specs.Threads.{pushed_back, pushed_front, ends_with}
 use Rattle.shared_tables.specs.Line.{last_of, IsLinked, is_on, IsThread}
 use Rattle.shared_tables.specs.Shared.{chain_key, line_key, same_bool, last_at, last_in_entry, last_seen, IsNow, Lacks, IsUnique}
 use Rattle.shared_tables.specs.Sound.{IsLines, IsChain, IsSound, IsAged, share_at, head_at, line_at, with_line, share_count, share_limit}
+use Rattle.shared_tables.proofs.Buckets.{chain_small}
 use Rattle.shared_tables.proofs.Linked.{by_bool, equal, nat_eq_refl, nat_eq_sym, length-pushed_back, length-pushed_front}
 use Rattle.shared_tables.proofs.Threaded.{thread_back, thread_front, thread_same, thread_links, apart_by_keys, back_frame, front_frame, back_over, front_over}
 
--- no entry is of two buckets, nor on two lines
+-- no entry is on two chains, nor on two lines
 pub chain_excl : (b c : ℕ) → nat_eq c b ≡ false → (o : Option Held) → chain_key b o ≡ true → chain_key c o ≡ false
 chain_excl b c ne None h = refl
 chain_excl b c ne (Some e) h =
-    by_bool (nat_eq (bucket_of e.vid e.mac) c)
-    (λ yes. let p : bucket_of e.vid e.mac ≡ c = equal _ _ yes in let q : bucket_of e.vid e.mac ≡ b = equal _ _ h in let no : nat_eq c b ≡ true = subst (λ k. nat_eq k b ≡ true) p h in let bad : true ≡ false = sym no ∙ ne in cc)
+    by_bool (nat_eq (chain_of e.vid e.mac) c)
+    (λ yes. let p : chain_of e.vid e.mac ≡ c = equal _ _ yes in let q : chain_of e.vid e.mac ≡ b = equal _ _ h in let no : nat_eq c b ≡ true = subst (λ k. nat_eq k b ≡ true) p h in let bad : true ≡ false = sym no ∙ ne in cc)
     (λ no. no)
 
 pub and_right : (a b : Bool) → b ≡ false → a && b ≡ false
@@ -117,7 +118,7 @@ module _ (es : List (Option Held)) (cs ls : List Links) (heads : List (Option �
   fixed = is_none e.last
 
   abbrev b : ℕ
-  b = bucket_of e.vid e.mac
+  b = chain_of e.vid e.mac
 
   abbrev es' : List (Option Held)
   es' = set es s (Some e)
@@ -140,10 +141,10 @@ module _ (es : List (Option Held)) (cs ls : List Links) (heads : List (Option �
   was_none : (key : Option Held → Bool) → key None ≡ false → key (entry_at es s) ≡ false
   was_none key none = ap key free ∙ none
 
-  chain_lt : b < 4096
-  chain_lt = omega arith
+  chain_lt : b < 65536
+  chain_lt = chain_small e.vid e.mac
 
-  chained : (c : ℕ) → c < 4096 → IsChain es' cs' c (head_at heads' c)
+  chained : (c : ℕ) → c < 65536 → IsChain es' cs' c (head_at heads' c)
   chained c clt = by_bool (nat_eq c b) (λ yes. same (equal c b yes)) (λ no. other no)
     where
       mine : IsChain es cs b (head_at heads b)

@@ -3,15 +3,16 @@ use Rattle.std.proofs.lemmas.Bool.{cases_lt}
 use Rattle.std.proofs.Common.{inl, inr, ◌⊎◌, ◌≡◌, ℕ, ◌+◌, ◌-◌, ◌<◌, ◌≤◌, Bool, true, false, cond, ◌&&◌, List, [], ◌∷◌, ◌++◌, length, set, Option, Some, None, is_none, nat_eq, refl, sym, ap, ◌∙◌, subst, arith, length-append}
 use Rattle.std.proofs.lemmas.List.{get_or-set_same, get_or-set_other, length-set, get_or_past}
 use Rattle.std.proofs.lemmas.List.Sums.{sum_by-set}
-use Rattle.shared_tables.specs.Bucket.{bucket_of}
+use Rattle.shared_tables.specs.Bucket.{chain_of}
 use Rattle.shared_tables.specs.declared.slots.Links.{Links}
-use Rattle.shared_tables.specs.declared.slots.Held.{Held}
+use Rattle.shared_tables.specs.Pool.{Held}
 use Rattle.shared_tables.specs.declared.share.Share.{Share}
 use Rattle.shared_tables.specs.Pool.{links_at, entry_at, alone, vacancy, IfHeld}
 use Rattle.shared_tables.specs.Threads.{unlinked, ends_without, heads_without, HoldsAny}
 use Rattle.shared_tables.specs.Line.{last_of, is_on, IsThread}
 use Rattle.shared_tables.specs.Shared.{chain_key, line_key, kept_count, same_bool, last_at, Lacks}
 use Rattle.shared_tables.specs.Sound.{IsLines, IsChain, IsSound, IsAged, share_at, head_at, line_at, with_line, share_count, share_limit}
+use Rattle.shared_tables.proofs.Buckets.{chain_small}
 use Rattle.shared_tables.proofs.Linked.{by_bool, equal, nat_eq_refl, nat_eq_sym, length-unlinked, Around, around, off_without, unlinked_frame, linked_frame}
 use Rattle.shared_tables.proofs.Threaded.{thread_without, thread_same, thread_links, apart_by_keys, in_entries}
 use Rattle.shared_tables.proofs.SoundLemmas.{holds_previous, holds_next, kept_is}
@@ -54,7 +55,7 @@ module _ (es : List (Option Held)) (cs ls : List Links) (heads : List (Option �
   fixed = is_none e.last
 
   abbrev b : ℕ
-  b = bucket_of e.vid e.mac
+  b = chain_of e.vid e.mac
 
   abbrev es' : List (Option Held)
   es' = set es s None
@@ -80,8 +81,8 @@ module _ (es : List (Option Held)) (cs ls : List Links) (heads : List (Option �
   isn't_of : (key : Option Held → Bool) → key (Some e) ≡ false → key (entry_at es s) ≡ false
   isn't_of key k = ap key at ∙ k
 
-  pub chain_lt : b < 4096
-  chain_lt = omega arith
+  pub chain_lt : b < 65536
+  chain_lt = chain_small e.vid e.mac
 
   pub leave_lt : s < length es
   leave_lt = in_entries (chain_key b) refl es s (is_of (chain_key b) (nat_eq_refl b))
@@ -99,7 +100,7 @@ module _ (es : List (Option Held)) (cs ls : List Links) (heads : List (Option �
   pub chain_next : HoldsAny es (links_at cs s).next
   chain_next = holds_next (chain_key b) refl cs es _ _ s mine.list mine.thread on_mine
 
-  chained : (c : ℕ) → c < 4096 → IsChain es' cs' c (head_at heads' c)
+  chained : (c : ℕ) → c < 65536 → IsChain es' cs' c (head_at heads' c)
   chained c clt = by_bool (nat_eq c b) (λ yes. same (equal c b yes)) (λ apart. other apart)
     where
       split : Around s mine.list

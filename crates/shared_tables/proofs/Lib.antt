@@ -1,11 +1,14 @@
 pub mod SlotsLemmas
 pub mod Linked
+pub mod Buckets
+pub mod Keys
 pub mod Threaded
 pub mod Walk
 pub mod SoundLemmas
 pub mod Entering
 pub mod Leaving
 pub mod Dropping
+pub mod Renewing
 pub mod OpenedLemmas
 pub mod Tabled
 pub mod SegmentsLemmas

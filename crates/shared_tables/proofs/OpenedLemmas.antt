@@ -13,7 +13,7 @@ use Rattle.filter_db.specs.declared.tables.TableRule.{TableRule}
 use Rattle.filter_db.specs.Segment.{Segment, AreForDistinctVids, new_segments, aged}
 use Rattle.filter_db.specs.Database.{slot}
 use Rattle.filter_db.proofs.DatabaseLemmas.{slot-new, aged-new}
-use Rattle.shared_tables.specs.declared.slots.Held.{Held}
+use Rattle.shared_tables.specs.Pool.{Held}
 use Rattle.shared_tables.specs.declared.slots.Links.{Links}
 use Rattle.shared_tables.specs.declared.share.Share.{Share}
 use Rattle.shared_tables.specs.Pool.{alone, vacancy}
@@ -52,13 +52,13 @@ none_counted (o ∷ shares) k = omega (arith, sum_by-cons share_count o shares, 
     one None f = refl
     one (Some share) f = (f share refl).count
 
-pub open_sound : (n : ℕ) (rules : List TableRule) (shares : List (Option Share)) → AreOpened rules shares → sum_by (λ (rule : TableRule). rule.limit) rules ≤ n → IsSound (replicate n None) (replicate n alone) (replicate n alone) (replicate 4096 None) shares 0
+pub open_sound : (n : ℕ) (rules : List TableRule) (shares : List (Option Share)) → AreOpened rules shares → sum_by (λ (rule : TableRule). rule.limit) rules ≤ n → IsSound (replicate n None) (replicate n alone) (replicate n alone) (replicate 65536 None) shares 0
 open_sound n rules shares o room = record {
   chain_links = length-replicate n alone ∙ sym (length-replicate {A = Option Held} n None);
   line_links = length-replicate n alone ∙ sym (length-replicate {A = Option Held} n None);
-  heads_length = length-replicate {A = Option ℕ} 4096 None;
+  heads_length = length-replicate {A = Option ℕ} 65536 None;
   shares_length = o.size;
-  chained = λ b lt. record { list = []; thread = no_thread n (replicate n alone) (chain_key b) refl (head_at (replicate 4096 None) b) None (none_at 4096 b) refl };
+  chained = λ b lt. record { list = []; thread = no_thread n (replicate n alone) (chain_key b) refl (head_at (replicate 65536 None) b) None (none_at 65536 b) refl };
   lined = lined;
   unique = λ i j e f at_i. let bad : None ≡ Some e = sym (none_at n i) ∙ at_i in cc;
   free = omega (arith, sum_by-replicate vacancy n None, none_counted shares o.new, length-replicate {A = Option Held} n None);

@@ -4,10 +4,10 @@ use Rattle.std.proofs.lemmas.List.{get_or-set_same, get_or-set_other, length-set
 use Rattle.std.specs.Option.{option_map}
 use Rattle.filter_db.specs.declared.place.Place.{Place}
 use Rattle.filter_db.specs.Place.{same_place}
-use Rattle.shared_tables.specs.declared.slots.Held.{Held}
+use Rattle.shared_tables.specs.Pool.{Held}
 use Rattle.shared_tables.specs.declared.slots.Links.{Links}
 use Rattle.shared_tables.specs.declared.share.Share.{Share}
-use Rattle.shared_tables.specs.Pool.{Pool, entry_at, links_at, alone, is_fixed_in, bucket_in}
+use Rattle.shared_tables.specs.Pool.{Pool, entry_at, links_at, alone, is_fixed_in, chain_in}
 use Rattle.shared_tables.specs.Threads.{IsHeld, unlinked, heads_without, ends_without, dropped}
 use Rattle.shared_tables.specs.declared.threads.Ends.{Ends}
 use Rattle.shared_tables.specs.Line.{first_of, is_on, IsThread}
@@ -132,7 +132,7 @@ module _ (old now : Pool) (heads : List (Option ℕ)) (was shares : List (Option
   ends = ends_without (record { first = a.whole.first; last = a.whole.last }) (links_at now.lines slot)
 
   -- its entry goes
-  pub pass_drop : stands_at place (entry_at now.entries slot) ≡ true → (now' : Pool) (heads' : List (Option ℕ)) (shares' : List (Option Share)) → now' ≡ dropped now slot → heads' ≡ heads_without heads (bucket_in (entry_at now.entries slot)) (links_at now.chains slot)
+  pub pass_drop : stands_at place (entry_at now.entries slot) ≡ true → (now' : Pool) (heads' : List (Option ℕ)) (shares' : List (Option Share)) → now' ≡ dropped now slot → heads' ≡ heads_without heads (chain_in (entry_at now.entries slot)) (links_at now.chains slot)
       → shares' ≡ shares_without shares v (is_fixed_in (entry_at now.entries slot)) (links_at now.lines slot) → Passes old now' heads' was shares' moment v place (links_at now.lines slot).next (steps + 1) count
   pass_drop there now' heads' shares' e heads_are shares_are =
       subst (λ (p : Pool). Passes old p heads' was shares' moment v place (links_at now.lines slot).next (steps + 1) count) (sym e) (record {

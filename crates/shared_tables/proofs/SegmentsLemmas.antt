@@ -3,7 +3,7 @@ use Rattle.std.proofs.Common.{inl, inr, ◌⊎◌, ◌≡◌, ◌≢◌, ℕ, �
 use Rattle.std.proofs.Math.Path.{fun_ext}
 use Rattle.std.proofs.Math.Nat.{le_refl}
 use Rattle.std.proofs.lemmas.Bool.{cases_lt, eqb-true, eq-eqb, false≢true}
-use Rattle.std.proofs.lemmas.List.{get_or-set_same, get_or-set_other, length-set, get_or_past}
+use Rattle.std.proofs.lemmas.List.{get_or-set_same, get_or-set_other, length-set, get_or_past, set-set}
 use Rattle.std.specs.Option.{option_map, unwrap_or}
 use Rattle.std.specs.Ordering.{eq_by_cmp}
 use Rattle.std.specs.FinMap.{get, insert, remove, len, get-remove}
@@ -14,13 +14,13 @@ use Rattle.filter_db.specs.Table.{Table, mac_cmp, kept, live, is_live, is_young,
 use Rattle.filter_db.specs.Segment.{Segment, Segments, aged, aged_all, segment_at, adjusted, no_segment, set_ageing_in, flush_in, flush_place_in}
 use Rattle.filter_db.specs.Ageing.{mac_total, same_table, sifted, get-kept, live-live, aged_all-aged_all}
 use Rattle.filter_db.proofs.TableLemmas.{get-set, kept_turned}
-use Rattle.shared_tables.specs.declared.slots.Held.{Held}
+use Rattle.shared_tables.specs.Pool.{Held}
 use Rattle.shared_tables.specs.Pool.{entry_at, IfHeld, is_dead_in}
 use Rattle.shared_tables.specs.Shared.{Shared, Rule, rule_at, vid_key, line_key, same_bool, kept_count, Lacks, IsUnique, Enters, Refreshes, Sweeps, KeepsOrFrees, KeepsOrDrops, DropsAll, stands_at, with_ageing}
 use Rattle.shared_tables.specs.Segments.{entry_of, kept_table, kept_segment, kept_segments, segments_of}
 use Rattle.shared_tables.proofs.Linked.{by_bool, equal, nat_eq_refl}
 use Rattle.shared_tables.proofs.Entering.{and_right}
-use Rattle.shared_tables.proofs.Tabled.{hit, held_hit, get-raw, raw_found, raw_lacks, Sifts, table_sifted, table_other, set_none, table_gone, other_gone, table_entered, other_entered, len-kept_table, sifted_slots, sifts_slots, sifted_unique, kept_less}
+use Rattle.shared_tables.proofs.Tabled.{hit, held_hit, get-raw, raw_found, raw_lacks, Sifts, table_sifted, table_other, set_none, table_gone, other_gone, table_entered, other_entered, len-kept_table, sifted_slots, sifts_slots, sifted_unique, kept_less, renewed_is}
 
 -- ---- segments by their parts
 
@@ -249,19 +249,23 @@ gone_lacks es v mac s lt unique held i x = by_bool (hit v mac (entry_at es i))
     (λ off. let still = subst (λ o. IfHeld o v mac) ((set_none v mac es s lt unique held).each i ∙ ap (λ b. cond b None (entry_at es i)) off) x in
     let bad : true ≡ false = sym (held_hit v mac (entry_at es i) still) ∙ off in cc)
 
-pub refresh_segments : (old new : Shared) (v slot : ℕ) (e : Held) → slot < length old.entries → IsUnique old.entries → e.vid ≡ v → IfHeld (entry_at old.entries slot) v e.mac
-    → ((rule : Rule) → rule_at old.rules v ≡ Some rule → is_live (nanoseconds rule.ageing) old.moment (entry_of e) ≡ true) → Refreshes old new slot e
-    → segments_of new ≡ adjusted v (put e.mac (entry_of e)) (segments_of old)
-refresh_segments old new v slot e lt unique of held lives h =
+pub refresh_segments : (old new : Shared) (v slot : ℕ) (mac : List ℕ) (place : Place) (last : Option ℕ) → slot < length old.entries → IsUnique old.entries → IfHeld (entry_at old.entries slot) v mac
+    → ((rule : Rule) → rule_at old.rules v ≡ Some rule → is_live (nanoseconds rule.ageing) old.moment (record { place = place; last = last }) ≡ true) → Refreshes old new slot place last
+    → segments_of new ≡ adjusted v (put mac (record { place = place; last = last })) (segments_of old)
+refresh_segments old new v slot mac place last lt unique held lives h =
+    let e : Held = record { vid = v; mac = mac; place = place; last = last } in
     let gone : List (Option Held) = set old.entries slot None in
-    let to_lt : h.to < length gone = subst (λ n. h.to < n) (sym (length-set old.entries slot None)) h.in_pool in
-    adjusts old new v (put e.mac (entry_of e)) (ap (λ (w : Shared). w.moment) h.same) (ap (λ (w : Shared). w.rules) h.same)
-    (λ w ne. ap (λ (x : Shared). kept_table w x.entries) h.same ∙ other_entered w v gone h.to e to_lt h.free of ne ∙ other_gone w v e.mac old.entries slot lt unique held ne)
+    let to_lt : slot < length gone = subst (λ n. slot < n) (sym (length-set old.entries slot None)) lt in
+    let free : entry_at gone slot ≡ None = get_or-set_same old.entries slot None None lt in
+    let same : new ≡ record old { entries = set gone slot (Some e) } =
+    h ∙ ap (λ o. record old { entries = set old.entries slot o }) (renewed_is (entry_at old.entries slot) v mac place last held) ∙ ap (λ es. record old { entries = es }) (sym (set-set old.entries slot None (Some e))) in
+    adjusts old new v (put mac (entry_of e)) (ap (λ (w : Shared). w.moment) same) (ap (λ (w : Shared). w.rules) same)
+    (λ w ne. ap (λ (x : Shared). kept_table w x.entries) same ∙ other_entered w v gone slot e to_lt free refl ne ∙ other_gone w v mac old.entries slot lt unique held ne)
     (λ rule here.
     ap (λ (m : Table). aged old.moment (with_table rule m))
-    (ap (λ (x : Shared). kept_table v x.entries) h.same ∙ table_entered v gone h.to e to_lt h.free of (gone_lacks old.entries v e.mac slot lt unique held)
-    ∙ ap (λ (m : Table). insert m e.mac (entry_of e)) (table_gone v e.mac old.entries slot lt unique held) ∙ put_over (kept_table v old.entries) e.mac (entry_of e))
-    ∙ ap (with_table rule) (live_put (is_live (nanoseconds rule.ageing) old.moment) (kept_table v old.entries) e.mac (entry_of e) (lives rule here)))
+    (ap (λ (x : Shared). kept_table v x.entries) same ∙ table_entered v gone slot e to_lt free refl (gone_lacks old.entries v mac slot lt unique held)
+    ∙ ap (λ (m : Table). insert m mac (entry_of e)) (table_gone v mac old.entries slot lt unique held) ∙ put_over (kept_table v old.entries) mac (entry_of e))
+    ∙ ap (with_table rule) (live_put (is_live (nanoseconds rule.ageing) old.moment) (kept_table v old.entries) mac (entry_of e) (lives rule here)))
 
 pub release_segments : (old new : Shared) (v slot : ℕ) (mac : List ℕ) → slot < length old.entries → IsUnique old.entries → IfHeld (entry_at old.entries slot) v mac → new ≡ record old { entries = set old.entries slot None }
     → segments_of new ≡ adjusted v (taken_out mac) (segments_of old)

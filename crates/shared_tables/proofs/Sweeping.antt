@@ -4,10 +4,11 @@ use Rattle.std.proofs.lemmas.List.{get_or-set_same, get_or-set_other, length-set
 use Rattle.std.proofs.lemmas.List.Sums.{sum_by-set}
 use Rattle.std.proofs.lemmas.Bool.Decides.{nat_tests}
 use Rattle.shared_tables.specs.declared.slots.Links.{Links}
-use Rattle.shared_tables.specs.declared.slots.Held.{Held}
+use Rattle.shared_tables.specs.Pool.{Held}
 use Rattle.shared_tables.specs.declared.share.Share.{Share}
+use Rattle.filter_db.specs.declared.place.Place.{Place}
 use Rattle.filter_db.specs.Table.{is_young}
-use Rattle.shared_tables.specs.Pool.{entry_at, is_dead_in}
+use Rattle.shared_tables.specs.Pool.{entry_at, is_dead_in, renewed}
 use Rattle.shared_tables.specs.Line.{first_of, is_on, weight}
 use Rattle.shared_tables.specs.Shared.{Shared, line_key, last_at, last_in_entry, last_seen, NoneAges, IsOldest, Sweeps, KeepsOrFrees, IsOf, is_held, held_count, same_bool, Refreshes, Drops, KeepsOrDrops}
 use Rattle.shared_tables.specs.Sound.{IsLines, IsAged}
@@ -20,6 +21,7 @@ pub record Frees (old new : Shared) (vid ageing : ℕ) : Type 0 where
   pub size : length new.entries ≡ length old.entries
   pub each : (i : ℕ) → KeepsOrFrees (entry_at old.entries i) (entry_at new.entries i) vid ageing old.moment
   pub paid : new.visited + held_count new.entries ≡ old.visited + held_count old.entries
+  pub counted : old.visited ≤ new.visited
 
 -- no entry of a queue was seen before the first
 aged_least : (es : List (Option Held)) (is : List ℕ) (low high j : ℕ) → IsAged es low is high → is_on j is ≡ true → low ≤ last_at es j
@@ -89,7 +91,7 @@ later_lives : (now a b ageing : ℕ) → a ≤ b → not (nat_lt (now - a) agein
 later_lives now a b ageing le h = grind (arith, nat_tests)
 
 pub sweep_starts : (old : Shared) (v ageing : ℕ) → Frees old old v ageing
-sweep_starts old v ageing = record { same = refl; size = refl; each = λ i. inl refl; paid = refl }
+sweep_starts old v ageing = record { same = refl; size = refl; each = λ i. inl refl; paid = refl; counted = omega arith }
 
 -- where the oldest lives, all that age do
 pub sweep_ends : (old now : Shared) (v ageing s : ℕ) → Frees old now v ageing → IsOldest now.entries v s → is_dead_in (entry_at now.entries s) ageing old.moment ≡ false → (new : Shared) → new ≡ record now { visited = now.visited + 1 } → Sweeps old new v ageing
@@ -100,6 +102,7 @@ sweep_ends old now v ageing s f o lives new e =
       each = f.each;
       live = λ i on. dead_of v (entry_at now.entries i) ageing old.moment on ∙ later_lives old.moment (last_at now.entries s) (last_at now.entries i) ageing (o.first i on) (sym (dead_of v (entry_at now.entries s) ageing old.moment o.ages) ∙ lives);
       paid = omega (arith, f.paid);
+      counted = omega (arith, f.counted);
     })
 
 -- where none ages, none that ages is dead
@@ -110,6 +113,7 @@ sweep_empty old now v ageing f none = record {
   each = f.each;
   live = λ i on. let bad : true ≡ false = sym on ∙ none i in cc;
   paid = omega (arith, f.paid);
+  counted = f.counted;
 }
 
 -- the oldest is dead and goes
@@ -125,6 +129,7 @@ sweep_on old now v ageing s f o dead mid new e k =
           (let was = here (f.each s) in inr (get_or-set_same now.entries s None None lt, was.0, was.1)))
           (λ ne. subst (λ x. KeepsOrFrees (entry_at old.entries i) x v ageing old.moment) (sym (get_or-set_other now.entries s i None None (λ q. let yes : nat_eq i s ≡ true = subst (λ n. nat_eq i n ≡ true) q (nat_eq_refl i) in let bad : true ≡ false = sym yes ∙ ne in cc))) (f.each i));
       paid = omega (arith, f.paid, sum_by-set (weight is_held) now.entries s None None lt, held (entry_at now.entries s) o.ages);
+      counted = omega (arith, f.counted);
     })
   where
     held : (x : Option Held) → line_key v false x ≡ true → weight is_held x ≡ 1
@@ -135,18 +140,15 @@ sweep_on old now v ageing s f o dead mid new e k =
     here (inl q) = (subst (λ x. line_key v false x ≡ true) q o.ages, subst (λ x. is_dead_in x ageing old.moment ≡ true) q dead)
     here (inr q) = let bad : false ≡ true = sym (ap (line_key v false) q.0) ∙ o.ages in cc
 
--- an entry in place of another leaves as many
-pub refresh_held : (old new : Shared) (slot : ℕ) (e : Held) → slot < length old.entries → IsSome (entry_at old.entries slot) → Refreshes old new slot e → held_count new.entries ≡ held_count old.entries
-refresh_held old new slot e lt some r =
-    let gone = set old.entries slot None in
-    let to_lt : r.to < length gone = subst (λ n. r.to < n) (sym (length-set old.entries slot None)) r.in_pool in
-    let was_none : weight is_held (entry_at gone r.to) ≡ 0 = ap (weight is_held) r.free in
-    let all : held_count new.entries ≡ held_count (set gone r.to (Some e)) = ap (λ (w : Shared). held_count w.entries) r.same in
-    omega (arith, all, was_none, held_one (entry_at old.entries slot) some, sum_by-set (weight is_held) old.entries slot None None lt, sum_by-set (weight is_held) gone r.to (Some e) None to_lt)
+-- a renewed entry leaves as many
+pub refresh_held : (old new : Shared) (slot : ℕ) (place : Place) (last : Option ℕ) → slot < length old.entries → Refreshes old new slot place last → held_count new.entries ≡ held_count old.entries
+refresh_held old new slot place last lt r =
+    let all : held_count new.entries ≡ held_count (set old.entries slot (renewed (entry_at old.entries slot) place last)) = ap (λ (w : Shared). held_count w.entries) r in
+    omega (arith, all, alike (entry_at old.entries slot), sum_by-set (weight is_held) old.entries slot (renewed (entry_at old.entries slot) place last) None lt)
   where
-    held_one : (o : Option Held) → IsSome o → weight is_held o ≡ 1
-    held_one None h = let bad : false ≡ true = h in cc
-    held_one (Some z) h = refl
+    alike : (o : Option Held) → weight is_held (renewed o place last) ≡ weight is_held o
+    alike None = refl
+    alike (Some e) = refl
 
 -- ---- entries that pass a test go
 

@@ -8,11 +8,12 @@ use Rattle.std.specs.Ordering.{eq_by_cmp}
 use Rattle.std.specs.Cmp.{eq_by_cmp_equiv}
 use Rattle.std.specs.FinMap.{find, get, insert, remove, len, get-from_entries, get-remove, len-empty, from_entries}
 use Rattle.filter_db.specs.declared.entry.Entry.{Entry}
+use Rattle.filter_db.specs.declared.place.Place.{Place}
 use Rattle.filter_db.specs.Table.{mac_cmp, kept}
 use Rattle.filter_db.specs.Ageing.{mac_total, same_table, sifted, get-kept}
 use Rattle.filter_db.proofs.TableLemmas.{same_mac, get-set, len-set}
-use Rattle.shared_tables.specs.declared.slots.Held.{Held}
-use Rattle.shared_tables.specs.Pool.{entry_at, IfHeld}
+use Rattle.shared_tables.specs.Pool.{Held}
+use Rattle.shared_tables.specs.Pool.{entry_at, IfHeld, renewed}
 use Rattle.shared_tables.specs.Line.{weight}
 use Rattle.shared_tables.specs.Shared.{vid_key, kept_count, Lacks, IsUnique}
 use Rattle.shared_tables.specs.Segments.{entry_of, rows_of, kept_table}
@@ -282,3 +283,10 @@ kept_less v test (o ∷ es) zero of passes =
 kept_less v test (o ∷ es) (suc s) of passes =
     let first = few_each v (test o) o in let rest = kept_less v test es s of passes in
     omega (arith, first, rest, sum_by-cons (weight (vid_key v)) (cond (test o) None o) (sifted_slots test es), sum_by-cons (weight (vid_key v)) o es)
+
+-- ---- an entry is renewed
+
+-- an entry of an address keeps it
+pub renewed_is : (o : Option Held) (v : ℕ) (mac : List ℕ) (place : Place) (last : Option ℕ) → IfHeld o v mac → renewed o place last ≡ Some (record { vid = v; mac = mac; place = place; last = last })
+renewed_is None v mac place last h = absurd h
+renewed_is (Some e) v mac place last h = λ i. Some (record { vid = h.0 i; mac = h.1 i; place = place; last = last })

@@ -5,7 +5,7 @@ use Rattle.std.proofs.lemmas.List.Sums.{sum_by-set}
 use Rattle.std.proofs.lemmas.Bool.{cases_lt}
 use Rattle.std.specs.List.{sum_by}
 use Rattle.shared_tables.specs.declared.slots.Links.{Links}
-use Rattle.shared_tables.specs.declared.slots.Held.{Held}
+use Rattle.shared_tables.specs.Pool.{Held}
 use Rattle.shared_tables.specs.Pool.{links_at, entry_at, alone}
 use Rattle.shared_tables.specs.Threads.{next_set, previous_set, unlinked, pushed_back, pushed_front, ends_without, ends_with}
 use Rattle.shared_tables.specs.Line.{first_of, last_of, IsLinked, is_on, IsApart, weight, IsThread}

@@ -1,19 +1,19 @@
 -- The work that a call does.
-use Rattle.std.proofs.Common.{suc, inl, inr, ◌⊎◌, ◌≡◌, ℕ, ◌+◌, ◌-◌, ◌<◌, ◌≤◌, Bool, true, false, cond, not, List, [], ◌∷◌, length, set, Option, Some, None, nat_eq, refl, sym, ap, ◌∙◌, subst, arith}
+use Rattle.std.proofs.Common.{suc, inl, inr, ◌⊎◌, ◌≡◌, ℕ, ◌+◌, ◌-◌, ◌<◌, ◌≤◌, Bool, true, false, cond, not, List, [], ◌∷◌, length, set, Option, Some, None, nat_eq, sym, ap, ◌∙◌, subst, arith}
 use Rattle.std.proofs.lemmas.Bool.{lt-ltb}
-use Rattle.std.proofs.lemmas.List.{length-set}
 use Rattle.std.proofs.lemmas.List.Sums.{sum_by-set, sum_by-cons}
 use Rattle.filter_db.specs.declared.place.Place.{Place}
 use Rattle.filter_db.specs.declared.tables.Learned.{Learned}
-use Rattle.shared_tables.specs.declared.slots.Held.{Held}
-use Rattle.shared_tables.specs.Pool.{entry_at, is_dead_in, is_fixed_in}
+use Rattle.shared_tables.specs.Pool.{Held}
+use Rattle.shared_tables.specs.Pool.{entry_at, IfHeld, is_dead_in, is_fixed_in, renewed}
 use Rattle.shared_tables.specs.Threads.{IsHeld}
 use Rattle.shared_tables.specs.Line.{weight}
-use Rattle.shared_tables.specs.Shared.{Shared, Rule, rule_at, span_of, is_held, held_count, HasRoom, IsAtLimit, kept_count, Sweeps, KeepsOrFrees, KeepsOrDrops, Drops, Enters, Refreshes, Admits, Relearns}
-use Rattle.shared_tables.specs.Work.{is_dead, dead_count, VisitsFew, Pays, IsPaid, PaysForAllWork}
+use Rattle.shared_tables.specs.Shared.{Shared, Rule, rule_at, span_of, is_held, held_count, HasRoom, IsAtLimit, kept_count, Sweeps, KeepsOrFrees, KeepsOrDrops, Drops, Enters, Lacks, Refreshes, Admits, Relearns}
+use Rattle.shared_tables.specs.Work.{is_dead, dead_count, VisitsFew, TellsAtMost, Pays, IsPaid, PaysForAllWork}
 use Rattle.shared_tables.proofs.Linked.{by_bool, equal}
 use Rattle.shared_tables.proofs.Entering.{and_first}
 use Rattle.shared_tables.proofs.Sweeping.{refresh_held}
+use Rattle.shared_tables.proofs.Tabled.{renewed_is}
 use Rattle.shared_tables.proofs.CallLemmas.{Begins}
 
 -- dead entries that have gone are no longer dead
@@ -62,26 +62,57 @@ admit_visits f new v e answer lives h = from h.done
         let fewer = entered_dead f.rules f.moment h.mid.entries d.2.slot (Some e) d.2.in_pool lives in
         omega (arith, swept, fewer, ap (λ (w : Shared). w.visited) d.2.same, ap (λ (w : Shared). dead_count f.rules f.moment w.entries) d.2.same)
 
-refresh_dead : (rules : List (Option Rule)) (now : ℕ) (old new : Shared) (slot : ℕ) (e : Held) → slot < length old.entries → is_dead rules now (Some e) ≡ false → Refreshes old new slot e → dead_count rules now new.entries ≤ dead_count rules now old.entries
-refresh_dead rules now old new slot e lt lives r =
-    let gone = set old.entries slot None in
-    let to_lt : r.to < length gone = subst (λ n. r.to < n) (sym (length-set old.entries slot None)) r.in_pool in
-    let first = entered_dead rules now old.entries slot None lt refl in
-    let second = entered_dead rules now gone r.to (Some e) to_lt lives in
-    omega (arith, first, second, ap (λ (w : Shared). dead_count rules now w.entries) r.same)
+refresh_dead : (rules : List (Option Rule)) (now : ℕ) (old new : Shared) (slot v : ℕ) (mac : List ℕ) (place : Place) (last : Option ℕ) → slot < length old.entries → IfHeld (entry_at old.entries slot) v mac
+    → is_dead rules now (Some (record { vid = v; mac = mac; place = place; last = last })) ≡ false → Refreshes old new slot place last → dead_count rules now new.entries ≤ dead_count rules now old.entries
+refresh_dead rules now old new slot v mac place last lt held lives r =
+    let fewer = entered_dead rules now old.entries slot (renewed (entry_at old.entries slot) place last) lt (ap (is_dead rules now) (renewed_is (entry_at old.entries slot) v mac place last held) ∙ lives) in
+    omega (arith, fewer, ap (λ (w : Shared). dead_count rules now w.entries) r)
 
-pub relearn_visits : (f new : Shared) (slot ageing : ℕ) (e : Held) (answer : Learned) → slot < length f.entries → is_dead f.rules f.moment (Some e) ≡ false → Relearns f new slot ageing e answer → Visits f new
-relearn_visits f new slot ageing e answer lt lives h = by_bool (is_fixed_in (entry_at f.entries slot))
+pub relearn_visits : (f new : Shared) (slot ageing v : ℕ) (mac : List ℕ) (place : Place) (answer : Learned) → slot < length f.entries → IfHeld (entry_at f.entries slot) v mac
+    → is_dead f.rules f.moment (Some (record { vid = v; mac = mac; place = place; last = Some f.moment })) ≡ false → Relearns f new slot ageing place answer → Visits f new
+relearn_visits f new slot ageing v mac place answer lt held lives h = by_bool (is_fixed_in (entry_at f.entries slot))
     (λ so. subst (Visits f) (sym (h.stays so).1) (omega arith))
     (λ ages. let r = h.moves ages in
-    let fewer = refresh_dead f.rules f.moment (record f { visited = f.visited + 1 }) new slot e lt lives r in
-    omega (arith, fewer, ap (λ (w : Shared). w.visited) r.same))
+    let fewer = refresh_dead f.rules f.moment (record f { visited = f.visited + 1 }) new slot v mac place (Some f.moment) lt held lives r in
+    omega (arith, fewer, ap (λ (w : Shared). w.visited) r))
 
-pub relearn_pays : (f new : Shared) (slot ageing : ℕ) (e : Held) (answer : Learned) → IsHeld f.entries slot → Relearns f new slot ageing e answer → Pays f new
-relearn_pays f new slot ageing e answer held h = by_bool (is_fixed_in (entry_at f.entries slot))
+pub relearn_pays : (f new : Shared) (slot ageing : ℕ) (place : Place) (answer : Learned) → IsHeld f.entries slot → Relearns f new slot ageing place answer → Pays f new
+relearn_pays f new slot ageing place answer held h = by_bool (is_fixed_in (entry_at f.entries slot))
     (λ so. subst (Pays f) (sym (h.stays so).1) (omega arith))
     (λ ages. let r = h.moves ages in
-    omega (arith, refresh_held (record f { visited = f.visited + 1 }) new slot e held.in_pool held.held r, ap (λ (w : Shared). w.visited) r.same))
+    omega (arith, refresh_held (record f { visited = f.visited + 1 }) new slot place (Some f.moment) held.in_pool r, ap (λ (w : Shared). w.visited) r))
+
+-- ---- what was done stays counted
+
+pub admit_counted : (f new : Shared) (v ageing : ℕ) (e : Held) (answer : Bool) → Admits f new v ageing e answer → f.visited ≤ new.visited
+admit_counted f new v ageing e answer h = from h.done
+  where
+    from : ((answer ≡ false) × (new ≡ h.mid) × IsAtLimit (rule_at h.mid.rules v) (kept_count v h.mid.entries)) ⊎ ((answer ≡ true) × HasRoom (rule_at h.mid.rules v) (kept_count v h.mid.entries) × Enters h.mid new e) → f.visited ≤ new.visited
+    from (inl d) = subst (λ (w : Shared). f.visited ≤ w.visited) (sym d.1) h.swept.counted
+    from (inr d) = subst (λ (w : Shared). f.visited ≤ w.visited) (sym d.2.same) h.swept.counted
+
+pub relearn_counted : (f new : Shared) (slot ageing : ℕ) (place : Place) (answer : Learned) → Relearns f new slot ageing place answer → f.visited ≤ new.visited
+relearn_counted f new slot ageing place answer h = by_bool (is_fixed_in (entry_at f.entries slot))
+    (λ so. omega (arith, ap (λ (w : Shared). w.visited) (h.stays so).1))
+    (λ ages. omega (arith, ap (λ (w : Shared). w.visited) (h.moves ages)))
+
+-- one age is told where the address stands, and none where it has to be fixed
+relearn_tells : (f new : Shared) (slot ageing : ℕ) (place : Place) (answer : Learned) → Relearns f new slot ageing place answer → new.visited ≤ f.visited + 1
+relearn_tells f new slot ageing place answer h = by_bool (is_fixed_in (entry_at f.entries slot))
+    (λ so. omega (arith, ap (λ (w : Shared). w.visited) (h.stays so).1))
+    (λ ages. omega (arith, ap (λ (w : Shared). w.visited) (h.moves ages)))
+
+pub learn_tells : (old f new : Shared) (now v : ℕ) (mac : List ℕ) (slot ageing : ℕ) (place : Place) (answer : Learned) → Begins old f now → Relearns f new slot ageing place answer → TellsAtMost 1 old new v mac
+learn_tells old f new now v mac slot ageing place answer k h at held = omega (arith, relearn_tells f new slot ageing place answer h, k.visited)
+
+pub fix_tells : (old f new : Shared) (now v : ℕ) (mac : List ℕ) (slot : ℕ) (place : Place) (last : Option ℕ) → Begins old f now → Refreshes f new slot place last → TellsAtMost 0 old new v mac
+fix_tells old f new now v mac slot place last k h at held = omega (arith, ap (λ (w : Shared). w.visited) h, k.visited)
+
+pub none_tells : (few : ℕ) (old f new : Shared) (now v : ℕ) (mac : List ℕ) → Begins old f now → Lacks f.entries v mac → TellsAtMost few old new v mac
+none_tells few old f new now v mac k lacks at held = absurd (lacks at (subst (λ es. IfHeld (entry_at es at) v mac) (sym k.entries) held))
+
+pub counted_of : (old f new : Shared) (now : ℕ) → Begins old f now → f.visited ≤ new.visited → old.visited ≤ new.visited
+counted_of old f new now k h = omega (arith, h, k.visited)
 
 -- from the state that a call finds
 pub visits_of : (old f new : Shared) (now : ℕ) → Begins old f now → Visits f new → VisitsFew old new now

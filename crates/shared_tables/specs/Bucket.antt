@@ -1,7 +1,28 @@
--- The bucket of an address in a segment.
-use Rattle.std.specs.Prelude.{ℕ, ◌+◌, ◌%◌, List}
+-- The bucket of an address in a segment, and its chain: each bucket has sixteen.
+use Rattle.std.specs.Prelude.{ℕ, ◌+◌, ◌*◌, ◌/◌, ◌%◌, ◌^◌, List, ◌++◌, take, drop}
+use Rattle.std.specs.Int.{from_be_bytes, to_be_bytes, w16, w64}
+use Rattle.header_sums.specs.Octets.{octets}
 use Rattle.header_sums.specs.Sum.{total}
 
 -- the sum of the address's three words and the VID, in one of 4,096 classes
 abbrev pub bucket_of : ℕ → List ℕ → ℕ
 bucket_of vid mac = (total mac + vid) % 4096
+
+-- the VID and the address side by side, as one number
+abbrev pub key_of : ℕ → List ℕ → ℕ
+key_of vid mac = from_be_bytes w64 (octets 2 vid ++ mac)
+
+-- the VID and the address of such a number
+unfoldable pub vid_in : ℕ → ℕ
+vid_in key = from_be_bytes w16 (take 2 (to_be_bytes w64 key))
+
+unfoldable pub mac_in : ℕ → List ℕ
+mac_in key = drop 2 (to_be_bytes w64 key)
+
+-- the upper four of the lower 64 bits of a product: 2^64 over the golden ratio sends near keys far apart
+unfoldable pub spread : ℕ → ℕ
+spread key = (key * 11400714819323198485) % 2 ^ 64 / 2 ^ 60 % 16
+
+-- the chain of an address in a segment: one of the sixteen of its bucket
+unfoldable pub chain_of : ℕ → List ℕ → ℕ
+chain_of vid mac = bucket_of vid mac * 16 + spread (key_of vid mac)

@@ -4,10 +4,17 @@ use Rattle.std.specs.List.{sum_by}
 use Rattle.shared_tables.specs.declared.slots.Links.{Links}
 use Rattle.shared_tables.specs.declared.slots.Thread.{Thread}
 use Rattle.shared_tables.specs.declared.slots.Thread.TheVariants.{Chain, Line}
-use Rattle.shared_tables.specs.declared.slots.Held.{Held}
-use Rattle.shared_tables.specs.declared.slots.Slot.{Slot}
+use Rattle.filter_db.specs.declared.place.Place.{Place}
 use Rattle.filter_db.specs.Table.{is_young}
-use Rattle.shared_tables.specs.Bucket.{bucket_of}
+use Rattle.shared_tables.specs.Bucket.{bucket_of, chain_of}
+
+-- an entry: an address of a segment, where it stands, and the last moment at which it was seen there; None where it is
+-- fixed
+pub record Held : Type 0 where
+  pub vid : ℕ
+  pub mac : List ℕ
+  pub place : Place
+  pub last : Option ℕ
 
 -- the slots, column by column: what each holds, its neighbours on its chain and on its line; the counts
 pub record Pool : Type 0 where
@@ -53,6 +60,11 @@ abbrev pub bucket_in : Option Held → ℕ
 bucket_in None = 0
 bucket_in (Some e) = bucket_of e.vid e.mac
 
+-- its chain
+abbrev pub chain_in : Option Held → ℕ
+chain_in None = 0
+chain_in (Some e) = chain_of e.vid e.mac
+
 -- a slot holds a fixed entry
 abbrev pub is_fixed_in : Option Held → Bool
 is_fixed_in None = false
@@ -67,6 +79,11 @@ is_dead_in (Some e) ageing now = not (is_young ageing now e.last)
 abbrev pub IfHeld : Option Held → ℕ → List ℕ → Type 0
 IfHeld None vid mac = ⊥
 IfHeld (Some e) vid mac = (e.vid ≡ vid) × (e.mac ≡ mac)
+
+-- an entry with another place and another last moment
+abbrev pub renewed : Option Held → Place → Option ℕ → Option Held
+renewed None place last = None
+renewed (Some e) place last = Some (record e { place = place; last = last })
 
 -- a pool where a slot holds an entry, and stands on no thread yet
 abbrev pub taken : Pool → ℕ → Held → Pool
@@ -93,8 +110,3 @@ free_pool size = record {
   compared = 0;
   visited = 0;
 }
-
--- a slot with other neighbours on a thread
-abbrev pub slot_with : Thread → Slot → Links → Slot
-slot_with Chain slot links = record slot { chain = links }
-slot_with Line slot links = record slot { line = links }

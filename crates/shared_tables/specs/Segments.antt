@@ -8,7 +8,7 @@ use Rattle.filter_db.specs.Table.{Table}
 use Rattle.filter_db.specs.Segment.{Segment, Segments, aged_all}
 use Rattle.filter_db.specs.Rows.{Rows}
 use Rattle.filter_db.specs.Ageing.{aged_all-aged_all}
-use Rattle.shared_tables.specs.declared.slots.Held.{Held}
+use Rattle.shared_tables.specs.Pool.{Held}
 use Rattle.shared_tables.specs.Shared.{Shared, Rule, rule_at}
 
 -- what a table has of what a slot holds

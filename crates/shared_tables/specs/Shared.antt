@@ -2,8 +2,8 @@
 use Rattle.std.specs.Prelude.{◌≡◌, ℕ, ◌⊎◌, ◌+◌, ◌<◌, ◌≤◌, Bool, true, false, ◌&&◌, not, List, length, Option, Some, None, nat_eq, is_none, slice_index_or, slice_set, if◌then◌else◌}
 use Rattle.std.specs.List.{sum_by}
 use Rattle.std.specs.Option.{option_map}
-use Rattle.shared_tables.specs.declared.slots.Held.{Held}
-use Rattle.shared_tables.specs.Pool.{entry_at, IfHeld, bucket_in, is_dead_in, is_fixed_in}
+use Rattle.shared_tables.specs.Pool.{Held}
+use Rattle.shared_tables.specs.Pool.{entry_at, IfHeld, bucket_in, chain_in, is_dead_in, is_fixed_in, renewed}
 use Rattle.filter_db.specs.declared.tables.Learned.{Learned}
 use Rattle.filter_db.specs.declared.tables.Learned.TheVariants as learned
 use Rattle.filter_db.specs.declared.place.Place.{Place}
@@ -35,9 +35,14 @@ vid_key vid None = false
 vid_key vid (Some e) = nat_eq e.vid vid
 
 -- it holds an entry of the bucket
+abbrev pub bucket_key : ℕ → Option Held → Bool
+bucket_key bucket None = false
+bucket_key bucket (Some e) = nat_eq (bucket_in (Some e)) bucket
+
+-- it holds an entry of the chain
 abbrev pub chain_key : ℕ → Option Held → Bool
-chain_key bucket None = false
-chain_key bucket (Some e) = nat_eq (bucket_in (Some e)) bucket
+chain_key chain None = false
+chain_key chain (Some e) = nat_eq (chain_in (Some e)) chain
 
 -- both, or neither
 abbrev pub same_bool : Bool → Bool → Bool
@@ -59,7 +64,7 @@ kept_count vid entries = sum_by (weight (vid_key vid)) entries
 
 -- how many are kept in a bucket
 abbrev pub bucket_count : ℕ → List (Option Held) → ℕ
-bucket_count bucket entries = sum_by (weight (chain_key bucket)) entries
+bucket_count bucket entries = sum_by (weight (bucket_key bucket)) entries
 
 -- the moment when an entry was last seen
 abbrev pub last_seen : Option ℕ → ℕ
@@ -131,13 +136,11 @@ pub record Sweeps (old new : Shared) (vid ageing : ℕ) : Type 0 where
   pub each : (i : ℕ) → KeepsOrFrees (entry_at old.entries i) (entry_at new.entries i) vid ageing old.moment
   pub live : (i : ℕ) → line_key vid false (entry_at new.entries i) ≡ true → is_dead_in (entry_at new.entries i) ageing old.moment ≡ false
   pub paid : new.visited + held_count new.entries ≤ old.visited + held_count old.entries + 1
+  pub counted : old.visited ≤ new.visited
 
--- an entry stands in place of a slot's, in that slot or another that was free
-pub record Refreshes (old new : Shared) (slot : ℕ) (e : Held) : Type 0 where
-  pub to : ℕ
-  pub in_pool : to < length old.entries
-  pub free : entry_at (slice_set old.entries slot None) to ≡ None
-  pub same : new ≡ record old { entries = slice_set (slice_set old.entries slot None) to (Some e) }
+-- a slot's entry gets another place and another last moment, and nothing else changes
+abbrev pub Refreshes : Shared → Shared → ℕ → Place → Option ℕ → Type 0
+Refreshes old new slot place last = new ≡ record old { entries = slice_set old.entries slot (renewed (entry_at old.entries slot) place last) }
 
 -- the segment is at its limit
 abbrev pub IsAtLimit : Option Rule → ℕ → Type 0
@@ -156,10 +159,10 @@ answer_of None ageing now place = learned.New
 answer_of (Some e) ageing now place = if is_dead_in (Some e) ageing now then learned.New else if same_place e.place place then learned.Refreshed else learned.Moved
 
 -- A fixed entry stays. One that ages moves to the place, or is seen there again.
-pub record Relearns (old new : Shared) (slot ageing : ℕ) (e : Held) (answer : Learned) : Type 0 where
+pub record Relearns (old new : Shared) (slot ageing : ℕ) (place : Place) (answer : Learned) : Type 0 where
   pub stays : is_fixed_in (entry_at old.entries slot) ≡ true → (answer ≡ learned.Fixed) × (new ≡ old)
-  pub moves : is_fixed_in (entry_at old.entries slot) ≡ false → Refreshes (record old { visited = old.visited + 1 }) new slot e
-  pub answers : is_fixed_in (entry_at old.entries slot) ≡ false → answer ≡ answer_of (entry_at old.entries slot) ageing old.moment e.place
+  pub moves : is_fixed_in (entry_at old.entries slot) ≡ false → Refreshes (record old { visited = old.visited + 1 }) new slot place (Some old.moment)
+  pub answers : is_fixed_in (entry_at old.entries slot) ≡ false → answer ≡ answer_of (entry_at old.entries slot) ageing old.moment place
 
 -- where a slot's entry stands, if it is live
 abbrev pub live_place : Option Held → ℕ → ℕ → Option Place

@@ -1,19 +1,80 @@
 -- What the slots stand for, and their free list.
-use Rattle.std.specs.Prelude.{◌≡◌, ◌≢◌, ℕ, ◌<◌, List, [], ◌∷◌, length, map, Option, Some, None, slice_index_or, is_some, if◌then◌else◌}
+use Rattle.std.specs.Prelude.{◌≡◌, ◌≢◌, ℕ, ◌<◌, List, [], ◌∷◌, length, map, Option, Some, None, slice_index_or, is_some, nat_eq, if◌then◌else◌}
+use Rattle.filter_db.specs.declared.place.Place.{Place}
+use Rattle.filter_db.specs.Place.{no_place}
 use Rattle.shared_tables.specs.declared.slots.Slot.{Slot}
+use Rattle.shared_tables.specs.declared.slots.Near.{Near}
+use Rattle.shared_tables.specs.declared.slots.Kind.{Kind}
+use Rattle.shared_tables.specs.declared.slots.Kind.TheVariants as kind
+use Rattle.shared_tables.specs.declared.slots.Thread.{Thread}
+use Rattle.shared_tables.specs.declared.slots.Thread.TheVariants.{Chain, Line}
 use Rattle.shared_tables.specs.declared.slots.Links.{Links}
 use Rattle.shared_tables.specs.declared.slots.Slots.TheInside.{Inside}
-use Rattle.shared_tables.specs.Pool.{Pool, free_count, alone}
+use Rattle.shared_tables.specs.Bucket.{vid_in, mac_in}
+use Rattle.shared_tables.specs.Pool.{Pool, Held, free_count, alone}
+
+-- the slot of a number; the greatest of 32 bits is no slot's
+abbrev pub id_of : ℕ → Option ℕ
+id_of number = if nat_eq number 4294967295 then None else Some number
+
+-- the number of a slot, or of none
+abbrev pub number_of : Option ℕ → ℕ
+number_of None = 4294967295
+number_of (Some number) = number
+
+-- neighbours by their numbers, and the numbers of neighbours
+abbrev pub links_in : Near → Links
+links_in near = record { previous = id_of near.previous; next = id_of near.next }
+
+abbrev pub near_of : Links → Near
+near_of links = record { previous = number_of links.previous; next = number_of links.next }
+
+-- nobody beside it
+abbrev pub far : Near
+far = record { previous = 4294967295; next = 4294967295 }
+
+-- what a slot of a kind holds, by its key, its moment and its place
+abbrev pub entry_by : Kind → ℕ → ℕ → Place → Option Held
+entry_by kind.Free key last place = None
+entry_by kind.Learned key last place = Some (record { vid = vid_in key; mac = mac_in key; place = place; last = Some last })
+entry_by kind.Fixed key last place = Some (record { vid = vid_in key; mac = mac_in key; place = place; last = None })
+
+-- what a slot holds
+abbrev pub entry_in : Slot → Option Held
+entry_in slot = entry_by slot.kind slot.key slot.last slot.place
+
+-- the kind of an entry that was last seen then, and its moment
+abbrev pub kind_of : Option ℕ → Kind
+kind_of None = kind.Fixed
+kind_of (Some last) = kind.Learned
+
+abbrev pub moment_of : Option ℕ → ℕ
+moment_of None = 0
+moment_of (Some last) = last
+
+-- a slot's neighbours on its chain
+abbrev pub chain_of_slot : Slot → Links
+chain_of_slot slot = links_in slot.chain
 
 -- a free slot has no neighbours; its place on the free list is nobody's business
 abbrev pub line_of : Slot → Links
-line_of slot = if is_some slot.entry then slot.line else alone
+line_of slot = if is_some (entry_in slot) then links_in slot.line else alone
+
+-- a slot with other neighbours on a thread
+abbrev pub slot_with : Thread → Slot → Near → Slot
+slot_with Chain slot near = record slot { chain = near }
+slot_with Line slot near = record slot { line = near }
+
+-- the neighbours on a thread, as they are kept
+abbrev pub near_on : Thread → Slot → Near
+near_on Chain slot = slot.chain
+near_on Line slot = slot.line
 
 -- the slots, column by column
 abbrev pub pool_with : List Slot → ℕ → ℕ → Pool
 pool_with slots compared visited = record {
-  entries = map (λ (s : Slot). s.entry) slots;
-  chains = map (λ (s : Slot). s.chain) slots;
+  entries = map entry_in slots;
+  chains = map chain_of_slot slots;
   lines = map line_of slots;
   compared = compared;
   visited = visited;
@@ -25,7 +86,7 @@ pool_of a = pool_with a.slots.items a.compared.total a.visited.total
 
 -- a slot that stands for none
 abbrev pub no_slot : Slot
-no_slot = record { entry = None; chain = alone; line = alone }
+no_slot = record { key = 0; last = 0; chain = far; line = far; place = no_place; kind = kind.Free }
 
 -- the slot isn't on the list
 abbrev pub IsAbsent : ℕ → List ℕ → Type 0
@@ -36,12 +97,12 @@ IsAbsent i (j ∷ is) = (j ≢ i) × IsAbsent i is
 abbrev pub IsFreeList : List Slot → Option ℕ → List ℕ → Type 0
 IsFreeList slots first [] = first ≡ None
 IsFreeList slots first (i ∷ is) =
-    (first ≡ Some i) × (i < length slots) × ((slice_index_or slots i no_slot).entry ≡ None) × IsAbsent i is × IsFreeList slots (slice_index_or slots i no_slot).line.next is
+    (first ≡ Some i) × (i < length slots) × (entry_in (slice_index_or slots i no_slot) ≡ None) × IsAbsent i is × IsFreeList slots (id_of (slice_index_or slots i no_slot).line.next) is
 
 -- the free list has each free slot
 pub record IsFreeAll (slots : List Slot) (first : Option ℕ) (is : List ℕ) : Type 0 where
   pub list : IsFreeList slots first is
-  pub all : length is ≡ free_count (map (λ (s : Slot). s.entry) slots)
+  pub all : length is ≡ free_count (map entry_in slots)
 
 -- the free slots are on the free list
 abbrev pub HasFreeList : Inside → Type 0

@@ -2,18 +2,18 @@
 use Rattle.std.specs.Prelude.{◌≡◌, ℕ, ◌+◌, ◌-◌, ◌<◌, ◌≤◌, Bool, true, false, List, [], ◌∷◌, length, Option, Some, None, slice_index_or, slice_set}
 use Rattle.std.specs.Option.{option_map}
 use Rattle.std.specs.List.{sum_by}
-use Rattle.shared_tables.specs.declared.slots.Held.{Held}
+use Rattle.shared_tables.specs.Pool.{Held}
 use Rattle.shared_tables.specs.declared.slots.Links.{Links}
 use Rattle.shared_tables.specs.declared.threads.Ends.{Ends}
 use Rattle.shared_tables.specs.declared.share.Share.{Share}
 use Rattle.shared_tables.specs.Pool.{free_count}
-use Rattle.shared_tables.specs.Threads.{ends_without}
+use Rattle.shared_tables.specs.Threads.{ends_without, ends_with}
 use Rattle.shared_tables.specs.Line.{last_of, IsThread}
 use Rattle.shared_tables.specs.Shared.{Rule, chain_key, line_key, last_at, IsUnique}
 
 -- the first slot of a chain
 abbrev pub head_at : List (Option ℕ) → ℕ → Option ℕ
-head_at heads bucket = slice_index_or heads bucket None
+head_at heads chain = slice_index_or heads chain None
 
 -- the share of a segment
 abbrev pub share_at : List (Option Share) → ℕ → Option Share
@@ -61,6 +61,21 @@ share_written shares vid (Some share) = slice_set shares vid (Some share)
 abbrev pub shares_without : List (Option Share) → ℕ → Bool → Links → List (Option Share)
 shares_without shares vid fixed own = share_written shares vid (option_map (share_without fixed own) (share_at shares vid))
 
+-- a share when an entry that had these neighbours has left one of its lines for the end of the other, or of the same
+abbrev pub share_moved : Bool → Bool → Links → ℕ → Share → Share
+share_moved was fixed own slot share =
+    let left = with_line share was (ends_without (line_at share was) own) in
+    with_line left fixed (ends_with (line_at left fixed) slot)
+
+-- the shares then
+abbrev pub shares_moved : List (Option Share) → ℕ → Bool → Bool → Links → ℕ → List (Option Share)
+shares_moved shares vid was fixed own slot = share_written shares vid (option_map (share_moved was fixed own slot) (share_at shares vid))
+
+-- the last slot of a line when an entry has left one
+abbrev pub last_left : Option Share → Bool → Bool → Links → Option ℕ
+last_left None was fixed own = None
+last_left (Some share) was fixed own = (line_at (with_line share was (ends_without (line_at share was) own)) fixed).last
+
 -- the entries were last seen in this order, from one moment to another
 abbrev pub IsAged : List (Option Held) → ℕ → List ℕ → ℕ → Type 0
 IsAged entries low [] high = low ≤ high
@@ -75,19 +90,19 @@ pub record IsLines (entries : List (Option Held)) (lines : List Links) (vid : �
   pub limit : share.count ≤ share.limit
   pub some_time : 0 < share.ageing
 
--- the chain of a bucket
-pub record IsChain (entries : List (Option Held)) (chains : List Links) (bucket : ℕ) (first : Option ℕ) : Type 0 where
+-- the chain of this number
+pub record IsChain (entries : List (Option Held)) (chains : List Links) (chain : ℕ) (first : Option ℕ) : Type 0 where
   pub list : List ℕ
-  pub thread : IsThread chains entries (chain_key bucket) first (last_of list None) list
+  pub thread : IsThread chains entries (chain_key chain) first (last_of list None) list
 
--- each slot is free, or on the chain of its bucket and on one line of its segment; there are at least as many slots as
+-- each slot is free, or on its address's chain and on one line of its segment; there are at least as many slots as
 -- the limits sum to
 pub record IsSound (entries : List (Option Held)) (chains lines : List Links) (heads : List (Option ℕ)) (shares : List (Option Share)) (moment : ℕ) : Type 0 where
   pub chain_links : length chains ≡ length entries
   pub line_links : length lines ≡ length entries
-  pub heads_length : length heads ≡ 4096
+  pub heads_length : length heads ≡ 65536
   pub shares_length : length shares ≡ 4096
-  pub chained : (b : ℕ) → b < 4096 → IsChain entries chains b (head_at heads b)
+  pub chained : (c : ℕ) → c < 65536 → IsChain entries chains c (head_at heads c)
   pub lined : (vid : ℕ) (share : Share) → share_at shares vid ≡ Some share → IsLines entries lines vid share moment
   pub unique : IsUnique entries
   pub free : free_count entries + sum_by share_count shares ≡ length entries

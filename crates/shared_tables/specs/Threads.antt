@@ -1,9 +1,10 @@
 -- What the steps on a thread do to the slots' links.
 use Rattle.std.specs.Prelude.{ℕ, ◌<◌, List, length, Option, Some, None, IsSome, IfSome, slice_set, is_none, if◌then◌else◌}
 use Rattle.shared_tables.specs.declared.slots.Links.{Links}
-use Rattle.shared_tables.specs.declared.slots.Held.{Held}
+use Rattle.shared_tables.specs.Pool.{Held}
+use Rattle.filter_db.specs.declared.place.Place.{Place}
 use Rattle.shared_tables.specs.declared.threads.Ends.{Ends}
-use Rattle.shared_tables.specs.Pool.{Pool, links_at, entry_at, alone}
+use Rattle.shared_tables.specs.Pool.{Pool, links_at, entry_at, alone, renewed}
 
 -- a slot of the pool that holds an entry
 pub record IsHeld (entries : List (Option Held)) (slot : ℕ) : Type 0 where
@@ -52,9 +53,9 @@ ends_with ends slot = record {
   last = Some slot;
 }
 
--- the chains' heads without a slot of this bucket that had these neighbours
+-- the chains' heads without a slot of this chain that had these neighbours
 abbrev pub heads_without : List (Option ℕ) → ℕ → Links → List (Option ℕ)
-heads_without heads bucket own = if is_none own.previous then slice_set heads bucket own.next else heads
+heads_without heads chain own = if is_none own.previous then slice_set heads chain own.next else heads
 
 -- a pool where a slot has left its chain and its line, and is free
 abbrev pub dropped : Pool → ℕ → Pool
@@ -62,4 +63,11 @@ dropped pool slot = record pool {
   entries = slice_set pool.entries slot None;
   chains = slice_set (unlinked pool.chains slot) slot alone;
   lines = slice_set (unlinked pool.lines slot) slot alone;
+}
+
+-- a pool where a slot's entry has another place and another last moment, and stands behind the last of a line
+abbrev pub moved : Pool → ℕ → Place → Option ℕ → Option ℕ → Pool
+moved pool slot place last behind = record pool {
+  entries = slice_set pool.entries slot (renewed (entry_at pool.entries slot) place last);
+  lines = pushed_back (unlinked pool.lines slot) behind slot;
 }

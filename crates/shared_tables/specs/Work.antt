@@ -1,8 +1,8 @@
 -- The work that calls do, as counts without an upper end.
 use Rattle.std.specs.Prelude.{◌≡◌, ℕ, ◌+◌, ◌*◌, ◌≤◌, Bool, false, List, [], ◌∷◌, Option, Some, None}
 use Rattle.std.specs.List.{sum_by, AllByRecursion}
-use Rattle.shared_tables.specs.declared.slots.Held.{Held}
-use Rattle.shared_tables.specs.Pool.{is_dead_in}
+use Rattle.shared_tables.specs.Pool.{Held}
+use Rattle.shared_tables.specs.Pool.{entry_at, IfHeld, is_dead_in}
 use Rattle.shared_tables.specs.Line.{weight}
 use Rattle.shared_tables.specs.Bucket.{bucket_of}
 use Rattle.shared_tables.specs.Shared.{Shared, Rule, rule_at, span_of, bucket_count, held_count}
@@ -23,6 +23,10 @@ ComparesFew old new vid mac = new.compared ≤ old.compared + bucket_count (buck
 -- an entry's age was told at most once more than dead entries have gone
 abbrev pub VisitsFew : Shared → Shared → ℕ → Type 0
 VisitsFew old new now = new.visited + dead_count old.rules now new.entries ≤ old.visited + dead_count old.rules now old.entries + 1
+
+-- of an address that a slot holds, at most so many ages were told
+abbrev pub TellsAtMost : ℕ → Shared → Shared → ℕ → List ℕ → Type 0
+TellsAtMost few old new vid mac = (slot : ℕ) → IfHeld (entry_at old.entries slot) vid mac → new.visited ≤ old.visited + few
 
 -- each call pays two for what its entries will cost
 abbrev pub Pays : Shared → Shared → Type 0

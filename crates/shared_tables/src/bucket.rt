@@ -1,17 +1,88 @@
-//! Buckets of addresses.
-ghost use Rattle.std.specs.Prelude.{◌≡◌, ◌<◌};
-ghost use Rattle.shared_tables.specs.Bucket.{bucket_of};
+//! Buckets of addresses, and their chains.
+ghost use Rattle.std.specs.Prelude.{◌≡◌, ◌↔◌, IsTrue, ◌<◌, [], ◌∷◌};
+ghost use Rattle.shared_tables.specs.Bucket.{bucket_of, chain_of, key_of, vid_in, mac_in, spread};
 
 use frame_view::{Mac, Vid};
 use header_sums::words;
 
 /// How many there are.
-pub const BUCKETS: usize = 4096;
+const BUCKETS: usize = 4096;
+
+/// How many chains each of them has.
+const CHAINS_EACH: usize = 16;
+
+/// How many chains there are.
+pub const CHAINS: usize = BUCKETS * CHAINS_EACH;
+
+/// 2^64 over the golden ratio.
+const GOLDEN: u64 = 0x9E37_79B9_7F4A_7C15;
+
+/// Two octets and six as one number.
+fn joined(vid: u16, a: u8, b: u8, c: u8, d: u8, e: u8, f: u8) -> u64
+    ensures value { result ≡ key_of vid (a ∷ b ∷ c ∷ d ∷ e ∷ f ∷ []) }
+    ensures vid { vid_in result ≡ vid }
+    ensures mac { mac_in result ≡ a ∷ b ∷ c ∷ d ∷ e ∷ f ∷ [] }
+{
+    let [high, low] = vid.to_be_bytes();
+    u64::from_be_bytes([high, low, a, b, c, d, e, f])
+}
+
+/// A VID and an address as one number.
+pub fn key(vid: Vid, mac: Mac) -> u64
+    ensures value { result ≡ key_of vid mac }
+    ensures vid { vid_in result ≡ vid }
+    ensures mac { mac_in result ≡ mac }
+{
+    let [a, b, c, d, e, f] = mac.0;
+    joined(vid.get(), a, b, c, d, e, f)
+}
+
+/// Whether a number is the key of an address in a segment.
+pub fn is_key_of(own: u64, vid: Vid, mac: Mac) -> bool
+    ensures { IsTrue result ↔ ((vid_in own ≡ vid) × (mac_in own ≡ mac)) }
+{
+    own == key(vid, mac)
+}
+
+/// The bucket of a key, below 4,096.
+fn bucket_by_key(key: u64) -> usize
+    ensures value { result ≡ bucket_of (vid_in key) (mac_in key) }
+    ensures in_range { result < 4096 }
+{
+    let octets = key.to_be_bytes();
+    (words(&octets) % BUCKETS as u64) as usize
+}
 
 /// The bucket of an address in a segment, below 4,096.
+#[cfg(test)]
 pub fn bucket(vid: Vid, mac: Mac) -> usize
     ensures value { result ≡ bucket_of vid mac }
     ensures in_range { result < 4096 }
 {
-    ((words(&mac.0) + u64::from(vid.get())) % BUCKETS as u64) as usize
+    bucket_by_key(key(vid, mac))
+}
+
+/// Which of its bucket's chains a key is on.
+#[tactic(auto, unfolding(crate::specs::Bucket::spread))]
+fn spread(key: u64) -> usize
+    ensures value { result ≡ spread key }
+    ensures in_range { result < 16 }
+{
+    (key.wrapping_mul(GOLDEN) >> 60) as usize % CHAINS_EACH
+}
+
+/// The chain of a key, below 65,536.
+pub fn chain_by_key(key: u64) -> usize
+    ensures value { result ≡ chain_of (vid_in key) (mac_in key) }
+    ensures in_range { result < 65536 }
+{
+    bucket_by_key(key) * CHAINS_EACH + spread(key)
+}
+
+/// The chain of an address in a segment, below 65,536.
+pub fn chain(vid: Vid, mac: Mac) -> usize
+    ensures value { result ≡ chain_of vid mac }
+    ensures in_range { result < 65536 }
+{
+    chain_by_key(key(vid, mac))
 }

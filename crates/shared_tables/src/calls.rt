@@ -4,7 +4,7 @@ ghost use Rattle.std.specs.FinMap.{len};
 ghost use Rattle.filter_db.specs.Table.{stands, learned_as, is_full, has_fixed};
 ghost use Rattle.filter_db.specs.Segment.{aged_all, segment_at, adjusted, learn_in, fix_in, unfix_in, flush_place_in, flush_in, set_ageing_in};
 ghost use Rattle.shared_tables.specs.Segments.{segments_of};
-ghost use Rattle.shared_tables.specs.Work.{ComparesFew, VisitsFew, Pays};
+ghost use Rattle.shared_tables.specs.Work.{ComparesFew, VisitsFew, TellsAtMost, Pays};
 
 use crate::{SharedTables, learning};
 use filter_db::{Learned, NotThere, Place, TableFull, Tables};
@@ -36,6 +36,8 @@ impl Tables for SharedTables {
         ensures entries { self.new.entries ≡ self.old.entries }
         ensures compared { ComparesFew self.old self.new vid mac }
         ensures visited { VisitsFew self.old self.new now }
+        ensures comparisons_stay_counted { self.old.compared ≤ self.new.compared }
+        ensures visits_stay_counted { self.old.visited ≤ self.new.visited }
         ensures paid { Pays self.old self.new }
     {
         self.count_call();
@@ -58,11 +60,14 @@ impl Tables for SharedTables {
         ensures slots { length self.new.entries ≡ length self.old.entries }
         ensures compared { ComparesFew self.old self.new vid mac }
         ensures visited { VisitsFew self.old self.new now }
+        ensures known { TellsAtMost 1 self.old self.new vid mac }
+        ensures comparisons_stay_counted { self.old.compared ≤ self.new.compared }
+        ensures visits_stay_counted { self.old.visited ≤ self.new.visited }
         ensures paid { Pays self.old self.new }
     {
         self.begin(now);
         match self.find(vid, mac) {
-            Some(slot) => learning::relearn(self, vid, mac, slot, place),
+            Some(slot) => learning::relearn(self, vid, slot, place),
             None => {
                 if learning::admit(self, vid, mac, place, Some(now)) {
                     Learned::New
@@ -85,12 +90,15 @@ impl Tables for SharedTables {
         ensures slots { length self.new.entries ≡ length self.old.entries }
         ensures compared { ComparesFew self.old self.new vid mac }
         ensures visited { VisitsFew self.old self.new now }
+        ensures known { TellsAtMost 0 self.old self.new vid mac }
+        ensures comparisons_stay_counted { self.old.compared ≤ self.new.compared }
+        ensures visits_stay_counted { self.old.visited ≤ self.new.visited }
         ensures paid { Pays self.old self.new }
     {
         self.begin(now);
         match self.find(vid, mac) {
             Some(slot) => {
-                learning::refresh(self, vid, mac, slot, place, None);
+                self.refresh(vid, slot, place, None);
                 Ok(())
             }
             None => {
@@ -115,6 +123,7 @@ impl Tables for SharedTables {
         ensures slots { length self.new.entries ≡ length self.old.entries }
         ensures compared { ComparesFew self.old self.new vid mac }
         ensures visited { self.new.visited ≡ self.old.visited }
+        ensures comparisons_stay_counted { self.old.compared ≤ self.new.compared }
         ensures paid { Pays self.old self.new }
     {
         self.begin(now);
@@ -171,6 +180,7 @@ impl Tables for SharedTables {
         ensures slots { length self.new.entries ≡ length self.old.entries }
         ensures compared { self.new.compared ≡ self.old.compared }
         ensures visited { VisitsFew self.old self.new now }
+        ensures visits_stay_counted { self.old.visited ≤ self.new.visited }
         ensures paid { Pays self.old self.new }
     {
         self.begin(now);
@@ -189,6 +199,7 @@ impl Tables for SharedTables {
         ensures slots { length self.new.entries ≡ length self.old.entries }
         ensures compared { self.new.compared ≡ self.old.compared }
         ensures visited { VisitsFew self.old self.new now }
+        ensures visits_stay_counted { self.old.visited ≤ self.new.visited }
         ensures paid { Pays self.old self.new }
     {
         self.begin(now);

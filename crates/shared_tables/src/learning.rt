@@ -1,8 +1,8 @@
 //! How entries come, stay and go: each step over the slots of one segment.
 ghost use Rattle.std.specs.Prelude.{◌≡◌, ℕ, IsSome, Some, None, Option};
-ghost use Rattle.shared_tables.specs.Pool.{entry_at, IfHeld};
+ghost use Rattle.shared_tables.specs.Pool.{entry_at};
 ghost use Rattle.shared_tables.specs.Threads.{IsHeld};
-ghost use Rattle.shared_tables.specs.Shared.{rule_at, Lacks, IsNow, span_of, Sweeps, Refreshes, Admits, Relearns, Flushes};
+ghost use Rattle.shared_tables.specs.Shared.{rule_at, Lacks, IsNow, span_of, Sweeps, IsOf, Admits, Relearns, Flushes};
 
 use crate::SharedTables;
 use crate::slots::SlotId;
@@ -33,24 +33,6 @@ pub fn flush(tables: &mut SharedTables, vid: Vid)
     }
 }
 
-/// Puts another entry of an address in place of one: it goes to the end of the queue, or of the list of the fixed.
-pub fn refresh(
-    tables: &mut SharedTables,
-    vid: Vid,
-    mac: Mac,
-    slot: SlotId,
-    place: Place,
-    last: Option<u64>,
-)
-    requires held { IfHeld (entry_at tables.old.entries slot) vid mac }
-    requires rule { IsSome (rule_at tables.old.rules vid) }
-    requires now { IsNow last tables.old.moment }
-    ensures { Refreshes tables.old tables.new slot (record { vid = vid; mac = mac; place = place; last = last }) }
-{
-    tables.release(vid, slot);
-    tables.enter(vid, mac, place, last);
-}
-
 /// Makes an entry for an address that no slot holds; false where the segment has no room for it.
 pub fn admit(tables: &mut SharedTables, vid: Vid, mac: Mac, place: Place, last: Option<u64>) -> bool
     requires rule { IsSome (rule_at tables.old.rules vid) }
@@ -67,11 +49,11 @@ pub fn admit(tables: &mut SharedTables, vid: Vid, mac: Mac, place: Place, last: 
 }
 
 /// Learns an address that a slot holds.
-pub fn relearn(tables: &mut SharedTables, vid: Vid, mac: Mac, slot: SlotId, place: Place) -> Learned
-    requires held { IfHeld (entry_at tables.old.entries slot) vid mac }
+pub fn relearn(tables: &mut SharedTables, vid: Vid, slot: SlotId, place: Place) -> Learned
+    requires held { IsOf (entry_at tables.old.entries slot) vid }
     requires in_pool { IsHeld tables.old.entries slot }
     requires rule { IsSome (rule_at tables.old.rules vid) }
-    ensures { Relearns tables.old tables.new slot (span_of (rule_at tables.old.rules vid)) (record { vid = vid; mac = mac; place = place; last = Some tables.old.moment }) result }
+    ensures { Relearns tables.old tables.new slot (span_of (rule_at tables.old.rules vid)) place result }
 {
     if tables.is_fixed(slot) {
         return Learned::Fixed;
@@ -80,7 +62,7 @@ pub fn relearn(tables: &mut SharedTables, vid: Vid, mac: Mac, slot: SlotId, plac
     let stays = tables.stands_at(slot, place);
     let dead = tables.dead(slot, ageing);
     let now = tables.moment();
-    refresh(tables, vid, mac, slot, place, Some(now));
+    tables.refresh(vid, slot, place, Some(now));
     if dead {
         Learned::New
     } else if stays {

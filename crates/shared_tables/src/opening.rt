@@ -3,7 +3,7 @@ ghost use Rattle.std.specs.Prelude.{◌≡◌, ℕ, IfOk, None, Option, All, rep
 ghost use Rattle.filter_db.specs.Segment.{IsRule, AreForDistinctVids};
 ghost use Rattle.shared_tables.specs.Opened.{AreOpened};
 
-use crate::bucket::BUCKETS;
+use crate::bucket::CHAINS;
 use crate::share::{self, Share, VIDS};
 use crate::slots::SlotId;
 use crate::threads::NO_ENDS;
@@ -12,9 +12,9 @@ use std::alloc::{AllocError, Global};
 
 /// The heads of empty chains.
 pub fn no_heads(alloc: Global) -> Result<Vec<Option<SlotId>>, AllocError>
-    ensures { IfOk result (λ v. v.items ≡ replicate 4096 None) }
+    ensures { IfOk result (λ v. v.items ≡ replicate 65536 None) }
 {
-    let heads = vec![in alloc; None; BUCKETS]?;
+    let heads = vec![in alloc; None; CHAINS]?;
     Ok(heads)
 }
 

@@ -6,14 +6,14 @@ ghost use Rattle.filter_db.specs.Place.{same_place};
 ghost use Rattle.filter_db.specs.Segment.{IsRule, AreForDistinctVids, new_segments};
 ghost use Rattle.shared_tables.specs.Pool.{entry_at, IfHeld, is_dead_in, is_fixed_in};
 ghost use Rattle.shared_tables.specs.Threads.{IsHeld};
-ghost use Rattle.shared_tables.specs.Shared.{rule_at, Lacks, kept_count, bucket_count, IsNow, HasRoom, Enters, IsOf, span_of, NoneAges, IsOldest, IsOrderly, live_place, with_ageing, DropsPlace, stands_at};
+ghost use Rattle.shared_tables.specs.Shared.{rule_at, Lacks, kept_count, bucket_count, IsNow, HasRoom, Enters, Refreshes, IsOf, span_of, NoneAges, IsOldest, IsOrderly, live_place, with_ageing, DropsPlace, stands_at};
 ghost use Rattle.shared_tables.specs.Segments.{segments_of};
 ghost use Rattle.shared_tables.specs.Bucket.{bucket_of};
 ghost use Rattle.shared_tables.specs.Work.{IsPaid};
 
-use crate::bucket::bucket;
+use crate::bucket::chain;
 use crate::chains::find_in;
-use crate::entries::drop_entry;
+use crate::entries::{drop_entry, renew_entry};
 use crate::opening::{no_heads, open_shares};
 use crate::share::{self, Share};
 use crate::slots::{SlotId, Slots, Thread};
@@ -32,7 +32,7 @@ use work_count::Count;
 #[derive(Drop)]
 pub struct SharedTables {
     slots: Slots,
-    /// For each bucket the first slot of its chain: an entry is put before the others when it comes, and leaves when
+    /// For each chain its first slot: an entry is put before the others when it comes, and leaves when
     /// it goes.
     heads: Vec<Option<SlotId>>,
     /// At the place of each VID the share of its segment.
@@ -118,25 +118,26 @@ impl SharedTables {
         ensures held { IfSome result (IsHeld self.old.entries) }
         ensures none { IfNone result (Lacks self.old.entries vid mac) }
         ensures same { self.new ≡ record self.old { compared = self.new.compared } }
+        ensures counted { self.old.compared ≤ self.new.compared }
         ensures compared { self.new.compared ≤ self.old.compared + bucket_count (bucket_of vid mac) self.old.entries }
     {
-        let first = threads::head(&self.heads, bucket(vid, mac));
+        let first = threads::head(&self.heads, chain(vid, mac));
         find_in(&mut self.slots, first, vid, mac)
     }
 
-    /// Takes a slot for a new entry: first on its bucket's chain, and last on its line.
+    /// Takes a slot for a new entry: first on its chain, and last on its line.
     pub(crate) fn enter(&mut self, vid: Vid, mac: Mac, place: Place, last: Option<u64>)
         requires room { HasRoom (rule_at self.old.rules vid) (kept_count vid self.old.entries) }
         requires absent { Lacks self.old.entries vid mac }
         requires now { IsNow last self.old.moment }
         ensures { Enters self.old self.new (record { vid = vid; mac = mac; place = place; last = last }) }
     {
-        let bucket = bucket(vid, mac);
+        let chain = chain(vid, mac);
         let fixed = last.is_none();
         match share::share_at(&self.shares, vid) {
             Some(share) => {
                 let slot = self.slots.take(vid, mac, place, last);
-                threads::enchain(&mut self.slots, &mut self.heads, bucket, slot);
+                threads::enchain(&mut self.slots, &mut self.heads, chain, slot);
                 let line = share::line_of(&share, fixed);
                 let ends = threads::push_back(&mut self.slots, line, slot);
                 let longer = share::with_line_of(&share, fixed, ends, share.count + 1);
@@ -144,6 +145,17 @@ impl SharedTables {
             }
             None => unreachable!(),
         }
+    }
+
+    /// Gives an entry another place and another last moment, in its slot: it keeps its place on its chain, and goes to
+    /// the end of its line.
+    pub(crate) fn refresh(&mut self, vid: Vid, slot: SlotId, place: Place, last: Option<u64>)
+        requires held { IsOf (entry_at self.old.entries slot) vid }
+        requires rule { IsSome (rule_at self.old.rules vid) }
+        requires now { IsNow last self.old.moment }
+        ensures { Refreshes self.old self.new slot place last }
+    {
+        renew_entry(&mut self.slots, &mut self.shares, vid, slot, place, last);
     }
 
     /// Lets an entry go.
@@ -306,7 +318,7 @@ fn keeps_no_address_beside_the_slots(rt: HostRuntime) -> Result<(), Fail> {
     let heads: &Vec<Option<SlotId>> = heads;
     let shares: &Vec<Option<Share>> = shares;
     let moment: &u64 = moment;
-    assert_eq!(rt; heads.len(), 4096);
+    assert_eq!(rt; heads.len(), 65_536);
     assert_eq!(rt; *moment, 0);
     for share in shares {
         if let Some(

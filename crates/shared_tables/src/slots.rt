@@ -1,8 +1,9 @@
 //! The slots of a pool. An address is compared, and an entry's age is told, by this module alone.
 ghost use Rattle.std.specs.Prelude.{◌≡◌, ℕ, ◌+◌, ◌<◌, ◌≤◌, ◌↔◌, IsTrue, IfOk, IfSome, IsSome, Some, None, Option, length, replicate, slice_set};
-ghost use Rattle.shared_tables.specs.Pool.{Pool, entry_at, links_at, column, with_column, free_count, bucket_in, is_fixed_in, is_dead_in, alone, IfHeld, taken, freed, slot_with, free_pool};
+ghost use Rattle.shared_tables.specs.Pool.{Pool, Held, entry_at, links_at, column, with_column, free_count, chain_in, is_fixed_in, is_dead_in, alone, IfHeld, taken, freed, renewed, free_pool};
+ghost use Rattle.shared_tables.specs.Slots.{id_of, number_of, links_in, near_of, entry_in, kind_of, moment_of, slot_with, near_on};
 
-use crate::bucket::bucket;
+use crate::bucket::{chain_by_key, is_key_of, key};
 use filter_db::Place;
 use frame_view::{Mac, Vid};
 use std::alloc::{AllocError, Global};
@@ -18,11 +19,13 @@ pub struct SlotId {
 }
 
 impl Model for SlotId {
-    ghost use Rattle.std.specs.Prelude.{ℕ};
+    ghost use Rattle.std.specs.Prelude.{ℕ, ◌<◌};
 
     ghost Value = { ℕ };
 
     ghost view = { λ s. s.number };
+
+    ghost invariant = { λ s. s.number < 4294967295 };
 
     ghost inverse = { λ n. record { number = n } };
 }
@@ -37,37 +40,53 @@ pub struct Links {
 /// The two threads that run through each slot.
 #[derive(Clone, Copy)]
 pub enum Thread {
-    /// The chain of its bucket.
+    /// The chain of its address.
     Chain,
     /// The age queue, or the list of the fixed entries, of its segment.
     Line,
 }
 
-/// What a slot holds.
+/// What stands in a slot.
 #[derive(Clone, Copy)]
-pub struct Held {
-    vid: Vid,
-    mac: Mac,
-    place: Place,
-    /// The last moment at which the address was seen there; None where the entry is fixed.
-    last: Option<u64>,
+pub enum Kind {
+    /// No entry.
+    Free,
+    /// An entry that was learned.
+    Learned,
+    /// A fixed entry.
+    Fixed,
 }
 
-/// A slot. A slot that holds an entry is on the chain of its bucket, in which the entry that came last stands first,
+/// A slot's neighbours by their numbers, as they are kept; NOBODY stands for none.
+#[derive(Clone, Copy)]
+pub struct Near {
+    previous: u32,
+    next: u32,
+}
+
+/// A slot. A slot that holds an entry is on the chain of its address, in which the entry that came last stands first,
 /// and on one line of its segment: the age queue, in the order in which the entries were last seen, or the list of the
 /// fixed entries, in the order in which they were fixed. It leaves both when its entry goes. A free slot is on the free
 /// list, with the next free one behind it on its line; it leaves that when an entry takes it.
 #[derive(Clone, Copy)]
 pub struct Slot {
-    entry: Option<Held>,
-    chain: Links,
-    line: Links,
+    /// The VID and the address of its entry.
+    key: u64,
+    /// The last moment at which the address was seen there; 0 where the entry is fixed.
+    last: u64,
+    chain: Near,
+    line: Near,
+    place: Place,
+    kind: Kind,
 }
 
+/// The number of no slot.
+const NOBODY: u32 = u32::MAX;
+
 /// No neighbours.
-pub const ALONE: Links = Links {
-    previous: None,
-    next: None,
+const FAR: Near = Near {
+    previous: NOBODY,
+    next: NOBODY,
 };
 
 /// The slots of a pool, and the free ones among them.
@@ -94,26 +113,160 @@ impl Model for Slots {
     ghost invariant = { HasFreeList };
 }
 
-/// Whether it is the entry of this address in this segment.
-fn is_of(entry: Held, vid: Vid, mac: Mac) -> bool
-    ensures { IsTrue result ↔ ((entry.vid ≡ vid) × (entry.mac ≡ mac)) }
+/// The slot of a number.
+fn slot_id(number: u32) -> Option<SlotId>
+    ensures { result ≡ id_of number }
 {
-    entry.vid == vid && entry.mac == mac
+    if number == NOBODY {
+        None
+    } else {
+        Some(SlotId { number })
+    }
 }
 
-/// The slot with other neighbours.
-fn with_links(slot: Slot, thread: Thread, links: Links) -> Slot
-    ensures { result ≡ slot_with thread slot links }
+/// The number of a slot, or of none.
+fn number(slot: Option<SlotId>) -> u32
+    ensures value { result ≡ number_of slot }
+    ensures back { id_of result ≡ slot }
+{
+    match slot {
+        Some(slot) => slot.number,
+        None => NOBODY,
+    }
+}
+
+/// Neighbours by their numbers.
+fn by_numbers(links: Links) -> Near
+    ensures value { result ≡ near_of links }
+    ensures back { links_in result ≡ links }
+{
+    Near {
+        previous: number(links.previous),
+        next: number(links.next),
+    }
+}
+
+/// The neighbours of these numbers.
+fn links_of(near: Near) -> Links
+    ensures { result ≡ links_in near }
+{
+    Links {
+        previous: slot_id(near.previous),
+        next: slot_id(near.next),
+    }
+}
+
+/// The kind of an entry that was last seen at this moment.
+fn kind_of(last: Option<u64>) -> Kind
+    ensures { result ≡ kind_of last }
+{
+    match last {
+        Some(_) => Kind::Learned,
+        None => Kind::Fixed,
+    }
+}
+
+/// A free slot, with the next one behind it.
+fn vacant(next: Option<SlotId>) -> Slot
+    ensures entry { entry_in result ≡ None }
+    ensures chain { links_in result.chain ≡ alone }
+    ensures next { id_of result.line.next ≡ next }
+{
+    Slot {
+        key: 0,
+        last: 0,
+        chain: FAR,
+        line: Near {
+            previous: NOBODY,
+            next: number(next),
+        },
+        place: Place::Local(0),
+        kind: Kind::Free,
+    }
+}
+
+/// A slot that holds an entry.
+fn filled(vid: Vid, mac: Mac, place: Place, last: Option<u64>) -> Slot
+    ensures entry { entry_in result ≡ Some (record { vid = vid; mac = mac; place = place; last = last }) }
+    ensures chain { links_in result.chain ≡ alone }
+    ensures line { links_in result.line ≡ alone }
+{
+    Slot {
+        key: key(vid, mac),
+        last: last.unwrap_or(0),
+        chain: FAR,
+        line: FAR,
+        place,
+        kind: kind_of(last),
+    }
+}
+
+/// Whether it holds this address of this segment.
+fn is_of(slot: &Slot, vid: Vid, mac: Mac) -> bool
+    requires { IsSome (entry_in slot.now) }
+    ensures { IsTrue result ↔ IfHeld (entry_in slot.now) vid mac }
+{
+    is_key_of(slot.key, vid, mac)
+}
+
+/// Whether its entry is dead, under an ageing in nanoseconds.
+fn is_dead(slot: &Slot, ageing: u64, now: u64) -> bool
+    ensures { result ≡ is_dead_in (entry_in slot.now) ageing now }
+{
+    match slot.kind {
+        Kind::Learned => now.saturating_sub(slot.last) >= ageing,
+        Kind::Free | Kind::Fixed => false,
+    }
+}
+
+/// Whether its entry is fixed.
+fn is_fixed(slot: &Slot) -> bool
+    ensures { result ≡ is_fixed_in (entry_in slot.now) }
+{
+    match slot.kind {
+        Kind::Fixed => true,
+        Kind::Free | Kind::Learned => false,
+    }
+}
+
+/// The chain of its entry.
+fn chain_of(slot: &Slot) -> usize
+    requires { IsSome (entry_in slot.now) }
+    ensures value { result ≡ chain_in (entry_in slot.now) }
+    ensures in_range { result < 65536 }
+{
+    chain_by_key(slot.key)
+}
+
+/// Gives its entry another place and another last moment.
+fn renew(slot: &mut Slot, place: Place, last: Option<u64>)
+    requires { IsSome (entry_in slot.old) }
+    ensures entry { entry_in slot.new ≡ renewed (entry_in slot.old) place last }
+    ensures chain { slot.new.chain ≡ slot.old.chain }
+    ensures line { slot.new.line ≡ slot.old.line }
+{
+    slot.place = place;
+    slot.last = last.unwrap_or(0);
+    slot.kind = kind_of(last);
+}
+
+/// Gives it other neighbours on a thread.
+fn set_near(slot: &mut Slot, thread: Thread, near: Near)
+    ensures { slot.new ≡ slot_with thread slot.old near }
 {
     match thread {
-        Thread::Chain => Slot {
-            chain: links,
-            ..slot
-        },
-        Thread::Line => Slot {
-            line: links,
-            ..slot
-        },
+        Thread::Chain => slot.chain = near,
+        Thread::Line => slot.line = near,
+    }
+}
+
+/// Its neighbours on a thread.
+fn near_on(slot: &Slot, thread: Thread) -> Near
+    ensures { result ≡ near_on thread slot.now }
+{
+    match thread {
+        Thread::Chain => slot.chain,
+        Thread::Line => slot.line,
     }
 }
 
@@ -126,15 +279,7 @@ impl Slots {
         let mut slots = Vec::with_capacity(alloc, size as usize)?;
         let mut free = None;
         for number in 0..size {
-            let entry: Option<Held> = None;
-            slots.push_reserved(Slot {
-                entry,
-                chain: ALONE,
-                line: Links {
-                    previous: None,
-                    next: free,
-                },
-            });
+            slots.push_reserved(vacant(free));
             free = Some(SlotId { number });
         }
         Ok(Slots {
@@ -148,14 +293,12 @@ impl Slots {
     /// Whether a slot holds this address of this segment. It is the only way to compare an address with a slot's.
     pub fn same(&mut self, slot: SlotId, vid: Vid, mac: Mac) -> bool
         requires in_pool { slot < length self.old.entries }
+        requires held { IsSome (entry_at self.old.entries slot) }
         ensures same { IsTrue result ↔ IfHeld (entry_at self.old.entries slot) vid mac }
         ensures pool { self.new ≡ record self.old { compared = self.old.compared + 1 } }
     {
         self.compared.tick();
-        match self.slots[slot.number as usize].entry {
-            Some(entry) => is_of(entry, vid, mac),
-            None => false,
-        }
+        is_of(&self.slots[slot.number as usize], vid, mac)
     }
 
     /// Whether a slot's entry is dead, under an ageing in nanoseconds. It is the only way to tell an entry's age.
@@ -165,25 +308,17 @@ impl Slots {
         ensures pool { self.new ≡ record self.old { visited = self.old.visited + 1 } }
     {
         self.visited.tick();
-        match self.slots[slot.number as usize].entry {
-            Some(entry) => match entry.last {
-                Some(last) => now.saturating_sub(last) >= ageing,
-                None => false,
-            },
-            None => false,
-        }
+        is_dead(&self.slots[slot.number as usize], ageing, now)
     }
 
-    /// The bucket of what the slot holds.
-    pub fn bucket(&self, slot: SlotId) -> usize
+    /// The chain of what the slot holds.
+    pub fn chain(&self, slot: SlotId) -> usize
         requires in_pool { slot < length self.now.entries }
-        ensures value { result ≡ bucket_in (entry_at self.now.entries slot) }
-        ensures in_range { result < 4096 }
+        requires held { IsSome (entry_at self.now.entries slot) }
+        ensures value { result ≡ chain_in (entry_at self.now.entries slot) }
+        ensures in_range { result < 65536 }
     {
-        match self.slots[slot.number as usize].entry {
-            Some(entry) => bucket(entry.vid, entry.mac),
-            None => 0,
-        }
+        chain_of(&self.slots[slot.number as usize])
     }
 
     /// Whether a slot holds a fixed entry.
@@ -191,10 +326,7 @@ impl Slots {
         requires in_pool { slot < length self.now.entries }
         ensures { result ≡ is_fixed_in (entry_at self.now.entries slot) }
     {
-        match self.slots[slot.number as usize].entry {
-            Some(entry) => entry.last.is_none(),
-            None => false,
-        }
+        is_fixed(&self.slots[slot.number as usize])
     }
 
     /// The slot's neighbours on a thread.
@@ -203,10 +335,7 @@ impl Slots {
         requires held { IsSome (entry_at self.now.entries slot) }
         ensures { result ≡ links_at (column thread self.now) slot }
     {
-        match thread {
-            Thread::Chain => self.slots[slot.number as usize].chain,
-            Thread::Line => self.slots[slot.number as usize].line,
-        }
+        links_of(near_on(&self.slots[slot.number as usize], thread))
     }
 
     /// Where the slot's entry stands.
@@ -214,10 +343,7 @@ impl Slots {
         requires in_pool { slot < length self.now.entries }
         ensures { IfSome (entry_at self.now.entries slot) (λ e. result ≡ e.place) }
     {
-        match self.slots[slot.number as usize].entry {
-            Some(entry) => entry.place,
-            None => Place::Local(0),
-        }
+        self.slots[slot.number as usize].place
     }
 
     /// Gives the slot other neighbours on a thread.
@@ -226,8 +352,11 @@ impl Slots {
         requires held { IsSome (entry_at self.old.entries slot) }
         ensures { self.new ≡ with_column thread self.old (slice_set (column thread self.old) slot links) }
     {
-        let old = self.slots[slot.number as usize];
-        self.slots[slot.number as usize] = with_links(old, thread, links);
+        set_near(
+            &mut self.slots[slot.number as usize],
+            thread,
+            by_numbers(links),
+        );
     }
 
     /// Takes a free slot for an entry.
@@ -238,22 +367,21 @@ impl Slots {
     {
         match self.free {
             Some(slot) => {
-                let old = self.slots[slot.number as usize];
-                self.free = old.line.next;
-                self.slots[slot.number as usize] = Slot {
-                    entry: Some(Held {
-                        vid,
-                        mac,
-                        place,
-                        last,
-                    }),
-                    chain: ALONE,
-                    line: ALONE,
-                };
+                self.free = slot_id(self.slots[slot.number as usize].line.next);
+                self.slots[slot.number as usize] = filled(vid, mac, place, last);
                 slot
             }
             None => unreachable!(),
         }
+    }
+
+    /// Gives the slot's entry another place and another last moment.
+    pub fn renew(&mut self, slot: SlotId, place: Place, last: Option<u64>)
+        requires in_pool { slot < length self.old.entries }
+        requires held { IsSome (entry_at self.old.entries slot) }
+        ensures { self.new ≡ record self.old { entries = slice_set self.old.entries slot (renewed (entry_at self.old.entries slot) place last) } }
+    {
+        renew(&mut self.slots[slot.number as usize], place, last);
     }
 
     /// Frees a slot.
@@ -262,21 +390,15 @@ impl Slots {
         requires held { IsSome (entry_at self.old.entries slot) }
         ensures { self.new ≡ freed self.old slot }
     {
-        self.slots[slot.number as usize] = Slot {
-            entry: None,
-            chain: ALONE,
-            line: Links {
-                previous: None,
-                next: self.free,
-            },
-        };
+        self.slots[slot.number as usize] = vacant(self.free);
         self.free = Some(slot);
     }
 }
 
-/// Each field of the slots and of a slot by name: an address and a moment stand in a slot's entry, and nowhere beside.
+/// Each field of the slots and of a slot by name: an address and a moment stand in a slot's key and last moment, and
+/// nowhere beside.
 #[test]
-fn keeps_addresses_and_moments_in_entries_alone(rt: HostRuntime) -> Result<(), Fail> {
+fn keeps_addresses_and_moments_in_keys_alone(rt: HostRuntime) -> Result<(), Fail> {
     let pool = Slots::new(rt.alloc(), 2)?;
     let Slots {
         slots,
@@ -290,20 +412,32 @@ fn keeps_addresses_and_moments_in_entries_alone(rt: HostRuntime) -> Result<(), F
     assert!(rt; free.is_some(), "a free list");
     let slots: &Vec<Slot> = slots;
     assert_eq!(rt; slots.len(), 2);
-    for Slot { entry, chain, line } in slots {
-        let entry: &Option<Held> = entry;
-        assert!(rt; entry.is_none(), "an entry in a free slot");
-        let Links { previous, next } = chain;
-        let before: &Option<SlotId> = previous;
-        let behind: &Option<SlotId> = next;
+    for Slot {
+        key,
+        last,
+        chain,
+        line,
+        place,
+        kind,
+    } in slots {
+        let key: &u64 = key;
+        let last: &u64 = last;
+        assert!(rt; *key == 0 && *last == 0, "an entry in a free slot");
+        let kind: &Kind = kind;
+        assert!(rt; matches!(kind, Kind::Free), "a slot that isn't free");
+        let place: &Place = place;
+        assert!(rt; *place == Place::Local(0), "the place of a free slot");
+        let Near { previous, next } = chain;
+        let before: &u32 = previous;
+        let behind: &u32 = next;
         assert!(rt;
-            before.is_none() && behind.is_none(),
+            *before == NOBODY && *behind == NOBODY,
             "a free slot on a chain"
         );
-        let Links { previous, next } = line;
-        let before: &Option<SlotId> = previous;
-        let _behind: &Option<SlotId> = next;
-        assert!(rt; before.is_none(), "a free slot behind another");
+        let Near { previous, next } = line;
+        let before: &u32 = previous;
+        let _behind: &u32 = next;
+        assert!(rt; *before == NOBODY, "a free slot behind another");
     }
     Ok(())
 }

@@ -1,6 +1,6 @@
 //! Threads through the slots: chains and lines, linked both ways.
 ghost use Rattle.std.specs.Prelude.{◌≡◌, ℕ, ◌<◌, Some, None, Option, length, slice_set, slice_index_or, vec_len};
-ghost use Rattle.shared_tables.specs.Pool.{Pool, column, with_column, links_at, entry_at, bucket_in};
+ghost use Rattle.shared_tables.specs.Pool.{Pool, column, with_column, links_at, entry_at};
 ghost use Rattle.shared_tables.specs.Threads.{IsHeld, HoldsAny, next_set, previous_set, unlinked, pushed_back, pushed_front, ends_without, ends_with, heads_without};
 
 use crate::slots::{Links, SlotId, Slots, Thread};
@@ -115,27 +115,27 @@ pub fn push_back(slots: &mut Slots, ends: Ends, slot: SlotId) -> Ends
     }
 }
 
-/// Takes a slot out of the chain of a bucket.
-pub fn unchain(slots: &mut Slots, heads: &mut Vec<Option<SlotId>>, bucket: usize, slot: SlotId)
+/// Takes a slot out of a chain.
+pub fn unchain(slots: &mut Slots, heads: &mut Vec<Option<SlotId>>, chain: usize, slot: SlotId)
     requires held { IsHeld slots.old.entries slot }
     requires previous { HoldsAny slots.old.entries (links_at slots.old.chains slot).previous }
     requires next { HoldsAny slots.old.entries (links_at slots.old.chains slot).next }
-    requires bucket { bucket < vec_len heads.old }
-    ensures heads { heads.new.items ≡ heads_without heads.old.items bucket (links_at slots.old.chains slot) }
+    requires chain { chain < vec_len heads.old }
+    ensures heads { heads.new.items ≡ heads_without heads.old.items chain (links_at slots.old.chains slot) }
     ensures pool { slots.new ≡ record slots.old { chains = unlinked slots.old.chains slot } }
 {
     let links = unlink(slots, Thread::Chain, slot);
     if links.previous.is_none() {
-        heads[bucket] = links.next;
+        heads[chain] = links.next;
     }
 }
 
 /// The first slot of a chain.
-pub fn head(heads: &[Option<SlotId>], bucket: usize) -> Option<SlotId>
-    requires { bucket < length heads.now }
-    ensures { result ≡ slice_index_or heads.now bucket None }
+pub fn head(heads: &[Option<SlotId>], chain: usize) -> Option<SlotId>
+    requires { chain < length heads.now }
+    ensures { result ≡ slice_index_or heads.now chain None }
 {
-    heads[bucket]
+    heads[chain]
 }
 
 fn push_front(slots: &mut Slots, first: Option<SlotId>, slot: SlotId)
@@ -155,14 +155,14 @@ fn push_front(slots: &mut Slots, first: Option<SlotId>, slot: SlotId)
     set_previous(slots, Thread::Chain, ends.first, Some(slot));
 }
 
-/// Puts a slot at the front of the chain of a bucket.
-pub fn enchain(slots: &mut Slots, heads: &mut Vec<Option<SlotId>>, bucket: usize, slot: SlotId)
+/// Puts a slot at the front of a chain.
+pub fn enchain(slots: &mut Slots, heads: &mut Vec<Option<SlotId>>, chain: usize, slot: SlotId)
     requires held { IsHeld slots.old.entries slot }
-    requires first { HoldsAny slots.old.entries (slice_index_or heads.old.items bucket None) }
-    requires bucket { bucket < vec_len heads.old }
-    ensures heads { heads.new.items ≡ slice_set heads.old.items bucket (Some slot) }
-    ensures pool { slots.new ≡ record slots.old { chains = pushed_front slots.old.chains (slice_index_or heads.old.items bucket None) slot } }
+    requires first { HoldsAny slots.old.entries (slice_index_or heads.old.items chain None) }
+    requires chain { chain < vec_len heads.old }
+    ensures heads { heads.new.items ≡ slice_set heads.old.items chain (Some slot) }
+    ensures pool { slots.new ≡ record slots.old { chains = pushed_front slots.old.chains (slice_index_or heads.old.items chain None) slot } }
 {
-    push_front(slots, head(heads, bucket), slot);
-    heads[bucket] = Some(slot);
+    push_front(slots, head(heads, chain), slot);
+    heads[chain] = Some(slot);
 }

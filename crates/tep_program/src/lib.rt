@@ -9,6 +9,3 @@ mod program;
 mod stop;
 
 pub use program::{run, start};
-
-#[cfg(test)]
-mod tests;

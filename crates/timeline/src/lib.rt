@@ -18,6 +18,3 @@ pub use event::{Captured, Event, Happening};
 pub use fault::TimelineFault;
 pub use source::{Source, Tap};
 pub use timeline::{Cut, Timeline};
-
-#[cfg(test)]
-mod tests;

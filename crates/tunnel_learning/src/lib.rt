@@ -13,6 +13,3 @@ mod verdict;
 pub use bridge::Bridge;
 pub use step::{Outlets, bridge_step, bridge_step_into};
 pub use verdict::Verdict;
-
-#[cfg(test)]
-mod tests;

@@ -3,9 +3,14 @@ use Rattle.std.specs.Prelude.{refl}
 use Rattle.std.specs.Coded.{Coded, code_by, coded×, coded_ℕ}
 use Rattle.std.specs.FinMap.{code}
 use Rattle.underlay.specs.declared.settings.Underlay.{Underlay}
+use Rattle.std.specs.Ordering.{nat_cmp}
+use Rattle.std.specs.FinMap.{FinMap}
+use Rattle.underlay.specs.contracts.heads.SegmentHeads as heads
 use Rattle.underlay.specs.contracts.segment.Segment as segment
 use Rattle.underlay.specs.contracts.settings.Underlay as settings
+use Rattle.underlay.specs.declared.heads.SegmentHeads.{SegmentHeads}
 use Rattle.underlay.specs.Overlay.{Overlay, Segments}
+use Rattle.underlay.specs.Seats.{Seats}
 
 abbrev pub segments_code : Coded Segments
 segments_code = code coded_ℕ segment.the_row.coded
@@ -14,3 +19,11 @@ segments_code = code coded_ℕ segment.the_row.coded
 abbrev pub overlay_code : Coded Overlay
 overlay_code =
     code_by (Underlay × Segments) (coded× settings.the_row.coded segments_code) (λ s. (s.underlay, s.segments)) (λ p. record { underlay = p.0; segments = p.1 }) (λ _. refl)
+
+abbrev pub heads_code : Coded (FinMap nat_cmp SegmentHeads)
+heads_code = code coded_ℕ heads.the_row.coded
+
+-- and segments with their heads likewise
+abbrev pub seats_code : Coded Seats
+seats_code =
+    code_by (Segments × FinMap nat_cmp SegmentHeads) (coded× segments_code heads_code) (λ s. (s.segments, s.heads)) (λ p. record { segments = p.0; heads = p.1 }) (λ _. refl)

@@ -1,8 +1,10 @@
 pub mod Code
 pub mod Exceptions
 pub mod Flood
+pub mod Heads
 pub mod Index
 pub mod Overlay
 pub mod Search
+pub mod Seats
 pub mod Settings
 pub mod Tunnels

@@ -5,12 +5,11 @@
 //! segments, with each segment found by its VID by one index, and by tunnel kind and VNI by a binary search.
 #![tactic(auto)]
 
+mod heads;
 mod hops;
 mod places;
 mod segment;
 mod settings;
-#[cfg(test)]
-mod tests;
 mod tunnels;
 mod under;
 mod vni_index;

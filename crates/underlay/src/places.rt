@@ -1,75 +1,123 @@
 //! The segments by their VIDs.
-ghost use Rattle.std.specs.Prelude.{◌≡◌, ◌++◌, ◌∷◌, [], IfOk, IsTrue, is_ok, is_some, OnOk, OnErr};
-ghost use Rattle.std.specs.Option.{option_copied};
-ghost use Rattle.std.specs.FinMap.{empty, get, insert, remove};
+ghost use Rattle.std.specs.Prelude.{◌≡◌, ◌≤◌, ◌<◌, ◌++◌, ◌∷◌, [], get_or, IfOk, IsTrue, None, is_ok, is_some, length, OnOk, OnErr};
+ghost use Rattle.std.specs.Option.{option_copied, option_map};
+ghost use Rattle.std.specs.FinMap.{empty, get, insert, remove, len};
 ghost use Rattle.underlay.specs.Flood.{first, fault_of, add_faults, holds, without};
 ghost use Rattle.underlay.specs.Overlay.{flood_in, flooding};
+ghost use Rattle.underlay.specs.Seats.{occupied};
 
 use crate::Segment;
+use crate::heads::SegmentHeads;
 use flood_lists::{FloodFault, NotThere, Own};
 use frame_view::Vid;
 use ip_udp_view::{Addr, Tunnel};
 use std::alloc::{AllocError, Global};
 use std::marker::Model;
 
-/// The places, one for each number of 12 bits.
-const PLACES: usize = 4096;
+/// The numbers of 12 bits, of which VIDs are some.
+const NUMBERS: usize = 4096;
+/// The most segments.
+const CAPACITY: usize = 256;
 
-/// The segments, each at the place of its VID, seen by contracts as a finite map. Only [`SegmentPlaces::open`] takes
-/// memory.
+/// A segment, its VID and the heads of its packets.
+#[derive(Drop)]
+struct Row {
+    vid: Vid,
+    segment: Segment,
+    heads: SegmentHeads,
+}
+
+/// At most 256 segments with the heads of their packets, seen by contracts as finite maps from VIDs. One is found by one
+/// index. Only [`SegmentPlaces::open`] takes memory.
 #[derive(Drop)]
 pub(crate) struct SegmentPlaces {
-    /// That of VID 0, which is always empty, stands first.
-    places: Vec<Option<Segment>>,
+    /// For each number of 12 bits the place in `rows` of the segment with this VID.
+    index: Vec<Option<u8>>,
+    /// 256 places, each with a segment or free.
+    rows: Vec<Option<Row>>,
 }
 
 impl Model for SegmentPlaces {
-    ghost use Rattle.std.specs.Prelude.{◌<◌, length};
-    ghost use Rattle.underlay.specs.Overlay.{Segments};
-    ghost use Rattle.underlay.specs.Code.{segments_code};
-    ghost use Rattle.vlan_ports.specs.Places.{placed};
+    ghost use Rattle.std.specs.Prelude.{◌≡◌, ◌<◌, length};
+    ghost use Rattle.std.specs.FinMap.{len};
+    ghost use Rattle.underlay.specs.Code.{seats_code};
+    ghost use Rattle.underlay.specs.Seats.{Seats, seated, occupied, Leads};
 
-    ghost Value = { Segments };
+    ghost Value = { Seats };
 
-    ghost coded = { segments_code };
+    ghost coded = { seats_code };
 
-    ghost view = { λ s. placed 0 s.places.items };
+    ghost view = { λ s. record {
+      segments = seated (λ row. row.segment) s.rows.items s.index.items;
+      heads = seated (λ row. row.heads) s.rows.items s.index.items;
+    } };
 
-    ghost invariant = { λ s. 4094 < length s.places.items };
+    ghost invariant = { λ s. (4094 < length s.index.items)
+        × (length s.rows.items ≡ 256)
+        × Leads (λ row. row.vid) s.rows.items s.index.items
+        × (occupied s.rows.items ≡ len (seated (λ row. row.segment) s.rows.items s.index.items)) };
 }
 
 impl SegmentPlaces {
-    /// No segment, and a place for each.
+    /// No segment, and the places of all.
     pub(crate) fn open(alloc: Global) -> Result<SegmentPlaces, AllocError>
-        ensures { IfOk result (λ places. places ≡ empty) }
+        ensures { IfOk result (λ places. places ≡ record { segments = empty; heads = empty }) }
     {
-        let mut places = Vec::with_capacity(alloc, PLACES)?;
-        for _place in 0..PLACES {
-            places.push(None)?;
+        let mut index = Vec::with_capacity(alloc, NUMBERS)?;
+        for _number in 0..NUMBERS {
+            index.push(None)?;
         }
-        Ok(SegmentPlaces { places })
+        let mut rows = Vec::with_capacity(alloc, CAPACITY)?;
+        for _place in 0..CAPACITY {
+            rows.push(None)?;
+        }
+        Ok(SegmentPlaces { index, rows })
     }
 
     /// The segment with this VID.
     pub(crate) fn get(&self, vid: Vid) -> Option<&Segment>
-        ensures { option_copied result ≡ get self.now vid }
+        ensures { option_copied result ≡ get self.now.segments vid }
     {
-        self.places[usize::from(vid.get())].as_ref()
+        match self.index[usize::from(vid.get())] {
+            Some(place) => segment_in(&self.rows[usize::from(place)]),
+            None => None,
+        }
     }
 
-    /// Puts a segment at its place, in place of any other.
-    pub(crate) fn put(&mut self, vid: Vid, segment: Segment)
-        ensures { self.new ≡ insert self.old vid segment }
+    /// The heads of the packets of the segment with this VID.
+    pub(crate) fn heads(&self, vid: Vid) -> Option<&SegmentHeads>
+        ensures { option_copied result ≡ get self.now.heads vid }
     {
-        self.places[usize::from(vid.get())] = Some(segment);
+        match self.index[usize::from(vid.get())] {
+            Some(place) => heads_in(&self.rows[usize::from(place)]),
+            None => None,
+        }
     }
 
-    /// Takes the segment with this VID from its place.
+    /// Puts a segment that isn't there at a free place. There are fewer than 256 before.
+    pub(crate) fn put(&mut self, vid: Vid, segment: Segment, heads: SegmentHeads)
+        requires new { get self.old.segments vid ≡ None }
+        requires room { len self.old.segments < 256 }
+        ensures { self.new ≡ record { segments = insert self.old.segments vid segment; heads = insert self.old.heads vid heads } }
+    {
+        let place = free_place(&self.rows);
+        self.rows[place] = Some(Row {
+            vid,
+            segment,
+            heads,
+        });
+        self.index[usize::from(vid.get())] = Some(place as u8);
+    }
+
+    /// Takes the segment with this VID from its place, which is free then.
     pub(crate) fn take(&mut self, vid: Vid) -> Option<Segment>
-        ensures taken { result ≡ get self.old vid }
-        ensures left { self.new ≡ remove self.old vid }
+        ensures taken { result ≡ get self.old.segments vid }
+        ensures left { self.new ≡ record { segments = remove self.old.segments vid; heads = remove self.old.heads vid } }
     {
-        self.places[usize::from(vid.get())].take()
+        match self.index[usize::from(vid.get())].take() {
+            Some(place) => segment_of(self.rows[usize::from(place)].take()),
+            None => None,
+        }
     }
 
     /// Puts an entry last on the flood list of a segment that is there. A list that refuses stays as it was.
@@ -80,14 +128,16 @@ impl SegmentPlaces {
         addr: Addr,
         own: &Own,
     ) -> Result<(), FloodFault>
-        requires there { IsTrue (is_some (get self.old vid)) }
-        ensures fault { fault_of result ≡ first (add_faults own.now (flood_in self.old vid) kind addr) }
+        requires there { IsTrue (is_some (get self.old.segments vid)) }
+        ensures fault { fault_of result ≡ first (add_faults own.now (flood_in self.old.segments vid) kind addr) }
         ensures added { OnOk result
-            (self.new ≡ flooding self.old vid (flood_in self.old vid ++ record { tunnel = kind; addr = addr } ∷ [])) }
-        ensures refused { OnErr result (self.new ≡ self.old) }
+            (self.new.segments ≡ flooding self.old.segments vid (flood_in self.old.segments vid ++ record { tunnel = kind; addr = addr } ∷ [])) }
+        ensures refused { OnErr result (self.new.segments ≡ self.old.segments) }
+        ensures heads { self.new.heads ≡ self.old.heads }
     {
-        let segment = self.places[usize::from(vid.get())].as_mut().unwrap();
-        segment.flood.add(kind, addr, own)
+        let place = usize::from(self.index[usize::from(vid.get())].unwrap());
+        let row = self.rows[place].as_mut().unwrap();
+        row.segment.flood.add(kind, addr, own)
     }
 
     /// Takes an entry from the flood list of a segment that is there. A list that refuses stays as it was.
@@ -97,12 +147,59 @@ impl SegmentPlaces {
         kind: Tunnel,
         addr: Addr,
     ) -> Result<(), NotThere>
-        requires there { IsTrue (is_some (get self.old vid)) }
-        ensures there { is_ok result ≡ holds (flood_in self.old vid) kind addr }
-        ensures removed { OnOk result (self.new ≡ flooding self.old vid (without (flood_in self.old vid) kind addr)) }
-        ensures refused { OnErr result (self.new ≡ self.old) }
+        requires there { IsTrue (is_some (get self.old.segments vid)) }
+        ensures there { is_ok result ≡ holds (flood_in self.old.segments vid) kind addr }
+        ensures removed { OnOk result
+            (self.new.segments ≡ flooding self.old.segments vid (without (flood_in self.old.segments vid) kind addr)) }
+        ensures refused { OnErr result (self.new.segments ≡ self.old.segments) }
+        ensures heads { self.new.heads ≡ self.old.heads }
     {
-        let segment = self.places[usize::from(vid.get())].as_mut().unwrap();
-        segment.flood.remove(kind, addr)
+        let place = usize::from(self.index[usize::from(vid.get())].unwrap());
+        let row = self.rows[place].as_mut().unwrap();
+        row.segment.flood.remove(kind, addr)
     }
+}
+
+/// The segment in a row.
+fn segment_in(row: &Option<Row>) -> Option<&Segment>
+    ensures { option_copied result ≡ option_map (λ r. r.segment) row.now }
+{
+    match row {
+        Some(row) => Some(&row.segment),
+        None => None,
+    }
+}
+
+/// The heads in a row.
+fn heads_in(row: &Option<Row>) -> Option<&SegmentHeads>
+    ensures { option_copied result ≡ option_map (λ r. r.heads) row.now }
+{
+    match row {
+        Some(row) => Some(&row.heads),
+        None => None,
+    }
+}
+
+/// The segment of a row.
+fn segment_of(row: Option<Row>) -> Option<Segment>
+    ensures { result ≡ option_map (λ r. r.segment) row }
+{
+    match row {
+        Some(row) => Some(row.segment),
+        None => None,
+    }
+}
+
+/// The first free place.
+fn free_place(rows: &[Option<Row>]) -> usize
+    requires { occupied rows.now < length rows.now }
+    ensures there { result < length rows.now }
+    ensures free { get_or rows.now result None ≡ None }
+{
+    for place in 0..rows.len() {
+        if rows[place].is_none() {
+            return place;
+        }
+    }
+    unreachable!()
 }

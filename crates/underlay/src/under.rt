@@ -3,10 +3,12 @@ ghost use Rattle.std.specs.Prelude.{◌≡◌, ◌<◌, ◌≤◌, ◌++◌, ◌
 ghost use Rattle.std.specs.Option.{option_copied, option_map};
 ghost use Rattle.std.specs.FinMap.{len};
 ghost use Rattle.underlay.specs.Flood.{first, fault_of, add_faults, holds, without};
+ghost use Rattle.underlay.specs.Heads.{head4_at, head6_at};
 ghost use Rattle.underlay.specs.Index.{Indexes};
 ghost use Rattle.underlay.specs.Overlay.{segment_at, has_segment, flood_at, tunnel_at, segment_by, taken, are_free, AreApart, told, with_segment, without_segment, with_flood};
 ghost use Rattle.underlay.specs.Settings.{own, kind_at};
 
+use crate::heads::SegmentHeads;
 use crate::places::SegmentPlaces;
 use crate::vni_index::VniIndex;
 use crate::{Segment, SegmentTunnel, TunnelRule, Underlay};
@@ -14,6 +16,7 @@ use flood_lists::{FloodFault, FloodList, NotThere, Own};
 use frame_view::Vid;
 use geneve_head::Known;
 use ip_udp_view::{Addr, Tunnel};
+use outer_head::{Template4, Template6};
 use std::alloc::{AllocError, Global};
 use std::marker::Model;
 use vxlan_head::Vni;
@@ -37,20 +40,24 @@ impl Model for Under {
     ghost use Rattle.ip_udp_view.specs.declared.addr.Tunnel.TheVariants.{Vxlan, Geneve};
     ghost use Rattle.underlay.specs.Overlay.{Overlay};
     ghost use Rattle.underlay.specs.Code.{overlay_code};
+    ghost use Rattle.underlay.specs.Heads.{AreHeads};
     ghost use Rattle.underlay.specs.Index.{Indexes};
 
     ghost Value = { Overlay };
 
     ghost coded = { overlay_code };
 
-    ghost view = { λ u. record { underlay = u.underlay; segments = u.segments } };
+    ghost view = { λ u. record { underlay = u.underlay; segments = u.segments.segments } };
 
-    ghost invariant = { λ u. Indexes Vxlan u.segments u.vxlan × Indexes Geneve u.segments u.geneve };
+    ghost invariant = { λ u. Indexes Vxlan u.segments.segments u.vxlan
+        × Indexes Geneve u.segments.segments u.geneve
+        × AreHeads u.underlay u.segments };
 }
 
 impl Under {
     /// The settings, and the segments of these rules: at most 256, no two of which are for one VID or have tunnels of
-    /// one kind and VNI. It reserves a place for each VID and 256 in each of the two indexes of VNIs. `AllocError`:
+    /// one kind and VNI. It reserves the places of 256 segments, an index of
+    /// all VIDs, and 256 places in each of the two indexes of VNIs. `AllocError`:
     /// there was no room for them.
     pub fn open(
         alloc: Global,
@@ -152,6 +159,21 @@ impl Under {
         self.segments.get(vid)?.tunnels.of(kind)
     }
 
+    /// The head of the packets over IPv4 in the tunnel of a kind of the segment of this VID: there is one where there is
+    /// such a tunnel and the endpoint has an IPv4 address.
+    pub fn head4(&self, vid: Vid, kind: Tunnel) -> Option<&Template4>
+        ensures { option_copied result ≡ head4_at self.now vid kind }
+    {
+        self.segments.heads(vid)?.v4(kind)
+    }
+
+    /// The same over IPv6.
+    pub fn head6(&self, vid: Vid, kind: Tunnel) -> Option<&Template6>
+        ensures { option_copied result ≡ head6_at self.now vid kind }
+    {
+        self.segments.heads(vid)?.v6(kind)
+    }
+
     /// The flood list of a segment that is there.
     pub fn flood(&self, vid: Vid) -> &FloodList
         requires there { IsTrue (has_segment self.now vid) }
@@ -199,13 +221,14 @@ impl Under {
         } = rule;
         self.vxlan.list(tunnels.of(Tunnel::Vxlan), vid);
         self.geneve.list(tunnels.of(Tunnel::Geneve), vid);
+        let heads = SegmentHeads::of(&self.underlay, &tunnels);
         let segment = Segment {
             tunnels,
             flood,
             peers,
             tags,
         };
-        self.segments.put(vid, segment);
+        self.segments.put(vid, segment, heads);
     }
 
     /// Removes a segment that is there.

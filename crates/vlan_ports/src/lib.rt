@@ -11,8 +11,6 @@ mod member;
 mod member_set;
 mod port;
 mod port_set;
-#[cfg(test)]
-mod tests;
 
 pub use ingress::classify;
 pub use member::{Egress, MemberRule, PortList};

@@ -12,6 +12,3 @@ mod vni;
 pub use header::vx_head;
 pub use view::{VxFault, VxView};
 pub use vni::Vni;
-
-#[cfg(test)]
-mod tests;

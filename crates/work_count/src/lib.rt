@@ -4,15 +4,18 @@
 //! program runs. A type that holds one as a private field says by it how often some step was taken: the one method
 //! that takes the step ticks it, and each other one's contract says that the count stays.
 //!
-//! Its two proofs are written by hand, since only such a proof can change a count. No other function of the
-//! repository has one, which a script in `tests/` checks.
+//! A count itself changes by `tick` alone, but a body may put another in its place, as a new one of zero. So a contract
+//! that says how little a call adds to a count also says that the count is no less than before.
+//!
+//! The two proofs are written by hand, since only such a proof can set the number. No other function of the repository
+//! has one, which a script in `tests/` checks.
 #![tactic(auto)]
 
 ghost use Rattle.std.specs.Prelude.{◌≡◌, ℕ, ◌+◌};
 
 use std::marker::{Model, PhantomData};
 
-/// A count. It takes no octets, and only `tick` changes it.
+/// A count. It takes no octets, and `tick` alone changes its number.
 pub struct Count {
     marker: PhantomData<u8>,
     pub ghost total: { ℕ },

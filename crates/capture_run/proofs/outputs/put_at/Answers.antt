@@ -13,11 +13,11 @@ pub returns : goal.returns
 returns c =
     let items = λ (v : Vec ℕ Global). v.items in
     let captures = c.args.captures.now.items in
-    let added = written_record (whole_frame c.args.moment (text c.args.emission.now)) in
+    let added = written_record (whole_frame c.args.moment (text c.args.leaving.now)) in
     let index : c.from-2.result - 1 ≡ c.args.port - 1 = ap (λ n. n - 1) c.from-2.ensures in
     let there : c.from-2.result - 1 < length captures = omega (arith, c.from.ensures, c.len.ensures, c.if-from-len.false, c.from-2.ensures, c.if-port-eq0.false) in
     let apart : (c.args.port == 0) ≡ false = ne_eqb c.args.port 0 c.if-port-eq0.false in
-    on_ok c.put_emission.result (λ is.
-    map-set items captures (c.from-2.result - 1) c.put_emission.new.capture
+    on_ok c.put_leaving.result (λ is.
+    map-set items captures (c.from-2.result - 1) c.put_leaving.new.capture
     ∙ ap (slice_set (map items captures) (c.from-2.result - 1)) (is ∙ ap (λ v. items v ++ added) c.index_mut.ensures.value ∙ ap (λ x. x ++ added) (sym (get_or-map items captures (c.from-2.result - 1) c.index_mut.result.now [] there)))
-    ∙ rw (index, apart) refl) c.put_emission.ensures
+    ∙ rw (index, apart) refl) c.put_leaving.ensures

@@ -1,5 +1,5 @@
 use Rattle.std.proofs.Common.{◌∙◌, ap, subst, map}
-use Rattle.overlay_config.specs.declared.change.TimedChange.{TimedChange}
+use Rattle.overlay_settings.specs.declared.change.TimedChange.{TimedChange}
 use Rattle.timeline.specs.Order.{IsRising}
 use Rattle.endpoint_state.specs.Opened.{settings_told}
 use Rattle.capture_run.specs.Writing.{with_cuts}

@@ -1,6 +1,6 @@
 use Rattle.std.proofs.Common.{◌∙◌, ap, sym, subst, ◌+◌, ◌<◌, arith, ◌∷◌, drop, length, map}
 use Rattle.std.specs.List.{AllByRecursion}
-use Rattle.overlay_config.specs.declared.change.TimedChange.{TimedChange}
+use Rattle.overlay_settings.specs.declared.change.TimedChange.{TimedChange}
 use Rattle.timeline.specs.Events.{IsEventOf}
 use Rattle.timeline.specs.Order.{IsRising}
 use Rattle.endpoint_core.specs.Kept.{state_of}
@@ -10,19 +10,21 @@ use Rattle.capture_run.specs.Writing.{seen, with_events}
 use Rattle.capture_run.proofs.Changes.{left_is, ports_stay}
 use Rattle.capture_run.proofs.run.put_events.Goals as goal
 
-pub loop-index-preserved : goal.loop-index-preserved
-loop-index-preserved c =
+pub loop-event-preserved : goal.loop-event-preserved
+loop-event-preserved c =
     let changes = map (λ (t : TimedChange). t.change) c.args.changes.now in
     let events = c.args.events.now in
-    let index = c.loop-index.index in
-    let bound : index < length events = omega (arith, c.loop-index-test.true) in
-    let left = left_is events index c.index-events-index.result bound ∙ ap (λ e. e ∷ drop (index + 1) events) (sym c.index-events-index.is) in
+    let index = c.loop-event.event-index in
+    let bound : index < length events = omega (arith, c.loop-event-test.true) in
+    let left = left_is events index c.event-item.result bound ∙ ap (λ e. e ∷ drop (index + 1) events) (sym c.event-item.is) in
     let state = c.in_ok-put_event.ensures.state in
-    let event = event_of changes c.index-events-index.result in
+    let event = event_of changes c.event-item.result in
+    let number = c.add_one.ensures ∙ ap (λ n. n + 1) c.loop-event.invariant.number in
     record {
-      all = rw (state, c.in_ok-put_event.ensures.outputs) (sym (ap (with_events changes index (state_of c.loop-index.endpoint) (seen c.loop-index.outputs)) left) ∙ c.loop-index.invariant.all);
-      rising = subst (λ m. IsRising m (drop (index + 1) events)) (sym (ap (λ (s : State). s.moment) state)) (subst (IsRising (state_of c.loop-index.endpoint).moment) left c.loop-index.invariant.rising).1;
+      number = c.in_ok-put_event.ensures.number ∙ number;
+      all = rw (state, c.in_ok-put_event.ensures.outputs, number) (sym (ap (with_events changes index (state_of c.loop-event.endpoint) (seen c.loop-event.outputs)) left) ∙ c.loop-event.invariant.all);
+      rising = subst (λ m. IsRising m (drop (index + 1) events)) (sym (ap (λ (s : State). s.moment) state)) (subst (IsRising (state_of c.loop-event.endpoint).moment) left c.loop-event.invariant.rising).1;
       known = subst (λ p. AllByRecursion (IsEventOf (length c.args.changes.now) p) (drop (index + 1) events))
-          (sym (ap (λ (s : State). length s.bridges.settings.ports.ports) state ∙ ports_stay (state_of c.loop-index.endpoint) event))
-          (subst (AllByRecursion (IsEventOf (length c.args.changes.now) (length (state_of c.loop-index.endpoint).bridges.settings.ports.ports))) left c.loop-index.invariant.known).1;
+          (sym (ap (λ (s : State). length s.bridges.settings.ports.ports) state ∙ ports_stay (state_of c.loop-event.endpoint) event))
+          (subst (AllByRecursion (IsEventOf (length c.args.changes.now) (length (state_of c.loop-event.endpoint).bridges.settings.ports.ports))) left c.loop-event.invariant.known).1;
     }

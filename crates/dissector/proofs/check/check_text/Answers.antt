@@ -1,7 +1,7 @@
 use Rattle.std.proofs.Common.{◌≡◌, ◌∙◌, ap, arith, length, refl, sym, subst, Vec, Global, Ok, Err}
 use Rattle.overlay_config.specs.Settings.{Settings, settings_in}
 use Rattle.overlay_config.specs.Change.{changes_in}
-use Rattle.overlay_config.specs.declared.change.TimedChange.{TimedChange}
+use Rattle.overlay_settings.specs.declared.change.TimedChange.{TimedChange}
 use Rattle.capture_run.specs.Fault.{of_changes}
 use Rattle.capture_run.proofs.Faults.{read_is}
 use Rattle.dissector.specs.Check.{checked}
@@ -29,4 +29,4 @@ returns c s' c' means_s means_c =
     let count : c.len.result ≡ length c.in-Ok-changes_of.changes.items = omega (arith, c.len.ensures, c.in-Ok-changes_of.changes.ok.0) in
     ap (λ m. checked m c') settings
     ∙ ap (checked (Ok c.in-Ok.settings)) changes
-    ∙ ap Ok (sym (c.in_ok-line.ensures ∙ rw (c.ports-ports.ensures.value, c.tables-segments.ensures.value, count) refl))
+    ∙ ap Ok (sym (c.in_ok-line.ensures ∙ rw (c.ports-ports.ensures.value, c.segments-segments.ensures.value, count) refl))

@@ -6,4 +6,4 @@ use Rattle.endpoint_core.proofs.decide.forward.Goals as goal
 
 pub returns-in-Ok-clause-there : goal.returns-in-Ok-clause-there
 returns-in-Ok-clause-there c =
-    subst (λ (S : Settings). IsSome (segment_at S c.args.came.vid)) (sym (ap (λ (B : State). B.settings) c.step.ensures.after)) c.requires.there
+    rw c.sum_for.ensures (subst (λ (S : Settings). IsSome (segment_at S c.args.came.vid)) (sym (ap (λ (B : State). B.settings) c.step.ensures.after)) c.requires.there)

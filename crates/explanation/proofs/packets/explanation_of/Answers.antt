@@ -2,7 +2,7 @@ use Rattle.std.proofs.Common.{◌∙◌, ap, subst, List, ℕ, ◌++◌}
 use Rattle.std.specs.List.{flat_map}
 use Rattle.timeline.specs.Order.{IsRising}
 use Rattle.endpoint_state.specs.Opened.{settings_told}
-use Rattle.capture_run.specs.Lines.{cut_line}
+use Rattle.decision_lines.specs.Lines.{cut_line}
 use Rattle.explanation.proofs.Growing.{explanation_grown}
 use Rattle.explanation.proofs.packets.explanation_of.Goals as goal
 

@@ -1,6 +1,6 @@
 use Rattle.std.proofs.Common.{◌≡◌, ◌++◌, drop}
 use Rattle.std.specs.List.{flat_map}
-use Rattle.capture_run.specs.Lines.{cut_line}
+use Rattle.decision_lines.specs.Lines.{cut_line}
 use Rattle.explanation.proofs.packets.put_cuts.Given as goal
 
 -- with what is left put too, it is all

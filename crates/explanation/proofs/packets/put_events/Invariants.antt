@@ -7,11 +7,12 @@ use Rattle.explanation.specs.Growing.{texts_from}
 use Rattle.explanation.proofs.packets.put_events.Given as goal
 
 -- with what is left put too, it is all; and the packets that are left come later
-abbrev pub invariant-loop-index : goal.invariant-loop-index
-invariant-loop-index l =
-    let left = drop l.index l.events in
+abbrev pub invariant-loop-event : goal.invariant-loop-event
+invariant-loop-event l =
+    let left = drop l.event-index l.events in
     record {
-      all : l.text.items ++ texts_from l.depth l.index (state_of l.endpoint) left ≡ l.fn.text.items ++ texts_from l.depth 0 (state_of l.fn.endpoint) l.events;
+      all : l.text.items ++ texts_from l.depth l.event-index (state_of l.endpoint) left ≡ l.fn.text.items ++ texts_from l.depth 0 (state_of l.fn.endpoint) l.events;
+      number : l.desk.number ≡ l.event-index;
       rising : IsRising (state_of l.endpoint).moment left;
       known : AllByRecursion (IsEventOf 0 0) left;
     }

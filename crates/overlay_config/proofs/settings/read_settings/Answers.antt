@@ -1,5 +1,5 @@
 use Rattle.overlay_config.proofs.Meets.{settings_meet}
 use Rattle.overlay_config.proofs.settings.read_settings.Goals as goal
 
-pub invariant_of-result : goal.invariant_of-result
-invariant_of-result c = settings_meet _ c.in_ok-parts.parts c.in_ok-parts.ensures
+pub new-requires : goal.new-requires
+new-requires c = settings_meet _ c.in_ok-parts.parts c.in_ok-parts.ensures

@@ -1,6 +1,6 @@
-use Rattle.std.proofs.Common.{◌≡◌, ℕ, ◌<◌, length, true, false, Option, IsSome, sym, ap, ◌∙◌, subst}
+use Rattle.std.proofs.Common.{arith, ◌≡◌, ℕ, ◌<◌, length, true, false, Option, IsSome, sym, ap, ◌∙◌, subst}
 use Rattle.shared_tables.specs.Pool.{Pool, entry_at}
-use Rattle.shared_tables.proofs.Walk.{Walks, walk_starts, walk_on, walk_ends, stands_in, stands_held}
+use Rattle.shared_tables.proofs.Walk.{Walks, walk_starts, walk_on, walk_ends, walk_few, walk_counted, stands_in, stands_held, stands_few}
 use Rattle.shared_tables.proofs.chains.find_in.Goals as goal
 
 pub loop-cursor-init : goal.loop-cursor-init
@@ -9,7 +9,7 @@ loop-cursor-init c = walk_starts c.args.slots.now c.args.vid c.args.mac c.args.f
 pub same-requires : goal.same-requires
 same-requires c =
     let at = subst (λ (o : Option ℕ). Walks c.args.slots.now c.loop-cursor.slots c.args.vid c.args.mac o) c.in-Some.is c.loop-cursor.invariant in
-    record { in_pool = stands_in c.args.slots.now c.loop-cursor.slots c.args.vid c.args.mac c.in-Some.slot at }
+    record { in_pool = stands_in c.args.slots.now c.loop-cursor.slots c.args.vid c.args.mac c.in-Some.slot at; held = stands_held c.args.slots.now c.loop-cursor.slots c.args.vid c.args.mac c.in-Some.slot at }
 
 pub links-cursor-requires-clause-in_pool : goal.links-cursor-requires-clause-in_pool
 links-cursor-requires-clause-in_pool c =
@@ -29,3 +29,22 @@ loop-cursor-preserved c =
 
 pub returns-clause-none : goal.returns-clause-none
 returns-clause-none c = walk_ends c.args.slots.now c.loop-cursor.slots c.args.vid c.args.mac (subst (λ (o : Option ℕ). Walks c.args.slots.now c.loop-cursor.slots c.args.vid c.args.mac o) c.in_default.is c.loop-cursor.invariant)
+
+pub returns-then-same-clause-compared : goal.returns-then-same-clause-compared
+returns-then-same-clause-compared c =
+    let at = subst (λ (o : Option ℕ). Walks c.args.slots.now c.loop-cursor.slots c.args.vid c.args.mac o) c.in-Some.is c.loop-cursor.invariant in
+    omega (arith, stands_few c.args.slots.now c.loop-cursor.slots c.args.vid c.args.mac c.in-Some.slot at, ap (λ (p : Pool). p.compared) c.same.ensures.pool)
+
+pub loop-cursor-smaller : goal.loop-cursor-smaller
+loop-cursor-smaller c =
+    let at = subst (λ (o : Option ℕ). Walks c.args.slots.now c.loop-cursor.slots c.args.vid c.args.mac o) c.in-Some.is c.loop-cursor.invariant in
+    omega (arith, stands_few c.args.slots.now c.loop-cursor.slots c.args.vid c.args.mac c.in-Some.slot at, ap (λ (p : Pool). p.compared) c.same.ensures.pool)
+
+pub returns-clause-compared : goal.returns-clause-compared
+returns-clause-compared c = walk_few c.args.slots.now c.loop-cursor.slots c.args.vid c.args.mac c.loop-cursor.cursor c.loop-cursor.invariant
+
+pub returns-then-same-clause-counted : goal.returns-then-same-clause-counted
+returns-then-same-clause-counted c = omega (arith, walk_counted c.args.slots.now c.loop-cursor.slots c.args.vid c.args.mac c.loop-cursor.cursor c.loop-cursor.invariant, ap (λ (p : Pool). p.compared) c.same.ensures.pool)
+
+pub returns-clause-counted : goal.returns-clause-counted
+returns-clause-counted c = walk_counted c.args.slots.now c.loop-cursor.slots c.args.vid c.args.mac c.loop-cursor.cursor c.loop-cursor.invariant

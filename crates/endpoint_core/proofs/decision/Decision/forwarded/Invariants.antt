@@ -8,6 +8,6 @@ use Rattle.endpoint_core.proofs.decision.Decision.forwarded.Given as goal
 abbrev pub invariant-loop-place : goal.invariant-loop-place
 invariant-loop-place l = record {
   count : length l.outcomes.items ≡ l.place-index;
-  sent : map sent_of l.outcomes.items ≡ map (sent_at (settings_of l.state) l.vid l.frame) (take l.place-index l.places);
+  sent : map sent_of l.outcomes.items ≡ map (sent_at (settings_of l.state) l.came.vid l.came.frame) (take l.place-index l.places);
   short : All IsShort l.outcomes.items;
 }

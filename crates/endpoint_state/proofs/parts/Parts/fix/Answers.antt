@@ -3,7 +3,7 @@ use Rattle.std.specs.Prelude.{IfSome}
 use Rattle.filter_db.specs.declared.place.Place.{Place}
 use Rattle.filter_db.specs.Segment.{aged, aged_all, fix_in}
 use Rattle.filter_db.specs.Table.{fix}
-use Rattle.overlay_config.specs.declared.change.Change.TheVariants.{Fix}
+use Rattle.overlay_settings.specs.declared.change.Change.TheVariants.{Fix}
 use Rattle.endpoint_state.specs.Change.{place_of}
 use Rattle.endpoint_state.specs.Settings.{SegmentSettings}
 use Rattle.endpoint_state.proofs.AfterLemmas.{after-entries}

@@ -1,7 +1,7 @@
 use Rattle.std.proofs.Common.{◌∙◌, refl, sym, ap}
 use Rattle.filter_db.specs.Segment.{aged_all, flush_in}
 use Rattle.filter_db.specs.Table.{is_fixed}
-use Rattle.overlay_config.specs.declared.change.Change.TheVariants.{Flush}
+use Rattle.overlay_settings.specs.declared.change.Change.TheVariants.{Flush}
 use Rattle.endpoint_state.proofs.AfterLemmas.{after-entries}
 use Rattle.endpoint_state.proofs.SoundLemmas.{sound-adjusted, reached-kept}
 use Rattle.endpoint_state.proofs.StandsLemmas.{stands}

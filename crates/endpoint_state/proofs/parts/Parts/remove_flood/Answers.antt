@@ -9,7 +9,7 @@ use Rattle.filter_db.specs.Table.{is_seen_at, flush_place}
 use Rattle.flood_lists.specs.Flood.{Entries, holds, without}
 use Rattle.underlay.specs.declared.segment.Segment.{Segment}
 use Rattle.underlay.specs.Overlay.{Overlay, flood_at, with_flood}
-use Rattle.overlay_config.specs.declared.change.Change.TheVariants.{RemoveFlood}
+use Rattle.overlay_settings.specs.declared.change.Change.TheVariants.{RemoveFlood}
 use Rattle.endpoint_state.specs.declared.fault.ChangeFault.TheVariants.{NotThere}
 use Rattle.endpoint_state.specs.Settings.{Settings, SegmentSettings, kind_named}
 use Rattle.endpoint_state.specs.Change.{refused, accepted, in_segment, at_tunnel, kind_in}

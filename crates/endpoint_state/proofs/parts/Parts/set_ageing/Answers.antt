@@ -1,7 +1,7 @@
 use Rattle.std.proofs.Common.{◌≡◌, ◌∙◌, refl, sym, ap, Bool, not, Option, None, ◌∷◌, []}
 use Rattle.filter_db.specs.Segment.{aged_all, set_ageing_in}
 use Rattle.filter_db.specs.Table.{is_live, nanoseconds}
-use Rattle.overlay_config.specs.declared.change.Change.TheVariants.{SetAgeing}
+use Rattle.overlay_settings.specs.declared.change.Change.TheVariants.{SetAgeing}
 use Rattle.frame_view.specs.First.{first}
 use Rattle.endpoint_state.specs.declared.fault.ChangeFault.TheVariants.{OutOfRange}
 use Rattle.endpoint_state.specs.Change.{refused, in_segment, is_ageing}

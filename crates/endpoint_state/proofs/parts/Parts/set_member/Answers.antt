@@ -5,7 +5,7 @@ use Rattle.filter_db.specs.Segment.{Segment, aged, aged_all, flush_place_in}
 use Rattle.filter_db.specs.Table.{is_seen_at}
 use Rattle.vlan_ports.specs.declared.member.Egress.{Egress}
 use Rattle.vlan_ports.specs.Ports.{Ports, has_segment, with_member}
-use Rattle.overlay_config.specs.declared.change.Change.TheVariants.{SetMember}
+use Rattle.overlay_settings.specs.declared.change.Change.TheVariants.{SetMember}
 use Rattle.endpoint_state.specs.Change.{in_segment, port_fault, entries_changed}
 use Rattle.endpoint_state.specs.Learning.{learns}
 use Rattle.endpoint_state.specs.Settings.{SegmentSettings, joined}

@@ -1,6 +1,6 @@
 use Rattle.std.proofs.Common.{◌∙◌, refl, sym, ap}
 use Rattle.filter_db.specs.Segment.{aged_all, unfix_in}
-use Rattle.overlay_config.specs.declared.change.Change.TheVariants.{Unfix}
+use Rattle.overlay_settings.specs.declared.change.Change.TheVariants.{Unfix}
 use Rattle.endpoint_state.proofs.AfterLemmas.{after-entries}
 use Rattle.endpoint_state.proofs.SoundLemmas.{sound-adjusted, reached-unfix}
 use Rattle.endpoint_state.proofs.StandsLemmas.{stands}

@@ -1,7 +1,7 @@
 use Rattle.std.proofs.Common.{rules, ◌≡◌, ◌+◌, ◌<◌, length, map, set, Some, None, refl, sym, ap, ◌∙◌, subst, is_none}
 use Rattle.std.specs.Option.{option_map}
-use Rattle.shared_tables.specs.Bucket.{bucket_of}
-use Rattle.shared_tables.specs.declared.slots.Held.{Held}
+use Rattle.shared_tables.specs.Bucket.{chain_of}
+use Rattle.shared_tables.specs.Pool.{Held}
 use Rattle.shared_tables.specs.declared.threads.Ends.{Ends}
 use Rattle.shared_tables.specs.Pool.{Pool, entry_at, alone}
 use Rattle.shared_tables.specs.Threads.{HoldsAny, pushed_back, pushed_front, ends_with}
@@ -22,10 +22,10 @@ take-slot-requires c =
 pub enchain-requires-clause-first : goal.enchain-requires-clause-first
 enchain-requires-clause-first c =
     let i = c.self.inside in
-    let chain = c.self.invariant.chained c.bucket-bucket.result c.bucket-bucket.ensures.in_range in
-    subst (λ (p : Pool). HoldsAny p.entries (head_at i.heads.items c.bucket-bucket.result)) (sym c.take-slot.ensures.pool)
-    (holds_more i.slots.entries c.take-slot.result _ (head_at i.heads.items c.bucket-bucket.result) c.take-slot.ensures.free.0
-    (holds_first (chain_key c.bucket-bucket.result) refl i.slots.chains i.slots.entries _ _ chain.list chain.thread))
+    let own = c.self.invariant.chained c.chain-chain.result c.chain-chain.ensures.in_range in
+    subst (λ (p : Pool). HoldsAny p.entries (head_at i.heads.items c.chain-chain.result)) (sym c.take-slot.ensures.pool)
+    (holds_more i.slots.entries c.take-slot.result _ (head_at i.heads.items c.chain-chain.result) c.take-slot.ensures.free.0
+    (holds_first (chain_key c.chain-chain.result) refl i.slots.chains i.slots.entries _ _ own.list own.thread))
 
 pub push_back-ends-requires-clause-last : goal.push_back-ends-requires-clause-last
 push_back-ends-requires-clause-last c =
@@ -59,16 +59,16 @@ invariant_of-self c =
     (subst (λ (w : Shared). Lacks w.entries c.args.vid c.args.mac) (sym c.self.view_is) c.requires.absent)
     (subst (λ (w : Shared). IsNow c.args.last w.moment) (sym c.self.view_is) c.requires.now) s c.take-slot.ensures.free.0 c.take-slot.ensures.free.1 in
     let line : c.line_of-line.result ≡ line_at share (is_none c.args.last) = c.line_of-line.ensures ∙ ap (line_at share) (none_is c.args.last c.is_none-fixed.result c.is_none-fixed.ensures) in
-    let bucket : c.bucket-bucket.result ≡ bucket_of c.args.vid c.args.mac = c.bucket-bucket.ensures.value in
+    let chain : c.chain-chain.result ≡ chain_of c.args.vid c.args.mac = c.chain-chain.ensures.value in
     let taken_chains : c.take-slot.new.self.chains ≡ set i.slots.chains s alone = ap (λ (p : Pool). p.chains) c.take-slot.ensures.pool in
     let taken_lines : c.take-slot.new.self.lines ≡ set i.slots.lines s alone = ap (λ (p : Pool). p.lines) c.take-slot.ensures.pool in
     sound_at i.moment
     (ap (λ (p : Pool). p.entries) c.push_back-ends.ensures.pool ∙ ap (λ (p : Pool). p.entries) c.enchain.ensures.pool ∙ ap (λ (p : Pool). p.entries) c.take-slot.ensures.pool)
     (ap (λ (p : Pool). p.chains) c.push_back-ends.ensures.pool ∙ ap (λ (p : Pool). p.chains) c.enchain.ensures.pool
-    ∙ ap (λ ls. pushed_front ls (head_at i.heads.items c.bucket-bucket.result) s) taken_chains ∙ ap (λ b. pushed_front (set i.slots.chains s alone) (head_at i.heads.items b) s) bucket)
+    ∙ ap (λ ls. pushed_front ls (head_at i.heads.items c.chain-chain.result) s) taken_chains ∙ ap (λ b. pushed_front (set i.slots.chains s alone) (head_at i.heads.items b) s) chain)
     (ap (λ (p : Pool). p.lines) c.push_back-ends.ensures.pool ∙ ap (λ ls. pushed_back ls c.line_of-line.result.last s) (ap (λ (p : Pool). p.lines) c.enchain.ensures.pool ∙ taken_lines)
     ∙ ap (λ (x : Ends). pushed_back (set i.slots.lines s alone) x.last s) line)
-    (c.enchain.ensures.heads ∙ ap (λ b. set i.heads.items b (Some s)) bucket)
+    (c.enchain.ensures.heads ∙ ap (λ b. set i.heads.items b (Some s)) chain)
     (c.set_share.ensures.items ∙ ap (λ x. set i.shares.items c.args.vid (Some x)) (c.with_line_of-longer.ensures
     ∙ ap (λ (x : Ends). record (with_line share c.is_none-fixed.result x) { count = share.count + 1 }) (c.push_back-ends.ensures.ends ∙ ap (λ x. ends_with x s) line)
     ∙ ap (λ f. record (with_line share f (ends_with (line_at share (is_none c.args.last)) s)) { count = share.count + 1 }) (none_is c.args.last c.is_none-fixed.result c.is_none-fixed.ensures)))

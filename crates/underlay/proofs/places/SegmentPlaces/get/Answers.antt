@@ -1,11 +1,19 @@
-use Rattle.std.proofs.Common.{◌≡◌, ◌<◌, ◌∙◌, length, ap, arith}
+use Rattle.std.proofs.Common.{◌≡◌, ◌∙◌, ap, sym, arith, Some, None, get_or}
 use Rattle.std.specs.FinMap.{get}
-use Rattle.vlan_ports.proofs.PlacesLemmas.{read-placed}
-use Rattle.underlay.specs.Overlay.{Segments}
+use Rattle.underlay.specs.Seats.{Seats}
+use Rattle.underlay.proofs.SeatLemmas.{read_at, found, absent}
 use Rattle.underlay.proofs.places.SegmentPlaces.get.Goals as goal
 
-pub returns : goal.returns
-returns c =
-    let same : c.from.result ≡ c.args.vid = omega arith in
-    let lt : c.args.vid < length c.self.inside.places.items = omega arith in
-    c.as_ref.ensures.value ∙ read-placed c.self.inside.places.items _ c.args.vid c.index.result.now c.index.ensures same lt ∙ ap (λ (m : Segments). get m c.args.vid) c.self.view_is
+pub returns-in-Some : goal.returns-in-Some
+returns-in-Some c =
+    let index = c.self.inside.index.items in
+    let rows = c.self.inside.rows.items in
+    let at : get_or index c.args.vid None ≡ Some c.in-Some.place = sym (read_at index c.from.result c.args.vid c.index.result.now c.index.ensures (omega arith) (omega arith)) ∙ c.in-Some.is in
+    let row = read_at rows c.from-in-Some.result c.in-Some.place c.index-in-Some.result.now c.index-in-Some.ensures (omega arith) (omega arith) in
+    c.segment_in.ensures ∙ found (λ r. r.segment) rows index c.args.vid c.in-Some.place c.index-in-Some.result.now row at ∙ ap (λ (s : Seats). get s.segments c.args.vid) c.self.view_is
+
+pub returns-in-None : goal.returns-in-None
+returns-in-None c =
+    let index = c.self.inside.index.items in
+    let at : get_or index c.args.vid None ≡ None = sym (read_at index c.from.result c.args.vid c.index.result.now c.index.ensures (omega arith) (omega arith)) ∙ c.in-None.is in
+    sym (absent (λ r. r.segment) c.self.inside.rows.items index c.args.vid at) ∙ ap (λ (s : Seats). get s.segments c.args.vid) c.self.view_is

@@ -1,15 +1,22 @@
-use Rattle.std.proofs.Common.{◌∙◌, ◌++◌, ◌∷◌, [], Option, None, arith, length, ap, List}
-use Rattle.std.proofs.lemmas.List.{replicate-append-replicate, length-replicate}
-use Rattle.vlan_ports.specs.Places.{placed}
-use Rattle.vlan_ports.proofs.PlacesLemmas.{placed-nothing}
-use Rattle.underlay.specs.declared.segment.Segment.{Segment}
+use Rattle.std.proofs.Common.{◌≡◌, ◌∙◌, ◌++◌, ◌∷◌, [], Option, None, arith, ap, List, ℕ, replicate, refl}
+use Rattle.std.proofs.lemmas.List.{replicate-append-replicate}
+use Rattle.underlay.specs.Seats.{Seats, seated}
+use Rattle.underlay.proofs.SeatLemmas.{seated-nothing, keeps-nothing}
 use Rattle.underlay.proofs.places.SegmentPlaces.open.Goals as goal
 
+pub loop-number-preserved : goal.loop-number-preserved
+loop-number-preserved c = c.in_ok-push.ensures.items ∙ ap (λ (l : List (Option ℕ)). l ++ None ∷ []) c.loop-number.invariant ∙ replicate-append-replicate c.loop-number._number 1 None
+
+pub loop-place-init : goal.loop-place-init
+loop-place-init c = ((let n : c.loop-number._number ≡ 4096 = omega arith in c.loop-number.invariant ∙ ap (λ (n : ℕ). replicate n None) n), c.in_ok-rows.ensures.items)
+
 pub loop-place-preserved : goal.loop-place-preserved
-loop-place-preserved c = c.in_ok-push.ensures.items ∙ ap (λ (l : List (Option Segment)). l ++ None ∷ []) c.loop-place.invariant ∙ replicate-append-replicate c.loop-place._place 1 None
+loop-place-preserved c = (c.loop-place.invariant.0, c.in_ok-push-2.ensures.items ∙ ap (λ l. l ++ None ∷ []) c.loop-place.invariant.1 ∙ replicate-append-replicate c.loop-place._place 1 None)
 
 pub invariant_of-result : goal.invariant_of-result
-invariant_of-result c = omega (arith, ap length c.loop-place.invariant, length-replicate {A = Option Segment} c.loop-place._place None)
+invariant_of-result c = keeps-nothing (λ row. row.vid) (λ row. row.segment) c.loop-place.rows.items c.loop-number.index.items (let n : c.loop-place._place ≡ 256 = omega arith in c.loop-place.invariant.1 ∙ ap (λ (n : ℕ). replicate n None) n) c.loop-place.invariant.0
 
 pub returns : goal.returns
-returns c = ap (placed 0) c.loop-place.invariant ∙ placed-nothing 0 c.loop-place._place
+returns c =
+    ap (λ (i : List (Option ℕ)). let s : Seats = record { segments = seated (λ row. row.segment) c.loop-place.rows.items i; heads = seated (λ row. row.heads) c.loop-place.rows.items i } in s) c.loop-place.invariant.0
+    ∙ rw (seated-nothing (λ row. row.segment) c.loop-place.rows.items 4096, seated-nothing (λ row. row.heads) c.loop-place.rows.items 4096) refl

@@ -1,14 +1,33 @@
-use Rattle.std.proofs.Common.{◌≡◌, ◌<◌, ◌∙◌, length, ap, arith, ℕ, Some, set}
-use Rattle.std.specs.FinMap.{insert}
-use Rattle.vlan_ports.specs.Places.{placed}
-use Rattle.vlan_ports.proofs.PlacesLemmas.{placed-set_zero}
-use Rattle.underlay.specs.Overlay.{Segments}
+use Rattle.std.proofs.Common.{◌≡◌, ◌∙◌, ◌<◌, ap, sym, refl, arith, ℕ, None, Some, List, Option, set, get_or, length}
+use Rattle.std.specs.FinMap.{get, insert}
+use Rattle.underlay.specs.Seats.{Seats, seated}
+use Rattle.underlay.specs.declared.places.Row.{Row}
+use Rattle.underlay.proofs.SeatLemmas.{seated-put, keeps-put}
 use Rattle.underlay.proofs.places.SegmentPlaces.put.Goals as goal
+
+pub invariant_of-self : goal.invariant_of-self
+invariant_of-self c =
+    let rows = c.self.inside.rows.items in
+    let index = c.self.inside.index.items in
+    let j = c.free_place-place.result in
+    let row : Row = record { vid = c.args.vid; segment = c.args.segment; heads = c.args.heads } in
+    let same : c.from.result ≡ c.args.vid = omega arith in
+    let free : get_or rows j None ≡ None = ap (λ (l : List (Option Row)). get_or l j None) (sym c.deref.ensures.value) ∙ c.free_place-place.ensures.free in
+    let new = ap (λ (s : Seats). get s.segments c.args.vid) c.self.view_is ∙ c.requires.new in
+    rw same (keeps-put (λ r. r.vid) (λ r. r.segment) rows index c.args.vid j row c.self.invariant refl free (omega (arith, ap length c.deref.ensures.value, c.free_place-place.ensures.there)) (omega arith) new)
 
 pub returns : goal.returns
 returns c =
+    let rows = c.self.inside.rows.items in
+    let index = c.self.inside.index.items in
+    let j = c.free_place-place.result in
+    let row : Row = record { vid = c.args.vid; segment = c.args.segment; heads = c.args.heads } in
     let same : c.from.result ≡ c.args.vid = omega arith in
-    let lt : c.args.vid < length c.self.inside.places.items = omega arith in
-    ap (λ (k : ℕ). placed 0 (set c.self.inside.places.items k (Some c.args.segment))) same
-    ∙ placed-set_zero c.self.inside.places.items c.args.vid (Some c.args.segment) lt
-    ∙ ap (λ (m : Segments). insert m c.args.vid c.args.segment) c.self.view_is
+    let free : get_or rows j None ≡ None = ap (λ (l : List (Option Row)). get_or l j None) (sym c.deref.ensures.value) ∙ c.free_place-place.ensures.free in
+    let lt : j < length rows = omega (arith, ap length c.deref.ensures.value, c.free_place-place.ensures.there) in
+    let lt' : c.args.vid < length index = omega arith in
+    ap (λ (k : ℕ). let s : Seats = record { segments = seated (λ r. r.segment) (set rows j (Some row)) (set index k (Some j)); heads = seated (λ r. r.heads) (set rows j (Some row)) (set index k (Some j)) } in s) same
+    ∙ rw (
+      seated-put (λ r. r.vid) (λ r. r.segment) rows index c.args.vid j row c.self.invariant.2 free lt lt',
+      seated-put (λ r. r.vid) (λ r. r.heads) rows index c.args.vid j row c.self.invariant.2 free lt lt',
+    ) (ap (λ (s : Seats). let n : Seats = record { segments = insert s.segments c.args.vid c.args.segment; heads = insert s.heads c.args.vid c.args.heads } in n) c.self.view_is)

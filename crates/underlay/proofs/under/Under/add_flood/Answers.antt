@@ -2,13 +2,15 @@ use Rattle.std.proofs.Common.{◌++◌, ◌∷◌, []}
 use Rattle.ip_udp_view.specs.declared.addr.Tunnel.TheVariants.{Vxlan, Geneve}
 use Rattle.underlay.specs.Flood.{Entries}
 use Rattle.underlay.specs.Overlay.{flood_in}
+use Rattle.underlay.proofs.HeadsLemmas.{heads-flood}
 use Rattle.underlay.proofs.IndexLemmas.{indexes_flood}
 use Rattle.underlay.proofs.under.Under.add_flood.Goals as goal
 
 -- no tunnel has changed
 pub invariant_of-self : goal.invariant_of-self
 invariant_of-self c =
-    let flood : Entries = flood_in c.self.inside.segments c.args.vid ++ record { tunnel = c.args.kind; addr = c.args.addr } ∷ [] in (
-      indexes_flood Vxlan c.add_flood.result c.self.inside.segments c.add_flood.new.self c.self.inside.vxlan c.args.vid flood c.self.invariant.0 c.add_flood.ensures.added c.add_flood.ensures.refused,
-      indexes_flood Geneve c.add_flood.result c.self.inside.segments c.add_flood.new.self c.self.inside.geneve c.args.vid flood c.self.invariant.1 c.add_flood.ensures.added c.add_flood.ensures.refused,
+    let flood : Entries = flood_in c.self.inside.segments.segments c.args.vid ++ record { tunnel = c.args.kind; addr = c.args.addr } ∷ [] in (
+      indexes_flood Vxlan c.add_flood.result c.self.inside.segments.segments c.add_flood.new.self.segments c.self.inside.vxlan c.args.vid flood c.self.invariant.0 c.add_flood.ensures.added c.add_flood.ensures.refused,
+      indexes_flood Geneve c.add_flood.result c.self.inside.segments.segments c.add_flood.new.self.segments c.self.inside.geneve c.args.vid flood c.self.invariant.1 c.add_flood.ensures.added c.add_flood.ensures.refused,
+      heads-flood c.add_flood.result c.self.inside.underlay c.self.inside.segments c.add_flood.new.self c.args.vid flood c.self.invariant.2 c.add_flood.ensures.added c.add_flood.ensures.refused c.add_flood.ensures.heads,
     )

@@ -1,10 +1,15 @@
+use Rattle.std.proofs.Common.{ap}
 use Rattle.ip_udp_view.specs.declared.addr.Tunnel.TheVariants.{Vxlan, Geneve}
 use Rattle.std.specs.FinMap.{empty}
+use Rattle.underlay.specs.Seats.{Seats}
+use Rattle.underlay.proofs.HeadsLemmas.{heads-nothing}
 use Rattle.underlay.proofs.IndexLemmas.{indexes_nothing, indexes_as}
 use Rattle.underlay.proofs.under.Under.without_segments.Goals as goal
 
 pub invariant_of-result : goal.invariant_of-result
-invariant_of-result c = (
-  indexes_as Vxlan c.in_ok-open.field-0 empty c.in_ok-open-2.field-0 empty c.in_ok-open.ensures c.in_ok-open-2.ensures (indexes_nothing Vxlan),
-  indexes_as Geneve c.in_ok-open.field-0 empty c.in_ok-open-3.field-0 empty c.in_ok-open.ensures c.in_ok-open-3.ensures (indexes_nothing Geneve),
-)
+invariant_of-result c =
+    let none = ap (λ (s : Seats). s.segments) c.in_ok-open.ensures in (
+      indexes_as Vxlan c.in_ok-open.field-0.segments empty c.in_ok-open-2.field-0 empty none c.in_ok-open-2.ensures (indexes_nothing Vxlan),
+      indexes_as Geneve c.in_ok-open.field-0.segments empty c.in_ok-open-3.field-0 empty none c.in_ok-open-3.ensures (indexes_nothing Geneve),
+      heads-nothing c.args.underlay c.in_ok-open.field-0 c.in_ok-open.ensures,
+    )

@@ -1,0 +1,19 @@
+//! Tests of what a learning bridge knows, and of its steps: ports and their segments, flood lists, tables, forwarding. A
+//! module for each crate, over its public names.
+//!
+//! What is expected was worked out by hand from IEEE 802.1Q, 6.9 and 8.6 to 8.8, never taken from a run. There is nothing
+//! here but tests, and nothing stands on this crate.
+#![tactic(auto)]
+
+#[cfg(test)]
+mod calls;
+#[cfg(test)]
+mod filter_db_tests;
+#[cfg(test)]
+mod flood_lists_tests;
+#[cfg(test)]
+mod shared_tables_tests;
+#[cfg(test)]
+mod tunnel_learning_tests;
+#[cfg(test)]
+mod vlan_ports_tests;

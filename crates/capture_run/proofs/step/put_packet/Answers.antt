@@ -1,0 +1,11 @@
+use Rattle.std.proofs.Common.{◌∙◌, ap}
+use Rattle.endpoint_core.specs.Event.{packet_at}
+use Rattle.endpoint_core.specs.Kept.{state_of}
+use Rattle.endpoint_core.specs.Step.{after}
+use Rattle.timeline.specs.Captured.{Captured}
+use Rattle.capture_run.proofs.step.put_packet.Goals as goal
+
+pub returns-clause-state : goal.returns-clause-state
+returns-clause-state c =
+    c.take_packet-course.ensures.after
+    ∙ ap (λ (f : Captured). after (state_of c.args.endpoint.now) (packet_at c.args.event.now.moment f.original f.octets)) c.packet.view_is

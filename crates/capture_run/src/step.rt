@@ -1,0 +1,240 @@
+//! What comes of one event of a run.
+ghost use Rattle.std.specs.Prelude.{◌≡◌, ◌≤◌, ◌+◌, ◌++◌, None, Ok, IsSome, IsTrue, length, map, OnOk};
+ghost use Rattle.std.specs.List.{list_all};
+ghost use Rattle.timeline.specs.Events.{IsEventOf};
+ghost use Rattle.endpoint_core.specs.Course.{CanLeave, IsShortFrame, IsThere, decision_of};
+ghost use Rattle.endpoint_core.specs.Event.{change_at, frame_at, packet_at};
+ghost use Rattle.endpoint_core.specs.Kept.{state_of};
+ghost use Rattle.endpoint_core.specs.Step.{Decided, answer, after, by_verdict, has_two_tunnels, sent_at};
+ghost use Rattle.endpoint_core.specs.Text.{outcomes_text};
+ghost use Rattle.endpoint_state.specs.Change.{named};
+ghost use Rattle.endpoint_state.specs.Settings.{segment_at};
+ghost use Rattle.endpoint_state.specs.Step.{can_leave};
+ghost use Rattle.pcap_io.specs.Record.{last_moment};
+ghost use Rattle.decision_lines.specs.Lines.{answer_text, line};
+ghost use Rattle.capture_run.specs.Outputs.{event_of};
+ghost use Rattle.capture_run.specs.Writing.{seen, with_all_sent, with_event, with_input};
+
+use crate::outputs::Outputs;
+use decision_lines::{Desk, Line};
+use endpoint_core::{Came, Course, Endpoint, Head};
+use filter_db::Place;
+use frame_view::Vid;
+use overlay_config::{Change, TimedChange};
+use std::alloc::AllocError;
+use timeline::{Captured, Event, Happening, Tap};
+
+/// Puts what leaves of a frame at each place, and what came of it there to the line.
+fn put_outcomes(
+    outputs: &mut Outputs,
+    line: &mut Line,
+    head: &mut Head,
+    endpoint: &Endpoint,
+    came: &Came,
+    places: &[Place],
+    moment: u64,
+) -> Result<(), AllocError>
+    requires moment { moment ≤ last_moment }
+    requires there { IsSome (segment_at (state_of endpoint.now).bridges.settings came.now.vid) }
+    requires short { length came.now.frame.body ≤ 65549 }
+    requires leave { IsTrue (list_all (can_leave (state_of endpoint.now).bridges.settings came.now.vid) places.now) }
+    requires few { length places.now ≤ 32 }
+    requires room { length line.old + 2464 ≤ 4096 }
+    ensures sent { let S = (state_of endpoint.now).bridges.settings in
+        OnOk result (seen outputs.new ≡ with_all_sent moment (seen outputs.old) (map (sent_at S came.now.vid came.now.frame) places.now)) }
+    ensures text { let S = (state_of endpoint.now).bridges.settings in OnOk result
+        (line.new ≡ line.old ++ outcomes_text (has_two_tunnels S.overlay came.now.vid) (map (sent_at S came.now.vid came.now.frame) places.now)) }
+    ensures len { OnOk result (length line.new ≤ length line.old + 2464) }
+{
+    let two_tunnels = endpoint.has_two_tunnels(came);
+    let mut is_first = true;
+    for place in places {
+        let sent = endpoint.emit(came, *place, head);
+        line.put_outcome(is_first, two_tunnels, *place, &sent);
+        outputs.put_sent(moment, *place, &sent)?;
+        is_first = false;
+    }
+    Ok(())
+}
+
+/// Puts what leaves of a frame, and writes its decision line.
+fn put_leaving(
+    outputs: &mut Outputs,
+    endpoint: &Endpoint,
+    desk: &mut Desk,
+    event: &Event,
+    came: &Came,
+) -> Result<(), AllocError>
+    requires moment { event.now.moment ≤ last_moment }
+    requires there { IsSome (segment_at (state_of endpoint.now).bridges.settings came.now.vid) }
+    requires short { length came.now.frame.body ≤ 65549 }
+    requires leave { IsTrue (list_all (can_leave (state_of endpoint.now).bridges.settings came.now.vid) desk.old.places.items) }
+    ensures sent { let S = (state_of endpoint.now).bridges.settings in OnOk result
+        (seen outputs.new ≡ with_all_sent event.now.moment (seen outputs.old) (map (sent_at S came.now.vid came.now.frame) desk.old.places.items)) }
+    ensures line { OnOk result (desk.new.line ≡ line desk.old.number event.now
+        (answer_text None (Decided (by_verdict (state_of endpoint.now).bridges.settings came.now (Ok desk.old.places.items))))) }
+    ensures number { desk.new.number ≡ desk.old.number }
+{
+    let Desk {
+        number,
+        places,
+        head,
+        line,
+    } = desk;
+    line.begin(number, event, Some(came.segment()));
+    put_outcomes(
+        outputs,
+        line,
+        head,
+        endpoint,
+        came,
+        places.as_slice(),
+        event.moment,
+    )?;
+    line.end();
+    Ok(())
+}
+
+/// Puts what comes of a frame or a packet that the endpoint took just now: what leaves, and its decision line.
+fn put_course(
+    outputs: &mut Outputs,
+    endpoint: &Endpoint,
+    desk: &mut Desk,
+    event: &Event,
+    course: &Course,
+) -> Result<(), AllocError>
+    requires moment { event.now.moment ≤ last_moment }
+    requires there { IsThere (state_of endpoint.now).bridges.settings course.now }
+    requires short { IsShortFrame course.now }
+    requires leave { CanLeave (state_of endpoint.now).bridges.settings course.now desk.old.places.items }
+    ensures outputs { let S = (state_of endpoint.now).bridges.settings in OnOk result (seen outputs.new
+        ≡ with_input desk.old.number None (seen outputs.old) event.now (Decided (decision_of S course.now desk.old.places.items))) }
+    ensures number { desk.new.number ≡ desk.old.number }
+{
+    match course {
+        Course::Dropped(refused) => desk.line.write_drop(&desk.number, event, *refused),
+        Course::Leaves(came) => put_leaving(outputs, endpoint, desk, event, came)?,
+    }
+    outputs.put_line(desk.line.text())
+}
+
+/// The segment that a change names.
+fn named(change: &Change) -> Option<Vid>
+    ensures { result ≡ named change.now }
+{
+    match *change {
+        Change::AddFlood { vid, .. } => Some(vid),
+        Change::RemoveFlood { vid, .. } => Some(vid),
+        Change::Fix { vid, .. } => Some(vid),
+        Change::Unfix { vid, .. } => Some(vid),
+        Change::SetAgeing { vid, .. } => Some(vid),
+        Change::SetLearning { vid, .. } => Some(vid),
+        Change::SetMember { vid, .. } => Some(vid),
+        Change::Flush { vid } => Some(vid),
+        Change::PortUp { .. } => None,
+        Change::PortDown { .. } => None,
+    }
+}
+
+/// Puts a change to the endpoint, and what comes of it to the outputs.
+fn put_change(
+    outputs: &mut Outputs,
+    endpoint: &mut Endpoint,
+    desk: &mut Desk,
+    event: &Event,
+    change: Change,
+) -> Result<(), AllocError>
+    requires { (state_of endpoint.old).moment ≤ event.now.moment }
+    ensures state { state_of endpoint.new ≡ after (state_of endpoint.old) (change_at event.now.moment change) }
+    ensures outputs { OnOk result (seen outputs.new ≡ with_input desk.old.number (named change) (seen outputs.old) event.now
+        (answer (state_of endpoint.old) (change_at event.now.moment change))) }
+    ensures number { desk.new.number ≡ desk.old.number }
+{
+    let reply = endpoint.change(event.moment, change);
+    desk.line
+        .write_reply(&desk.number, event, named(&change), reply);
+    outputs.put_line(desk.line.text())
+}
+
+/// Puts a frame at a local port to the endpoint, and what comes of it to the outputs.
+fn put_frame(
+    outputs: &mut Outputs,
+    endpoint: &mut Endpoint,
+    desk: &mut Desk,
+    event: &Event,
+    port: u8,
+    frame: &Captured,
+) -> Result<(), AllocError>
+    requires time { (state_of endpoint.old).moment ≤ event.now.moment }
+    requires moment { event.now.moment ≤ last_moment }
+    requires low { 1 ≤ port }
+    requires high { port ≤ length (state_of endpoint.old).bridges.settings.ports.ports }
+    ensures state { state_of endpoint.new
+        ≡ after (state_of endpoint.old) (frame_at event.now.moment port frame.now.original frame.now.octets) }
+    ensures outputs { OnOk result (seen outputs.new ≡ with_input desk.old.number None (seen outputs.old) event.now
+        (answer (state_of endpoint.old) (frame_at event.now.moment port frame.now.original frame.now.octets))) }
+    ensures number { desk.new.number ≡ desk.old.number }
+{
+    let course = endpoint.take_frame(
+        event.moment,
+        port,
+        frame.original,
+        frame.octets,
+        &mut desk.places,
+    );
+    put_course(outputs, endpoint, desk, event, &course)
+}
+
+/// Puts a packet from the underlay to the endpoint, and what comes of it to the outputs.
+fn put_packet(
+    outputs: &mut Outputs,
+    endpoint: &mut Endpoint,
+    desk: &mut Desk,
+    event: &Event,
+    packet: &Captured,
+) -> Result<(), AllocError>
+    requires time { (state_of endpoint.old).moment ≤ event.now.moment }
+    requires moment { event.now.moment ≤ last_moment }
+    ensures state { state_of endpoint.new
+        ≡ after (state_of endpoint.old) (packet_at event.now.moment packet.now.original packet.now.octets) }
+    ensures outputs { OnOk result (seen outputs.new ≡ with_input desk.old.number None (seen outputs.old) event.now
+        (answer (state_of endpoint.old) (packet_at event.now.moment packet.now.original packet.now.octets))) }
+    ensures number { desk.new.number ≡ desk.old.number }
+{
+    let course = endpoint.take_packet(
+        event.moment,
+        packet.original,
+        packet.octets,
+        &mut desk.places,
+    );
+    put_course(outputs, endpoint, desk, event, &course)
+}
+
+/// Puts an event to the endpoint, and what comes of it to the outputs.
+pub(crate) fn put_event(
+    outputs: &mut Outputs,
+    endpoint: &mut Endpoint,
+    desk: &mut Desk,
+    changes: &[TimedChange],
+    event: &Event,
+) -> Result<(), AllocError>
+    requires time { (state_of endpoint.old).moment ≤ event.now.moment }
+    requires known { IsEventOf (length changes.now) (length (state_of endpoint.old).bridges.settings.ports.ports) event.now }
+    ensures state { state_of endpoint.new ≡ after (state_of endpoint.old) (event_of (map (λ c. c.change) changes.now) event.now) }
+    ensures outputs { OnOk result (seen outputs.new ≡ with_event (map (λ c. c.change) changes.now) desk.old.number (seen outputs.old) event.now
+        (answer (state_of endpoint.old) (event_of (map (λ c. c.change) changes.now) event.now))) }
+    ensures number { desk.new.number ≡ desk.old.number }
+{
+    match &event.happening {
+        Happening::Change(index) => {
+            let change = changes[*index].change;
+            put_change(outputs, endpoint, desk, event, change)
+        }
+        Happening::Record(Tap::Port(port), frame) => {
+            put_frame(outputs, endpoint, desk, event, *port, frame)
+        }
+        Happening::Record(Tap::Underlay, packet) => {
+            put_packet(outputs, endpoint, desk, event, packet)
+        }
+    }
+}

@@ -1,0 +1,59 @@
+//! What a run lends to each step.
+ghost use Rattle.std.specs.Prelude.{◌≡◌, [], None};
+ghost use Rattle.endpoint_core.specs.Course.{CanLeave, IsThere, decision_of};
+ghost use Rattle.endpoint_core.specs.Kept.{state_of};
+ghost use Rattle.endpoint_core.specs.Step.{Decided};
+ghost use Rattle.decision_lines.specs.Lines.{answer_text, line};
+
+use crate::counter::Counter;
+use crate::line::Line;
+use endpoint_core::{Course, Endpoint, Head, Outlets};
+use timeline::Event;
+
+/// What a run lends to each of its steps. It is made once for a run, so that no step makes a list or asks for memory.
+#[derive(Drop)]
+pub struct Desk {
+    /// The number of the event that is dealt with, 0 before the first.
+    pub number: Counter,
+    /// Where its frame leaves.
+    pub places: Outlets,
+    /// The outer headers of one emission.
+    pub head: Head,
+    /// Its decision line.
+    pub line: Line,
+}
+
+impl Desk {
+    /// An empty one, before the first event.
+    pub fn new() -> Desk
+        ensures number { result.number ≡ 0 }
+        ensures line { result.line ≡ [] }
+    {
+        Desk {
+            number: Counter::new(),
+            places: Outlets::new(),
+            head: Head::new(),
+            line: Line::new(),
+        }
+    }
+
+    /// Writes the line of a frame or a packet that the endpoint took just now, where it goes being told by a course and
+    /// the places. What leaves is only measured.
+    pub fn write_course(&mut self, event: &Event, endpoint: &Endpoint, course: &Course)
+        requires there { IsThere (state_of endpoint.now).bridges.settings course.now }
+        requires leave { CanLeave (state_of endpoint.now).bridges.settings course.now self.old.places.items }
+        ensures line { self.new.line ≡ line self.old.number event.now
+            (answer_text None (Decided (decision_of (state_of endpoint.now).bridges.settings course.now self.old.places.items))) }
+        ensures number { self.new.number ≡ self.old.number }
+    {
+        match course {
+            Course::Dropped(refused) => self.line.write_drop(&self.number, event, *refused),
+            Course::Leaves(came) => {
+                self.line.begin(&self.number, event, Some(came.segment()));
+                self.line
+                    .put_outcomes(endpoint, came, self.places.as_slice(), &mut self.head);
+                self.line.end();
+            }
+        }
+    }
+}

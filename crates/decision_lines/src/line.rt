@@ -1,0 +1,171 @@
+//! A line of text in one buffer.
+ghost use Rattle.std.specs.Prelude.{◌≡◌, ℕ, ◌≤◌, ◌<◌, ◌+◌, List, [], ◌∷◌, ◌++◌, length, take, decimal};
+ghost use Rattle.endpoint_core.specs.Text.{hex_digit, hex_octet};
+
+use itoa::write_digits;
+use std::marker::Model;
+
+/// A line in a buffer of 4,096 octets, seen by contracts as its text. It is cleared and written again, and never asks for
+/// memory.
+///
+/// The longest decision line has 2,539 octets at most: a front of 74, 32 outcomes of 77 each with its space, and the end of
+/// the line. So each call has its room where a line is begun first and has no more outcomes than there are outlets.
+#[derive(Drop)]
+pub struct Line {
+    octets: [u8; 4096],
+    len: usize,
+}
+
+impl Model for Line {
+    ghost Value = { List ℕ };
+
+    ghost view = { λ l. take l.len l.octets };
+
+    ghost invariant = { λ l. l.len ≤ 4096 };
+}
+
+impl Line {
+    /// An empty line.
+    pub fn new() -> Line
+        ensures { result ≡ [] }
+    {
+        Line {
+            octets: [0; 4096],
+            len: 0,
+        }
+    }
+
+    /// Empties the line.
+    #[inline]
+    pub fn clear(&mut self)
+        ensures { self.new ≡ [] }
+    {
+        self.len = 0;
+    }
+
+    /// The text of the line.
+    #[inline]
+    pub fn text(&self) -> &[u8]
+        ensures value { result.now ≡ self.now }
+        ensures short { length self.now ≤ 4096 }
+    {
+        &self.octets[..self.len]
+    }
+
+    /// Puts one octet at the end.
+    #[inline]
+    pub(crate) fn put_octet(&mut self, octet: u8)
+        requires room { length self.old < 4096 }
+        ensures text { self.new ≡ self.old ++ octet ∷ [] }
+        ensures len { length self.new ≡ length self.old + 1 }
+    {
+        self.octets[self.len] = octet;
+        self.len += 1;
+    }
+
+    /// Puts a text at the end.
+    #[inline]
+    pub(crate) fn put_text(&mut self, text: &[u8])
+        requires room { length self.old + length text.now ≤ 4096 }
+        ensures text { self.new ≡ self.old ++ text.now }
+        ensures len { length self.new ≡ length self.old + length text.now }
+    {
+        let end = self.len + text.len();
+        self.octets[self.len..end].copy_from_slice(text);
+        self.len = end;
+    }
+
+    /// Puts a number in decimal digits at the end.
+    #[inline]
+    pub(crate) fn put_number(&mut self, number: u64)
+        requires room { length self.old + 20 ≤ 4096 }
+        ensures text { self.new ≡ self.old ++ decimal number }
+        ensures len { length self.new ≤ length self.old + 20 }
+    {
+        self.put_digits(number, digits(number));
+    }
+
+    /// Puts a number below 65,536 in decimal digits at the end.
+    #[inline]
+    pub(crate) fn put_short(&mut self, number: u16)
+        requires room { length self.old + 5 ≤ 4096 }
+        ensures text { self.new ≡ self.old ++ decimal number }
+        ensures len { length self.new ≤ length self.old + 5 }
+    {
+        let number = u64::from(number);
+        self.put_digits(number, digits(number));
+    }
+
+    /// Puts a number below 256 in decimal digits at the end.
+    #[inline]
+    pub(crate) fn put_small(&mut self, number: u8)
+        requires room { length self.old + 3 ≤ 4096 }
+        ensures text { self.new ≡ self.old ++ decimal number }
+        ensures len { length self.new ≤ length self.old + 3 }
+    {
+        let number = u64::from(number);
+        self.put_digits(number, digits(number));
+    }
+
+    /// Puts a number that has this many decimal digits.
+    #[inline]
+    fn put_digits(&mut self, number: u64, count: usize)
+        requires count { count ≡ length (decimal number) }
+        requires room { length self.old + count ≤ 4096 }
+        ensures text { self.new ≡ self.old ++ decimal number }
+        ensures len { length self.new ≡ length self.old + count }
+    {
+        let end = self.len + count;
+        write_digits(number, &mut self.octets, end);
+        self.len = end;
+    }
+
+    /// Puts the first octets of a short text that lies in a room of 20, which is copied whole.
+    #[inline]
+    pub(crate) fn put_first(&mut self, octets: &[u8; 20], count: usize)
+        requires room { length self.old + 20 ≤ 4096 }
+        requires within { count ≤ 20 }
+        ensures text { self.new ≡ self.old ++ take count octets.now }
+        ensures len { length self.new ≡ length self.old + count }
+    {
+        self.octets[self.len..self.len + 20].copy_from_slice(octets);
+        self.len += count;
+    }
+
+    /// Puts an octet in two hexadecimal digits at the end.
+    #[inline]
+    pub(crate) fn put_hex(&mut self, octet: u8)
+        requires room { length self.old + 2 ≤ 4096 }
+        ensures text { self.new ≡ self.old ++ hex_octet octet }
+        ensures len { length self.new ≡ length self.old + 2 }
+    {
+        self.put_octet(hex_digit(octet / 16));
+        self.put_octet(hex_digit(octet % 16));
+    }
+}
+
+fn hex_digit(digit: u8) -> u8
+    requires { digit < 16 }
+    ensures { result ≡ hex_digit digit }
+{
+    if digit < 10 {
+        b'0' + digit
+    } else {
+        b'a' - 10 + digit
+    }
+}
+
+/// How many decimal digits a number has.
+#[inline]
+pub(crate) fn digits(number: u64) -> usize
+    ensures value { result ≡ length (decimal number) }
+    ensures short { result ≤ 20 }
+    ensures small { number < 256 → result ≤ 3 }
+    ensures word { number < 65536 → result ≤ 5 }
+{
+    if number < 10 {
+        1
+    } else {
+        number.ilog10() as usize + 1
+    }
+}

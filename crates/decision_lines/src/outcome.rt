@@ -1,0 +1,93 @@
+//! The result in a decision line: outcomes, a drop, or the reply to a change.
+ghost use Rattle.std.specs.Prelude.{◌≡◌, ◌≤◌, ◌+◌, ◌++◌, length, codes, decimal};
+ghost use Rattle.encapsulate.specs.Remote.{texts};
+ghost use Rattle.frame_view.specs.First.{fault_of};
+ghost use Rattle.frame_view.specs.Reason.{name_of, number_of};
+ghost use Rattle.endpoint_core.specs.Text.{outcome_text, sent_text};
+ghost use Rattle.decision_lines.specs.Lines.{reply_text};
+ghost use Rattle.decision_lines.specs.Outcomes.{count_text, gap};
+
+use crate::line::Line;
+use endpoint_core::{ChangeFault, Leaving};
+use filter_db::Place;
+use frame_view::Reason;
+
+impl Line {
+    /// Puts what came of an outlet: its place, and the number of octets that left or the name of the reason why none did;
+    /// behind a space where it isn't the first. The kind of a remote's tunnel is told where the segment has two.
+    pub fn put_outcome(
+        &mut self,
+        is_first: bool,
+        two_tunnels: bool,
+        place: Place,
+        sent: &Result<Leaving, Reason>,
+    )
+        requires room { length self.old + 77 ≤ 4096 }
+        ensures text { self.new ≡ self.old ++ (gap is_first ++ outcome_text two_tunnels (record { place = place; sent = texts sent.now })) }
+        ensures len { length self.new ≤ length self.old + 77 }
+    {
+        if !is_first {
+            self.put_octet(b' ');
+        }
+        self.put_place(two_tunnels, place);
+        self.put_count(count_of(sent));
+    }
+
+    /// Puts that a frame or packet is dropped, and why.
+    pub fn put_drop(&mut self, reason: Reason)
+        requires room { length self.old + 24 ≤ 4096 }
+        ensures text { self.new ≡ self.old ++ (codes "drop " ++ decimal (number_of reason) ++ codes " " ++ name_of reason) }
+        ensures len { length self.new ≤ length self.old + 24 }
+    {
+        self.put_text(b"drop ");
+        self.put_small(reason.number());
+        self.put_octet(b' ');
+        self.put_text(reason.name().as_bytes());
+    }
+
+    /// Puts what a change was answered.
+    pub fn put_reply(&mut self, reply: Result<(), ChangeFault>)
+        requires room { length self.old + 24 ≤ 4096 }
+        ensures text { self.new ≡ self.old ++ reply_text (fault_of reply) }
+        ensures len { length self.new ≤ length self.old + 24 }
+    {
+        match reply {
+            Ok(()) => self.put_text(b"done"),
+            Err(fault) => {
+                self.put_text(b"refused ");
+                self.put_small(fault.number());
+                self.put_octet(b' ');
+                self.put_text(fault.name().as_bytes());
+            }
+        }
+    }
+
+    /// Puts how many octets were sent, or the name of the reason why none were.
+    fn put_count(&mut self, count: Result<usize, Reason>)
+        requires room { length self.old + 21 ≤ 4096 }
+        ensures text { self.new ≡ self.old ++ count_text count }
+        ensures len { length self.new ≤ length self.old + 21 }
+    {
+        match count {
+            Ok(count) => {
+                self.put_octet(b'=');
+                self.put_number(count as u64);
+            }
+            Err(reason) => {
+                self.put_octet(b'!');
+                self.put_text(reason.name().as_bytes());
+            }
+        }
+    }
+}
+
+/// How many octets leave, or why none do.
+#[inline]
+fn count_of(sent: &Result<Leaving, Reason>) -> Result<usize, Reason>
+    ensures { count_text result ≡ sent_text (texts sent.now) }
+{
+    match sent {
+        Ok(leaving) => Ok(leaving.len()),
+        Err(reason) => Err(*reason),
+    }
+}

@@ -1,0 +1,82 @@
+//! Whole decision lines.
+ghost use Rattle.std.specs.Prelude.{◌≡◌, ◌≤◌, ◌+◌, ◌++◌, length, map, IsSome, IsTrue, None};
+ghost use Rattle.std.specs.List.{list_all};
+ghost use Rattle.frame_view.specs.First.{fault_of};
+ghost use Rattle.endpoint_state.specs.Settings.{segment_at};
+ghost use Rattle.endpoint_state.specs.Step.{can_leave};
+ghost use Rattle.endpoint_core.specs.Decision.{refused_as};
+ghost use Rattle.endpoint_core.specs.Kept.{state_of};
+ghost use Rattle.endpoint_core.specs.Step.{Decided, Replied, has_two_tunnels, sent_at};
+ghost use Rattle.endpoint_core.specs.Text.{outcomes_text};
+ghost use Rattle.decision_lines.specs.Lines.{answer_text, cut_line, line};
+
+use crate::counter::Counter;
+use crate::line::Line;
+use endpoint_core::{Came, ChangeFault, Endpoint, Head};
+use filter_db::Place;
+use frame_view::{Refused, Vid};
+use timeline::{Cut, Event};
+
+impl Line {
+    /// Writes the line of a frame or a packet that is dropped, which is the event of this number.
+    pub fn write_drop(&mut self, number: &Counter, event: &Event, refused: Refused)
+        ensures { self.new ≡ line number.now event.now (answer_text None (Decided (refused_as refused))) }
+    {
+        self.begin(number, event, refused.segment);
+        self.put_drop(refused.reason);
+        self.end();
+    }
+
+    /// Writes the line of a change, which is the event of this number, with the segment that it names and what it was
+    /// answered.
+    pub fn write_reply(
+        &mut self,
+        number: &Counter,
+        event: &Event,
+        named: Option<Vid>,
+        reply: Result<(), ChangeFault>,
+    )
+        ensures { self.new ≡ line number.now event.now (answer_text named (Replied (fault_of reply))) }
+    {
+        self.begin(number, event, named);
+        self.put_reply(reply);
+        self.end();
+    }
+
+    /// Writes the line of a capture that ends with a cut rest.
+    pub fn write_cut(&mut self, cut: &Cut)
+        ensures { self.new ≡ cut_line cut.now }
+    {
+        self.clear();
+        self.put_text(b"cut ");
+        self.put_tap(cut.tap);
+        self.put_octet(b' ');
+        self.put_number(cut.whole);
+        self.end();
+    }
+
+    /// Puts what comes of each place, with one space between two.
+    pub(crate) fn put_outcomes(
+        &mut self,
+        endpoint: &Endpoint,
+        came: &Came,
+        places: &[Place],
+        head: &mut Head,
+    )
+        requires there { IsSome (segment_at (state_of endpoint.now).bridges.settings came.now.vid) }
+        requires leave { IsTrue (list_all (can_leave (state_of endpoint.now).bridges.settings came.now.vid) places.now) }
+        requires few { length places.now ≤ 32 }
+        requires room { length self.old + 2464 ≤ 4096 }
+        ensures text { let S = (state_of endpoint.now).bridges.settings in
+            self.new ≡ self.old ++ outcomes_text (has_two_tunnels S.overlay came.now.vid) (map (sent_at S came.now.vid came.now.frame) places.now) }
+        ensures len { length self.new ≤ length self.old + 2464 }
+    {
+        let two_tunnels = endpoint.has_two_tunnels(came);
+        let mut is_first = true;
+        for place in places {
+            let sent = endpoint.emit(came, *place, head);
+            self.put_outcome(is_first, two_tunnels, *place, &sent);
+            is_first = false;
+        }
+    }
+}

@@ -1,0 +1,56 @@
+//! What all packets with one frame share.
+ghost use Rattle.std.specs.Prelude.{◌≡◌, IfSome, is_some};
+ghost use Rattle.encapsulate.specs.Packet.{frame_sum};
+ghost use Rattle.encapsulate.specs.Sums.{AreSums};
+
+use crate::flow::source_port;
+use frame_view::BridgeFrame;
+use header_sums::{fold, folded, words};
+
+/// What depends on a frame alone in the packets that it is sent in, computed once for all of them: the source port of
+/// its flow, and the folded sum of its octets, where it was taken.
+#[derive(Clone, Copy, Debug, PartialEq, Eq)]
+pub struct FrameSums {
+    pub(crate) port: u16,
+    sum: Option<u16>,
+}
+
+impl FrameSums {
+    /// Those of a frame, whose octets are summed where a packet with a checksum is to be sent.
+    pub fn of(frame: &BridgeFrame, is_summed: bool) -> FrameSums
+        ensures sums { AreSums frame.now result }
+        ensures summed { is_some result.sum ≡ is_summed }
+    {
+        let sum = if is_summed {
+            Some(frame_sum(frame))
+        } else {
+            None
+        };
+        FrameSums {
+            port: source_port(frame),
+            sum,
+        }
+    }
+
+    /// The sum of the frame's octets where a checksum is computed.
+    pub(crate) fn for_checksum(&self, is_computed: bool, frame: &BridgeFrame) -> Option<u16>
+        requires { AreSums frame.now self.now }
+        ensures sum { IfSome result (λ n. n ≡ frame_sum frame.now) }
+        ensures computed { is_some result ≡ is_computed }
+    {
+        if !is_computed {
+            return None;
+        }
+        match self.sum {
+            Some(sum) => Some(sum),
+            None => Some(frame_sum(frame)),
+        }
+    }
+}
+
+/// The folded sum of a frame's octets, without a tag.
+fn frame_sum(frame: &BridgeFrame) -> u16
+    ensures { result ≡ frame_sum frame.now }
+{
+    fold(words(frame.addresses) + u64::from(folded(frame.body)))
+}

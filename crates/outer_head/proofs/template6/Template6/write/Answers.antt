@@ -1,0 +1,26 @@
+use Rattle.std.proofs.Common.{◌≡◌, ◌∙◌, ◌+◌, ◌++◌, ap, sym, length, arith, ℕ, List}
+use Rattle.std.proofs.lemmas.List.{length-append}
+use Rattle.header_sums.specs.Octets.{octets}
+use Rattle.frame_view.specs.Frame.{Frame, plain}
+use Rattle.outer_head.specs.Template.{Fixed, blank6}
+use Rattle.outer_head.proofs.FillingLemmas.{filled6, packet6-filled, over}
+use Rattle.outer_head.proofs.TemplateLemmas.{length-part, length-plain}
+use Rattle.outer_head.proofs.template6.Template6.write.Goals as goal
+
+pub returns : goal.returns
+returns c =
+    let t : Fixed = c.args.self.now in
+    let f = plain c.args.frame.now in
+    let b = c.self.inside.octets in
+    let n : ℕ = 28 + length c.frame.inside.body.now in
+    let hop6 : length t.next_hop ≡ 6 = ap (λ (x : Fixed). length x.next_hop) (sym c.self.view_is) ∙ length-part 0 6 b (omega arith) in
+    let mac6 : length t.mac ≡ 6 = ap (λ (x : Fixed). length x.mac) (sym c.self.view_is) ∙ length-part 6 6 b (omega arith) in
+    let src : length t.src ≡ 16 = ap (λ (x : Fixed). length x.src) (sym c.self.view_is) ∙ length-part 22 16 b (omega arith) in
+    let tunnel : length t.tunnel ≡ 8 = ap (λ (x : Fixed). length x.tunnel) (sym c.self.view_is) ∙ length-part 62 8 b (omega arith) in
+    let long : length f ≡ 12 + length c.frame.inside.body.now = ap (λ (g : Frame). length (plain g)) (sym c.frame.view_is) ∙ length-plain c.frame.inside.dst c.frame.inside.src c.frame.inside.body.now c.frame.inside.addresses.now c.frame.invariant.0 c.frame.invariant.1 in
+    let len : n ≡ 8 + length (t.tunnel ++ f) = omega (arith, long, tunnel, length-append t.tunnel f) in
+    let copied : c.copy.new.head.items ≡ b = c.copy.ensures in
+    let blank : c.as_mut_slice.result.now ≡ blank6 t = c.as_mut_slice.ensures.value ∙ copied ∙ c.self.invariant.0 ∙ ap blank6 c.self.view_is in
+    let filled = c.fill.ensures.filled ∙ ap (λ (x : List ℕ). filled6 x c.args.hop (octets 2 n) c.args.dst (octets 2 c.args.sport) (octets 2 n) (octets 2 c.udp_sum-sum.result)) blank in
+    ap (λ (x : List ℕ). x ++ f) (over c.fill.new.text c.copy.new.head.items (omega (arith, ap length copied, c.fill.ensures.long)) ∙ filled)
+    ∙ packet6-filled t c.args.hop c.args.dst f _ c.args.sport n c.udp_sum-sum.result (omega arith) (omega arith) hop6 mac6 src tunnel len c.udp_sum-sum.ensures

@@ -1,0 +1,45 @@
+//! Heads, and the parts that both families share.
+ghost use Rattle.std.specs.Prelude.{◌≡◌, ◌≤◌, length};
+ghost use Rattle.outer_head.specs.Packet.{tunnel_header};
+ghost use Rattle.outer_head.specs.Template.{blank_udp};
+
+use arrayvec::ArrayVec;
+use geneve_head::gn_head;
+use ip_udp_view::Tunnel;
+use vxlan_head::{Vni, vx_head};
+
+/// The headers in front of a frame, of at most 70 octets: an Ethernet, an IPv6, a UDP and a tunnel header.
+pub type Head = ArrayVec<u8, 70>;
+
+/// The octets of a UDP header, a tunnel header without options, and both MAC addresses of a frame.
+pub(crate) const BEFORE_BODY: usize = 28;
+
+/// The tunnel header of a kind and VNI.
+pub fn tunnel_head(kind: Tunnel, vni: Vni) -> [u8; 8]
+    ensures { result ≡ tunnel_header kind vni }
+{
+    match kind {
+        Tunnel::Vxlan => vx_head(vni),
+        Tunnel::Geneve => gn_head(vni),
+    }
+}
+
+/// The UDP header whose source port, length and checksum are 0.
+pub(crate) fn blank_udp(dport: u16) -> [u8; 8]
+    ensures { result ≡ blank_udp dport }
+{
+    let [high, low] = dport.to_be_bytes();
+    [0, 0, high, low, 0, 0, 0, 0]
+}
+
+/// Puts octets in place of what a head has.
+pub(crate) fn copy(octets: &[u8], head: &mut Head)
+    requires { length octets.now ≤ 70 }
+    ensures { head.new.items ≡ octets.now }
+{
+    head.clear();
+    match head.try_extend_from_slice(octets) {
+        Ok(()) => {}
+        Err(_) => unreachable!(),
+    }
+}

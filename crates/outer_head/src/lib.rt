@@ -1,0 +1,16 @@
+//! The outer head of a frame in a tunnel, ready-made: Ethernet, IPv4 (RFC 791, 3.1) or IPv6 (RFC 8200, 3), UDP (RFC 768),
+//! and VXLAN (RFC 7348, 5) or Geneve (RFC 8926, 3.4).
+//!
+//! [`Template4`] and [`Template6`] have what is the same in all heads of one tunnel, and the sums of its words; from a
+//! template a head is a copy in which next hop, destination, source port, lengths and checksums are filled. The crate knows
+//! no settings: all values are handed in. `specs/Packet` has the definition of the whole packet.
+#![tactic(auto)]
+
+mod head;
+mod numbers;
+mod template4;
+mod template6;
+
+pub use head::{Head, tunnel_head};
+pub use template4::Template4;
+pub use template6::Template6;

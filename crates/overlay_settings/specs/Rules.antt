@@ -1,0 +1,113 @@
+-- What settings keep to.
+use Rattle.std.specs.Prelude.{◌≡◌, ℕ, ◌≤◌, ◌==◌, ◌||◌, IsTrue, IsFalse, List, [], ◌∷◌, ◌++◌, length, is_some, is_none, IfSome, Some}
+use Rattle.std.specs.List.{list_any}
+use Rattle.std.specs.FinMap.{get, len}
+use Rattle.ip_udp_view.specs.declared.addr.Addr.{Addr}
+use Rattle.ip_udp_view.specs.declared.addr.Addr.TheVariants.{V4, V6}
+use Rattle.frame_view.specs.Address.{is_group as is_group_mac}
+use Rattle.ip_udp_view.specs.Addr.{IsAddr, address, is_group, is_usable, same_kind}
+use Rattle.flood_lists.specs.declared.own.Own.{Own}
+use Rattle.flood_lists.specs.declared.remote.Remote.{Remote}
+use Rattle.flood_lists.specs.First.{first}
+use Rattle.flood_lists.specs.Flood.{Entries, add_faults}
+use Rattle.geneve_head.specs.Options.{holds}
+use Rattle.vlan_ports.specs.declared.port.PortRule.{PortRule}
+use Rattle.underlay.specs.declared.settings.Underlay.{Underlay}
+use Rattle.underlay.specs.declared.tunnels.SegmentTunnel.{SegmentTunnel}
+use Rattle.underlay.specs.Overlay.{clash}
+use Rattle.underlay.specs.Settings.{own}
+use Rattle.overlay_settings.specs.declared.segment.SegmentRule.{SegmentRule}
+use Rattle.overlay_settings.specs.Settings.{Settings, Exceptions, tunnel_rule, sum_of_limits, is_member}
+
+abbrev pub IsWithin : ℕ → ℕ → ℕ → Type 0
+IsWithin low high n = (low ≤ n) × (n ≤ high)
+
+-- each item of a list, behind those before it
+abbrev pub EachBehind : {A : Type 0} → (List A → A → Type 0) → List A → List A → Type 0
+EachBehind P earlier [] = Unit {0}
+EachBehind P earlier (x ∷ xs) = P earlier x × EachBehind P (earlier ++ x ∷ []) xs
+
+-- ---- the underlay
+
+-- an option's class and type, which stand there once
+abbrev pub IsKnown : List (ℕ × ℕ) → ℕ × ℕ → Type 0
+IsKnown earlier o = IsWithin 0 65535 o.0 × IsWithin 0 255 o.1 × IsFalse (holds earlier o.0 o.1)
+
+-- an address that one endpoint can have: as long as its family's are, usable, and no group's
+pub record IsEndpoint (a : Addr) : Type 0 where
+  pub is_addr : IsAddr a
+  pub usable : IsTrue (is_usable a)
+  pub unicast : IsFalse (is_group a)
+
+-- a MAC address of six octets that is no group's
+pub record IsIndividual (mac : List ℕ) : Type 0 where
+  pub six : length mac ≡ 6
+  pub unicast : IsFalse (is_group_mac mac)
+
+-- the address of one endpoint, and the MAC address of the next hop to it
+abbrev pub IsHop : Addr × List ℕ → Type 0
+IsHop h = IsEndpoint h.0 × IsIndividual h.1
+
+-- each exception leads to one endpoint
+abbrev pub AreHops : Exceptions → Type 0
+AreHops hops = (octets mac : List ℕ) → get hops octets ≡ Some mac → (a : Addr) × (address a ≡ octets) × IsHop (a, mac)
+
+pub record IsUnderlay (u : Underlay) : Type 0 where
+  pub mac : IsIndividual u.mac
+  pub next_hop : IsIndividual u.next_hop
+  pub ip4 : IfSome u.ip4 (λ ip. IsEndpoint (V4 ip))
+  pub ip6 : IfSome u.ip6 (λ ip. IsEndpoint (V6 ip))
+  pub family : IsTrue (is_some u.ip4 || is_some u.ip6)
+  pub mtu : IsWithin 1280 65535 u.mtu
+  pub ttl : IsWithin 1 255 u.ttl
+  pub vxlan_port : IsWithin 1 65535 u.vxlan_port
+  pub geneve_port : IsWithin 1 65535 u.geneve_port
+  pub ports_apart : IsFalse (u.geneve_port == u.vxlan_port)
+  pub known_count : length u.known ≤ 16
+  pub known : EachBehind IsKnown [] u.known
+  pub hop_count : len u.hops ≤ 64
+  pub hops : AreHops u.hops
+
+-- ---- ports and segments
+
+abbrev pub IsPort : List PortRule → PortRule → Type 0
+IsPort earlier p = IsWithin 1 4094 p.pvid
+
+-- a port that stands once on a list of members, and not on the other list
+abbrev pub IsMember : ℕ → List ℕ → List ℕ → ℕ → Type 0
+IsMember ports other earlier p = IsWithin 1 ports p × IsFalse (is_member earlier p) × IsFalse (is_member other p)
+
+-- a tunnel of a kind that no earlier one of the segment has
+abbrev pub IsTunnel : List SegmentTunnel → SegmentTunnel → Type 0
+IsTunnel earlier t = IsWithin 0 16777215 t.vni × IsWithin 0 255 t.group × IsFalse (list_any (λ e. same_kind e.kind t.kind) earlier)
+
+-- a remote that the flood list takes, by a kind of tunnel that the segment has, at an address as long as its family's are
+pub record IsRemote (own : Own) (tunnels : List SegmentTunnel) (earlier : Entries) (r : Remote) : Type 0 where
+  pub kind : IsTrue (list_any (λ t. same_kind t.kind r.tunnel) tunnels)
+  pub taken : IsTrue (is_none (first (add_faults own earlier r.tunnel r.addr)))
+  pub is_addr : IsAddr r.addr
+
+-- a segment of an endpoint with these own addresses and so many ports
+pub record IsSegment (own : Own) (ports : ℕ) (earlier : List SegmentRule) (s : SegmentRule) : Type 0 where
+  pub vid : IsWithin 1 4094 s.vid
+  pub tunnel_count : IsWithin 1 2 (length s.tunnels)
+  pub tunnels : EachBehind IsTunnel [] s.tunnels
+  pub flood_count : length s.flood ≤ 16
+  pub flood : EachBehind (IsRemote own s.tunnels) [] s.flood
+  pub limit : IsWithin 1 8192 s.limit
+  -- in seconds (802.1Q, 8.8.3)
+  pub ageing : IsWithin 10 1000000 s.ageing
+  pub untagged : EachBehind (IsMember ports []) [] s.untagged
+  pub tagged : EachBehind (IsMember ports s.untagged) [] s.tagged
+  -- no segment before it has its VID, or a tunnel of the same kind and VNI
+  pub apart : IsFalse (list_any (λ e. clash (tunnel_rule e) (tunnel_rule s)) earlier)
+
+-- ---- all
+
+pub record MeetsRules (s : Settings) : Type 0 where
+  pub underlay : IsUnderlay s.underlay
+  pub port_count : IsWithin 1 16 (length s.ports)
+  pub ports : EachBehind IsPort [] s.ports
+  pub segment_count : IsWithin 1 256 (length s.segments)
+  pub segments : EachBehind (IsSegment (own s.underlay) (length s.ports)) [] s.segments
+  pub limits : sum_of_limits s.segments ≤ 65536

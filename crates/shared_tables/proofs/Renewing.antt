@@ -1,0 +1,177 @@
+-- What holds of the slots, the heads and the segments together holds when an entry has been renewed in its slot: it
+-- leaves its line and comes behind the last of a line, and on its chain it stays.
+use Rattle.std.proofs.lemmas.Bool.{cases_lt}
+use Rattle.std.proofs.Common.{inl, inr, ◌⊎◌, ◌≡◌, ℕ, ◌+◌, ◌-◌, ◌<◌, ◌≤◌, Bool, true, false, List, length, map, set, Option, Some, None, is_none, refl, sym, ap, ◌∙◌, subst, arith}
+use Rattle.std.proofs.lemmas.List.{get_or-set_same, length-set, get_or_past, set-set}
+use Rattle.std.specs.Option.{option_map}
+use Rattle.filter_db.specs.declared.place.Place.{Place}
+use Rattle.shared_tables.specs.declared.slots.Links.{Links}
+use Rattle.shared_tables.specs.Pool.{Held}
+use Rattle.shared_tables.specs.declared.share.Share.{Share}
+use Rattle.shared_tables.specs.Bucket.{chain_of}
+use Rattle.shared_tables.specs.Pool.{links_at, entry_at, alone, is_fixed_in, renewed}
+use Rattle.shared_tables.specs.Threads.{HoldsAny, unlinked, pushed_back, pushed_front, ends_without, ends_with, heads_without}
+use Rattle.shared_tables.specs.Line.{last_of}
+use Rattle.shared_tables.specs.Shared.{chain_key, line_key, IsNow}
+use Rattle.shared_tables.specs.Sound.{IsChain, IsSound, share_at, head_at, line_at, with_line, share_moved, shares_moved, share_written, last_left, rule_of}
+use Rattle.shared_tables.proofs.Threaded.{thread_same, back_over}
+use Rattle.shared_tables.proofs.SoundLemmas.{sound_at, holds_last, holds_more, rules_stay}
+use Rattle.shared_tables.proofs.Entering.{enter_sound}
+use Rattle.shared_tables.proofs.Leaving.{leave_sound, leave_lacks, leave_lt, leave_count}
+use Rattle.shared_tables.proofs.Dropping.{Stays}
+
+-- a share whose line loses an entry and gains it again
+abbrev without : Share → Bool → Links → Share
+without share was own = record (with_line share was (ends_without (line_at share was) own)) { count = share.count - 1 }
+
+abbrev again : Share → Bool → ℕ → Share
+again share fixed s = record (with_line share fixed (ends_with (line_at share fixed) s)) { count = share.count + 1 }
+
+moved_is : (share : Share) (was fixed : Bool) (own : Links) (s : ℕ) → 0 < share.count → again (without share was own) fixed s ≡ share_moved was fixed own s share
+moved_is share was fixed own s some = by was fixed (omega (arith, some))
+  where
+    by : (was fixed : Bool) → share.count - 1 + 1 ≡ share.count → again (without share was own) fixed s ≡ share_moved was fixed own s share
+    by true true e = ap (λ n. record (share_moved true true own s share) { count = n }) e
+    by true false e = ap (λ n. record (share_moved true false own s share) { count = n }) e
+    by false true e = ap (λ n. record (share_moved false true own s share) { count = n }) e
+    by false false e = ap (λ n. record (share_moved false false own s share) { count = n }) e
+
+limit_is : (share : Share) (was : Bool) (own : Links) → (without share was own).limit ≡ share.limit
+limit_is share true own = refl
+limit_is share false own = refl
+
+last_is : (share : Share) (was fixed : Bool) (own : Links) → (line_at (without share was own) fixed).last ≡ last_left (Some share) was fixed own
+last_is share true true own = refl
+last_is share true false own = refl
+last_is share false true own = refl
+last_is share false false own = refl
+
+rule_is : (share : Share) (was fixed : Bool) (own : Links) (s : ℕ) → rule_of (share_moved was fixed own s share) ≡ rule_of share
+rule_is share true true own s = refl
+rule_is share true false own s = refl
+rule_is share false true own s = refl
+rule_is share false false own s = refl
+
+module _ (es : List (Option Held)) (cs ls : List Links) (heads : List (Option ℕ)) (shares : List (Option Share)) (moment : ℕ) (h : IsSound es cs ls heads shares moment)
+    (v s : ℕ) (k : Stays es shares v s) (place : Place) (last : Option ℕ) (now : IsNow last moment) where
+  abbrev was : Bool
+  was = is_none k.entry.last
+
+  abbrev fixed : Bool
+  fixed = is_none last
+
+  abbrev own : Links
+  own = links_at ls s
+
+  abbrev entry' : Held
+  entry' = record k.entry { place = place; last = last }
+
+  abbrev gone : List (Option Held)
+  gone = set es s None
+
+  abbrev share' : Share
+  share' = without k.share was own
+
+  abbrev shares' : List (Option Share)
+  shares' = set shares v (Some share')
+
+  abbrev b : ℕ
+  b = chain_of k.entry.vid k.entry.mac
+
+  abbrev chains' : List Links
+  chains' = set (unlinked cs s) s alone
+
+  abbrev lines' : List Links
+  lines' = set (unlinked ls s) s alone
+
+  abbrev heads' : List (Option ℕ)
+  heads' = heads_without heads b (links_at cs s)
+
+  -- what it would be on its chain, had it left that too
+  abbrev chains'' : List Links
+  chains'' = pushed_front (set chains' s alone) (head_at heads' b) s
+
+  abbrev heads'' : List (Option ℕ)
+  heads'' = set heads' b (Some s)
+
+  lt : s < length es
+  lt = leave_lt es cs ls heads shares moment h v k.share k.here k.entry k.is_of s k.at_slot
+
+  share_lt : v < length shares
+  share_lt = from (cases_lt v (length shares)) where
+    from : (v < length shares) ⊎ (length shares ≤ v) → v < length shares
+    from (inl q) = q
+    from (inr q) = let bad : None ≡ Some k.share = sym (get_or_past shares v None q) ∙ k.here in cc
+
+  some : 0 < k.share.count
+  some = leave_count es cs ls heads shares moment h v k.share k.here k.entry k.is_of s k.at_slot
+
+  abbrev left : IsSound gone chains' lines' heads' shares' moment
+  left = leave_sound es cs ls heads shares moment h v k.share k.here k.entry k.is_of s k.at_slot
+
+  here' : share_at (set shares v (Some share')) v ≡ Some share'
+  here' = get_or-set_same shares v (Some share') None share_lt
+
+  lt' : s < length gone
+  lt' = subst (λ n. s < n) (sym (length-set es s None)) lt
+
+  room : share'.count < share'.limit
+  room = let limit = (h.lined v k.share k.here).limit in omega (arith, some, limit, limit_is k.share was own)
+
+  -- it leaves, and comes again
+  abbrev joined : IsSound (set gone s (Some entry')) chains'' (pushed_back (set lines' s alone) (line_at share' fixed).last s) heads'' (set shares' v (Some (again share' fixed s))) moment
+  joined =
+      enter_sound gone chains' lines' heads' shares' moment left v share' here' room entry' k.is_of
+      (leave_lacks es cs ls heads shares moment h v k.share k.here k.entry k.is_of s k.at_slot k.entry.mac refl) now s lt' (get_or-set_same es s None None lt)
+
+  entries_are : set es s (renewed (entry_at es s) place last) ≡ set gone s (Some entry')
+  entries_are = ap (λ o. set es s (renewed o place last)) k.at_slot ∙ sym (set-set es s None (Some entry'))
+
+  last_left_is : last_left (share_at shares v) (is_fixed_in (entry_at es s)) fixed own ≡ (line_at share' fixed).last
+  last_left_is = ap (λ o. last_left (share_at shares v) (is_fixed_in o) fixed own) k.at_slot ∙ ap (λ o. last_left o was fixed own) k.here ∙ sym (last_is k.share was fixed own)
+
+  moved_shares : shares_moved shares v (is_fixed_in (entry_at es s)) fixed own s ≡ set shares v (Some (share_moved was fixed own s k.share))
+  moved_shares = ap (λ o. shares_moved shares v (is_fixed_in o) fixed own s) k.at_slot ∙ ap (λ o. share_written shares v (option_map (share_moved was fixed own s) o)) k.here
+
+  shares_are : shares_moved shares v (is_fixed_in (entry_at es s)) fixed own s ≡ set (set shares v (Some share')) v (Some (again share' fixed s))
+  shares_are = moved_shares ∙ ap (λ x. set shares v (Some x)) (sym (moved_is k.share was fixed own s some)) ∙ sym (set-set shares v (Some share') (Some (again share' fixed s)))
+
+  lines_are : (l : Option ℕ) (x : Links) → l ≡ (line_at share' fixed).last → pushed_back (unlinked ls s) l s ≡ pushed_back (set (set (unlinked ls s) s x) s x) (line_at share' fixed).last s
+  lines_are l x e =
+      ap (λ l. pushed_back (unlinked ls s) l s) e ∙ sym (back_over (unlinked ls s) s (line_at share' fixed).last x) ∙ sym (back_over (set (unlinked ls s) s x) s (line_at share' fixed).last x)
+
+  renewed_sound : IsSound (set es s (renewed (entry_at es s) place last)) chains'' (pushed_back (unlinked ls s) (last_left (share_at shares v) (is_fixed_in (entry_at es s)) fixed own) s) heads'' (shares_moved shares v (is_fixed_in (entry_at es s)) fixed own s) moment
+  renewed_sound = sound_at moment entries_are refl (lines_are (last_left (share_at shares v) (is_fixed_in (entry_at es s)) fixed own) alone last_left_is) refl shares_are joined
+
+  chained : (c : ℕ) → c < 65536 → IsChain (set es s (renewed (entry_at es s) place last)) cs c (head_at heads c)
+  chained c clt =
+      let old = h.chained c clt in
+      record {
+        list = old.list;
+        thread = thread_same (chain_key c) refl cs es (head_at heads c) (last_of old.list None) s (renewed (entry_at es s) place last) h.chain_links lt old.list old.thread
+            (ap (λ o. chain_key c (renewed o place last)) k.at_slot ∙ sym (ap (chain_key c) k.at_slot));
+      }
+
+  pub renew_sound : IsSound (set es s (renewed (entry_at es s) place last)) cs (pushed_back (unlinked ls s) (last_left (share_at shares v) (is_fixed_in (entry_at es s)) fixed own) s) heads (shares_moved shares v (is_fixed_in (entry_at es s)) fixed own s) moment
+  renew_sound = record {
+    chain_links = h.chain_links ∙ sym (length-set es s (renewed (entry_at es s) place last));
+    line_links = renewed_sound.line_links;
+    heads_length = h.heads_length;
+    shares_length = renewed_sound.shares_length;
+    chained = chained;
+    lined = renewed_sound.lined;
+    unique = renewed_sound.unique;
+    free = renewed_sound.free;
+    room = renewed_sound.room;
+  }
+
+  -- the line that it comes to ends with an entry
+  pub renew_last : HoldsAny (set es s (renewed (entry_at es s) place last)) (last_left (share_at shares v) (is_fixed_in (entry_at es s)) fixed own)
+  renew_last =
+      let lines = left.lined v share' here' in
+      subst (λ o. HoldsAny (set es s (renewed (entry_at es s) place last)) o) (sym last_left_is)
+      (subst (λ xs. HoldsAny xs (line_at share' fixed).last) (sym entries_are)
+      (holds_more gone s entry' (line_at share' fixed).last lt' (holds_last (line_key v fixed) refl lines' gone _ _ (lines.list fixed) (lines.thread fixed))))
+
+  pub renew_rules : map (option_map rule_of) (shares_moved shares v (is_fixed_in (entry_at es s)) fixed own s) ≡ map (option_map rule_of) shares
+  renew_rules = ap (map (option_map rule_of)) moved_shares ∙ rules_stay shares v k.share (share_moved was fixed own s k.share) k.here (rule_is k.share was fixed own s)

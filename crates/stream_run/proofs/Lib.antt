@@ -1,0 +1,7 @@
+mod Standing
+mod Lining
+mod Fetching
+mod Readying
+mod Stepping
+mod Running
+mod Headers

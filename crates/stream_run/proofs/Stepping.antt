@@ -1,0 +1,84 @@
+-- One event, and the fetch behind it.
+use Rattle.std.proofs.Common.{◌≡◌, ◌≤◌, ◌∙◌, refl, sym, ap, subst, ℕ, ◌+◌, List, length, slice_set, slice_index_or, Result, Ok, Err}
+use Rattle.pcap_stream.specs.Source.{Stream}
+use Rattle.overlay_settings.specs.declared.change.TimedChange.{TimedChange}
+use Rattle.endpoint_core.specs.Step.{State, answer}
+use Rattle.capture_run.specs.Outputs.{Outputs, event_of}
+use Rattle.capture_run.specs.Writing.{with_event}
+use Rattle.capture_run.proofs.Changes.{ports_stay}
+use Rattle.stream_run.specs.Stage.{Drains, Lead, StandAt}
+use Rattle.stream_run.specs.Steps.{AreReady, FetchesAt, IsNextEvent, IsStep, IsTaken, changes_of, moment_at, run_at}
+use Rattle.stream_run.specs.Turns.{IsFirst}
+use Rattle.stream_run.specs.declared.fault.StreamFault.{StreamFault}
+use Rattle.stream_run.specs.declared.fault.StreamFault.TheVariants as stream
+use Rattle.stream_run.specs.declared.fault.Target.{Target}
+use Rattle.stream_run.specs.declared.turn.First.{First}
+use Rattle.stream_run.specs.declared.turn.Turn.{Turn}
+use Rattle.stream_run.proofs.Readying.{asked, event_moment, next_up, reads_fault, reads_turn, ready_again, stands_at_fault}
+
+module _ (changes : List TimedChange) (ports : List Stream) (underlay : Stream) (turns : List Turn) (state : State) (number : ℕ) (before : Drains) (first : First) (done n : ℕ) (new_state : State) (behind : Drains) where
+  abbrev Taken : Result (Unit {0}) Target → Type 0
+  Taken result = IsTaken changes ports underlay first.index done first.moment n state new_state before behind result
+
+  abbrev Leads : (result : Result (Unit {0}) Target) → Taken result → Type 0
+  Leads result taken = (start : Drains) (o : Outputs) → StandAt start before o
+      → Lead start behind o (with_event (changes_of changes) (number + 1) o taken.e (answer state (event_of (changes_of changes) taken.e))) result
+
+  leads : (result : Result (Unit {0}) Target) (taken : Taken result) → n ≡ number + 1 → Leads result taken
+  leads result taken is start o at =
+      subst (λ k. Lead start behind o (with_event (changes_of changes) k o taken.e (answer state (event_of (changes_of changes) taken.e))) result) is (taken.outputs start o at)
+
+  nexts : (result : Result (Unit {0}) Target) (taken : Taken result) → ((t : Turn) → done ≡ (slice_index_or turns first.index t).done) → (t : Turn)
+      → IsNextEvent ports underlay first.index (slice_index_or turns first.index t).done first.moment taken.e
+  nexts result taken same t = subst (λ k. IsNextEvent ports underlay first.index k first.moment taken.e) (same t) taken.next
+
+  pub step_put : (new_number : ℕ) (target : Target) → ((t : Turn) → done ≡ (slice_index_or turns first.index t).done) → n ≡ number + 1 → new_number ≡ n → Taken (Err target)
+      → IsStep changes (run_at ports underlay turns state number before) (run_at ports underlay turns new_state new_number behind) first (Err (stream.Write target))
+  step_put new_number target same one also taken = record {
+    e = taken.e;
+    moment = event_moment ports underlay first.index done first.moment taken.e taken.next;
+    next = nexts (Err target) taken same;
+    state = taken.state;
+    number = also ∙ one;
+    outputs = leads (Err target) taken one;
+    ready = tt;
+    reads = record { ports = refl; underlay = refl };
+  }
+
+  pub step_fault : (new_number : ℕ) (new : List Stream) (new_underlay : Stream) (fault : StreamFault) → ((t : Turn) → done ≡ (slice_index_or turns first.index t).done) → n ≡ number + 1 → new_number ≡ n
+      → Taken (Ok tt) → FetchesAt changes first.index (done + 1) first.moment ports underlay new new_underlay (Err fault)
+      → IsStep changes (run_at ports underlay turns state number before) (run_at new new_underlay turns new_state new_number behind) first (Err fault)
+  step_fault new_number new new_underlay fault same one also taken fetched = record {
+    e = taken.e;
+    moment = event_moment ports underlay first.index done first.moment taken.e taken.next;
+    next = nexts (Ok tt) taken same;
+    state = taken.state;
+    number = also ∙ one;
+    outputs = λ start o at. stands_at_fault changes first.index (done + 1) first.moment ports underlay new new_underlay fault start behind o _ fetched (leads (Ok tt) taken one start o at);
+    ready = tt;
+    reads = reads_fault changes first.index (done + 1) first.moment ports underlay new new_underlay fault fetched;
+  }
+
+  pub step_turn : (new_number : ℕ) (new : List Stream) (new_underlay : Stream) (turn d : Turn) → AreReady changes (run_at ports underlay turns state number before) → IsFirst turns (length turns) first
+      → ((t : Turn) → done ≡ (slice_index_or turns first.index t).done) → n ≡ number + 1 → new_number ≡ n
+      → Taken (Ok tt) → FetchesAt changes first.index (done + 1) first.moment ports underlay new new_underlay (Ok turn)
+      → IsStep changes (run_at ports underlay turns state number before) (run_at new new_underlay (slice_set turns first.index turn) new_state new_number behind) first (Ok tt)
+  step_turn new_number new new_underlay turn d ready is_first same one also taken fetched =
+      let event = event_moment ports underlay first.index done first.moment taken.e taken.next in
+      let up = next_up changes ports underlay turns state number before first d ready is_first in
+      let few = subst (λ k. k ≤ number) (sym (same d)) up.count in
+      let this = λ (zero : first.index ≡ 0). ap (moment_at changes) (same d) ∙ up.change zero in
+      record {
+        e = taken.e;
+        moment = event;
+        next = nexts (Ok tt) taken same;
+        state = taken.state;
+        number = also ∙ one;
+        outputs = leads (Ok tt) taken one;
+        ready = subst (λ k. AreReady changes (run_at new new_underlay (slice_set turns first.index turn) new_state k behind)) (sym (also ∙ one))
+            (ready_again changes ports underlay turns state number before new new_underlay new_state behind first turn done ready is_first few
+            (ap (λ (s : State). s.moment) taken.state ∙ event)
+            (ap (λ (s : State). length s.bridges.settings.ports.ports) taken.state ∙ ports_stay state (event_of (changes_of changes) taken.e))
+            (asked changes first.index done first.moment ports underlay new new_underlay turn ready.timely up.moment this fetched));
+        reads = reads_turn changes first.index (done + 1) first.moment ports underlay new new_underlay turn fetched;
+      }

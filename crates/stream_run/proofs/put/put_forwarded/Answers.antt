@@ -1,0 +1,45 @@
+use Rattle.std.proofs.Common.{◌≡◌, ◌∙◌, ◌++◌, ◌∷◌, [], ap, subst, map, List, Some}
+use Rattle.std.specs.Prelude.{codes}
+use Rattle.filter_db.specs.declared.place.Place.{Place}
+use Rattle.endpoint_core.specs.Kept.{state_of}
+use Rattle.endpoint_core.specs.Step.{has_two_tunnels, sent_at}
+use Rattle.endpoint_core.specs.Text.{outcomes_text}
+use Rattle.decision_lines.specs.Lines.{line_front, segment_text}
+use Rattle.capture_run.specs.Writing.{with_all_sent, with_line}
+use Rattle.stream_run.specs.Stage.{Lead, StandAt, drains}
+use Rattle.stream_run.proofs.Lining.{pieces}
+use Rattle.stream_run.proofs.Standing.{front_all, front_line, fronts_self, lead_behind, wider}
+use Rattle.stream_run.proofs.put.put_forwarded.Goals as goal
+
+pub returns-in-Err-clause-outputs : goal.returns-in-Err-clause-outputs
+returns-in-Err-clause-outputs g c start o at =
+    let f = sent_at (state_of c.args.endpoint.now).bridges.settings c.args.came.now.vid c.args.came.now.frame in
+    let sent = with_all_sent c.args.event.now.moment o (map f c.args.desk.now.places.items) in
+    let new = drains c.put_places.new.port_sinks c.put_places.new.underlay_sink (g.W.Output.written c.args.decisions.now) (g.W.Output.failures c.args.decisions.now) in
+    let lead = subst (λ (ps : List Place). Lead start new o (with_all_sent c.args.event.now.moment o (map f ps)) c.put_places.result) c.as_slice.ensures.value
+    (c.put_places.ensures.sent start o (g.W.Output.written c.args.decisions.now) (g.W.Output.failures c.args.decisions.now) at) in
+    let failed = rw c.in-Err.is at lead in
+    (wider start new o o sent (with_line sent _) failed.0 (fronts_self o) (front_line sent _), failed.1)
+
+pub returns-clause-outputs : goal.returns-clause-outputs
+returns-clause-outputs g c start o at =
+    let S = (state_of c.args.endpoint.now).bridges.settings in
+    let f = sent_at S c.args.came.now.vid c.args.came.now.frame in
+    let two = has_two_tunnels S.overlay c.args.came.now.vid in
+    let outcomes = map f c.args.desk.now.places.items in
+    let sent = with_all_sent c.args.event.now.moment o outcomes in
+    let before = drains c.put_places.new.port_sinks c.put_places.new.underlay_sink (g.W.Output.written c.args.decisions.now) (g.W.Output.failures c.args.decisions.now) in
+    let stood = subst (λ (ps : List Place). StandAt start before (with_all_sent c.args.event.now.moment o (map f ps))) c.as_slice.ensures.value
+    (c.in_default.ensures.sent start o (g.W.Output.written c.args.decisions.now) (g.W.Output.failures c.args.decisions.now) at) in
+    let front = line_front c.args.desk.now.number c.args.event.now in
+    let seg = segment_text (Some c.args.came.now.vid) in
+    let whole : c.text.result.now ≡ front ++ ((seg ++ codes " " ++ outcomes_text two outcomes) ++ 10 ∷ []) =
+    c.text.ensures.value ∙ c.end.ensures
+    ∙ ap (λ l. l ++ 10 ∷ []) (c.in_default.ensures.line.0 ∙ ap (λ (ps : List Place). c.begin.new.self ++ outcomes_text two (map f ps)) c.as_slice.ensures.value)
+    ∙ ap (λ l. (l ++ outcomes_text two outcomes) ++ 10 ∷ []) (c.begin.ensures.text ∙ ap (λ s. front ++ (segment_text (Some s) ++ codes " ")) c.segment.ensures)
+    ∙ pieces front seg (codes " ") (outcomes_text two outcomes) (10 ∷ []) in
+    let new = drains c.put_places.new.port_sinks c.put_places.new.underlay_sink (g.W.Output.written c.put_line.new.decisions) (g.W.Output.failures c.put_line.new.decisions) in
+    let lead : Lead {T = Unit {0}} start new sent (with_line sent c.text.result.now) c.put_line.result = c.put_line.ensures start sent c.put_places.new.port_sinks c.put_places.new.underlay_sink stood in
+    let text = front ++ ((seg ++ codes " " ++ outcomes_text two outcomes) ++ 10 ∷ []) in
+    lead_behind {T = Unit {0}} start new o sent (with_line sent text) c.put_line.result (front_all c.args.event.now.moment o outcomes)
+    (subst (λ l. Lead {T = Unit {0}} start new sent (with_line sent l) c.put_line.result) whole lead)

@@ -1,0 +1,18 @@
+-- The faults of a source as those of a run.
+use Rattle.std.specs.Prelude.{ℕ}
+use Rattle.pcap_io.specs.declared.header.CaptureFault.TheVariants as capture
+use Rattle.pcap_io.specs.declared.record.RecordFault.TheVariants as record_
+use Rattle.pcap_stream.specs.declared.fault.SourceFault.{SourceFault}
+use Rattle.pcap_stream.specs.declared.fault.SourceFault.TheVariants as source
+use Rattle.timeline.specs.declared.source.Tap.{Tap}
+use Rattle.capture_run.specs.declared.fault.RunFault.TheVariants as faults
+use Rattle.stream_run.specs.declared.fault.StreamFault.{StreamFault}
+use Rattle.stream_run.specs.declared.fault.StreamFault.TheVariants as stream
+
+-- at the record of this number of a capture
+abbrev pub fault_of : Tap → ℕ → SourceFault → StreamFault
+fault_of tap n source.Read = stream.Read tap
+fault_of tap n source.NotPcap = stream.Run (faults.Capture tap capture.NotPcap)
+fault_of tap n source.BadLink = stream.Run (faults.Capture tap capture.BadLink)
+fault_of tap n source.TooLarge = stream.Run (faults.Record tap n record_.TooLarge)
+fault_of tap n source.BadFraction = stream.Run (faults.Record tap n record_.BadFraction)

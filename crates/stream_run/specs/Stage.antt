@@ -1,0 +1,96 @@
+-- How far the outputs of a run have come.
+--     stage      the texts after so many steps: the headers, each event, the lines of the cut captures
+--     StandBetween      what the outputs hold more than before: at least the one texts, and at most the others
+use Rattle.std.specs.Prelude.{◌≡◌, ◌<◌, ◌≤◌, ℕ, zero, suc, ◌-◌, nat_lt, if◌then◌else◌, Bool, false, List, [], length, replicate, take, slice_index_or, map, Option, Result, Ok, Err}
+use Rattle.std.specs.Io.KnownBytes.{Appends}
+use Rattle.pcap_stream.specs.Counts.{GoesOnBy}
+use Rattle.pcap_stream.specs.Sink.{Drain}
+use Rattle.timeline.specs.Timeline.{Timeline}
+use Rattle.overlay_settings.specs.declared.change.Change.{Change}
+use Rattle.endpoint_state.specs.Settings.{Settings}
+use Rattle.capture_run.specs.Outputs.{Outputs, outputs}
+use Rattle.stream_run.specs.declared.fault.Target.{Target}
+use Rattle.stream_run.specs.declared.fault.Target.TheVariants as targets
+
+-- ---- the texts
+
+-- none
+abbrev pub no_texts : ℕ → Outputs
+no_texts ports = record { ports = replicate ports []; underlay = []; decisions = [] }
+
+-- the first k events; behind them all also the captures that are cut
+abbrev pub first_of : ℕ → Timeline → Timeline
+first_of k t = record { events = take k t.events; cuts = if nat_lt (length t.events) k then t.cuts else [] }
+
+-- none; those of the headers; of the headers and an event; and so on to those of the whole run
+abbrev pub stage : Settings → List Change → ℕ → Timeline → ℕ → Outputs
+stage S changes ports t zero = no_texts ports
+stage S changes ports t (suc k) = outputs S changes ports (first_of k t)
+
+-- ---- the outputs
+
+-- those of a run: that of port 1 first
+pub record Drains : Type 0 where
+  pub ports : List Drain
+  pub underlay : Drain
+  pub decisions : Drain
+
+-- the output of the lines is no sink, so it gives up at no time
+abbrev pub drains : List Drain → Drain → Option (List ℕ) → ℕ → Drains
+drains ports underlay written failures = record {
+  ports = ports;
+  underlay = underlay;
+  decisions = record { written = written; failures = failures; is_failed = false };
+}
+
+-- an output holds more than before the front of a text, which is no shorter than another
+pub record StandsBetween (old new : Drain) (least most : List ℕ) : Type 0 where
+  pub size : ℕ
+  pub no_less : length least ≤ size
+  pub no_more : size ≤ length most
+  pub text : Appends old.written new.written (take size most)
+
+-- each of some outputs does
+pub record PortsBetween (old new : List Drain) (least most : List (List ℕ)) : Type 0 where
+  pub many : length new ≡ length old
+  pub many_least : length least ≡ length old
+  pub many_most : length most ≡ length old
+  pub each : (d : Drain) (k : ℕ) → k < length old → StandsBetween (slice_index_or old k d) (slice_index_or new k d) (slice_index_or least k []) (slice_index_or most k [])
+
+-- each output of a run does
+pub record StandBetween (old new : Drains) (least most : Outputs) : Type 0 where
+  pub ports : PortsBetween old.ports new.ports least.ports most.ports
+  pub underlay : StandsBetween old.underlay new.underlay least.underlay most.underlay
+  pub decisions : StandsBetween old.decisions new.decisions least.decisions most.decisions
+
+-- how often an output failed, and whether its sink gave up
+abbrev pub health : Drain → ℕ × Bool
+health d = (d.failures, d.is_failed)
+
+-- no output failed
+pub record AreWell (old new : Drains) : Type 0 where
+  pub ports : map health new.ports ≡ map health old.ports
+  pub underlay : health new.underlay ≡ health old.underlay
+  pub decisions : health new.decisions ≡ health old.decisions
+
+-- each output holds just these texts more than before, and none failed
+pub record StandAt (old new : Drains) (texts : Outputs) : Type 0 where
+  pub between : StandBetween old new texts texts
+  pub well : AreWell old new
+
+-- an output whose sink hadn't given up failed once, or took nothing
+abbrev pub Failed : Drain → Drain → Type 0
+Failed old new = old.is_failed ≡ false → GoesOnBy 1 old.failures new.failures
+
+abbrev pub FailedAt : Target → Drains → Drains → Type 0
+FailedAt (targets.Port port) old new = (d : Drain) → (0 < port) × (port ≤ length old.ports) × Failed (slice_index_or old.ports (port - 1) d) (slice_index_or new.ports (port - 1) d)
+FailedAt targets.Underlay old new = Failed old.underlay new.underlay
+FailedAt targets.Decisions old new = Failed old.decisions new.decisions
+
+-- ---- a step of a run
+
+module _ {T : Type 0} where
+  -- it takes the outputs from the texts at which they stand to the next ones, or to a part of them where an output fails
+  abbrev pub Lead : Drains → Drains → Outputs → Outputs → Result T Target → Type 0
+  Lead start new texts next (Ok x) = StandAt start new next
+  Lead start new texts next (Err target) = StandBetween start new texts next × FailedAt target start new

@@ -1,0 +1,157 @@
+-- The steps of a run.
+--     Run      what a run reads, writes and keeps
+--     AreReady      the next event of each source is known
+--     IsStep      one event, and the fetch behind it
+use Rattle.std.specs.Prelude.{◌≡◌, ◌<◌, ◌≤◌, ⊤, ℕ, ◌+◌, List, [], ◌∷◌, ◌++◌, length, map, slice_index_or, slice_get, Option, Some, None, option_map, Result, Ok, Err, OnOk, IsSome, slice_set, ◌-◌, ◌⊎◌}
+use Rattle.pcap_io.specs.Record.{Record, last_moment}
+use Rattle.pcap_stream.specs.Source.{Stream, lent}
+use Rattle.overlay_settings.specs.declared.change.Change.{Change}
+use Rattle.overlay_settings.specs.declared.change.TimedChange.{TimedChange}
+use Rattle.timeline.specs.declared.event.Event.{Event}
+use Rattle.timeline.specs.declared.event.Happening.TheVariants as happenings
+use Rattle.timeline.specs.declared.source.Tap.{Tap}
+use Rattle.timeline.specs.declared.source.Tap.TheVariants as taps
+use Rattle.endpoint_core.specs.Step.{State, after, answer}
+use Rattle.capture_run.specs.Outputs.{Outputs, event_of}
+use Rattle.capture_run.specs.Writing.{with_event, with_events}
+use Rattle.stream_run.specs.Fetched.{IsFetch, IsMoment}
+use Rattle.stream_run.specs.Read.{ReadsWith}
+use Rattle.stream_run.specs.Stage.{Drains, FailedAt, Lead, StandAt, StandBetween}
+use Rattle.stream_run.specs.Turns.{IsNoSooner}
+use Rattle.stream_run.specs.declared.fault.StreamFault.{StreamFault}
+use Rattle.stream_run.specs.declared.fault.StreamFault.TheVariants as stream
+use Rattle.stream_run.specs.declared.fault.Target.{Target}
+use Rattle.stream_run.specs.declared.turn.First.{First}
+use Rattle.stream_run.specs.declared.turn.Turn.{Turn}
+
+-- ---- a run
+
+pub record Run : Type 0 where
+  pub ports : List Stream
+  pub underlay : Stream
+  -- of the changes, of the ports and of the underlay
+  pub turns : List Turn
+  pub state : State
+  -- how many events came
+  pub number : ℕ
+  pub drains : Drains
+
+abbrev pub run_at : List Stream → Stream → List Turn → State → ℕ → Drains → Run
+run_at ports underlay turns state number drains = record { ports = ports; underlay = underlay; turns = turns; state = state; number = number; drains = drains }
+
+-- the changes of a run come one after another, and none is behind what a capture can tell
+pub record AreTimely (changes : List TimedChange) : Type 0 where
+  pub rising : (c : TimedChange) (k : ℕ) → k + 1 < length changes → (slice_index_or changes k c).at ≤ (slice_index_or changes (k + 1) c).at
+  pub moments : (c : TimedChange) (k : ℕ) → k < length changes → (slice_index_or changes k c).at ≤ last_moment
+
+abbrev pub moment_at : List TimedChange → ℕ → Option ℕ
+moment_at changes k = option_map (λ (c : TimedChange). c.at) (slice_get changes k)
+
+-- where the source with this index stands: the changes, the ports, the underlay
+abbrev pub IsAt : ℕ → ℕ → Tap → Type 0
+IsAt ports index (taps.Port port) = (index ≡ port) × (0 < port) × (port ≤ ports)
+IsAt ports index taps.Underlay = index ≡ ports + 1
+
+-- the source of a capture
+abbrev pub source_at : List Stream → Stream → Tap → Stream
+source_at ports underlay (taps.Port port) = slice_index_or ports (port - 1) underlay
+source_at ports underlay taps.Underlay = underlay
+
+-- where a next event is told, a record is lent
+abbrev pub LendsWhere : Option ℕ → Stream → Type 0
+LendsWhere None s = ⊤
+LendsWhere (Some moment) s = IsSome (lent s.standing)
+
+-- the turns tell the next events, none of which is before the last one
+pub record AreReady (changes : List TimedChange) (r : Run) : Type 0 where
+  pub timely : AreTimely changes
+  pub size : length r.turns ≡ length r.ports + 2
+  pub few : length r.ports ≤ 16
+  pub known : length r.ports ≡ length r.state.bridges.settings.ports.ports
+  pub behind : (t : Turn) (k : ℕ) → k < length r.turns → IsNoSooner r.state.moment (slice_index_or r.turns k t).next
+  pub moments : (t : Turn) (k : ℕ) → k < length r.turns → IsMoment (slice_index_or r.turns k t).next
+  pub done : (t : Turn) (k : ℕ) → k < length r.turns → (slice_index_or r.turns k t).done ≤ r.number
+  pub change : (t : Turn) → (slice_index_or r.turns 0 t).next ≡ moment_at changes (slice_index_or r.turns 0 t).done
+  pub heads : (place : Tap) (index : ℕ) (t : Turn) → IsAt (length r.ports) index place → LendsWhere (slice_index_or r.turns index t).next (source_at r.ports r.underlay place)
+
+-- ---- the events
+
+-- the event of a record at this moment, behind so many others of its capture
+abbrev pub record_event : Tap → ℕ → ℕ → Record → Event
+record_event tap count moment r = record {
+  moment = moment;
+  number = count + 1;
+  happening = happenings.Record tap (record { original = r.original; octets = r.octets });
+}
+
+-- the next event of the source with this index, behind so many others
+abbrev pub IsNextEvent : List Stream → Stream → ℕ → ℕ → ℕ → Event → Type 0
+IsNextEvent ports underlay index done moment e =
+    ((index ≡ 0) × (e ≡ record { moment = moment; number = done + 1; happening = happenings.Change done }))
+    ⊎ ((place : Tap) × (r : Record) × IsAt (length ports) index place × (lent (source_at ports underlay place).standing ≡ Some r) × (e ≡ record_event place done moment r))
+
+-- ---- taken
+
+abbrev pub changes_of : List TimedChange → List Change
+changes_of changes = map (λ (c : TimedChange). c.change) changes
+
+-- the event was taken by the endpoint, and what comes of it was put to the outputs
+pub record IsTaken (changes : List TimedChange) (ports : List Stream) (underlay : Stream) (index done moment number : ℕ) (old new : State) (before behind : Drains) (result : Result (Unit {0}) Target) : Type 0 where
+  pub e : Event
+  pub next : IsNextEvent ports underlay index done moment e
+  pub state : new ≡ after old (event_of (changes_of changes) e)
+  pub outputs : (start : Drains) (o : Outputs) → StandAt start before o
+      → Lead start behind o (with_event (changes_of changes) number o e (answer old (event_of (changes_of changes) e))) result
+
+-- ---- fetched
+
+-- the source of a capture is another, and all else as before
+abbrev pub IsChangedAt : Tap → List Stream → Stream → List Stream → Stream → Stream → Type 0
+IsChangedAt (taps.Port port) ports underlay new_ports new_underlay s = (new_ports ≡ slice_set ports (port - 1) s) × (new_underlay ≡ underlay)
+IsChangedAt taps.Underlay ports underlay new_ports new_underlay s = (new_ports ≡ ports) × (new_underlay ≡ s)
+
+-- the source with this index was asked for what comes next
+abbrev pub FetchesAt : List TimedChange → ℕ → ℕ → ℕ → List Stream → Stream → List Stream → Stream → Result Turn StreamFault → Type 0
+FetchesAt changes index done latest ports underlay new_ports new_underlay result =
+    ((index ≡ 0) × (new_ports ≡ ports) × (new_underlay ≡ underlay) × (result ≡ Ok (record { done = done; next = moment_at changes done })))
+    ⊎ ((place : Tap) × (s : Stream) × IsAt (length ports) index place × IsChangedAt place ports underlay new_ports new_underlay s × IsFetch (source_at ports underlay place) s place done latest result)
+
+-- ---- a step
+
+module _ {T : Type 0} where
+  -- the texts that stood are now the next ones, or a part of these where a write failed
+  abbrev pub StepsTo : Drains → Drains → Outputs → Outputs → Result T StreamFault → Type 0
+  StepsTo start new texts next (Err (stream.Write target)) = StandBetween start new texts next × FailedAt target start new
+  StepsTo start new texts next result = StandAt start new next
+
+-- an event came, and the next one of its source was asked for
+pub record IsStep (changes : List TimedChange) (old new : Run) (first : First) (result : Result (Unit {0}) StreamFault) : Type 0 where
+  pub e : Event
+  pub moment : e.moment ≡ first.moment
+  pub next : (t : Turn) → IsNextEvent old.ports old.underlay first.index (slice_index_or old.turns first.index t).done first.moment e
+  pub state : new.state ≡ after old.state (event_of (changes_of changes) e)
+  pub number : new.number ≡ old.number + 1
+  pub outputs : (start : Drains) (o : Outputs) → StandAt start old.drains o
+      → StepsTo start new.drains o (with_event (changes_of changes) (old.number + 1) o e (answer old.state (event_of (changes_of changes) e))) result
+  pub ready : OnOk result (AreReady changes new)
+  pub reads : ReadsWith old.ports old.underlay new.ports new.underlay result
+
+-- ---- many steps
+
+-- the texts that stand behind some events
+abbrev pub texts_behind : List TimedChange → State → Outputs → List Event → Outputs
+texts_behind changes s o es = with_events (changes_of changes) 0 s o es
+
+-- the outputs hold the texts of all these events; where a write failed, also a part of those of one more, and the other
+-- outputs a part of them too
+abbrev pub LeadsBehind : List TimedChange → State → Drains → Drains → Outputs → List Event → Result (Unit {0}) StreamFault → Type 0
+LeadsBehind changes s start new o es (Err (stream.Write target)) = (e : Event) × StandBetween start new (texts_behind changes s o es) (texts_behind changes s o (es ++ e ∷ [])) × FailedAt target start new
+LeadsBehind changes s start new o es result = StandAt start new (texts_behind changes s o es)
+
+-- some events came, one after another
+pub record IsRunOn (changes : List TimedChange) (old new : Run) (result : Result (Unit {0}) StreamFault) : Type 0 where
+  pub es : List Event
+  pub outputs : (start : Drains) (o : Outputs) → StandAt start old.drains o → LeadsBehind changes old.state start new.drains o es result
+  pub reads : ReadsWith old.ports old.underlay new.ports new.underlay result
+  -- and none is left
+  pub over : OnOk result ((t : Turn) (k : ℕ) → k < length new.turns → (slice_index_or new.turns k t).next ≡ None)

@@ -1,0 +1,219 @@
+//! What comes of one event, put to the outputs of a run.
+ghost use Rattle.std.specs.Prelude.{◌≡◌, ◌≤◌, ◌<◌, ◌++◌, ℕ, List, Option, Some, None, IsSome, IsTrue, IfOk, length, map, slice_index_or};
+ghost use Rattle.std.specs.List.{list_all};
+ghost use Rattle.pcap_io.specs.Record.{last_moment};
+ghost use Rattle.pcap_io.specs.Written.{whole_frame, written_record};
+ghost use Rattle.pcap_stream.specs.Sink.{Drain, IsPut};
+ghost use Rattle.encapsulate.specs.Emission.{text};
+ghost use Rattle.encapsulate.specs.Remote.{texts};
+ghost use Rattle.endpoint_state.specs.Settings.{segment_at};
+ghost use Rattle.endpoint_state.specs.Step.{can_leave};
+ghost use Rattle.endpoint_core.specs.Course.{CanLeave, IsShortFrame, IsThere, decision_of};
+ghost use Rattle.endpoint_core.specs.Decision.{Sent};
+ghost use Rattle.endpoint_core.specs.Kept.{state_of};
+ghost use Rattle.endpoint_core.specs.Step.{Decided, has_two_tunnels, sent_at};
+ghost use Rattle.endpoint_core.specs.Text.{outcomes_text};
+ghost use Rattle.capture_run.specs.Outputs.{Outputs};
+ghost use Rattle.capture_run.specs.Writing.{put_at, with_all_sent, with_input, with_line, with_sent};
+ghost use Rattle.stream_run.specs.Lines.{LineLeads};
+ghost use Rattle.stream_run.specs.Stage.{Drains, Lead, StandAt, drains};
+
+use crate::fault::Target;
+use decision_lines::{Desk, Line};
+use encapsulate::{Head, Leaving};
+use endpoint_core::{Came, Course, Endpoint};
+use filter_db::Place;
+use frame_view::Reason;
+use pcap_stream::{Output, Sink, WriteFault, write_full};
+use timeline::Event;
+
+/// Puts a record with what leaves into a capture.
+fn put_leaving<W: Output>(
+    sink: &mut Sink<W>,
+    moment: u64,
+    leaving: &Leaving,
+) -> Result<(), WriteFault>
+    requires moment { moment ≤ last_moment }
+    requires short { length leaving.now.body ≤ 65549 }
+    ensures { IsPut sink.old sink.new (written_record (whole_frame moment (text leaving.now))) result }
+{
+    let [head, addresses, tag, body] = leaving.parts();
+    sink.put(moment, head, addresses, tag, body)
+}
+
+/// Puts a record with what leaves into the capture of a port, where there is one of this number.
+fn put_at<W: Output>(
+    sinks: &mut [Sink<W>],
+    port: u8,
+    moment: u64,
+    leaving: &Leaving,
+) -> Result<(), Target>
+    requires moment { moment ≤ last_moment }
+    requires short { length leaving.now.body ≤ 65549 }
+    ensures { (start : Drains) (o : Outputs) (underlay : Drain) (written : Option (List ℕ)) (failures : ℕ) → StandAt start (drains sinks.old underlay written failures) o
+        → Lead start (drains sinks.new underlay written failures) o (record o { ports = put_at port (written_record (whole_frame moment (text leaving.now))) o.ports }) result }
+{
+    if port == 0 || usize::from(port) > sinks.len() {
+        return Ok(());
+    }
+    match put_leaving(&mut sinks[usize::from(port) - 1], moment, leaving) {
+        Ok(()) => Ok(()),
+        Err(_) => Err(Target::Port(port)),
+    }
+}
+
+/// Puts a record with what leaves into the capture of the underlay.
+fn put_out<W: Output>(sink: &mut Sink<W>, moment: u64, leaving: &Leaving) -> Result<(), Target>
+    requires moment { moment ≤ last_moment }
+    requires short { length leaving.now.body ≤ 65549 }
+    ensures { (start : Drains) (o : Outputs) (ports : List Drain) (written : Option (List ℕ)) (failures : ℕ) → StandAt start (drains ports sink.old written failures) o
+        → Lead start (drains ports sink.new written failures) o (record o { underlay = o.underlay ++ written_record (whole_frame moment (text leaving.now)) }) result }
+{
+    match put_leaving(sink, moment, leaving) {
+        Ok(()) => Ok(()),
+        Err(_) => Err(Target::Underlay),
+    }
+}
+
+/// Puts what came of an outlet: a record into the capture of its place, if something is sent.
+fn put_sent<W: Output>(
+    port_sinks: &mut [Sink<W>],
+    underlay_sink: &mut Sink<W>,
+    moment: u64,
+    place: Place,
+    sent: &Result<Leaving, Reason>,
+) -> Result<(), Target>
+    requires moment { moment ≤ last_moment }
+    requires short { IfOk sent.now (λ e. length e.body ≤ 65549) }
+    ensures { (start : Drains) (o : Outputs) (written : Option (List ℕ)) (failures : ℕ) → StandAt start (drains port_sinks.old underlay_sink.old written failures) o
+        → Lead start (drains port_sinks.new underlay_sink.new written failures) o (with_sent moment o (record { place = place; sent = texts sent.now })) result }
+{
+    let Ok(leaving) = sent else {
+        return Ok(());
+    };
+    match place {
+        Place::Local(port) => put_at(port_sinks, port, moment, leaving),
+        Place::Remote(..) => put_out(underlay_sink, moment, leaving),
+    }
+}
+
+/// Puts what leaves of a frame at each place, and tells it in a line that has been begun.
+fn put_places<W: Output>(
+    port_sinks: &mut [Sink<W>],
+    underlay_sink: &mut Sink<W>,
+    endpoint: &Endpoint,
+    moment: u64,
+    came: &Came,
+    places: &[Place],
+    head: &mut Head,
+    line: &mut Line,
+) -> Result<(), Target>
+    requires moment { moment ≤ last_moment }
+    requires there { IsSome (segment_at (state_of endpoint.now).bridges.settings came.now.vid) }
+    requires leave { IsTrue (list_all (can_leave (state_of endpoint.now).bridges.settings came.now.vid) places.now) }
+    requires short { length came.now.frame.body ≤ 65549 }
+    requires few { length places.now ≤ 32 }
+    requires room { length line.old ≤ 74 }
+    ensures sent { let S = (state_of endpoint.now).bridges.settings in
+        (start : Drains) (o : Outputs) (written : Option (List ℕ)) (failures : ℕ) → StandAt start (drains port_sinks.old underlay_sink.old written failures) o
+        → Lead start (drains port_sinks.new underlay_sink.new written failures) o (with_all_sent moment o (map (sent_at S came.now.vid came.now.frame) places.now)) result }
+    ensures line { let S = (state_of endpoint.now).bridges.settings in
+        LineLeads line.old line.new (outcomes_text (has_two_tunnels S.overlay came.now.vid) (map (sent_at S came.now.vid came.now.frame) places.now)) result }
+{
+    let two_tunnels = endpoint.has_two_tunnels(came);
+    let mut is_first = true;
+    for place in places {
+        let sent = endpoint.emit(came, *place, head);
+        if let Err(target) = put_sent(port_sinks, underlay_sink, moment, *place, &sent) {
+            return Err(target);
+        }
+        line.put_outcome(is_first, two_tunnels, *place, &sent);
+        is_first = false;
+    }
+    Ok(())
+}
+
+/// Puts a line to the decisions.
+pub fn put_line<W: Output>(decisions: &mut W, line: &[u8]) -> Result<(), Target>
+    ensures { (start : Drains) (o : Outputs) (ports : List Drain) (underlay : Drain) → StandAt start (drains ports underlay (W.written decisions.old) (W.failures decisions.old)) o
+        → Lead start (drains ports underlay (W.written decisions.new) (W.failures decisions.new)) o (with_line o line.now) result }
+{
+    match write_full(decisions, line) {
+        Ok(()) => Ok(()),
+        Err(_) => Err(Target::Decisions),
+    }
+}
+
+/// Puts what comes of a frame that leaves: its emissions in order of outlets, and then the event's line.
+fn put_forwarded<W: Output>(
+    port_sinks: &mut [Sink<W>],
+    underlay_sink: &mut Sink<W>,
+    decisions: &mut W,
+    endpoint: &Endpoint,
+    desk: &mut Desk,
+    event: &Event,
+    came: &Came,
+) -> Result<(), Target>
+    requires moment { event.now.moment ≤ last_moment }
+    requires there { IsSome (segment_at (state_of endpoint.now).bridges.settings came.now.vid) }
+    requires leave { IsTrue (list_all (can_leave (state_of endpoint.now).bridges.settings came.now.vid) desk.old.places.items) }
+    requires short { length came.now.frame.body ≤ 65549 }
+    ensures outputs { let S = (state_of endpoint.now).bridges.settings in
+        (start : Drains) (o : Outputs) → StandAt start (drains port_sinks.old underlay_sink.old (W.written decisions.old) (W.failures decisions.old)) o
+        → Lead start (drains port_sinks.new underlay_sink.new (W.written decisions.new) (W.failures decisions.new)) o
+        (with_input desk.old.number None o event.now (Decided (Rattle.endpoint_core.specs.Step.by_verdict S came.now (Rattle.std.specs.Prelude.Ok desk.old.places.items)))) result }
+    ensures number { desk.new.number ≡ desk.old.number }
+{
+    desk.line.begin(&desk.number, event, Some(came.segment()));
+    if let Err(target) = put_places(
+        port_sinks,
+        underlay_sink,
+        endpoint,
+        event.moment,
+        came,
+        desk.places.as_slice(),
+        &mut desk.head,
+        &mut desk.line,
+    ) {
+        return Err(target);
+    }
+    desk.line.end();
+    put_line(decisions, desk.line.text())
+}
+
+/// Puts what comes of a frame or a packet that the endpoint took just now: its emissions in order of outlets, and then
+/// the event's line.
+pub fn put_course<W: Output>(
+    port_sinks: &mut [Sink<W>],
+    underlay_sink: &mut Sink<W>,
+    decisions: &mut W,
+    endpoint: &Endpoint,
+    desk: &mut Desk,
+    event: &Event,
+    course: &Course,
+) -> Result<(), Target>
+    requires moment { event.now.moment ≤ last_moment }
+    requires there { IsThere (state_of endpoint.now).bridges.settings course.now }
+    requires short { IsShortFrame course.now }
+    requires leave { CanLeave (state_of endpoint.now).bridges.settings course.now desk.old.places.items }
+    ensures outputs { (start : Drains) (o : Outputs) → StandAt start (drains port_sinks.old underlay_sink.old (W.written decisions.old) (W.failures decisions.old)) o
+        → Lead start (drains port_sinks.new underlay_sink.new (W.written decisions.new) (W.failures decisions.new)) o
+        (with_input desk.old.number None o event.now (Decided (decision_of (state_of endpoint.now).bridges.settings course.now desk.old.places.items))) result }
+    ensures number { desk.new.number ≡ desk.old.number }
+{
+    match course {
+        Course::Dropped(refused) => {
+            desk.line.write_drop(&desk.number, event, *refused);
+            put_line(decisions, desk.line.text())
+        }
+        Course::Leaves(came) => put_forwarded(
+            port_sinks,
+            underlay_sink,
+            decisions,
+            endpoint,
+            desk,
+            event,
+            came,
+        ),
+    }
+}

@@ -1,0 +1,117 @@
+//! The events of a run, one after another.
+ghost use Rattle.std.specs.Prelude.{◌≡◌, ◌≤◌, ◌<◌, ◌+◌, ◌^◌, length};
+ghost use Rattle.endpoint_core.specs.Kept.{state_of};
+ghost use Rattle.stream_run.specs.Stage.{drains};
+ghost use Rattle.stream_run.specs.Steps.{AreReady, IsRunOn, IsStep, run_at};
+ghost use Rattle.stream_run.specs.Turns.{IsFirst};
+
+use crate::fault::StreamFault;
+use crate::fetch::fetch_at;
+use crate::order::find_first;
+use crate::take::take_at;
+use crate::turn::{First, Turn};
+use capture_run::RunFault;
+use decision_lines::Desk;
+use endpoint_core::Endpoint;
+use overlay_config::TimedChange;
+use pcap_stream::{Input, Output, Sink, Source};
+
+/// Puts the event that comes first through the endpoint, and fetches the next one of its source.
+fn put_first<R: Input, W: Output>(
+    changes: &[TimedChange],
+    ports: &mut [Source<R>],
+    underlay: &mut Source<R>,
+    turns: &mut [Turn],
+    endpoint: &mut Endpoint,
+    desk: &mut Desk,
+    port_sinks: &mut [Sink<W>],
+    underlay_sink: &mut Sink<W>,
+    decisions: &mut W,
+    first: First,
+) -> Result<(), StreamFault>
+    requires few { desk.old.number + 2 < 2 ^ 64 }
+    requires first { IsFirst turns.old (length turns.old) first }
+    requires ready { AreReady changes.now (run_at ports.old underlay.old turns.old (state_of endpoint.old) desk.old.number
+        (drains port_sinks.old underlay_sink.old (W.written decisions.old) (W.failures decisions.old))) }
+    ensures { IsStep changes.now
+        (run_at ports.old underlay.old turns.old (state_of endpoint.old) desk.old.number
+        (drains port_sinks.old underlay_sink.old (W.written decisions.old) (W.failures decisions.old)))
+        (run_at ports.new underlay.new turns.new (state_of endpoint.new) desk.new.number
+        (drains port_sinks.new underlay_sink.new (W.written decisions.new) (W.failures decisions.new))) first result }
+{
+    let Turn { done, .. } = turns[first.index];
+    desk.number.add_one();
+    if let Err(target) = take_at(
+        changes,
+        ports,
+        underlay,
+        port_sinks,
+        underlay_sink,
+        decisions,
+        endpoint,
+        desk,
+        first.index,
+        first.moment,
+        done,
+    ) {
+        return Err(StreamFault::Write(target));
+    }
+    match fetch_at(
+        changes,
+        ports,
+        underlay,
+        first.index,
+        done + 1,
+        first.moment,
+    ) {
+        Ok(turn) => {
+            turns[first.index] = turn;
+            Ok(())
+        }
+        Err(fault) => Err(fault),
+    }
+}
+
+/// Puts the changes and the records of all captures through an endpoint, in order of moment.
+pub fn put_events<R: Input, W: Output>(
+    changes: &[TimedChange],
+    ports: &mut [Source<R>],
+    underlay: &mut Source<R>,
+    turns: &mut [Turn],
+    endpoint: &mut Endpoint,
+    desk: &mut Desk,
+    port_sinks: &mut [Sink<W>],
+    underlay_sink: &mut Sink<W>,
+    decisions: &mut W,
+) -> Result<(), StreamFault>
+    requires none { desk.old.number ≡ 0 }
+    requires ready { AreReady changes.now (run_at ports.old underlay.old turns.old (state_of endpoint.old) 0
+        (drains port_sinks.old underlay_sink.old (W.written decisions.old) (W.failures decisions.old))) }
+    ensures { IsRunOn changes.now
+        (run_at ports.old underlay.old turns.old (state_of endpoint.old) 0
+        (drains port_sinks.old underlay_sink.old (W.written decisions.old) (W.failures decisions.old)))
+        (run_at ports.new underlay.new turns.new (state_of endpoint.new) desk.new.number
+        (drains port_sinks.new underlay_sink.new (W.written decisions.new) (W.failures decisions.new))) result }
+{
+    // at an event a nanosecond the numbers last for 584 years
+    for _count in 0..u64::MAX - 2 {
+        let Some(first) = find_first(turns) else {
+            return Ok(());
+        };
+        if let Err(fault) = put_first(
+            changes,
+            ports,
+            underlay,
+            turns,
+            endpoint,
+            desk,
+            port_sinks,
+            underlay_sink,
+            decisions,
+            first,
+        ) {
+            return Err(fault);
+        }
+    }
+    Err(StreamFault::Run(RunFault::OutOfMemory))
+}

@@ -1,0 +1,247 @@
+//! Events as the endpoint takes them: a change, a frame, a packet.
+ghost use Rattle.std.specs.Prelude.{◌≡◌, ◌≤◌, ◌<◌, ◌+◌, ◌^◌, ℕ, List, [], Option, Some, None, IsSome, length};
+ghost use Rattle.pcap_io.specs.Record.{Record as ARecord, last_moment};
+ghost use Rattle.pcap_stream.specs.Sink.{Drain};
+ghost use Rattle.pcap_stream.specs.Source.{Stream, lent};
+ghost use Rattle.timeline.specs.declared.source.Tap.{Tap as ATap};
+ghost use Rattle.timeline.specs.declared.source.Tap.TheVariants.{Port, Underlay};
+ghost use Rattle.endpoint_state.specs.Change.{named};
+ghost use Rattle.endpoint_core.specs.Event.{change_at, frame_at, packet_at};
+ghost use Rattle.endpoint_core.specs.Kept.{state_of};
+ghost use Rattle.endpoint_core.specs.Step.{answer, after};
+ghost use Rattle.capture_run.specs.Outputs.{Outputs};
+ghost use Rattle.capture_run.specs.Writing.{with_input};
+ghost use Rattle.stream_run.specs.Stage.{Drains, Lead, StandAt, drains};
+ghost use Rattle.stream_run.specs.Steps.{IsAt, IsTaken, moment_at, record_event, source_at};
+
+use crate::fault::Target;
+use crate::put::{put_course, put_line};
+use decision_lines::Desk;
+use endpoint_core::Endpoint;
+use frame_view::Vid;
+use overlay_config::{Change, TimedChange};
+use pcap_stream::{Input, Output, Sink, Source};
+use timeline::{Captured, Event, Happening, Tap};
+
+/// The segment that a change names.
+fn named(change: &Change) -> Option<Vid>
+    ensures { result ≡ named change.now }
+{
+    match *change {
+        Change::AddFlood { vid, .. } => Some(vid),
+        Change::RemoveFlood { vid, .. } => Some(vid),
+        Change::Fix { vid, .. } => Some(vid),
+        Change::Unfix { vid, .. } => Some(vid),
+        Change::SetAgeing { vid, .. } => Some(vid),
+        Change::SetLearning { vid, .. } => Some(vid),
+        Change::SetMember { vid, .. } => Some(vid),
+        Change::Flush { vid } => Some(vid),
+        Change::PortUp { .. } => None,
+        Change::PortDown { .. } => None,
+    }
+}
+
+/// Puts a change to the endpoint, and what comes of it to the outputs.
+pub fn take_change<W: Output>(
+    decisions: &mut W,
+    endpoint: &mut Endpoint,
+    desk: &mut Desk,
+    event: &Event,
+    change: Change,
+) -> Result<(), Target>
+    requires { (state_of endpoint.old).moment ≤ event.now.moment }
+    ensures state { state_of endpoint.new ≡ after (state_of endpoint.old) (change_at event.now.moment change) }
+    ensures outputs { (start : Drains) (o : Outputs) (ports : List Drain) (underlay : Drain) → StandAt start (drains ports underlay (W.written decisions.old) (W.failures decisions.old)) o
+        → Lead start (drains ports underlay (W.written decisions.new) (W.failures decisions.new)) o
+        (with_input desk.old.number (named change) o event.now (answer (state_of endpoint.old) (change_at event.now.moment change))) result }
+    ensures number { desk.new.number ≡ desk.old.number }
+{
+    let reply = endpoint.change(event.moment, change);
+    desk.line
+        .write_reply(&desk.number, event, named(&change), reply);
+    put_line(decisions, desk.line.text())
+}
+
+/// Puts the frame that a port's source lends to the endpoint, behind so many others, and what comes of it to the outputs.
+pub fn take_frame<R: Input, W: Output>(
+    source: &Source<R>,
+    port_sinks: &mut [Sink<W>],
+    underlay_sink: &mut Sink<W>,
+    decisions: &mut W,
+    endpoint: &mut Endpoint,
+    desk: &mut Desk,
+    port: u8,
+    moment: u64,
+    count: u64,
+) -> Result<(), Target>
+    requires time { (state_of endpoint.old).moment ≤ moment }
+    requires moment { moment ≤ last_moment }
+    requires count { count + 1 < 2 ^ 64 }
+    requires low { 1 ≤ port }
+    requires high { port ≤ length (state_of endpoint.old).bridges.settings.ports.ports }
+    requires lent { IsSome (lent source.now.standing) }
+    ensures state { (r : ARecord) → lent source.now.standing ≡ Some r → state_of endpoint.new ≡ after (state_of endpoint.old) (frame_at moment port r.original r.octets) }
+    ensures outputs { (r : ARecord) (start : Drains) (o : Outputs) → lent source.now.standing ≡ Some r
+        → StandAt start (drains port_sinks.old underlay_sink.old (W.written decisions.old) (W.failures decisions.old)) o
+        → Lead start (drains port_sinks.new underlay_sink.new (W.written decisions.new) (W.failures decisions.new)) o
+        (with_input desk.old.number None o (record_event (Port port) count moment r) (answer (state_of endpoint.old) (frame_at moment port r.original r.octets))) result }
+    ensures number { desk.new.number ≡ desk.old.number }
+{
+    let record = source.head().unwrap();
+    let event = Event {
+        moment,
+        number: count + 1,
+        happening: Happening::Record(
+            Tap::Port(port),
+            Captured {
+                original: record.original,
+                octets: record.octets,
+            },
+        ),
+    };
+    let course = endpoint.take_frame(
+        moment,
+        port,
+        record.original,
+        record.octets,
+        &mut desk.places,
+    );
+    put_course(
+        port_sinks,
+        underlay_sink,
+        decisions,
+        endpoint,
+        desk,
+        &event,
+        &course,
+    )
+}
+
+/// Puts the packet that the underlay's source lends to the endpoint, behind so many others, and what comes of it to the
+/// outputs.
+pub fn take_packet<R: Input, W: Output>(
+    source: &Source<R>,
+    port_sinks: &mut [Sink<W>],
+    underlay_sink: &mut Sink<W>,
+    decisions: &mut W,
+    endpoint: &mut Endpoint,
+    desk: &mut Desk,
+    moment: u64,
+    count: u64,
+) -> Result<(), Target>
+    requires time { (state_of endpoint.old).moment ≤ moment }
+    requires moment { moment ≤ last_moment }
+    requires count { count + 1 < 2 ^ 64 }
+    requires lent { IsSome (lent source.now.standing) }
+    ensures state { (r : ARecord) → lent source.now.standing ≡ Some r → state_of endpoint.new ≡ after (state_of endpoint.old) (packet_at moment r.original r.octets) }
+    ensures outputs { (r : ARecord) (start : Drains) (o : Outputs) → lent source.now.standing ≡ Some r
+        → StandAt start (drains port_sinks.old underlay_sink.old (W.written decisions.old) (W.failures decisions.old)) o
+        → Lead start (drains port_sinks.new underlay_sink.new (W.written decisions.new) (W.failures decisions.new)) o
+        (with_input desk.old.number None o (record_event Underlay count moment r) (answer (state_of endpoint.old) (packet_at moment r.original r.octets))) result }
+    ensures number { desk.new.number ≡ desk.old.number }
+{
+    let record = source.head().unwrap();
+    let event = Event {
+        moment,
+        number: count + 1,
+        happening: Happening::Record(
+            Tap::Underlay,
+            Captured {
+                original: record.original,
+                octets: record.octets,
+            },
+        ),
+    };
+    let course = endpoint.take_packet(moment, record.original, record.octets, &mut desk.places);
+    put_course(
+        port_sinks,
+        underlay_sink,
+        decisions,
+        endpoint,
+        desk,
+        &event,
+        &course,
+    )
+}
+
+/// Puts the next event of the source with this index to the endpoint, behind so many others of that source, and what
+/// comes of it to the outputs: the changes, the ports, the underlay.
+pub fn take_at<R: Input, W: Output>(
+    changes: &[TimedChange],
+    ports: &[Source<R>],
+    underlay: &Source<R>,
+    port_sinks: &mut [Sink<W>],
+    underlay_sink: &mut Sink<W>,
+    decisions: &mut W,
+    endpoint: &mut Endpoint,
+    desk: &mut Desk,
+    index: usize,
+    moment: u64,
+    done: u64,
+) -> Result<(), Target>
+    requires time { (state_of endpoint.old).moment ≤ moment }
+    requires moment { moment ≤ last_moment }
+    requires count { done + 1 < 2 ^ 64 }
+    requires index { index ≤ length ports.now + 1 }
+    requires few { length ports.now ≤ 16 }
+    requires known { length ports.now ≡ length (state_of endpoint.old).bridges.settings.ports.ports }
+    requires change { index ≡ 0 → moment_at changes.now done ≡ Some moment }
+    requires lent { (place : ATap) → IsAt (length ports.now) index place → IsSome (lent (source_at ports.now underlay.now place).standing) }
+    ensures taken { IsTaken changes.now ports.now underlay.now index done moment desk.old.number (state_of endpoint.old) (state_of endpoint.new)
+        (drains port_sinks.old underlay_sink.old (W.written decisions.old) (W.failures decisions.old))
+        (drains port_sinks.new underlay_sink.new (W.written decisions.new) (W.failures decisions.new)) result }
+    ensures number { desk.new.number ≡ desk.old.number }
+{
+    if index == 0 {
+        return take_change_at(decisions, endpoint, desk, changes, moment, done);
+    }
+    if index <= ports.len() {
+        return take_frame(
+            &ports[index - 1],
+            port_sinks,
+            underlay_sink,
+            decisions,
+            endpoint,
+            desk,
+            index as u8,
+            moment,
+            done,
+        );
+    }
+    take_packet(
+        underlay,
+        port_sinks,
+        underlay_sink,
+        decisions,
+        endpoint,
+        desk,
+        moment,
+        done,
+    )
+}
+
+/// Puts the change of this index to the endpoint, and what comes of it to the outputs.
+fn take_change_at<W: Output>(
+    decisions: &mut W,
+    endpoint: &mut Endpoint,
+    desk: &mut Desk,
+    changes: &[TimedChange],
+    moment: u64,
+    index: u64,
+) -> Result<(), Target>
+    requires time { (state_of endpoint.old).moment ≤ moment }
+    requires there { index < length changes.now }
+    requires count { index + 1 < 2 ^ 64 }
+    ensures taken { (ports : List Stream) (underlay : Stream) (port_sinks : List Drain) (underlay_sink : Drain) → IsTaken changes.now ports underlay 0 index moment desk.old.number (state_of endpoint.old) (state_of endpoint.new)
+        (drains port_sinks underlay_sink (W.written decisions.old) (W.failures decisions.old))
+        (drains port_sinks underlay_sink (W.written decisions.new) (W.failures decisions.new)) result }
+    ensures number { desk.new.number ≡ desk.old.number }
+{
+    let change = changes[index as usize].change;
+    let event = Event {
+        moment,
+        number: index + 1,
+        happening: Happening::Change(index as usize),
+    };
+    take_change(decisions, endpoint, desk, &event, change)
+}

@@ -1,0 +1,16 @@
+//! What tests are made on: settings, captures and octets, each standing once.
+//!
+//! [`settings`] has the settings of an endpoint, of its peer and of a learning bridge alone, and [`capture_texts`]
+//! captures octet for octet. [`Captures`] puts captures together from lines, with [`octets_of`] for the words in them.
+//! [`Pieces`] gives a text a few octets at a time. Tests alone, and programs that are tests, stand on this crate.
+#![tactic(auto)]
+
+pub mod capture_texts;
+mod captures;
+mod octets;
+mod pieces;
+pub mod settings;
+
+pub use captures::Captures;
+pub use octets::octets_of;
+pub use pieces::{Pieces, in_pieces};

@@ -1,0 +1,31 @@
+-- The segments in rows that stand densely, behind an index of VIDs.
+use Rattle.std.specs.Prelude.{◌≡◌, ℕ, ◌+◌, List, [], ◌∷◌, Option, None, Some, get_or, map}
+use Rattle.std.specs.Option.{option_map, option_and_then}
+use Rattle.std.specs.Ordering.{nat_cmp}
+use Rattle.std.specs.FinMap.{FinMap}
+use Rattle.vlan_ports.specs.Places.{placed}
+use Rattle.underlay.specs.declared.heads.SegmentHeads.{SegmentHeads}
+use Rattle.underlay.specs.Overlay.{Segments}
+
+-- what the row at a place holds, where the index has a place
+abbrev pub look : {R X : Type 0} → (R → X) → List (Option R) → Option ℕ → Option X
+look f rows at = option_map f (option_and_then (λ k. get_or rows k None) at)
+
+-- what the rows hold, by the numbers at which the index has their places
+abbrev pub seated : {R X : Type 0} → (R → X) → List (Option R) → List (Option ℕ) → FinMap nat_cmp X
+seated f rows index = placed 0 (map (look f rows) index)
+
+-- how many rows hold something
+abbrev pub occupied : {R : Type 0} → List (Option R) → ℕ
+occupied [] = 0
+occupied (None ∷ rows) = occupied rows
+occupied (Some r ∷ rows) = 1 + occupied rows
+
+-- a place at which a number stands in the index has the row of that number
+abbrev pub Leads : {R : Type 0} → (R → ℕ) → List (Option R) → List (Option ℕ) → Type 0
+Leads number rows index = (q k : ℕ) → get_or index q None ≡ Some k → option_map number (get_or rows k None) ≡ Some q
+
+-- the segments and the heads of their packets, each by its VID
+pub record Seats : Type 0 where
+  pub segments : Segments
+  pub heads : FinMap nat_cmp SegmentHeads

@@ -1,0 +1,100 @@
+#!/usr/bin/env bash
+# What the documents show is so, and all that they name is there. Each command of a block 'console' is run, the blocks of one
+# document one after another in a folder of its own, and prints word for word what stands below it. A block is passed over
+# where a tool that it names isn't there.
+set -u
+cd "$(dirname "$0")/.." || exit 1
+top=$PWD
+folder=$(mktemp -d)
+trap 'rm -rf "$folder"' EXIT
+export TZ=UTC LC_ALL=C
+status=0
+
+# complain TEXT: a test has failed
+complain() {
+    echo "tests/documents.sh: $*"
+    status=1
+}
+
+# lacks LINE..: one of these lines names a tool that isn't there
+lacks() {
+    local tool
+    for tool in tcpdump tshark editcap capinfos mergecap; do
+        if grep -qw "$tool" <<<"$*" && ! command -v "$tool" >/dev/null; then
+            return 0
+        fi
+    done
+    return 1
+}
+
+# shows DOCUMENT COMMAND TEXT: the command prints the text
+shows() {
+    local printed
+    printed=$(bash -c "$2" 2>&1 </dev/null)
+    [ "$printed" = "$3" ] || complain "$1: '$2' prints
+$printed"
+}
+
+# runs DOCUMENT LINE..: the commands of a block, each with what it prints
+runs() {
+    local document=$1 command="" text="" is_whole=yes line
+    shift
+    lacks "$@" && return
+    for line in "$@" '$ '; do
+        if [ $is_whole = no ]; then
+            command=${command%\\}${line#"${line%%[! ]*}"}
+        elif [ "${line#\$ }" != "$line" ]; then
+            [ -z "$command" ] || shows "$document" "$command" "$text"
+            command=${line#\$ }
+            text=""
+        else
+            text=${text:+$text$'\n'}$line
+            continue
+        fi
+        is_whole=yes
+        [ "${command%\\}" = "$command" ] || is_whole=no
+    done
+}
+
+for document in README.md docs/OPERATING.md docs/RECIPES.md examples/README.md; do
+    mkdir "$folder/place"
+    ln -s "$top/tep" "$top/examples" "$folder/place"
+    cd "$folder/place" || exit 1
+    is_within=no
+    count=0
+    while IFS= read -r line; do
+        case $is_within,$line in
+            'no,```console')
+                is_within=yes
+                block=()
+                ;;
+            'yes,```')
+                is_within=no
+                count=$((count + 1))
+                runs "$document" "${block[@]}"
+                ;;
+            yes,*) block+=("$line") ;;
+        esac
+    done <"$top/$document"
+    [ "$count" -gt 0 ] || complain "$document shows no commands"
+    cd "$top" || exit 1
+    rm -rf "$folder/place"
+done
+
+# Each crate has its row in the pages that list them.
+for document in docs/ARCHITECTURE.md docs/PROVED.md; do
+    grep '^|' "$document" | cut -d '|' -f 2 >"$folder/rows"
+    while read -r crate; do
+        grep -qF "\`$crate\`" "$folder/rows" || complain "$document has no row on $crate"
+    done < <(awk -F '[ :]' '/^[a-z]/ { print $1 }' crates.txt)
+done
+
+# The changelog's last release is the one that the program tells.
+release=$(sed -nE 's/^## \[([0-9][0-9.]*)\] - .*/\1/p' CHANGELOG.md | head -n 1)
+[ "$(./tep --version)" = "tep $release" ] || complain "CHANGELOG.md's last release is '$release', and tep tells '$(./tep --version)'"
+
+# Each file that a document names is there.
+while read -r page; do
+    [ -e "$page" ] || complain "a document names $page, which isn't there"
+done < <(grep -ohE '\b(docs|examples|tests|benchmarks)/[A-Za-z0-9_./]+\.[a-z]+' README.md docs/*.md examples/*.md examples/*/*.md | sort -u)
+exit "$status"

@@ -17,6 +17,7 @@ abbrev pub of_settings : SettingsFault → RunFault
 of_settings text.OutOfMemory = faults.OutOfMemory
 of_settings fault = faults.Settings fault
 
+-- the same of a fault of the changes
 abbrev pub of_changes : SettingsFault → RunFault
 of_changes text.OutOfMemory = faults.OutOfMemory
 of_changes fault = faults.Changes fault

@@ -20,6 +20,7 @@ use Rattle.endpoint_core.specs.Run.{decisions}
 use Rattle.decision_lines.specs.Lines.{line, answer_text, cut_line}
 use Rattle.capture_run.specs.Sendings.{Sending, sent_by, port_captures, underlay_capture}
 
+-- what comes out of a run: octets of captures, and decision lines
 pub record Outputs : Type 0 where
   -- that of port 1 first
   pub ports : List (List ℕ)
@@ -32,14 +33,17 @@ pub record Outputs : Type 0 where
 abbrev pub no_change : Change
 no_change = PortUp 0
 
+-- the change of this number in a list, from 0
 abbrev pub change_at : List Change → ℕ → Change
 change_at changes index = slice_index_or changes index no_change
 
+-- what an event of the timeline asks of the endpoint
 abbrev pub input_of : List Change → Happening → Input
 input_of changes (happenings.Change index) = Asks (change_at changes index)
 input_of changes (happenings.Record (taps.Port port) captured) = FrameAt port captured.original captured.octets
 input_of changes (happenings.Record taps.Underlay captured) = Packet captured.original captured.octets
 
+-- the same with its moment
 abbrev pub event_of : List Change → Happens → Event
 event_of changes e = record { at = e.moment; input = input_of changes e.happening }
 
@@ -50,6 +54,7 @@ named_by changes (happenings.Record tap captured) = None
 
 -- ---- what comes out, by events and what each is answered
 
+-- the decision line of an event and its answer
 abbrev pub line_of : List Change → ℕ → Happens × Answer → List ℕ
 line_of changes number row = line number row.0 (answer_text (named_by changes row.0.happening) row.1)
 
@@ -58,9 +63,11 @@ abbrev pub lines_of : List Change → ℕ → List (Happens × Answer) → List 
 lines_of changes count [] = []
 lines_of changes count (row ∷ rows) = line_of changes (count + 1) row ++ lines_of changes (count + 1) rows
 
+-- all that was sent, in order of events
 abbrev pub sendings : List (Happens × Answer) → List Sending
 sendings rows = flat_map (λ (row : Happens × Answer). sent_by row.0.moment row.1) rows
 
+-- what comes out of events with their answers, and of captures with a cut rest
 abbrev pub outputs_of : List Change → ℕ → List (Happens × Answer) → List Cut → Outputs
 outputs_of changes ports rows cuts = record {
   ports = port_captures ports (sendings rows);

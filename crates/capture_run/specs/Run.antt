@@ -24,11 +24,13 @@ abbrev pub by_timeline : Settings → List TimedChange → ℕ → Result Timeli
 by_timeline s changes ports (Ok timeline) = Ok (outputs (settings_told s) (map (λ c. c.change) changes) ports timeline)
 by_timeline s changes ports (Err fault) = Err (of_timeline fault)
 
+-- the same with the octets of the captures: the number of captures is asked first
 abbrev pub with_texts : Settings → List TimedChange → List (Vec ℕ Global) → List ℕ → Result Outputs RunFault
 with_texts s changes ports underlay =
     if length ports == length s.ports then by_timeline s changes (length ports) (told (map (λ c. c.at) changes) ports underlay)
     else Err faults.PortCount
 
+-- the same with the settings, and what the changes mean
 abbrev pub with_settings : Settings → Meaning (List TimedChange) → List (Vec ℕ Global) → List ℕ → Result Outputs RunFault
 with_settings s (Ok changes) ports underlay = with_texts s changes ports underlay
 with_settings s (Err fault) ports underlay = Err (of_changes fault)

@@ -18,6 +18,7 @@ pub record Sending : Type 0 where
 
 -- ---- by what was answered
 
+-- what was sent of an outcome, where something was
 abbrev pub sending_of : ℕ → Sent → Option Sending
 sending_of moment outcome = elim outcome.sent [ Ok octets ↦ Some (record { moment = moment; place = outcome.place; octets = octets }) | Err reason ↦ None ]
 
@@ -25,18 +26,22 @@ sending_of moment outcome = elim outcome.sent [ Ok octets ↦ Some (record { mom
 abbrev pub sendings_of : ℕ → List Sent → List Sending
 sendings_of moment outcomes = filter_map (sending_of moment) outcomes
 
+-- what an answer sends
 abbrev pub sent_by : ℕ → Answer → List Sending
 sent_by moment (Decided decision) = sendings_of moment decision.outcomes
 sent_by moment (Replied fault) = []
 
 -- ---- captures
 
+-- it left at this port
 abbrev pub is_at_port : ℕ → Sending → Bool
 is_at_port port s = elim s.place [ Local p ↦ p == port | Remote kind addr ↦ false ]
 
+-- it left for the underlay
 abbrev pub is_at_underlay : Sending → Bool
 is_at_underlay s = elim s.place [ Local p ↦ false | Remote kind addr ↦ true ]
 
+-- its record in a capture
 abbrev pub record_of : Sending → Record
 record_of s = whole_frame s.moment s.octets
 
@@ -48,5 +53,6 @@ capture_of passes sendings = written (map record_of (filter passes sendings))
 abbrev pub port_captures : ℕ → List Sending → List (List ℕ)
 port_captures ports sendings = map (λ port. capture_of (is_at_port port) sendings) (range_with_len 1 ports)
 
+-- the capture of what left for the underlay
 abbrev pub underlay_capture : List Sending → List ℕ
 underlay_capture sendings = capture_of is_at_underlay sendings

@@ -26,24 +26,30 @@ empty_outputs ports = record { ports = replicate ports written_header; underlay 
 abbrev pub put_at : ℕ → List ℕ → List (List ℕ) → List (List ℕ)
 put_at port text texts = if port == 0 then texts else slice_set texts (port - 1) (slice_index_or texts (port - 1) [] ++ text)
 
+-- the outputs with a record more at a place
 abbrev pub with_record : Outputs → Place → List ℕ → Outputs
 with_record o (Local port) text = record o { ports = put_at port text o.ports }
 with_record o (Remote kind addr) text = record o { underlay = o.underlay ++ text }
 
+-- the same of what was sent
 abbrev pub with_sending : Outputs → Sending → Outputs
 with_sending o s = with_record o s.place (written_record (record_of s))
 
+-- the same of an outcome
 abbrev pub with_sent : ℕ → Outputs → Sent → Outputs
 with_sent moment o outcome = option_map_or (with_sending o) (sending_of moment outcome) o
 
+-- of all outcomes, one after another
 abbrev pub with_all_sent : ℕ → Outputs → List Sent → Outputs
 with_all_sent moment o [] = o
 with_all_sent moment o (outcome ∷ outcomes) = with_all_sent moment (with_sent moment o outcome) outcomes
 
+-- of an answer
 abbrev pub with_answer : ℕ → Outputs → Answer → Outputs
 with_answer moment o (Decided decision) = with_all_sent moment o decision.outcomes
 with_answer moment o (Replied fault) = o
 
+-- the outputs with a decision line more
 abbrev pub with_line : Outputs → List ℕ → Outputs
 with_line o text = record o { decisions = o.decisions ++ text }
 

@@ -8,6 +8,7 @@ use Rattle.ip_udp_view.specs.declared.addr.Addr.TheVariants.{V4, V6}
 
 -- ---- digits and numbers
 
+-- a character from one to another
 abbrev pub is_within : ℕ → ℕ → ℕ → Bool
 is_within low high c = nat_le low c && nat_le c high
 
@@ -74,6 +75,7 @@ exactly n xs = kept_if (λ x. length x == n) xs
 abbrev pub colon : ℕ
 colon = 58
 
+-- the code of a dot
 abbrev pub dot : ℕ
 dot = 46
 
@@ -118,6 +120,7 @@ ip6_groups text (Some h) = option_and_then (λ front. option_and_then (filled fr
 unfoldable pub ip6_of : List ℕ → Option (List ℕ)
 ip6_of text = option_map (flat_map (to_be_bytes w16)) (ip6_groups text (halves text))
 
+-- the first of two that is there
 abbrev pub or_else : {A : Type 0} → Option A → Option A → Option A
 or_else (Some x) other = Some x
 or_else None other = other

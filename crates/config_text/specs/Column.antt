@@ -8,6 +8,7 @@ use Rattle.ip_udp_view.specs.declared.addr.Addr.TheVariants.{V4, V6}
 use Rattle.ip_udp_view.specs.Addr.{is_usable, is_group}
 use Rattle.config_text.specs.Address.{kept_if, mac_of, ip4_of, ip6_of, addr_of}
 
+-- a whole number of a range
 abbrev pub in_range : ℕ → ℕ → ℤ → Option ℕ
 in_range low high (pos n) = if nat_le low n && nat_le n high then Some n else None
 in_range low high (negsuc n) = None
@@ -41,6 +42,7 @@ any_mac d = text mac_of d
 abbrev pub is_individual : List ℕ → Bool
 is_individual mac = not (is_group_mac mac)
 
+-- a MAC address of a single station
 abbrev pub individual_mac : Data → Option (List ℕ)
 individual_mac d = kept_if is_individual (text mac_of d)
 
@@ -52,12 +54,15 @@ any_addr d = text addr_of d
 abbrev pub is_endpoint : Addr → Bool
 is_endpoint a = is_usable a && not (is_group a)
 
+-- an address of a single endpoint
 abbrev pub endpoint_addr : Data → Option Addr
 endpoint_addr d = kept_if is_endpoint (text addr_of d)
 
+-- an IPv4 address of a single endpoint
 abbrev pub own_ip4 : Data → Option (List ℕ)
 own_ip4 d = kept_if (λ ip. is_endpoint (V4 ip)) (text ip4_of d)
 
+-- an IPv6 address of a single endpoint
 abbrev pub own_ip6 : Data → Option (List ℕ)
 own_ip6 d = kept_if (λ ip. is_endpoint (V6 ip)) (text ip6_of d)
 

@@ -9,6 +9,7 @@ Meaning A = Result A SettingsFault
 
 -- one step after the other, up to the first fault
 infixl 10 ◌>>=◌
+-- what a meaning is used for, or its fault
 abbrev pub ◌>>=◌ : {A B : Type 0} → Meaning A → (A → Meaning B) → Meaning B
 (Ok x) >>= f = f x
 (Err e) >>= f = Err e

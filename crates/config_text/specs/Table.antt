@@ -32,6 +32,7 @@ abbrev pub fits : {A : Type 0} → List ℕ → Option A → Meaning A
 fits path (Some x) = Ok x
 fits path None = Err (BadValue path)
 
+-- the value of a key that has to be there
 abbrev pub required_value : {A : Type 0} → List ℕ → (Data → Option A) → Option Data → Meaning A
 required_value path column None = Err (Missing path)
 required_value path column (Some d) = fits path (column d)
@@ -40,6 +41,7 @@ required_value path column (Some d) = fits path (column d)
 abbrev pub required : {A : Type 0} → Place → List ℕ → (Data → Option A) → Meaning A
 required at key column = required_value (path at key) column (get_member key at.members)
 
+-- the value of a key, or its default
 abbrev pub default_value : {A : Type 0} → List ℕ → (Data → Option A) → A → Option Data → Meaning A
 default_value path column default None = Ok default
 default_value path column default (Some d) = fits path (column d)
@@ -48,6 +50,7 @@ default_value path column default (Some d) = fits path (column d)
 abbrev pub defaulted : {A : Type 0} → Place → List ℕ → (Data → Option A) → A → Meaning A
 defaulted at key column default = default_value (path at key) column default (get_member key at.members)
 
+-- the value of a key, where it is there
 abbrev pub optional_value : {A : Type 0} → List ℕ → (Data → Option A) → Option Data → Meaning (Option A)
 optional_value path column None = Ok None
 optional_value path column (Some d) = fits path (column d) >>= λ x. Ok (Some x)
@@ -73,6 +76,7 @@ only at keys = if all_known keys at.members then Ok tt else Err (BadValue (path 
 
 -- ---- tables and lists under a key
 
+-- the table under a key; an empty one where it is absent
 abbrev pub table_value : List ℕ → Option Data → Meaning Members
 table_value path None = Ok no_members
 table_value path (Some d) = fits path (as_table d)
@@ -88,6 +92,7 @@ abbrev pub list_of : Items → List Data
 list_of no_items = []
 list_of (item d ds) = d ∷ list_of ds
 
+-- the list under a key; an empty one where it is absent
 abbrev pub items_value : List ℕ → Option Data → Meaning (List Data)
 items_value path None = Ok []
 items_value path (Some d) = fits path (option_map list_of (as_array d))

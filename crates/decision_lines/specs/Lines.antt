@@ -14,6 +14,7 @@ abbrev pub segment_text : Option ℕ → List ℕ
 segment_text (Some vid) = decimal vid
 segment_text None = codes "-"
 
+-- what a change was answered: done, or refused with the number and the name of the cause
 abbrev pub reply_text : Option ChangeFault → List ℕ
 reply_text None = codes "done"
 reply_text (Some fault) = codes "refused " ++ decimal (number_of fault) ++ codes " " ++ name_of fault
@@ -27,6 +28,7 @@ answer_text named (Replied fault) = segment_text named ++ codes " " ++ reply_tex
 abbrev pub front_text : ℕ → ℕ → Source → ℕ → List ℕ
 front_text number moment source own = decimal number ++ codes " " ++ decimal moment ++ codes " " ++ source_word source ++ codes " " ++ decimal own ++ codes " "
 
+-- the same of an event of the timeline
 abbrev pub line_front : ℕ → Event → List ℕ
 line_front number e = front_text number e.moment (source_of e.happening) e.number
 

@@ -9,6 +9,7 @@ use Rattle.dissector.specs.declared.built_in.Passing.{Passing}
 abbrev pub lines : List (List ℕ) → List ℕ
 lines texts = flat_map (λ text. text ++ 10 ∷ []) texts
 
+-- its settings, as a text
 abbrev pub settings_text : List ℕ
 settings_text = lines (
     codes "version = 1" ∷
@@ -31,6 +32,7 @@ settings_text = lines (
     codes "tagged = []" ∷
     codes "flood = []" ∷ [])
 
+-- seconds in nanoseconds
 abbrev pub nanoseconds : ℕ → ℕ
 nanoseconds seconds = seconds * 1000000000
 
@@ -38,9 +40,11 @@ nanoseconds seconds = seconds * 1000000000
 abbrev pub frame : Passing → List ℕ
 frame p = p.dst ++ (p.src ++ (p.kind ++ replicate 46 0))
 
+-- a frame as a record of a capture
 abbrev pub record_of : Passing → Record
 record_of p = whole_frame (nanoseconds p.second) (frame p)
 
+-- the capture of some frames
 abbrev pub capture_of : List Passing → List ℕ
 capture_of frames = written (map record_of frames)
 
@@ -48,9 +52,11 @@ capture_of frames = written (map record_of frames)
 abbrev pub everybody : List ℕ
 everybody = replicate 6 255
 
+-- the address of a station by its number
 abbrev pub station : ℕ → List ℕ
 station n = 2 ∷ 0 ∷ 0 ∷ 0 ∷ 0 ∷ n ∷ []
 
+-- a frame that passes at a second
 abbrev pub passes : ℕ → List ℕ → List ℕ → ℕ → Passing
 passes at dst src kind = record { second = at; dst = dst; src = src; kind = 8 ∷ kind ∷ [] }
 

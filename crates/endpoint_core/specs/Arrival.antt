@@ -26,10 +26,12 @@ capture_reasons original b =
     ∷ (nowhere Sliced, nat_lt (length b) original)
     ∷ []
 
+-- a refusal, or what there is where there is none
 abbrev pub unless : Option Refused → Result Came Refused → Result Came Refused
 unless (Some refused) otherwise = Err refused
 unless None otherwise = otherwise
 
+-- a frame in a segment, from a local port
 abbrev pub entered : ℕ → Result (ℕ × Frame) Refused → Result Came Refused
 entered port (Ok found) = Ok (record { vid = found.0; from = Local port; frame = found.1 })
 entered port (Err refused) = Err refused
@@ -40,6 +42,7 @@ came_at ports port original b = unless (first (capture_reasons original b)) (ent
 
 -- ---- by a tunnel
 
+-- a frame in a segment, from a remote endpoint
 abbrev pub tunnelled : Result Arrived Refused → Result Came Refused
 tunnelled (Ok x) = Ok (record { vid = x.vid; from = Remote x.from.0 x.from.1; frame = x.frame })
 tunnelled (Err refused) = Err refused

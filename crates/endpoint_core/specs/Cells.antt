@@ -2,6 +2,7 @@
 use Rattle.std.specs.Prelude.{ℕ, ◌+◌, min, List, [], slice_index_or, slice_set, Option, Some, None}
 use Rattle.endpoint_core.specs.Counts.{most}
 
+-- counts in rows, one for each VID and one for none
 pub record Cells : Type 0 where
   -- by number, in no segment
   pub nowhere : List ℕ

@@ -25,12 +25,15 @@ abbrev pub number_sent : {A : Type 0} → Result A Reason → ℕ
 number_sent (Ok octets) = 0
 number_sent (Err reason) = number_of reason
 
+-- what is counted of an outcome
 abbrev pub mark_sent : Option ℕ → Sent → Mark
 mark_sent segment o = record { segment = segment; number = number_sent o.sent }
 
+-- of all outcomes
 abbrev pub marks_all : Option ℕ → List Sent → List Mark
 marks_all segment outcomes = map (mark_sent segment) outcomes
 
+-- of a drop or of all outcomes
 abbrev pub marks_by : Option ℕ → Option Reason → List Sent → List Mark
 marks_by segment (Some reason) outcomes = record { segment = segment; number = number_of reason } ∷ []
 marks_by segment None outcomes = marks_all segment outcomes
@@ -52,9 +55,11 @@ same_segment None (Some v) = false
 same_segment (Some u) None = false
 same_segment (Some u) (Some v) = u == v
 
+-- it is counted under this segment and number
 abbrev pub is_mark : Option ℕ → ℕ → Mark → Bool
 is_mark segment number m = same_segment segment m.segment && number == m.number
 
+-- nothing is counted yet
 abbrev pub no_counts : Counts
 no_counts segment number = 0
 
@@ -62,6 +67,7 @@ no_counts segment number = 0
 abbrev pub one_more : Counts → Mark → Counts
 one_more counts m = λ segment number. if is_mark segment number m then min most (counts segment number + 1) else counts segment number
 
+-- the counts behind some marks
 abbrev pub counted_all : Counts → List Mark → Counts
 counted_all counts [] = counts
 counted_all counts (m ∷ ms) = counted_all (one_more counts m) ms

@@ -14,6 +14,7 @@ pub record Sent : Type 0 where
   pub place : Place
   pub sent : Result (List ℕ) Reason
 
+-- what is decided of a frame or a packet
 pub record Decision : Type 0 where
   -- the segment, where the frame or packet came so far
   pub segment : Option ℕ
@@ -38,6 +39,7 @@ forwarded vid two_tunnels outcomes = record { segment = Some vid; dropped = None
 
 -- ---- in parts
 
+-- the same with emissions in their parts
 pub record Decided : Type 0 where
   pub segment : Option ℕ
   pub dropped : Option Reason

@@ -25,8 +25,10 @@ IsRising t (e ∷ es) = (t ≤ e.at) × IsRising e.at es
 abbrev pub frame_at : ℕ → ℕ → ℕ → List ℕ → Event
 frame_at t port original octets = record { at = t; input = FrameAt port original octets }
 
+-- a packet from the underlay
 abbrev pub packet_at : ℕ → ℕ → List ℕ → Event
 packet_at t original octets = record { at = t; input = Packet original octets }
 
+-- a change of the settings
 abbrev pub change_at : ℕ → Change → Event
 change_at t c = record { at = t; input = Asks c }

@@ -53,10 +53,12 @@ events_of vid S (e ∷ es) =
     let rest = events_of vid (settings_after_input S e.input) es in
     if is_own vid S e.input then (S, e) ∷ rest else rest
 
+-- the entries of a segment behind a frame that came to it, or that was refused
 abbrev pub entries_after_frame : Option SegmentSettings → ℕ → Result Came Refused → Table → Table
 entries_after_frame segment t (Ok x) m = table_learned t x.from x.frame segment m
 entries_after_frame segment t (Err refused) m = m
 
+-- and behind a change
 abbrev pub entries_after_change : Option SegmentSettings → ℕ → Change → Table → Table
 entries_after_change None t c m = m
 entries_after_change (Some s) t c m = entries_changed t s c m
@@ -102,5 +104,6 @@ abbrev pub decided_of : Answer → List Decision
 decided_of (Decided decision) = decision ∷ []
 decided_of (Replied fault) = []
 
+-- the decisions among some answers
 abbrev pub decided_of_all : List Answer → List Decision
 decided_of_all answers = flat_map decided_of answers

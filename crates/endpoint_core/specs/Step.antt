@@ -40,6 +40,7 @@ opened S = record { bridges = record { settings = S; tables = λ vid. empty }; c
 abbrev pub has_two_tunnels : Overlay → ℕ → Bool
 has_two_tunnels overlay vid = option_map_or (λ segment. length segment.tunnels == 2) (overlay_segment overlay vid) false
 
+-- what is sent of a frame at a place
 abbrev pub sent_at : Settings → ℕ → Frame → Place → Sent
 sent_at S vid f place = record { place = place; sent = emitted S.ports S.overlay vid f place }
 

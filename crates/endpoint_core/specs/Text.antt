@@ -18,6 +18,7 @@ use Rattle.endpoint_core.specs.Decision.{Sent, Decision}
 abbrev pub hex_digit : ℕ → ℕ
 hex_digit d = if nat_lt d 10 then 48 + d else 87 + d
 
+-- an octet in two hexadecimal digits
 abbrev pub hex_octet : ℕ → List ℕ
 hex_octet n = hex_digit (n / 16) ∷ hex_digit (n % 16) ∷ []
 
@@ -34,12 +35,14 @@ grouped _ = []
 abbrev pub ip6_text : List ℕ → List ℕ
 ip6_text b = drop 1 (grouped b)
 
+-- an address of either family
 abbrev pub addr_text : Addr → List ℕ
 addr_text (V4 b) = ip4_text b
 addr_text (V6 b) = ip6_text b
 
 -- ---- decisions
 
+-- the kind of a tunnel, before its address
 abbrev pub kind_text : Tunnel → List ℕ
 kind_text Vxlan = codes "vxlan:"
 kind_text Geneve = codes "geneve:"
@@ -54,6 +57,7 @@ abbrev pub sent_text : Result (List ℕ) Reason → List ℕ
 sent_text (Ok octets) = codes "=" ++ decimal (length octets)
 sent_text (Err reason) = codes "!" ++ name_of reason
 
+-- a place, and what came of it
 abbrev pub outcome_text : Bool → Sent → List ℕ
 outcome_text two_tunnels o = place_text two_tunnels o.place ++ sent_text o.sent
 
@@ -67,9 +71,11 @@ abbrev pub outcomes_text : Bool → List Sent → List ℕ
 outcomes_text two_tunnels [] = []
 outcomes_text two_tunnels (o ∷ os) = outcome_text two_tunnels o ++ further_text two_tunnels os
 
+-- a drop, or the outcomes
 abbrev pub result_by : Bool → Option Reason → List Sent → List ℕ
 result_by two_tunnels (Some reason) outcomes = codes "drop " ++ decimal (number_of reason) ++ codes " " ++ name_of reason
 result_by two_tunnels None outcomes = outcomes_text two_tunnels outcomes
 
+-- the text of a decision
 abbrev pub result_of : Decision → List ℕ
 result_of d = result_by d.two_tunnels d.dropped d.outcomes

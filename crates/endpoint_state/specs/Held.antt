@@ -8,6 +8,7 @@ use Rattle.endpoint_state.specs.Sound.{IsSound}
 use Rattle.endpoint_state.specs.State as state
 use Rattle.endpoint_state.specs.State.{State}
 
+-- what an endpoint holds, over the pool of all tables
 abbrev pub Held : Type 0
 Held = Parts Shared
 
@@ -23,5 +24,6 @@ state_at t held = state.state_of segments_of t held
 abbrev pub moment_of : Held → ℕ
 moment_of held = held.tables.moment
 
+-- its parts agree
 abbrev pub HeldIsSound : Held → Type 0
 HeldIsSound held = IsSound segments_of held

@@ -23,6 +23,7 @@ pub record BridgeSettings : Type 0 where
   pub ageing : ℕ
   pub learning : Bool
 
+-- the settings in force
 pub record Settings : Type 0 where
   -- the local ports, and the members of each segment
   pub ports : Ports

@@ -43,5 +43,6 @@ pub record AreSound (ports : Ports) (overlay : Overlay) (segments : Segments) : 
   pub flood : (vid : ℕ) → list_all (λ r. reaches overlay vid r.tunnel r.addr) (flood_at overlay vid) ≡ true
   pub tables : (vid : ℕ) → AreReached overlay vid (table_of vid segments).entries
 
+-- the parts of what an endpoint holds agree
 abbrev pub IsSound : {T : Type 0} → (T → Segments) → Parts T → Type 0
 IsSound segments parts = AreSound parts.ports parts.under (segments parts.tables)

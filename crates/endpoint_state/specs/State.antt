@@ -26,6 +26,7 @@ pub record State : Type 0 where
 
 -- ---- what an endpoint holds
 
+-- a segment's own settings
 abbrev pub bridge_of : Bool → Segment → BridgeSettings
 bridge_of learning s = record { limit = s.limit; ageing = s.ageing; learning = learning }
 
@@ -37,6 +38,7 @@ bridges_of learning segments = λ vid. option_map (bridge_of (learns learning vi
 abbrev pub tables_at : ℕ → Segments → ℕ → Table
 tables_at t segments = λ vid. (table_of vid (aged_all t segments)).entries
 
+-- the settings that parts have
 abbrev pub settings_by : Ports → Overlay → List Bool → Segments → Settings
 settings_by ports overlay learning segments = record { ports = ports; overlay = overlay; bridges = bridges_of learning segments }
 

@@ -5,6 +5,7 @@ use Rattle.endpoint_state.specs.declared.fault.ChangeFault.{ChangeFault}
 use Rattle.endpoint_state.specs.declared.fault.ChangeFault.TheVariants.{NoSegment, NoTunnel}
 use Rattle.endpoint_state.specs.Settings.{SegmentSettings, kind_named}
 
+-- the kind that is there, or the refusal of a segment that lacks it
 abbrev pub or_no_tunnel : Option Tunnel → Result Tunnel ChangeFault
 or_no_tunnel None = Err NoTunnel
 or_no_tunnel (Some kind) = Ok kind

@@ -43,6 +43,7 @@ explanation S depth timeline =
     event_texts S.overlay depth 0 (zip timeline.events (decisions S [] (map (event_of []) timeline.events)))
     ++ flat_map cut_line timeline.cuts
 
+-- the explanation of a capture that was read, or its fault
 abbrev pub by_timeline : Told → ℕ → Result Timeline TimelineFault → Result (List ℕ) RunFault
 by_timeline s depth (Ok timeline) = Ok (explanation (settings_told s) depth timeline)
 by_timeline s depth (Err fault) = Err (of_timeline fault)

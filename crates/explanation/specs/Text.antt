@@ -15,6 +15,7 @@ use Rattle.packet_layers.specs.declared.kind.Stop.TheVariants.{At, Deep}
 use Rattle.packet_layers.specs.Apart.{Span, Head}
 use Rattle.packet_layers.specs.Dissection.{Layers}
 
+-- the word of a head
 abbrev pub kind_word : HeadKind → List ℕ
 kind_word Ether = codes "ether"
 kind_word Tag = codes "tag"
@@ -29,12 +30,15 @@ kind_word Geneve = codes "geneve"
 abbrev pub part_line : List ℕ → ℕ → ℕ → List ℕ
 part_line word place octets = codes "  " ++ word ++ codes " " ++ decimal place ++ codes " " ++ decimal octets ++ 10 ∷ []
 
+-- the line of a head
 abbrev pub head_line : Head → List ℕ
 head_line h = part_line (kind_word h.kind) h.place (length h.octets)
 
+-- the line of a tail
 abbrev pub tail_line : Span → List ℕ
 tail_line t = part_line (codes "tail") t.place (length t.octets)
 
+-- the line of the payload
 abbrev pub payload_line : Span → List ℕ
 payload_line p = part_line (codes "payload") p.place (length p.octets)
 

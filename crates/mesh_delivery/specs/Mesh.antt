@@ -84,6 +84,7 @@ abbrev pub left_one : Origin → ℕ → Settings → ℕ → Option Flying → 
 left_one origin endpoint S vid by (Local port) (Ok octets) = record { origin = origin; endpoint = endpoint; settings = S; vid = vid; port = port; by = by; octets = octets } ∷ []
 left_one origin endpoint S vid by _ _ = []
 
+-- what left at local ports, of all that was sent
 abbrev pub left_of : Origin → ℕ → Settings → ℕ → Option Flying → List Sent → List Left
 left_of origin endpoint S vid by sent = flat_map (λ o. left_one origin endpoint S vid by o.place o.sent) sent
 
@@ -92,6 +93,7 @@ abbrev pub flying_one : Origin → Settings → ℕ → Place → Result (List �
 flying_one origin S vid (Remote kind addr) (Ok octets) = record { origin = origin; sender = S; vid = vid; kind = kind; addr = addr; octets = octets } ∷ []
 flying_one origin S vid _ _ = []
 
+-- the packets that go on their way, of all that was sent
 abbrev pub flying_of : Origin → Settings → ℕ → List Sent → List Flying
 flying_of origin S vid sent = flat_map (λ o. flying_one origin S vid o.place o.sent) sent
 

@@ -43,6 +43,7 @@ pub record IsOffspring (x : Left) : Type 0 where
 
 -- ---- one step
 
+-- a place is a local port
 abbrev pub IsLocal : Place → Type 0
 IsLocal (Local port) = Unit {0}
 IsLocal (Remote kind addr) = ⊥

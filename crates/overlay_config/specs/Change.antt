@@ -21,10 +21,12 @@ use Rattle.overlay_config.specs.Document.{document}
 use Rattle.overlay_config.specs.Segment.{tunnel_words}
 use Rattle.overlay_settings.specs.Rules.{IsWithin}
 
+-- the words of the kinds of changes
 abbrev pub kind_words : List (List ℕ × Kind)
 kind_words = (codes "add_flood", kinds.AddFlood) ∷ (codes "remove_flood", kinds.RemoveFlood) ∷ (codes "fix", kinds.Fix) ∷ (codes "unfix", kinds.Unfix) ∷ (codes "set_ageing", kinds.SetAgeing)
     ∷ (codes "set_learning", kinds.SetLearning) ∷ (codes "set_member", kinds.SetMember) ∷ (codes "port_up", kinds.PortUp) ∷ (codes "port_down", kinds.PortDown) ∷ (codes "flush", kinds.Flush) ∷ []
 
+-- the words of how frames leave at a port
 abbrev pub egress_words : List (List ℕ × Option Egress)
 egress_words = (codes "tagged", Some Tagged) ∷ (codes "untagged", Some Untagged) ∷ (codes "none", None) ∷ []
 
@@ -45,15 +47,19 @@ keys_of kinds.PortUp = keys_with (codes "port" ∷ [])
 keys_of kinds.PortDown = keys_with (codes "port" ∷ [])
 keys_of kinds.Flush = keys_with (codes "vid" ∷ [])
 
+-- the key `vid`
 abbrev pub vid_at : Place → Meaning ℕ
 vid_at at = required at (codes "vid") (range 1 4094)
 
+-- the key `port`
 abbrev pub port_at : Place → Meaning ℕ
 port_at at = required at (codes "port") (range 0 255)
 
+-- the key `addr`
 abbrev pub addr_at : Place → Meaning Addr
 addr_at at = required at (codes "addr") any_addr
 
+-- the key `mac`
 abbrev pub mac_at : Place → Meaning (List ℕ)
 mac_at at = required at (codes "mac") any_mac
 
@@ -68,6 +74,7 @@ target_in at None (Some remote) = tunnel_at at >>= λ tunnel. Ok (Remote remote 
 target_in at None None = Err (Missing (path at (codes "port")))
 target_in at (Some port) (Some remote) = Err (BadValue (path at (codes "remote")))
 
+-- where an address is fixed: a port or a remote
 unfoldable pub target_of : Place → Meaning Target
 target_of at = do
   port ← optional at (codes "port") (range 0 255)
@@ -130,6 +137,7 @@ change_of earlier at = do
 abbrev pub IsRising : List TimedChange → TimedChange → Type 0
 IsRising earlier c = IsWithin (moment_before earlier) 4294967295999999999 c.at
 
+-- what the table of a text of changes means
 unfoldable pub changes_of : Members → Meaning (List TimedChange)
 changes_of members = do
   known ← only (top members) (codes "change" ∷ [])

@@ -5,6 +5,7 @@ use Rattle.toml.specs.Parse.{parse_document}
 use Rattle.config_text.specs.declared.fault.SettingsFault.TheVariants.{NotToml}
 use Rattle.config_text.specs.Fault.{Meaning}
 
+-- the table of a document, or that it is none
 abbrev pub read_members : Option Members → Meaning Members
 read_members None = Err NotToml
 read_members (Some members) = Ok members

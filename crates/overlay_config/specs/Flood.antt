@@ -12,5 +12,6 @@ use Rattle.config_text.specs.Column.{any_addr}
 abbrev pub with_remote : Own → Tunnel → Entries → Addr → Option Entries
 with_remote own kind flood addr = if is_none (first (add_faults own flood kind addr)) then Some (flood ++ record { tunnel = kind; addr = addr } ∷ []) else None
 
+-- a list with the remote that a value tells
 abbrev pub put_remote : Own → Tunnel → Entries → Data → Option Entries
 put_remote own kind flood d = option_and_then (with_remote own kind flood) (any_addr d)

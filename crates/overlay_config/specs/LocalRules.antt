@@ -13,9 +13,11 @@ use Rattle.config_text.specs.Table.{Place, path, defaulted, items, fits}
 use Rattle.overlay_config.specs.declared.local_rules.LocalRules.{LocalRules}
 use Rattle.overlay_config.specs.Members.{put_member}
 
+-- the words of the rule on senders
 abbrev pub peer_words : List (List ℕ × PeerRule)
 peer_words = (codes "any", Any) ∷ (codes "listed", Listed) ∷ []
 
+-- the words of the rule on tags in tunnels
 abbrev pub tag_words : List (List ℕ × TagRule)
 tag_words = (codes "drop", Drop) ∷ (codes "pass", Pass) ∷ []
 

@@ -9,6 +9,7 @@ use Rattle.overlay_settings.specs.Settings.{is_member}
 abbrev pub with_member : List ℕ → List ℕ → ℕ → Option (List ℕ)
 with_member other members port = if is_member members port || is_member other port then None else Some (members ++ port ∷ [])
 
+-- a list with the port that a value tells
 abbrev pub put_member : ℕ → List ℕ → List ℕ → Data → Option (List ℕ)
 put_member ports other members d = option_and_then (with_member other members) (range 1 ports d)
 

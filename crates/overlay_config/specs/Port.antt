@@ -7,12 +7,15 @@ use Rattle.config_text.specs.Fault.{Meaning, ◌>>=◌}
 use Rattle.config_text.specs.Column.{range, truth, one_of}
 use Rattle.config_text.specs.Table.{Place, only, required, defaulted}
 
+-- the words of the frame types that a port accepts
 abbrev pub accept_words : List (List ℕ × Accept)
 accept_words = (codes "all", All) ∷ (codes "tagged", Tagged) ∷ (codes "untagged", Untagged) ∷ []
 
+-- the keys of a port
 abbrev pub port_keys : List (List ℕ)
 port_keys = codes "pvid" ∷ codes "accept" ∷ codes "up" ∷ []
 
+-- what the table of a port means
 unfoldable pub port_of : Place → Meaning PortRule
 port_of at = do
   known ← only at port_keys

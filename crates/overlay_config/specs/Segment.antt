@@ -17,6 +17,7 @@ use Rattle.config_text.specs.Table.{Place, only, required, listed, refuse_if, nu
 use Rattle.overlay_config.specs.Flood.{put_remote}
 use Rattle.overlay_config.specs.LocalRules.{local_of, with_tunnels}
 
+-- the words of the kinds of tunnels
 abbrev pub tunnel_words : List (List ℕ × Tunnel)
 tunnel_words = (codes "vxlan", Vxlan) ∷ (codes "geneve", Geneve) ∷ []
 
@@ -43,6 +44,7 @@ tunnel_of at = do
 abbrev pub flood_of : Own → Tunnel → Place → Meaning Entries
 flood_of own kind at = listed at (codes "flood") 16 (put_remote own kind) []
 
+-- the keys of a segment
 abbrev pub segment_keys : List (List ℕ)
 segment_keys = codes "vid" ∷ codes "vni" ∷ codes "tunnel" ∷ codes "limit" ∷ codes "ageing" ∷ codes "learn" ∷ codes "peers" ∷ codes "tags" ∷ codes "untagged" ∷ codes "tagged" ∷ codes "flood" ∷ []
 

@@ -15,6 +15,7 @@ use Rattle.overlay_config.specs.Underlay.{underlay_of}
 use Rattle.overlay_config.specs.Port.{port_of}
 use Rattle.overlay_config.specs.Segment.{segment_of}
 
+-- the keys at the top
 abbrev pub top_keys : List (List ℕ)
 top_keys = codes "version" ∷ codes "underlay" ∷ codes "port" ∷ codes "segment" ∷ []
 
@@ -26,6 +27,7 @@ segments_of own ports at = do
   total ← refuse_if (nat_lt 65536 (sum_of_limits segments)) (OverLimit (codes "limit"))
   Ok segments
 
+-- what the table of a text of settings means
 unfoldable pub settings_of : Members → Meaning Settings
 settings_of members = do
   known ← only (top members) top_keys

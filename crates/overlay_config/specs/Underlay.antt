@@ -13,6 +13,7 @@ use Rattle.config_text.specs.Column.{range, truth, individual_mac, endpoint_addr
 use Rattle.overlay_settings.specs.Settings.{Exceptions}
 use Rattle.config_text.specs.Table.{Place, path, only, required, defaulted, optional, listed, limited_items, each, refuse_if}
 
+-- the keys of the underlay
 abbrev pub underlay_keys : List (List ℕ)
 underlay_keys = codes "mac" ∷ codes "next_hop" ∷ codes "ip4" ∷ codes "ip6" ∷ codes "mtu" ∷ codes "ttl" ∷ codes "vxlan_port" ∷ codes "geneve_port" ∷ codes "sum4" ∷ codes "sum6" ∷ codes "zero6" ∷ codes "known" ∷ codes "hop" ∷ []
 
@@ -37,6 +38,7 @@ abbrev pub pair_in : Items → Option (ℕ × ℕ)
 pair_in (item c (item k no_items)) = option_and_then (λ class. option_map (λ kind. (class, kind)) (range 0 255 k)) (range 0 65535 c)
 pair_in _ = None
 
+-- an option that is known: its class and type
 abbrev pub known_option : Data → Option (ℕ × ℕ)
 known_option d = option_and_then pair_in (as_array d)
 
@@ -44,9 +46,11 @@ known_option d = option_and_then pair_in (as_array d)
 abbrev pub with_known : List (ℕ × ℕ) → ℕ × ℕ → Option (List (ℕ × ℕ))
 with_known options o = if holds options o.0 o.1 then None else (if nat_lt (length options) 16 then Some (options ++ o ∷ []) else None)
 
+-- a list with the option that a value tells
 abbrev pub put_known : List (ℕ × ℕ) → Data → Option (List (ℕ × ℕ))
 put_known options d = option_and_then (with_known options) (known_option d)
 
+-- the keys of an exception from the next hop
 abbrev pub hop_keys : List (List ℕ)
 hop_keys = codes "addr" ∷ codes "mac" ∷ []
 
@@ -63,16 +67,19 @@ hop_of earlier at = do
 abbrev pub with_exception : Exceptions → Addr × List ℕ → Exceptions
 with_exception hops h = if is_none (get hops (address h.0)) then insert hops (address h.0) h.1 else hops
 
+-- the exceptions of a list, one after another
 abbrev pub exceptions : Exceptions → List (Addr × List ℕ) → Exceptions
 exceptions hops [] = hops
 exceptions hops (h ∷ hs) = exceptions (with_exception hops h) hs
 
+-- what the exceptions of the underlay mean
 unfoldable pub hops_of : Place → Meaning Exceptions
 hops_of at = do
   tables ← limited_items at (codes "hop") 64
   hops ← each hop_of (codes "underlay.hop") [] tables
   Ok (exceptions empty hops)
 
+-- what the table of the underlay means
 unfoldable pub underlay_of : Place → Meaning Underlay
 underlay_of at = do
   known_keys ← only at underlay_keys

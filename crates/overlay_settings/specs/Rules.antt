@@ -19,6 +19,7 @@ use Rattle.underlay.specs.Settings.{own}
 use Rattle.overlay_settings.specs.declared.segment.SegmentRule.{SegmentRule}
 use Rattle.overlay_settings.specs.Settings.{Settings, Exceptions, tunnel_rule, sum_of_limits, is_member}
 
+-- a number of a range
 abbrev pub IsWithin : ℕ → ℕ → ℕ → Type 0
 IsWithin low high n = (low ≤ n) × (n ≤ high)
 
@@ -52,6 +53,7 @@ IsHop h = IsEndpoint h.0 × IsIndividual h.1
 abbrev pub AreHops : Exceptions → Type 0
 AreHops hops = (octets mac : List ℕ) → get hops octets ≡ Some mac → (a : Addr) × (address a ≡ octets) × IsHop (a, mac)
 
+-- the rules of the underlay
 pub record IsUnderlay (u : Underlay) : Type 0 where
   pub mac : IsIndividual u.mac
   pub next_hop : IsIndividual u.next_hop
@@ -70,6 +72,7 @@ pub record IsUnderlay (u : Underlay) : Type 0 where
 
 -- ---- ports and segments
 
+-- the rules of a port
 abbrev pub IsPort : List PortRule → PortRule → Type 0
 IsPort earlier p = IsWithin 1 4094 p.pvid
 
@@ -104,6 +107,7 @@ pub record IsSegment (own : Own) (ports : ℕ) (earlier : List SegmentRule) (s :
 
 -- ---- all
 
+-- all rules of settings
 pub record MeetsRules (s : Settings) : Type 0 where
   pub underlay : IsUnderlay s.underlay
   pub port_count : IsWithin 1 16 (length s.ports)

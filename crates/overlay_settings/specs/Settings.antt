@@ -13,6 +13,7 @@ use Rattle.underlay.specs.declared.segment.TunnelRule.{TunnelRule}
 use Rattle.underlay.specs.declared.settings.Underlay.{Underlay}
 use Rattle.overlay_settings.specs.declared.segment.SegmentRule.{SegmentRule}
 
+-- settings, as a text tells them
 pub record Settings : Type 0 where
   pub underlay : Underlay
   -- port 1, port 2 and so on
@@ -37,6 +38,7 @@ member_rule s = record { vid = s.vid; untagged = s.untagged; tagged = s.tagged }
 abbrev pub table_rule : SegmentRule → TableRule
 table_rule s = record { vid = s.vid; limit = s.limit; ageing = s.ageing }
 
+-- how many addresses all tables may hold
 abbrev pub sum_of_limits : List SegmentRule → ℕ
 sum_of_limits segments = sum (map (λ s. s.limit) segments)
 

@@ -6,10 +6,12 @@ use Rattle.pcap_io.specs.declared.record.RecordFault.TheVariants as record_
 use Rattle.pcap_stream.specs.declared.fault.SourceFault.{SourceFault}
 use Rattle.pcap_stream.specs.declared.fault.SourceFault.TheVariants as source
 
+-- a fault of a header as a source answers it
 abbrev pub capture_fault : CaptureFault → SourceFault
 capture_fault capture.NotPcap = source.NotPcap
 capture_fault capture.BadLink = source.BadLink
 
+-- a fault of a record as a source answers it
 abbrev pub record_fault : RecordFault → SourceFault
 record_fault record_.TooLarge = source.TooLarge
 record_fault record_.BadFraction = source.BadFraction

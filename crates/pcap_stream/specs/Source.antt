@@ -49,11 +49,13 @@ abbrev pub after_header : Result Style CaptureFault → Standing
 after_header (Ok style) = Open style None
 after_header (Err fault) = Failed (capture_fault fault)
 
+-- how a source stands behind the last record
 abbrev pub after_end : End → Standing
 after_end Whole = Ended false
 after_end Cut = Ended true
 after_end (Faulty fault) = Failed (record_fault fault)
 
+-- and behind what comes next
 abbrev pub after_next : Style → Next → Standing
 after_next style (Another r rest) = Open style (Some r)
 after_next style (Ends end) = after_end end
@@ -64,6 +66,7 @@ left_by_end text Whole = []
 left_by_end text Cut = []
 left_by_end text (Faulty fault) = drop 16 text
 
+-- the octets that what comes next leaves
 abbrev pub left_by_next : List ℕ → Next → List ℕ
 left_by_next text (Another r rest) = rest
 left_by_next text (Ends end) = left_by_end text end

@@ -14,10 +14,12 @@ record_in room fetched = record {
   octets = take fetched.captured room;
 }
 
+-- the record that is lent, out of the room
 abbrev pub last_in : List ℕ → Option Fetched → Option Record
 last_in room None = None
 last_in room (Some fetched) = Some (record_in room fetched)
 
+-- how a source stands by its state and its room
 abbrev pub standing_of : State → List ℕ → Standing
 standing_of state.New room = New
 standing_of (state.Open style last) room = Open style (last_in room last)
@@ -30,10 +32,12 @@ pub record IsHeld (fetched : Fetched) : Type 0 where
   pub original : fetched.original < 2 ^ 32
   pub captured : fetched.captured ≤ longest
 
+-- the record that is lent is held whole
 abbrev pub IsLastHeld : Option Fetched → Type 0
 IsLastHeld None = ⊤
 IsLastHeld (Some fetched) = IsHeld fetched
 
+-- and so a state is sound
 abbrev pub IsSound : State → Type 0
 IsSound state.New = ⊤
 IsSound (state.Open style last) = IsLastHeld last

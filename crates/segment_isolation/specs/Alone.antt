@@ -48,6 +48,7 @@ pub record Told : Type 0 where
   pub at : ℕ
   pub reply : Answer
 
+-- what a segment is told of an event
 abbrev pub told_of : State → Event → Told
 told_of s e = record { at = e.at; reply = answer s e }
 
@@ -70,6 +71,7 @@ pub record Summary : Type 0 where
   pub tunnels : List SegmentTunnel
   pub limit : ℕ
 
+-- what all segments see of one: its tunnels and its limit
 abbrev pub summary_of : SegmentSettings → Summary
 summary_of s = record { tunnels = s.tunnels; limit = s.limit }
 

@@ -16,6 +16,7 @@ key_of vid mac = from_be_bytes w64 (octets 2 vid ++ mac)
 unfoldable pub vid_in : ℕ → ℕ
 vid_in key = from_be_bytes w16 (take 2 (to_be_bytes w64 key))
 
+-- the address in a key
 unfoldable pub mac_in : ℕ → List ℕ
 mac_in key = drop 2 (to_be_bytes w64 key)
 

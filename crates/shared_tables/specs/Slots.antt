@@ -26,6 +26,7 @@ number_of (Some number) = number
 abbrev pub links_in : Near → Links
 links_in near = record { previous = id_of near.previous; next = id_of near.next }
 
+-- neighbours by their numbers
 abbrev pub near_of : Links → Near
 near_of links = record { previous = number_of links.previous; next = number_of links.next }
 
@@ -48,6 +49,7 @@ abbrev pub kind_of : Option ℕ → Kind
 kind_of None = kind.Fixed
 kind_of (Some last) = kind.Learned
 
+-- the moment as it is kept; 0 for a fixed entry
 abbrev pub moment_of : Option ℕ → ℕ
 moment_of None = 0
 moment_of (Some last) = last

@@ -28,18 +28,21 @@ pub record Lends (octets : List ℕ) (done : List Record) (r : Record) (s : Stre
   pub reading : IsReading octets (done ++ r ∷ []) s
   pub lends : lent s.standing ≡ Some r
 
+-- all records of a capture were lent
 pub record IsDone (octets : List ℕ) (done : List Record) (s : Stream) : Type 0 where
   pub end : End
   pub reading : opened octets ≡ Ok (record { records = done; end = end })
   pub stands : s.standing ≡ after_end end
   pub no_fault : (fault : RecordFault) → end ≢ Faulty fault
 
+-- a source stands behind some records: it lends the next, or there is none
 abbrev pub StandsBehind : List ℕ → List Record → Option ℕ → Stream → Type 0
 StandsBehind octets done (Some moment) s = (r : Record) × (moment ≡ max r.moment (greatest done)) × Lends octets done r s
 StandsBehind octets done None s = IsDone octets done s
 
 -- ---- the cause of a fault
 
+-- how often its reads failed
 abbrev pub failures_of : Stream → ℕ
 failures_of s = s.supply.failures
 
@@ -48,6 +51,7 @@ pub record AreQuiet (old : List Stream) (old_underlay : Stream) (new : List Stre
   pub ports : map failures_of new ≡ map failures_of old
   pub underlay : failures_of new_underlay ≡ failures_of old_underlay
 
+-- the source of a capture has given up
 abbrev pub GivesUpAt : Tap → List Stream → Stream → List Stream → Stream → Type 0
 GivesUpAt (taps.Port port) old old_underlay new new_underlay =
     (d : Stream) → (0 < port) × (port ≤ length old) × GivesUp (slice_index_or old (port - 1) d).supply (slice_index_or new (port - 1) d).supply

@@ -82,6 +82,7 @@ pub record StandAt (old new : Drains) (texts : Outputs) : Type 0 where
 abbrev pub Failed : Drain → Drain → Type 0
 Failed old new = old.is_failed ≡ false → GoesOnBy 1 old.failures new.failures
 
+-- an output failed
 abbrev pub FailedAt : Target → Drains → Drains → Type 0
 FailedAt (targets.Port port) old new = (d : Drain) → (0 < port) × (port ≤ length old.ports) × Failed (slice_index_or old.ports (port - 1) d) (slice_index_or new.ports (port - 1) d)
 FailedAt targets.Underlay old new = Failed old.underlay new.underlay

@@ -26,6 +26,7 @@ use Rattle.stream_run.specs.declared.turn.Turn.{Turn}
 
 -- ---- a run
 
+-- a run as it stands between two events
 pub record Run : Type 0 where
   pub ports : List Stream
   pub underlay : Stream
@@ -36,6 +37,7 @@ pub record Run : Type 0 where
   pub number : ℕ
   pub drains : Drains
 
+-- the same, made of what calls are lent
 abbrev pub run_at : List Stream → Stream → List Turn → State → ℕ → Drains → Run
 run_at ports underlay turns state number drains = record { ports = ports; underlay = underlay; turns = turns; state = state; number = number; drains = drains }
 
@@ -44,6 +46,7 @@ pub record AreTimely (changes : List TimedChange) : Type 0 where
   pub rising : (c : TimedChange) (k : ℕ) → k + 1 < length changes → (slice_index_or changes k c).at ≤ (slice_index_or changes (k + 1) c).at
   pub moments : (c : TimedChange) (k : ℕ) → k < length changes → (slice_index_or changes k c).at ≤ last_moment
 
+-- the moment of a change by its number, from 0
 abbrev pub moment_at : List TimedChange → ℕ → Option ℕ
 moment_at changes k = option_map (λ (c : TimedChange). c.at) (slice_get changes k)
 
@@ -92,6 +95,7 @@ IsNextEvent ports underlay index done moment e =
 
 -- ---- taken
 
+-- changes without their moments
 abbrev pub changes_of : List TimedChange → List Change
 changes_of changes = map (λ (c : TimedChange). c.change) changes
 

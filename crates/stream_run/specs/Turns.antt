@@ -9,6 +9,7 @@ abbrev pub IsLater : ℕ → Option ℕ → Type 0
 IsLater m None = ⊤
 IsLater m (Some n) = m < n
 
+-- a moment is no later than the next one of a source
 abbrev pub IsNoSooner : ℕ → Option ℕ → Type 0
 IsNoSooner m None = ⊤
 IsNoSooner m (Some n) = m ≤ n

@@ -12,6 +12,7 @@ use Rattle.underlay.specs.declared.heads.SegmentHeads.{SegmentHeads}
 use Rattle.underlay.specs.Overlay.{Overlay, Segments}
 use Rattle.underlay.specs.Seats.{Seats}
 
+-- segments are stored as pairs of a VID and a segment
 abbrev pub segments_code : Coded Segments
 segments_code = code coded_ℕ segment.the_row.coded
 
@@ -20,6 +21,7 @@ abbrev pub overlay_code : Coded Overlay
 overlay_code =
     code_by (Underlay × Segments) (coded× settings.the_row.coded segments_code) (λ s. (s.underlay, s.segments)) (λ p. record { underlay = p.0; segments = p.1 }) (λ _. refl)
 
+-- heads are stored as pairs of a VID and the heads of its packets
 abbrev pub heads_code : Coded (FinMap nat_cmp SegmentHeads)
 heads_code = code coded_ℕ heads.the_row.coded
 

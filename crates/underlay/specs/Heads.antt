@@ -33,6 +33,7 @@ abbrev pub segment_heads : Underlay → List SegmentTunnel → SegmentHeads
 segment_heads U tunnels =
     record { vxlan = tunnel_heads U Vxlan (of_kind Vxlan tunnels); geneve = tunnel_heads U Geneve (of_kind Geneve tunnels) }
 
+-- the heads of a tunnel of this kind
 abbrev pub heads_of : SegmentHeads → Tunnel → TunnelHeads
 heads_of heads Vxlan = heads.vxlan
 heads_of heads Geneve = heads.geneve
@@ -41,6 +42,7 @@ heads_of heads Geneve = heads.geneve
 abbrev pub head4_at : Overlay → ℕ → Tunnel → Option Fixed
 head4_at S vid kind = option_and_then (λ t. option_map (fixed S.underlay kind t.vni) S.underlay.ip4) (tunnel_at S vid kind)
 
+-- the same over IPv6
 abbrev pub head6_at : Overlay → ℕ → Tunnel → Option Fixed
 head6_at S vid kind = option_and_then (λ t. option_map (fixed S.underlay kind t.vni) S.underlay.ip6) (tunnel_at S vid kind)
 

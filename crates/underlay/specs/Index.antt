@@ -20,6 +20,7 @@ leads_to index vni vid = option_map_or (λ at. at == vid) (get index vni) false
 abbrev pub has_at : Tunnel → Segments → ℕ → ℕ → Bool
 has_at kind segments vni vid = option_map_or (has_tunnel kind vni) (get segments vid) false
 
+-- a segment has a tunnel of this kind
 abbrev pub has_kind : Tunnel → Segment → Bool
 has_kind kind g = is_some (tunnel_of g kind)
 
@@ -27,6 +28,7 @@ has_kind kind g = is_some (tunnel_of g kind)
 abbrev pub listing : Index → Option SegmentTunnel → ℕ → Index
 listing index tunnel vid = option_map_or (λ t. insert index t.vni vid) tunnel index
 
+-- an index without the VNI of a tunnel
 abbrev pub unlisting : Index → Option SegmentTunnel → Index
 unlisting index tunnel = option_map_or (λ t. remove index t.vni) tunnel index
 

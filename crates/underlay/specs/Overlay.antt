@@ -19,6 +19,7 @@ use Rattle.underlay.specs.declared.tunnels.SegmentTunnel.{SegmentTunnel}
 abbrev pub Segments : Type 0
 Segments = FinMap nat_cmp Segment
 
+-- own addresses, next hops and ports, and the segments by VID
 pub record Overlay : Type 0 where
   pub underlay : Underlay
   pub segments : Segments
@@ -47,9 +48,11 @@ drops_tags g = elim g.tags [ Drop ↦ true | Pass ↦ false ]
 
 -- ---- the segments
 
+-- the segment of a VID, where there is one
 abbrev pub segment_at : Overlay → ℕ → Option Segment
 segment_at S vid = get S.segments vid
 
+-- there is one
 abbrev pub has_segment : Overlay → ℕ → Bool
 has_segment S vid = is_some (segment_at S vid)
 
@@ -57,9 +60,11 @@ has_segment S vid = is_some (segment_at S vid)
 abbrev pub flood_in : Segments → ℕ → Entries
 flood_in segments vid = option_map_or (λ g. g.flood) (get segments vid) []
 
+-- its flood list
 abbrev pub flood_at : Overlay → ℕ → Entries
 flood_at S vid = flood_in S.segments vid
 
+-- its tunnel of a kind, where it has one
 abbrev pub tunnel_at : Overlay → ℕ → Tunnel → Option SegmentTunnel
 tunnel_at S vid kind = option_and_then (λ g. tunnel_of g kind) (segment_at S vid)
 
@@ -67,6 +72,7 @@ tunnel_at S vid kind = option_and_then (λ g. tunnel_of g kind) (segment_at S vi
 abbrev pub segment_by : Overlay → Tunnel → ℕ → Option (ℕ × Segment)
 segment_by S kind vni = find (λ e. has_tunnel kind vni e.1) (entries S.segments)
 
+-- a VNI is taken, by a tunnel of this kind
 abbrev pub taken : Overlay → Tunnel → ℕ → Bool
 taken S kind vni = is_some (segment_by S kind vni)
 
@@ -76,6 +82,7 @@ are_free S tunnels = list_all (λ t. not (taken S t.kind t.vni)) tunnels
 
 -- ---- the segments that rules tell
 
+-- the segment that a rule tells
 abbrev pub segment_of : TunnelRule → Segment
 segment_of rule = record { tunnels = rule.tunnels; flood = rule.flood; peers = rule.peers; tags = rule.tags }
 
@@ -83,9 +90,11 @@ segment_of rule = record { tunnels = rule.tunnels; flood = rule.flood; peers = r
 abbrev pub clash : TunnelRule → TunnelRule → Bool
 clash a b = a.vid == b.vid || list_any (λ t. has_tunnel t.kind t.vni (segment_of a)) b.tunnels
 
+-- no two rules clash
 abbrev pub AreApart : List TunnelRule → Type 0
 AreApart rules = AllPairs (λ a b. clash a b ≡ false) rules
 
+-- the overlay that rules tell
 abbrev pub told : Underlay → List TunnelRule → Overlay
 told U rules = record { underlay = U; segments = from_entries (map (λ rule. (rule.vid, segment_of rule)) rules) }
 
@@ -103,5 +112,6 @@ without_segment S vid = record S { segments = remove S.segments vid }
 abbrev pub flooding : Segments → ℕ → Entries → Segments
 flooding segments vid flood = option_map_or (λ g. insert segments vid (record g { flood = flood })) (get segments vid) segments
 
+-- with another flood list of a segment
 abbrev pub with_flood : Overlay → ℕ → Entries → Overlay
 with_flood S vid flood = record S { segments = flooding S.segments vid flood }

@@ -13,6 +13,7 @@ use Rattle.underlay.specs.declared.settings.Underlay.{Underlay}
 abbrev pub own : Underlay → Own
 own U = record { ip4 = U.ip4; ip6 = U.ip6 }
 
+-- an address is the endpoint's own
 abbrev pub is_own : Underlay → Addr → Bool
 is_own U a = flood.is_own (own U) a
 

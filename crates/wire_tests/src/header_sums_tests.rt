@@ -1,4 +1,4 @@
-use header_sums::{add_words, fold, ip4_sum, udp4_sum, udp6_sum, words};
+use header_sums::{add_words, fold, folded, ip4_sum, udp4_sum, udp6_sum, words};
 use std::test::Fail;
 
 /// A UDP header without its checksum, a VXLAN header of VNI 5000, and a broadcast frame of 60 octets.
@@ -64,4 +64,23 @@ fn sums_a_datagram_over_both_families(rt: HostRuntime) -> Result<(), Fail> {
 #[test]
 fn sends_all_ones_for_zero(rt: HostRuntime) {
     assert_eq!(rt; udp4_sum([0; 4], [0; 4], &[], &[], &[0xFF, 0xEC]), 0xFFFF);
+}
+
+// Every length to 300, from each place of a word of eight octets, against the plain sum.
+#[test]
+fn folds_long_texts_as_the_plain_sum(rt: HostRuntime) {
+    let mut octets = [0; 308];
+    for at in 0..octets.len() {
+        octets[at] = (at * 37 % 251) as u8;
+    }
+    for from in 0..8 {
+        for length in 0..301 {
+            let text = &octets[from..from + length];
+            assert_eq!(rt;
+                folded(text),
+                fold(words(text)),
+                "{length} octets from {from}"
+            );
+        }
+    }
 }

@@ -89,6 +89,11 @@ for document in docs/ARCHITECTURE.md docs/PROVED.md; do
     done < <(awk -F '[ :]' '/^[a-z]/ { print $1 }' crates.txt)
 done
 
+# The definitions that the headline is made of are those that its page lists.
+python3 tests/headline.py >"$folder/headline" || complain "tests/headline.py fails"
+diff <(sed '1,/^<!-- headline -->$/d; /^<!-- end -->$/,$d' docs/HEADLINE.md) "$folder/headline" >&2 ||
+    complain "docs/HEADLINE.md doesn't list what the headline is made of: tests/headline.py prints it"
+
 # The changelog's last release is the one that the program tells.
 release=$(sed -nE 's/^## \[([0-9][0-9.]*)\] - .*/\1/p' CHANGELOG.md | head -n 1)
 [ "$(./tep --version)" = "tep $release" ] || complain "CHANGELOG.md's last release is '$release', and tep tells '$(./tep --version)'"

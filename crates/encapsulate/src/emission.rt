@@ -4,8 +4,7 @@ ghost use Rattle.std.specs.List.{concat};
 ghost use Rattle.encapsulate.specs.Emission.{no_parts, text, around, local_text, local_tag};
 ghost use Rattle.vlan_ports.specs.declared.member.Egress.TheVariants.{Tagged};
 
-use crate::numbers::CUSTOMER_TAG;
-use frame_view::{BridgeFrame, Vid};
+use frame_view::{BridgeFrame, CUSTOMER_TAG, Vid};
 use outer_head::Head;
 use std::alloc::AllocError;
 use std::marker::Model;

@@ -4,15 +4,17 @@ ghost use Rattle.ip_udp_view.specs.Datagram.{has_type};
 ghost use Rattle.ip_udp_view.specs.Ip.{Ip4, Ip6, is_fragment};
 ghost use Rattle.encapsulate.specs.Flow.{has_ports, shows_ports, shows_flow, ports_sum, inner_sum, source_port};
 
-use crate::numbers::{IP4, IP6, TCP, UDP};
 use byteorder::{BigEndian, ByteOrder};
 use frame_view::BridgeFrame;
 use header_sums::{fold, words};
+use ip_udp_view::{IP4_TYPE, IP6_TYPE, UDP};
 
 /// The octets of an IPv4 header without options.
 const IP4_HEADER: usize = 20;
 /// The octets of an IPv6 header.
 const IP6_HEADER: usize = 40;
+/// The protocol number of TCP (RFC 9293), which is its next header too.
+const TCP: u8 = 6;
 /// The octets of two ports.
 const PORTS: usize = 4;
 /// How many fragment offsets there are: the offset has 13 bits, and More Fragments is the bit above them.
@@ -72,7 +74,7 @@ fn has_type4(body: &[u8]) -> bool
     requires { 2 ≤ length body.now }
     ensures { result ≡ has_type Ip4 body.now }
 {
-    BigEndian::read_u16(body) == IP4
+    body.starts_with(&IP4_TYPE)
 }
 
 /// Whether a body begins with the type of IPv6.
@@ -80,7 +82,7 @@ fn has_type6(body: &[u8]) -> bool
     requires { 2 ≤ length body.now }
     ensures { result ≡ has_type Ip6 body.now }
 {
-    BigEndian::read_u16(body) == IP6
+    body.starts_with(&IP6_TYPE)
 }
 
 /// Whether octets begin with an IPv4 header, of a packet that is no fragment, and two ports.

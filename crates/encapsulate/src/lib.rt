@@ -10,7 +10,6 @@ mod emission;
 mod flow;
 pub mod laws;
 mod leaving;
-mod numbers;
 mod remote;
 mod sums;
 

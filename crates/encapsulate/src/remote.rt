@@ -12,10 +12,9 @@ ghost use Rattle.encapsulate.specs.Sums.{AreSums};
 
 use crate::emission::Emission;
 use crate::leaving::Leaving;
-use crate::numbers::CUSTOMER_TAG;
 use crate::sums::FrameSums;
 use byteorder::{BigEndian, ByteOrder};
-use frame_view::{BridgeFrame, Reason, Vid};
+use frame_view::{BridgeFrame, CUSTOMER_TAG, Reason, Vid};
 use ip_udp_view::{Addr, Tunnel};
 use outer_head::Head;
 use underlay::{TagRule, Under, Underlay};

@@ -10,7 +10,7 @@ use std::marker::Model;
 use thiserror::Error;
 
 /// The type of a customer VLAN tag (IEEE 802.1Q, 9.4).
-const CUSTOMER_TAG: u16 = 0x8100;
+pub const CUSTOMER_TAG: u16 = 0x8100;
 /// The type of a service VLAN tag (IEEE 802.1Q, 9.4).
 const SERVICE_TAG: u16 = 0x88A8;
 /// The octets of a tag: its type and its control information.

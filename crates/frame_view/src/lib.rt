@@ -14,6 +14,6 @@ mod tag;
 
 pub use address::Mac;
 pub use bridge_frame::BridgeFrame;
-pub use ether_view::{EtherView, Runt, Tagging};
+pub use ether_view::{CUSTOMER_TAG, EtherView, Runt, Tagging};
 pub use reason::{Reason, Refused};
 pub use tag::{Tci, Vid};

@@ -4,8 +4,8 @@ ghost use Rattle.header_sums.specs.Sum.{total, folded, sent_of, complement};
 
 use crate::sum::{folded, sent_sum, words};
 
-/// UDP's protocol number, as it stands in both pseudo headers.
-const UDP: u64 = 17;
+/// UDP's protocol number, which is its next header too and stands in both pseudo headers.
+pub const UDP: u8 = 17;
 
 /// The checksum to send of a datagram in three parts, between addresses whose words have this sum.
 pub(crate) fn datagram_sum(addresses: u64, first: &[u8], second: &[u8], third: &[u8]) -> u16
@@ -17,7 +17,7 @@ pub(crate) fn datagram_sum(addresses: u64, first: &[u8], second: &[u8], third: &
         result ≡ sent_of (complement (addresses + 17 + length datagram + total datagram)) }
 {
     let length = first.len() + second.len() + third.len();
-    let front = addresses + UDP + length as u64;
+    let front = addresses + u64::from(UDP) + length as u64;
     sent_sum(parts_sum(front, first, second, third))
 }
 

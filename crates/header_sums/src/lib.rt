@@ -13,6 +13,7 @@ mod ip6;
 pub mod laws;
 mod sum;
 
+pub use datagram::UDP;
 pub use ip4::{ip4_sum, udp4_sum};
 pub use ip6::udp6_sum;
 pub use sum::{add_words, fold, folded, sent_sum, words};

@@ -10,8 +10,6 @@ use crate::{Addr, Ip4View, Ip6View, IpFault};
 pub const IP4_TYPE: [u8; 2] = [0x08, 0x00];
 /// The type of a frame with an IPv6 packet (RFC 2464, 3).
 pub const IP6_TYPE: [u8; 2] = [0x86, 0xDD];
-/// UDP's protocol number, which is its next header too.
-pub const UDP: u8 = 17;
 
 /// An IP packet of either family and what stands behind it.
 #[derive(Debug, Drop)]

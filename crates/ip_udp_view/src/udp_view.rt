@@ -7,14 +7,12 @@ ghost use Rattle.ip_udp_view.specs.Udp.{SplitsUdp, udp_parts, udp_faults, sport,
 
 use crate::Addr;
 use byteorder::{BigEndian, ByteOrder};
-use header_sums::{fold, folded, words};
+use header_sums::{UDP, fold, folded, words};
 use std::marker::Model;
 use thiserror::Error;
 
 /// The octets of a header.
 const HEADER: usize = 8;
-/// UDP's protocol number, as it stands in both pseudo headers.
-const UDP: u64 = 17;
 
 /// The header is cut, or tells a length below 8 or beyond what is there.
 #[derive(Clone, Copy, Debug, PartialEq, Eq, Error)]
@@ -125,7 +123,7 @@ impl<'a> UdpView<'a> {
             result ≡ folded (total (pseudo src dst (length datagram) ++ datagram)) }
     {
         let length = u64::from(BigEndian::read_u16(&self.head[4..]));
-        let pseudo = address_words(src) + address_words(dst) + UDP + length;
+        let pseudo = address_words(src) + address_words(dst) + u64::from(UDP) + length;
         fold(pseudo + words(self.head) + u64::from(folded(self.payload)))
     }
 }

@@ -7,7 +7,6 @@
 #![tactic(auto)]
 
 mod head;
-mod numbers;
 mod template4;
 mod template6;
 

@@ -7,9 +7,9 @@ ghost use Rattle.frame_view.specs.Frame.{plain};
 ghost use Rattle.outer_head.specs.Packet.{ip4_header, sum_sent, frame_sum, packet4};
 
 use crate::head::{BEFORE_BODY, Head, blank_udp, copy};
-use crate::numbers::{IP4, UDP};
 use frame_view::{BridgeFrame, Mac};
 use header_sums::{fold, sent_sum, words};
+use ip_udp_view::{IP4_TYPE, UDP};
 use std::marker::Model;
 
 /// The first octet of an IPv4 header: version 4, an IHL of 5 words.
@@ -64,7 +64,7 @@ impl Template4 {
         octets[42..].copy_from_slice(&tunnel);
         octets[34..42].copy_from_slice(&blank_udp(dport));
         octets[14..34].copy_from_slice(&header);
-        octets[12..14].copy_from_slice(&IP4.to_be_bytes());
+        octets[12..14].copy_from_slice(&IP4_TYPE);
         octets[6..12].copy_from_slice(&mac.0);
         octets[..6].copy_from_slice(&next_hop.0);
         Template4 {

@@ -6,9 +6,9 @@ ghost use Rattle.frame_view.specs.Frame.{plain};
 ghost use Rattle.outer_head.specs.Packet.{ip6_sent, sum_sent, frame_sum, packet6};
 
 use crate::head::{BEFORE_BODY, Head, blank_udp, copy};
-use crate::numbers::{IP6, UDP};
 use frame_view::{BridgeFrame, Mac};
 use header_sums::{sent_sum, words};
+use ip_udp_view::{IP6_TYPE, UDP};
 use std::marker::Model;
 
 /// The first octet of an IPv6 header: version 6, the high half of traffic class 0.
@@ -54,7 +54,7 @@ impl Template6 {
         octets[62..].copy_from_slice(&tunnel);
         octets[54..62].copy_from_slice(&blank_udp(dport));
         octets[14..54].copy_from_slice(&blank_ip6(ttl, src));
-        octets[12..14].copy_from_slice(&IP6.to_be_bytes());
+        octets[12..14].copy_from_slice(&IP6_TYPE);
         octets[6..12].copy_from_slice(&mac.0);
         octets[..6].copy_from_slice(&next_hop.0);
         Template6 {

@@ -25,4 +25,4 @@ returns c =
     folded (front + folded (total d)) ≡ folded (total (pseudo c.args.src c.args.dst (length datagram) ++ datagram)) in
     let whole : front + total d ≡ total (pseudo c.args.src c.args.dst (length (h ++ d)) ++ (h ++ d)) =
     omega (arith, sums, c.address_words.ensures.sum, c.address_words-2.ensures.sum, c.words.ensures.sum) in
-    rw (c.fold.ensures, c.from.ensures, c.folded.ensures) (subst P c.self.view_is (folded-added front (total d) ∙ ap folded whole))
+    rw (c.fold.ensures, c.from.ensures, c.from-2.ensures, c.folded.ensures) (subst P c.self.view_is (folded-added front (total d) ∙ ap folded whole))

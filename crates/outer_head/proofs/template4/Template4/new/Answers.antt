@@ -15,7 +15,7 @@ octets_are c =
     made _ _ _ _ _ _ c.args.next_hop c.args.mac (ether_type Ip4) (ip4_header c.args.ttl c.args.src (replicate 4 0) 0 0) (blank_udp c.args.dport) c.args.tunnel
     (c.copy_from_slice-6.ensures.after ∙ c.next_hop.view_is)
     (c.copy_from_slice-5.ensures.after ∙ c.mac.view_is)
-    (c.copy_from_slice-4.ensures.after ∙ c.to_be_bytes.ensures)
+    c.copy_from_slice-4.ensures.after
     (c.copy_from_slice-3.ensures.after ∙ c.blank_ip4-header.ensures)
     (c.copy_from_slice-2.ensures.after ∙ c.blank_udp.ensures)
     c.copy_from_slice.ensures.after

@@ -45,6 +45,11 @@ holds() {
     [ "$(ls "$folder/out" 2>&1)" = "$(printf '%s\n' "$@")" ] || complain "out holds: $(ls "$folder/out" 2>&1)"
 }
 
+# sizes OCTETS..: so many octets stand in decisions.txt, port1.pcap, port2.pcap, port3.pcap and underlay.pcap
+sizes() {
+    [ "$(stat -c %s "$folder"/out/* | tr '\n' ' ')" = "$* " ] || complain "sizes in out: $(stat -c '%n %s' "$folder"/out/*)"
+}
+
 ./tep >/dev/null || {
     echo "tests/cli.sh: there is no program"
     exit 1
@@ -122,6 +127,39 @@ ends 0 "" explain --settings $a --depth 2 "$folder/nested.pcap"
   stop 12 NotIp" ] || complain "two tunnels deep: $(cat "$folder/stdout")"
 ends 0 "" --version
 grep -q '^tep ' "$folder/stdout" || complain "no version"
+for command in run check explain; do
+    ends 0 "" $command --version
+    grep -q "^tep-$command " "$folder/stdout" || complain "no version of tep $command"
+    ends 0 "" $command --help
+    grep -q "^  tep $command -s" "$folder/stdout" || complain "no example in the help of tep $command"
+done
+
+# The short forms are the long ones.
+ends 0 "" check -s $a -c $changes
+says "ok: 3 ports, 2 segments, 1 changes"
+ends 0 "" explain -s $a -d 1 $underlay
+prints "$folder/explained"
+ends 0 "" run -s $a -c $changes -u $underlay -o "$folder/out" "${ports[@]}"
+cmp examples/decisions.txt "$folder/out/decisions.txt" || complain "the decisions by short forms differ"
+
+# A capture by the name '-' is standard input, from where it stands; '-' as a settings text is a file.
+ends 0 "" explain -s $a - <$underlay
+prints "$folder/explained"
+{ printf 'a line\n' && cat $underlay; } >"$folder/behind.pcap"
+{ read -r _ && ends 0 "" explain -s $a -; } <"$folder/behind.pcap"
+prints "$folder/explained"
+for n in 0 1 2; do
+    named=("${ports[@]}")
+    named[n]=-
+    runs 0 "" $a $changes $underlay "${named[@]}" <"${ports[n]}"
+    cmp examples/decisions.txt "$folder/out/decisions.txt" || complain "the decisions where port $((n + 1)) is standard input"
+    cat "${ports[n]}" | runs 0 "" $a $changes $underlay "${named[@]}"
+    cmp examples/decisions.txt "$folder/out/decisions.txt" || complain "the decisions where port $((n + 1)) is a pipe"
+done
+runs 0 "" $a $changes - "${ports[@]}" <$underlay
+cmp examples/decisions.txt "$folder/out/decisions.txt" || complain "the decisions where the underlay is standard input"
+ends 3 "read -" check -s - <$a
+ends 3 "read -" explain -s $a - <&-
 
 # Each output is written anew: what stood there before is gone.
 head -c 100000 /dev/zero >"$folder/out/decisions.txt"
@@ -129,7 +167,7 @@ runs 0 "" $a $changes $underlay "${ports[@]}"
 cmp examples/decisions.txt "$folder/out/decisions.txt" || complain "decisions behind older ones"
 rm "$folder"/out/*
 
-# What is refused: status 1, and nothing is written.
+# What is refused: status 1. Where it's the settings, the changes or the number of captures, no output is touched.
 grep -v '^vni = 5000' $a >"$folder/no_vni.toml"
 ends 1 "settings: Missing segment.1.vni" check --settings "$folder/no_vni.toml"
 sed 's/^vid = 20/vid = 10/' $a >"$folder/twice.toml"
@@ -140,18 +178,24 @@ ends 1 "changes: BadValue *" check --settings $a --changes "$folder/x.toml"
 runs 1 "settings: BadValue *" "$folder/x.toml" "$folder/x.toml" /dev/null /dev/null
 runs 1 "changes: BadValue *" $a "$folder/x.toml" /dev/null /dev/null
 runs 1 "captures: PortCount" $a $changes /dev/null "${ports[@]:1}"
+ends 1 "settings: BadValue *" explain --settings "$folder/x.toml" /dev/null
+ends 1 "u: NotPcap" explain --settings $a /dev/null
+holds
+
+# Where it's a capture's header, the outputs are empty, and where it's a record, what came before it stands.
 runs 1 "p2: NotPcap" $a $changes /dev/null "${ports[0]}" $a "${ports[2]}"
 runs 1 "u: NotPcap" $a $changes /dev/null "${ports[@]}"
 { head -c 20 $underlay && printf '\145\0\0\0'; } >"$folder/raw.pcap"
 runs 1 "u: BadLink" $a $changes "$folder/raw.pcap" "${ports[@]}"
+sizes 0 0 0 0 0
 { head -c 32 "${ports[0]}" && printf '\1\0\4\0\0\0\0\0'; } >"$folder/large.pcap"
-ends 1 "settings: BadValue *" explain --settings "$folder/x.toml" /dev/null
-ends 1 "u: NotPcap" explain --settings $a /dev/null
 ends 1 "u: BadLink" explain --settings $a "$folder/raw.pcap"
 runs 1 "p1: TooLarge 1" $a $changes $underlay "$folder/large.pcap" "${ports[@]:1}"
+sizes 0 24 24 24 24
 { cat "${ports[1]}" && printf '\1\0\0\0\100\102\17\0\0\0\0\0\0\0\0\0'; } >"$folder/fraction.pcap"
 runs 1 "p2: BadFraction 3" $a $changes $underlay "${ports[0]}" "$folder/fraction.pcap" "${ports[2]}"
-holds
+head -n 4 examples/decisions.txt | cmp - "$folder/out/decisions.txt" || complain "the decisions before a fault"
+rm "$folder"/out/*
 
 # Captures without records, and one whose last record is cut.
 head -c 24 $underlay >"$folder/empty.pcap"
@@ -174,14 +218,30 @@ prints /dev/null
 
 # The words: status 2.
 for words in "nothing" "run" "check" "check --depth 1" "run --settings s --underlay u --out o" \
-    "explain c" "explain --settings s" "explain --settings s --depth 0 c" "explain --settings s --depth 5 c"; do
+    "explain c" "explain --settings s" "explain --settings s --depth 0 c" "explain --settings s --depth 5 c" \
+    "run -s s -u - -o o -" "run -s s -u u -o o - -" "chek -s s"; do
     # shellcheck disable=SC2086
     ./tep $words >"$folder/stdout" 2>"$folder/stderr"
     got=$?
     [ $got -eq 2 ] || complain "tep $words: status $got"
     [ -s "$folder/stderr" ] && [ ! -s "$folder/stdout" ] || complain "tep $words: its text isn't on standard error"
 done
+for words in "check -s=" "check -s=s -c=" "run -s= -u=u -o=o p" "run -s=s -u= -o=o p" "run -s=s -u=u -o= p" "explain -s= c"; do
+    # shellcheck disable=SC2086
+    ./tep $words >"$folder/stdout" 2>"$folder/stderr"
+    got=$?
+    [ $got -eq 2 ] && grep -q 'a value is required' "$folder/stderr" || complain "tep $words: status $got, $(cat "$folder/stderr")"
+done
+for words in "run -s=s -u=u -o=o p" "explain -s=s"; do
+    # shellcheck disable=SC2086
+    ./tep $words "" >"$folder/stdout" 2>"$folder/stderr"
+    got=$?
+    [ $got -eq 2 ] || complain "tep $words with an empty name behind it: status $got"
+done
+ends 2 "error: standard input '-' can be one capture only" run -s "$folder/none" -u - -o "$folder/out" -
 ends 2 "words" check --settings $'\xff'
+./tep chek -s s 2>&1 | grep -q "'check'" || complain "no suggestion for a command that is mistyped"
+./tep check --setings s 2>&1 | grep -q "'--settings'" || complain "no suggestion for an option that is mistyped"
 ./tep nothing 2>/dev/full
 [ $? -eq 2 ] || complain "refused words that can't be told: status $?"
 
@@ -198,6 +258,12 @@ runs 3 "read $no.1" "$folder/x.toml" "$folder/x.toml" "$folder/x.toml" "$no.1" "
 runs 3 "read $no.2" "$folder/x.toml" "$folder/x.toml" "$folder/x.toml" "$folder/x.toml" "$no.2"
 holds
 
+# One that is opened, and whose reads fail.
+runs 3 "read $folder" $a $changes $underlay "${ports[0]}" "$folder" "${ports[2]}"
+sizes 0 0 0 0 0
+runs 3 "read $folder/out" $a $changes "$folder/out" "${ports[@]}"
+rm "$folder"/out/*
+
 # Memory that is refused: status 3. A file of 1 GiB, with room for a part of it.
 truncate -s 1G "$folder/large.toml"
 (
@@ -210,6 +276,75 @@ rm "$folder/large.toml"
 # What can't be written: status 3.
 ends 3 "write port1.pcap" run --settings $a --underlay $underlay --out "$no" "${ports[@]}"
 [ -e "$no" ] && complain "a run made a folder"
+
+# An output that is a file that is read: status 3, and nothing is touched, whatever the file is called.
+state() {
+    (cd "$folder/out" && ls -l --time-style=full-iso && cat ./*) | cksum
+}
+# spares NAME SETTINGS CHANGES UNDERLAY PORT..: a run is refused for this output, and leaves all outputs as they were
+spares() {
+    local name=$1 before
+    shift
+    before=$(state)
+    runs 3 "write $name" "$@"
+    [ "$(state)" = "$before" ] || complain "a run that is refused for $name touched an output"
+}
+cp $a "$folder/out/decisions.txt"
+cp $changes "$folder/out/port3.pcap"
+cp $underlay "$folder/out/underlay.pcap"
+cp "${ports[0]}" "$folder/out/port1.pcap"
+spares decisions.txt "$folder/out/decisions.txt" $changes $underlay "${ports[@]}"
+spares port3.pcap $a "$folder/out/port3.pcap" $underlay "${ports[@]}"
+spares underlay.pcap $a $changes "$folder/out/underlay.pcap" "${ports[@]}"
+spares port1.pcap $a $changes $underlay "$folder/out/port1.pcap" "${ports[@]:1}"
+spares port1.pcap $a $changes $underlay "${ports[@]:0:2}" "$folder/out/port1.pcap"
+spares port1.pcap $a $changes $underlay "$folder/out/../out/./port1.pcap" "${ports[@]:1}"
+spares port1.pcap $a $changes $underlay "${ports[@]:0:2}" - <"$folder/out/port1.pcap"
+ln "$folder/out/port1.pcap" "$folder/hard.pcap"
+spares port1.pcap $a $changes $underlay "${ports[@]:0:2}" "$folder/hard.pcap"
+ln -s out/underlay.pcap "$folder/soft.pcap"
+spares underlay.pcap $a $changes "$folder/soft.pcap" "${ports[@]}"
+rm -f "$folder"/out/*
+cp "${ports[1]}" "$folder/mine.pcap"
+ln -s ../mine.pcap "$folder/out/port2.pcap"
+spares port2.pcap $a $changes $underlay "${ports[0]}" "$folder/mine.pcap" "${ports[2]}"
+cmp "${ports[1]}" "$folder/mine.pcap" || complain "a run cut its capture"
+rm -f "$folder"/out/*
+mkfifo "$folder/out/port2.pcap"
+sleep 30 <>"$folder/out/port2.pcap" &
+runs 3 "write port2.pcap" $a $changes $underlay "${ports[0]}" "$folder/out/port2.pcap" "${ports[2]}"
+kill $!
+holds port2.pcap
+rm -f "$folder"/out/*
+# A device is no such file: what is written into it isn't what is read.
+ln -s /dev/null "$folder/out/port1.pcap"
+runs 0 "" $a /dev/null $underlay "${ports[@]}"
+[ "$(wc -l <"$folder/out/decisions.txt")" -eq 8 ] || complain "a run that reads and writes a device"
+rm -f "$folder"/out/*
+
+# A folder that can't be written into: status 3, before a capture is read, and what stands in other outputs is kept.
+ends 3 "write port1.pcap" run -s $a -u $a -o "$no" "${ports[@]}"
+ends 3 "write port1.pcap" run -s $a -u $a -o $underlay "${ports[@]}"
+cp "${ports[0]}" "$folder/out/port1.pcap"
+mkdir "$folder/out/decisions.txt"
+runs 3 "write decisions.txt" $a $changes $a "${ports[@]}"
+cmp "${ports[0]}" "$folder/out/port1.pcap" || complain "an output was emptied though another can't be opened"
+rm -rf "$folder"/out/*
+if [ "$(id -u)" -ne 0 ]; then
+    chmod a-w "$folder/out"
+    runs 3 "write port1.pcap" $a $changes $a "${ports[@]}"
+    chmod u+w "$folder/out"
+fi
+holds
+
+# A reader that goes away ends the program quietly: what it was asked for is done.
+for words in "" "--help" "--version" "check --settings $a" "explain --settings $a $underlay"; do
+    # shellcheck disable=SC2086
+    { sleep 0.2 && ./tep $words 2>"$folder/stderr"; echo $? >"$folder/status"; } | :
+    [ "$(cat "$folder/status")" -eq 0 ] && [ ! -s "$folder/stderr" ] ||
+        complain "tep $words without a reader: status $(cat "$folder/status"), '$(cat "$folder/stderr")'"
+done
+
 for name in port1.pcap port3.pcap underlay.pcap decisions.txt; do
     ln -s /dev/full "$folder/out/$name"
     runs 3 "write $name" $a $changes $underlay "${ports[@]}"

@@ -1,5 +1,5 @@
 //! Calls of tables, and what they answer.
-use filter_db::{Learned, NotThere, Place, TableFull, Tables};
+use filter_db::{Learned, NotThere, Place, PoolTables, TableFull, TableRule, Tables};
 use frame_view::{Mac, Vid};
 use ip_udp_view::{Addr, Tunnel};
 
@@ -71,5 +71,77 @@ pub(crate) fn call_on<T: Tables>(tables: &mut T, vid: Vid, now: u64, call: Call)
             Answer::Done
         }
         Call::Live => Answer::Count(tables.live(vid, now)),
+    }
+}
+
+/// Adds a segment; false where it is there, comes too early or is out of range, or there is no room.
+pub(crate) fn add<T: PoolTables>(tables: &mut T, rule: TableRule, now: u64) -> bool {
+    let in_range = rule.limit >= 1
+        && rule.limit <= 8192
+        && rule.ageing >= 10
+        && rule.ageing <= 1_000_000;
+    if tables.has(rule.vid) || now < tables.now() || !in_range {
+        return false;
+    }
+    if tables.segment_count() >= 256 || u32::from(rule.limit) > tables.room() {
+        return false;
+    }
+    tables.add(rule, now);
+    true
+}
+
+/// Removes a segment; false where it isn't there, or the call comes too early.
+pub(crate) fn remove<T: PoolTables>(tables: &mut T, vid: Vid, now: u64) -> bool {
+    if !tables.has(vid) || now < tables.now() {
+        return false;
+    }
+    tables.remove(vid, now);
+    true
+}
+
+/// Gives a segment another limit; false where it isn't there, comes too early or is out of range, or there is no room.
+pub(crate) fn set_limit<T: PoolTables>(tables: &mut T, vid: Vid, limit: u16, now: u64) -> bool {
+    if !tables.has(vid) || now < tables.now() || limit < 1 || limit > 8192 {
+        return false;
+    }
+    let room = u64::from(tables.room()) + u64::from(tables.limit(vid));
+    if u64::from(limit) > room {
+        return false;
+    }
+    tables.set_limit(vid, limit, now);
+    true
+}
+
+/// The next number of a linear congruential sequence.
+pub(crate) fn next(number: u64) -> u64 {
+    number
+        .wrapping_mul(6_364_136_223_846_793_005)
+        .wrapping_add(1_442_695_040_888_963_407)
+}
+
+/// The place that a number tells.
+fn place_of(number: u64) -> Place {
+    match number % 5 {
+        0 => VXLAN_2,
+        1 => GENEVE_2,
+        2 => PORT_1,
+        3 => PORT_2,
+        _ => PORT_3,
+    }
+}
+
+/// The call that a number tells.
+pub(crate) fn call_of(number: u64) -> Call {
+    let last = ((number >> 16) % 12) as u8;
+    let place = place_of(number >> 24);
+    match (number >> 40) % 20 {
+        0..=7 => Call::Learn(last, place),
+        8..=12 => Call::Look(last),
+        13..=14 => Call::Fix(last, place),
+        15 => Call::Unfix(last),
+        16 => Call::FlushPlace(place),
+        17 if (number >> 50) % 8 == 0 => Call::Flush,
+        18 => Call::SetAgeing(10 + ((number >> 50) % 5) as u32 * 5),
+        _ => Call::Live,
     }
 }

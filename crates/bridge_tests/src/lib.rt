@@ -12,6 +12,8 @@ mod filter_db_tests;
 #[cfg(test)]
 mod flood_lists_tests;
 #[cfg(test)]
+mod pool_tests;
+#[cfg(test)]
 mod shared_tables_tests;
 #[cfg(test)]
 mod tunnel_learning_tests;

@@ -2,10 +2,10 @@
 use Rattle.std.proofs.Common.{◌≡◌, refl, ℕ, zero, suc, ◌+◌, ◌<◌, arith, Bool, true, false, cond, List, [], ◌∷◌, drop, length, map, slice_index_or, Option, Some, None, Result, Ok, Err}
 use Rattle.std.proofs.lemmas.List.{get_or-map, length-set}
 use Rattle.overlay_settings.specs.declared.change.Change.{Change}
-use Rattle.overlay_settings.specs.declared.change.Change.TheVariants.{AddFlood, RemoveFlood, Fix, Unfix, SetAgeing, SetLearning, SetMember, PortUp, PortDown, Flush}
 use Rattle.overlay_settings.specs.declared.change.TimedChange.{TimedChange}
 use Rattle.endpoint_state.specs.Settings.{Settings, SegmentSettings, segment_at}
-use Rattle.endpoint_state.specs.Change.{refused, accepted}
+use Rattle.endpoint_state.specs.Effect.{Effect, ToFlood, ToBridge, ToMembers, ToPort, ToNothing, effect, applied}
+use Rattle.endpoint_state.specs.Change.{refused}
 use Rattle.endpoint_core.specs.Event.{Input, Event, FrameAt, Packet, Asks}
 use Rattle.endpoint_core.specs.Step.{State, after, after_came, bridges_after}
 use Rattle.std.specs.Option.{option_map_or}
@@ -25,20 +25,15 @@ flood_ports : (S : Settings) (found : Option SegmentSettings) (f : SegmentSettin
 flood_ports S None f = refl
 flood_ports S (Some s) f = refl
 
-accepted_ports : (S : Settings) (c : Change) → length (accepted S c).ports.ports ≡ length S.ports.ports
-accepted_ports S (AddFlood vid addr tunnel) = flood_ports S (segment_at S vid) _
-accepted_ports S (RemoveFlood vid addr tunnel) = flood_ports S (segment_at S vid) _
-accepted_ports S (Fix vid mac target) = refl
-accepted_ports S (Unfix vid mac) = refl
-accepted_ports S (SetAgeing vid seconds) = refl
-accepted_ports S (SetLearning vid on) = refl
-accepted_ports S (SetMember vid port egress) = refl
-accepted_ports S (PortUp port) = length-set S.ports.ports _ _
-accepted_ports S (PortDown port) = length-set S.ports.ports _ _
-accepted_ports S (Flush vid) = refl
+applied_ports : (e : Effect) (S : Settings) → length (applied e S).ports.ports ≡ length S.ports.ports
+applied_ports (ToFlood vid change) S = flood_ports S (segment_at S vid) _
+applied_ports (ToBridge vid change) S = refl
+applied_ports (ToMembers vid port egress) S = refl
+applied_ports (ToPort port up) S = length-set S.ports.ports _ _
+applied_ports ToNothing S = refl
 
 change_ports : (t : ℕ) (c : Change) (B : Bridges) (is : Bool) → length (cond is (accepted_state t c B) B).settings.ports.ports ≡ length B.settings.ports.ports
-change_ports t c B true = accepted_ports B.settings c
+change_ports t c B true = applied_ports (effect c) B.settings
 change_ports t c B false = refl
 
 came_ports : (t : ℕ) (B : Bridges) (came : Result Came Refused) → length (after_came t B came).settings.ports.ports ≡ length B.settings.ports.ports

@@ -1,41 +1,53 @@
--- What `clap` is told of the program.
+-- What `clap` is told of the program: its commands and their arguments. It serves to say what a command line means.
 use Rattle.std.specs.Prelude.{codes, true, Some, pos, [], ◌∷◌}
 use Rattle.clap.specs.Words.{App, Rule, Shape, new_app, new_rule, with_rule, with_subcommand}
 use Rattle.clap.specs.Lexer.{usize_max}
 use Rattle.clap.specs.declared.builder.action.ArgAction.TheVariants.{Set, Append}
 use Rattle.clap.specs.declared.builder.value_parser.ValueParser.TheVariants as parser
 
--- ---- the arguments
+-- ---- the arguments: no name of a file or a folder is the empty text
 
--- `--settings FILE`, required
+-- `-s FILE`, `--settings FILE`, required
 abbrev pub settings_rule : Rule
 settings_rule = record (new_rule (codes "settings")) {
+  short = Some 115;
   long = Some (codes "settings");
+  value_names = 1;
   required = true;
   action = Some Set;
+  parser = Some parser.NonEmptyString;
 }
 
--- `--changes FILE`
+-- `-c FILE`, `--changes FILE`
 abbrev pub changes_rule : Rule
 changes_rule = record (new_rule (codes "changes")) {
+  short = Some 99;
   long = Some (codes "changes");
+  value_names = 1;
   action = Some Set;
+  parser = Some parser.NonEmptyString;
 }
 
--- `--underlay FILE`, required
+-- `-u FILE`, `--underlay FILE`, required
 abbrev pub underlay_rule : Rule
 underlay_rule = record (new_rule (codes "underlay")) {
+  short = Some 117;
   long = Some (codes "underlay");
+  value_names = 1;
   required = true;
   action = Some Set;
+  parser = Some parser.NonEmptyString;
 }
 
--- `--out DIR`, required
+-- `-o DIR`, `--out DIR`, required
 abbrev pub out_rule : Rule
 out_rule = record (new_rule (codes "out")) {
+  short = Some 111;
   long = Some (codes "out");
+  value_names = 1;
   required = true;
   action = Some Set;
+  parser = Some parser.NonEmptyString;
 }
 
 -- one capture or more
@@ -43,13 +55,17 @@ abbrev pub ports_rule : Rule
 ports_rule = record (new_rule (codes "ports")) {
   required = true;
   action = Some Append;
+  value_names = 1;
   range = Some (record { start_inclusive = 1; end_inclusive = usize_max });
+  parser = Some parser.NonEmptyString;
 }
 
--- a number of 1 to 4, by default 4
+-- `-d N`, `--depth N`, a number of 1 to 4, by default 4
 abbrev pub depth_rule : Rule
 depth_rule = record (new_rule (codes "depth")) {
+  short = Some 100;
   long = Some (codes "depth");
+  value_names = 1;
   action = Some Set;
   parser = Some (parser.Signed (pos 1) (pos 4));
   defaults = codes "4" ∷ [];
@@ -58,8 +74,10 @@ depth_rule = record (new_rule (codes "depth")) {
 -- one capture
 abbrev pub capture_rule : Rule
 capture_rule = record (new_rule (codes "capture")) {
+  value_names = 1;
   required = true;
   action = Some Set;
+  parser = Some parser.NonEmptyString;
 }
 
 -- ---- the subcommands
@@ -92,9 +110,9 @@ explain_app = with_rule (with_rule (with_rule (new_app (codes "explain")) settin
 abbrev pub explain_shape : Shape
 explain_shape = explain_app.top
 
--- the program's name, and that it has a version to tell
+-- the program's name, and that it and its subcommands have a version to tell
 abbrev pub versioned_app : App
-versioned_app = let app = new_app (codes "tep") in record app { top = record app.top { has_version = true } }
+versioned_app = let app = new_app (codes "tep") in record app { top = record app.top { has_version = true; propagate_version = true } }
 
 -- the program with its first two subcommands
 abbrev pub run_and_check_app : App

@@ -1,5 +1,5 @@
--- What a command line means.
-use Rattle.std.specs.Prelude.{◌≡◌, ◌≤◌, ℕ, ◌&&◌, nat_le, List, Option, Some, None, codes, option_and_then, option_map, if◌then◌else◌, ⊤, false, []}
+-- What a command line means: the program's own words, after clap's definition of simple commands.
+use Rattle.std.specs.Prelude.{◌≡◌, ◌≤◌, ℕ, ◌&&◌, nat_le, List, Option, Some, None, IsSomeAnd, codes, count_by, option_and_then, option_map, if◌then◌else◌, ⊤, false, [], ◌∷◌}
 use Rattle.std.specs.Str.{bytes_eq}
 use Rattle.std.specs.Str.Parse.{digits_value, without_leading_plus}
 use Rattle.clap.specs.ValueTests.{is_unsigned_in}
@@ -87,17 +87,36 @@ line_meant (Some p) = command_meant p.0 p.1
 abbrev pub words_meant : List Text → Option Meaning
 words_meant words = line_meant (subcommand_of tep_app words)
 
+-- ---- standard input
+
+-- how many of some names are the one by which standard input is asked for
+abbrev pub inputs_among : List Text → ℕ
+inputs_among names = count_by (λ name. bytes_eq name (codes "-")) names
+
+-- how many captures are standard input; the texts of `run` and `check` are files, whatever their names
+abbrev pub input_uses : Meaning → ℕ
+input_uses sample = 0
+input_uses (run settings changes underlay out ports) = inputs_among (underlay ∷ ports)
+input_uses (check settings changes) = 0
+input_uses (explain settings depth capture) = inputs_among (capture ∷ [])
+
+-- it is read once at most
+abbrev pub ReadsInputOnce : Meaning → Type 0
+ReadsInputOnce meaning = input_uses meaning ≤ 1
+
 -- ---- when each fault is answered
 
 -- Refused where that definition doesn't take the words, NoValue where it takes them and its matches lack a required
--- value
+-- value, InputTwice where it takes them and they ask for standard input more than once
 abbrev pub Explains : List Text → LineFault → Type 0
 Explains words fault.OutOfMemory = ⊤
 Explains words (fault.Refused e) = (takes tep_app words ≡ false) × IsAmong (kind_of e) (fault_of tep_app words)
 Explains words fault.NoValue = (fault_of tep_app words ≡ []) × (words_meant words ≡ None)
+Explains words fault.InputTwice = (fault_of tep_app words ≡ []) × IsSomeAnd (words_meant words) (λ meaning. 2 ≤ input_uses meaning)
 
 -- the same of the part behind the parse, which refuses nothing
 abbrev pub LacksValue : Option Meaning → LineFault → Type 0
 LacksValue meant fault.OutOfMemory = ⊤
 LacksValue meant (fault.Refused e) = ⊥
 LacksValue meant fault.NoValue = meant ≡ None
+LacksValue meant fault.InputTwice = ⊥

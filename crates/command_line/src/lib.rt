@@ -4,8 +4,9 @@
 //! definition of simple commands.
 #![tactic(auto)]
 
-mod command;
+mod arguments;
+mod commands;
 mod line;
 mod matches;
 
-pub use line::{Line, LineFault, line_of};
+pub use line::{Line, LineFault, STANDARD_INPUT, line_of};

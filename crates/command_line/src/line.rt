@@ -1,17 +1,21 @@
 //! The lines that the program takes.
-ghost use Rattle.std.specs.Prelude.{◌≡◌, IfOk, IfErr, OnOk, Some, []};
+ghost use Rattle.std.specs.Prelude.{◌≡◌, ◌≤◌, IfOk, IfErr, OnOk, Some, [], length};
 ghost use Rattle.clap.specs.Walk.{texts};
 ghost use Rattle.clap.specs.Words.{fault_of};
 ghost use Rattle.command_line.specs.App.{tep_app};
-ghost use Rattle.command_line.specs.Meaning.{Explains, HasDepth, meaning_of, words_meant};
+ghost use Rattle.command_line.specs.Meaning.{Explains, HasDepth, ReadsInputOnce, input_uses, inputs_among, meaning_of, words_meant};
 
-use crate::command;
+use crate::commands;
 use crate::matches::line_from;
 use clap::error::ErrorKind;
 use std::alloc::Global;
 use thiserror::Error;
 
-/// What the words ask for, with the values that stand in them: names of files and of a folder, as they were given.
+/// The name by which standard input is asked for, where a capture is named.
+pub const STANDARD_INPUT: &str = "-";
+
+/// What the words ask for, with the values that stand in them: names of files and of a folder, as they were given, none of
+/// them empty. One capture at most is [`STANDARD_INPUT`].
 #[derive(Debug, Drop)]
 pub enum Line<'a> {
     /// A run on the built-in sample.
@@ -59,24 +63,66 @@ pub enum LineFault {
     /// `clap`'s matches lack a required value.
     #[error("words")]
     NoValue,
+    /// More captures than one are standard input.
+    #[error("error: standard input '-' can be one capture only")]
+    InputTwice,
 }
 
 /// Reads all words, the program's name first.
 pub fn line_of<'a>(alloc: Global, words: &'a [&'a str]) -> Result<Line<'a>, LineFault>
     ensures ok { IfOk result (λ line. words_meant (texts words.entry.now) ≡ Some (meaning_of line)) }
     ensures depth { IfOk result HasDepth }
+    ensures once { IfOk result (λ line. ReadsInputOnce (meaning_of line)) }
     ensures taken { OnOk result (fault_of tep_app (texts words.entry.now) ≡ []) }
     ensures fault { IfErr result (Explains (texts words.entry.now)) }
 {
-    let Ok(command) = command::tep(alloc) else {
+    let Ok(command) = commands::tep(alloc) else {
         return Err(LineFault::OutOfMemory);
     };
     let error = match command.try_get_matches_from(words) {
-        Ok(matches) => return line_from(alloc, &matches),
+        Ok(matches) => {
+            let line = match line_from(alloc, &matches) {
+                Ok(line) => line,
+                Err(fault) => return Err(fault),
+            };
+            if input_uses(&line) > 1 {
+                return Err(LineFault::InputTwice);
+            }
+            return Ok(line);
+        }
         Err(error) => error,
     };
     match error.kind() {
         ErrorKind::OutOfMemory => Err(LineFault::OutOfMemory),
         _ => Err(LineFault::Refused(error)),
     }
+}
+
+/// How many captures of a line are standard input.
+fn input_uses(line: &Line<'_>) -> usize
+    ensures { result ≡ input_uses (meaning_of line.now) }
+{
+    match line {
+        Line::Run {
+            underlay,
+            ports,
+            ..
+        } => inputs_among(&[*underlay]) + inputs_among(ports.as_slice()),
+        Line::Explain { capture, .. } => inputs_among(&[*capture]),
+        Line::Sample | Line::Check { .. } => 0,
+    }
+}
+
+/// How many of some names are standard input's.
+fn inputs_among(names: &[&str]) -> usize
+    ensures count { result ≡ inputs_among (texts names.now) }
+    ensures bound { result ≤ length names.now }
+{
+    let mut count = 0;
+    for name in names {
+        if *name == STANDARD_INPUT {
+            count += 1;
+        }
+    }
+    count
 }

@@ -1,7 +1,9 @@
--- The exit statuses of a run's faults.
+-- The exit statuses of the faults of runs.
 use Rattle.std.specs.Prelude.{ℕ}
 use Rattle.capture_run.specs.declared.fault.RunFault.{RunFault}
 use Rattle.capture_run.specs.declared.fault.RunFault.TheVariants as faults
+use Rattle.stream_run.specs.declared.fault.StreamFault.{StreamFault}
+use Rattle.stream_run.specs.declared.fault.StreamFault.TheVariants as streams
 
 -- 1 for what was refused, 3 for want of memory
 abbrev pub status_of : RunFault → ℕ
@@ -11,3 +13,9 @@ status_of faults.PortCount = 1
 status_of (faults.Capture tap fault) = 1
 status_of (faults.Record tap number fault) = 1
 status_of faults.OutOfMemory = 3
+
+-- of a run over streams: that of the run's own fault, 3 for a read or a write that failed
+abbrev pub stream_status_of : StreamFault → ℕ
+stream_status_of (streams.Run fault) = status_of fault
+stream_status_of (streams.Read tap) = 3
+stream_status_of (streams.Write target) = 3

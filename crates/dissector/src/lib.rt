@@ -1,7 +1,8 @@
 //! What the program does for its user, as calls over texts: octets in, octets out.
 //!
 //! [`sample`] runs the endpoint on a built-in sample, [`check_text`] looks at a settings text and a changes text, and
-//! [`exit_code`] is the exit status of a [`RunFault`](capture_run::RunFault). [`read_text`] reads a whole text from any
+//! [`exit_code`] is the exit status of a [`RunFault`](capture_run::RunFault), and [`stream_code`] that of a
+//! [`StreamFault`](stream_run::StreamFault). [`read_text`] reads a whole text from any
 //! input in a bounded number of reads. [`line_of`] reads the program's words. [`explain_bytes`] takes the packets of a
 //! capture apart, and [`dissect`] one packet. No file is opened here.
 #![tactic(auto)]
@@ -13,8 +14,8 @@ mod text;
 
 pub use built_in::sample;
 pub use check::check_text;
-pub use command_line::{Line, LineFault, line_of};
+pub use command_line::{Line, LineFault, STANDARD_INPUT, line_of};
 pub use explanation::{explain, explain_bytes};
 pub use packet_layers::{Head, HeadKind, Layers, Span, Stop, dissect};
-pub use status::exit_code;
+pub use status::{exit_code, stream_code};
 pub use text::{TextFault, read_text};

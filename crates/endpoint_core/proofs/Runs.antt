@@ -5,7 +5,6 @@ use Rattle.std.specs.Option.{option_map_or}
 use Rattle.std.specs.FinMap.{empty}
 use Rattle.std.proofs.Math.Nat.{le_refl}
 use Rattle.std.proofs.Math.Path.{fun_ext}
-use Rattle.std.proofs.lemmas.Bool.{false≢true}
 use Rattle.std.proofs.lemmas.List.{append_assoc}
 use Rattle.frame_view.specs.declared.reason.Refused.{Refused}
 use Rattle.underlay.specs.Overlay.{Overlay}
@@ -13,9 +12,10 @@ use Rattle.filter_db.specs.Table.{Table, nanoseconds}
 use Rattle.filter_db.specs.Ageing.{live-live}
 use Rattle.filter_db.proofs.TableLemmas.{kept-empty}
 use Rattle.overlay_settings.specs.declared.change.Change.{Change}
-use Rattle.overlay_settings.specs.declared.change.Change.TheVariants.{AddFlood, RemoveFlood, Fix, Unfix, SetAgeing, SetLearning, SetMember, PortUp, PortDown, Flush}
 use Rattle.endpoint_state.specs.Settings.{Settings, BridgeSettings, SegmentSettings, segment_at}
+use Rattle.endpoint_state.specs.Effect.{Effect, ToFlood, ToBridge, ToMembers, ToPort, ToNothing, effect, applied}
 use Rattle.endpoint_state.specs.Change.{is_about, refused, accepted}
+use Rattle.endpoint_state.proofs.EffectLemmas.{is_to, effect-other}
 use Rattle.endpoint_state.specs.State.{State as Bridges, live_in, aged, accepted_state, table_changed}
 use Rattle.endpoint_core.specs.Came.{Came}
 use Rattle.endpoint_core.specs.Arrival.{came_at, came_by}
@@ -53,22 +53,17 @@ bridges-flooding : (S : Settings) (overlay : SegmentSettings → Overlay) (o : O
 bridges-flooding S overlay None = refl
 bridges-flooding S overlay (Some s) = refl
 
-chosen_none : (S : Settings) (vid : ℕ) (change : BridgeSettings → BridgeSettings) (b : Bool) → b ≡ false → cond b (elim (S.bridges vid) [ None ↦ None | Some bridge ↦ Some (change bridge) ]) (S.bridges vid) ≡ S.bridges vid
-chosen_none S vid change true e = absurd (false≢true (sym e))
-chosen_none S vid change false e = refl
+-- an effect that isn't to a segment leaves the rules of its table
+bridges-applied : (e : Effect) (S : Settings) (vid : ℕ) → is_to vid e ≡ false → (applied e S).bridges vid ≡ S.bridges vid
+bridges-applied (ToFlood v change) S vid other = ap (λ (f : ℕ → Option BridgeSettings). f vid) (bridges-flooding S _ (segment_at S v))
+bridges-applied (ToBridge v change) S vid other = rw other refl
+bridges-applied (ToMembers v port egress) S vid other = refl
+bridges-applied (ToPort port up) S vid other = refl
+bridges-applied ToNothing S vid other = refl
 
--- a change that isn't about a segment leaves the rules of its table
+-- a change that isn't about a segment leaves them
 bridges-other : (S : Settings) (c : Change) (vid : ℕ) → is_about vid c ≡ false → (accepted S c).bridges vid ≡ S.bridges vid
-bridges-other S (AddFlood v addr tunnel) vid other = ap (λ (f : ℕ → Option BridgeSettings). f vid) (bridges-flooding S _ (segment_at S v))
-bridges-other S (RemoveFlood v addr tunnel) vid other = ap (λ (f : ℕ → Option BridgeSettings). f vid) (bridges-flooding S _ (segment_at S v))
-bridges-other S (Fix v mac target) vid other = refl
-bridges-other S (Unfix v mac) vid other = refl
-bridges-other S (SetAgeing v seconds) vid other = rw other refl
-bridges-other S (SetLearning v on) vid other = rw other refl
-bridges-other S (SetMember v port egress) vid other = refl
-bridges-other S (PortUp port) vid other = refl
-bridges-other S (PortDown port) vid other = refl
-bridges-other S (Flush v) vid other = refl
+bridges-other S c vid other = bridges-applied (effect c) S vid (effect-other vid c other)
 
 bridges-chosen : (S : Settings) (c : Change) (vid : ℕ) (b : Bool) → b && is_about vid c ≡ false → (cond b (accepted S c) S).bridges vid ≡ S.bridges vid
 bridges-chosen S c vid true other = bridges-other S c vid other

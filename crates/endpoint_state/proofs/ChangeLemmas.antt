@@ -72,7 +72,8 @@ table_refuses t (Unfix vid mac) S h =
     (λ same. subst (λ (v : ℕ). IsSome (absent_in mac (segment_at S.settings v) (S.tables v))) (sym (eqb-true w vid same)) h)))
 table_refuses t (SetAgeing vid seconds) S h = nothing (segment_at S.settings vid) h
 table_refuses t (SetLearning vid on) S h = nothing (segment_at S.settings vid) h
-table_refuses t (SetMember vid port egress) S h = nothing (segment_at S.settings vid) h
+table_refuses t (SetMember vid port (Some egress)) S h = nothing (segment_at S.settings vid) h
+table_refuses t (SetMember vid port None) S h = nothing (segment_at S.settings vid) h
 table_refuses t (PortUp port) S h = absurd (false≢true h)
 table_refuses t (PortDown port) S h = absurd (false≢true h)
 table_refuses t (Flush vid) S h = nothing (segment_at S.settings vid) h

@@ -1,5 +1,6 @@
 pub mod AfterLemmas
 pub mod ChangeLemmas
+pub mod EffectLemmas
 pub mod EverywhereLemmas
 pub mod LaterLemmas
 pub mod OpenLemmas

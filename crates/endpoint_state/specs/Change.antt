@@ -1,24 +1,22 @@
 -- Changes of the settings while an endpoint runs: why one is refused, what it makes of the settings, and what it does to
 -- the table of a segment.
 --     refused      why the settings refuse it
---     changed      the settings after it
+--     accepted, changed      the settings after it
 --     table_fault, entries_changed      why a table refuses it, and the table after it
-use Rattle.std.specs.Prelude.{◌≡◌, ℕ, ◌==◌, Bool, true, false, not, ◌||◌, nat_lt, List, [], ◌∷◌, ◌++◌, length, is_none, if◌then◌else◌, IfSome, Option, Some, None}
-use Rattle.std.specs.Option.{option_map, option_map_or, unwrap_or}
+-- What it does to both is its effect (Effect).
+use Rattle.std.specs.Prelude.{◌≡◌, ℕ, Bool, not, ◌||◌, nat_lt, List, [], ◌∷◌, length, is_none, if◌then◌else◌, IfSome, Option, Some, None}
+use Rattle.std.specs.Option.{option_map}
 use Rattle.frame_view.specs.First.{first}
 use Rattle.frame_view.specs.Address.{is_group as is_group_mac}
 use Rattle.ip_udp_view.specs.Addr.{is_group, is_usable}
 use Rattle.ip_udp_view.specs.declared.addr.Addr.{Addr}
 use Rattle.ip_udp_view.specs.declared.addr.Tunnel.{Tunnel}
-use Rattle.ip_udp_view.specs.declared.addr.Tunnel.TheVariants.{Vxlan}
-use Rattle.flood_lists.specs.Flood.{Entries, has_family, is_own, add_faults, holds, without}
+use Rattle.flood_lists.specs.Flood.{has_family, is_own, add_faults, holds}
 use Rattle.flood_lists.specs.declared.own.Own.{Own}
 use Rattle.filter_db.specs.declared.place.Place.{Place}
-use Rattle.filter_db.specs.declared.place.Place.TheVariants.{Local, Remote}
-use Rattle.filter_db.specs.Table.{Table, nanoseconds, live, is_full, has_fixed, fix, unfix, flush_place, flush}
-use Rattle.vlan_ports.specs.Ports.{is_port, with_up, with_member}
+use Rattle.filter_db.specs.Table.{Table, is_full, has_fixed}
+use Rattle.vlan_ports.specs.Ports.{is_port}
 use Rattle.underlay.specs.Settings.{own}
-use Rattle.underlay.specs.Overlay.{with_flood}
 use Rattle.underlay.specs.declared.tunnels.SegmentTunnel.{SegmentTunnel}
 use Rattle.overlay_settings.specs.declared.change.Target.{Target}
 use Rattle.overlay_settings.specs.declared.change.Target.TheVariants as target
@@ -28,7 +26,9 @@ pub use Rattle.overlay_settings.specs.Change.{named, is_about}
 use Rattle.endpoint_state.specs.declared.fault.ChangeFault.{ChangeFault}
 use Rattle.endpoint_state.specs.declared.fault.ChangeFault.TheVariants.{NoSegment, NoPort, NotThere, TableFull, GroupAddress, OutOfRange, NoFamily, OwnAddress, NoTunnel}
 use Rattle.endpoint_state.specs.Fault.{of_flood}
-use Rattle.endpoint_state.specs.Settings.{Settings, BridgeSettings, SegmentSettings, segment_at, kind_named}
+use Rattle.endpoint_state.specs.Settings.{Settings, SegmentSettings, segment_at, kind_named}
+use Rattle.endpoint_state.specs.Effect.{effect, applied, TableEffect, Fixes, Unfixes, Forgets, ForgetsAll, Ages, KeepsAll, table_effect, table_applied}
+pub use Rattle.endpoint_state.specs.Effect.{kind_in, place_of}
 
 -- ---- why the settings refuse a change
 
@@ -83,28 +83,9 @@ refused S (Flush vid) = in_segment (segment_at S vid) (λ s. None)
 
 -- ---- the settings after a change
 
--- the kind of the tunnel that a change means, where there is one
-abbrev pub kind_in : List SegmentTunnel → Option Tunnel → Tunnel
-kind_in tunnels tunnel = unwrap_or (kind_named tunnels tunnel) Vxlan
-
--- with another flood list of a segment
-abbrev pub with_flood_of : Settings → ℕ → (SegmentSettings → Entries) → Settings
-with_flood_of S vid change = option_map_or (λ s. record S { overlay = with_flood S.overlay vid (change s) }) (segment_at S vid) S
-
--- with other settings of the bridge of a segment
-abbrev pub with_bridge : Settings → ℕ → (BridgeSettings → BridgeSettings) → Settings
-with_bridge S vid change = record S { bridges = λ w. if w == vid then option_map change (S.bridges w) else S.bridges w }
-
 -- the settings after a change that they don't refuse
 abbrev pub accepted : Settings → Change → Settings
-accepted S (AddFlood vid addr tunnel) = with_flood_of S vid (λ s. s.flood ++ record { tunnel = kind_in s.tunnels tunnel; addr = addr } ∷ [])
-accepted S (RemoveFlood vid addr tunnel) = with_flood_of S vid (λ s. without s.flood (kind_in s.tunnels tunnel) addr)
-accepted S (SetAgeing vid seconds) = with_bridge S vid (λ bridge. record bridge { ageing = seconds })
-accepted S (SetLearning vid on) = with_bridge S vid (λ bridge. record bridge { learning = on })
-accepted S (SetMember vid port egress) = record S { ports = with_member S.ports vid port egress }
-accepted S (PortUp port) = record S { ports = with_up S.ports port true }
-accepted S (PortDown port) = record S { ports = with_up S.ports port false }
-accepted S _ = S
+accepted S c = applied (effect c) S
 
 -- a refused change changes nothing
 abbrev pub changed : Settings → Change → Settings
@@ -112,31 +93,24 @@ changed S c = if is_none (refused S c) then accepted S c else S
 
 -- ---- the table of a segment
 
--- where a fixed entry is to stand
-abbrev pub place_of : List SegmentTunnel → Target → Place
-place_of tunnels (target.Local port) = Local port
-place_of tunnels (target.Remote addr tunnel) = Remote (kind_in tunnels tunnel) addr
-
 -- where a fixed entry of a segment is to stand, if there is the segment
 abbrev pub IsPlaceOf : Settings → ℕ → Target → Place → Type 0
 IsPlaceOf S vid target place = IfSome (segment_at S vid) (λ s. place ≡ place_of s.tunnels target)
 
--- why the table of its segment refuses a change that the settings don't: there is no room for a fixed entry, or none to
--- take out
+-- why a table with this limit refuses what a change is to do to it: there is no room for a fixed entry, or none to take out
+abbrev pub effect_fault : ℕ → TableEffect → Table → Option ChangeFault
+effect_fault limit (Fixes mac place) m = first ((TableFull, is_full limit mac m) ∷ [])
+effect_fault limit (Unfixes mac) m = first ((NotThere, not (has_fixed mac m)) ∷ [])
+effect_fault limit (Forgets place) m = None
+effect_fault limit ForgetsAll m = None
+effect_fault limit (Ages seconds) m = None
+effect_fault limit KeepsAll m = None
+
+-- why the table of its segment refuses a change that the settings don't
 abbrev pub table_fault : SegmentSettings → Change → Table → Option ChangeFault
-table_fault s (Fix vid mac target) m = first ((TableFull, is_full s.limit mac m) ∷ [])
-table_fault s (Unfix vid mac) m = first ((NotThere, not (has_fixed mac m)) ∷ [])
-table_fault s _ m = None
+table_fault s c m = effect_fault s.limit (table_effect s c) m
 
 -- what a change at moment t leaves of the table of a segment that it is about; the table has what is live then, under
--- the ageing before the change. Where a remote endpoint is taken from the flood list, a membership ends or a port goes
--- down, what was learned at that place goes; what is too old under a new ageing goes at once
+-- the ageing before the change
 abbrev pub entries_changed : ℕ → SegmentSettings → Change → Table → Table
-entries_changed t s (RemoveFlood vid addr tunnel) m = flush_place (Remote (kind_in s.tunnels tunnel) addr) m
-entries_changed t s (Fix vid mac target) m = fix s.limit (place_of s.tunnels target) mac m
-entries_changed t s (Unfix vid mac) m = unfix mac m
-entries_changed t s (SetAgeing vid seconds) m = live (nanoseconds seconds) t m
-entries_changed t s (SetMember vid port None) m = flush_place (Local port) m
-entries_changed t s (PortDown port) m = flush_place (Local port) m
-entries_changed t s (Flush vid) m = flush m
-entries_changed t s _ m = m
+entries_changed t s c m = table_applied t s.limit (table_effect s c) m

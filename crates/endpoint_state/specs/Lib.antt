@@ -1,5 +1,6 @@
 pub mod Change
 pub mod Code
+pub mod Effect
 pub mod Fault
 pub mod Held
 pub mod Laws

@@ -8,15 +8,15 @@
 
 mod checks;
 mod fault;
-mod flood;
+mod flood_changes;
 pub mod laws;
 mod layers;
 mod learning;
 mod parts;
-mod ports;
+mod port_changes;
 mod state;
 mod step;
-mod table;
+mod table_changes;
 
 pub use fault::ChangeFault;
 pub use overlay_settings::{Change, Target};

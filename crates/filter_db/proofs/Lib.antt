@@ -3,3 +3,4 @@ pub mod ListLemmas
 pub mod RowsLemmas
 pub mod SegmentLemmas
 pub mod TableLemmas
+pub mod StandingLemmas

@@ -4,4 +4,5 @@ pub mod Database
 pub mod Place
 pub mod Rows
 pub mod Segment
+pub mod Standing
 pub mod Table

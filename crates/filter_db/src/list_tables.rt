@@ -80,6 +80,8 @@ impl Tables for ListTables {
 
     ghost moment = { λ d. d.moment };
 
+    ghost pool = { λ d. 0 };
+
     fn has(&self, vid: Vid) -> bool {
         self.tables[slot_of(vid)].is_some()
     }

@@ -49,13 +49,16 @@ pub struct NotThere;
 /// Each call but `has` and `now` is for a VID that has a segment, and brings a moment in nanoseconds that isn't before
 /// the tables' own. It finds all segments as they are at that moment: only live entries count, which are the fixed
 /// ones and those that were seen less than the segment's ageing ago. Then it changes its own segment, and no other. A
-/// call that is refused moves the moment on and changes nothing else.
+/// call that is refused moves the moment on and changes nothing else. No call changes the size of the pool.
 pub trait Tables {
     /// For each VID its segment, with what is live at the tables' own moment.
     ghost segments: { Self → Segments };
 
     /// The latest moment that a call brought.
     ghost moment: { Self → ℕ };
+
+    /// How many entries the segments together may have, where they share a pool; 0 where each has room of its own.
+    ghost pool: { Self → ℕ };
 
     /// Whether a VID has a segment.
     fn has(&self, vid: Vid) -> bool
@@ -72,7 +75,8 @@ pub trait Tables {
         ensures answer { let s = segment_at vid (aged_all now (segments self.old)) in
             result ≡ stands mac s.entries }
         ensures after { segments self.new ≡ segments self.old }
-        ensures moment { moment self.new ≡ moment self.old };
+        ensures moment { moment self.new ≡ moment self.old }
+        ensures pool { pool self.new ≡ pool self.old };
 
     /// Learns that a frame came from this address at this place (IEEE 802.1Q, 8.7).
     fn learn(&mut self, vid: Vid, mac: Mac, place: Place, now: u64) -> Learned
@@ -82,7 +86,8 @@ pub trait Tables {
             result ≡ learned_as s.limit place mac s.entries }
         ensures after { segments self.new
             ≡ adjusted vid (learn_in now place mac) (aged_all now (segments self.old)) }
-        ensures moment { moment self.new ≡ now };
+        ensures moment { moment self.new ≡ now }
+        ensures pool { pool self.new ≡ pool self.old };
 
     /// Gives an address a fixed entry, in place of any earlier one (IEEE 802.1Q, 8.8.1). `TableFull`: the address isn't
     /// live, and the segment has its limit of live entries.
@@ -93,7 +98,8 @@ pub trait Tables {
             IsErr result ↔ IsTrue (is_full s.limit mac s.entries) }
         ensures after { segments self.new
             ≡ adjusted vid (fix_in place mac) (aged_all now (segments self.old)) }
-        ensures moment { moment self.new ≡ now };
+        ensures moment { moment self.new ≡ now }
+        ensures pool { pool self.new ≡ pool self.old };
 
     /// Takes the fixed entry of an address out. `NotThere`: the address has none.
     fn unfix(&mut self, vid: Vid, mac: Mac, now: u64) -> Result<(), NotThere>
@@ -103,7 +109,8 @@ pub trait Tables {
             IsOk result ↔ IsTrue (has_fixed mac s.entries) }
         ensures after { segments self.new
             ≡ adjusted vid (unfix_in mac) (aged_all now (segments self.old)) }
-        ensures moment { moment self.new ≡ now };
+        ensures moment { moment self.new ≡ now }
+        ensures pool { pool self.new ≡ pool self.old };
 
     /// Forgets what was learned at a place.
     fn flush_place(&mut self, vid: Vid, place: Place, now: u64)
@@ -111,7 +118,8 @@ pub trait Tables {
         requires time { moment self.old ≤ now }
         ensures after { segments self.new
             ≡ adjusted vid (flush_place_in place) (aged_all now (segments self.old)) }
-        ensures moment { moment self.new ≡ now };
+        ensures moment { moment self.new ≡ now }
+        ensures pool { pool self.new ≡ pool self.old };
 
     /// Forgets all that was learned.
     fn flush(&mut self, vid: Vid, now: u64)
@@ -119,7 +127,8 @@ pub trait Tables {
         requires time { moment self.old ≤ now }
         ensures after { segments self.new
             ≡ adjusted vid flush_in (aged_all now (segments self.old)) }
-        ensures moment { moment self.new ≡ now };
+        ensures moment { moment self.new ≡ now }
+        ensures pool { pool self.new ≡ pool self.old };
 
     /// Sets the ageing, 10 to 1,000,000 seconds. What is dead under the old one stays dead, and what is too old under
     /// the new one dies.
@@ -130,7 +139,8 @@ pub trait Tables {
         requires not_too_long { seconds ≤ 1000000 }
         ensures after { segments self.new
             ≡ adjusted vid (set_ageing_in now seconds) (aged_all now (segments self.old)) }
-        ensures moment { moment self.new ≡ now };
+        ensures moment { moment self.new ≡ now }
+        ensures pool { pool self.new ≡ pool self.old };
 
     /// How many live entries a segment has.
     fn live(&mut self, vid: Vid, now: u64) -> u32
@@ -139,7 +149,8 @@ pub trait Tables {
         ensures count { let s = segment_at vid (aged_all now (segments self.old)) in
             result ≡ len s.entries }
         ensures after { segments self.new ≡ aged_all now (segments self.old) }
-        ensures moment { moment self.new ≡ now };
+        ensures moment { moment self.new ≡ now }
+        ensures pool { pool self.new ≡ pool self.old };
 
     /// What is dead at the tables' moment is no part of a segment.
     ghost settled: { (t : Self) → aged_all (moment t) (segments t) ≡ segments t };

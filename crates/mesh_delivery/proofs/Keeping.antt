@@ -1,5 +1,5 @@
 -- The underlay and the tunnels of an endpoint never change.
-use Rattle.std.proofs.Common.{◌≡◌, ℕ, Bool, true, false, cond, ◌&&◌, [], ◌∷◌, ◌++◌, Option, Some, None, refl, sym, ap, ◌∙◌, subst}
+use Rattle.std.proofs.Common.{◌≡◌, ℕ, Bool, true, false, cond, ◌&&◌, [], ◌∷◌, Option, Some, None, refl, sym, ap, ◌∙◌, subst}
 use Rattle.std.specs.Prelude.{is_some, ◌==◌}
 use Rattle.std.specs.Option.{option_map, option_map_or, option_and_then}
 use Rattle.std.specs.List.{list_all}
@@ -7,7 +7,7 @@ use Rattle.std.specs.FinMap.{get, insert}
 use Rattle.std.proofs.lemmas.Bool.{eqb-true}
 use Rattle.ip_udp_view.specs.declared.addr.Addr.{Addr}
 use Rattle.ip_udp_view.specs.declared.addr.Tunnel.{Tunnel}
-use Rattle.flood_lists.specs.Flood.{Entries, has_family, without}
+use Rattle.flood_lists.specs.Flood.{Entries, has_family}
 use Rattle.flood_lists.specs.declared.remote.Remote.{Remote as Target}
 use Rattle.filter_db.specs.declared.place.Place.{Place}
 use Rattle.filter_db.specs.declared.place.Place.TheVariants.{Local, Remote}
@@ -18,9 +18,9 @@ use Rattle.underlay.specs.Tunnels.{of_kind}
 use Rattle.underlay.specs.Overlay.{Overlay, flood_at, tunnel_at, tunnel_of, with_flood, segment_at as under_at}
 use Rattle.underlay.specs.declared.segment.Segment.{Segment}
 use Rattle.overlay_settings.specs.declared.change.Change.{Change}
-use Rattle.overlay_settings.specs.declared.change.Change.TheVariants.{AddFlood, RemoveFlood, Fix, Unfix, SetAgeing, SetLearning, SetMember, PortUp, PortDown, Flush}
 use Rattle.endpoint_state.specs.Settings.{Settings, BridgeSettings, SegmentSettings, joined, segment_at}
-use Rattle.endpoint_state.specs.Change.{kind_in, accepted}
+use Rattle.endpoint_state.specs.Effect.{Effect, ToFlood, ToBridge, ToMembers, ToPort, ToNothing, effect, applied}
+use Rattle.endpoint_state.specs.Change.{accepted}
 use Rattle.endpoint_state.specs.Sound.{reaches, is_reached_if}
 
 -- ---- what never changes
@@ -50,17 +50,15 @@ Keeps-flooded : (S : Settings) (vid : ℕ) (change : SegmentSettings → Entries
 Keeps-flooded S vid change None = Keeps-itself S
 Keeps-flooded S vid change (Some s) = record { underlay = refl; tunnels = λ w kind. tunnels-flooded S.overlay vid (change s) w kind (under_at S.overlay vid) refl }
 
+Keeps-applied : (e : Effect) (S : Settings) → Keeps (applied e S) S
+Keeps-applied (ToFlood vid change) S = Keeps-flooded S vid change (segment_at S vid)
+Keeps-applied (ToBridge vid change) S = record { underlay = refl; tunnels = λ w kind. refl }
+Keeps-applied (ToMembers vid port egress) S = record { underlay = refl; tunnels = λ w kind. refl }
+Keeps-applied (ToPort port up) S = record { underlay = refl; tunnels = λ w kind. refl }
+Keeps-applied ToNothing S = Keeps-itself S
+
 pub Keeps-accepted : (S : Settings) (c : Change) → Keeps (accepted S c) S
-Keeps-accepted S (AddFlood vid addr tunnel) = Keeps-flooded S vid (λ s. s.flood ++ record { tunnel = kind_in s.tunnels tunnel; addr = addr } ∷ []) (segment_at S vid)
-Keeps-accepted S (RemoveFlood vid addr tunnel) = Keeps-flooded S vid (λ s. without s.flood (kind_in s.tunnels tunnel) addr) (segment_at S vid)
-Keeps-accepted S (SetAgeing vid seconds) = record { underlay = refl; tunnels = λ w kind. refl }
-Keeps-accepted S (SetLearning vid on) = record { underlay = refl; tunnels = λ w kind. refl }
-Keeps-accepted S (SetMember vid port egress) = record { underlay = refl; tunnels = λ w kind. refl }
-Keeps-accepted S (PortUp port) = record { underlay = refl; tunnels = λ w kind. refl }
-Keeps-accepted S (PortDown port) = record { underlay = refl; tunnels = λ w kind. refl }
-Keeps-accepted S (Fix vid mac target) = Keeps-itself S
-Keeps-accepted S (Unfix vid mac) = Keeps-itself S
-Keeps-accepted S (Flush vid) = Keeps-itself S
+Keeps-accepted S c = Keeps-applied (effect c) S
 
 -- so the same can be sent to
 reaches-kept : (S T : Settings) → Keeps S T → (vid : ℕ) (kind : Tunnel) (addr : Addr) → reaches S.overlay vid kind addr ≡ reaches T.overlay vid kind addr

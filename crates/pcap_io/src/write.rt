@@ -1,5 +1,5 @@
 //! Writing a capture, little-endian and in nanoseconds.
-ghost use Rattle.std.specs.Prelude.{◌≡◌, ◌+◌, ◌≤◌, ◌++◌, length, vec_len, vec_capacity, OnOk, OnErr};
+ghost use Rattle.std.specs.Prelude.{◌≡◌, ◌+◌, ◌<◌, ◌≤◌, ◌++◌, length, vec_len, vec_capacity, OnOk, OnErr};
 ghost use Rattle.std.specs.List.{flat_map};
 ghost use Rattle.pcap_io.specs.Record.{last_moment, longest};
 ghost use Rattle.pcap_io.specs.Written.{record_header_of, whole_frame, written_header, written_record};
@@ -22,10 +22,11 @@ pub fn global_header() -> [u8; HEADER_LENGTH]
     HEADER
 }
 
-/// Adds the global header. Where memory is refused nothing changes.
+/// Adds the global header. Where memory is refused nothing changes; none is asked for where there is room.
 pub fn put_header(out: &mut Vec<u8>) -> Result<(), AllocError>
     ensures ok { OnOk result (out.new.items ≡ out.old.items ++ written_header) }
     ensures err { OnErr result (out.new.items ≡ out.old.items) }
+    ensures full { OnErr result (vec_capacity out.old < vec_len out.old + 24) }
 {
     out.extend_from_slice(&global_header())
 }
@@ -56,7 +57,8 @@ fn put(out: &mut Vec<u8>, octets: &[u8])
     }
 }
 
-/// Adds a record that holds a whole frame, the four slices side by side. Where memory is refused nothing changes.
+/// Adds a record that holds a whole frame, the four slices side by side. Where memory is refused nothing changes; none is
+/// asked for where there is room.
 ///
 /// `moment` is in nanoseconds, at most 4,294,967,295,999,999,999; the slices together have at most 262,144 octets, and
 /// any of them may be empty.
@@ -73,6 +75,8 @@ pub fn put_record(
     ensures ok { OnOk result (out.new.items
         ≡ out.old.items ++ written_record (whole_frame moment (head.now ++ (addresses.now ++ (tag.now ++ body.now))))) }
     ensures err { OnErr result (out.new.items ≡ out.old.items) }
+    ensures full { OnErr result (vec_capacity out.old
+        < vec_len out.old + (16 + (length head.now + length addresses.now + length tag.now + length body.now))) }
 {
     let length = head.len() + addresses.len() + tag.len() + body.len();
     out.reserve(RECORD_HEADER_LENGTH + length)?;

@@ -12,7 +12,7 @@ fn told<'a>(alloc: Global, words: &'a [&'a str]) -> Result<String, Fail> {
 }
 
 /// Words, and the line that they ask for.
-const LINES: [(&[&str], &str); 5] = [
+const LINES: [(&[&str], &str); 8] = [
     (&["tep"], "Sample"),
     (
         &[
@@ -39,6 +39,18 @@ const LINES: [(&[&str], &str); 5] = [
     (
         &["tep", "explain", "--depth", "2", "c", "--settings=s"],
         "Explain { settings: \"s\", depth: 2, capture: \"c\" }",
+    ),
+    (
+        &["tep", "run", "-s", "s", "-c", "c", "-uu", "-o=d", "-", "p2"],
+        "Run { settings: \"s\", changes: Some(\"c\"), underlay: \"u\", out: \"d\", ports: [\"-\", \"p2\"] }",
+    ),
+    (
+        &["tep", "check", "-s", "-", "-c", "-"],
+        "Check { settings: \"-\", changes: Some(\"-\") }",
+    ),
+    (
+        &["tep", "explain", "-d", "1", "-", "-s", "s"],
+        "Explain { settings: \"s\", depth: 1, capture: \"-\" }",
     ),
 ];
 
@@ -88,8 +100,50 @@ fn other_words_are_refused_for_their_kind(rt: HostRuntime) {
         kind(alloc, &["tep", "help", "run"]) == Some(ErrorKind::DisplayHelp),
         "help on run"
     );
-    assert!(rt;
-        kind(alloc, &["tep", "--version"]) == Some(ErrorKind::DisplayVersion),
-        "the version"
-    );
+    for words in [["tep", "--version"], ["tep", "-V"]] {
+        assert!(rt;
+            kind(alloc, &words) == Some(ErrorKind::DisplayVersion),
+            "{words:?}"
+        );
+    }
+    for command in ["run", "check", "explain"] {
+        assert!(rt;
+            kind(alloc, &["tep", command, "--version"]) == Some(ErrorKind::DisplayVersion),
+            "the version, asked of {command}"
+        );
+    }
+}
+
+#[test]
+fn an_empty_name_is_refused(rt: HostRuntime) {
+    let alloc = rt.alloc();
+    let lines: [&[&str]; 6] = [
+        &["tep", "check", "--settings", ""],
+        &["tep", "check", "--settings=s", "--changes="],
+        &["tep", "run", "-s=s", "-u=", "-o=d", "p1"],
+        &["tep", "run", "-s=s", "-u=u", "-o=", "p1"],
+        &["tep", "run", "-s=s", "-u=u", "-o=d", "p1", ""],
+        &["tep", "explain", "-s=s", ""],
+    ];
+    for words in &lines {
+        assert!(rt;
+            kind(alloc, words) == Some(ErrorKind::InvalidValue),
+            "{words:?}"
+        );
+    }
+}
+
+#[test]
+fn standard_input_is_one_capture_at_most(rt: HostRuntime) {
+    let alloc = rt.alloc();
+    let lines: [&[&str]; 2] = [
+        &["tep", "run", "-s=s", "-u", "-", "-o=d", "-"],
+        &["tep", "run", "-s=s", "-u=u", "-o=d", "-", "p2", "-"],
+    ];
+    for words in &lines {
+        assert!(rt;
+            matches!(line_of(alloc, words), Err(LineFault::InputTwice)),
+            "{words:?}"
+        );
+    }
 }

@@ -1,9 +1,10 @@
 //! Texts in, texts out; and texts from inputs that give a few octets at a time, or fail.
 use capture_run::RunFault;
-use dissector::{TextFault, check_text, exit_code, read_text, sample};
+use dissector::{TextFault, check_text, exit_code, read_text, sample, stream_code};
 use pcap_io::{CaptureFault, RecordFault};
 use std::alloc::Global;
 use std::test::Fail;
+use stream_run::{StreamFault, Target};
 use test_inputs::in_pieces;
 use test_inputs::settings::ENDPOINT;
 use timeline::Tap;
@@ -64,6 +65,15 @@ fn each_fault_has_its_exit_status(rt: HostRuntime) {
     ];
     for (fault, status) in &cases {
         assert_eq!(rt; exit_code(fault), *status, "{fault}");
+    }
+    let cases = [
+        (StreamFault::Run(RunFault::PortCount), 1),
+        (StreamFault::Run(RunFault::OutOfMemory), 3),
+        (StreamFault::Read(Tap::Port(1)), 3),
+        (StreamFault::Write(Target::Decisions), 3),
+    ];
+    for (fault, status) in &cases {
+        assert_eq!(rt; stream_code(fault), *status, "{fault}");
     }
 }
 

@@ -1,11 +1,11 @@
 -- What a change makes of what a segment sees.
-use Rattle.std.proofs.Common.{◌≡◌, ℕ, ◌-◌, ◌==◌, Bool, true, false, cond, [], ◌∷◌, ◌++◌, Option, Some, None, refl, sym, ap, ◌∙◌, subst}
+use Rattle.std.proofs.Common.{◌≡◌, ℕ, ◌-◌, ◌==◌, Bool, true, false, cond, Option, Some, None, refl, sym, ap, ◌∙◌, subst}
 use Rattle.std.specs.Prelude.{is_none, is_some, slice_set, slice_index_or}
 use Rattle.std.specs.Option.{option_map, option_map_or, unwrap_or}
 use Rattle.std.specs.FinMap.{empty, get, insert}
 use Rattle.std.proofs.Math.Path.{fun_ext}
 use Rattle.std.proofs.lemmas.Bool.{false≢true, eqb-true, eq-eqb}
-use Rattle.flood_lists.specs.Flood.{Entries, without}
+use Rattle.flood_lists.specs.Flood.{Entries}
 use Rattle.vlan_ports.specs.Ports.{Ports, Members, no_port, members_at, has_segment, member_set, with_member}
 use Rattle.vlan_ports.specs.declared.member.Egress.{Egress}
 use Rattle.vlan_ports.specs.declared.port.PortRule.{PortRule}
@@ -13,13 +13,13 @@ use Rattle.vlan_ports.proofs.PlacesLemmas.{get-insert_at, get-insert_same}
 use Rattle.underlay.specs.Overlay.{Segments, flooding, with_flood}
 use Rattle.underlay.specs.declared.segment.Segment.{Segment}
 use Rattle.overlay_settings.specs.declared.change.Change.{Change}
-use Rattle.overlay_settings.specs.declared.change.Change.TheVariants.{AddFlood, RemoveFlood, Fix, Unfix, SetAgeing, SetLearning, SetMember, PortUp, PortDown, Flush}
-use Rattle.endpoint_state.specs.declared.fault.ChangeFault.{ChangeFault}
 use Rattle.endpoint_state.specs.Settings.{Settings, BridgeSettings, SegmentSettings, segment_at}
-use Rattle.endpoint_state.specs.Change.{is_about, in_segment, refused, kind_in, with_flood_of, with_bridge, accepted, changed}
+use Rattle.endpoint_state.specs.Effect.{Effect, ToFlood, ToBridge, ToMembers, ToPort, ToNothing, effect, with_flood_of, with_bridge, applied}
+use Rattle.endpoint_state.specs.Change.{is_about, refused, accepted, changed}
+use Rattle.endpoint_state.proofs.EffectLemmas.{is_to, effect-other, IsThere, effect-there}
 use Rattle.segment_isolation.proofs.Finding.{tunnels}
-use Rattle.segment_isolation.proofs.Seeing.{Seen, seen, limit_of, own_by, own_of}
-use Rattle.segment_isolation.proofs.Refusing.{seen_named, seen_back, refused-same}
+use Rattle.segment_isolation.proofs.Seeing.{Seen, seen, limit_of, own_of}
+use Rattle.segment_isolation.proofs.Refusing.{refused-same}
 
 -- ---- a flood list
 
@@ -101,12 +101,6 @@ seen-flooded_other vid v S flood (Some s) other = λ i. record {
   bridge = S.bridges vid;
 }
 
-flood-same : (v : ℕ) (S T : Settings) (flood : SegmentSettings → Entries) → seen v S ≡ seen v T → seen v (with_flood_of S v flood) ≡ seen v (with_flood_of T v flood)
-flood-same v S T flood h =
-    seen-flooded S v flood (segment_at S v)
-    ∙ ap (λ (x : Seen). flooded_by flood (own_of x) x) h
-    ∙ sym (seen-flooded T v flood (segment_at T v))
-
 -- ---- the rules of a bridge
 
 abbrev bridge_set : (BridgeSettings → BridgeSettings) → ℕ → ℕ → Option BridgeSettings → Option BridgeSettings
@@ -129,17 +123,6 @@ seen-bridge vid v S change keeps = λ i. record {
   segment = (seen vid S).segment;
   bridge = bridge_set change v vid (S.bridges vid);
 }
-
-bridge-same : (vid v : ℕ) (S T : Settings) (change : BridgeSettings → BridgeSettings) → ((b : BridgeSettings) → (change b).limit ≡ b.limit) → seen vid S ≡ seen vid T → seen vid (with_bridge S v change) ≡ seen vid (with_bridge T v change)
-bridge-same vid v S T change keeps h =
-    seen-bridge vid v S change keeps
-    ∙ ap (λ (x : Seen). let y : Seen = record x { bridge = bridge_set change v vid x.bridge } in y) h
-    ∙ sym (seen-bridge vid v T change keeps)
-
-bridge-other : (vid v : ℕ) (S : Settings) (change : BridgeSettings → BridgeSettings) → ((b : BridgeSettings) → (change b).limit ≡ b.limit) → (vid == v) ≡ false → seen vid (with_bridge S v change) ≡ seen vid S
-bridge-other vid v S change keeps other =
-    seen-bridge vid v S change keeps
-    ∙ ap (λ (b : Bool). let x : Seen = seen vid S in let y : Seen = record x { bridge = cond b (option_map change x.bridge) x.bridge } in y) other
 
 -- ---- members
 
@@ -195,52 +178,58 @@ member_other vid v port egress S there other = λ i. record {
   bridge = S.bridges vid;
 }
 
-member_same : (v port : ℕ) (egress : Option Egress) (S T : Settings) → seen v S ≡ seen v T → is_some (members_at S.ports v) ≡ true → seen v (with_members S v port egress) ≡ seen v (with_members T v port egress)
-member_same v port egress S T h there =
-    seen-member v port egress S there
-    ∙ ap (joined_by port egress) h
-    ∙ sym (seen-member v port egress T (sym (ap (λ (x : Seen). is_some x.members) h) ∙ there))
-
 -- ---- ports
 
 abbrev ports_set : ℕ → Bool → Seen → Seen
 ports_set port up x = record x { ports = slice_set x.ports (port - 1) (let p : PortRule = slice_index_or x.ports (port - 1) no_port in record p { up = up }) }
 
+-- ---- an effect
+
+-- what the segment of a VID sees after an effect, by what it saw before
+abbrev see_applied : ℕ → Effect → Seen → Seen
+see_applied vid (ToFlood v change) x = cond (vid == v) (flooded_by change (own_of x) x) x
+see_applied vid (ToBridge v change) x = record x { bridge = bridge_set (λ b. record (change b) { limit = b.limit }) v vid x.bridge }
+see_applied vid (ToMembers v port egress) x = cond (vid == v) (joined_by port egress x) x
+see_applied vid (ToPort port up) x = ports_set port up x
+see_applied vid ToNothing x = x
+
+seen-applied : (vid : ℕ) (e : Effect) (S : Settings) → IsThere S e → seen vid (applied e S) ≡ see_applied vid e (seen vid S)
+seen-applied vid (ToFlood v change) S there = by (vid == v) refl
+  where
+    by : (b : Bool) → (vid == v) ≡ b → seen vid (with_flood_of S v change) ≡ cond b (flooded_by change (own_of (seen vid S)) (seen vid S)) (seen vid S)
+    by true same =
+        subst (λ (u : ℕ). seen u (with_flood_of S v change) ≡ flooded_by change (own_of (seen u S)) (seen u S)) (sym (eqb-true vid v same))
+        (seen-flooded S v change (segment_at S v))
+    by false other = seen-flooded_other vid v S change (segment_at S v) other
+seen-applied vid (ToBridge v change) S there = seen-bridge vid v S (λ b. let left : BridgeSettings = record (change b) { limit = b.limit } in left) (λ b. refl)
+seen-applied vid (ToMembers v port egress) S there = by (vid == v) refl
+  where
+    by : (b : Bool) → (vid == v) ≡ b → seen vid (with_members S v port egress) ≡ cond b (joined_by port egress (seen vid S)) (seen vid S)
+    by true same =
+        subst (λ (u : ℕ). seen u (with_members S v port egress) ≡ joined_by port egress (seen u S)) (sym (eqb-true vid v same))
+        (seen-member v port egress S there)
+    by false other = member_other vid v port egress S there other
+seen-applied vid (ToPort port up) S there = refl
+seen-applied vid ToNothing S there = refl
+
+-- one that isn't to the segment
+see_applied-other : (vid : ℕ) (e : Effect) (x : Seen) → is_to vid e ≡ false → see_applied vid e x ≡ x
+see_applied-other vid (ToFlood v change) x other = ap (λ (b : Bool). cond b (flooded_by change (own_of x) x) x) other
+see_applied-other vid (ToBridge v change) x other =
+    ap (λ (b : Bool). let y : Seen = record x { bridge = cond b (option_map (λ (r : BridgeSettings). let left : BridgeSettings = record (change r) { limit = r.limit } in left) x.bridge) x.bridge } in y) other
+see_applied-other vid (ToMembers v port egress) x other = ap (λ (b : Bool). cond b (joined_by port egress x) x) other
+see_applied-other vid (ToPort port up) x other = absurd (false≢true (sym other))
+see_applied-other vid ToNothing x other = refl
+
 -- ---- the settings after a change that they don't refuse
 
--- of a segment that isn't there nothing is asked
-there_where : (bridge : Option BridgeSettings) (segment : Option Segment) (members : Option Members) (next : SegmentSettings → Option ChangeFault) → is_none (in_segment (own_by bridge segment members) next) ≡ true → is_some members ≡ true
-there_where bridge segment (Some m) next h = refl
-there_where None segment None next h = absurd (false≢true h)
-there_where (Some b) None None next h = absurd (false≢true h)
-there_where (Some b) (Some g) None next h = absurd (false≢true h)
-
-accepted-same : (vid : ℕ) (S T : Settings) → seen vid S ≡ seen vid T → (c : Change) → is_about vid c ≡ true → is_none (refused S c) ≡ true → seen vid (accepted S c) ≡ seen vid (accepted T c)
-accepted-same vid S T h (AddFlood v addr tunnel) about taken =
-    seen_back vid v _ _ (flood-same v S T (λ s. s.flood ++ record { tunnel = kind_in s.tunnels tunnel; addr = addr } ∷ []) (seen_named vid v S T h about)) about
-accepted-same vid S T h (RemoveFlood v addr tunnel) about taken =
-    seen_back vid v _ _ (flood-same v S T (λ s. without s.flood (kind_in s.tunnels tunnel) addr) (seen_named vid v S T h about)) about
-accepted-same vid S T h (Fix v mac target) about taken = h
-accepted-same vid S T h (Unfix v mac) about taken = h
-accepted-same vid S T h (SetAgeing v seconds) about taken = bridge-same vid v S T (λ b. let left : BridgeSettings = record b { ageing = seconds } in left) (λ b. refl) h
-accepted-same vid S T h (SetLearning v on) about taken = bridge-same vid v S T (λ b. let left : BridgeSettings = record b { learning = on } in left) (λ b. refl) h
-accepted-same vid S T h (SetMember v port egress) about taken =
-    seen_back vid v _ _ (member_same v port egress S T (seen_named vid v S T h about) (there_where _ _ _ _ taken)) about
-accepted-same vid S T h (PortUp port) about taken = ap (ports_set port true) h
-accepted-same vid S T h (PortDown port) about taken = ap (ports_set port false) h
-accepted-same vid S T h (Flush v) about taken = h
+accepted-same : (vid : ℕ) (S T : Settings) → seen vid S ≡ seen vid T → (c : Change) → is_none (refused S c) ≡ true → is_none (refused T c) ≡ true → seen vid (accepted S c) ≡ seen vid (accepted T c)
+accepted-same vid S T h c in_S in_T =
+    seen-applied vid (effect c) S (effect-there S c in_S) ∙ ap (see_applied vid (effect c)) h ∙ sym (seen-applied vid (effect c) T (effect-there T c in_T))
 
 accepted-other : (vid : ℕ) (S : Settings) (c : Change) → is_about vid c ≡ false → is_none (refused S c) ≡ true → seen vid (accepted S c) ≡ seen vid S
-accepted-other vid S (AddFlood v addr tunnel) other taken = seen-flooded_other vid v S (λ s. s.flood ++ record { tunnel = kind_in s.tunnels tunnel; addr = addr } ∷ []) (segment_at S v) other
-accepted-other vid S (RemoveFlood v addr tunnel) other taken = seen-flooded_other vid v S (λ s. without s.flood (kind_in s.tunnels tunnel) addr) (segment_at S v) other
-accepted-other vid S (Fix v mac target) other taken = refl
-accepted-other vid S (Unfix v mac) other taken = refl
-accepted-other vid S (SetAgeing v seconds) other taken = bridge-other vid v S (λ b. let left : BridgeSettings = record b { ageing = seconds } in left) (λ b. refl) other
-accepted-other vid S (SetLearning v on) other taken = bridge-other vid v S (λ b. let left : BridgeSettings = record b { learning = on } in left) (λ b. refl) other
-accepted-other vid S (SetMember v port egress) other taken = member_other vid v port egress S (there_where _ _ _ _ taken) other
-accepted-other vid S (PortUp port) other taken = absurd (false≢true (sym other))
-accepted-other vid S (PortDown port) other taken = absurd (false≢true (sym other))
-accepted-other vid S (Flush v) other taken = refl
+accepted-other vid S c other taken =
+    seen-applied vid (effect c) S (effect-there S c taken) ∙ see_applied-other vid (effect c) (seen vid S) (effect-other vid c other)
 
 -- ---- the settings after any change
 
@@ -249,7 +238,7 @@ pub changed-same : (vid : ℕ) (S T : Settings) → seen vid S ≡ seen vid T �
 changed-same vid S T h c about = by (is_none (refused S c)) (is_none (refused T c)) refl (ap is_none (refused-same vid S T h c about))
   where
     by : (b d : Bool) → is_none (refused S c) ≡ b → b ≡ d → seen vid (cond b (accepted S c) S) ≡ seen vid (cond d (accepted T c) T)
-    by true true is same = accepted-same vid S T h c about is
+    by true true is same = accepted-same vid S T h c is (sym (ap is_none (refused-same vid S T h c about)) ∙ is)
     by false false is same = h
     by true false is same = absurd (false≢true (sym same))
     by false true is same = absurd (false≢true same)

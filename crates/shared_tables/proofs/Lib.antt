@@ -17,3 +17,4 @@ pub mod WorkLemmas
 pub mod Passing
 pub mod Sweeping
 pub mod Sizes
+pub mod StandingLemmas

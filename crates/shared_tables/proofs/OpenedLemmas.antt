@@ -20,7 +20,7 @@ use Rattle.shared_tables.specs.Pool.{alone, vacancy}
 use Rattle.shared_tables.specs.Line.{weight, IsThread}
 use Rattle.shared_tables.specs.Shared.{chain_key, line_key, is_held, held_count}
 use Rattle.shared_tables.specs.Sound.{IsSound, IsLines, share_at, share_count, share_limit, rule_of, line_at, head_at}
-use Rattle.shared_tables.specs.Opened.{IsNew, AreOpened, segment_of_new}
+use Rattle.shared_tables.specs.Opened.{IsNew, AreOpened, new_share, segment_of_new}
 use Rattle.shared_tables.specs.Segments.{rows_of, kept_segment, segments_of}
 use Rattle.shared_tables.proofs.Linked.{by_bool, equal, nat_eq_refl}
 
@@ -108,9 +108,6 @@ segments_of_opened n rules shares calls compared visited o = fun_ext (λ vid.
     same vid (Some share) = ap (λ rs. let s : Segment = record { limit = share.limit; ageing = share.ageing; entries = from_entries rs } in Some s) (no_rows vid n)
 
 -- ---- one rule more
-
-abbrev pub new_share : TableRule → Share
-new_share rule = record { limit = rule.limit; ageing = rule.ageing; count = 0; queue = record { first = None; last = None }; fixed = record { first = None; last = None } }
 
 pub opened_none : AreOpened [] (replicate 4096 None)
 opened_none = record {

@@ -285,7 +285,7 @@ drop_sifts old new test h = record { size = h.some.size; each = λ i. from i (h.
     from i (inl e) = e ∙ sym (ap (λ b. cond b None (entry_at old.entries i)) (subst (λ o. test o ≡ false) e (h.all i)))
     from i (inr k) = k.0 ∙ sym (ap (λ b. cond b None (entry_at old.entries i)) k.1)
 
-drop_segments : (old new : Shared) (v : ℕ) (test : Option Held → Bool) (p : Entry → Bool) → IsUnique old.entries → ((e : Held) → e.vid ≡ v → test (Some e) ≡ not (p (entry_of e))) → ((w : ℕ) (e : Held) → w ≢ v → e.vid ≡ w → test (Some e) ≡ false)
+pub drop_segments : (old new : Shared) (v : ℕ) (test : Option Held → Bool) (p : Entry → Bool) → IsUnique old.entries → ((e : Held) → e.vid ≡ v → test (Some e) ≡ not (p (entry_of e))) → ((w : ℕ) (e : Held) → w ≢ v → e.vid ≡ w → test (Some e) ≡ false)
     → DropsAll old new test → segments_of new ≡ adjusted v (λ s. record s { entries = kept p s.entries }) (segments_of old)
 drop_segments old new v test p unique own others h =
     adjusts old new v (λ s. record s { entries = kept p s.entries }) (ap (λ (w : Shared). w.moment) h.some.same) (ap (λ (w : Shared). w.rules) h.some.same)

@@ -103,6 +103,7 @@ module _ (xs : List Slot) where
   keeps_free i s f is lt held some h = record {
     list = kept_list i s is f (off_list i held is f h.list) h.list;
     all = omega (arith, h.all, counted i s lt, vacancy_some _ held, vacancy_some _ some);
+    few = omega (arith, h.few, length-set xs i s);
   }
 
   -- an entry goes
@@ -119,6 +120,7 @@ module _ (xs : List Slot) where
           subst (λ (o : Option ℕ). IsFreeList (set xs i s) o is) (sym (ap (λ (t : Slot). id_of t.line.next) at_i ∙ next)) (kept_list i s is f off h.list),
         );
         all = omega (arith, h.all, counted i s lt, vacancy_some _ held, ap vacancy none);
+        few = omega (arith, h.few, length-set xs i s);
       }
 
   -- an entry comes
@@ -126,6 +128,7 @@ module _ (xs : List Slot) where
   takes i s is some h = record {
     list = kept_list i s is _ h.list.3 h.list.4;
     all = omega (arith, h.all, counted i s h.list.1, vacancy_some _ some, ap vacancy h.list.2);
+    few = omega (arith, h.few, length-set xs i s);
   }
 
 -- A pool and a slot's number as a method sees them: e is the value's `.view_is`, q is the number's.
@@ -248,8 +251,8 @@ free_behind xs ys (j ∷ is) f h =
       subst (λ (o : Option ℕ). IsFreeList (xs ++ ys) o is) (ap (λ (t : Slot). id_of t.line.next) (sym at_j)) (free_behind xs ys is _ h.4),
     )
 
-pub frees-push : (xs : List Slot) (n : ℕ) (s : Slot) (f : Option ℕ) (is : List ℕ) → IsVacant s f → length xs ≡ n → IsFreeAll xs f is → IsFreeAll (xs ++ s ∷ []) (Some n) (n ∷ is)
-frees-push xs n s f is vacant size h =
+pub frees-push : (xs : List Slot) (n : ℕ) (s : Slot) (f : Option ℕ) (is : List ℕ) → IsVacant s f → length xs ≡ n → n < 65536 → IsFreeAll xs f is → IsFreeAll (xs ++ s ∷ []) (Some n) (n ∷ is)
+frees-push xs n s f is vacant size below h =
     let at_n : get_or (xs ++ s ∷ []) n no_slot ≡ s = get_or_push xs s no_slot n size in
     record {
       list = (
@@ -260,4 +263,5 @@ frees-push xs n s f is vacant size h =
         subst (λ (o : Option ℕ). IsFreeList (xs ++ s ∷ []) o is) (sym (ap (λ (t : Slot). id_of t.line.next) at_n ∙ vacant.next_is)) (free_behind xs (s ∷ []) is f h.list),
       );
       all = omega (arith, h.all, ap free_count (map-append entry_in xs (s ∷ [])), ap (λ o. free_count (o ∷ [])) vacant.entry, sum_by-append vacancy (map entry_in xs) (entry_in s ∷ []));
+      few = omega (arith, size, below, length-append xs (s ∷ []));
     }

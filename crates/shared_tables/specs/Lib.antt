@@ -7,5 +7,6 @@ pub mod Shared
 pub mod SharedInside
 pub mod Slots
 pub mod Sound
+pub mod Standing
 pub mod Threads
 pub mod Work

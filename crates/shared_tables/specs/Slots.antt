@@ -1,5 +1,5 @@
 -- What the slots stand for, and their free list.
-use Rattle.std.specs.Prelude.{◌≡◌, ◌≢◌, ℕ, ◌<◌, List, [], ◌∷◌, length, map, Option, Some, None, slice_index_or, is_some, nat_eq, if◌then◌else◌}
+use Rattle.std.specs.Prelude.{◌≡◌, ◌≢◌, ℕ, ◌<◌, ◌≤◌, List, [], ◌∷◌, length, map, Option, Some, None, slice_index_or, is_some, nat_eq, if◌then◌else◌}
 use Rattle.filter_db.specs.declared.place.Place.{Place}
 use Rattle.filter_db.specs.Place.{no_place}
 use Rattle.shared_tables.specs.declared.slots.Slot.{Slot}
@@ -101,10 +101,11 @@ IsFreeList slots first [] = first ≡ None
 IsFreeList slots first (i ∷ is) =
     (first ≡ Some i) × (i < length slots) × (entry_in (slice_index_or slots i no_slot) ≡ None) × IsAbsent i is × IsFreeList slots (id_of (slice_index_or slots i no_slot).line.next) is
 
--- the free list has each free slot
+-- the free list has each free slot, of at most 65,536 slots
 pub record IsFreeAll (slots : List Slot) (first : Option ℕ) (is : List ℕ) : Type 0 where
   pub list : IsFreeList slots first is
   pub all : length is ≡ free_count (map entry_in slots)
+  pub few : length slots ≤ 65536
 
 -- the free slots are on the free list
 abbrev pub HasFreeList : Inside → Type 0

@@ -17,6 +17,8 @@ impl Tables for SharedTables {
 
     ghost moment = { λ t. t.moment };
 
+    ghost pool = { λ t. length t.entries };
+
     fn has(&self, vid: Vid) -> bool {
         self.has_share(vid)
     }
@@ -33,6 +35,7 @@ impl Tables for SharedTables {
         ensures after { segments_of self.new ≡ segments_of self.old }
         ensures moment { self.new.moment ≡ self.old.moment }
         ensures calls { self.new.calls ≡ self.old.calls + 1 }
+        ensures pool { length self.new.entries ≡ length self.old.entries }
         ensures entries { self.new.entries ≡ self.old.entries }
         ensures compared { ComparesFew self.old self.new vid mac }
         ensures visited { VisitsFew self.old self.new now }
@@ -57,7 +60,7 @@ impl Tables for SharedTables {
             ≡ adjusted vid (learn_in now place mac) (aged_all now (segments_of self.old)) }
         ensures moment { self.new.moment ≡ now }
         ensures calls { self.new.calls ≡ self.old.calls + 1 }
-        ensures slots { length self.new.entries ≡ length self.old.entries }
+        ensures pool { length self.new.entries ≡ length self.old.entries }
         ensures compared { ComparesFew self.old self.new vid mac }
         ensures visited { VisitsFew self.old self.new now }
         ensures known { TellsAtMost 1 self.old self.new vid mac }
@@ -87,7 +90,7 @@ impl Tables for SharedTables {
             ≡ adjusted vid (fix_in place mac) (aged_all now (segments_of self.old)) }
         ensures moment { self.new.moment ≡ now }
         ensures calls { self.new.calls ≡ self.old.calls + 1 }
-        ensures slots { length self.new.entries ≡ length self.old.entries }
+        ensures pool { length self.new.entries ≡ length self.old.entries }
         ensures compared { ComparesFew self.old self.new vid mac }
         ensures visited { VisitsFew self.old self.new now }
         ensures known { TellsAtMost 0 self.old self.new vid mac }
@@ -120,7 +123,7 @@ impl Tables for SharedTables {
             ≡ adjusted vid (unfix_in mac) (aged_all now (segments_of self.old)) }
         ensures moment { self.new.moment ≡ now }
         ensures calls { self.new.calls ≡ self.old.calls + 1 }
-        ensures slots { length self.new.entries ≡ length self.old.entries }
+        ensures pool { length self.new.entries ≡ length self.old.entries }
         ensures compared { ComparesFew self.old self.new vid mac }
         ensures visited { self.new.visited ≡ self.old.visited }
         ensures comparisons_stay_counted { self.old.compared ≤ self.new.compared }
@@ -143,7 +146,7 @@ impl Tables for SharedTables {
             ≡ adjusted vid (flush_place_in place) (aged_all now (segments_of self.old)) }
         ensures moment { self.new.moment ≡ now }
         ensures calls { self.new.calls ≡ self.old.calls + 1 }
-        ensures slots { length self.new.entries ≡ length self.old.entries }
+        ensures pool { length self.new.entries ≡ length self.old.entries }
         ensures compared { self.new.compared ≡ self.old.compared }
         ensures visited { self.new.visited ≡ self.old.visited }
         ensures paid { Pays self.old self.new }
@@ -159,7 +162,7 @@ impl Tables for SharedTables {
             ≡ adjusted vid flush_in (aged_all now (segments_of self.old)) }
         ensures moment { self.new.moment ≡ now }
         ensures calls { self.new.calls ≡ self.old.calls + 1 }
-        ensures slots { length self.new.entries ≡ length self.old.entries }
+        ensures pool { length self.new.entries ≡ length self.old.entries }
         ensures compared { self.new.compared ≡ self.old.compared }
         ensures visited { self.new.visited ≡ self.old.visited }
         ensures paid { Pays self.old self.new }
@@ -177,7 +180,7 @@ impl Tables for SharedTables {
             ≡ adjusted vid (set_ageing_in now seconds) (aged_all now (segments_of self.old)) }
         ensures moment { self.new.moment ≡ now }
         ensures calls { self.new.calls ≡ self.old.calls + 1 }
-        ensures slots { length self.new.entries ≡ length self.old.entries }
+        ensures pool { length self.new.entries ≡ length self.old.entries }
         ensures compared { self.new.compared ≡ self.old.compared }
         ensures visited { VisitsFew self.old self.new now }
         ensures visits_stay_counted { self.old.visited ≤ self.new.visited }
@@ -196,7 +199,7 @@ impl Tables for SharedTables {
         ensures after { segments_of self.new ≡ aged_all now (segments_of self.old) }
         ensures moment { self.new.moment ≡ now }
         ensures calls { self.new.calls ≡ self.old.calls + 1 }
-        ensures slots { length self.new.entries ≡ length self.old.entries }
+        ensures pool { length self.new.entries ≡ length self.old.entries }
         ensures compared { self.new.compared ≡ self.old.compared }
         ensures visited { VisitsFew self.old self.new now }
         ensures visits_stay_counted { self.old.visited ≤ self.new.visited }

@@ -1,8 +1,9 @@
 //! How entries come, stay and go: each step over the slots of one segment.
-ghost use Rattle.std.specs.Prelude.{◌≡◌, ℕ, IsSome, Some, None, Option};
+ghost use Rattle.std.specs.Prelude.{◌≡◌, ℕ, ◌<◌, ◌≤◌, IsSome, Some, None, Option};
 ghost use Rattle.shared_tables.specs.Pool.{entry_at};
 ghost use Rattle.shared_tables.specs.Threads.{IsHeld};
-ghost use Rattle.shared_tables.specs.Shared.{rule_at, Lacks, IsNow, span_of, Sweeps, IsOf, Admits, Relearns, Flushes};
+ghost use Rattle.shared_tables.specs.Shared.{rule_at, Lacks, IsNow, span_of, Sweeps, IsOf, Admits, Relearns, Flushes, kept_count};
+ghost use Rattle.shared_tables.specs.Standing.{Empties};
 
 use crate::SharedTables;
 use crate::slots::SlotId;
@@ -33,6 +34,28 @@ pub fn flush(tables: &mut SharedTables, vid: Vid)
     }
 }
 
+/// Lets all entries of a segment go, fixed ones too.
+pub fn empty(tables: &mut SharedTables, vid: Vid)
+    requires { IsSome (rule_at tables.old.rules vid) }
+    ensures { Empties tables.old tables.new vid }
+{
+    flush(tables, vid);
+    while let Some(slot) = tables.first_fixed(vid) {
+        tables.release(vid, slot);
+    }
+}
+
+/// Lets all entries of a segment go, if more of them are kept than a limit.
+pub fn fit(tables: &mut SharedTables, vid: Vid, limit: u32)
+    requires { IsSome (rule_at tables.old.rules vid) }
+    ensures within { kept_count vid tables.old.entries ≤ limit → tables.new ≡ tables.old }
+    ensures above { limit < kept_count vid tables.old.entries → Empties tables.old tables.new vid }
+{
+    if tables.kept(vid) > limit {
+        empty(tables, vid);
+    }
+}
+
 /// Makes an entry for an address that no slot holds; false where the segment has no room for it.
 pub fn admit(tables: &mut SharedTables, vid: Vid, mac: Mac, place: Place, last: Option<u64>) -> bool
     requires rule { IsSome (rule_at tables.old.rules vid) }
@@ -41,7 +64,7 @@ pub fn admit(tables: &mut SharedTables, vid: Vid, mac: Mac, place: Place, last: 
     ensures { Admits tables.old tables.new vid (span_of (rule_at tables.old.rules vid)) (record { vid = vid; mac = mac; place = place; last = last }) result }
 {
     sweep(tables, vid);
-    if tables.kept(vid) >= tables.limit(vid) {
+    if tables.kept(vid) >= tables.most(vid) {
         return false;
     }
     tables.enter(vid, mac, place, last);

@@ -1,10 +1,10 @@
 //! The tables of all segments, all entries in one array of slots, with counts of the work that each call does.
 //!
-//! [`SharedTables`] answers each call of [`filter_db::Tables`] as a list for each segment would. The slots are reserved
-//! when the tables are opened. Chains of slots over VID and address find an address, for each segment an age queue
-//! finds what is dead (IEEE 802.1Q, 8.8.3), and a free list finds a slot: no other call takes memory, and no segment
-//! takes a slot that another's limit promises. Contracts see how often an
-//! address was compared with a slot's, and how often an entry's age was told.
+//! [`SharedTables`] answers each call of [`filter_db::Tables`] as a list for each segment would, and those of
+//! [`filter_db::PoolTables`]: segments come, go and get other limits. The slots are reserved when the tables are opened.
+//! Chains of slots over VID and address find an address, for each segment an age queue finds what is dead (IEEE 802.1Q,
+//! 8.8.3), and a free list finds a slot: no other call takes memory, and no segment takes a slot that another's limit
+//! promises. Contracts see how often an address was compared with a slot's, and how often an entry's age was told.
 #![tactic(auto)]
 
 mod bucket;
@@ -14,9 +14,11 @@ mod entries;
 pub mod laws;
 mod learning;
 mod opening;
+mod pool_calls;
 mod share;
 mod shared_tables;
 mod slots;
+mod standing;
 #[cfg(test)]
 mod tests;
 mod threads;

@@ -28,6 +28,8 @@ use std::marker::Model;
 use std::test::Fail;
 use work_count::Count;
 
+mod standing;
+
 /// The tables of all segments, in one pool of slots. No call but `open` takes memory.
 #[derive(Drop)]
 pub struct SharedTables {
@@ -187,7 +189,7 @@ impl SharedTables {
     }
 
     /// The limit of a segment.
-    pub(crate) fn limit(&self, vid: Vid) -> u32
+    pub(crate) fn most(&self, vid: Vid) -> u32
         requires { IsSome (rule_at self.now.rules vid) }
         ensures { IfSome (rule_at self.now.rules vid) (λ rule. result ≡ rule.limit) }
     {

@@ -290,6 +290,13 @@ impl Slots {
         })
     }
 
+    /// How many slots there are.
+    pub fn size(&self) -> u32
+        ensures { result ≡ length self.now.entries }
+    {
+        self.slots.len() as u32
+    }
+
     /// Whether a slot holds this address of this segment. It is the only way to compare an address with a slot's.
     pub fn same(&mut self, slot: SlotId, vid: Vid, mac: Mac) -> bool
         requires in_pool { slot < length self.old.entries }

@@ -38,11 +38,11 @@ set_each P xs i x there others here d k lt = by (k == i) refl
         let apart : k ≢ i = eqb-false k i is in
         rw (get_or-set_other xs i k x d apart) (others d k (omega (arith, lt, length-set xs i x)) apart)
 
-ports_as_many : (place : Tap) (ports new : List Stream) (underlay new_underlay s : Stream) → IsChangedAt place ports underlay new new_underlay s → length new ≡ length ports
+pub ports_as_many : (place : Tap) (ports new : List Stream) (underlay new_underlay s : Stream) → IsChangedAt place ports underlay new new_underlay s → length new ≡ length ports
 ports_as_many (Port port) ports new underlay new_underlay s h = ap length h.0 ∙ length-set ports (port - 1) s
 ports_as_many Underlay ports new underlay new_underlay s h = ap length h.0
 
-changed_here : (n index : ℕ) (place other : Tap) (ports new : List Stream) (underlay new_underlay s : Stream) → n ≡ length ports → IsAt n index place → IsAt n index other
+pub changed_here : (n index : ℕ) (place other : Tap) (ports new : List Stream) (underlay new_underlay s : Stream) → n ≡ length ports → IsAt n index place → IsAt n index other
     → IsChangedAt place ports underlay new new_underlay s → source_at new new_underlay other ≡ s
 changed_here n index (Port p) (Port q) ports new underlay new_underlay s many at also h =
     let same : q - 1 ≡ p - 1 = omega (arith, at.0, also.0) in
@@ -51,7 +51,7 @@ changed_here n index (Port p) Underlay ports new underlay new_underlay s many at
 changed_here n index Underlay (Port q) ports new underlay new_underlay s many at also h = absurd (omega (arith, also.0, also.2, at))
 changed_here n index Underlay Underlay ports new underlay new_underlay s many at also h = h.1
 
-unchanged : (n index i : ℕ) (place other : Tap) (ports new : List Stream) (underlay new_underlay s : Stream) → n ≡ length ports → IsAt n index place → IsAt n i other → i ≢ index
+pub unchanged : (n index i : ℕ) (place other : Tap) (ports new : List Stream) (underlay new_underlay s : Stream) → n ≡ length ports → IsAt n index place → IsAt n i other → i ≢ index
     → IsChangedAt place ports underlay new new_underlay s → source_at new new_underlay other ≡ source_at ports underlay other
 unchanged n index i (Port p) (Port q) ports new underlay new_underlay s many at also apart h =
     rw (h.0, h.1) (get_or-set_other ports (p - 1) (q - 1) s underlay (λ e. apart (omega (arith, e, at.0, at.1, also.0, also.1))))
@@ -62,11 +62,11 @@ unchanged n index i Underlay Underlay ports new underlay new_underlay s many at 
 
 -- ---- the next event
 
-lends_where : (next : Option ℕ) (s : Stream) (latest : ℕ) (r : Option Record) → lent s.standing ≡ r → next ≡ option_map (λ (r : Record). max r.moment latest) r → LendsWhere next s
+pub lends_where : (next : Option ℕ) (s : Stream) (latest : ℕ) (r : Option Record) → lent s.standing ≡ r → next ≡ option_map (λ (r : Record). max r.moment latest) r → LendsWhere next s
 lends_where next s latest None lends is = rw is tt
 lends_where next s latest (Some r) lends is = rw (is, lends) refl
 
-no_sooner : (next : Option ℕ) (latest : ℕ) (r : Option Record) → next ≡ option_map (λ (r : Record). max r.moment latest) r → IsNoSooner latest next
+pub no_sooner : (next : Option ℕ) (latest : ℕ) (r : Option Record) → next ≡ option_map (λ (r : Record). max r.moment latest) r → IsNoSooner latest next
 no_sooner next latest None is = rw is tt
 no_sooner next latest (Some r) is = rw is (omega arith)
 
@@ -108,7 +108,7 @@ pub record IsAsked (changes : List TimedChange) (index done latest : ℕ) (ports
   pub here : (place : Tap) → IsAt (length ports) index place → LendsWhere turn.next (source_at new new_underlay place)
   pub elsewhere : (place : Tap) (i : ℕ) → IsAt (length ports) i place → i ≢ index → source_at new new_underlay place ≡ source_at ports underlay place
 
-never_change : (n : ℕ) (place : Tap) → IsAt n 0 place → ⊥
+pub never_change : (n : ℕ) (place : Tap) → IsAt n 0 place → ⊥
 never_change n (Port p) at = omega (arith, at.0, at.1)
 never_change n Underlay at = omega (arith, at)
 
@@ -217,12 +217,12 @@ quiet_set : (ports : List Stream) (i : ℕ) (s d : Stream) → i < length ports 
 quiet_set ports i s d there same =
     map-set failures_of ports i s ∙ ap (slice_set (map failures_of ports) i) (same ∙ sym (get_or-map failures_of ports i d (failures_of d) there)) ∙ set-get_or (map failures_of ports) i (failures_of d)
 
-quiet_at : (place : Tap) (index : ℕ) (ports new : List Stream) (underlay new_underlay s : Stream) → IsAt (length ports) index place → IsChangedAt place ports underlay new new_underlay s
+pub quiet_at : (place : Tap) (index : ℕ) (ports new : List Stream) (underlay new_underlay s : Stream) → IsAt (length ports) index place → IsChangedAt place ports underlay new new_underlay s
     → failures_of s ≡ failures_of (source_at ports underlay place) → AreQuiet ports underlay new new_underlay
 quiet_at (Port p) index ports new underlay new_underlay s at h same = record { ports = ap (map failures_of) h.0 ∙ quiet_set ports (p - 1) s underlay (omega (arith, at.1, at.2)) same; underlay = ap failures_of h.1 }
 quiet_at Underlay index ports new underlay new_underlay s at h same = record { ports = ap (map failures_of) h.0; underlay = ap failures_of h.1 ∙ same }
 
-gave_up : (place : Tap) (index : ℕ) (ports new : List Stream) (underlay new_underlay s : Stream) → IsAt (length ports) index place → IsChangedAt place ports underlay new new_underlay s
+pub gave_up : (place : Tap) (index : ℕ) (ports new : List Stream) (underlay new_underlay s : Stream) → IsAt (length ports) index place → IsChangedAt place ports underlay new new_underlay s
     → GivesUp (source_at ports underlay place).supply s.supply → GivesUpAt place ports underlay new new_underlay
 gave_up (Port p) index ports new underlay new_underlay s at h up =
     λ d. (at.1, at.2, rw (h.0, get_or-set_same ports (p - 1) s d (omega (arith, at.1, at.2)), get_or_default ports (p - 1) d underlay (omega (arith, at.1, at.2))) up)

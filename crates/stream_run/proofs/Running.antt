@@ -1,18 +1,25 @@
 -- Many events, one after another.
-use Rattle.std.proofs.Common.{◌≡◌, ◌∙◌, refl, sym, ap, subst, ℕ, ◌+◌, ◌-◌, ◌<◌, ◌⊎◌, slice_index_or, List, [], ◌∷◌, ◌++◌, length, map, arith, Ok, Err, length-append}
+use Rattle.std.proofs.Common.{◌≡◌, ◌∙◌, refl, sym, ap, subst, ℕ, ◌+◌, ◌-◌, ◌<◌, ◌≤◌, ◌⊎◌, slice_index_or, List, [], ◌∷◌, ◌++◌, length, map, arith, append_assoc, append-nil, None, Result, Ok, Err, length-append}
 use Rattle.overlay_settings.specs.declared.change.Change.{Change}
 use Rattle.overlay_settings.specs.declared.change.TimedChange.{TimedChange}
+use Rattle.timeline.specs.Order.{IsRising, merged}
 use Rattle.timeline.specs.declared.event.Event.{Event}
 use Rattle.endpoint_core.specs.Step.{State, after, answer, state_after}
 use Rattle.capture_run.specs.Outputs.{Outputs, event_of}
 use Rattle.capture_run.specs.Writing.{with_event, with_events}
+use Rattle.capture_run.specs.declared.fault.RunFault.{RunFault}
+use Rattle.capture_run.specs.declared.fault.RunFault.TheVariants as faults
 use Rattle.pcap_stream.specs.Source.{Stream}
+use Rattle.stream_run.specs.Coming.{coming, source_events}
 use Rattle.stream_run.specs.Read.{AreQuiet, GivesUpAt, failures_of}
 use Rattle.stream_run.specs.Stage.{Drains, StandAt, StandBetween}
-use Rattle.stream_run.specs.Steps.{AreReady, IsRunOn, IsStep, Run, changes_of, texts_behind}
+use Rattle.stream_run.specs.Steps.{AreFirst, AreRead, AreReady, EndsIn, Fetches, IsRunOn, IsStep, Run, changes_of, texts_behind}
 use Rattle.stream_run.specs.declared.fault.StreamFault.{StreamFault}
 use Rattle.stream_run.specs.declared.fault.StreamFault.TheVariants as stream
 use Rattle.stream_run.specs.declared.turn.First.{First}
+use Rattle.stream_run.specs.declared.turn.Turn.{Turn}
+use Rattle.stream_run.proofs.Merging.{none_left}
+use Rattle.stream_run.proofs.Telling.{are_ahead}
 use Rattle.timeline.specs.declared.source.Tap.{Tap}
 use Rattle.timeline.specs.declared.source.Tap.TheVariants.{Port, Underlay}
 use Rattle.std.proofs.lemmas.List.{get_or-map, length-map}
@@ -32,17 +39,48 @@ state_snoc : (cs : List Change) (s : State) (es : List Event) (e : Event) → st
 state_snoc cs s [] e = refl
 state_snoc cs s (f ∷ es) e = state_snoc cs (after s (event_of cs f)) es e
 
+-- the moment of the last of some events, or this one
+abbrev pub latest_of : ℕ → List Event → ℕ
+latest_of m [] = m
+latest_of m (e ∷ es) = latest_of e.moment es
+
+rising_snoc : (m : ℕ) (es : List Event) (e : Event) → IsRising m es → latest_of m es ≤ e.moment → IsRising m (es ++ e ∷ [])
+rising_snoc m [] e h le = (le, tt)
+rising_snoc m (f ∷ es) e h le = (h.0, rising_snoc f.moment es e h.1 le)
+
+latest_snoc : (m : ℕ) (es : List Event) (e : Event) → latest_of m (es ++ e ∷ []) ≡ e.moment
+latest_snoc m [] e = refl
+latest_snoc m (f ∷ es) e = latest_snoc f.moment es e
+
+-- the captures hold these octets: the events are the first of those that were to come, and the others are still to come
+pub record IsUpTo (changes : List TimedChange) (texts : List (List ℕ)) (text : List ℕ) (old now : Run) (es : List Event) : Type 0 where
+  pub read : AreRead texts text now.turns now.ports now.underlay
+  pub first : coming changes texts text old.turns ≡ es ++ coming changes texts text now.turns
+
 -- how far a run has come
 pub record HasRun (changes : List TimedChange) (old now : Run) : Type 0 where
   pub es : List Event
   pub number : now.number ≡ length es
   pub state : now.state ≡ state_after old.state (map (event_of (changes_of changes)) es)
   pub ready : AreReady changes now
+  pub rising : IsRising old.state.moment es
+  pub latest : now.state.moment ≡ latest_of old.state.moment es
   pub quiet : AreQuiet old.ports old.underlay now.ports now.underlay
+  pub told : (texts : List (List ℕ)) (text : List ℕ) → AreRead texts text old.turns old.ports old.underlay → IsUpTo changes texts text old now es
   pub outputs : (start : Drains) (o : Outputs) → StandAt start old.drains o → StandAt start now.drains (texts_behind changes old.state o es)
 
 pub run_begins : (changes : List TimedChange) (old : Run) → old.number ≡ 0 → AreReady changes old → HasRun changes old old
-run_begins changes old none ready = record { es = []; number = none; state = refl; ready = ready; quiet = record { ports = refl; underlay = refl }; outputs = λ start o at. at }
+run_begins changes old none ready = record {
+  es = [];
+  number = none;
+  state = refl;
+  ready = ready;
+  rising = tt;
+  latest = refl;
+  quiet = record { ports = refl; underlay = refl };
+  told = λ texts text read. record { read = read; first = refl };
+  outputs = λ start o at. at;
+}
 
 -- the texts behind one event more
 one_more : (changes : List TimedChange) (old now : Run) (has : HasRun changes old now) (e : Event) (o : Outputs)
@@ -51,7 +89,17 @@ one_more changes old now has e o =
     events_snoc (changes_of changes) 0 (now.number + 1) old.state o has.es e (omega (arith, has.number))
     ∙ ap (λ s. with_event (changes_of changes) (now.number + 1) (texts_behind changes old.state o has.es) e (answer s (event_of (changes_of changes) e))) (sym has.state)
 
-quiet_on : (a b c : List Stream) (x y z : Stream) → AreQuiet a x b y → AreQuiet b y c z → AreQuiet a x c z
+-- it comes no sooner than the others
+rises_on : (changes : List TimedChange) (old now new : Run) (first : First) (result : Result (Unit {0}) StreamFault) (has : HasRun changes old now) (step : IsStep changes now new first result)
+    → IsRising old.state.moment (has.es ++ step.e ∷ [])
+rises_on changes old now new first result has step = rising_snoc old.state.moment has.es step.e has.rising (omega (arith, has.latest, step.time))
+
+-- it is the first of those that were still to come
+comes_next : (changes : List TimedChange) (texts : List (List ℕ)) (text : List ℕ) (old now : Run) (es rest : List Event) (e : Event) → IsUpTo changes texts text old now es
+    → coming changes texts text now.turns ≡ e ∷ rest → coming changes texts text old.turns ≡ (es ++ e ∷ []) ++ rest
+comes_next changes texts text old now es rest e up_to is = up_to.first ∙ ap (λ l. es ++ l) is ∙ sym (append_assoc es (e ∷ []) rest)
+
+pub quiet_on : (a b c : List Stream) (x y z : Stream) → AreQuiet a x b y → AreQuiet b y c z → AreQuiet a x c z
 quiet_on a b c x y z p q = record { ports = q.ports ∙ p.ports; underlay = q.underlay ∙ p.underlay }
 
 pub run_steps : (changes : List TimedChange) (old now new : Run) (first : First) → HasRun changes old now → IsStep changes now new first (Ok tt) → HasRun changes old new
@@ -60,7 +108,13 @@ run_steps changes old now new first has step = record {
   number = step.number ∙ ap (λ n. n + 1) has.number ∙ sym (length-append has.es (step.e ∷ []));
   state = step.state ∙ ap (λ s. after s (event_of (changes_of changes) step.e)) has.state ∙ sym (state_snoc (changes_of changes) old.state has.es step.e);
   ready = step.ready;
+  rising = rises_on changes old now new first (Ok tt) has step;
+  latest = ap (λ (s : State). s.moment) step.state ∙ sym (latest_snoc old.state.moment has.es step.e);
   quiet = quiet_on old.ports now.ports new.ports old.underlay now.underlay new.underlay has.quiet step.reads;
+  told = λ texts text read.
+      let up_to = has.told texts text read in
+      let came = step.told texts text up_to.read in
+      record { read = came.fetched.0; first = comes_next changes texts text old now has.es (coming changes texts text new.turns) step.e up_to (came.first ∙ ap (λ l. step.e ∷ l) came.fetched.1) };
   outputs = λ start o at. subst (StandAt start new.drains) (sym (one_more changes old now has step.e o)) (step.outputs start (texts_behind changes old.state o has.es) (has.outputs start o at));
 }
 
@@ -74,7 +128,7 @@ same_failures old now i d there same =
 gives_up_from : (old now new : Supply) → now.failures ≡ old.failures → GivesUp now new → GivesUp old new
 gives_up_from old now new same up = subst (λ n. GoesOnBy 1 n new.failures ⊎ ((new.failures ≡ n) × (new.reads ≡ 0))) same up
 
-gives_up_on : (place : Tap) (a b c : List Stream) (x y z : Stream) → AreQuiet a x b y → GivesUpAt place b y c z → GivesUpAt place a x c z
+pub gives_up_on : (place : Tap) (a b c : List Stream) (x y z : Stream) → AreQuiet a x b y → GivesUpAt place b y c z → GivesUpAt place a x c z
 gives_up_on (Port p) a b c x y z quiet up = λ d.
     let h = up d in
     let there : p - 1 < length b = omega (arith, h.0, h.1) in (
@@ -84,24 +138,99 @@ gives_up_on (Port p) a b c x y z quiet up = λ d.
     )
 gives_up_on Underlay a b c x y z quiet up = gives_up_from x.supply y.supply z.supply quiet.underlay up
 
+-- at a fault the event stands behind the others
+stops_at : (changes : List TimedChange) (texts : List (List ℕ)) (text : List ℕ) (old now new : Run) (first : First) (fault : StreamFault) (has : HasRun changes old now) (step : IsStep changes now new first (Err fault))
+    → AreRead texts text old.turns old.ports old.underlay
+    → ((rest : List Event) → Fetches {T = Unit {0}} changes texts text rest step.e new (Err fault) → EndsIn {T = Unit {0}} texts text (has.es ++ step.e ∷ []) rest new (Err fault))
+    → AreFirst changes texts text old new (has.es ++ step.e ∷ []) [] (Err fault)
+stops_at changes texts text old now new first fault has step read ends =
+    let up_to = has.told texts text read in
+    let came = step.told texts text up_to.read in
+    record { rest = came.rest; first = comes_next changes texts text old now has.es came.rest step.e up_to came.first; ends = ends came.rest came.fetched }
+
+-- so it is with a capture that isn't read on
+stops_run : (changes : List TimedChange) (texts : List (List ℕ)) (text : List ℕ) (new : Run) (es rest : List Event) (e : Event) (f : RunFault)
+    → Fetches {T = Unit {0}} changes texts text rest e new (Err (stream.Run f)) → EndsIn {T = Unit {0}} texts text (es ++ e ∷ []) rest new (Err (stream.Run f))
+stops_run changes texts text new es rest e (faults.Record place n f) h = (h.0, record { others = es; last = e; ends = refl; is_before = h.1 })
+stops_run changes texts text new es rest e (faults.Settings f) h = absurd h
+stops_run changes texts text new es rest e (faults.Changes f) h = absurd h
+stops_run changes texts text new es rest e faults.PortCount h = absurd h
+stops_run changes texts text new es rest e (faults.Capture place f) h = absurd h
+stops_run changes texts text new es rest e faults.OutOfMemory h = absurd h
+
 pub run_stops : (changes : List TimedChange) (old now new : Run) (first : First) (fault : StreamFault) → HasRun changes old now → IsStep changes now new first (Err fault) → IsRunOn changes old new (Err fault)
 run_stops changes old now new first (stream.Write target) has step = record {
   es = has.es;
+  more = step.e ∷ [];
+  part = (step.e, refl);
+  rising = rises_on changes old now new first (Err (stream.Write target)) has step;
   outputs = λ start o at.
       let lead = step.outputs start (texts_behind changes old.state o has.es) (has.outputs start o at) in
-      (step.e, subst (StandBetween start new.drains (texts_behind changes old.state o has.es)) (sym (one_more changes old now has step.e o)) lead.0, lead.1);
+      (subst (StandBetween start new.drains (texts_behind changes old.state o has.es)) (sym (one_more changes old now has step.e o)) lead.0, lead.1);
   reads = quiet_on old.ports now.ports new.ports old.underlay now.underlay new.underlay has.quiet step.reads;
   over = tt;
+  ready = tt;
+  told = λ texts text read.
+      let up_to = has.told texts text read in
+      let came = step.told texts text up_to.read in
+      record { rest = came.rest; first = up_to.first ∙ ap (λ l. has.es ++ l) came.first; ends = tt };
 }
 run_stops changes old now new first (stream.Run f) has step = record {
   es = has.es ++ step.e ∷ [];
+  more = [];
+  part = refl;
+  rising = rw (append-nil (has.es ++ step.e ∷ [])) (rises_on changes old now new first (Err (stream.Run f)) has step);
   outputs = λ start o at. subst (StandAt start new.drains) (sym (one_more changes old now has step.e o)) (step.outputs start (texts_behind changes old.state o has.es) (has.outputs start o at));
   reads = quiet_on old.ports now.ports new.ports old.underlay now.underlay new.underlay has.quiet step.reads;
   over = tt;
+  ready = tt;
+  told = λ texts text read. stops_at changes texts text old now new first (stream.Run f) has step read (λ rest h. stops_run changes texts text new has.es rest step.e f h);
 }
 run_stops changes old now new first (stream.Read place) has step = record {
   es = has.es ++ step.e ∷ [];
+  more = [];
+  part = refl;
+  rising = rw (append-nil (has.es ++ step.e ∷ [])) (rises_on changes old now new first (Err (stream.Read place)) has step);
   outputs = λ start o at. subst (StandAt start new.drains) (sym (one_more changes old now has step.e o)) (step.outputs start (texts_behind changes old.state o has.es) (has.outputs start o at));
   reads = gives_up_on place old.ports now.ports new.ports old.underlay now.underlay new.underlay has.quiet step.reads;
   over = tt;
+  ready = tt;
+  told = λ texts text read. stops_at changes texts text old now new first (stream.Read place) has step read (λ rest h. tt);
+}
+
+-- ---- where it ends
+
+-- nothing of its sources is left
+pub run_ends : (changes : List TimedChange) (old now : Run) → HasRun changes old now → ((t : Turn) (k : ℕ) → k < length now.turns → (slice_index_or now.turns k t).next ≡ None) → IsRunOn changes old now (Ok tt)
+run_ends changes old now has none = record {
+  es = has.es;
+  more = [];
+  part = refl;
+  rising = rw (append-nil has.es) has.rising;
+  outputs = has.outputs;
+  reads = has.quiet;
+  over = none;
+  ready = has.ready;
+  told = λ texts text read.
+      let up_to = has.told texts text read in
+      let ahead = are_ahead changes texts text now.turns now.ports now.underlay has.ready.size has.ready.timely has.ready.change up_to.read in
+      record {
+        rest = coming changes texts text now.turns;
+        first = up_to.first;
+        ends = (ap merged (none_left now.turns (source_events changes texts text) ahead none), up_to.read);
+      };
+}
+
+-- it may be the want of numbers
+pub run_breaks : (changes : List TimedChange) (old now : Run) → HasRun changes old now → IsRunOn changes old now (Err (stream.Run faults.OutOfMemory))
+run_breaks changes old now has = record {
+  es = has.es;
+  more = [];
+  part = refl;
+  rising = rw (append-nil has.es) has.rising;
+  outputs = has.outputs;
+  reads = has.quiet;
+  over = tt;
+  ready = tt;
+  told = λ texts text read. record { rest = coming changes texts text now.turns; first = (has.told texts text read).first; ends = tt };
 }

@@ -5,4 +5,9 @@ pub mod Turns
 pub mod Fault
 pub mod Read
 pub mod Fetched
+pub mod Coming
 pub mod Steps
+pub mod Begun
+pub mod Cuts
+pub mod Left
+pub mod Over

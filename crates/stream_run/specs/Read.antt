@@ -1,5 +1,6 @@
 -- How far the captures of a run are read.
 --     StandsBehind      so many records of a source were events, and the next one is lent
+--     IsRead      the same, as a turn counts them
 --     ReadsWith      no read failed, or just one, where a source gave up
 use Rattle.std.specs.Prelude.{◌≡◌, ◌≢◌, ◌<◌, ◌≤◌, ℕ, ◌+◌, ◌-◌, max, List, [], ◌∷◌, ◌++◌, length, map, slice_index_or, Option, Some, None, Result, Ok, Err}
 use Rattle.pcap_io.specs.Capture.{opened}
@@ -14,6 +15,7 @@ use Rattle.timeline.specs.declared.source.Tap.{Tap}
 use Rattle.timeline.specs.declared.source.Tap.TheVariants as taps
 use Rattle.stream_run.specs.declared.fault.StreamFault.{StreamFault}
 use Rattle.stream_run.specs.declared.fault.StreamFault.TheVariants as stream
+use Rattle.stream_run.specs.declared.turn.Turn.{Turn}
 
 -- behind n - 1 whole records of a capture stands one with this fault
 pub record IsFaulty (octets : List ℕ) (n : ℕ) (fault : RecordFault) : Type 0 where
@@ -39,6 +41,12 @@ pub record IsDone (octets : List ℕ) (done : List Record) (s : Stream) : Type 0
 abbrev pub StandsBehind : List ℕ → List Record → Option ℕ → Stream → Type 0
 StandsBehind octets done (Some moment) s = (r : Record) × (moment ≡ max r.moment (greatest done)) × Lends octets done r s
 StandsBehind octets done None s = IsDone octets done s
+
+-- so many of its records came, and the turn tells the moment of the next one
+pub record IsRead (octets : List ℕ) (t : Turn) (s : Stream) : Type 0 where
+  pub done : List Record
+  pub count : t.done ≡ length done
+  pub stands : StandsBehind octets done t.next s
 
 -- ---- the cause of a fault
 

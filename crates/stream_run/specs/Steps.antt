@@ -1,12 +1,16 @@
 -- The steps of a run.
 --     Run      what a run reads, writes and keeps
 --     AreReady      the next event of each source is known
+--     AreRead      the same, by the octets of the captures
 --     IsStep      one event, and the fetch behind it
+--     IsRunOn      many of them: by the octets, the first of those that were to come
 use Rattle.std.specs.Prelude.{◌≡◌, ◌<◌, ◌≤◌, ⊤, ℕ, ◌+◌, List, [], ◌∷◌, ◌++◌, length, map, slice_index_or, slice_get, Option, Some, None, option_map, Result, Ok, Err, OnOk, IsSome, slice_set, ◌-◌, ◌⊎◌}
 use Rattle.pcap_io.specs.Record.{Record, last_moment}
+use Rattle.pcap_io.specs.declared.record.RecordFault.{RecordFault}
 use Rattle.pcap_stream.specs.Source.{Stream, lent}
 use Rattle.overlay_settings.specs.declared.change.Change.{Change}
 use Rattle.overlay_settings.specs.declared.change.TimedChange.{TimedChange}
+use Rattle.timeline.specs.Order.{IsRising}
 use Rattle.timeline.specs.declared.event.Event.{Event}
 use Rattle.timeline.specs.declared.event.Happening.TheVariants as happenings
 use Rattle.timeline.specs.declared.source.Tap.{Tap}
@@ -14,8 +18,10 @@ use Rattle.timeline.specs.declared.source.Tap.TheVariants as taps
 use Rattle.endpoint_core.specs.Step.{State, after, answer}
 use Rattle.capture_run.specs.Outputs.{Outputs, event_of}
 use Rattle.capture_run.specs.Writing.{with_event, with_events}
+use Rattle.capture_run.specs.declared.fault.RunFault.TheVariants as faults
+use Rattle.stream_run.specs.Coming.{EndBefore, IsRecordBefore, coming}
 use Rattle.stream_run.specs.Fetched.{IsFetch, IsMoment}
-use Rattle.stream_run.specs.Read.{ReadsWith}
+use Rattle.stream_run.specs.Read.{IsFaulty, IsRead, ReadsWith}
 use Rattle.stream_run.specs.Stage.{Drains, FailedAt, Lead, StandAt, StandBetween}
 use Rattle.stream_run.specs.Turns.{IsNoSooner}
 use Rattle.stream_run.specs.declared.fault.StreamFault.{StreamFault}
@@ -77,6 +83,24 @@ pub record AreReady (changes : List TimedChange) (r : Run) : Type 0 where
   pub change : (t : Turn) → (slice_index_or r.turns 0 t).next ≡ moment_at changes (slice_index_or r.turns 0 t).done
   pub heads : (place : Tap) (index : ℕ) (t : Turn) → IsAt (length r.ports) index place → LendsWhere (slice_index_or r.turns index t).next (source_at r.ports r.underlay place)
 
+-- ---- the captures
+
+-- the octets of a capture
+abbrev pub octets_at : List (List ℕ) → List ℕ → Tap → List ℕ
+octets_at texts text (taps.Port port) = slice_index_or texts (port - 1) []
+octets_at texts text taps.Underlay = text
+
+-- the captures hold these octets: so many records of each were events, and the next one is lent
+pub record AreRead (texts : List (List ℕ)) (text : List ℕ) (turns : List Turn) (ports : List Stream) (underlay : Stream) : Type 0 where
+  pub many : length texts ≡ length ports
+  pub each : (place : Tap) (index : ℕ) (t : Turn) → IsAt (length ports) index place → IsRead (octets_at texts text place) (slice_index_or turns index t) (source_at ports underlay place)
+
+-- the record of this number of a capture has this fault
+pub record IsFaultyAt (texts : List (List ℕ)) (text : List ℕ) (place : Tap) (number : ℕ) (fault : RecordFault) : Type 0 where
+  pub index : ℕ
+  pub at : IsAt (length texts) index place
+  pub faulty : IsFaulty (octets_at texts text place) number fault
+
 -- ---- the events
 
 -- the event of a record at this moment, behind so many others of its capture
@@ -128,10 +152,26 @@ module _ {T : Type 0} where
   StepsTo start new texts next (Err (stream.Write target)) = StandBetween start new texts next × FailedAt target start new
   StepsTo start new texts next result = StandAt start new next
 
+module _ {T : Type 0} where
+  -- behind an event its source's next record is lent, or its fault is told; nothing else was wrong with the captures
+  abbrev pub Fetches : List TimedChange → List (List ℕ) → List ℕ → List Event → Event → Run → Result T StreamFault → Type 0
+  Fetches changes texts text rest e new (Ok x) = AreRead texts text new.turns new.ports new.underlay × (rest ≡ coming changes texts text new.turns)
+  Fetches changes texts text rest e new (Err (stream.Run (faults.Record place n fault))) = IsFaultyAt texts text place n fault × IsRecordBefore place n e
+  Fetches changes texts text rest e new (Err (stream.Run fault)) = ⊥
+  Fetches changes texts text rest e new (Err (stream.Read place)) = ⊤
+  Fetches changes texts text rest e new (Err (stream.Write target)) = ⊤
+
+-- the captures hold these octets: the event is the first of those that were to come, and the fetch goes on behind it
+pub record ComesFirst (changes : List TimedChange) (texts : List (List ℕ)) (text : List ℕ) (old new : Run) (e : Event) (result : Result (Unit {0}) StreamFault) : Type 0 where
+  pub rest : List Event
+  pub first : coming changes texts text old.turns ≡ e ∷ rest
+  pub fetched : Fetches changes texts text rest e new result
+
 -- an event came, and the next one of its source was asked for
 pub record IsStep (changes : List TimedChange) (old new : Run) (first : First) (result : Result (Unit {0}) StreamFault) : Type 0 where
   pub e : Event
   pub moment : e.moment ≡ first.moment
+  pub time : old.state.moment ≤ e.moment
   pub next : (t : Turn) → IsNextEvent old.ports old.underlay first.index (slice_index_or old.turns first.index t).done first.moment e
   pub state : new.state ≡ after old.state (event_of (changes_of changes) e)
   pub number : new.number ≡ old.number + 1
@@ -139,6 +179,7 @@ pub record IsStep (changes : List TimedChange) (old new : Run) (first : First) (
       → StepsTo start new.drains o (with_event (changes_of changes) (old.number + 1) o e (answer old.state (event_of (changes_of changes) e))) result
   pub ready : OnOk result (AreReady changes new)
   pub reads : ReadsWith old.ports old.underlay new.ports new.underlay result
+  pub told : (texts : List (List ℕ)) (text : List ℕ) → AreRead texts text old.turns old.ports old.underlay → ComesFirst changes texts text old new e result
 
 -- ---- many steps
 
@@ -146,16 +187,44 @@ pub record IsStep (changes : List TimedChange) (old new : Run) (first : First) (
 abbrev pub texts_behind : List TimedChange → State → Outputs → List Event → Outputs
 texts_behind changes s o es = with_events (changes_of changes) 0 s o es
 
--- the outputs hold the texts of all these events; where a write failed, also a part of those of one more, and the other
--- outputs a part of them too
-abbrev pub LeadsBehind : List TimedChange → State → Drains → Drains → Outputs → List Event → Result (Unit {0}) StreamFault → Type 0
-LeadsBehind changes s start new o es (Err (stream.Write target)) = (e : Event) × StandBetween start new (texts_behind changes s o es) (texts_behind changes s o (es ++ e ∷ [])) × FailedAt target start new
-LeadsBehind changes s start new o es result = StandAt start new (texts_behind changes s o es)
+module _ {T : Type 0} where
+  -- the outputs hold the texts of these events, and where a write failed a part of those of one event more, and the other
+  -- outputs a part of them too
+  abbrev pub LeadsBehind : List TimedChange → State → Drains → Drains → Outputs → List Event → List Event → Result T StreamFault → Type 0
+  LeadsBehind changes s start new o es more (Err (stream.Write target)) =
+      StandBetween start new (texts_behind changes s o es) (texts_behind changes s o (es ++ more)) × FailedAt target start new
+  LeadsBehind changes s start new o es more result = StandAt start new (texts_behind changes s o es)
+
+  -- the event of which a part was written: one where a write failed, and else none
+  abbrev pub IsPart : List Event → Result T StreamFault → Type 0
+  IsPart more (Err (stream.Write target)) = (e : Event) × (more ≡ e ∷ [])
+  IsPart more result = more ≡ []
+
+  -- a run over captures of these octets ends: with no event left, all records having come; at a record's fault, right
+  -- behind the record before it; or as a read, a write or the want of memory has it
+  abbrev pub EndsIn : List (List ℕ) → List ℕ → List Event → List Event → Run → Result T StreamFault → Type 0
+  EndsIn texts text es rest new (Ok x) = (rest ≡ []) × AreRead texts text new.turns new.ports new.underlay
+  EndsIn texts text es rest new (Err (stream.Run (faults.Record place n fault))) = IsFaultyAt texts text place n fault × EndBefore place n es
+  EndsIn texts text es rest new (Err (stream.Run faults.OutOfMemory)) = ⊤
+  EndsIn texts text es rest new (Err (stream.Run fault)) = ⊥
+  EndsIn texts text es rest new (Err (stream.Read place)) = ⊤
+  EndsIn texts text es rest new (Err (stream.Write target)) = ⊤
+
+-- the captures hold these octets: the events are the first of those that were to come
+pub record AreFirst (changes : List TimedChange) (texts : List (List ℕ)) (text : List ℕ) (old new : Run) (es more : List Event) (result : Result (Unit {0}) StreamFault) : Type 0 where
+  pub rest : List Event
+  pub first : coming changes texts text old.turns ≡ es ++ (more ++ rest)
+  pub ends : EndsIn texts text es rest new result
 
 -- some events came, one after another
 pub record IsRunOn (changes : List TimedChange) (old new : Run) (result : Result (Unit {0}) StreamFault) : Type 0 where
   pub es : List Event
-  pub outputs : (start : Drains) (o : Outputs) → StandAt start old.drains o → LeadsBehind changes old.state start new.drains o es result
+  pub more : List Event
+  pub part : IsPart more result
+  pub rising : IsRising old.state.moment (es ++ more)
+  pub outputs : (start : Drains) (o : Outputs) → StandAt start old.drains o → LeadsBehind changes old.state start new.drains o es more result
   pub reads : ReadsWith old.ports old.underlay new.ports new.underlay result
   -- and none is left
   pub over : OnOk result ((t : Turn) (k : ℕ) → k < length new.turns → (slice_index_or new.turns k t).next ≡ None)
+  pub ready : OnOk result (AreReady changes new)
+  pub told : (texts : List (List ℕ)) (text : List ℕ) → AreRead texts text old.turns old.ports old.underlay → AreFirst changes texts text old new es more result

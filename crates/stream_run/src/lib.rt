@@ -1,18 +1,25 @@
-//! The events of a run over streams: captures of any size, in the memory of one record each.
+//! Runs over streams: captures of any size, in the memory of one record each.
 //!
-//! [`put_events`] takes the records of its captures as they come from their `pcap_stream` sources, puts them and the
-//! changes in order of moment through an endpoint, and writes what comes of each event before it fetches the next record:
-//! records to the captures' sinks, its line to the decisions. Where it stops at a [`StreamFault`], what was written
-//! stands. A [`Turn`] says of each source how many of its events came, and when the next one does. Nothing is made or
-//! moved on the way of an event but what a `decision_lines` desk lends. The captures are opened, and their first records
-//! fetched by [`fetch_at`], by who calls.
+//! [`run_streams`] is a whole run. It reads the settings and the changes from their texts, opens the captures, which come
+//! as `pcap_stream` sources from which nothing was read yet, and writes the headers of its outputs. Then it takes the
+//! records of all captures and the changes in order of moment through an endpoint, and writes what comes of each event
+//! before it fetches the next record: records to the captures' sinks, its line to the decisions. The lines of cut captures
+//! come last. Wherever the inputs tell their octets, what it answers and writes is what `capture_run` tells of them, up to
+//! where a read or a write fails or memory is refused. Where it stops at a [`StreamFault`], what was written stands.
+//!
+//! [`open_capture`], [`fetch_at`], [`put_events`] and [`put_line`] are its parts. A [`Turn`] says of each source how many
+//! of its events came, and when the next one does. Nothing is made or moved on the way of an event but what a
+//! `decision_lines` desk lends.
 #![tactic(auto)]
 
+mod begin;
+mod cuts;
 mod fault;
 mod fetch;
 mod opening;
 mod order;
 mod put;
+mod run;
 mod step;
 mod take;
 mod turn;
@@ -21,5 +28,6 @@ pub use fault::{StreamFault, Target};
 pub use fetch::fetch_at;
 pub use opening::open_capture;
 pub use put::put_line;
+pub use run::run_streams;
 pub use step::put_events;
 pub use turn::Turn;

@@ -1,9 +1,9 @@
 -- The program's exit statuses.
-use Rattle.std.specs.Prelude.{◌≡◌, ◌≢◌, ◌⊎◌, ℕ, List, None, []}
+use Rattle.std.specs.Prelude.{◌≡◌, ◌≢◌, ◌≤◌, ◌⊎◌, ℕ, List, None, IsSomeAnd, []}
 use Rattle.clap.specs.Words.{IsAmong, Text, fault_of}
 use Rattle.clap.specs.declared.error.kind.ErrorKind.TheVariants.{DisplayHelp, DisplayVersion}
 use Rattle.command_line.specs.App.{tep_app}
-use Rattle.command_line.specs.Meaning.{words_meant}
+use Rattle.command_line.specs.Meaning.{ReadsInputOnce, input_uses, words_meant}
 use Rattle.dissector.specs.Status as run
 use Rattle.tep_program.specs.declared.stop.Stop.{Stop}
 use Rattle.tep_program.specs.declared.stop.Stop.TheVariants as stop
@@ -14,9 +14,14 @@ status_of (stop.Run fault) = run.status_of fault
 status_of (stop.Read name) = 3
 status_of (stop.Write output) = 3
 
--- words that `clap` doesn't take, among them those that ask for help, or that lack a value
+-- words that `clap` doesn't take, among them those that ask for help, that lack a value, or that ask for standard input
+-- more than once
 abbrev pub AreRefused : List Text → Type 0
-AreRefused words = (fault_of tep_app words ≢ []) ⊎ (words_meant words ≡ None)
+AreRefused words = (fault_of tep_app words ≢ []) ⊎ (words_meant words ≡ None) ⊎ IsSomeAnd (words_meant words) (λ meaning. 2 ≤ input_uses meaning)
+
+-- words that are taken, and ask for standard input once at most
+abbrev pub AreTaken : List Text → Type 0
+AreTaken words = (fault_of tep_app words ≡ []) × IsSomeAnd (words_meant words) ReadsInputOnce
 
 -- words that ask for help or for the version, which `clap` tells as a fault
 abbrev pub AskForText : List Text → Type 0
@@ -26,7 +31,7 @@ AskForText words = IsAmong DisplayHelp (fault_of tep_app words) ⊎ IsAmong Disp
 -- words that aren't; 3 as it comes
 abbrev pub IsStatusOf : List Text → ℕ → Type 0
 IsStatusOf words status =
-    ((status ≡ 0) × ((fault_of tep_app words ≡ []) ⊎ AskForText words))
+    ((status ≡ 0) × (AreTaken words ⊎ AskForText words))
     ⊎ (status ≡ 3)
-    ⊎ ((status ≡ 1) × (fault_of tep_app words ≡ []))
+    ⊎ ((status ≡ 1) × AreTaken words)
     ⊎ ((status ≡ 2) × AreRefused words)

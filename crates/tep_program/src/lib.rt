@@ -1,11 +1,14 @@
 //! The program `tep` from its words to its files, texts and exit status. What it works out stands in the library
-//! `dissector` and in `capture_run`; here are its words, its files and its exit statuses.
+//! `dissector` and in `stream_run`; here are its words, its files and its exit statuses.
 //!
 //! [`start`] gets the words of the process; [`run`] is handed them.
 #![tactic(auto)]
 
-mod files;
+mod inputs;
+mod names;
+mod outputs;
 mod program;
+mod runs;
 mod stop;
 
 pub use program::{run, start};

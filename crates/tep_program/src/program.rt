@@ -4,14 +4,16 @@ ghost use Rattle.clap.specs.Walk.{texts};
 ghost use Rattle.command_line.specs.Meaning.{HasDepth};
 ghost use Rattle.tep_program.specs.Status.{IsStatusOf, status_of};
 
-use crate::files::{read_file, read_files, read_if_given, write_outputs};
+use crate::inputs::{read_capture, read_file, read_if_given};
+use crate::names::Names;
+use crate::runs::run_on_files;
 use crate::stop::{Output, Stop};
-use capture_run::{RunFault, run_bytes};
+use capture_run::RunFault;
 use clap::error::ErrorKind as Refusal;
 use dissector::{Line, LineFault, check_text, explain_bytes, line_of, sample};
 use std::alloc::{AllocError, Global};
 use std::env;
-use std::io::{self, ErrorKind, Write};
+use std::io::{self, ErrorKind, Input, Write};
 use std::process::ExitCode;
 use std::rt::{Env, Files};
 
@@ -19,17 +21,17 @@ use std::rt::{Env, Files};
 const WORDS_REFUSED: u8 = 2;
 
 /// Gets the words of the process, and does what they ask for.
-pub fn start<R: Env + Files + AllocGlobal + Print + Eprint>(rt: &R) -> ExitCode {
+pub fn start<R: Env + Files + Input + AllocGlobal + Print + Eprint>(rt: &R) -> ExitCode {
     let status = match env::args(rt) {
         Ok(words) => status(rt, words),
         Err(error) if error.kind() == ErrorKind::OutOfMemory => Err(AllocError),
-        Err(_) => Ok(words_refused(rt)),
+        Err(_) => Ok(words_refused(rt, &LineFault::NoValue)),
     };
     ExitCode::from(status.unwrap_or_else(|error| stopped(rt, &Stop::from(error))))
 }
 
 /// The exit status, or that memory ran out before the words were read.
-fn status<R: Files + AllocGlobal + Print + Eprint>(
+fn status<R: Files + Input + AllocGlobal + Print + Eprint>(
     rt: &R,
     words: env::Args<Global>,
 ) -> Result<u8, AllocError> {
@@ -43,7 +45,7 @@ fn status<R: Files + AllocGlobal + Print + Eprint>(
 
 /// Does what the words ask for, the program's name first, and answers the exit status: 0 where it is done, 1 where a text
 /// or a capture is refused, 2 where the words are, and 3 for want of memory or a read or a write that failed.
-pub fn run<'a, R: Files + AllocGlobal + Print + Eprint>(rt: &R, words: &'a [&'a str]) -> u8
+pub fn run<'a, R: Files + Input + AllocGlobal + Print + Eprint>(rt: &R, words: &'a [&'a str]) -> u8
     ensures { IsStatusOf (texts words.entry.now) result }
 {
     match line_of(rt.alloc(), words) {
@@ -52,25 +54,26 @@ pub fn run<'a, R: Files + AllocGlobal + Print + Eprint>(rt: &R, words: &'a [&'a 
             Err(stop) => stopped(rt, &stop),
         },
         Err(LineFault::OutOfMemory) => stopped(rt, &Stop::Run(RunFault::OutOfMemory)),
-        Err(LineFault::NoValue) => words_refused(rt),
+        Err(LineFault::NoValue) => words_refused(rt, &LineFault::NoValue),
+        Err(LineFault::InputTwice) => words_refused(rt, &LineFault::InputTwice),
         Err(LineFault::Refused(error)) => {
-            let printed = error.print(rt);
+            let is_lost = is_lost(error.print(rt));
             match error.kind() {
-                Refusal::DisplayHelp | Refusal::DisplayVersion if printed.is_ok() => 0,
-                Refusal::DisplayHelp | Refusal::DisplayVersion => {
+                Refusal::DisplayHelp | Refusal::DisplayVersion if is_lost => {
                     stopped(rt, &Stop::Write(Output::Stdout))
                 }
+                Refusal::DisplayHelp | Refusal::DisplayVersion => 0,
                 _ => WORDS_REFUSED,
             }
         }
     }
 }
 
-/// Says that the words lack a value.
-fn words_refused(rt: &impl Eprint) -> u8
+/// Says why the words are refused.
+fn words_refused(rt: &impl Eprint, fault: &LineFault) -> u8
     ensures { result ≡ 2 }
 {
-    let _ = eprintln!(rt; "words");
+    let _ = eprintln!(rt; "{fault}");
     WORDS_REFUSED
 }
 
@@ -82,8 +85,11 @@ fn stopped(rt: &impl Eprint, stop: &Stop<'_>) -> u8
     stop.status()
 }
 
-/// Does what a line asks for. Nothing is written before all is read and worked out.
-fn perform<'a, R: Files + AllocGlobal + Print>(rt: &R, line: &Line<'a>) -> Result<(), Stop<'a>>
+/// Does what a line asks for.
+fn perform<'a, R: Files + Input + AllocGlobal + Print>(
+    rt: &R,
+    line: &Line<'a>,
+) -> Result<(), Stop<'a>>
     requires { HasDepth line.now }
 {
     match line {
@@ -95,7 +101,15 @@ fn perform<'a, R: Files + AllocGlobal + Print>(rt: &R, line: &Line<'a>) -> Resul
             underlay,
             out,
             ports,
-        } => run_on_files(rt, *settings, *changes, *underlay, *out, ports.as_slice()),
+        } => {
+            let names = Names {
+                settings: *settings,
+                changes: *changes,
+                underlay: *underlay,
+                ports: ports.as_slice(),
+            };
+            run_on_files(rt, names, *out)
+        }
         Line::Explain {
             settings,
             depth,
@@ -123,7 +137,7 @@ fn check<'a, R: Files + AllocGlobal + Print>(
 }
 
 /// Prints how the packets of a capture are made up, and what is decided of them.
-fn explain<'a, R: Files + AllocGlobal + Print>(
+fn explain<'a, R: Files + Input + AllocGlobal + Print>(
     rt: &R,
     settings: &'a str,
     depth: u8,
@@ -133,7 +147,7 @@ fn explain<'a, R: Files + AllocGlobal + Print>(
     requires high { depth ≤ 4 }
 {
     let settings = read_file(rt, settings)?;
-    let capture = read_file(rt, capture)?;
+    let capture = read_capture(rt, capture)?;
     let text = explain_bytes(
         rt.alloc(),
         settings.as_slice(),
@@ -143,32 +157,18 @@ fn explain<'a, R: Files + AllocGlobal + Print>(
     print_text(rt, text.as_slice())
 }
 
-/// Runs on files, and writes what comes out into a folder.
-fn run_on_files<'a, R: Files + AllocGlobal>(
-    rt: &R,
-    settings: &'a str,
-    changes: Option<&'a str>,
-    underlay: &'a str,
-    out: &str,
-    ports: &[&'a str],
-) -> Result<(), Stop<'a>> {
-    let settings = read_file(rt, settings)?;
-    let changes = read_if_given(rt, changes)?;
-    let underlay = read_file(rt, underlay)?;
-    let ports = read_files(rt, ports)?;
-    let outputs = run_bytes(
-        rt.alloc(),
-        settings.as_slice(),
-        changes.as_slice(),
-        ports.as_slice(),
-        underlay.as_slice(),
-    )?;
-    write_outputs(rt, out, &outputs)
-}
-
 /// Prints a text on standard output.
 fn print_text(rt: &impl Print, text: &[u8]) -> Result<(), Stop<'static>> {
-    io::writer(rt)
-        .write_all(text)
-        .map_err(|_| Stop::Write(Output::Stdout))
+    if is_lost(io::writer(rt).write_all(text)) {
+        return Err(Stop::Write(Output::Stdout));
+    }
+    Ok(())
+}
+
+/// Whether a text didn't come to standard output. Where its reader went away, it had enough of it, and nothing is lost.
+fn is_lost(printed: io::Result<()>) -> bool {
+    match printed {
+        Ok(()) => false,
+        Err(error) => error.kind() != ErrorKind::BrokenPipe,
+    }
 }

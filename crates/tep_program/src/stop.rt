@@ -1,11 +1,14 @@
 //! Why the program gives up.
 ghost use Rattle.std.specs.Prelude.{◌≡◌};
+ghost use Rattle.dissector.specs.Status.{stream_status_of};
 ghost use Rattle.tep_program.specs.Status.{status_of};
 
+use crate::names::Names;
 use capture_run::RunFault;
 use dissector::{TextFault, exit_code};
 use std::alloc::AllocError;
 use std::fmt;
+use stream_run::{StreamFault, Target};
 use thiserror::Error;
 
 /// Why the program gives up. It prints as one line on standard error.
@@ -55,6 +58,21 @@ impl<'a> Stop<'a> {
         match fault {
             TextFault::Read => Stop::Read(name),
             TextFault::OutOfMemory => Stop::Run(RunFault::OutOfMemory),
+        }
+    }
+
+    /// That a run over the captures of these names stopped.
+    pub fn running(names: Names<'_, 'a>, fault: StreamFault) -> Stop<'a>
+        ensures { status_of result ≡ stream_status_of fault }
+    {
+        match fault {
+            StreamFault::Run(fault) => Stop::Run(fault),
+            StreamFault::Read(tap) => Stop::Read(names.capture(tap)),
+            StreamFault::Write(Target::Port(number)) => {
+                Stop::Write(Output::Port(usize::from(number)))
+            }
+            StreamFault::Write(Target::Underlay) => Stop::Write(Output::Underlay),
+            StreamFault::Write(Target::Decisions) => Stop::Write(Output::Decisions),
         }
     }
 

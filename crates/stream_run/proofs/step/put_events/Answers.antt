@@ -1,5 +1,5 @@
 use Rattle.std.proofs.Common.{arith, ap, refl, ◌∙◌, ◌+◌}
-use Rattle.stream_run.proofs.Running.{run_begins, run_steps, run_stops}
+use Rattle.stream_run.proofs.Running.{run_begins, run_breaks, run_ends, run_steps, run_stops}
 use Rattle.stream_run.proofs.step.put_events.Goals as goal
 
 pub loop-count-init : goal.loop-count-init
@@ -20,10 +20,10 @@ loop-count-preserved g c =
     }
 
 pub returns-in_default : goal.returns-in_default
-returns-in_default g c = record { es = c.loop-count.invariant.run.es; outputs = c.loop-count.invariant.run.outputs; reads = c.loop-count.invariant.run.quiet; over = c.in_default.ensures }
+returns-in_default g c = run_ends c.args.changes.now _ _ c.loop-count.invariant.run c.in_default.ensures
 
 pub returns-in-Err : goal.returns-in-Err
 returns-in-Err g c = run_stops c.args.changes.now _ _ _ _ c.in-Err.fault c.loop-count.invariant.run c.in-Err.ensures
 
 pub returns : goal.returns
-returns g c = record { es = c.loop-count.invariant.run.es; outputs = c.loop-count.invariant.run.outputs; reads = c.loop-count.invariant.run.quiet; over = tt }
+returns g c = run_breaks c.args.changes.now _ _ c.loop-count.invariant.run

@@ -90,20 +90,20 @@ returns-else-admit-clause-visited c =
     let lacks = subst (λ (w : Shared). Lacks w.entries v mac) (sym c.in-None.ensures.same) c.in-None.ensures.none in
     visits_of old f c.admit.new.tables now k (admit_visits f c.admit.new.tables v (record { vid = v; mac = mac; place = c.args.place; last = None }) c.admit.result refl c.admit.ensures)
 
-pub returns-in-Some-clause-slots : goal.returns-in-Some-clause-slots
-returns-in-Some-clause-slots c =
+pub returns-in-Some-clause-pool : goal.returns-in-Some-clause-pool
+returns-in-Some-clause-pool c =
     let old = c.args.self.now in let b = c.begin.new.self in let f = c.find.new.self in let now = c.args.now in
     let k : Begins old f now = begins old b f now _ _ c.begin.ensures.after c.begin.ensures.orderly c.in-Some.ensures.same in
     slots_of old f c.refresh.new.self now k (refresh_slots f c.refresh.new.self c.in-Some.slot c.args.place None c.refresh.ensures)
 
-pub returns-then-admit-clause-slots : goal.returns-then-admit-clause-slots
-returns-then-admit-clause-slots c =
+pub returns-then-admit-clause-pool : goal.returns-then-admit-clause-pool
+returns-then-admit-clause-pool c =
     let old = c.args.self.now in let b = c.begin.new.self in let f = c.find.new.self in let now = c.args.now in
     let k : Begins old f now = begins old b f now _ _ c.begin.ensures.after c.begin.ensures.orderly c.in-None.ensures.same in
     slots_of old f c.admit.new.tables now k (admit_slots f c.admit.new.tables c.args.vid _ _ c.admit.result c.admit.ensures)
 
-pub returns-else-admit-clause-slots : goal.returns-else-admit-clause-slots
-returns-else-admit-clause-slots c =
+pub returns-else-admit-clause-pool : goal.returns-else-admit-clause-pool
+returns-else-admit-clause-pool c =
     let old = c.args.self.now in let b = c.begin.new.self in let f = c.find.new.self in let now = c.args.now in
     let k : Begins old f now = begins old b f now _ _ c.begin.ensures.after c.begin.ensures.orderly c.in-None.ensures.same in
     slots_of old f c.admit.new.tables now k (admit_slots f c.admit.new.tables c.args.vid _ _ c.admit.result c.admit.ensures)

@@ -115,20 +115,20 @@ returns-else-admit-clause-visited c =
     let time : 0 < span_of (rule_at f.rules v) = subst (λ n. 0 < n) (sym (span_is old f now v k le has)) (some_time old f now v k le has) in
     visits_of old f c.admit.new.tables now k (admit_visits f c.admit.new.tables v (record { vid = v; mac = mac; place = c.args.place; last = Some now }) c.admit.result (subst (λ t. is_dead f.rules f.moment (Some (record { vid = v; mac = mac; place = c.args.place; last = Some t })) ≡ false) k.moment (seen_lives f v mac c.args.place time)) c.admit.ensures)
 
-pub returns-in-Some-clause-slots : goal.returns-in-Some-clause-slots
-returns-in-Some-clause-slots c =
+pub returns-in-Some-clause-pool : goal.returns-in-Some-clause-pool
+returns-in-Some-clause-pool c =
     let old = c.args.self.now in let b = c.begin.new.self in let f = c.find.new.self in let now = c.args.now in
     let k : Begins old f now = begins old b f now _ _ c.begin.ensures.after c.begin.ensures.orderly c.in-Some.ensures.same in
     slots_of old f c.relearn.new.tables now k (relearn_slots f c.relearn.new.tables c.in-Some.slot _ _ c.relearn.result c.relearn.ensures)
 
-pub returns-then-admit-clause-slots : goal.returns-then-admit-clause-slots
-returns-then-admit-clause-slots c =
+pub returns-then-admit-clause-pool : goal.returns-then-admit-clause-pool
+returns-then-admit-clause-pool c =
     let old = c.args.self.now in let b = c.begin.new.self in let f = c.find.new.self in let now = c.args.now in
     let k : Begins old f now = begins old b f now _ _ c.begin.ensures.after c.begin.ensures.orderly c.in-None.ensures.same in
     slots_of old f c.admit.new.tables now k (admit_slots f c.admit.new.tables c.args.vid _ _ c.admit.result c.admit.ensures)
 
-pub returns-else-admit-clause-slots : goal.returns-else-admit-clause-slots
-returns-else-admit-clause-slots c =
+pub returns-else-admit-clause-pool : goal.returns-else-admit-clause-pool
+returns-else-admit-clause-pool c =
     let old = c.args.self.now in let b = c.begin.new.self in let f = c.find.new.self in let now = c.args.now in
     let k : Begins old f now = begins old b f now _ _ c.begin.ensures.after c.begin.ensures.orderly c.in-None.ensures.same in
     slots_of old f c.admit.new.tables now k (admit_slots f c.admit.new.tables c.args.vid _ _ c.admit.result c.admit.ensures)

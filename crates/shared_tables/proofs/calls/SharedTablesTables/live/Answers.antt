@@ -33,8 +33,8 @@ returns-clause-visited c =
     let le = c.requires.time in let has = c.requires.has in
     visits_of old f c.sweep.new.tables now k (swept_visits f c.sweep.new.tables v c.sweep.ensures)
 
-pub returns-clause-slots : goal.returns-clause-slots
-returns-clause-slots c =
+pub returns-clause-pool : goal.returns-clause-pool
+returns-clause-pool c =
     let old = c.args.self.now in let f = c.begin.new.self in let now = c.args.now in
     let k : Begins old f now = begins_plain old f now _ c.begin.ensures.after c.begin.ensures.orderly in
     slots_of old f c.sweep.new.tables now k c.sweep.ensures.size

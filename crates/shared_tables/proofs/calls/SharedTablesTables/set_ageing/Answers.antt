@@ -25,8 +25,8 @@ returns-clause-visited c =
     let same = c.set_seconds.ensures in
     visits_of old f c.set_seconds.new.self now k (subst (Visits f) (sym same) (swept_visits f c.sweep.new.tables v c.sweep.ensures))
 
-pub returns-clause-slots : goal.returns-clause-slots
-returns-clause-slots c =
+pub returns-clause-pool : goal.returns-clause-pool
+returns-clause-pool c =
     let old = c.args.self.now in let f = c.begin.new.self in let now = c.args.now in
     let k : Begins old f now = begins_plain old f now _ c.begin.ensures.after c.begin.ensures.orderly in
     slots_of old f c.set_seconds.new.self now k (ap slot_count c.set_seconds.ensures ∙ c.sweep.ensures.size)

@@ -71,8 +71,8 @@ returns-in_default-2-clause-after c =
     let lacks = subst (λ (w : Shared). Lacks w.entries v mac) (sym c.in_default.ensures.same) c.in_default.ensures.none in
     (unfix_none old f now v k le has mac lacks f refl).1
 
-pub returns-in-Some-clause-slots : goal.returns-in-Some-clause-slots
-returns-in-Some-clause-slots c =
+pub returns-in-Some-clause-pool : goal.returns-in-Some-clause-pool
+returns-in-Some-clause-pool c =
     let old = c.args.self.now in let b = c.begin.new.self in let f = c.find.new.self in let now = c.args.now in
     let k : Begins old f now = begins old b f now _ _ c.begin.ensures.after c.begin.ensures.orderly c.in-Some.ensures.same in
     slots_of old f c.release.new.self now k (release_slots f c.release.new.self c.in-Some.slot c.release.ensures.same)

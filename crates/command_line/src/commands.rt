@@ -1,0 +1,91 @@
+//! The program's commands, as `clap` is told of them.
+ghost use Rattle.std.specs.Prelude.{◌≡◌, IfOk, false};
+ghost use Rattle.clap.specs.Words.{app_of, shape_of};
+ghost use Rattle.clap.specs.declared.builder.Command.TheViews.{out-Command as fields_of};
+ghost use Rattle.command_line.specs.App.{run_settings_app, run_shape, check_shape, explain_shape, run_and_check_app, tep_app};
+
+use crate::arguments::{capture, changes, depth, out, ports, settings, underlay};
+use clap::Command;
+use std::alloc::{AllocError, Global};
+
+/// What stands below the help of each command.
+const EXAMPLE: &str =
+    "Example:\n  tep run -s settings.toml -u underlay.pcap -o out port1.pcap port2.pcap";
+
+const RUN_EXAMPLE: &str =
+    "Example:\n  tep run -s settings.toml -c changes.toml -u underlay.pcap -o out port1.pcap port2.pcap\n  cat out/decisions.txt";
+
+const CHECK_EXAMPLE: &str = "Example:\n  tep check -s settings.toml -c changes.toml";
+
+const EXPLAIN_EXAMPLE: &str = "Example:\n  tep explain -s settings.toml -d 2 underlay.pcap";
+
+/// The first two options of `run`.
+fn run_settings<'a>(alloc: Global) -> Result<Command<'a>, AllocError>
+    ensures app { IfOk result (λ c. app_of c ≡ run_settings_app) }
+    ensures local { IfOk result (λ c. (fields_of c).has_globals ≡ false) }
+{
+    Command::new(alloc, "run")
+        .about("Runs the endpoint over captures")
+        .after_help(RUN_EXAMPLE)
+        .arg(settings(alloc))?
+        .arg(changes(alloc))
+}
+
+/// `run`, with all that it takes.
+fn run<'a>(alloc: Global) -> Result<Command<'a>, AllocError>
+    ensures shape { IfOk result (λ c. shape_of c ≡ run_shape) }
+    ensures local { IfOk result (λ c. (fields_of c).has_globals ≡ false) }
+{
+    run_settings(alloc)?
+        .arg(underlay(alloc))?
+        .arg(out(alloc))?
+        .arg(ports(alloc))
+}
+
+/// `check`.
+fn check<'a>(alloc: Global) -> Result<Command<'a>, AllocError>
+    ensures shape { IfOk result (λ c. shape_of c ≡ check_shape) }
+    ensures local { IfOk result (λ c. (fields_of c).has_globals ≡ false) }
+{
+    Command::new(alloc, "check")
+        .about("Checks a settings text and a changes text")
+        .after_help(CHECK_EXAMPLE)
+        .arg(settings(alloc))?
+        .arg(changes(alloc))
+}
+
+/// `explain`.
+fn explain<'a>(alloc: Global) -> Result<Command<'a>, AllocError>
+    ensures shape { IfOk result (λ c. shape_of c ≡ explain_shape) }
+    ensures local { IfOk result (λ c. (fields_of c).has_globals ≡ false) }
+{
+    Command::new(alloc, "explain")
+        .about("Takes the packets of a capture apart")
+        .after_help(EXPLAIN_EXAMPLE)
+        .arg(settings(alloc))?
+        .arg(depth(alloc))?
+        .arg(capture(alloc))
+}
+
+/// The program with its first two commands.
+fn run_and_check<'a>(alloc: Global) -> Result<Command<'a>, AllocError>
+    ensures app { IfOk result (λ c. app_of c ≡ run_and_check_app) }
+    ensures local { IfOk result (λ c. (fields_of c).has_globals ≡ false) }
+{
+    Command::new(alloc, "tep")
+        .about(
+            "A VXLAN and Geneve tunnel endpoint over captures; without words it runs on a built-in sample",
+        )
+        .after_help(EXAMPLE)
+        .version("0.1.0")
+        .propagate_version(true)
+        .subcommand(run(alloc)?)?
+        .subcommand(check(alloc)?)
+}
+
+/// The whole program.
+pub(crate) fn tep<'a>(alloc: Global) -> Result<Command<'a>, AllocError>
+    ensures { IfOk result (λ c. app_of c ≡ tep_app) }
+{
+    run_and_check(alloc)?.subcommand(explain(alloc)?)
+}

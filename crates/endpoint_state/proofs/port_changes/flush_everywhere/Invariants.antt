@@ -1,0 +1,13 @@
+use Rattle.std.proofs.Common.{◌≡◌, ◌≤◌, ℕ}
+use Rattle.filter_db.specs.Segment.{aged_all, flush_place_in, segment_at as table_of}
+use Rattle.underlay.specs.Overlay.{Overlay}
+use Rattle.endpoint_state.specs.Sound.{AreReached}
+use Rattle.endpoint_state.proofs.EverywhereLemmas.{so_far}
+use Rattle.endpoint_state.proofs.port_changes.flush_everywhere.Given as goal
+
+abbrev pub invariant-loop-number : goal.invariant-loop-number
+invariant-loop-number g l = record {
+  time : g.T.Tables.moment l.tables ≤ l.fn.now;
+  after : (vid : ℕ) → aged_all l.fn.now (g.T.Tables.segments l.tables) vid ≡ so_far (flush_place_in l.fn.place) l.fn.now l.number (g.T.Tables.segments l.fn.tables) vid;
+  reached : (S : Overlay) (vid : ℕ) → AreReached S vid (table_of vid (g.T.Tables.segments l.fn.tables)).entries → AreReached S vid (table_of vid (g.T.Tables.segments l.tables)).entries;
+}

@@ -1,0 +1,112 @@
+-- What changes of the settings do, whatever their kinds (it states no standard).
+--     Effect, effect, applied      to the settings in force
+--     TableEffect, table_effect, table_applied      to the table of each segment that a change is about
+use Rattle.std.specs.Prelude.{ℕ, ◌==◌, Bool, true, false, List, [], ◌∷◌, ◌++◌, if◌then◌else◌, Option, Some, None}
+use Rattle.std.specs.Option.{option_map, option_map_or, unwrap_or}
+use Rattle.ip_udp_view.specs.declared.addr.Tunnel.{Tunnel}
+use Rattle.ip_udp_view.specs.declared.addr.Tunnel.TheVariants.{Vxlan}
+use Rattle.flood_lists.specs.Flood.{Entries, without}
+use Rattle.filter_db.specs.declared.place.Place.{Place}
+use Rattle.filter_db.specs.declared.place.Place.TheVariants.{Local, Remote}
+use Rattle.filter_db.specs.Table.{Table, nanoseconds, live, fix, unfix, flush_place, flush}
+use Rattle.vlan_ports.specs.declared.member.Egress.{Egress}
+use Rattle.vlan_ports.specs.Ports.{with_up, with_member}
+use Rattle.underlay.specs.Overlay.{with_flood}
+use Rattle.underlay.specs.declared.tunnels.SegmentTunnel.{SegmentTunnel}
+use Rattle.overlay_settings.specs.declared.change.Target.{Target}
+use Rattle.overlay_settings.specs.declared.change.Target.TheVariants as target
+use Rattle.overlay_settings.specs.declared.change.Change.{Change}
+use Rattle.overlay_settings.specs.declared.change.Change.TheVariants.{AddFlood, RemoveFlood, Fix, Unfix, SetAgeing, SetLearning, SetMember, PortUp, PortDown, Flush}
+use Rattle.endpoint_state.specs.Settings.{Settings, BridgeSettings, SegmentSettings, segment_at, kind_named}
+
+-- the kind of the tunnel that a change means, where there is one
+abbrev pub kind_in : List SegmentTunnel → Option Tunnel → Tunnel
+kind_in tunnels tunnel = unwrap_or (kind_named tunnels tunnel) Vxlan
+
+-- where a fixed entry is to stand
+abbrev pub place_of : List SegmentTunnel → Target → Place
+place_of tunnels (target.Local port) = Local port
+place_of tunnels (target.Remote addr tunnel) = Remote (kind_in tunnels tunnel) addr
+
+-- ---- to the settings
+
+-- what a change does to the settings in force
+pub data Effect : Type 0 where
+  -- another flood list of the segment of a VID
+  ToFlood : (vid : ℕ) (change : SegmentSettings → Entries) → Effect
+  -- other rules of the bridge of the segment of a VID; its limit stays
+  ToBridge : (vid : ℕ) (change : BridgeSettings → BridgeSettings) → Effect
+  -- how the frames of the segment of a VID leave at a port, if it is to be a member
+  ToMembers : (vid port : ℕ) (egress : Option Egress) → Effect
+  -- a port is up or down
+  ToPort : (port : ℕ) (up : Bool) → Effect
+  ToNothing : Effect
+
+-- what each change does
+abbrev pub effect : Change → Effect
+effect (AddFlood vid addr tunnel) = ToFlood vid (λ s. s.flood ++ record { tunnel = kind_in s.tunnels tunnel; addr = addr } ∷ [])
+effect (RemoveFlood vid addr tunnel) = ToFlood vid (λ s. without s.flood (kind_in s.tunnels tunnel) addr)
+effect (SetAgeing vid seconds) = ToBridge vid (λ bridge. record bridge { ageing = seconds })
+effect (SetLearning vid on) = ToBridge vid (λ bridge. record bridge { learning = on })
+effect (SetMember vid port egress) = ToMembers vid port egress
+effect (PortUp port) = ToPort port true
+effect (PortDown port) = ToPort port false
+effect (Fix vid mac target) = ToNothing
+effect (Unfix vid mac) = ToNothing
+effect (Flush vid) = ToNothing
+
+-- with another flood list of a segment
+abbrev pub with_flood_of : Settings → ℕ → (SegmentSettings → Entries) → Settings
+with_flood_of S vid change = option_map_or (λ s. record S { overlay = with_flood S.overlay vid (change s) }) (segment_at S vid) S
+
+-- with other settings of the bridge of a segment
+abbrev pub with_bridge : Settings → ℕ → (BridgeSettings → BridgeSettings) → Settings
+with_bridge S vid change = record S { bridges = λ w. if w == vid then option_map change (S.bridges w) else S.bridges w }
+
+-- the settings after it
+abbrev pub applied : Effect → Settings → Settings
+applied (ToFlood vid change) S = with_flood_of S vid change
+applied (ToBridge vid change) S = with_bridge S vid (λ bridge. record (change bridge) { limit = bridge.limit })
+applied (ToMembers vid port egress) S = record S { ports = with_member S.ports vid port egress }
+applied (ToPort port up) S = record S { ports = with_up S.ports port up }
+applied ToNothing S = S
+
+-- ---- to a table
+
+-- what a change does to the table of a segment that it is about
+pub data TableEffect : Type 0 where
+  -- an address gets a fixed entry at a place, where there is room for it
+  Fixes : (mac : List ℕ) (place : Place) → TableEffect
+  -- the fixed entry of an address goes
+  Unfixes : (mac : List ℕ) → TableEffect
+  -- what was learned at a place goes
+  Forgets : (place : Place) → TableEffect
+  -- all that was learned goes
+  ForgetsAll : TableEffect
+  -- what was learned so many seconds ago or earlier goes
+  Ages : (seconds : ℕ) → TableEffect
+  KeepsAll : TableEffect
+
+-- what each change does. Where a remote endpoint is taken from the flood list, a membership ends or a port goes down, what
+-- was learned at that place goes; what is too old under a new ageing goes at once
+abbrev pub table_effect : SegmentSettings → Change → TableEffect
+table_effect s (AddFlood vid addr tunnel) = KeepsAll
+table_effect s (RemoveFlood vid addr tunnel) = Forgets (Remote (kind_in s.tunnels tunnel) addr)
+table_effect s (Fix vid mac target) = Fixes mac (place_of s.tunnels target)
+table_effect s (Unfix vid mac) = Unfixes mac
+table_effect s (SetAgeing vid seconds) = Ages seconds
+table_effect s (SetLearning vid on) = KeepsAll
+table_effect s (SetMember vid port (Some egress)) = KeepsAll
+table_effect s (SetMember vid port None) = Forgets (Local port)
+table_effect s (PortUp port) = KeepsAll
+table_effect s (PortDown port) = Forgets (Local port)
+table_effect s (Flush vid) = ForgetsAll
+
+-- what it leaves, at a moment, of a table with this limit that has what is live then
+abbrev pub table_applied : ℕ → ℕ → TableEffect → Table → Table
+table_applied t limit (Fixes mac place) m = fix limit place mac m
+table_applied t limit (Unfixes mac) m = unfix mac m
+table_applied t limit (Forgets place) m = flush_place place m
+table_applied t limit ForgetsAll m = flush m
+table_applied t limit (Ages seconds) m = live (nanoseconds seconds) t m
+table_applied t limit KeepsAll m = m

@@ -1,0 +1,11 @@
+pub mod Block
+pub mod BlockText
+pub mod Classic
+pub mod Context
+pub mod Interface
+pub mod Meaning
+pub mod Moments
+pub mod Options
+pub mod Packet
+pub mod Reading
+pub mod Seen

@@ -1,0 +1,120 @@
+//! What is known in front of a block.
+ghost use Rattle.std.specs.Prelude.{◌≡◌, ◌≤◌, ◌<◌, ◌+◌, ◌^◌, length, IfOk, IfErr, IfSome, OnErr, OnOk, Ok};
+ghost use Rattle.pcap_io.specs.Record.{IsWithinLimits};
+ghost use Rattle.pcapng_input.specs.Context.{IsStepError};
+ghost use Rattle.pcapng_input.specs.Reading.{block_fault_at, start, step_of};
+
+use crate::block::Block;
+use crate::fault::{BlockFault, PcapngError, PcapngFault};
+use crate::interface::{Interface, Selection};
+use crate::meaning::{BlockMeaning, block_meaning};
+use pcap_io::{Order, Record};
+use std::alloc::Global;
+use std::marker::Model;
+
+/// The octets of a block that aren't its body.
+const AROUND_BODY: u64 = 12;
+
+/// What is known in front of a block: its section, the packet before it, and its place.
+#[derive(Drop)]
+pub struct Context {
+    order: Option<Order>,
+    interfaces: Vec<Interface>,
+    last: u64,
+    blocks: u64,
+    offset: u64,
+}
+
+impl Model for Context {
+    ghost use Rattle.std.specs.Prelude.{◌≤◌};
+    ghost use Rattle.pcap_io.specs.Record.{last_moment};
+    ghost use Rattle.pcapng_input.specs.Reading.{Context};
+
+    ghost Value = { Context };
+
+    ghost view = { λ c. record {
+      order = c.order;
+      interfaces = c.interfaces.items;
+      last = c.last;
+      blocks = c.blocks;
+      offset = c.offset;
+    } };
+
+    ghost invariant = { λ c. c.last ≤ last_moment };
+}
+
+impl Context {
+    /// In front of the first block.
+    pub fn new(alloc: Global) -> Context
+        ensures { result ≡ start }
+    {
+        Context {
+            order: None,
+            interfaces: Vec::new(alloc),
+            last: 0,
+            blocks: 0,
+            offset: 0,
+        }
+    }
+
+    /// The byte order of the section, if there is one.
+    pub fn order(&self) -> Option<Order>
+        ensures { result ≡ self.now.order }
+    {
+        self.order
+    }
+
+    /// A fault of the block that stands here.
+    pub fn fault(&self, fault: BlockFault) -> PcapngFault
+        requires { self.now.blocks + 1 < 2 ^ 64 }
+        ensures { result ≡ block_fault_at self.now fault }
+    {
+        PcapngFault {
+            fault,
+            block: self.blocks + 1,
+            offset: self.offset,
+        }
+    }
+
+    /// Goes on behind a block, and answers its packet as a record, if it has one that is selected. After an error
+    /// nothing has changed.
+    #[tactic(auto, unfolding(crate::specs::Reading::step_of))]
+    pub fn step<'a>(
+        &mut self,
+        selection: Selection<'_>,
+        block: &Block<'a>,
+    ) -> Result<Option<Record<'a>>, PcapngError>
+        requires blocks { self.old.blocks + 1 < 2 ^ 64 }
+        requires offset { self.old.offset + (12 + length block.now.body) < 2 ^ 64 }
+        ensures step { IfOk result (λ found. step_of selection.entry self.old block.now ≡ Ok (record { context = self.new; found = found })) }
+        ensures fault { IfErr result (IsStepError (step_of selection.entry self.old block.now) self.old) }
+        ensures blocks { OnOk result (self.new.blocks ≡ self.old.blocks + 1) }
+        ensures offset { OnOk result (self.new.offset ≡ self.old.offset + (12 + length block.now.body)) }
+        ensures err { OnErr result (self.new ≡ self.old) }
+        ensures limits { IfOk result (λ found. IfSome found IsWithinLimits) }
+    {
+        let meant = match block_meaning(selection, self.interfaces.as_slice(), self.last, block) {
+            Ok(meant) => meant,
+            Err(fault) => return Err(PcapngError::Faulty(self.fault(fault))),
+        };
+        let found = match meant {
+            BlockMeaning::Section => {
+                self.order = Some(block.order);
+                self.interfaces.clear();
+                None
+            }
+            BlockMeaning::Described(interface) => {
+                self.interfaces.push(interface)?;
+                None
+            }
+            BlockMeaning::Packet(record) => {
+                self.last = record.moment;
+                Some(record)
+            }
+            BlockMeaning::Nothing => None,
+        };
+        self.blocks += 1;
+        self.offset += AROUND_BODY + block.body.len() as u64;
+        Ok(found)
+    }
+}

@@ -1,0 +1,16 @@
+//! Laws over the definitions.
+ghost use Rattle.pcapng_input.specs.BlockText.{FindsBlockTexts, ReadsBlockTexts};
+ghost use Rattle.pcapng_input.specs.Classic.{TellsThePackets};
+
+/// A block is next exactly where its text stands in front: the text of a block is read as that block, whatever stands
+/// behind it, and nothing else is.
+pub fn block_texts()
+    ensures reads { ReadsBlockTexts }
+    ensures finds { FindsBlockTexts }
+{}
+
+/// The records of the classic capture are the packets of the text, in their order, and it ends within a record where the
+/// text ends within a block.
+pub fn all_packets()
+    ensures { TellsThePackets }
+{}

@@ -1,0 +1,25 @@
+//! Captures in the pcapng format (draft-ietf-opsawg-pcapng), as Wireshark and its tools write them, read as classic
+//! ones.
+//!
+//! [`classic_of`] answers the classic capture (pcap-savefile(5)) whose records are the packets of a pcapng text, in
+//! order: little-endian, in nanoseconds, link type Ethernet. A [`Selection`] takes those of all interfaces or of one.
+//! [`is_pcapng`] tells the two formats apart by their first octets. What a packet holds isn't looked at, and no file is
+//! opened here.
+#![tactic(auto)]
+
+mod block;
+mod classic;
+mod context;
+mod fault;
+mod interface;
+pub mod laws;
+mod meaning;
+mod moment;
+mod number;
+mod option;
+mod packet;
+
+pub use block::is_pcapng;
+pub use classic::classic_of;
+pub use fault::{BlockFault, PcapngError, PcapngFault};
+pub use interface::Selection;

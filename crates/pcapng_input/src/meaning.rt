@@ -1,0 +1,171 @@
+//! What blocks mean.
+ghost use Rattle.std.specs.Prelude.{◌≡◌, ◌≤◌, length, drop, IfOk, IfSome};
+ghost use Rattle.pcap_io.specs.Record.{IsWithinLimits, last_moment};
+ghost use Rattle.pcapng_input.specs.Meaning.{IsMeantWithinLimits, enhanced_in, interface_in, block_meaning, obsolete_in, packet_meaning, section_in, simple_in};
+
+use crate::block::{
+    Block, ENHANCED_PACKET, INTERFACE_DESCRIPTION, OBSOLETE_PACKET, SECTION_HEADER, SIMPLE_PACKET,
+};
+use crate::fault::BlockFault;
+use crate::interface::{Interface, Selection, described};
+use crate::number::number2;
+use crate::packet::{
+    SIMPLE_HEAD, TIMED_HEAD, enhanced_head, obsolete_head, packet_record, simple_head,
+};
+use pcap_io::Record;
+
+/// The interfaces of a section at most.
+const MOST_INTERFACES: usize = 4096;
+
+/// The octets of a section header's body without its options.
+const SECTION_BODY: usize = 16;
+
+/// What a block means.
+#[derive(Drop)]
+pub enum BlockMeaning<'a> {
+    /// A section begins, in the block's byte order.
+    Section,
+    /// An interface is described.
+    Described(Interface),
+    /// A packet of an interface that is selected.
+    Packet(Record<'a>),
+    /// Nothing that a classic capture tells.
+    Nothing,
+}
+
+/// The meaning of a section header.
+#[tactic(auto, unfolding(crate::specs::Meaning::section_in))]
+fn section_in<'a>(block: &Block<'a>) -> Result<BlockMeaning<'a>, BlockFault>
+    ensures value { result ≡ section_in block.now }
+    ensures limits { IfOk result IsMeantWithinLimits }
+{
+    if block.body.len() < SECTION_BODY {
+        return Err(BlockFault::ShortBlock);
+    }
+    if number2(block.order, &block.body[4..]) != 1 {
+        return Err(BlockFault::BadVersion);
+    }
+    Ok(BlockMeaning::Section)
+}
+
+/// The meaning of the description of an interface, behind those of its section that were described before.
+#[tactic(auto, unfolding(crate::specs::Meaning::interface_in))]
+fn interface_in<'a>(
+    selection: Selection<'_>,
+    interfaces: &[Interface],
+    block: &Block<'a>,
+) -> Result<BlockMeaning<'a>, BlockFault>
+    ensures value { result ≡ interface_in selection.entry interfaces.now block.now }
+    ensures limits { IfOk result IsMeantWithinLimits }
+{
+    let number = interfaces.len();
+    if number >= MOST_INTERFACES {
+        return Err(BlockFault::TooManyInterfaces);
+    }
+    match described(selection, number, block.order, block.body) {
+        Ok(interface) => Ok(BlockMeaning::Described(interface)),
+        Err(fault) => Err(fault),
+    }
+}
+
+/// The octets of a packet, behind a head of this length.
+fn behind_head<'a>(body: &'a [u8], head: usize) -> &'a [u8]
+    requires { head ≤ length body.now }
+    ensures { result.now ≡ drop head body.now }
+{
+    &body[head..]
+}
+
+/// What the record of a packet means, if there is one.
+fn packet_meaning<'a>(
+    found: Result<Option<Record<'a>>, BlockFault>,
+) -> Result<BlockMeaning<'a>, BlockFault>
+    requires { IfOk found (λ found. IfSome found IsWithinLimits) }
+    ensures value { result ≡ packet_meaning found.entry }
+    ensures limits { IfOk result IsMeantWithinLimits }
+{
+    match found {
+        Ok(Some(record)) => Ok(BlockMeaning::Packet(record)),
+        Ok(None) => Ok(BlockMeaning::Nothing),
+        Err(fault) => Err(fault),
+    }
+}
+
+/// The meaning of an enhanced packet block; `last` is the moment of the packet before it.
+#[tactic(auto, unfolding(crate::specs::Meaning::enhanced_in))]
+fn enhanced_in<'a>(
+    interfaces: &[Interface],
+    last: u64,
+    block: &Block<'a>,
+) -> Result<BlockMeaning<'a>, BlockFault>
+    requires { last ≤ last_moment }
+    ensures value { result ≡ enhanced_in interfaces.now last block.now }
+    ensures limits { IfOk result IsMeantWithinLimits }
+{
+    if block.body.len() < TIMED_HEAD {
+        return Err(BlockFault::ShortBlock);
+    }
+    let head = enhanced_head(block.order, block.body);
+    let octets = behind_head(block.body, TIMED_HEAD);
+    packet_meaning(packet_record(interfaces, last, head, octets))
+}
+
+/// The meaning of an obsolete packet block.
+#[tactic(auto, unfolding(crate::specs::Meaning::obsolete_in))]
+fn obsolete_in<'a>(
+    interfaces: &[Interface],
+    last: u64,
+    block: &Block<'a>,
+) -> Result<BlockMeaning<'a>, BlockFault>
+    requires { last ≤ last_moment }
+    ensures value { result ≡ obsolete_in interfaces.now last block.now }
+    ensures limits { IfOk result IsMeantWithinLimits }
+{
+    if block.body.len() < TIMED_HEAD {
+        return Err(BlockFault::ShortBlock);
+    }
+    let head = obsolete_head(block.order, block.body);
+    let octets = behind_head(block.body, TIMED_HEAD);
+    packet_meaning(packet_record(interfaces, last, head, octets))
+}
+
+/// The meaning of a simple packet block.
+#[tactic(auto, unfolding(crate::specs::Meaning::simple_in))]
+fn simple_in<'a>(
+    interfaces: &[Interface],
+    last: u64,
+    block: &Block<'a>,
+) -> Result<BlockMeaning<'a>, BlockFault>
+    requires { last ≤ last_moment }
+    ensures value { result ≡ simple_in interfaces.now last block.now }
+    ensures limits { IfOk result IsMeantWithinLimits }
+{
+    if block.body.len() < SIMPLE_HEAD {
+        return Err(BlockFault::ShortBlock);
+    }
+    let head = simple_head(block.order, block.body);
+    let octets = behind_head(block.body, SIMPLE_HEAD);
+    packet_meaning(packet_record(interfaces, last, head, octets))
+}
+
+/// What a block means in a section with these interfaces, behind a packet at this moment.
+#[tactic(auto, unfolding(crate::specs::Meaning::block_meaning))]
+pub fn block_meaning<'a>(
+    selection: Selection<'_>,
+    interfaces: &[Interface],
+    last: u64,
+    block: &Block<'a>,
+) -> Result<BlockMeaning<'a>, BlockFault>
+    requires { last ≤ last_moment }
+    ensures value { result ≡ block_meaning selection.entry interfaces.now last block.now }
+    ensures limits { IfOk result IsMeantWithinLimits }
+{
+    match block.kind {
+        SECTION_HEADER => section_in(block),
+        INTERFACE_DESCRIPTION => interface_in(selection, interfaces, block),
+        ENHANCED_PACKET => enhanced_in(interfaces, last, block),
+        OBSOLETE_PACKET => obsolete_in(interfaces, last, block),
+        SIMPLE_PACKET => simple_in(interfaces, last, block),
+        _ => Ok(BlockMeaning::Nothing),
+    }
+}

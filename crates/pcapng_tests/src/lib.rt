@@ -1,0 +1,12 @@
+//! Tests of captures in the pcapng format.
+//!
+//! What is expected comes from the draft, and from Wireshark's tools: `editcap`, `mergecap`, `tshark`. There is nothing
+//! here but tests, and nothing stands on this crate.
+#![tactic(auto)]
+
+#[cfg(test)]
+mod classic_tests;
+#[cfg(test)]
+mod fault_tests;
+#[cfg(test)]
+mod texts;

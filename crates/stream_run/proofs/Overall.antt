@@ -1,0 +1,306 @@
+-- What a run leaves in its outputs, by where it stops.
+use Rattle.std.proofs.Common.{◌≡◌, ◌∙◌, refl, sym, ap, subst, ℕ, zero, suc, ◌+◌, ◌-◌, ◌<◌, ◌≤◌, Bool, true, false, cond, inl, inr, List, [], ◌∷◌, ◌++◌, append-nil, append_assoc, length, length-append, map, take, slice_index_or, arith, Vec, Global, Some, None, Ok, Err}
+use Rattle.std.specs.Prelude.{nat_lt, ⊤}
+use Rattle.std.proofs.Math.Seq.{take-append_seam}
+use Rattle.std.proofs.lemmas.Bool.{eq-eqb, ltb-true, ltb-false}
+use Rattle.std.proofs.lemmas.List.{get_or-map, length-map}
+use Rattle.pcap_io.specs.declared.header.CaptureFault.{CaptureFault}
+use Rattle.pcap_stream.specs.InTurn.{IsReading}
+use Rattle.pcap_stream.specs.Source.{Stream}
+use Rattle.overlay_settings.specs.Settings.{Settings}
+use Rattle.overlay_settings.specs.declared.change.Change.{Change}
+use Rattle.overlay_settings.specs.declared.change.TimedChange.{TimedChange}
+use Rattle.endpoint_core.specs.Step.{opened}
+use Rattle.endpoint_state.specs.Opened.{settings_told}
+use Rattle.endpoint_state.specs.Settings.{Settings as Bridged}
+use Rattle.timeline.proofs.Orders.{rising_merged}
+use Rattle.timeline.specs.Events.{all_events}
+use Rattle.timeline.specs.Faults.{faults_of}
+use Rattle.timeline.specs.Inputs.{inputs, opened_captures}
+use Rattle.timeline.specs.Order.{IsRising, merged}
+use Rattle.timeline.specs.Timeline.{Timeline, cuts_of, told, unless}
+use Rattle.timeline.specs.declared.event.Event.{Event}
+use Rattle.timeline.specs.declared.fault.TimelineFault.{TimelineFault}
+use Rattle.timeline.specs.declared.fault.TimelineFault.TheVariants as timeline
+use Rattle.timeline.specs.declared.source.Tap.{Tap}
+use Rattle.timeline.specs.declared.source.Tap.TheVariants.{Port, Underlay}
+use Rattle.capture_run.proofs.Faults.{ports_counted}
+use Rattle.capture_run.proofs.Growing.{outputs_grown}
+use Rattle.config_text.specs.declared.fault.SettingsFault.{SettingsFault}
+use Rattle.config_text.specs.declared.fault.SettingsFault.TheVariants as refused_
+use Rattle.capture_run.specs.Fault.{of_changes, of_settings}
+use Rattle.capture_run.specs.Outputs.{Outputs, outputs}
+use Rattle.overlay_config.specs.Fault.{Meaning}
+use Rattle.capture_run.specs.Run.{Gives, by_timeline, run}
+use Rattle.capture_run.specs.Writing.{empty_outputs, with_cuts, with_events}
+use Rattle.capture_run.specs.declared.fault.RunFault.{RunFault}
+use Rattle.capture_run.specs.declared.fault.RunFault.TheVariants as faults
+use Rattle.stream_run.specs.Begun.{OpensInTurn}
+use Rattle.stream_run.specs.Coming.{EndBefore}
+use Rattle.stream_run.specs.Cuts.{cuts_at}
+use Rattle.stream_run.specs.Over.{BeginsIn, IsRunOver, LeavesOver, StandsSomewhere, Tells, texts_octets, texts_at, whole_records}
+use Rattle.stream_run.specs.Stage.{Drains, StandAt, StandBetween, first_of, no_texts, stage}
+use Rattle.stream_run.specs.Steps.{EndsIn, IsAt, IsPart, LeadsBehind, Run, changes_of, octets_at, source_at, texts_behind}
+use Rattle.stream_run.specs.declared.fault.StreamFault.{StreamFault}
+use Rattle.stream_run.specs.declared.fault.StreamFault.TheVariants as stream
+use Rattle.stream_run.specs.declared.fault.Target.{Target}
+use Rattle.stream_run.specs.declared.turn.Turn.{Turn}
+use Rattle.stream_run.proofs.Wholes.{AllStandAtEnd, IsFirstRefused, cuts_at_end, first_refused, no_faults, whole_at_end}
+
+-- ---- the texts of the first events
+
+rising_part : (least : ℕ) (es rest : List Event) → IsRising least (es ++ rest) → IsRising least es
+rising_part least [] rest h = tt
+rising_part least (e ∷ es) rest h = (h.0, rising_part e.moment es rest h.1)
+
+-- so many events, and no cut capture
+uncut : (k : ℕ) (t : Timeline) → k ≤ length t.events → first_of k t ≡ record { events = take k t.events; cuts = [] }
+uncut k t le = by (nat_lt (length t.events) k) refl
+  where
+    by : (b : Bool) → nat_lt (length t.events) k ≡ b → ◌≡◌ {A = Timeline} (record { events = take k t.events; cuts = cond b t.cuts [] }) (record { events = take k t.events; cuts = [] })
+    by true is = absurd (omega (arith, ltb-true _ _ is, le))
+    by false is = refl
+
+first_events : (t : Timeline) (es rest : List Event) → t.events ≡ es ++ rest → take (length es) t.events ≡ es
+first_events t es rest is = ap (take (length es)) is ∙ take-append_seam es rest
+
+stage_events : (S : Bridged) (cs : List Change) (n : ℕ) (t : Timeline) (es rest : List Event) → IsRising 0 t.events → t.events ≡ es ++ rest
+    → stage S cs n t (suc (length es)) ≡ with_events cs 0 (opened S) (empty_outputs n) es
+stage_events S cs n t es rest rising is =
+    let le : length es ≤ length t.events = omega (arith, ap length is, length-append es rest) in
+    ap (outputs S cs n) (uncut (length es) t le)
+    ∙ ap (λ l. outputs S cs n (record { events = l; cuts = [] })) (first_events t es rest is)
+    ∙ sym (outputs_grown S cs n (record { events = es; cuts = [] }) (rising_part 0 es rest (subst (IsRising 0) is rising)))
+
+-- all events, and the cut captures
+all_of : (k : ℕ) (t : Timeline) → k ≡ length t.events → ◌≡◌ {A = Timeline} (first_of (suc k) t) t
+all_of k t is = by (nat_lt (length t.events) (suc k)) refl (take_all (suc k) t.events (omega (arith, is)))
+  where
+    take_all : (m : ℕ) (l : List Event) → length l ≤ m → take m l ≡ l
+    take_all m [] le = by_size m
+      where
+        by_size : (m : ℕ) → ◌≡◌ {A = List Event} (take m []) []
+        by_size zero = refl
+        by_size (suc m) = refl
+    take_all zero (e ∷ l) le = absurd (omega (arith, le))
+    take_all (suc m) (e ∷ l) le = ap (λ l. e ∷ l) (take_all m l (omega (arith, le)))
+
+    by : (b : Bool) → nat_lt (length t.events) (suc k) ≡ b → take (suc k) t.events ≡ t.events → ◌≡◌ {A = Timeline} (record { events = take (suc k) t.events; cuts = cond b t.cuts [] }) t
+    by true found all = ap (λ l. record { events = l; cuts = t.cuts }) all
+    by false found all = absurd (omega (arith, ltb-false _ _ found, is))
+
+stage_end : (S : Bridged) (cs : List Change) (n : ℕ) (t : Timeline) (es : List Event) → IsRising 0 t.events → t.events ≡ es
+    → stage S cs n t (suc (suc (length es))) ≡ with_cuts (with_events cs 0 (opened S) (empty_outputs n) es) t.cuts
+stage_end S cs n t es rising is =
+    ap (outputs S cs n) (all_of (length es) t (ap length (sym is)))
+    ∙ sym (outputs_grown S cs n t rising)
+    ∙ ap (λ l. with_cuts (with_events cs 0 (opened S) (empty_outputs n) l) t.cuts) is
+
+-- ---- what the captures tell
+
+told_fault : (changes : List ℕ) (texts : List (Vec ℕ Global)) (text : List ℕ) (fault : TimelineFault) (others : List TimelineFault) → faults_of (inputs texts text) ≡ fault ∷ others → told changes texts text ≡ Err fault
+unfolding told
+told_fault changes texts text fault others is =
+    let captures = opened_captures (inputs texts text) in
+    ap (λ l. unless l (record { events = merged (all_events changes captures); cuts = cuts_of captures })) is
+
+told_whole : (changes : List TimedChange) (texts : List (Vec ℕ Global)) (text : List ℕ) → faults_of (inputs texts text) ≡ [] → told (map (λ (c : TimedChange). c.at) changes) texts text ≡ Ok (whole_records changes texts text)
+unfolding told
+told_whole changes texts text is = ap (λ l. unless l (whole_records changes texts text)) is
+
+-- an input tells the octets of its capture
+tells_at : (ports : List Stream) (underlay : Stream) (texts : List (Vec ℕ Global)) (text : List ℕ) (index : ℕ) (place : Tap) → Tells ports underlay texts text → IsAt (length ports) index place
+    → (source_at ports underlay place).supply.rest ≡ Some (octets_at (texts_octets texts) text place)
+tells_at ports underlay texts text index (Port p) tells at =
+    let there : p - 1 < length ports = omega (arith, at.1, at.2) in
+    let many = ap length tells.0 in
+    let also : p - 1 < length (texts_octets texts) = omega (arith, there, many, length-map ports (λ (s : Stream). s.supply.rest), length-map (texts_octets texts) (λ (octets : List ℕ). Some octets)) in
+    sym (get_or-map (λ (s : Stream). s.supply.rest) ports (p - 1) underlay None there)
+    ∙ ap (λ l. slice_index_or l (p - 1) None) tells.0
+    ∙ get_or-map (λ (octets : List ℕ). Some octets) (texts_octets texts) (p - 1) [] None also
+tells_at ports underlay texts text index Underlay tells at = tells.1
+
+pub tells_many : (ports : List Stream) (underlay : Stream) (texts : List (Vec ℕ Global)) (text : List ℕ) → Tells ports underlay texts text → length (texts_octets texts) ≡ length ports
+tells_many ports underlay texts text tells = omega (arith, ap length tells.0, length-map ports (λ (s : Stream). s.supply.rest), length-map (texts_octets texts) (λ (octets : List ℕ). Some octets))
+
+pub tells_texts : (ports : List Stream) (underlay : Stream) (texts : List (Vec ℕ Global)) (text : List ℕ) → Tells ports underlay texts text → length ports ≡ length texts
+tells_texts ports underlay texts text tells = sym (tells_many ports underlay texts text tells) ∙ length-map texts (λ (v : Vec ℕ Global). v.items)
+
+-- all captures were opened
+pub all_opened : (ports new : List Stream) (underlay new_underlay : Stream) (texts : List (Vec ℕ Global)) (text : List ℕ) → Tells ports underlay texts text → OpensInTurn ports underlay new new_underlay (Ok tt)
+    → (place : Tap) (index : ℕ) → IsAt (length ports) index place → IsReading (octets_at (texts_octets texts) text place) [] (source_at new new_underlay place)
+all_opened ports new underlay new_underlay texts text tells opens place index at =
+    (opens place index (within place at) at).reads (octets_at (texts_octets texts) text place) (tells_at ports underlay texts text index place tells at)
+  where
+    within : (place : Tap) → IsAt (length ports) index place → index < length ports + 2
+    within (Port p) at = omega (arith, at.0, at.2)
+    within Underlay at = omega (arith, at)
+
+-- or the first that can't be is told
+pub one_refused : (ports new : List Stream) (underlay new_underlay : Stream) (texts : List (Vec ℕ Global)) (text : List ℕ) (place : Tap) (fault : CaptureFault) → Tells ports underlay texts text
+    → (opens : OpensInTurn ports underlay new new_underlay (Err (stream.Run (faults.Capture place fault)))) → IsFirstRefused texts text opens.0 place fault
+one_refused ports new underlay new_underlay texts text place fault tells (index, at, begun, refused) =
+    let many : length texts ≡ length ports = sym (length-map texts (λ (v : Vec ℕ Global). v.items)) ∙ tells_many ports underlay texts text tells in
+    record {
+      at = subst (λ n. IsAt n index place) (sym many) at;
+      refused = refused (octets_at (texts_octets texts) text place) (tells_at ports underlay texts text index place tells at);
+      before = λ other k lt at_k.
+          let also = subst (λ n. IsAt n k other) many at_k in
+          let reading = (begun other k lt also).reads (octets_at (texts_octets texts) text other) (tells_at ports underlay texts text k other tells also) in
+          (_, reading.records);
+    }
+
+-- ---- where a run stops
+
+module _ (s : Settings) (changes : List TimedChange) (texts : List (Vec ℕ Global)) (text : List ℕ) (start new : Drains) where
+  abbrev whole : Timeline
+  whole = whole_records changes texts text
+
+  rising : IsRising 0 whole.events
+  rising = rising_merged (all_events (map (λ (c : TimedChange). c.at) changes) (opened_captures (inputs texts text)))
+
+  -- the texts of the headers and of some events
+  abbrev behind : List Event → Outputs
+  behind es = texts_behind changes (opened (settings_told s)) (empty_outputs (length texts)) es
+
+  texts_are : (es rest : List Event) (k : ℕ) → whole.events ≡ es ++ rest → k ≡ length es + 1 → texts_at s changes texts text k ≡ behind es
+  texts_are es rest k is at =
+      let same : k ≡ suc (length es) = omega (arith, at) in
+      ap (texts_at s changes texts text) same ∙ stage_events (settings_told s) (changes_of changes) (length texts) whole es rest rising is
+
+  -- before any capture was opened, or at one of which a read failed
+  pub over_unopened : StandAt start new (no_texts (length texts)) → StandsSomewhere s changes texts text start new
+  over_unopened at = record { k = 0; most = omega arith; stands = at }
+
+  -- at a capture that can't be opened
+  pub over_refused : (index : ℕ) (place : Tap) (fault : CaptureFault) → length texts ≡ length s.ports → IsFirstRefused texts text index place fault → StandAt start new (no_texts (length texts))
+      → LeavesOver s changes texts text start new (Err (stream.Run (faults.Capture place fault)))
+  over_refused index place fault many first at =
+      let found = first_refused texts text index place fault first in (
+        ports_counted s changes texts text (eq-eqb _ _ many)
+            ∙ ap (by_timeline s changes (length texts)) (told_fault (map (λ (c : TimedChange). c.at) changes) texts text (timeline.Capture place fault) found.0 found.1),
+        at,
+      )
+
+  -- among the headers
+  pub over_headers : (target : Target) → StandBetween start new (no_texts (length texts)) (empty_outputs (length texts)) → LeavesOver s changes texts text start new (Err (stream.Write target))
+  over_headers target between = record { k = 0; most = inl (omega arith); stands = subst (StandBetween start new (no_texts (length texts))) (sym (texts_are [] whole.events 1 refl (omega arith))) between }
+
+  stands_behind : (es rest : List Event) → whole.events ≡ es ++ rest → StandAt start new (behind es) → StandsSomewhere s changes texts text start new
+  stands_behind es rest is at = record {
+    k = length es + 1;
+    most = omega (arith, ap length is, length-append es rest);
+    stands = subst (StandAt start new) (sym (texts_are es rest (length es + 1) is refl)) at;
+  }
+
+  -- at the first record of a capture
+  pub over_firsts : (fault : StreamFault) (turns : List Turn) (ports : List Stream) (underlay : Stream) → BeginsIn {T = Unit {0}} (texts_octets texts) text turns ports underlay (Err fault) → StandAt start new (empty_outputs (length texts))
+      → LeavesOver s changes texts text start new (Err fault)
+  over_firsts (stream.Run (faults.Record place n f)) turns ports underlay h at =
+      record { k = 0; faulty = h.0; before = inl (refl, h.1); stands = subst (StandAt start new) (sym (texts_are [] whole.events 1 refl (omega arith))) at }
+  over_firsts (stream.Run (faults.Settings f)) turns ports underlay h at = absurd h
+  over_firsts (stream.Run (faults.Changes f)) turns ports underlay h at = absurd h
+  over_firsts (stream.Run faults.PortCount) turns ports underlay h at = absurd h
+  over_firsts (stream.Run (faults.Capture place f)) turns ports underlay h at = absurd h
+  over_firsts (stream.Run faults.OutOfMemory) turns ports underlay h at = absurd h
+  over_firsts (stream.Read place) turns ports underlay h at = stands_behind [] whole.events refl at
+  over_firsts (stream.Write target) turns ports underlay h at = absurd h
+
+  -- among the events
+  pub over_events : (fault : StreamFault) (run : Run) (es more rest : List Event) → whole.events ≡ es ++ (more ++ rest) → EndsIn {T = Unit {0}} (texts_octets texts) text es rest run (Err fault) → IsPart {T = Unit {0}} more (Err fault)
+      → LeadsBehind {T = Unit {0}} changes (opened (settings_told s)) start new (empty_outputs (length texts)) es more (Err fault) → LeavesOver s changes texts text start new (Err fault)
+  over_events (stream.Run (faults.Record place n f)) run es more rest is h part at = record {
+    k = length es;
+    faulty = h.0;
+    before = inr (subst (EndBefore place n) (sym (first_events whole es (more ++ rest) is)) h.1);
+    stands = subst (StandAt start new) (sym (texts_are es (more ++ rest) (length es + 1) is refl)) at;
+  }
+  over_events (stream.Run (faults.Settings f)) run es more rest is h part at = absurd h
+  over_events (stream.Run (faults.Changes f)) run es more rest is h part at = absurd h
+  over_events (stream.Run faults.PortCount) run es more rest is h part at = absurd h
+  over_events (stream.Run (faults.Capture place f)) run es more rest is h part at = absurd h
+  over_events (stream.Run faults.OutOfMemory) run es more rest is h part at = stands_behind es (more ++ rest) is at
+  over_events (stream.Read place) run es more rest is h part at = stands_behind es (more ++ rest) is at
+  over_events (stream.Write target) run es more rest is h part at =
+      let one : length more ≡ 1 = ap length part.1 in
+      let all : whole.events ≡ (es ++ more) ++ rest = is ∙ sym (append_assoc es more rest) in
+      record {
+        k = length es + 1;
+        most = inl (omega (arith, one, ap length is, length-append es (more ++ rest), length-append more rest));
+        stands = subst (λ o. StandBetween start new o (texts_at s changes texts text (length es + 1 + 1))) (sym (texts_are es (more ++ rest) (length es + 1) is refl))
+            (subst (StandBetween start new (behind es)) (sym (texts_are (es ++ more) rest (length es + 1 + 1) all (omega (arith, one, length-append es more)))) at.0);
+      }
+
+  -- among the lines of the cut captures
+  pub over_cuts : (target : Target) (es : List Event) (turns : List Turn) (ports : List Stream) (underlay : Stream) → whole.events ≡ es → AllStandAtEnd texts text turns ports underlay
+      → StandBetween start new (behind es) (with_cuts (behind es) (cuts_at ports underlay turns)) → LeavesOver s changes texts text start new (Err (stream.Write target))
+  over_cuts target es turns ports underlay is ends between =
+      let same : length es + 1 + 1 ≡ suc (suc (length es)) = omega arith in
+      let all : texts_at s changes texts text (length es + 1 + 1) ≡ with_cuts (behind es) (cuts_at ports underlay turns) =
+      ap (texts_at s changes texts text) same
+      ∙ stage_end (settings_told s) (changes_of changes) (length texts) whole es rising is
+      ∙ ap (with_cuts (behind es)) (cuts_at_end texts text turns ports underlay ends) in
+      record {
+        k = length es + 1;
+        most = inr (ap (λ (l : List Event). length l + 1) (sym is), no_faults texts text (whole_at_end texts text turns ports underlay ends));
+        stands = subst (λ o. StandBetween start new o (texts_at s changes texts text (length es + 1 + 1))) (sym (texts_are es [] (length es + 1) (is ∙ sym (append-nil es)) refl))
+            (subst (StandBetween start new (behind es)) (sym all) between);
+      }
+
+  -- nowhere
+  pub over_all : (es : List Event) (turns : List Turn) (ports : List Stream) (underlay : Stream) → length texts ≡ length s.ports → whole.events ≡ es → AllStandAtEnd texts text turns ports underlay
+      → StandAt start new (with_cuts (behind es) (cuts_at ports underlay turns)) → LeavesOver s changes texts text start new (Ok tt)
+  over_all es turns ports underlay many is ends at =
+      let S = settings_told s in
+      let cs = changes_of changes in (
+        outputs S cs (length texts) whole,
+        ports_counted s changes texts text (eq-eqb _ _ many) ∙ ap (by_timeline s changes (length texts)) (told_whole changes texts text (no_faults texts text (whole_at_end texts text turns ports underlay ends))),
+        subst (StandAt start new)
+            (ap (λ l. with_cuts (behind l) (cuts_at ports underlay turns)) (sym is) ∙ ap (with_cuts (behind whole.events)) (sym (cuts_at_end texts text turns ports underlay ends)) ∙ outputs_grown S cs (length texts) whole rising) at,
+      )
+
+-- ---- refused before
+
+-- a fault of a text or of the number of captures
+abbrev pub IsRefusal : RunFault → Type 0
+IsRefusal (faults.Record place n f) = ⊥
+IsRefusal fault = ⊤
+
+pub settings_refusal : (fault : SettingsFault) → IsRefusal (of_settings fault)
+settings_refusal refused_.NotToml = tt
+settings_refusal (refused_.Missing key) = tt
+settings_refusal (refused_.BadValue key) = tt
+settings_refusal (refused_.TwoSegments key) = tt
+settings_refusal (refused_.NotRising key) = tt
+settings_refusal (refused_.OverLimit key) = tt
+settings_refusal refused_.OutOfMemory = tt
+
+pub changes_refusal : (fault : SettingsFault) → IsRefusal (of_changes fault)
+changes_refusal refused_.NotToml = tt
+changes_refusal (refused_.Missing key) = tt
+changes_refusal (refused_.BadValue key) = tt
+changes_refusal (refused_.TwoSegments key) = tt
+changes_refusal (refused_.NotRising key) = tt
+changes_refusal (refused_.OverLimit key) = tt
+changes_refusal refused_.OutOfMemory = tt
+
+module _ (texts : List (Vec ℕ Global)) (text : List ℕ) (start new : Drains) where
+  -- the texts, or the number of captures, are refused, or memory was
+  pub over_refusal : (s : Meaning Settings) (c : Meaning (List TimedChange)) (fault : RunFault) → IsRefusal fault → Gives (Err fault) (run s c texts text) → StandAt start new (no_texts (length texts))
+      → IsRunOver s c texts text start new (Err (stream.Run fault))
+  over_refusal (Ok s) (Ok changes) (faults.Settings f) refusal gives at = (gives, at)
+  over_refusal (Ok s) (Err fault) (faults.Settings f) refusal gives at = (gives, at)
+  over_refusal (Err fault) c (faults.Settings f) refusal gives at = (gives, at)
+  over_refusal (Ok s) (Ok changes) (faults.Changes f) refusal gives at = (gives, at)
+  over_refusal (Ok s) (Err fault) (faults.Changes f) refusal gives at = (gives, at)
+  over_refusal (Err fault) c (faults.Changes f) refusal gives at = (gives, at)
+  over_refusal (Ok s) (Ok changes) faults.PortCount refusal gives at = (gives, at)
+  over_refusal (Ok s) (Err fault) faults.PortCount refusal gives at = (gives, at)
+  over_refusal (Err fault) c faults.PortCount refusal gives at = (gives, at)
+  over_refusal (Ok s) (Ok changes) (faults.Capture place f) refusal gives at = (gives, at)
+  over_refusal (Ok s) (Err fault) (faults.Capture place f) refusal gives at = (gives, at)
+  over_refusal (Err fault) c (faults.Capture place f) refusal gives at = (gives, at)
+  over_refusal s c (faults.Record place n f) refusal gives at = absurd refusal
+  over_refusal (Ok s) (Ok changes) faults.OutOfMemory refusal gives at = over_unopened s changes texts text start new at
+  over_refusal (Ok s) (Err fault) faults.OutOfMemory refusal gives at = at
+  over_refusal (Err fault) c faults.OutOfMemory refusal gives at = at

@@ -1,0 +1,64 @@
+use Rattle.std.proofs.Common.{◌+◌, ◌<◌, drop, subst, arith, length, slice_index_or}
+use Rattle.std.proofs.lemmas.List.{get_or_default}
+use Rattle.std.specs.Option.{option_to_list}
+use Rattle.pcap_stream.specs.Source.{Stream}
+use Rattle.timeline.specs.declared.source.Tap.TheVariants.{Port, Underlay}
+use Rattle.capture_run.specs.Writing.{with_cuts}
+use Rattle.stream_run.specs.Begun.{no_turn}
+use Rattle.stream_run.specs.Cuts.{cut_behind, cuts_at, cuts_from}
+use Rattle.stream_run.specs.Stage.{Lead, StandAt, StandBetween, drains}
+use Rattle.stream_run.specs.declared.turn.Turn.{Turn}
+use Rattle.stream_run.proofs.Cutting.{CutSoFar, cut_failed, last_cut, left_at, left_last, none_cut, one_cut}
+use Rattle.stream_run.proofs.cuts.put_cuts.Goals as goal
+
+pub loop-i-init : goal.loop-i-init
+loop-i-init g c start o sinks sink at = none_cut start (drains sinks sink (g.W.Output.written c.args.decisions.now) (g.W.Output.failures c.args.decisions.now)) o (cuts_at c.args.ports.now c.args.underlay.now c.args.turns.now) at
+
+pub returns-in-Err : goal.returns-in-Err
+returns-in-Err g c start o sinks sink at =
+    let ports = c.args.ports.now in
+    let underlay = c.args.underlay.now in
+    let turns = c.args.turns.now in
+    let i = c.loop-i.i in
+    let all = cuts_at ports underlay turns in
+    let s = slice_index_or ports i c.index-ports-i.result in
+    let there : i + 1 < length turns = omega (arith, c.requires.turns, c.loop-i-test.true) in
+    let now = drains sinks sink (g.W.Output.written c.loop-i.decisions) (g.W.Output.failures c.loop-i.decisions) in
+    let new = drains sinks sink (g.W.Output.written c.put_cut.new.decisions) (g.W.Output.failures c.put_cut.new.decisions) in
+    let here = subst (λ l. CutSoFar start now o l all) (left_at ports underlay turns i c.index-ports-i.result c.loop-i-test.true) (c.loop-i.invariant start o sinks sink at) in
+    let lead = c.in-Err.ensures start here.mid sinks sink here.at in (
+      cut_failed start now new o (cut_behind (Port (i + 1)) s (slice_index_or turns (i + 1) no_turn).done) (cuts_from (i + 1 + 1) (drop (i + 1) ports) underlay turns) all here
+          (subst (λ (x : Stream). StandBetween start new here.mid (with_cuts here.mid (option_to_list (cut_behind (Port (i + 1)) x (slice_index_or turns (i + 1) no_turn).done)))) c.index-ports-i.is
+          (subst (λ (t : Turn). StandBetween start new here.mid (with_cuts here.mid (option_to_list (cut_behind (Port (i + 1)) c.index-ports-i.result t.done)))) (get_or_default turns (i + 1) _ no_turn there) lead.0)),
+      lead.1,
+    )
+
+pub loop-i-preserved : goal.loop-i-preserved
+loop-i-preserved g c start o sinks sink at =
+    let ports = c.args.ports.now in
+    let underlay = c.args.underlay.now in
+    let turns = c.args.turns.now in
+    let i = c.loop-i.i in
+    let all = cuts_at ports underlay turns in
+    let s = slice_index_or ports i c.index-ports-i.result in
+    let there : i + 1 < length turns = omega (arith, c.requires.turns, c.loop-i-test.true) in
+    let now = drains sinks sink (g.W.Output.written c.loop-i.decisions) (g.W.Output.failures c.loop-i.decisions) in
+    let new = drains sinks sink (g.W.Output.written c.put_cut.new.decisions) (g.W.Output.failures c.put_cut.new.decisions) in
+    let here = subst (λ l. CutSoFar start now o l all) (left_at ports underlay turns i c.index-ports-i.result c.loop-i-test.true) (c.loop-i.invariant start o sinks sink at) in
+    one_cut start now new o (cut_behind (Port (i + 1)) s (slice_index_or turns (i + 1) no_turn).done) (cuts_from (i + 1 + 1) (drop (i + 1) ports) underlay turns) all here
+    (subst (λ (x : Stream). StandAt start new (with_cuts here.mid (option_to_list (cut_behind (Port (i + 1)) x (slice_index_or turns (i + 1) no_turn).done)))) c.index-ports-i.is
+    (subst (λ (t : Turn). StandAt start new (with_cuts here.mid (option_to_list (cut_behind (Port (i + 1)) c.index-ports-i.result t.done)))) (get_or_default turns (i + 1) _ no_turn there) (c.in_default.ensures start here.mid sinks sink here.at)))
+
+pub returns : goal.returns
+returns g c start o sinks sink at =
+    let ports = c.args.ports.now in
+    let underlay = c.args.underlay.now in
+    let turns = c.args.turns.now in
+    let all = cuts_at ports underlay turns in
+    let there : length ports + 1 < length turns = omega (arith, c.requires.turns) in
+    let now = drains sinks sink (g.W.Output.written c.loop-i.decisions) (g.W.Output.failures c.loop-i.decisions) in
+    let new = drains sinks sink (g.W.Output.written c.put_cut-2.new.decisions) (g.W.Output.failures c.put_cut-2.new.decisions) in
+    let here = subst (λ l. CutSoFar start now o l all) (left_last ports underlay turns c.loop-i.i (omega (arith, c.loop-i-test.false, c.loop-i.auto.i-end))) (c.loop-i.invariant start o sinks sink at) in
+    last_cut {T = Unit {0}} start now new o (option_to_list (cut_behind Underlay underlay (slice_index_or turns (length ports + 1) no_turn).done)) all c.put_cut-2.result here
+    (subst (λ (t : Turn). Lead {T = Unit {0}} start new here.mid (with_cuts here.mid (option_to_list (cut_behind Underlay underlay t.done))) c.put_cut-2.result) (get_or_default turns (length ports + 1) _ no_turn there)
+    (c.put_cut-2.ensures start here.mid sinks sink here.at))

@@ -1,0 +1,72 @@
+-- What a run over streams answers, and what it leaves: by one list of events for all its outputs; it serves the contract of the run.
+--     texts_of      the headers, the texts of some events, and the lines of cut captures
+--     Leaves      what stands in the outputs, by the answer
+--     Answers      a whole run, by what its texts of settings and changes mean
+use Rattle.std.specs.Prelude.{◌≡◌, ◌⊎◌, ◌==◌, List, [], ◌∷◌, ◌++◌, length, MatchBool, Result, Ok, Err}
+use Rattle.pcap_stream.specs.Source.{Stream}
+use Rattle.timeline.specs.declared.event.Event.{Event}
+use Rattle.timeline.specs.declared.timeline.Cut.{Cut}
+use Rattle.overlay_settings.specs.declared.change.TimedChange.{TimedChange}
+use Rattle.overlay_config.specs.Fault.{Meaning}
+use Rattle.overlay_settings.specs.Settings.{Settings}
+use Rattle.endpoint_state.specs.Opened.{settings_told}
+use Rattle.endpoint_core.specs.Step.{opened}
+use Rattle.capture_run.specs.Fault.{of_changes, of_settings}
+use Rattle.capture_run.specs.Outputs.{Outputs}
+use Rattle.capture_run.specs.Writing.{empty_outputs, with_cuts}
+use Rattle.capture_run.specs.declared.fault.RunFault.{RunFault}
+use Rattle.capture_run.specs.declared.fault.RunFault.TheVariants as faults
+use Rattle.stream_run.specs.Stage.{AreWell, Drains, FailedAt, StandAt, StandBetween, no_texts}
+use Rattle.stream_run.specs.Steps.{texts_behind}
+use Rattle.stream_run.specs.declared.fault.StreamFault.{StreamFault}
+use Rattle.stream_run.specs.declared.fault.StreamFault.TheVariants as stream
+
+-- ---- the texts
+
+-- the headers, the texts of these events one after another, and the lines of these cut captures
+abbrev pub texts_of : Settings → List TimedChange → List Event → List Cut → Outputs
+texts_of s changes es cuts = with_cuts (texts_behind changes (opened (settings_told s)) (empty_outputs (length s.ports)) es) cuts
+
+-- texts, and those that come next: the headers, one event more, or the lines of the cut captures
+abbrev pub AreNext : Settings → List TimedChange → Outputs → Outputs → Type 0
+AreNext s changes texts next =
+    ((texts ≡ no_texts (length s.ports)) × (next ≡ texts_of s changes [] []))
+    ⊎ ((es : List Event) × (e : Event) × (texts ≡ texts_of s changes es []) × (next ≡ texts_of s changes (es ++ e ∷ []) []))
+    ⊎ ((es : List Event) × (cuts : List Cut) × (texts ≡ texts_of s changes es []) × (next ≡ texts_of s changes es cuts))
+
+-- ---- the outputs
+
+-- the texts of all events and of the cut captures; where a write failed, also a part of what came next; and else the
+-- texts of whole events, with the headers or without them
+abbrev pub Leaves : Settings → List TimedChange → Drains → Drains → Result (Unit {0}) StreamFault → Type 0
+Leaves s changes old new (Ok x) = (es : List Event) × (cuts : List Cut) × StandAt old new (texts_of s changes es cuts)
+Leaves s changes old new (Err (stream.Write target)) =
+    (texts : Outputs) × (next : Outputs) × AreNext s changes texts next × StandBetween old new texts next × FailedAt target old new
+Leaves s changes old new (Err fault) = StandAt old new (no_texts (length s.ports)) ⊎ ((es : List Event) × StandAt old new (texts_of s changes es []))
+
+-- an output failed, or none
+abbrev pub WritesWith : Drains → Drains → Result (Unit {0}) StreamFault → Type 0
+WritesWith old new (Err (stream.Write target)) = FailedAt target old new
+WritesWith old new result = AreWell old new
+
+-- ---- a whole run
+
+-- what a run reads and writes
+pub record Ends : Type 0 where
+  pub ports : List Stream
+  pub underlay : Stream
+  pub drains : Drains
+
+-- the same, made of what a call is lent
+abbrev pub ends : List Stream → Stream → Drains → Ends
+ends ports underlay drains = record { ports = ports; underlay = underlay; drains = drains }
+
+-- it is refused by this fault, or memory was; nothing was read or written
+abbrev pub Refuses : RunFault → Ends → Ends → Result (Unit {0}) StreamFault → Type 0
+Refuses fault old new result = ((result ≡ Err (stream.Run fault)) ⊎ (result ≡ Err (stream.Run faults.OutOfMemory))) × (new ≡ old)
+
+-- by what the texts of settings and changes mean: the settings' fault first, then the changes', then the number of captures
+abbrev pub Answers : Meaning Settings → Meaning (List TimedChange) → Ends → Ends → Result (Unit {0}) StreamFault → Type 0
+Answers (Err fault) c old new result = Refuses (of_settings fault) old new result
+Answers (Ok s) (Err fault) old new result = Refuses (of_changes fault) old new result
+Answers (Ok s) (Ok changes) old new result = MatchBool (length old.ports == length s.ports) (Leaves s changes old.drains new.drains result) (Refuses faults.PortCount old new result)

@@ -1,0 +1,106 @@
+-- What a run over streams answers, and what it leaves in its outputs, by the octets of its captures; it serves the contract of the run.
+--     whole_records      the events of all whole records, in order, and the captures that are cut
+--     IsRunOver      the answer of a run, and the texts that its outputs hold then
+use Rattle.std.specs.Prelude.{◌≡◌, ◌⊎◌, ◌≤◌, ⊤, ℕ, ◌+◌, List, [], length, map, take, Vec, Some, Result, Ok, Err}
+use Rattle.std.specs.declared.alloc.Global.{Global}
+use Rattle.pcap_io.specs.declared.record.RecordFault.{RecordFault}
+use Rattle.pcap_stream.specs.Source.{Stream}
+use Rattle.overlay_config.specs.Fault.{Meaning}
+use Rattle.overlay_config.specs.Settings.{Settings}
+use Rattle.overlay_settings.specs.declared.change.TimedChange.{TimedChange}
+use Rattle.endpoint_state.specs.Opened.{settings_told}
+use Rattle.timeline.specs.Events.{all_events}
+use Rattle.timeline.specs.Faults.{faults_of}
+use Rattle.timeline.specs.Inputs.{inputs, opened_captures}
+use Rattle.timeline.specs.Order.{merged}
+use Rattle.timeline.specs.Timeline.{Timeline, cuts_of}
+use Rattle.timeline.specs.declared.source.Tap.{Tap}
+use Rattle.capture_run.specs.Outputs.{Outputs}
+use Rattle.capture_run.specs.Run.{run}
+use Rattle.capture_run.specs.declared.fault.RunFault.TheVariants as faults
+use Rattle.stream_run.specs.Coming.{EndBefore}
+use Rattle.stream_run.specs.Stage.{Drains, StandAt, StandBetween, no_texts, stage}
+use Rattle.stream_run.specs.Steps.{AreRead, IsFaultyAt, changes_of}
+use Rattle.stream_run.specs.declared.fault.StreamFault.{StreamFault}
+use Rattle.stream_run.specs.declared.fault.StreamFault.TheVariants as stream
+use Rattle.stream_run.specs.declared.turn.Turn.{Turn}
+
+-- ---- the captures
+
+-- the octets of some captures
+abbrev pub texts_octets : List (Vec ℕ Global) → List (List ℕ)
+texts_octets texts = map (λ (v : Vec ℕ Global). v.items) texts
+
+-- all inputs tell their octets
+abbrev pub Tells : List Stream → Stream → List (Vec ℕ Global) → List ℕ → Type 0
+Tells ports underlay texts text = (map (λ (s : Stream). s.supply.rest) ports ≡ map (λ (octets : List ℕ). Some octets) (texts_octets texts)) × (underlay.supply.rest ≡ Some text)
+
+-- the events of the changes and of the whole records of all captures, those in front of each one's first fault, in order;
+-- and the captures that are cut
+abbrev pub whole_records : List TimedChange → List (Vec ℕ Global) → List ℕ → Timeline
+whole_records changes texts text =
+    let captures = opened_captures (inputs texts text) in
+    record { events = merged (all_events (map (λ c. c.at) changes) captures); cuts = cuts_of captures }
+
+-- all of them can be read to their ends
+abbrev pub AreFaultless : List (Vec ℕ Global) → List ℕ → Type 0
+AreFaultless texts text = faults_of (inputs texts text) ≡ []
+
+-- ---- the texts
+
+-- none; those of the headers; of the headers and an event; and so on to all events, and with the lines of the cut captures
+abbrev pub texts_at : Settings → List TimedChange → List (Vec ℕ Global) → List ℕ → ℕ → Outputs
+texts_at s changes texts text k = stage (settings_told s) (changes_of changes) (length texts) (whole_records changes texts text) k
+
+-- the outputs hold the texts of whole events, with the headers or without them
+pub record StandsSomewhere (s : Settings) (changes : List TimedChange) (texts : List (Vec ℕ Global)) (text : List ℕ) (old new : Drains) : Type 0 where
+  pub k : ℕ
+  pub most : k ≤ length (whole_records changes texts text).events + 1
+  pub stands : StandAt old new (texts_at s changes texts text k)
+
+-- or also a part of what comes next; lines of cut captures only where all captures were read to their ends
+pub record StandsAmong (s : Settings) (changes : List TimedChange) (texts : List (Vec ℕ Global)) (text : List ℕ) (old new : Drains) : Type 0 where
+  pub k : ℕ
+  pub most : (k ≤ length (whole_records changes texts text).events) ⊎ ((k ≡ length (whole_records changes texts text).events + 1) × AreFaultless texts text)
+  pub stands : StandBetween old new (texts_at s changes texts text k) (texts_at s changes texts text (k + 1))
+
+-- a record has this fault, and the outputs hold the texts of all events up to the record before it, and no more
+pub record StandsBefore (place : Tap) (n : ℕ) (fault : RecordFault) (s : Settings) (changes : List TimedChange) (texts : List (Vec ℕ Global)) (text : List ℕ) (old new : Drains) : Type 0 where
+  pub k : ℕ
+  pub faulty : IsFaultyAt (texts_octets texts) text place n fault
+  pub before : ((k ≡ 0) × (n ≡ 1)) ⊎ EndBefore place n (take k (whole_records changes texts text).events)
+  pub stands : StandAt old new (texts_at s changes texts text (k + 1))
+
+-- ---- the answer
+
+-- with these settings and changes
+abbrev pub LeavesOver : Settings → List TimedChange → List (Vec ℕ Global) → List ℕ → Drains → Drains → Result (Unit {0}) StreamFault → Type 0
+LeavesOver s changes texts text old new (Ok x) = (found : Outputs) × (run (Ok s) (Ok changes) texts text ≡ Ok found) × StandAt old new found
+LeavesOver s changes texts text old new (Err (stream.Run (faults.Record place n fault))) = StandsBefore place n fault s changes texts text old new
+LeavesOver s changes texts text old new (Err (stream.Run faults.OutOfMemory)) = StandsSomewhere s changes texts text old new
+LeavesOver s changes texts text old new (Err (stream.Run fault)) = (run (Ok s) (Ok changes) texts text ≡ Err fault) × StandAt old new (no_texts (length texts))
+LeavesOver s changes texts text old new (Err (stream.Read place)) = StandsSomewhere s changes texts text old new
+LeavesOver s changes texts text old new (Err (stream.Write target)) = StandsAmong s changes texts text old new
+
+-- without them: why, unless memory was refused
+abbrev pub RefusesOver : Meaning Settings → Meaning (List TimedChange) → List (Vec ℕ Global) → List ℕ → Drains → Drains → Result (Unit {0}) StreamFault → Type 0
+RefusesOver s c texts text old new (Err (stream.Run faults.OutOfMemory)) = StandAt old new (no_texts (length texts))
+RefusesOver s c texts text old new (Err (stream.Run fault)) = (run s c texts text ≡ Err fault) × StandAt old new (no_texts (length texts))
+RefusesOver s c texts text old new result = ⊥
+
+-- by what the texts of the settings and of the changes mean
+abbrev pub IsRunOver : Meaning Settings → Meaning (List TimedChange) → List (Vec ℕ Global) → List ℕ → Drains → Drains → Result (Unit {0}) StreamFault → Type 0
+IsRunOver (Ok s) (Ok changes) texts text old new result = LeavesOver s changes texts text old new result
+IsRunOver (Ok s) (Err fault) texts text old new result = RefusesOver (Ok s) (Err fault) texts text old new result
+IsRunOver (Err fault) c texts text old new result = RefusesOver (Err fault) c texts text old new result
+
+-- ---- the begin
+
+module _ {T : Type 0} where
+  -- the first record of each capture is fetched, up to the first that has a fault
+  abbrev pub BeginsIn : List (List ℕ) → List ℕ → List Turn → List Stream → Stream → Result T StreamFault → Type 0
+  BeginsIn texts text turns ports underlay (Ok x) = AreRead texts text turns ports underlay
+  BeginsIn texts text turns ports underlay (Err (stream.Run (faults.Record place n fault))) = IsFaultyAt texts text place n fault × (n ≡ 1)
+  BeginsIn texts text turns ports underlay (Err (stream.Run fault)) = ⊥
+  BeginsIn texts text turns ports underlay (Err (stream.Read place)) = ⊤
+  BeginsIn texts text turns ports underlay (Err (stream.Write target)) = ⊥

@@ -1,0 +1,145 @@
+//! Runs over streams.
+ghost use Rattle.std.specs.Prelude.{◌≡◌, ◌≤◌, ℕ, List, All, Vec as AVec, length};
+ghost use Rattle.std.specs.declared.alloc.Global.{Global as AGlobal};
+ghost use Rattle.overlay_config.specs.Change.{changes_in};
+ghost use Rattle.overlay_config.specs.Fault.{Meaning};
+ghost use Rattle.overlay_config.specs.Settings.{Settings as Told, settings_in};
+ghost use Rattle.overlay_settings.specs.declared.change.TimedChange.{TimedChange as Timed};
+ghost use Rattle.capture_run.specs.Run.{Means};
+ghost use Rattle.stream_run.specs.Begun.{IsUnread};
+ghost use Rattle.stream_run.specs.Left.{Answers, Leaves, WritesWith, ends};
+ghost use Rattle.stream_run.specs.Over.{IsRunOver, LeavesOver, Tells};
+ghost use Rattle.stream_run.specs.Read.{ReadsWith};
+ghost use Rattle.stream_run.specs.Stage.{drains};
+ghost use Rattle.stream_run.specs.Steps.{AreTimely};
+
+use crate::begin::{begin_all, fetch_all, first_turns};
+use crate::cuts::put_cuts;
+use crate::fault::StreamFault;
+use crate::opening::open_all;
+use crate::step::put_events;
+use capture_run::{RunFault, of_changes, of_settings};
+use decision_lines::Desk;
+use endpoint_core::Endpoint;
+use overlay_config::{Settings, TimedChange, changes_of, settings_of};
+use pcap_stream::{Input, Output, Sink, Source};
+use std::alloc::Global;
+
+/// Runs an endpoint with the settings of a text over the captures of its local ports, port 1 first, and of its underlay,
+/// with the changes of a text at their moments.
+///
+/// Events come in order of moment; those of one moment as the changes, the ports rising, the underlay. What comes of each
+/// is written before the next record of its capture is read: records to the sinks, its line to the decisions. The settings,
+/// the changes and the number of captures are looked at before anything is read or written. Then all captures are opened,
+/// the headers written, and the events taken one after another; the lines of cut captures come last. Where it stops at a
+/// fault, what was written stands: the texts of the events so far, the same events for all outputs, and where a write
+/// failed at most a part of those of one event more. `OutOfMemory` comes only where memory was refused.
+pub fn run_streams<R: Input, W: Output>(
+    alloc: Global,
+    settings: &[u8],
+    changes: &[u8],
+    ports: &mut [Source<R>],
+    underlay: &mut Source<R>,
+    port_sinks: &mut [Sink<W>],
+    underlay_sink: &mut Sink<W>,
+    decisions: &mut W,
+) -> Result<(), StreamFault>
+    requires sinks { length port_sinks.old ≡ length ports.old }
+    requires new_ports { All IsUnread ports.old }
+    requires new_underlay { IsUnread underlay.old }
+    ensures run { (s : Meaning Told) (c : Meaning (List Timed)) → Means settings_in settings.now s → Means changes_in changes.now c
+        → Answers s c
+        (ends ports.old underlay.old (drains port_sinks.old underlay_sink.old (W.written decisions.old) (W.failures decisions.old)))
+        (ends ports.new underlay.new (drains port_sinks.new underlay_sink.new (W.written decisions.new) (W.failures decisions.new))) result }
+    ensures over { (s : Meaning Told) (c : Meaning (List Timed)) (texts : List (AVec ℕ AGlobal)) (text : List ℕ) → Means settings_in settings.now s → Means changes_in changes.now c
+        → Tells ports.old underlay.old texts text
+        → IsRunOver s c texts text
+        (drains port_sinks.old underlay_sink.old (W.written decisions.old) (W.failures decisions.old))
+        (drains port_sinks.new underlay_sink.new (W.written decisions.new) (W.failures decisions.new)) result }
+    ensures reads { ReadsWith ports.old underlay.old ports.new underlay.new result }
+    ensures writes { WritesWith
+        (drains port_sinks.old underlay_sink.old (W.written decisions.old) (W.failures decisions.old))
+        (drains port_sinks.new underlay_sink.new (W.written decisions.new) (W.failures decisions.new)) result }
+{
+    let settings = match settings_of(alloc, settings) {
+        Ok(settings) => settings,
+        Err(fault) => return Err(StreamFault::Run(of_settings(fault))),
+    };
+    let changes = match changes_of(alloc, changes) {
+        Ok(changes) => changes,
+        Err(fault) => return Err(StreamFault::Run(of_changes(fault))),
+    };
+    if ports.len() != settings.ports().len() {
+        return Err(StreamFault::Run(RunFault::PortCount));
+    }
+    run_with(
+        alloc,
+        settings,
+        changes.as_slice(),
+        ports,
+        underlay,
+        port_sinks,
+        underlay_sink,
+        decisions,
+    )
+}
+
+/// The run with these settings and changes, on as many captures as there are ports.
+fn run_with<R: Input, W: Output>(
+    alloc: Global,
+    settings: Settings,
+    changes: &[TimedChange],
+    ports: &mut [Source<R>],
+    underlay: &mut Source<R>,
+    port_sinks: &mut [Sink<W>],
+    underlay_sink: &mut Sink<W>,
+    decisions: &mut W,
+) -> Result<(), StreamFault>
+    requires few { length ports.old ≤ 16 }
+    requires ports { length ports.old ≡ length settings.ports }
+    requires sinks { length port_sinks.old ≡ length ports.old }
+    requires timely { AreTimely changes.now }
+    requires new_ports { All IsUnread ports.old }
+    requires new_underlay { IsUnread underlay.old }
+    ensures outputs { Leaves settings changes.now
+        (drains port_sinks.old underlay_sink.old (W.written decisions.old) (W.failures decisions.old))
+        (drains port_sinks.new underlay_sink.new (W.written decisions.new) (W.failures decisions.new)) result }
+    ensures over { (texts : List (AVec ℕ AGlobal)) (text : List ℕ) → Tells ports.old underlay.old texts text → LeavesOver settings changes.now texts text
+        (drains port_sinks.old underlay_sink.old (W.written decisions.old) (W.failures decisions.old))
+        (drains port_sinks.new underlay_sink.new (W.written decisions.new) (W.failures decisions.new)) result }
+    ensures reads { ReadsWith ports.old underlay.old ports.new underlay.new result }
+{
+    let Ok(mut turns) = first_turns(alloc, changes, ports.len() + 1) else {
+        return Err(StreamFault::Run(RunFault::OutOfMemory));
+    };
+    let Ok(mut endpoint) = Endpoint::open(alloc, settings) else {
+        return Err(StreamFault::Run(RunFault::OutOfMemory));
+    };
+    let mut desk = Desk::new();
+    if let Err(fault) = open_all(ports, underlay) {
+        return Err(fault);
+    }
+    if let Err(target) = begin_all(port_sinks, underlay_sink) {
+        return Err(StreamFault::Write(target));
+    }
+    if let Err(fault) = fetch_all(changes, ports, underlay, turns.as_mut_slice()) {
+        return Err(fault);
+    }
+    if let Err(fault) = put_events(
+        changes,
+        ports,
+        underlay,
+        turns.as_mut_slice(),
+        &mut endpoint,
+        &mut desk,
+        port_sinks,
+        underlay_sink,
+        decisions,
+    ) {
+        return Err(fault);
+    }
+    match put_cuts(ports, underlay, turns.as_slice(), &mut desk.line, decisions) {
+        Ok(()) => Ok(()),
+        Err(target) => Err(StreamFault::Write(target)),
+    }
+}

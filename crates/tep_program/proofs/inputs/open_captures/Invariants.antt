@@ -1,0 +1,9 @@
+use Rattle.std.proofs.Common.{◌≡◌, All, length}
+use Rattle.pcap_stream.specs.Source.{New, Stream}
+use Rattle.tep_program.proofs.inputs.open_captures.Given as goal
+
+abbrev pub invariant-loop-name : goal.invariant-loop-name
+invariant-loop-name g l = record {
+  count : length l.captures.items ≡ l.name-index;
+  fresh : All (λ (capture : Stream). capture.standing ≡ New) l.captures.items;
+}

@@ -1,0 +1,10 @@
+use Rattle.std.proofs.Common.{◌≡◌, ◌++◌, length}
+use Rattle.std.specs.Vec.Iter.{into_iter_items}
+use Rattle.tep_program.proofs.outputs.Opened.emptied.Given as goal
+
+-- a file that is written stands for each that was taken
+abbrev pub invariant-loop-file : goal.invariant-loop-file
+invariant-loop-file g l = record {
+  count : length l.ports.items ≡ length l.yielded;
+  all : l.yielded ++ into_iter_items l.file-iterator ≡ l.fn.self.ports.items;
+}

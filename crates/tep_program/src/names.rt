@@ -1,0 +1,82 @@
+//! The names of what a run reads, and which files they are.
+use dissector::STANDARD_INPUT;
+use std::fs::{self, Metadata};
+use std::os::unix::fs::{FileTypeExt, MetadataExt};
+use std::path::Path;
+use std::rt::Files;
+use timeline::Tap;
+
+/// The file that standard input is.
+const STANDARD_INPUT_FILE: &str = "/dev/stdin";
+
+/// The names of what a run reads, as they were given.
+#[derive(Clone, Copy)]
+pub struct Names<'n, 'a> {
+    pub settings: &'a str,
+    pub changes: Option<&'a str>,
+    pub underlay: &'a str,
+    pub ports: &'n [&'a str],
+}
+
+impl<'a> Names<'_, 'a> {
+    /// The name of a capture. That of a port which isn't there is the underlay's.
+    pub fn capture(self, tap: Tap) -> &'a str {
+        match tap {
+            Tap::Underlay => self.underlay,
+            Tap::Port(number) => usize::from(number)
+                .checked_sub(1)
+                .and_then(|index| self.ports.get(index))
+                .copied()
+                .unwrap_or(self.underlay),
+        }
+    }
+
+    /// Whether each capture is a regular file, whose next octets are never waited for.
+    pub fn are_regular_files<R: Files>(self, rt: &R) -> bool {
+        is_regular_file(rt, self.underlay)
+            && self.ports.iter().all(|name| is_regular_file(rt, *name))
+    }
+
+    /// Whether what stands at a path is read under one of these names, or another name of the same file.
+    pub fn contain<R: Files>(self, rt: &R, path: Path<'_>) -> bool {
+        let Ok(found) = fs::metadata(rt, path) else {
+            return false;
+        };
+        // To write into a device takes nothing from who reads it.
+        if found.file_type().is_char_device() {
+            return false;
+        }
+        is_same(rt, self.settings, &found)
+            || self.changes.is_some_and(|name| is_same(rt, name, &found))
+            || is_same(rt, file_of(self.underlay), &found)
+            || self
+                .ports
+                .iter()
+                .any(|name| is_same(rt, file_of(*name), &found))
+    }
+}
+
+/// The file that a capture's name stands for.
+fn file_of(name: &str) -> &str {
+    if name == STANDARD_INPUT {
+        STANDARD_INPUT_FILE
+    } else {
+        name
+    }
+}
+
+/// Whether a path leads to this file, through links or not.
+fn is_same<R: Files>(rt: &R, path: &str, found: &Metadata) -> bool {
+    match fs::metadata(rt, path) {
+        Ok(metadata) => metadata.ino() == found.ino() && metadata.dev() == found.dev(),
+        Err(_) => false,
+    }
+}
+
+/// Whether a capture's name stands for a regular file.
+fn is_regular_file<R: Files>(rt: &R, name: &str) -> bool {
+    match fs::metadata(rt, file_of(name)) {
+        Ok(metadata) => metadata.is_file(),
+        Err(_) => false,
+    }
+}

@@ -1,0 +1,198 @@
+//! The files that a run writes.
+ghost use Rattle.std.specs.Prelude.{◌≡◌, IfOk, length};
+
+use crate::names::Names;
+use crate::stop::{Output, Stop};
+use pcap_stream::{Sink, StdOutput};
+use std::alloc::{AllocError, Global};
+use std::fs::{OpenFile, OpenOptions};
+use std::io::{self, BufWriter, Write};
+use std::path::{Path, PathBuf};
+use std::rt::Files;
+
+/// A file that is written in blocks.
+pub type Written<F> = StdOutput<BufWriter<F>>;
+
+/// What a run writes: the ports' captures rising, the underlay's, and the decision lines.
+#[derive(Drop)]
+pub struct Outputs<F: Write + Drop> {
+    pub ports: Vec<Sink<Written<F>>>,
+    pub underlay: Sink<Written<F>>,
+    pub decisions: Written<F>,
+}
+
+/// The same files, opened, with what stood in them.
+#[derive(Drop)]
+pub struct Opened<F: Drop> {
+    ports: Vec<F>,
+    underlay: F,
+    decisions: F,
+}
+
+/// Refuses an output that is one of the files that are read: to write it would be to cut what is still to be read.
+pub fn spare_inputs<R: Files + AllocGlobal>(
+    rt: &R,
+    folder: &str,
+    names: Names<'_, '_>,
+) -> Result<(), Stop<'static>> {
+    for index in 0..names.ports.len() {
+        spare(rt, folder, names, Output::Port(index + 1))?;
+    }
+    spare(rt, folder, names, Output::Underlay)?;
+    spare(rt, folder, names, Output::Decisions)
+}
+
+/// Refuses this output if it is one of the files that are read.
+fn spare<R: Files + AllocGlobal>(
+    rt: &R,
+    folder: &str,
+    names: Names<'_, '_>,
+    output: Output,
+) -> Result<(), Stop<'static>> {
+    let path = path_of(rt.alloc(), folder, output)?;
+    if names.contain(rt, path.as_path()) {
+        return Err(Stop::Write(output));
+    }
+    Ok(())
+}
+
+/// Where an output stands.
+fn path_of(alloc: Global, folder: &str, output: Output) -> Result<PathBuf, AllocError> {
+    let name = format!(in alloc; "{output}")?;
+    Path::new(folder).join(alloc, name.as_str())
+}
+
+/// Opens the outputs of so many ports in a folder, and makes those that aren't there. What stands in them is kept.
+pub fn open_outputs<R: Files + AllocGlobal>(
+    rt: &R,
+    folder: &str,
+    count: usize,
+) -> Result<Opened<R::File>, Stop<'static>>
+    ensures { IfOk result (λ opened. length opened.ports.items ≡ count) }
+{
+    let mut ports = Vec::new(rt.alloc());
+    for index in 0..count {
+        let file = match open(rt, folder, Output::Port(index + 1)) {
+            Ok(file) => file,
+            Err(stop) => return Err(stop),
+        };
+        if ports.push(file).is_err() {
+            return Err(Stop::from(AllocError));
+        }
+    }
+    let underlay = match open(rt, folder, Output::Underlay) {
+        Ok(file) => file,
+        Err(stop) => return Err(stop),
+    };
+    match open(rt, folder, Output::Decisions) {
+        Ok(decisions) => Ok(Opened {
+            ports,
+            underlay,
+            decisions,
+        }),
+        Err(stop) => Err(stop),
+    }
+}
+
+/// Opens an output.
+fn open<R: Files + AllocGlobal>(
+    rt: &R,
+    folder: &str,
+    output: Output,
+) -> Result<R::File, Stop<'static>> {
+    let path = path_of(rt.alloc(), folder, output)?;
+    OpenOptions::new()
+        .write(true)
+        .create(true)
+        .open(rt, path.as_path())
+        .map_err(|_| Stop::Write(output))
+}
+
+impl<F: Write + OpenFile + Drop> Opened<F> {
+    /// Empties the files. They are written in blocks of so many octets; where it is 0, each record and each line goes out at
+    /// once.
+    pub fn emptied(self, alloc: Global, block: usize) -> Result<Outputs<F>, Stop<'static>>
+        ensures { IfOk result (λ outputs. length outputs.ports.items ≡ length self.ports.items) }
+    {
+        let Opened {
+            ports: files,
+            underlay,
+            decisions,
+        } = self;
+        let mut ports = Vec::new(alloc);
+        for file in files {
+            let output = Output::Port(ports.len() + 1);
+            let written = match empty(alloc, file, output, block) {
+                Ok(written) => written,
+                Err(stop) => return Err(stop),
+            };
+            if ports.push(Sink::new(written)).is_err() {
+                return Err(Stop::from(AllocError));
+            }
+        }
+        let underlay = match empty(alloc, underlay, Output::Underlay, block) {
+            Ok(written) => Sink::new(written),
+            Err(stop) => return Err(stop),
+        };
+        match empty(alloc, decisions, Output::Decisions, block) {
+            Ok(decisions) => Ok(Outputs {
+                ports,
+                underlay,
+                decisions,
+            }),
+            Err(stop) => Err(stop),
+        }
+    }
+}
+
+/// Empties a file, which is written in blocks.
+fn empty<F: Write + OpenFile + Drop>(
+    alloc: Global,
+    file: F,
+    output: Output,
+    block: usize,
+) -> Result<Written<F>, Stop<'static>> {
+    if cut(&file).is_err() {
+        return Err(Stop::Write(output));
+    }
+    match BufWriter::with_capacity(alloc, block, file) {
+        Ok(writer) => Ok(StdOutput::new(writer)),
+        Err(_) => Err(Stop::from(AllocError)),
+    }
+}
+
+/// Takes what stands in a file out of it. A pipe or a device holds nothing.
+fn cut<F: OpenFile>(file: &F) -> io::Result<()> {
+    if file.metadata()?.is_file() {
+        file.set_len(0)
+    } else {
+        Ok(())
+    }
+}
+
+impl<F: Write + Drop> Outputs<F> {
+    /// Writes what the blocks still hold, file by file, and tells the first that failed.
+    pub fn finish(self) -> Result<(), Stop<'static>> {
+        let Outputs {
+            ports,
+            underlay,
+            decisions,
+        } = self;
+        let mut finished = Ok(());
+        for (index, port) in ports.into_iter().enumerate() {
+            let flushed = flush(Output::Port(index + 1), port.into_inner());
+            finished = finished.and(flushed);
+        }
+        finished
+            .and(flush(Output::Underlay, underlay.into_inner()))
+            .and(flush(Output::Decisions, decisions))
+    }
+}
+
+/// Writes what a file's block still holds.
+fn flush<F: Write + Drop>(output: Output, written: Written<F>) -> Result<(), Stop<'static>> {
+    match written.into_inner().flush() {
+        Ok(()) => Ok(()),
+        Err(_) => Err(Stop::Write(output)),
+    }
+}

@@ -1,0 +1,86 @@
+//! Runs over captures, in files and pipes.
+use crate::inputs::{open_capture, open_captures, read_file, read_if_given};
+use crate::names::Names;
+use crate::outputs::{open_outputs, spare_inputs};
+use crate::stop::Stop;
+use capture_run::{RunFault, of_changes, of_settings};
+use overlay_config::{changes_of, settings_of};
+use std::alloc::Global;
+use std::io::Input;
+use std::rt::Files;
+use stream_run::run_streams;
+
+/// How many octets of an output are written at once, where no capture's next octets are waited for.
+const BLOCK: usize = 65_536;
+
+/// Runs on captures, and writes what comes out into a folder as it comes.
+///
+/// Where the settings, the changes or the number of captures are refused, or an output is one of the files that are read,
+/// nothing is made or written; where an output can't be opened, what stands in the others is kept.
+pub fn run_on_files<'a, R: Files + Input + AllocGlobal>(
+    rt: &R,
+    names: Names<'_, 'a>,
+    folder: &str,
+) -> Result<(), Stop<'a>> {
+    let settings = read_file(rt, names.settings)?;
+    let changes = read_if_given(rt, names.changes)?;
+    let mut underlay = match open_capture(rt, names.underlay) {
+        Ok(underlay) => underlay,
+        Err(stop) => return Err(stop),
+    };
+    let mut ports = match open_captures(rt, names.ports) {
+        Ok(ports) => ports,
+        Err(stop) => return Err(stop),
+    };
+    look_before(
+        rt.alloc(),
+        settings.as_slice(),
+        changes.as_slice(),
+        ports.len(),
+    )?;
+    spare_inputs(rt, folder, names)?;
+    // A read of a pipe may wait for whoever writes into it, and what came of an event has to be out by then.
+    let block = if names.are_regular_files(rt) {
+        BLOCK
+    } else {
+        0
+    };
+    let opened = open_outputs(rt, folder, ports.len())?;
+    let mut outputs = opened.emptied(rt.alloc(), block)?;
+    let run = run_streams(
+        rt.alloc(),
+        settings.as_slice(),
+        changes.as_slice(),
+        ports.as_mut_slice(),
+        &mut underlay,
+        outputs.ports.as_mut_slice(),
+        &mut outputs.underlay,
+        &mut outputs.decisions,
+    );
+    let finished = outputs.finish();
+    match run {
+        Ok(()) => finished,
+        Err(fault) => Err(Stop::running(names, fault)),
+    }
+}
+
+/// Looks at what a run can be refused for before it reads a capture.
+fn look_before(
+    alloc: Global,
+    settings: &[u8],
+    changes: &[u8],
+    captures: usize,
+) -> Result<(), RunFault> {
+    let count = match settings_of(alloc, settings) {
+        Ok(settings) => settings.ports().len(),
+        Err(fault) => return Err(of_settings(fault)),
+    };
+    if let Err(fault) = changes_of(alloc, changes) {
+        return Err(of_changes(fault));
+    }
+    if count == captures {
+        Ok(())
+    } else {
+        Err(RunFault::PortCount)
+    }
+}

@@ -21,7 +21,8 @@ is_taken() {
     [ "$said" = "$1" ] || complain "$2 ${3-}: '$said' in place of '$1'"
 }
 
-is_taken "ok: 4 ports, 3 segments, 13 changes" every_key.toml every_change.toml
+is_taken "ok: 4 ports, 3 segments, 16 changes" every_key.toml every_change.toml
+is_taken "ok: 3 ports, 2 segments, 8 changes" a.toml segments.toml
 is_taken "ok: 3 ports, 1 segments, 0 changes" linux/settings.toml
 is_taken "ok: 3 ports, 2 segments, 0 changes" openvswitch.toml
 

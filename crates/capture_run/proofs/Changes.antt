@@ -4,7 +4,7 @@ use Rattle.std.proofs.lemmas.List.{get_or-map, length-set}
 use Rattle.overlay_settings.specs.declared.change.Change.{Change}
 use Rattle.overlay_settings.specs.declared.change.TimedChange.{TimedChange}
 use Rattle.endpoint_state.specs.Settings.{Settings, SegmentSettings, segment_at}
-use Rattle.endpoint_state.specs.Effect.{Effect, ToFlood, ToBridge, ToMembers, ToPort, ToNothing, effect, applied}
+use Rattle.endpoint_state.specs.Effect.{Effect, ToFlood, ToBridge, ToLimit, ToMembers, ToPort, Comes, Goes, ToNothing, effect, applied}
 use Rattle.endpoint_state.specs.Change.{refused}
 use Rattle.endpoint_core.specs.Event.{Input, Event, FrameAt, Packet, Asks}
 use Rattle.endpoint_core.specs.Step.{State, after, after_came, bridges_after}
@@ -28,8 +28,11 @@ flood_ports S (Some s) f = refl
 applied_ports : (e : Effect) (S : Settings) → length (applied e S).ports.ports ≡ length S.ports.ports
 applied_ports (ToFlood vid change) S = flood_ports S (segment_at S vid) _
 applied_ports (ToBridge vid change) S = refl
+applied_ports (ToLimit vid limit) S = refl
 applied_ports (ToMembers vid port egress) S = refl
 applied_ports (ToPort port up) S = length-set S.ports.ports _ _
+applied_ports (Comes new) S = refl
+applied_ports (Goes vid) S = refl
 applied_ports ToNothing S = refl
 
 change_ports : (t : ℕ) (c : Change) (B : Bridges) (is : Bool) → length (cond is (accepted_state t c B) B).settings.ports.ports ≡ length B.settings.ports.ports

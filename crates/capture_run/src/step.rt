@@ -19,7 +19,6 @@ use crate::outputs::Outputs;
 use decision_lines::{Desk, Line};
 use endpoint_core::{Came, Course, Endpoint, Head};
 use filter_db::Place;
-use frame_view::Vid;
 use overlay_config::{Change, TimedChange};
 use std::alloc::AllocError;
 use timeline::{Captured, Event, Happening, Tap};
@@ -118,24 +117,6 @@ fn put_course(
     outputs.put_line(desk.line.text())
 }
 
-/// The segment that a change names.
-fn named(change: &Change) -> Option<Vid>
-    ensures { result ≡ named change.now }
-{
-    match *change {
-        Change::AddFlood { vid, .. } => Some(vid),
-        Change::RemoveFlood { vid, .. } => Some(vid),
-        Change::Fix { vid, .. } => Some(vid),
-        Change::Unfix { vid, .. } => Some(vid),
-        Change::SetAgeing { vid, .. } => Some(vid),
-        Change::SetLearning { vid, .. } => Some(vid),
-        Change::SetMember { vid, .. } => Some(vid),
-        Change::Flush { vid } => Some(vid),
-        Change::PortUp { .. } => None,
-        Change::PortDown { .. } => None,
-    }
-}
-
 /// Puts a change to the endpoint, and what comes of it to the outputs.
 fn put_change(
     outputs: &mut Outputs,
@@ -150,9 +131,10 @@ fn put_change(
         (answer (state_of endpoint.old) (change_at event.now.moment change))) }
     ensures number { desk.new.number ≡ desk.old.number }
 {
-    let reply = endpoint.change(event.moment, change);
+    let asked = change;
+    let reply = endpoint.change(event.moment, asked);
     desk.line
-        .write_reply(&desk.number, event, named(&change), reply);
+        .write_reply(&desk.number, event, change.vid(), reply);
     outputs.put_line(desk.line.text())
 }
 

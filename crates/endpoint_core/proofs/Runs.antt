@@ -13,7 +13,7 @@ use Rattle.filter_db.specs.Ageing.{live-live}
 use Rattle.filter_db.proofs.TableLemmas.{kept-empty}
 use Rattle.overlay_settings.specs.declared.change.Change.{Change}
 use Rattle.endpoint_state.specs.Settings.{Settings, BridgeSettings, SegmentSettings, segment_at}
-use Rattle.endpoint_state.specs.Effect.{Effect, ToFlood, ToBridge, ToMembers, ToPort, ToNothing, effect, applied}
+use Rattle.endpoint_state.specs.Effect.{Effect, ToFlood, ToBridge, ToLimit, ToMembers, ToPort, Comes, Goes, ToNothing, effect, applied}
 use Rattle.endpoint_state.specs.Change.{is_about, refused, accepted}
 use Rattle.endpoint_state.proofs.EffectLemmas.{is_to, effect-other}
 use Rattle.endpoint_state.specs.State.{State as Bridges, live_in, aged, accepted_state, table_changed}
@@ -57,8 +57,11 @@ bridges-flooding S overlay (Some s) = refl
 bridges-applied : (e : Effect) (S : Settings) (vid : ℕ) → is_to vid e ≡ false → (applied e S).bridges vid ≡ S.bridges vid
 bridges-applied (ToFlood v change) S vid other = ap (λ (f : ℕ → Option BridgeSettings). f vid) (bridges-flooding S _ (segment_at S v))
 bridges-applied (ToBridge v change) S vid other = rw other refl
+bridges-applied (ToLimit v limit) S vid other = rw other refl
 bridges-applied (ToMembers v port egress) S vid other = refl
 bridges-applied (ToPort port up) S vid other = refl
+bridges-applied (Comes new) S vid other = rw other refl
+bridges-applied (Goes v) S vid other = rw other refl
 bridges-applied ToNothing S vid other = refl
 
 -- a change that isn't about a segment leaves them
@@ -81,12 +84,8 @@ table-frame : (t : ℕ) (B : Bridges) (vid : ℕ) (r : Result Came Refused) → 
 table-frame t B vid (Ok x) = refl
 table-frame t B vid (Err refused) = refl
 
-unchosen : (b : Bool) (m : Table) → m ≡ cond b m m
-unchosen true m = refl
-unchosen false m = refl
-
 table-changed : (t : ℕ) (c : Change) (vid : ℕ) (m : Table) (o : Option SegmentSettings) → table_changed t c o vid m ≡ cond (is_about vid c) (entries_after_change o t c m) m
-table-changed t c vid m None = unchosen (is_about vid c) m
+table-changed t c vid m None = refl
 table-changed t c vid m (Some s) = refl
 
 table-chosen : (t : ℕ) (c : Change) (B : Bridges) (vid : ℕ) (b : Bool) → (cond b (accepted_state t c B) B).tables vid ≡ cond (b && is_about vid c) (entries_after_change (segment_at B.settings vid) t c (B.tables vid)) (B.tables vid)

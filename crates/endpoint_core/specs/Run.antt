@@ -58,9 +58,9 @@ abbrev pub entries_after_frame : Option SegmentSettings → ℕ → Result Came 
 entries_after_frame segment t (Ok x) m = table_learned t x.from x.frame segment m
 entries_after_frame segment t (Err refused) m = m
 
--- and behind a change
+-- and behind a change; a segment that comes begins without entries
 abbrev pub entries_after_change : Option SegmentSettings → ℕ → Change → Table → Table
-entries_after_change None t c m = m
+entries_after_change None t c m = empty
 entries_after_change (Some s) t c m = entries_changed t s c m
 
 -- what an event of the segment leaves of its table, which has what is live at moment t

@@ -2,6 +2,7 @@
 use Rattle.std.proofs.Common.{◌≡◌, ℕ, ◌==◌, Bool, true, false, cond, List, Option, Some, None, refl, sym, ap, ◌∙◌, subst}
 use Rattle.std.specs.Prelude.{is_none}
 use Rattle.std.specs.Option.{option_map, option_map_or, unwrap_or}
+use Rattle.std.specs.FinMap.{empty}
 use Rattle.std.proofs.Math.Path.{fun_ext}
 use Rattle.std.proofs.lemmas.Bool.{eqb-true, eq-eqb}
 use Rattle.filter_db.specs.Table.{Table}
@@ -38,9 +39,9 @@ ageing_of false learning t seconds None = refl
 ageing_of false learning t seconds (Some s) = refl
 
 -- a change of the ageing
-pub settings-ageing : (ports : Ports) (overlay : Overlay) (learning : List Bool) (t vid seconds : ℕ) (segments new : Segments) → new ≡ adjusted vid (set_ageing_in t seconds) (aged_all t segments) → settings_by ports overlay learning new ≡ accepted (settings_by ports overlay learning segments) (SetAgeing vid seconds)
-settings-ageing ports overlay learning t vid seconds segments new is =
-    ap (λ (b : ℕ → Option BridgeSettings). let s : Settings = record { ports = ports; overlay = overlay; bridges = b } in s)
+pub settings-ageing : (ports : Ports) (overlay : Overlay) (learning : List Bool) (pool t vid seconds : ℕ) (segments new : Segments) → new ≡ adjusted vid (set_ageing_in t seconds) (aged_all t segments) → settings_by ports overlay learning pool new ≡ accepted (settings_by ports overlay learning pool segments) (SetAgeing vid seconds)
+settings-ageing ports overlay learning pool t vid seconds segments new is =
+    ap (λ (b : ℕ → Option BridgeSettings). let s : Settings = record { ports = ports; overlay = overlay; bridges = b; pool = pool } in s)
     (ap (bridges_of learning) is ∙ fun_ext (λ w. ageing_of (w == vid) (learns learning w) t seconds (segments w)))
 
 -- ---- the tables
@@ -53,7 +54,7 @@ about-named vid w c names = ap (λ (o : Option ℕ). option_map_or (λ own. w ==
 
 -- a segment that a change isn't about
 unchanged : (t : ℕ) (c : Change) (o : Option SegmentSettings) (w : ℕ) (m : Table) → is_about w c ≡ false → table_changed t c o w m ≡ m
-unchanged t c None w m other = refl
+unchanged t c None w m other = ap (λ (b : Bool). cond b empty m) other
 unchanged t c (Some s) w m other = ap (λ (b : Bool). cond b (entries_changed t s c m) m) other
 
 -- one that it is about
@@ -101,10 +102,11 @@ after-accepted t c S settings tables none is_settings is_tables =
     ∙ sym (ap (λ (o : Option ChangeFault). cond (is_none o) (accepted_state t c S) S) none)
 
 -- the same where it changes entries of the segment that it names, and maybe ports or underlay
-pub after-entries : (t vid : ℕ) (c : Change) (f : Segment → Segment) (ports ports' : Ports) (overlay overlay' : Overlay) (learning : List Bool) (segments new : Segments) (it : Stands ports overlay learning segments vid) → named c ≡ Some vid → None ≡ refused (settings_by ports overlay learning segments) c → new ≡ adjusted vid f (aged_all t segments) → aged_all t new ≡ new → ((b : Bool) (s : Segment) → bridge_of b (f s) ≡ bridge_of b s) → settings_by ports' overlay' learning segments ≡ accepted (settings_by ports overlay learning segments) c → (f (aged t it.table)).entries ≡ entries_changed t (joined (bridge_of (learns learning vid) it.table) it.tunneled it.members) c (aged t it.table).entries → ◌≡◌ {A = State} (record { settings = settings_by ports' overlay' learning new; tables = tables_at t new }) (after_change t c (record { settings = settings_by ports overlay learning segments; tables = tables_at t segments }))
-after-entries t vid c f ports ports' overlay overlay' learning segments new it names none is settled keeps settings gives =
-    let S = settings_by ports overlay learning segments in
+pub after-entries : (t vid : ℕ) (c : Change) (f : Segment → Segment) (ports ports' : Ports) (overlay overlay' : Overlay) (learning : List Bool) (pool pool' : ℕ) (segments new : Segments) (it : Stands ports overlay learning segments vid) → named c ≡ Some vid → None ≡ refused (settings_by ports overlay learning pool segments) c → new ≡ adjusted vid f (aged_all t segments) → aged_all t new ≡ new → pool' ≡ pool → ((b : Bool) (s : Segment) → bridge_of b (f s) ≡ bridge_of b s) → settings_by ports' overlay' learning pool segments ≡ accepted (settings_by ports overlay learning pool segments) c → (f (aged t it.table)).entries ≡ entries_changed t (joined (bridge_of (learns learning vid) it.table) it.tunneled it.members) c (aged t it.table).entries → ◌≡◌ {A = State} (record { settings = settings_by ports' overlay' learning pool' new; tables = tables_at t new }) (after_change t c (record { settings = settings_by ports overlay learning pool segments; tables = tables_at t segments }))
+after-entries t vid c f ports ports' overlay overlay' learning pool pool' segments new it names none is settled stays keeps settings gives =
+    let S = settings_by ports overlay learning pool segments in
     let own = joined (bridge_of (learns learning vid) it.table) it.tunneled it.members in
-    after-accepted t c (record { settings = S; tables = tables_at t segments }) (settings_by ports' overlay' learning new) (tables_at t new) (sym none)
-    (ap (λ (b : ℕ → Option BridgeSettings). let s : Settings = record { ports = ports'; overlay = overlay'; bridges = b } in s) (bridges-adjusted learning t vid f segments new keeps is) ∙ settings)
+    after-accepted t c (record { settings = S; tables = tables_at t segments }) (settings_by ports' overlay' learning pool' new) (tables_at t new) (sym none)
+    (ap (λ (n : ℕ). settings_by ports' overlay' learning n new) stays
+    ∙ ap (λ (b : ℕ → Option BridgeSettings). let s : Settings = record { ports = ports'; overlay = overlay'; bridges = b; pool = pool } in s) (bridges-adjusted learning t vid f segments new keeps is) ∙ settings)
     (tables-named t vid c f S own it.table segments new names it.settings it.has_table is settled gives)

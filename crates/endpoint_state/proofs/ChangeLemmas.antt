@@ -5,10 +5,10 @@ use Rattle.std.specs.Option.{option_and_then}
 use Rattle.std.proofs.Math.Path.{fun_ext}
 use Rattle.std.proofs.lemmas.Bool.{false≢true, eqb-true}
 use Rattle.frame_view.specs.First.{first}
-use Rattle.std.specs.FinMap.{insert, remove}
+use Rattle.std.specs.FinMap.{empty, insert, remove}
 use Rattle.filter_db.specs.Table.{Table, is_full, has_fixed, fix, unfix}
 use Rattle.overlay_settings.specs.declared.change.Change.{Change}
-use Rattle.overlay_settings.specs.declared.change.Change.TheVariants.{AddFlood, RemoveFlood, Fix, Unfix, SetAgeing, SetLearning, SetMember, PortUp, PortDown, Flush}
+use Rattle.overlay_settings.specs.declared.change.Change.TheVariants.{AddFlood, RemoveFlood, Fix, Unfix, SetAgeing, SetLearning, SetMember, PortUp, PortDown, Flush, AddSegment, RemoveSegment, SetLimit}
 use Rattle.overlay_settings.specs.declared.change.Target.{Target}
 use Rattle.endpoint_state.specs.declared.fault.ChangeFault.{ChangeFault}
 use Rattle.endpoint_state.specs.declared.fault.ChangeFault.TheVariants.{TableFull, NotThere}
@@ -39,7 +39,8 @@ abbrev full_in : List ℕ → Option SegmentSettings → Table → Option Change
 full_in mac o m = option_and_then (λ s. first ((TableFull, is_full s.limit mac m) ∷ [])) o
 
 stays_full : (t vid : ℕ) (mac : List ℕ) (target : Target) (o : Option SegmentSettings) (w : ℕ) (m : Table) (b : Bool) → (w == vid) ≡ b → (b ≡ true → IsSome (full_in mac o m)) → table_changed t (Fix vid mac target) o w m ≡ m
-stays_full t vid mac target None w m b is h = refl
+stays_full t vid mac target None w m true is h = absurd (false≢true (h refl))
+stays_full t vid mac target None w m false is h = ap (λ (c : Bool). cond c empty m) is
 stays_full t vid mac target (Some s) w m true is h =
     ap (λ (c : Bool). cond c (fix s.limit (place_of s.tunnels target) mac m) m) is
     ∙ ap (λ (c : Bool). cond c m (insert m mac (record { place = place_of s.tunnels target; last = None }))) (only TableFull (is_full s.limit mac m) (h refl))
@@ -53,7 +54,8 @@ negated true h = absurd (cc)
 negated false h = refl
 
 stays_absent : (t vid : ℕ) (mac : List ℕ) (o : Option SegmentSettings) (w : ℕ) (m : Table) (b : Bool) → (w == vid) ≡ b → (b ≡ true → IsSome (absent_in mac o m)) → table_changed t (Unfix vid mac) o w m ≡ m
-stays_absent t vid mac None w m b is h = refl
+stays_absent t vid mac None w m true is h = absurd (false≢true (h refl))
+stays_absent t vid mac None w m false is h = ap (λ (c : Bool). cond c empty m) is
 stays_absent t vid mac (Some s) w m true is h =
     ap (λ (c : Bool). cond c (unfix mac m) m) is ∙ ap (λ (c : Bool). cond c (remove m mac) m) (negated (has_fixed mac m) (only NotThere (not (has_fixed mac m)) (h refl)))
 stays_absent t vid mac (Some s) w m false is h = ap (λ (c : Bool). cond c (unfix mac m) m) is
@@ -77,6 +79,9 @@ table_refuses t (SetMember vid port None) S h = nothing (segment_at S.settings v
 table_refuses t (PortUp port) S h = absurd (false≢true h)
 table_refuses t (PortDown port) S h = absurd (false≢true h)
 table_refuses t (Flush vid) S h = nothing (segment_at S.settings vid) h
+table_refuses t (AddSegment new) S h = nothing (segment_at S.settings new.vid) h
+table_refuses t (RemoveSegment vid) S h = nothing (segment_at S.settings vid) h
+table_refuses t (SetLimit vid limit) S h = nothing (segment_at S.settings vid) h
 
 pub refused-nothing : RefusedChangesNothing
 refused-nothing t c S h = by (refused S.settings c) refl h

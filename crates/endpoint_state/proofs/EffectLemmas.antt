@@ -6,18 +6,21 @@ use Rattle.std.proofs.lemmas.Bool.{false≢true}
 use Rattle.vlan_ports.specs.Ports.{Members, members_at}
 use Rattle.underlay.specs.declared.segment.Segment.{Segment as Tunneled}
 use Rattle.overlay_settings.specs.declared.change.Change.{Change}
-use Rattle.overlay_settings.specs.declared.change.Change.TheVariants.{AddFlood, RemoveFlood, Fix, Unfix, SetAgeing, SetLearning, SetMember, PortUp, PortDown, Flush}
+use Rattle.overlay_settings.specs.declared.change.Change.TheVariants.{AddFlood, RemoveFlood, Fix, Unfix, SetAgeing, SetLearning, SetMember, PortUp, PortDown, Flush, AddSegment, RemoveSegment, SetLimit}
 use Rattle.endpoint_state.specs.declared.fault.ChangeFault.{ChangeFault}
 use Rattle.endpoint_state.specs.Settings.{Settings, BridgeSettings, SegmentSettings, joined}
-use Rattle.endpoint_state.specs.Effect.{Effect, ToFlood, ToBridge, ToMembers, ToPort, ToNothing, effect}
+use Rattle.endpoint_state.specs.Effect.{Effect, ToFlood, ToBridge, ToLimit, ToMembers, ToPort, Comes, Goes, ToNothing, effect}
 use Rattle.endpoint_state.specs.Change.{is_about, in_segment, refused}
 
 -- it is to the segment of this VID, or to a port and thereby to every segment
 abbrev pub is_to : ℕ → Effect → Bool
 is_to w (ToFlood vid change) = w == vid
 is_to w (ToBridge vid change) = w == vid
+is_to w (ToLimit vid limit) = w == vid
 is_to w (ToMembers vid port egress) = w == vid
 is_to w (ToPort port up) = true
+is_to w (Comes new) = w == new.vid
+is_to w (Goes vid) = w == vid
 is_to w ToNothing = false
 
 -- a change does nothing to a segment that it isn't about
@@ -32,13 +35,19 @@ effect-other w (SetMember vid port egress) other = other
 effect-other w (PortUp port) other = other
 effect-other w (PortDown port) other = other
 effect-other w (Flush vid) other = refl
+effect-other w (AddSegment new) other = other
+effect-other w (RemoveSegment vid) other = other
+effect-other w (SetLimit vid limit) other = other
 
 -- a segment that gets or loses a member is there
 abbrev pub IsThere : Settings → Effect → Type 0
 IsThere S (ToFlood vid change) = Unit {0}
 IsThere S (ToBridge vid change) = Unit {0}
+IsThere S (ToLimit vid limit) = Unit {0}
 IsThere S (ToMembers vid port egress) = is_some (members_at S.ports vid) ≡ true
 IsThere S (ToPort port up) = Unit {0}
+IsThere S (Comes new) = Unit {0}
+IsThere S (Goes vid) = Unit {0}
 IsThere S ToNothing = Unit {0}
 
 -- of a segment that isn't there nothing is asked
@@ -60,3 +69,6 @@ effect-there S (SetMember vid port egress) taken = there_where _ _ _ _ taken
 effect-there S (PortUp port) taken = tt
 effect-there S (PortDown port) taken = tt
 effect-there S (Flush vid) taken = tt
+effect-there S (AddSegment new) taken = tt
+effect-there S (RemoveSegment vid) taken = tt
+effect-there S (SetLimit vid limit) taken = tt

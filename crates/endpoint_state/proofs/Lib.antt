@@ -4,6 +4,8 @@ pub mod EffectLemmas
 pub mod EverywhereLemmas
 pub mod LaterLemmas
 pub mod OpenLemmas
+pub mod RoomLemmas
+pub mod SegmentLemmas
 pub mod SoundLemmas
 pub mod StandsLemmas
 pub mod StepLemmas

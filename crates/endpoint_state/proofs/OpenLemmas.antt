@@ -194,9 +194,9 @@ bridge-new : (b c : Bool) (o : Option SegmentRule) → b ≡ c → option_map (b
 bridge-new b c None same = refl
 bridge-new b c (Some s) same = ap (λ (x : Bool). Some (bridge-told x s)) same
 
-pub state-opened : (s : Told) (t : ℕ) (learning : List Bool) → ((vid : ℕ) → learns learning vid ≡ tells_learning s.segments vid) → ◌≡◌ {A = State} (record { settings = settings_by (ports-told s) (overlay-told s) learning (tables-told s); tables = tables_at t (tables-told s) }) (opened s)
+pub state-opened : (s : Told) (t : ℕ) (learning : List Bool) → ((vid : ℕ) → learns learning vid ≡ tells_learning s.segments vid) → ◌≡◌ {A = State} (record { settings = settings_by (ports-told s) (overlay-told s) learning s.pool (tables-told s); tables = tables_at t (tables-told s) }) (opened s)
 state-opened s t learning same =
-    ap (λ (x : ℕ → Option BridgeSettings). let S : State = record { settings = record { ports = ports-told s; overlay = overlay-told s; bridges = x }; tables = tables_at t (tables-told s) } in S)
+    ap (λ (x : ℕ → Option BridgeSettings). let S : State = record { settings = record { ports = ports-told s; overlay = overlay-told s; bridges = x; pool = s.pool }; tables = tables_at t (tables-told s) } in S)
     (fun_ext (λ vid. ap (λ (o : Option TableRule). option_map (bridge_of (learns learning vid)) (option_map new_segment o)) (find-rule s.segments vid) ∙ bridge-new (learns learning vid) (tells_learning s.segments vid) (find (λ x. x.vid == vid) s.segments) (same vid)))
     ∙ ap (λ (x : ℕ → Table). let S : State = record { settings = settings_told s; tables = x } in S) (tables-new t (map table_rule s.segments))
 
@@ -207,9 +207,10 @@ sound-as s p u g rules is_p is_u is_g =
     (subst (λ (x : overlay.Overlay). AreSound (ports-told s) x g) (sym is_u)
     (subst (λ (x : Segments). AreSound (ports-told s) (overlay-told s) x) (sym is_g) (sound-opened s rules)))
 
-pub state-as : (s : Told) (t : ℕ) (p : ports.Ports) (u : overlay.Overlay) (g : Segments) (learning : List Bool) → p ≡ ports-told s → u ≡ overlay-told s → g ≡ tables-told s → ((vid : ℕ) → learns learning vid ≡ tells_learning s.segments vid) → ◌≡◌ {A = State} (record { settings = settings_by p u learning g; tables = tables_at t g }) (opened s)
-state-as s t p u g learning is_p is_u is_g same =
-    ap (λ (x : ports.Ports). let S : State = record { settings = settings_by x u learning g; tables = tables_at t g } in S) is_p
-    ∙ ap (λ (x : overlay.Overlay). let S : State = record { settings = settings_by (ports-told s) x learning g; tables = tables_at t g } in S) is_u
-    ∙ ap (λ (x : Segments). let S : State = record { settings = settings_by (ports-told s) (overlay-told s) learning x; tables = tables_at t x } in S) is_g
+pub state-as : (s : Told) (t : ℕ) (p : ports.Ports) (u : overlay.Overlay) (g : Segments) (learning : List Bool) (pool : ℕ) → p ≡ ports-told s → u ≡ overlay-told s → g ≡ tables-told s → pool ≡ s.pool → ((vid : ℕ) → learns learning vid ≡ tells_learning s.segments vid) → ◌≡◌ {A = State} (record { settings = settings_by p u learning pool g; tables = tables_at t g }) (opened s)
+state-as s t p u g learning pool is_p is_u is_g is_pool same =
+    ap (λ (n : ℕ). let S : State = record { settings = settings_by p u learning n g; tables = tables_at t g } in S) is_pool
+    ∙ ap (λ (x : ports.Ports). let S : State = record { settings = settings_by x u learning s.pool g; tables = tables_at t g } in S) is_p
+    ∙ ap (λ (x : overlay.Overlay). let S : State = record { settings = settings_by (ports-told s) x learning s.pool g; tables = tables_at t g } in S) is_u
+    ∙ ap (λ (x : Segments). let S : State = record { settings = settings_by (ports-told s) (overlay-told s) learning s.pool x; tables = tables_at t x } in S) is_g
     ∙ state-opened s t learning same

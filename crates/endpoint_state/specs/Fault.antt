@@ -3,7 +3,7 @@ use Rattle.std.specs.Prelude.{ℕ, List, codes}
 use Rattle.flood_lists.specs.declared.fault.FloodFault.{FloodFault}
 use Rattle.flood_lists.specs.declared.fault.FloodFault.TheVariants as flood
 use Rattle.endpoint_state.specs.declared.fault.ChangeFault.{ChangeFault}
-use Rattle.endpoint_state.specs.declared.fault.ChangeFault.TheVariants.{NoSegment, NoPort, AlreadyThere, NotThere, FloodFull, TableFull, GroupAddress, OutOfRange, NoFamily, OwnAddress, NoTunnel}
+use Rattle.endpoint_state.specs.declared.fault.ChangeFault.TheVariants.{NoSegment, NoPort, AlreadyThere, NotThere, FloodFull, TableFull, GroupAddress, OutOfRange, NoFamily, OwnAddress, SegmentThere, PoolFull, SegmentsFull, NoTunnel}
 
 -- the number of a fault in decision lines
 abbrev pub number_of : ChangeFault → ℕ
@@ -17,6 +17,9 @@ number_of GroupAddress = 7
 number_of OutOfRange = 8
 number_of NoFamily = 9
 number_of OwnAddress = 10
+number_of SegmentThere = 11
+number_of PoolFull = 12
+number_of SegmentsFull = 13
 number_of NoTunnel = 14
 
 -- the name of a fault in decision lines
@@ -31,6 +34,9 @@ name_of GroupAddress = codes "GroupAddress"
 name_of OutOfRange = codes "OutOfRange"
 name_of NoFamily = codes "NoFamily"
 name_of OwnAddress = codes "OwnAddress"
+name_of SegmentThere = codes "SegmentThere"
+name_of PoolFull = codes "PoolFull"
+name_of SegmentsFull = codes "SegmentsFull"
 name_of NoTunnel = codes "NoTunnel"
 
 -- the fault of a flood list, as that of a change

@@ -1,5 +1,5 @@
 -- What an endpoint holds, with its tables in one pool.
-use Rattle.std.specs.Prelude.{ℕ}
+use Rattle.std.specs.Prelude.{ℕ, length}
 use Rattle.shared_tables.specs.Segments.{segments_of}
 use Rattle.shared_tables.specs.Shared.{Shared}
 use Rattle.endpoint_state.specs.declared.parts.Parts.{Parts}
@@ -12,13 +12,17 @@ use Rattle.endpoint_state.specs.State.{State}
 abbrev pub Held : Type 0
 Held = Parts Shared
 
+-- the most entries that all tables together may be given: one for each slot
+abbrev pub pool_of : Shared → ℕ
+pool_of tables = length tables.entries
+
 -- the settings in force
 abbrev pub settings_of : Held → Settings
-settings_of held = state.settings_of segments_of held
+settings_of held = state.settings_of segments_of pool_of held
 
 -- the state at moment t
 abbrev pub state_at : ℕ → Held → State
-state_at t held = state.state_of segments_of t held
+state_at t held = state.state_of segments_of pool_of t held
 
 -- the tables' moment: that of their last call but a look-up
 abbrev pub moment_of : Held → ℕ

@@ -1,10 +1,13 @@
 -- The settings in force of an endpoint: those that it was opened with, as changed since.
 --     Settings      all of them
+--     tables_asked      the tables that they ask for
 --     SegmentSettings, segment_at      those of one segment
 --     kind_named      the tunnel that a change means
 use Rattle.std.specs.Prelude.{ℕ, Bool, List, Option, Some, None, slice_get}
 use Rattle.std.specs.Option.{option_map, option_and_then}
+use Rattle.std.specs.FinMap.{empty}
 use Rattle.ip_udp_view.specs.declared.addr.Tunnel.{Tunnel}
+use Rattle.filter_db.specs.Segment.{Segments}
 use Rattle.vlan_ports.specs.Ports.{Ports, Members, members_at}
 use Rattle.underlay.specs.Flood.{Entries}
 use Rattle.underlay.specs.Tunnels.{of_kind}
@@ -31,6 +34,12 @@ pub record Settings : Type 0 where
   pub overlay : Overlay
   -- for each VID the bridge of its segment, where it has one
   pub bridges : ℕ → Option BridgeSettings
+  -- the most entries that all tables together may be given
+  pub pool : ℕ
+
+-- the tables that they ask for, without entries
+abbrev pub tables_asked : Settings → Segments
+tables_asked S = λ vid. option_map (λ bridge. record { limit = bridge.limit; ageing = bridge.ageing; entries = empty }) (S.bridges vid)
 
 -- the settings of one segment
 pub record SegmentSettings : Type 0 where

@@ -39,16 +39,16 @@ abbrev pub tables_at : ℕ → Segments → ℕ → Table
 tables_at t segments = λ vid. (table_of vid (aged_all t segments)).entries
 
 -- the settings that parts have
-abbrev pub settings_by : Ports → Overlay → List Bool → Segments → Settings
-settings_by ports overlay learning segments = record { ports = ports; overlay = overlay; bridges = bridges_of learning segments }
+abbrev pub settings_by : Ports → Overlay → List Bool → ℕ → Segments → Settings
+settings_by ports overlay learning pool segments = record { ports = ports; overlay = overlay; bridges = bridges_of learning segments; pool = pool }
 
 -- the settings in force
-abbrev pub settings_of : {T : Type 0} → (T → Segments) → Parts T → Settings
-settings_of segments parts = settings_by parts.ports parts.under parts.learning (segments parts.tables)
+abbrev pub settings_of : {T : Type 0} → (T → Segments) → (T → ℕ) → Parts T → Settings
+settings_of segments pool parts = settings_by parts.ports parts.under parts.learning (pool parts.tables) (segments parts.tables)
 
 -- the state at moment t
-abbrev pub state_of : {T : Type 0} → (T → Segments) → ℕ → Parts T → State
-state_of segments t parts = record { settings = settings_of segments parts; tables = tables_at t (segments parts.tables) }
+abbrev pub state_of : {T : Type 0} → (T → Segments) → (T → ℕ) → ℕ → Parts T → State
+state_of segments pool t parts = record { settings = settings_of segments pool parts; tables = tables_at t (segments parts.tables) }
 
 -- ---- ageing
 
@@ -70,9 +70,9 @@ fault S c = elim (refused S.settings c) [
   | None ↦ option_and_then (λ vid. option_and_then (λ s. table_fault s c (S.tables vid)) (segment_at S.settings vid)) (named c)
 ]
 
--- the table of a segment after a change that the settings don't refuse
+-- the table of a segment after a change that the settings don't refuse; one that comes begins without entries
 abbrev pub table_changed : ℕ → Change → Option SegmentSettings → ℕ → Table → Table
-table_changed t c None vid m = m
+table_changed t c None vid m = if is_about vid c then empty else m
 table_changed t c (Some s) vid m = if is_about vid c then entries_changed t s c m else m
 
 -- the state after a change that the settings don't refuse

@@ -21,7 +21,7 @@ impl<T: Tables> Parts<T> {
     /// Whether there is a segment.
     pub(crate) fn check_segment(&self, vid: Vid) -> Result<(), ChangeFault>
         requires sound { IsSound T.segments self.now }
-        ensures fault { fault_of result ≡ in_segment (segment_at (settings_of T.segments self.now) vid) (λ s. None) }
+        ensures fault { fault_of result ≡ in_segment (segment_at (settings_of T.segments T.pool self.now) vid) (λ s. None) }
         ensures there { IfOk result (λ done. IsSome (T.segments self.now.tables vid)) }
     {
         if !self.tables.has(vid) {
@@ -33,7 +33,7 @@ impl<T: Tables> Parts<T> {
     /// The kind of the tunnel that a change of a segment means.
     pub(crate) fn kind_named(&self, vid: Vid, tunnel: Option<Tunnel>) -> Result<Tunnel, ChangeFault>
         requires sound { IsSound T.segments self.now }
-        ensures kind { result ≡ tunnel_in (segment_at (settings_of T.segments self.now) vid) tunnel }
+        ensures kind { result ≡ tunnel_in (segment_at (settings_of T.segments T.pool self.now) vid) tunnel }
         ensures there { IfOk result (λ kind. IsSome (T.segments self.now.tables vid)) }
         ensures tunnel { IfOk result (λ kind. is_some (tunnel_at self.now.under vid kind) ≡ true) }
     {

@@ -29,7 +29,8 @@ pub enum ChangeFault {
     /// A group address where an individual one is asked for.
     #[error("GroupAddress")]
     GroupAddress,
-    /// An ageing outside 10 to 1,000,000 seconds, or the address 0.0.0.0, 255.255.255.255 or ::.
+    /// An ageing outside 10 to 1,000,000 seconds, a limit outside 1 to 8,192, or the address 0.0.0.0, 255.255.255.255 or
+    /// ::.
     #[error("OutOfRange")]
     OutOfRange,
     /// The endpoint has no own address of this family.
@@ -38,13 +39,22 @@ pub enum ChangeFault {
     /// The address is the endpoint's own.
     #[error("OwnAddress")]
     OwnAddress,
+    /// There is a segment of this VID, or one with a tunnel of the same kind and VNI.
+    #[error("SegmentThere")]
+    SegmentThere,
+    /// The limits of all segments would come to more than the pool.
+    #[error("PoolFull")]
+    PoolFull,
+    /// There are 256 segments.
+    #[error("SegmentsFull")]
+    SegmentsFull,
     /// The segment has no tunnel of this kind.
     #[error("NoTunnel")]
     NoTunnel,
 }
 
 impl ChangeFault {
-    /// Its number, by which it is told in decision lines: 1 to 10 in the order above, and 14 for `NoTunnel`.
+    /// Its number, by which it is told in decision lines: 1 to 14 in the order above.
     pub fn number(self) -> u8
         ensures { result ≡ number_of self }
     {
@@ -59,6 +69,9 @@ impl ChangeFault {
             ChangeFault::OutOfRange => 8,
             ChangeFault::NoFamily => 9,
             ChangeFault::OwnAddress => 10,
+            ChangeFault::SegmentThere => 11,
+            ChangeFault::PoolFull => 12,
+            ChangeFault::SegmentsFull => 13,
             ChangeFault::NoTunnel => 14,
         }
     }
@@ -78,6 +91,9 @@ impl ChangeFault {
             ChangeFault::OutOfRange => "OutOfRange",
             ChangeFault::NoFamily => "NoFamily",
             ChangeFault::OwnAddress => "OwnAddress",
+            ChangeFault::SegmentThere => "SegmentThere",
+            ChangeFault::PoolFull => "PoolFull",
+            ChangeFault::SegmentsFull => "SegmentsFull",
             ChangeFault::NoTunnel => "NoTunnel",
         }
     }

@@ -20,8 +20,8 @@ impl<T: Tables> Parts<T> {
         tunnel: Option<Tunnel>,
     ) -> Result<(), ChangeFault>
         requires sound { IsSound T.segments self.old }
-        ensures fault { (t : ℕ) → fault_of result ≡ fault (state_of T.segments t self.old) (AddFlood vid addr tunnel) }
-        ensures after { (t : ℕ) → state_of T.segments t self.new ≡ after_change t (AddFlood vid addr tunnel) (state_of T.segments t self.old) }
+        ensures fault { (t : ℕ) → fault_of result ≡ fault (state_of T.segments T.pool t self.old) (AddFlood vid addr tunnel) }
+        ensures after { (t : ℕ) → state_of T.segments T.pool t self.new ≡ after_change t (AddFlood vid addr tunnel) (state_of T.segments T.pool t self.old) }
         ensures sound { IsSound T.segments self.new }
         ensures moment { T.moment self.new.tables ≡ T.moment self.old.tables }
     {
@@ -40,8 +40,8 @@ impl<T: Tables> Parts<T> {
     ) -> Result<(), ChangeFault>
         requires sound { IsSound T.segments self.old }
         requires time { T.moment self.old.tables ≤ now }
-        ensures fault { fault_of result ≡ fault (state_of T.segments now self.old) (RemoveFlood vid addr tunnel) }
-        ensures after { state_of T.segments now self.new ≡ after_change now (RemoveFlood vid addr tunnel) (state_of T.segments now self.old) }
+        ensures fault { fault_of result ≡ fault (state_of T.segments T.pool now self.old) (RemoveFlood vid addr tunnel) }
+        ensures after { state_of T.segments T.pool now self.new ≡ after_change now (RemoveFlood vid addr tunnel) (state_of T.segments T.pool now self.old) }
         ensures sound { IsSound T.segments self.new }
         ensures time { T.moment self.new.tables ≤ now }
     {

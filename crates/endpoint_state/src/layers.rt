@@ -1,7 +1,5 @@
 //! What the layers are opened with, of the rules of segments.
-ghost use Rattle.std.specs.Prelude.{◌≡◌, ◌≤◌, IfOk, map};
-ghost use Rattle.std.specs.List.{sum_by};
-ghost use Rattle.filter_db.specs.declared.tables.TableRule.{TableRule};
+ghost use Rattle.std.specs.Prelude.{◌≡◌, IfOk, map};
 ghost use Rattle.overlay_settings.specs.Settings.{member_rule, table_rule, tunnel_rule};
 
 use filter_db::TableRule;
@@ -9,14 +7,6 @@ use overlay_settings::SegmentRule;
 use std::alloc::{AllocError, Global};
 use underlay::TunnelRule;
 use vlan_ports::MemberRule;
-
-/// How many slots these tables need: the sum of their limits.
-pub(crate) fn slots_for(rules: &[TableRule]) -> u32
-    requires { sum_by (λ (rule : TableRule). rule.limit) rules.now ≤ 65536 }
-    ensures { result ≡ sum_by (λ (rule : TableRule). rule.limit) rules.now }
-{
-    rules.iter().map(|rule| u32::from(rule.limit)).sum()
-}
 
 /// What the tables of segments go by.
 pub(crate) fn table_rules(

@@ -14,10 +14,11 @@ mod layers;
 mod learning;
 mod parts;
 mod port_changes;
+mod segment_changes;
 mod state;
 mod step;
 mod table_changes;
 
 pub use fault::ChangeFault;
-pub use overlay_settings::{Change, Target};
+pub use overlay_settings::{Change, NewSegment, Target};
 pub use state::EndpointState;

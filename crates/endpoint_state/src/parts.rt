@@ -6,7 +6,7 @@ ghost use Rattle.endpoint_state.specs.State.{state_of, fault, after_change};
 
 use crate::learning::Learning;
 use crate::{Change, ChangeFault};
-use filter_db::Tables;
+use filter_db::PoolTables;
 use underlay::Under;
 use vlan_ports::PortSet;
 
@@ -20,13 +20,13 @@ pub(crate) struct Parts<T> {
     pub(crate) learning: Learning,
 }
 
-impl<T: Tables> Parts<T> {
+impl<T: PoolTables> Parts<T> {
     /// Makes a change at a moment, or refuses it.
     pub(crate) fn change(&mut self, now: u64, change: Change) -> Result<(), ChangeFault>
         requires sound { IsSound T.segments self.old }
         requires time { T.moment self.old.tables ≤ now }
-        ensures fault { fault_of result ≡ fault (state_of T.segments now self.old) change }
-        ensures after { state_of T.segments now self.new ≡ after_change now change (state_of T.segments now self.old) }
+        ensures fault { fault_of result ≡ fault (state_of T.segments T.pool now self.old) change }
+        ensures after { state_of T.segments T.pool now self.new ≡ after_change now change (state_of T.segments T.pool now self.old) }
         ensures sound { IsSound T.segments self.new }
         ensures time { T.moment self.new.tables ≤ now }
     {
@@ -41,6 +41,9 @@ impl<T: Tables> Parts<T> {
             Change::PortUp { port } => self.port_up(port),
             Change::PortDown { port } => self.port_down(now, port),
             Change::Flush { vid } => self.flush(now, vid),
+            Change::AddSegment(new) => self.add_segment(now, new),
+            Change::RemoveSegment { vid } => self.remove_segment(now, vid),
+            Change::SetLimit { vid, limit } => self.set_limit(now, vid, limit),
         }
     }
 }

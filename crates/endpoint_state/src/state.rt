@@ -5,14 +5,13 @@ ghost use Rattle.frame_view.specs.First.{fault_of};
 ghost use Rattle.tunnel_learning.specs.Verdict.{put_or};
 ghost use Rattle.vlan_ports.specs.Ports.{has_segment as has_members};
 ghost use Rattle.underlay.specs.Overlay.{has_segment, flood_at};
-ghost use Rattle.overlay_settings.specs.Settings.{sum_of_limits};
 ghost use Rattle.endpoint_state.specs.Opened.{opened};
 ghost use Rattle.endpoint_state.specs.Settings.{segment_at};
 ghost use Rattle.endpoint_state.specs.Sound.{reaches, is_reached};
 ghost use Rattle.endpoint_state.specs.State.{fault, after_change};
 ghost use Rattle.endpoint_state.specs.Step.{can_leave, after_frame, verdict};
 
-use crate::layers::{layer_rules, slots_for, table_rules};
+use crate::layers::{layer_rules, table_rules};
 use crate::learning::Learning;
 use crate::parts::Parts;
 use crate::{Change, ChangeFault};
@@ -53,11 +52,11 @@ impl EndpointState {
     pub fn open(alloc: Global, settings: Settings) -> Result<EndpointState, AllocError>
         ensures state { IfOk result (λ state. (t : ℕ) → state_at t state ≡ opened settings) }
         ensures moment { IfOk result (λ state. moment_of state ≡ 0) }
-        ensures slots { IfOk result (λ state. state.tables.entries ≡ replicate (sum_of_limits settings.segments) None) }
+        ensures slots { IfOk result (λ state. state.tables.entries ≡ replicate settings.pool None) }
     {
         let told = settings.into_parts();
         let rules = table_rules(alloc, told.segments.as_slice())?;
-        let tables = SharedTables::open(alloc, rules.as_slice(), slots_for(rules.as_slice()))?;
+        let tables = SharedTables::open(alloc, rules.as_slice(), told.pool)?;
         let learning = Learning::open(alloc, told.segments.as_slice())?;
         let (members, tunnels) = layer_rules(alloc, told.segments)?;
         let ports = PortSet::open(alloc, told.ports.as_slice(), members.as_slice())?;

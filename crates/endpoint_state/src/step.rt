@@ -29,9 +29,9 @@ impl<T: Tables> Parts<T> {
         requires time { T.moment self.old.tables ≤ now }
         requires there { IsSome (T.segments self.old.tables vid) }
         requires reached { is_reached self.old.under vid from ≡ true }
-        ensures verdict { put_or places.new.items result ≡ verdict now vid from frame.now (state_of T.segments now self.old) }
-        ensures after { state_of T.segments now self.new ≡ after_frame now vid from frame.now (state_of T.segments now self.old) }
-        ensures leaves { IfOk (put_or places.new.items result) (λ places. IsTrue (list_all (can_leave (settings_of T.segments self.old) vid) places)) }
+        ensures verdict { put_or places.new.items result ≡ verdict now vid from frame.now (state_of T.segments T.pool now self.old) }
+        ensures after { state_of T.segments T.pool now self.new ≡ after_frame now vid from frame.now (state_of T.segments T.pool now self.old) }
+        ensures leaves { IfOk (put_or places.new.items result) (λ places. IsTrue (list_all (can_leave (settings_of T.segments T.pool self.old) vid) places)) }
         ensures empty { OnErr result (places.new.items ≡ []) }
         ensures sound { IsSound T.segments self.new }
         ensures time { T.moment self.new.tables ≤ now }

@@ -3,7 +3,7 @@ ghost use Rattle.std.specs.Prelude.{◌≡◌, ◌≤◌, ℕ, IfOk, IsSome, tru
 ghost use Rattle.frame_view.specs.First.{fault_of};
 ghost use Rattle.overlay_settings.specs.declared.change.Change.TheVariants.{Fix, Unfix, SetAgeing, SetLearning, Flush};
 ghost use Rattle.overlay_settings.specs.declared.change.Target.TheVariants.{Remote};
-ghost use Rattle.endpoint_state.specs.Change.{refused, fault_at, IsPlaceOf};
+ghost use Rattle.endpoint_state.specs.Change.{refused, fault_at, is_ageing, IsPlaceOf};
 ghost use Rattle.endpoint_state.specs.Sound.{IsSound, is_reached};
 ghost use Rattle.endpoint_state.specs.State.{settings_of, state_of, fault, after_change};
 
@@ -20,12 +20,19 @@ const SHORTEST_AGEING: u32 = 10;
 /// The longest ageing, in seconds.
 const LONGEST_AGEING: u32 = 1_000_000;
 
+/// Whether learned entries may be live for so many seconds.
+pub(crate) fn is_ageing(seconds: u32) -> bool
+    ensures { result ≡ is_ageing seconds }
+{
+    seconds >= SHORTEST_AGEING && seconds <= LONGEST_AGEING
+}
+
 impl<T: Tables> Parts<T> {
     /// Where a fixed entry of a segment is to stand.
     fn place_for(&self, vid: Vid, mac: Mac, target: Target) -> Result<Place, ChangeFault>
         requires sound { IsSound T.segments self.now }
-        ensures fault { fault_of result ≡ refused (settings_of T.segments self.now) (Fix vid mac target) }
-        ensures place { IfOk result (IsPlaceOf (settings_of T.segments self.now) vid target) }
+        ensures fault { fault_of result ≡ refused (settings_of T.segments T.pool self.now) (Fix vid mac target) }
+        ensures place { IfOk result (IsPlaceOf (settings_of T.segments T.pool self.now) vid target) }
         ensures there { IfOk result (λ place. IsSome (T.segments self.now.tables vid)) }
         ensures reached { IfOk result (λ place. is_reached self.now.under vid place ≡ true) }
     {
@@ -50,8 +57,8 @@ impl<T: Tables> Parts<T> {
         tunnel: Option<Tunnel>,
     ) -> Result<Place, ChangeFault>
         requires sound { IsSound T.segments self.now }
-        ensures fault { fault_of result ≡ fault_at (settings_of T.segments self.now) vid (Remote addr tunnel) }
-        ensures place { IfOk result (IsPlaceOf (settings_of T.segments self.now) vid (Remote addr tunnel)) }
+        ensures fault { fault_of result ≡ fault_at (settings_of T.segments T.pool self.now) vid (Remote addr tunnel) }
+        ensures place { IfOk result (IsPlaceOf (settings_of T.segments T.pool self.now) vid (Remote addr tunnel)) }
         ensures reached { IfOk result (λ place. is_reached self.now.under vid place ≡ true) }
     {
         let kind = self.kind_named(vid, tunnel)?;
@@ -69,8 +76,8 @@ impl<T: Tables> Parts<T> {
     ) -> Result<(), ChangeFault>
         requires sound { IsSound T.segments self.old }
         requires time { T.moment self.old.tables ≤ now }
-        ensures fault { fault_of result ≡ fault (state_of T.segments now self.old) (Fix vid mac target) }
-        ensures after { state_of T.segments now self.new ≡ after_change now (Fix vid mac target) (state_of T.segments now self.old) }
+        ensures fault { fault_of result ≡ fault (state_of T.segments T.pool now self.old) (Fix vid mac target) }
+        ensures after { state_of T.segments T.pool now self.new ≡ after_change now (Fix vid mac target) (state_of T.segments T.pool now self.old) }
         ensures sound { IsSound T.segments self.new }
         ensures time { T.moment self.new.tables ≤ now }
     {
@@ -83,8 +90,8 @@ impl<T: Tables> Parts<T> {
     pub(crate) fn unfix(&mut self, now: u64, vid: Vid, mac: Mac) -> Result<(), ChangeFault>
         requires sound { IsSound T.segments self.old }
         requires time { T.moment self.old.tables ≤ now }
-        ensures fault { fault_of result ≡ fault (state_of T.segments now self.old) (Unfix vid mac) }
-        ensures after { state_of T.segments now self.new ≡ after_change now (Unfix vid mac) (state_of T.segments now self.old) }
+        ensures fault { fault_of result ≡ fault (state_of T.segments T.pool now self.old) (Unfix vid mac) }
+        ensures after { state_of T.segments T.pool now self.new ≡ after_change now (Unfix vid mac) (state_of T.segments T.pool now self.old) }
         ensures sound { IsSound T.segments self.new }
         ensures time { T.moment self.new.tables ≤ now }
     {
@@ -97,13 +104,13 @@ impl<T: Tables> Parts<T> {
     pub(crate) fn set_ageing(&mut self, now: u64, vid: Vid, seconds: u32) -> Result<(), ChangeFault>
         requires sound { IsSound T.segments self.old }
         requires time { T.moment self.old.tables ≤ now }
-        ensures fault { fault_of result ≡ fault (state_of T.segments now self.old) (SetAgeing vid seconds) }
-        ensures after { state_of T.segments now self.new ≡ after_change now (SetAgeing vid seconds) (state_of T.segments now self.old) }
+        ensures fault { fault_of result ≡ fault (state_of T.segments T.pool now self.old) (SetAgeing vid seconds) }
+        ensures after { state_of T.segments T.pool now self.new ≡ after_change now (SetAgeing vid seconds) (state_of T.segments T.pool now self.old) }
         ensures sound { IsSound T.segments self.new }
         ensures time { T.moment self.new.tables ≤ now }
     {
         self.check_segment(vid)?;
-        if seconds < SHORTEST_AGEING || seconds > LONGEST_AGEING {
+        if !is_ageing(seconds) {
             return Err(ChangeFault::OutOfRange);
         }
         self.tables.set_ageing(vid, seconds, now);
@@ -113,8 +120,8 @@ impl<T: Tables> Parts<T> {
     /// Sets whether a segment learns. Its entries stay.
     pub(crate) fn set_learning(&mut self, vid: Vid, on: bool) -> Result<(), ChangeFault>
         requires sound { IsSound T.segments self.old }
-        ensures fault { (t : ℕ) → fault_of result ≡ fault (state_of T.segments t self.old) (SetLearning vid on) }
-        ensures after { (t : ℕ) → state_of T.segments t self.new ≡ after_change t (SetLearning vid on) (state_of T.segments t self.old) }
+        ensures fault { (t : ℕ) → fault_of result ≡ fault (state_of T.segments T.pool t self.old) (SetLearning vid on) }
+        ensures after { (t : ℕ) → state_of T.segments T.pool t self.new ≡ after_change t (SetLearning vid on) (state_of T.segments T.pool t self.old) }
         ensures sound { IsSound T.segments self.new }
         ensures moment { T.moment self.new.tables ≡ T.moment self.old.tables }
     {
@@ -127,8 +134,8 @@ impl<T: Tables> Parts<T> {
     pub(crate) fn flush(&mut self, now: u64, vid: Vid) -> Result<(), ChangeFault>
         requires sound { IsSound T.segments self.old }
         requires time { T.moment self.old.tables ≤ now }
-        ensures fault { fault_of result ≡ fault (state_of T.segments now self.old) (Flush vid) }
-        ensures after { state_of T.segments now self.new ≡ after_change now (Flush vid) (state_of T.segments now self.old) }
+        ensures fault { fault_of result ≡ fault (state_of T.segments T.pool now self.old) (Flush vid) }
+        ensures after { state_of T.segments T.pool now self.new ≡ after_change now (Flush vid) (state_of T.segments T.pool now self.old) }
         ensures sound { IsSound T.segments self.new }
         ensures time { T.moment self.new.tables ≤ now }
     {

@@ -1,26 +1,35 @@
--- The underlay and the tunnels of an endpoint never change.
-use Rattle.std.proofs.Common.{◌≡◌, ℕ, Bool, true, false, cond, ◌&&◌, [], ◌∷◌, Option, Some, None, refl, sym, ap, ◌∙◌, subst}
-use Rattle.std.specs.Prelude.{is_some, ◌==◌}
+-- The underlay of an endpoint never changes, and its tunnels change only where a segment comes or goes.
+use Rattle.std.proofs.Common.{◌≡◌, ℕ, ◌<◌, Bool, true, false, cond, not, ◌&&◌, ◌||◌, arith, List, [], ◌∷◌, Option, Some, None, refl, sym, ap, ◌∙◌, subst}
+use Rattle.std.specs.Prelude.{is_some, nat_lt, ◌==◌}
 use Rattle.std.specs.Option.{option_map, option_map_or, option_and_then}
 use Rattle.std.specs.List.{list_all}
 use Rattle.std.specs.FinMap.{get, insert}
-use Rattle.std.proofs.lemmas.Bool.{eqb-true}
+use Rattle.std.proofs.lemmas.Bool.{eqb-true, ltb-true, and_parts, or_parts, false≢true}
+use Rattle.frame_view.proofs.FirstLemmas.{NothingHolds-from}
+use Rattle.vxlan_head.specs.Vxlan.{IsVni}
 use Rattle.ip_udp_view.specs.declared.addr.Addr.{Addr}
 use Rattle.ip_udp_view.specs.declared.addr.Tunnel.{Tunnel}
+use Rattle.ip_udp_view.specs.declared.addr.Tunnel.TheVariants.{Vxlan, Geneve}
 use Rattle.flood_lists.specs.Flood.{Entries, has_family}
 use Rattle.flood_lists.specs.declared.remote.Remote.{Remote as Target}
 use Rattle.filter_db.specs.declared.place.Place.{Place}
 use Rattle.filter_db.specs.declared.place.Place.TheVariants.{Local, Remote}
 use Rattle.vlan_ports.specs.Ports.{Members, members_at}
-use Rattle.vlan_ports.proofs.PlacesLemmas.{get-insert_at}
+use Rattle.vlan_ports.proofs.PlacesLemmas.{get-insert_at, get-remove_at}
 use Rattle.underlay.specs.Settings.{own}
 use Rattle.underlay.specs.Tunnels.{of_kind}
-use Rattle.underlay.specs.Overlay.{Overlay, flood_at, tunnel_at, tunnel_of, with_flood, segment_at as under_at}
+use Rattle.underlay.specs.declared.tunnels.SegmentTunnel.{SegmentTunnel}
+use Rattle.underlay.specs.Overlay.{Overlay, segment_of, are_free, flood_at, tunnel_at, tunnel_of, with_flood, segment_at as under_at}
 use Rattle.underlay.specs.declared.segment.Segment.{Segment}
+use Rattle.overlay_settings.specs.declared.change.NewSegment.{NewSegment}
 use Rattle.overlay_settings.specs.declared.change.Change.{Change}
-use Rattle.endpoint_state.specs.Settings.{Settings, BridgeSettings, SegmentSettings, joined, segment_at}
-use Rattle.endpoint_state.specs.Effect.{Effect, ToFlood, ToBridge, ToMembers, ToPort, ToNothing, effect, applied}
-use Rattle.endpoint_state.specs.Change.{accepted}
+use Rattle.overlay_settings.specs.declared.change.Change.TheVariants.{AddFlood, RemoveFlood, Fix, Unfix, SetAgeing, SetLearning, SetMember, PortUp, PortDown, Flush, AddSegment, RemoveSegment, SetLimit}
+use Rattle.filter_db.specs.Standing.{segment_count}
+use Rattle.endpoint_state.specs.declared.fault.ChangeFault.{ChangeFault}
+use Rattle.endpoint_state.specs.declared.fault.ChangeFault.TheVariants.{OutOfRange, SegmentThere, PoolFull, SegmentsFull}
+use Rattle.endpoint_state.specs.Settings.{Settings, BridgeSettings, SegmentSettings, tables_asked, joined, segment_at}
+use Rattle.endpoint_state.specs.Effect.{Effect, ToFlood, ToBridge, ToLimit, ToMembers, ToPort, Comes, Goes, ToNothing, effect, new_tunnels, with_segment, without_segment, applied}
+use Rattle.endpoint_state.specs.Change.{is_limit, is_ageing, is_vni, is_vni_of, are_vnis, is_taken, is_too_much, refused, accepted}
 use Rattle.endpoint_state.specs.Sound.{reaches, is_reached_if}
 
 -- ---- what never changes
@@ -50,15 +59,136 @@ Keeps-flooded : (S : Settings) (vid : ℕ) (change : SegmentSettings → Entries
 Keeps-flooded S vid change None = Keeps-itself S
 Keeps-flooded S vid change (Some s) = record { underlay = refl; tunnels = λ w kind. tunnels-flooded S.overlay vid (change s) w kind (under_at S.overlay vid) refl }
 
-Keeps-applied : (e : Effect) (S : Settings) → Keeps (applied e S) S
-Keeps-applied (ToFlood vid change) S = Keeps-flooded S vid change (segment_at S vid)
-Keeps-applied (ToBridge vid change) S = record { underlay = refl; tunnels = λ w kind. refl }
-Keeps-applied (ToMembers vid port egress) S = record { underlay = refl; tunnels = λ w kind. refl }
-Keeps-applied (ToPort port up) S = record { underlay = refl; tunnels = λ w kind. refl }
-Keeps-applied ToNothing S = Keeps-itself S
+-- a segment comes or goes
+abbrev pub moves : Effect → Bool
+moves (ToFlood vid change) = false
+moves (ToBridge vid change) = false
+moves (ToLimit vid limit) = false
+moves (ToMembers vid port egress) = false
+moves (ToPort port up) = false
+moves (Comes new) = true
+moves (Goes vid) = true
+moves ToNothing = false
 
-pub Keeps-accepted : (S : Settings) (c : Change) → Keeps (accepted S c) S
-Keeps-accepted S c = Keeps-applied (effect c) S
+Keeps-applied : (e : Effect) (S : Settings) → moves e ≡ false → Keeps (applied e S) S
+Keeps-applied (ToFlood vid change) S stays = Keeps-flooded S vid change (segment_at S vid)
+Keeps-applied (ToBridge vid change) S stays = record { underlay = refl; tunnels = λ w kind. refl }
+Keeps-applied (ToLimit vid limit) S stays = record { underlay = refl; tunnels = λ w kind. refl }
+Keeps-applied (ToMembers vid port egress) S stays = record { underlay = refl; tunnels = λ w kind. refl }
+Keeps-applied (ToPort port up) S stays = record { underlay = refl; tunnels = λ w kind. refl }
+Keeps-applied (Comes new) S stays = absurd (false≢true (sym stays))
+Keeps-applied (Goes vid) S stays = absurd (false≢true (sym stays))
+Keeps-applied ToNothing S stays = Keeps-itself S
+
+pub Keeps-accepted : (S : Settings) (c : Change) → moves (effect c) ≡ false → Keeps (accepted S c) S
+Keeps-accepted S c stays = Keeps-applied (effect c) S stays
+
+-- ---- the underlay, and the range of VNIs
+
+-- each tunnel has a VNI of 24 bits
+abbrev pub HasVnis : Settings → Type 0
+HasVnis S = (vid : ℕ) (kind : Tunnel) (t : SegmentTunnel) → tunnel_at S.overlay vid kind ≡ Some t → IsVni t.vni
+
+pub record Stays (S T : Settings) : Type 0 where
+  pub underlay : S.overlay.underlay ≡ T.overlay.underlay
+  pub vnis : HasVnis T → HasVnis S
+
+pub Stays-itself : (S : Settings) → Stays S S
+Stays-itself S = record { underlay = refl; vnis = λ h. h }
+
+pub Stays-then : (S T U : Settings) → Stays S T → Stays T U → Stays S U
+Stays-then S T U h k = record { underlay = h.underlay ∙ k.underlay; vnis = λ all. h.vnis (k.vnis all) }
+
+Stays-kept : (S T : Settings) → Keeps S T → Stays S T
+Stays-kept S T k = record { underlay = k.underlay; vnis = λ all vid kind t is. all vid kind t (sym (k.tunnels vid kind) ∙ is) }
+
+of-kind : (kind : Tunnel) (tunnels : List SegmentTunnel) → are_vnis tunnels ≡ true → is_vni_of kind tunnels ≡ true
+of-kind Vxlan tunnels all = (and_parts (is_vni_of Vxlan tunnels) (is_vni_of Geneve tunnels) all).0
+of-kind Geneve tunnels all = (and_parts (is_vni_of Vxlan tunnels) (is_vni_of Geneve tunnels) all).1
+
+added-vni : (tunnels : List SegmentTunnel) (kind : Tunnel) (t : SegmentTunnel) → are_vnis tunnels ≡ true → of_kind kind tunnels ≡ Some t → IsVni t.vni
+added-vni tunnels kind t all is =
+    below (ltb-true t.vni 16777216 (sym (ap (λ (o : Option SegmentTunnel). option_map_or (λ u. is_vni u.vni) o true) is) ∙ of-kind kind tunnels all))
+  where
+    below : {n : ℕ} → n < 16777216 → IsVni n
+    below h = omega (arith, h)
+
+Stays-comes : (S : Settings) (new : NewSegment) → are_vnis new.tunnels ≡ true → Stays (with_segment S new) S
+Stays-comes S new typed = record { underlay = refl; vnis = λ all vid kind t is. by all vid kind t (vid == new.vid) (sym (ap (option_and_then (λ (h : Segment). tunnel_of h kind)) (get-insert_at S.overlay.segments new.vid (segment_of (new_tunnels new)) vid)) ∙ is) }
+  where
+    by : HasVnis S → (vid : ℕ) (kind : Tunnel) (t : SegmentTunnel) (b : Bool) → option_and_then (λ h. tunnel_of h kind) (cond b (Some (segment_of (new_tunnels new))) (under_at S.overlay vid)) ≡ Some t → IsVni t.vni
+    by all vid kind t true is = added-vni new.tunnels kind t typed is
+    by all vid kind t false is = all vid kind t is
+
+Stays-goes : (S : Settings) (v : ℕ) → Stays (without_segment S v) S
+Stays-goes S v = record { underlay = refl; vnis = λ all vid kind t is. by all vid kind t (vid == v) (sym (ap (option_and_then (λ (h : Segment). tunnel_of h kind)) (get-remove_at S.overlay.segments v vid)) ∙ is) }
+  where
+    by : HasVnis S → (vid : ℕ) (kind : Tunnel) (t : SegmentTunnel) (b : Bool) → option_and_then (λ h. tunnel_of h kind) (cond b None (under_at S.overlay vid)) ≡ Some t → IsVni t.vni
+    by all vid kind t true is = absurd cc
+    by all vid kind t false is = all vid kind t is
+
+-- ---- a segment that comes
+
+third_true : (a b c : Bool) → not (a && b && c) ≡ false → c ≡ true
+third_true true true true h = refl
+third_true true true false h = absurd (false≢true (sym h))
+third_true true false c h = absurd (false≢true (sym h))
+third_true false b c h = absurd (false≢true (sym h))
+
+not_some : (o : Option SegmentSettings) → is_some o ≡ false → o ≡ None
+not_some None h = refl
+not_some (Some s) h = absurd (false≢true (sym h))
+
+abbrev refusals : Settings → NewSegment → List (ChangeFault × Bool)
+refusals S new =
+    (OutOfRange, not (is_limit new.limit && is_ageing new.ageing && are_vnis new.tunnels))
+    ∷ (SegmentThere, is_taken S new)
+    ∷ (SegmentsFull, not (nat_lt (segment_count (tables_asked S)) 256))
+    ∷ (PoolFull, is_too_much S new.limit)
+    ∷ []
+
+-- it wasn't there
+pub new-absent : (S : Settings) (new : NewSegment) → refused S (AddSegment new) ≡ None → segment_at S new.vid ≡ None
+new-absent S new none = not_some (segment_at S new.vid) (or_parts (is_some (segment_at S new.vid)) (not (are_free S.overlay new.tunnels)) (NothingHolds-from (refusals S new) none).1.0).0
+
+-- its VNIs have 24 bits
+new-vnis : (S : Settings) (new : NewSegment) → refused S (AddSegment new) ≡ None → are_vnis new.tunnels ≡ true
+new-vnis S new none = third_true (is_limit new.limit) (is_ageing new.ageing) (are_vnis new.tunnels) (NothingHolds-from (refusals S new) none).0
+
+abbrev AddsVnis : Effect → Type 0
+AddsVnis (Comes new) = are_vnis new.tunnels ≡ true
+AddsVnis (ToFlood vid change) = Unit {0}
+AddsVnis (ToBridge vid change) = Unit {0}
+AddsVnis (ToLimit vid limit) = Unit {0}
+AddsVnis (ToMembers vid port egress) = Unit {0}
+AddsVnis (ToPort port up) = Unit {0}
+AddsVnis (Goes vid) = Unit {0}
+AddsVnis ToNothing = Unit {0}
+
+adds-vnis : (S : Settings) (c : Change) → refused S c ≡ None → AddsVnis (effect c)
+adds-vnis S (AddSegment new) none = new-vnis S new none
+adds-vnis S (AddFlood vid addr tunnel) none = tt
+adds-vnis S (RemoveFlood vid addr tunnel) none = tt
+adds-vnis S (Fix vid mac goal) none = tt
+adds-vnis S (Unfix vid mac) none = tt
+adds-vnis S (SetAgeing vid seconds) none = tt
+adds-vnis S (SetLearning vid on) none = tt
+adds-vnis S (SetMember vid port egress) none = tt
+adds-vnis S (PortUp port) none = tt
+adds-vnis S (PortDown port) none = tt
+adds-vnis S (Flush vid) none = tt
+adds-vnis S (RemoveSegment vid) none = tt
+adds-vnis S (SetLimit vid limit) none = tt
+
+Stays-applied : (e : Effect) (S : Settings) → AddsVnis e → Stays (applied e S) S
+Stays-applied (ToFlood vid change) S typed = Stays-kept _ S (Keeps-applied (ToFlood vid change) S refl)
+Stays-applied (ToBridge vid change) S typed = Stays-kept _ S (Keeps-applied (ToBridge vid change) S refl)
+Stays-applied (ToLimit vid limit) S typed = Stays-kept _ S (Keeps-applied (ToLimit vid limit) S refl)
+Stays-applied (ToMembers vid port egress) S typed = Stays-kept _ S (Keeps-applied (ToMembers vid port egress) S refl)
+Stays-applied (ToPort port up) S typed = Stays-kept _ S (Keeps-applied (ToPort port up) S refl)
+Stays-applied (Comes new) S typed = Stays-comes S new typed
+Stays-applied (Goes vid) S typed = Stays-goes S vid
+Stays-applied ToNothing S typed = Stays-itself S
 
 -- so the same can be sent to
 reaches-kept : (S T : Settings) → Keeps S T → (vid : ℕ) (kind : Tunnel) (addr : Addr) → reaches S.overlay vid kind addr ≡ reaches T.overlay vid kind addr
@@ -99,3 +229,7 @@ pub is-of : (S : Settings) (vid : ℕ) (s : SegmentSettings) → segment_at S vi
 is-of S vid s h =
     let p = of-parts (S.bridges vid) (under_at S.overlay vid) (members_at S.ports vid) s h in
     record { flood = p.flood; tunnels = p.tunnels; members = p.members }
+
+-- a change that the settings don't refuse
+pub Stays-accepted : (S : Settings) (c : Change) → refused S c ≡ None → Stays (accepted S c) S
+Stays-accepted S c none = Stays-applied (effect c) S (adds-vnis S c none)

@@ -25,8 +25,8 @@ use Rattle.mesh_delivery.specs.Mesh.{Origin, Flying, Left, Mesh, settings_at, ou
 use Rattle.mesh_delivery.specs.Offspring.{IsLocal, IsOffspring, is_left}
 use Rattle.mesh_delivery.proofs.Counting.{how_many, how_many-append, how_many-count, All_append, All_both}
 use Rattle.mesh_delivery.proofs.Entering.{came_at-entered}
-use Rattle.mesh_delivery.proofs.Keeping.{Keeps, Keeps-itself, Keeps-then}
-use Rattle.mesh_delivery.proofs.Reached.{Keeps-after, Knows, Knows-aged, Knows-after, Knows-opened, came-reached}
+use Rattle.mesh_delivery.proofs.Keeping.{Stays, Stays-itself, Stays-then}
+use Rattle.mesh_delivery.proofs.Reached.{Stays-after, Knows, Knows-aged, Knows-after, Knows-opened, came-reached}
 use Rattle.mesh_delivery.proofs.Sent.{is_for, first_false, second_false, left-count, left-none, left-numbers, flying-local, flying-numbers, taken-count, taken-all, left-local, left-far, AreEmitted, IsSent, flying-sent}
 use Rattle.mesh_delivery.proofs.Steps.{Sends, sends, sends-leaving, sends-locally, came-far}
 use Rattle.mesh_delivery.proofs.Wire.{IsReadAs, delivered-as}
@@ -38,7 +38,7 @@ use Rattle.mesh_delivery.proofs.Vnis.{vnis-told}
 
 pub record Kept (told : ℕ → Told) (m : Mesh) : Type 0 where
   pub knows : (n : ℕ) → Knows (m.endpoints n).bridges
-  pub keeps : (n : ℕ) → Keeps (settings_at m n) (settings_told (told n))
+  pub keeps : (n : ℕ) → Stays (settings_at m n) (settings_told (told n))
   pub counts : (number n p : ℕ) → how_many (is_left number n p) m.left + how_many (is_for number n (told n).underlay) m.flying ≤ 1
   pub old_left : AllByRecursion (λ x. x.origin.number < m.frames) m.left
   pub old_flying : AllByRecursion (λ x. x.origin.number < m.frames) m.flying
@@ -52,13 +52,13 @@ knows-with m endpoint e h n = by (n == endpoint)
     by true = Knows-after (m.endpoints endpoint) e (h endpoint)
     by false = h n
 
-keeps-with : (told : ℕ → Told) (m : Mesh) (endpoint : ℕ) (e : Event) → ((n : ℕ) → Keeps (settings_at m n) (settings_told (told n))) → (n : ℕ) → Keeps (with_event m endpoint e n).bridges.settings (settings_told (told n))
+keeps-with : (told : ℕ → Told) (m : Mesh) (endpoint : ℕ) (e : Event) → ((n : ℕ) → Stays (settings_at m n) (settings_told (told n))) → (n : ℕ) → Stays (with_event m endpoint e n).bridges.settings (settings_told (told n))
 keeps-with told m endpoint e h n = by (n == endpoint) refl
   where
-    by : (b : Bool) → (n == endpoint) ≡ b → Keeps (cond b (after (m.endpoints endpoint) e) (m.endpoints n)).bridges.settings (settings_told (told n))
+    by : (b : Bool) → (n == endpoint) ≡ b → Stays (cond b (after (m.endpoints endpoint) e) (m.endpoints n)).bridges.settings (settings_told (told n))
     by true same =
-        subst (λ (k : ℕ). Keeps (after (m.endpoints endpoint) e).bridges.settings (settings_told (told k))) (sym (eqb-true n endpoint same))
-        (Keeps-then (after (m.endpoints endpoint) e).bridges.settings (settings_at m endpoint) (settings_told (told endpoint)) (Keeps-after (m.endpoints endpoint) e) (h endpoint))
+        subst (λ (k : ℕ). Stays (after (m.endpoints endpoint) e).bridges.settings (settings_told (told k))) (sym (eqb-true n endpoint same))
+        (Stays-then (after (m.endpoints endpoint) e).bridges.settings (settings_at m endpoint) (settings_told (told endpoint)) (Stays-after (m.endpoints endpoint) e) (h endpoint))
     by false other = h n
 
 -- ---- one happening
@@ -171,7 +171,7 @@ module _ (told : ℕ → Told) (mesh : IsMesh told) where
       (subst IsUnderlay (sym here.underlay) (kept-underlay endpoint))
       ok.whole
       (ap (λ (u : Underlay). port_of u y.kind) ok.keeps.underlay ∙ port-same y.origin.endpoint endpoint y.kind ∙ sym (ap (λ (u : Underlay). port_of u y.kind) here.underlay))
-      (λ tunnel there. vnis-told (told y.origin.endpoint) (mesh.rules y.origin.endpoint) y.vid y.kind tunnel (sym (ok.keeps.tunnels y.vid y.kind) ∙ there))
+      (λ tunnel there. ok.keeps.vnis (vnis-told (told y.origin.endpoint) (mesh.rules y.origin.endpoint)) y.vid y.kind tunnel there)
       owned ok.sent is in
       let other : endpoint ≡ y.origin.endpoint → ⊥ = λ same. read.another (here.underlay ∙ ap (λ (n : ℕ). (told n).underlay) same ∙ sym ok.keeps.underlay) in
       let owned_here : is_own (U endpoint) y.addr ≡ true = ap (λ (u : Underlay). is_own u y.addr) (sym here.underlay) ∙ owned in
@@ -220,7 +220,7 @@ module _ (told : ℕ → Told) (mesh : IsMesh told) where
   Kept-new : Kept told (new_mesh told)
   Kept-new = record {
     knows = λ n. Knows-opened (told n) (mesh.rules n);
-    keeps = λ n. Keeps-itself (settings_told (told n));
+    keeps = λ n. Stays-itself (settings_told (told n));
     counts = λ number n p. none_yet;
     old_left = tt;
     old_flying = tt;

@@ -1,10 +1,11 @@
 -- What an endpoint knows of remote places it can send to.
-use Rattle.std.proofs.Common.{◌≡◌, ℕ, Bool, true, false, cond, List, [], ◌∷◌, ◌++◌, Option, Some, None, Result, Ok, Err, refl, sym, ap, ◌∙◌}
-use Rattle.std.specs.Prelude.{is_some, is_none, ◌==◌}
+use Rattle.std.proofs.Common.{◌≡◌, ℕ, Bool, true, false, cond, not, ◌&&◌, ◌||◌, List, [], ◌∷◌, ◌++◌, Option, Some, None, Result, Ok, Err, refl, sym, ap, ◌∙◌, subst}
+use Rattle.std.specs.Prelude.{is_some, is_none, ◌==◌, nat_lt}
 use Rattle.std.specs.Option.{option_map, option_map_or, unwrap_or}
 use Rattle.std.specs.List.{list_all}
-use Rattle.std.specs.FinMap.{get, insert, empty}
-use Rattle.std.proofs.lemmas.Bool.{eqb-true, and_from}
+use Rattle.std.specs.FinMap.{get, insert, empty, len}
+use Rattle.std.proofs.lemmas.Bool.{eqb-true, and_from, false≢true}
+use Rattle.frame_view.proofs.FirstLemmas.{NothingHolds-from}
 use Rattle.frame_view.specs.Address.{is_group as is_group_mac}
 use Rattle.frame_view.specs.Frame.{Frame}
 use Rattle.frame_view.specs.declared.reason.Refused.{Refused}
@@ -17,21 +18,26 @@ use Rattle.filter_db.specs.declared.entry.Entry.{Entry}
 use Rattle.filter_db.specs.declared.place.Place.{Place}
 use Rattle.filter_db.specs.Table.{Table, learn, nanoseconds, is_live, stands}
 use Rattle.filter_db.proofs.TableLemmas.{get-none}
-use Rattle.vlan_ports.proofs.PlacesLemmas.{get-insert_at}
+use Rattle.vlan_ports.proofs.PlacesLemmas.{get-insert_at, get-remove_at}
 use Rattle.underlay.specs.Settings.{own}
-use Rattle.underlay.specs.Overlay.{Overlay, flood_at, tunnel_at, with_flood, segment_at as under_at}
+use Rattle.underlay.specs.Overlay.{Overlay, segment_of, are_free, flood_at, tunnel_at, with_flood, segment_at as under_at}
 use Rattle.underlay.specs.declared.segment.Segment.{Segment}
+use Rattle.overlay_settings.specs.declared.change.NewSegment.{NewSegment}
 use Rattle.overlay_settings.specs.declared.change.Change.{Change}
-use Rattle.overlay_settings.specs.declared.change.Change.TheVariants.{AddFlood, RemoveFlood, Fix, Unfix, SetAgeing, SetLearning, SetMember, PortUp, PortDown, Flush}
+use Rattle.overlay_settings.specs.declared.change.Change.TheVariants.{AddFlood, RemoveFlood, Fix, Unfix, SetAgeing, SetLearning, SetMember, PortUp, PortDown, Flush, AddSegment, RemoveSegment, SetLimit}
 use Rattle.overlay_settings.specs.declared.change.Target.{Target as Goal}
 use Rattle.overlay_settings.specs.declared.change.Target.TheVariants as target
 use Rattle.overlay_settings.specs.Rules.{MeetsRules}
 use Rattle.overlay_settings.specs.Settings.{Settings as Told}
 use Rattle.endpoint_state.specs.Opened.{settings_told}
 use Rattle.endpoint_state.specs.declared.fault.ChangeFault.{ChangeFault}
+use Rattle.endpoint_state.specs.declared.fault.ChangeFault.TheVariants.{OutOfRange, SegmentThere, PoolFull, SegmentsFull}
 use Rattle.endpoint_state.specs.Fault.{of_flood}
-use Rattle.endpoint_state.specs.Settings.{Settings, BridgeSettings, SegmentSettings, segment_at, kind_named}
-use Rattle.endpoint_state.specs.Change.{is_about, in_segment, at_tunnel, target_fault, refused, kind_in, accepted, place_of, entries_changed}
+use Rattle.endpoint_state.specs.Effect.{effect, new_tunnels, with_segment, without_segment}
+use Rattle.endpoint_state.proofs.SegmentLemmas.{flood_same, table_same}
+use Rattle.filter_db.specs.Standing.{segment_count}
+use Rattle.endpoint_state.specs.Settings.{Settings, BridgeSettings, SegmentSettings, tables_asked, segment_at, kind_named}
+use Rattle.endpoint_state.specs.Change.{is_about, is_limit, is_ageing, are_vnis, is_taken, is_too_much, in_segment, at_tunnel, target_fault, refused, kind_in, accepted, place_of, entries_changed}
 use Rattle.endpoint_state.specs.Sound.{reaches, is_reached, is_reached_if, AreReached}
 use Rattle.endpoint_state.specs.State.{State as Bridges, live_in, aged, table_changed, accepted_state, after_change}
 use Rattle.endpoint_state.specs.Step.{table_learned, after_frame}
@@ -44,7 +50,7 @@ use Rattle.endpoint_core.specs.Step.{State, opened, after_came, bridges_after, a
 use Rattle.endpoint_core.proofs.ComingLemmas.{arrived-reached}
 use Rattle.mesh_delivery.proofs.Entering.{came_at-entered}
 use Rattle.mesh_delivery.proofs.Wire.{came_by-arrived}
-use Rattle.mesh_delivery.proofs.Keeping.{Keeps, Keeps-itself, Keeps-then, Keeps-accepted, if-kept, all-kept, reached, is-of}
+use Rattle.mesh_delivery.proofs.Keeping.{moves, Keeps-accepted, new-absent, Stays, Stays-itself, Stays-accepted, if-kept, all-kept, reached, is-of}
 
 -- ---- what is known
 
@@ -140,19 +146,26 @@ flood-of S vid change all (Some s) own w = flooded S.overlay vid (change s) all 
 own-flood : (S : Settings) (vid : ℕ) (s : SegmentSettings) → ((w : ℕ) → list_all (reached S.overlay w) (flood_at S.overlay w) ≡ true) → segment_at S vid ≡ Some s → list_all (reached S.overlay vid) s.flood ≡ true
 own-flood S vid s all is = ap (list_all (reached S.overlay vid)) (sym (is-of S vid s is).flood) ∙ all vid
 
-flood-accepted : (S : Settings) (c : Change) → ((w : ℕ) → list_all (reached S.overlay w) (flood_at S.overlay w) ≡ true) → refused S c ≡ None → (w : ℕ) → list_all (reached S.overlay w) (flood_at (accepted S c).overlay w) ≡ true
-flood-accepted S (AddFlood vid addr tunnel) all none w =
+flood-accepted : (S : Settings) (c : Change) → moves (effect c) ≡ false → ((w : ℕ) → list_all (reached S.overlay w) (flood_at S.overlay w) ≡ true) → refused S c ≡ None → (w : ℕ) → list_all (reached S.overlay w) (flood_at (accepted S c).overlay w) ≡ true
+flood-accepted S (AddFlood vid addr tunnel) stays all none w =
     flood-of S vid (λ s. s.flood ++ record { tunnel = kind_in s.tunnels tunnel; addr = addr } ∷ []) all (segment_at S vid) (λ s is. added-reached S vid addr tunnel s is none (own-flood S vid s all is)) w
-flood-accepted S (RemoveFlood vid addr tunnel) all none w =
+flood-accepted S (RemoveFlood vid addr tunnel) stays all none w =
     flood-of S vid (λ s. without s.flood (kind_in s.tunnels tunnel) addr) all (segment_at S vid) (λ s is. reached-without S.overlay vid s.flood (kind_in s.tunnels tunnel) addr (own-flood S vid s all is)) w
-flood-accepted S (SetAgeing vid seconds) all none w = all w
-flood-accepted S (SetLearning vid on) all none w = all w
-flood-accepted S (SetMember vid port egress) all none w = all w
-flood-accepted S (PortUp port) all none w = all w
-flood-accepted S (PortDown port) all none w = all w
-flood-accepted S (Fix vid mac goal) all none w = all w
-flood-accepted S (Unfix vid mac) all none w = all w
-flood-accepted S (Flush vid) all none w = all w
+flood-accepted S (SetAgeing vid seconds) stays all none w = all w
+flood-accepted S (SetLearning vid on) stays all none w = all w
+flood-accepted S (SetMember vid port egress) stays all none w = all w
+flood-accepted S (PortUp port) stays all none w = all w
+flood-accepted S (PortDown port) stays all none w = all w
+flood-accepted S (Fix vid mac goal) stays all none w = all w
+flood-accepted S (Unfix vid mac) stays all none w = all w
+flood-accepted S (Flush vid) stays all none w = all w
+flood-accepted S (SetLimit vid limit) stays all none w = all w
+flood-accepted S (AddSegment new) stays all none w = absurd (false≢true (sym stays))
+flood-accepted S (RemoveSegment vid) stays all none w = absurd (false≢true (sym stays))
+
+emptied : (O : Overlay) (w : ℕ) (b : Bool) (m : Table) → AreReached O w m → AreReached O w (cond b empty m)
+emptied O w true m h = empty-reached O w
+emptied O w false m h = h
 
 -- the table of a segment that it is about
 entries-reached : (S : Settings) (w t : ℕ) (s : SegmentSettings) (c : Change) (m : Table) → segment_at S w ≡ Some s → is_about w c ≡ true → refused S c ≡ None → AreReached S.overlay w m → AreReached S.overlay w (entries_changed t s c m)
@@ -170,25 +183,120 @@ entries-reached S w t s (Flush vid) m is about none h = reached-kept S.overlay w
 entries-reached S w t s (AddFlood vid addr tunnel) m is about none h = h
 entries-reached S w t s (SetLearning vid on) m is about none h = h
 entries-reached S w t s (PortUp port) m is about none h = h
+entries-reached S w t s (AddSegment new) m is about none h = h
+entries-reached S w t s (RemoveSegment vid) m is about none h = empty-reached S.overlay w
+entries-reached S w t s (SetLimit vid limit) m is about none h = emptied S.overlay w (nat_lt limit (len m)) m h
 
 table-reached : (S : Settings) (w t : ℕ) (c : Change) (o : Option SegmentSettings) (m : Table) → segment_at S w ≡ o → refused S c ≡ None → AreReached S.overlay w m → AreReached S.overlay w (table_changed t c o w m)
-table-reached S w t c None m is none h = h
+table-reached S w t c None m is none h = emptied S.overlay w (is_about w c) m h
 table-reached S w t c (Some s) m is none h = by (is_about w c) refl
   where
     by : (b : Bool) → is_about w c ≡ b → AreReached S.overlay w (cond b (entries_changed t s c m) m)
     by true about = entries-reached S w t s c m is about none h
     by false other = h
 
-Knows-accepted : (t : ℕ) (c : Change) (B : Bridges) → refused B.settings c ≡ None → Knows B → Knows (accepted_state t c B)
-Knows-accepted t c B none k =
+Knows-kept : (t : ℕ) (c : Change) (B : Bridges) → moves (effect c) ≡ false → refused B.settings c ≡ None → Knows B → Knows (accepted_state t c B)
+Knows-kept t c B stays none k =
     let S = B.settings in
-    let keeps = Keeps-accepted S c in
+    let keeps = Keeps-accepted S c stays in
     record {
-      flood = λ w. all-kept (accepted S c) S keeps w (flood_at (accepted S c).overlay w) ∙ flood-accepted S c k.flood none w;
+      flood = λ w. all-kept (accepted S c) S keeps w (flood_at (accepted S c).overlay w) ∙ flood-accepted S c stays k.flood none w;
       tables = λ w mac.
           if-kept (accepted S c) S keeps w (stands mac (table_changed t c (segment_at S w) w (B.tables w)))
           ∙ table-reached S w t c (segment_at S w) (B.tables w) refl none (k.tables w) mac;
     }
+
+-- ---- a segment comes or goes
+
+-- a table that the change isn't about
+same-table : (t : ℕ) (c : Change) (o : Option SegmentSettings) (w : ℕ) (m : Table) → is_about w c ≡ false → table_changed t c o w m ≡ m
+same-table t c None w m other = ap (λ (b : Bool). cond b empty m) other
+same-table t c (Some s) w m other = ap (λ (b : Bool). cond b (entries_changed t s c m) m) other
+
+-- the table of a segment that comes, and of one that goes
+begun : (t : ℕ) (new : NewSegment) (o : Option SegmentSettings) (w : ℕ) (m : Table) → o ≡ None → (w == new.vid) ≡ true → table_changed t (AddSegment new) o w m ≡ empty
+begun t new None w m none own = ap (λ (b : Bool). cond b empty m) own
+begun t new (Some s) w m none own = absurd cc
+
+ended : (t vid : ℕ) (o : Option SegmentSettings) (w : ℕ) (m : Table) → (w == vid) ≡ true → table_changed t (RemoveSegment vid) o w m ≡ empty
+ended t vid None w m own = ap (λ (b : Bool). cond b empty m) own
+ended t vid (Some s) w m own = ap (λ (b : Bool). cond b empty m) own
+
+no-flood : (O : Overlay) (w : ℕ) (o : Option Segment) → option_map_or (λ g. g.flood) o [] ≡ [] → list_all (reached O w) (option_map_or (λ g. g.flood) o []) ≡ true
+no-flood O w o none = ap (list_all (reached O w)) none
+
+Knows-comes : (t : ℕ) (new : NewSegment) (B : Bridges) → refused B.settings (AddSegment new) ≡ None → Knows B → Knows (accepted_state t (AddSegment new) B)
+Knows-comes t new B none k = record {
+  flood = λ w. floods w (w == new.vid) refl;
+  tables = λ w. tables w (w == new.vid) refl;
+}
+  where
+    under : (w : ℕ) → under_at (with_segment B.settings new).overlay w ≡ cond (w == new.vid) (Some (segment_of (new_tunnels new))) (under_at B.settings.overlay w)
+    under w = get-insert_at B.settings.overlay.segments new.vid (segment_of (new_tunnels new)) w
+
+    other_under : (w : ℕ) → (w == new.vid) ≡ false → under_at (with_segment B.settings new).overlay w ≡ under_at B.settings.overlay w
+    other_under w other = under w ∙ ap (λ (b : Bool). cond b (Some (segment_of (new_tunnels new))) (under_at B.settings.overlay w)) other
+
+    floods : (w : ℕ) (b : Bool) → (w == new.vid) ≡ b → list_all (reached (with_segment B.settings new).overlay w) (flood_at (with_segment B.settings new).overlay w) ≡ true
+    floods w true own = no-flood (with_segment B.settings new).overlay w (under_at (with_segment B.settings new).overlay w)
+        (ap (λ (o : Option Segment). option_map_or (λ g. g.flood) o []) (under w ∙ ap (λ (b : Bool). cond b (Some (segment_of (new_tunnels new))) (under_at B.settings.overlay w)) own))
+    floods w false other = flood_same B.settings.overlay (with_segment B.settings new).overlay w refl (other_under w other) (k.flood w)
+
+    tables : (w : ℕ) (b : Bool) → (w == new.vid) ≡ b → AreReached (with_segment B.settings new).overlay w (table_changed t (AddSegment new) (segment_at B.settings w) w (B.tables w))
+    tables w true own = subst (λ (m : Table). AreReached (with_segment B.settings new).overlay w m)
+        (sym (begun t new (segment_at B.settings w) w (B.tables w) (ap (segment_at B.settings) (eqb-true w new.vid own) ∙ new-absent B.settings new none) own))
+        (empty-reached (with_segment B.settings new).overlay w)
+    tables w false other = subst (λ (m : Table). AreReached (with_segment B.settings new).overlay w m)
+        (sym (same-table t (AddSegment new) (segment_at B.settings w) w (B.tables w) other))
+        (table_same B.settings.overlay (with_segment B.settings new).overlay w refl (other_under w other) (B.tables w) (k.tables w))
+
+Knows-goes : (t vid : ℕ) (B : Bridges) → Knows B → Knows (accepted_state t (RemoveSegment vid) B)
+Knows-goes t vid B k = record {
+  flood = λ w. floods w (w == vid) refl;
+  tables = λ w. tables w (w == vid) refl;
+}
+  where
+    under : (w : ℕ) → under_at (without_segment B.settings vid).overlay w ≡ cond (w == vid) None (under_at B.settings.overlay w)
+    under w = get-remove_at B.settings.overlay.segments vid w
+
+    other_under : (w : ℕ) → (w == vid) ≡ false → under_at (without_segment B.settings vid).overlay w ≡ under_at B.settings.overlay w
+    other_under w other = under w ∙ ap (λ (b : Bool). cond b None (under_at B.settings.overlay w)) other
+
+    floods : (w : ℕ) (b : Bool) → (w == vid) ≡ b → list_all (reached (without_segment B.settings vid).overlay w) (flood_at (without_segment B.settings vid).overlay w) ≡ true
+    floods w true own = no-flood (without_segment B.settings vid).overlay w (under_at (without_segment B.settings vid).overlay w)
+        (ap (λ (o : Option Segment). option_map_or (λ g. g.flood) o []) (under w ∙ ap (λ (b : Bool). cond b None (under_at B.settings.overlay w)) own))
+    floods w false other = flood_same B.settings.overlay (without_segment B.settings vid).overlay w refl (other_under w other) (k.flood w)
+
+    tables : (w : ℕ) (b : Bool) → (w == vid) ≡ b → AreReached (without_segment B.settings vid).overlay w (table_changed t (RemoveSegment vid) (segment_at B.settings w) w (B.tables w))
+    tables w true own = subst (λ (m : Table). AreReached (without_segment B.settings vid).overlay w m)
+        (sym (ended t vid (segment_at B.settings w) w (B.tables w) own)) (empty-reached (without_segment B.settings vid).overlay w)
+    tables w false other = subst (λ (m : Table). AreReached (without_segment B.settings vid).overlay w m)
+        (sym (same-table t (RemoveSegment vid) (segment_at B.settings w) w (B.tables w) other))
+        (table_same B.settings.overlay (without_segment B.settings vid).overlay w refl (other_under w other) (B.tables w) (k.tables w))
+
+Knows-moved : (t : ℕ) (c : Change) (B : Bridges) → moves (effect c) ≡ true → refused B.settings c ≡ None → Knows B → Knows (accepted_state t c B)
+Knows-moved t (AddSegment new) B moved none k = Knows-comes t new B none k
+Knows-moved t (RemoveSegment vid) B moved none k = Knows-goes t vid B k
+Knows-moved t (AddFlood vid addr tunnel) B moved none k = absurd (false≢true moved)
+Knows-moved t (RemoveFlood vid addr tunnel) B moved none k = absurd (false≢true moved)
+Knows-moved t (Fix vid mac goal) B moved none k = absurd (false≢true moved)
+Knows-moved t (Unfix vid mac) B moved none k = absurd (false≢true moved)
+Knows-moved t (SetAgeing vid seconds) B moved none k = absurd (false≢true moved)
+Knows-moved t (SetLearning vid on) B moved none k = absurd (false≢true moved)
+Knows-moved t (SetMember vid port egress) B moved none k = absurd (false≢true moved)
+Knows-moved t (PortUp port) B moved none k = absurd (false≢true moved)
+Knows-moved t (PortDown port) B moved none k = absurd (false≢true moved)
+Knows-moved t (Flush vid) B moved none k = absurd (false≢true moved)
+Knows-moved t (SetLimit vid limit) B moved none k = absurd (false≢true moved)
+
+-- ---- any change
+
+Knows-accepted : (t : ℕ) (c : Change) (B : Bridges) → refused B.settings c ≡ None → Knows B → Knows (accepted_state t c B)
+Knows-accepted t c B none k = by (moves (effect c)) refl
+  where
+    by : (b : Bool) → moves (effect c) ≡ b → Knows (accepted_state t c B)
+    by true moved = Knows-moved t c B moved none k
+    by false stays = Knows-kept t c B stays none k
 
 pub Knows-change : (t : ℕ) (c : Change) (B : Bridges) → Knows B → Knows (after_change t c B)
 Knows-change t c B k = by (refused B.settings c) refl
@@ -197,12 +305,13 @@ Knows-change t c B k = by (refused B.settings c) refl
     by None none = Knows-accepted t c B none k
     by (Some fault) some = k
 
-pub Keeps-change : (t : ℕ) (c : Change) (B : Bridges) → Keeps (after_change t c B).settings B.settings
-Keeps-change t c B = by (is_none (refused B.settings c))
+-- the underlay stays, and each VNI has 24 bits
+pub Stays-change : (t : ℕ) (c : Change) (B : Bridges) → Stays (after_change t c B).settings B.settings
+Stays-change t c B = by (refused B.settings c) refl
   where
-    by : (b : Bool) → Keeps (cond b (accepted_state t c B) B).settings B.settings
-    by true = Keeps-accepted B.settings c
-    by false = Keeps-itself B.settings
+    by : (o : Option ChangeFault) → refused B.settings c ≡ o → Stays (cond (is_none o) (accepted_state t c B) B).settings B.settings
+    by None none = Stays-accepted B.settings c none
+    by (Some fault) some = Stays-itself B.settings
 
 -- ---- an event
 
@@ -222,25 +331,21 @@ Knows-input t B (FrameAt port original b) k =
 Knows-input t B (Packet original b) k = Knows-came t B (came_by B.settings.overlay original b) (λ x h. came-reached B.settings.overlay original b x k.flood h) k
 Knows-input t B (Asks c) k = Knows-change t c B k
 
-Keeps-came : (t : ℕ) (B : Bridges) (r : Result Came Refused) → Keeps (after_came t B r).settings B.settings
-Keeps-came t B (Err refused) = Keeps-itself B.settings
-Keeps-came t B (Ok x) = Keeps-itself B.settings
+Stays-came : (t : ℕ) (B : Bridges) (r : Result Came Refused) → Stays (after_came t B r).settings B.settings
+Stays-came t B (Err refused) = Stays-itself B.settings
+Stays-came t B (Ok x) = Stays-itself B.settings
 
-Keeps-input : (t : ℕ) (B : Bridges) (i : Input) → Keeps (bridges_after t B i).settings B.settings
-Keeps-input t B (FrameAt port original b) = Keeps-came t B (came_at B.settings.ports port original b)
-Keeps-input t B (Packet original b) = Keeps-came t B (came_by B.settings.overlay original b)
-Keeps-input t B (Asks c) = Keeps-change t c B
+Stays-input : (t : ℕ) (B : Bridges) (i : Input) → Stays (bridges_after t B i).settings B.settings
+Stays-input t B (FrameAt port original b) = Stays-came t B (came_at B.settings.ports port original b)
+Stays-input t B (Packet original b) = Stays-came t B (came_by B.settings.overlay original b)
+Stays-input t B (Asks c) = Stays-change t c B
 
 pub Knows-after : (s : State) (e : Event) → Knows s.bridges → Knows (after s e).bridges
 Knows-after s e k = Knows-aged e.at (bridges_after e.at (aged e.at s.bridges) e.input) (Knows-input e.at (aged e.at s.bridges) e.input (Knows-aged e.at s.bridges k))
 
-pub Keeps-after : (s : State) (e : Event) → Keeps (after s e).bridges.settings s.bridges.settings
-Keeps-after s e = Keeps-input e.at (aged e.at s.bridges) e.input
+pub Stays-after : (s : State) (e : Event) → Stays (after s e).bridges.settings s.bridges.settings
+Stays-after s e = Stays-input e.at (aged e.at s.bridges) e.input
 
 pub Knows-run : (s : State) (es : List Event) → Knows s.bridges → Knows (state_after s es).bridges
 Knows-run s [] k = k
 Knows-run s (e ∷ es) k = Knows-run (after s e) es (Knows-after s e k)
-
-pub Keeps-run : (s : State) (es : List Event) → Keeps (state_after s es).bridges.settings s.bridges.settings
-Keeps-run s [] = Keeps-itself s.bridges.settings
-Keeps-run s (e ∷ es) = Keeps-then _ _ _ (Keeps-run (after s e) es) (Keeps-after s e)

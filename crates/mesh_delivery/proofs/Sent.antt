@@ -28,7 +28,7 @@ use Rattle.mesh_delivery.specs.Mesh.{Origin, Flying, Left, left_one, left_of, fl
 use Rattle.mesh_delivery.specs.Offspring.{IsLocal, IsOffspring, is_left, is_remote_of}
 use Rattle.mesh_delivery.proofs.Counting.{how_many, how_many-append, All_append}
 use Rattle.mesh_delivery.proofs.Places.{is_local_at}
-use Rattle.mesh_delivery.proofs.Keeping.{Keeps}
+use Rattle.mesh_delivery.proofs.Keeping.{Stays}
 use Rattle.mesh_delivery.proofs.Wire.{IsWhole, IsReadAs}
 
 -- ---- tests
@@ -267,11 +267,11 @@ left-far y n S vid g other same_segment read (o ∷ sent) each =
 -- a packet on its way is what its sender emitted, and the sender's underlay and tunnels are those that it was opened with
 pub record IsSent (told : ℕ → Told) (x : Flying) : Type 0 where
   pub sent : sending x.sender.overlay x.vid x.kind x.addr x.origin.frame ≡ Ok x.octets
-  pub keeps : Keeps x.sender (settings_told (told x.origin.endpoint))
+  pub keeps : Stays x.sender (settings_told (told x.origin.endpoint))
   pub vid : x.vid ≡ x.origin.vid
   pub whole : IsWhole x.origin.frame
 
-pub flying-sent : (told : ℕ → Told) (origin : Origin) (S : Settings) → Keeps S (settings_told (told origin.endpoint)) → IsWhole origin.frame → (sent : List Sent) → AreEmitted S origin.vid origin.frame sent → AllByRecursion (IsSent told) (flying_of origin S origin.vid sent)
+pub flying-sent : (told : ℕ → Told) (origin : Origin) (S : Settings) → Stays S (settings_told (told origin.endpoint)) → IsWhole origin.frame → (sent : List Sent) → AreEmitted S origin.vid origin.frame sent → AllByRecursion (IsSent told) (flying_of origin S origin.vid sent)
 flying-sent told origin S keeps whole [] each = tt
 flying-sent told origin S keeps whole (o ∷ sent) each =
     All_append (IsSent told) (flying_one origin S origin.vid o.place o.sent) (flying_of origin S origin.vid sent) (one o.place o.sent each.0.0) (flying-sent told origin S keeps whole sent each.1)

@@ -1,8 +1,9 @@
 -- Settings that are read keep to the rules.
-use Rattle.std.proofs.Common.{◌≡◌, ℕ, ◌≤◌, ◌+◌, ◌++◌, ◌∷◌, [], Bool, true, false, cond, ◌&&◌, ◌||◌, not, nat_lt, List, length, Option, Some, None, option_map, is_some, is_none, Ok, codes, refl, sym, subst, lit≤, arith}
+use Rattle.std.proofs.Common.{◌≡◌, ℕ, ◌≤◌, ◌+◌, ◌++◌, ◌∷◌, [], Bool, true, false, cond, ◌&&◌, ◌||◌, not, nat_lt, List, length, map, Option, Some, None, option_map, is_some, is_none, Ok, codes, refl, sym, subst, lit≤, arith}
 use Rattle.std.specs.Prelude.{IsTrue, IsFalse, IfSome, ◌==◌}
 use Rattle.std.specs.List.{list_any}
 use Rattle.std.proofs.lemmas.Bool.{ltb-false, and_parts, false≢true}
+use Rattle.std.proofs.lemmas.List.Sums.{sum_by-cons}
 use Rattle.toml.specs.Data.{Data, Members, Items, no_items, item, as_array, as_str}
 use Rattle.ip_udp_view.specs.declared.addr.Addr.{Addr}
 use Rattle.ip_udp_view.specs.declared.addr.Addr.TheVariants.{V4, V6}
@@ -29,8 +30,10 @@ use Rattle.config_text.specs.Column.{range, truth, text, one_of, any_addr, gathe
 use Rattle.config_text.specs.Table.{Place, top, path, required, only, defaulted, optional, listed, items, limited_items, required_items, subtable, each, numbered, refuse_if}
 use Rattle.config_text.proofs.Addresses.{kept_some, then_some, mac_length, ip4_is, ip6_is, addr_is}
 use Rattle.overlay_settings.specs.declared.segment.SegmentRule.{SegmentRule}
+use Rattle.overlay_config.specs.declared.common_rules.CommonRules.{CommonRules}
 use Rattle.overlay_config.specs.declared.local_rules.LocalRules.{LocalRules}
-use Rattle.overlay_config.specs.LocalRules.{local_of, members_of, peer_words, tag_words}
+use Rattle.overlay_config.specs.CommonRules.{common_of, peer_words, tag_words}
+use Rattle.overlay_config.specs.LocalRules.{local_of, members_of}
 use Rattle.overlay_config.specs.Port.{port_of, port_keys, accept_words}
 use Rattle.overlay_settings.specs.Settings.{Exceptions}
 use Rattle.overlay_config.specs.Underlay.{exceptions, underlay_of, underlay_keys, own_addrs_of, tunnel_ports_of, pair_in, known_option, with_known, put_known, hop_of, hop_keys, hops_of}
@@ -39,7 +42,7 @@ use Rattle.overlay_config.specs.Members.{with_member, put_member}
 use Rattle.overlay_config.specs.Flood.{with_remote, put_remote}
 use Rattle.overlay_config.specs.Segment.{segment_of, segment_keys, flood_of, is_taken, tunnel_of, tunnel_words, vni_number}
 use Rattle.overlay_settings.specs.Settings.{Settings, sum_of_limits}
-use Rattle.overlay_config.specs.Settings.{segments_of, settings_of, settings_in, top_keys}
+use Rattle.overlay_config.specs.Settings.{given_pool_of, pool_for, segments_of, settings_of, settings_in, top_keys}
 use Rattle.overlay_config.specs.Document.{document}
 use Rattle.overlay_settings.specs.Rules.{IsWithin, EachBehind, IsKnown, IsEndpoint, IsIndividual, IsHop, AreHops, IsUnderlay, IsPort, IsMember, IsTunnel, IsRemote, IsSegment, MeetsRules}
 use Rattle.overlay_config.proofs.Hops.{all_size, none_size, hops_are}
@@ -297,22 +300,36 @@ record AreLocal (ports : ℕ) (x : LocalRules) : Type 0 where
   untagged : EachBehind (IsMember ports []) [] x.untagged
   tagged : EachBehind (IsMember ports x.untagged) [] x.tagged
 
-local_meets : (ports : ℕ) (at : Place) (x : LocalRules) → local_of ports at ≡ Ok x → AreLocal ports x
-unfolding local_of
-local_meets ports at x e =
+-- the limit and the ageing of a segment of settings
+abbrev AreCommon : CommonRules → Type 0
+AreCommon x = IsWithin 1 8192 x.limit × IsWithin 10 1000000 x.ageing
+
+pub common_meets : (at : Place) (x : CommonRules) → common_of (range 1 8192) (range 10 1000000) at ≡ Ok x → AreCommon x
+unfolding common_of
+common_meets at x e =
     bind_then (defaulted at (codes "limit") (range 1 8192) 256) _ x e (λ limit limit-is e0.
     bind_then (defaulted at (codes "ageing") (range 10 1000000) 300) _ x e0 (λ ageing ageing-is e1.
     bind_then (defaulted at (codes "learn") truth true) _ x e1 (λ learning learning-is e2.
     bind_then (defaulted at (codes "peers") (one_of peer_words) Any) _ x e2 (λ peers peers-is e3.
     bind_then (defaulted at (codes "tags") (one_of tag_words) Drop) _ x e3 (λ tags tags-is e4.
-    bind_then (members_of at (codes "untagged") ports []) _ x e4 (λ untagged untagged-is e5.
-    bind_then (members_of at (codes "tagged") ports untagged) _ x e5 (λ tagged tagged-is e6.
-    subst (AreLocal ports) (ok_is _ x e6) (record {
-      limit = defaulted_range at (codes "limit") 1 8192 256 limit default_limit limit-is;
-      ageing = defaulted_range at (codes "ageing") 10 1000000 300 ageing default_ageing ageing-is;
+    subst AreCommon (ok_is _ x e4) (
+      defaulted_range at (codes "limit") 1 8192 256 limit default_limit limit-is,
+      defaulted_range at (codes "ageing") 10 1000000 300 ageing default_ageing ageing-is,
+    ))))))
+
+local_meets : (ports : ℕ) (at : Place) (x : LocalRules) → local_of ports at ≡ Ok x → AreLocal ports x
+unfolding local_of
+local_meets ports at x e =
+    bind_then (common_of (range 1 8192) (range 10 1000000) at) _ x e (λ common common-is e0.
+    bind_then (members_of at (codes "untagged") ports []) _ x e0 (λ untagged untagged-is e1.
+    bind_then (members_of at (codes "tagged") ports untagged) _ x e1 (λ tagged tagged-is e2.
+    let c = common_meets at common common-is in
+    subst (AreLocal ports) (ok_is _ x e2) (record {
+      limit = c.0;
+      ageing = c.1;
       untagged = members_meet at (codes "untagged") ports [] untagged untagged-is;
       tagged = members_meet at (codes "tagged") ports untagged tagged tagged-is;
-    }))))))))
+    }))))
 
 tunnel_meets : (at : Place) (t : SegmentTunnel) → tunnel_of at ≡ Ok t → IsTunnel [] t
 unfolding tunnel_of
@@ -359,27 +376,50 @@ segments_meet own ports at segments e =
     subst (λ l. IsWithin 1 256 (length l) × EachBehind (IsSegment own ports) [] l × (sum_of_limits l ≤ 65536)) (ok_is all segments e2)
     (subst (IsWithin 1 256) (sym q.1) few, q.0, ltb-false 65536 (sum_of_limits all) (refuse_ok _ _ total total-is)))))
 
+-- segments of which there is one have limits that sum to 1 at least
+some_entries : (own : Own) (ports : ℕ) (segments : List SegmentRule) → 1 ≤ length segments → EachBehind (IsSegment own ports) [] segments → 1 ≤ sum_of_limits segments
+some_entries addrs ports [] some are = absurd (omega (arith, some))
+some_entries addrs ports (s ∷ segments) some are =
+    let sums : sum_of_limits (s ∷ segments) ≡ s.limit + sum_of_limits segments = sum_by-cons (λ (n : ℕ). n) s.limit (map (λ (r : SegmentRule). r.limit) segments) in
+    omega (arith, sums, are.0.limit.0)
+
+pool_meets : (given : Option ℕ) (segments : List SegmentRule) (pool : ℕ) → pool_for given segments ≡ Ok pool → IfSome given (IsWithin 1 65536)
+    → IsWithin 1 65536 (sum_of_limits segments) → IsWithin 1 65536 pool × (sum_of_limits segments ≤ pool)
+pool_meets None segments pool e is sums = subst (λ n. IsWithin 1 65536 n × (sum_of_limits segments ≤ n)) (ok_is (sum_of_limits segments) pool e) (sums, omega arith)
+pool_meets (Some given) segments pool e is sums =
+    bind_then (refuse_if (nat_lt given (sum_of_limits segments)) (OverLimit (codes "pool"))) _ pool e (λ enough enough-is e0.
+    subst (λ n. IsWithin 1 65536 n × (sum_of_limits segments ≤ n)) (ok_is given pool e0) (is, ltb-false given (sum_of_limits segments) (refuse_ok _ _ enough enough-is)))
+
+given_meets : (at : Place) (given : Option ℕ) → given_pool_of at ≡ Ok given → IfSome given (IsWithin 1 65536)
+unfolding given_pool_of
+given_meets at given e =
+    bind_then (only at top_keys) _ given e (λ known known-is e0.
+    bind_then (required at (codes "version") (range 1 1)) _ given e0 (λ version version-is e1.
+    optional_meets (IsWithin 1 65536) (range 1 65536) (range_meets 1 65536) at (codes "pool") given e1))
+
 -- settings that are read keep to the rules
 pub settings_meet : (members : Members) (s : Settings) → settings_of members ≡ Ok s → MeetsRules s
 unfolding settings_of
 settings_meet members s e =
-    bind_then (only (top members) top_keys) _ s e (λ known known-is e0.
-    bind_then (required (top members) (codes "version") (range 1 1)) _ s e0 (λ version version-is e1.
-    bind_then (subtable (top members) (codes "underlay")) _ s e1 (λ below below-is e2.
-    bind_then (underlay_of below) _ s e2 (λ underlay underlay-is e3.
-    bind_then (required_items (top members) (codes "port") 16) _ s e3 (λ tables tables-is e4.
-    bind_then (each (λ earlier at. port_of at) (codes "port") [] tables) _ s e4 (λ ports ports-is e5.
-    bind_then (segments_of (own underlay) (length ports) (top members)) _ s e5 (λ segments segments-is e6.
+    bind_then (given_pool_of (top members)) _ s e (λ given given-is e0.
+    bind_then (subtable (top members) (codes "underlay")) _ s e0 (λ below below-is e1.
+    bind_then (underlay_of below) _ s e1 (λ underlay underlay-is e2.
+    bind_then (required_items (top members) (codes "port") 16) _ s e2 (λ tables tables-is e3.
+    bind_then (each (λ earlier at. port_of at) (codes "port") [] tables) _ s e3 (λ ports ports-is e4.
+    bind_then (segments_of (own underlay) (length ports) (top members)) _ s e4 (λ segments segments-is e5.
+    bind_then (pool_for given segments) _ s e5 (λ pool pool-is e6.
     let p = from_none IsPort (length tables) ports (each_meets IsPort (λ earlier at. port_of at) (codes "port") port_meets [] tables ports ports-is) in
     let few = required_items_ok (top members) (codes "port") 16 tables tables-is in
     let q = segments_meet (own underlay) (length ports) (top members) segments segments-is in
+    let l = pool_meets given segments pool pool-is (given_meets (top members) given given-is) (some_entries (own underlay) (length ports) segments q.0.0 q.1, q.2) in
     subst MeetsRules (ok_is _ s e6) (record {
       underlay = underlay_meets below underlay underlay-is;
       port_count = subst (IsWithin 1 16) (sym p.1) few;
       ports = p.0;
       segment_count = q.0;
       segments = q.1;
-      limits = q.2;
+      pool = l.0;
+      limits = l.1;
     }))))))))
 
 pub texts_meet : (text : List ℕ) (s : Settings) → settings_in text ≡ Ok s → MeetsRules s

@@ -1,7 +1,7 @@
 -- What a changes text means.
 use Rattle.std.specs.Prelude.{ℕ, ◌+◌, ◌-◌, nat_lt, List, [], ◌∷◌, length, slice_get, Option, Some, None, Ok, Err, codes}
 use Rattle.std.specs.Option.{option_map_or}
-use Rattle.toml.specs.Data.{Members}
+use Rattle.toml.specs.Data.{Data, Members}
 use Rattle.ip_udp_view.specs.declared.addr.Addr.{Addr}
 use Rattle.ip_udp_view.specs.declared.addr.Tunnel.{Tunnel}
 use Rattle.vlan_ports.specs.declared.member.Egress.{Egress}
@@ -14,17 +14,20 @@ use Rattle.overlay_settings.specs.declared.change.Target.{Target}
 use Rattle.overlay_settings.specs.declared.change.Target.TheVariants.{Local, Remote}
 use Rattle.overlay_settings.specs.declared.change.Change.{Change}
 use Rattle.overlay_settings.specs.declared.change.Change.TheVariants as changes
+use Rattle.overlay_settings.specs.declared.change.NewSegment.{NewSegment}
 use Rattle.overlay_settings.specs.declared.change.TimedChange.{TimedChange}
-use Rattle.overlay_config.specs.declared.change_row.Kind.{Kind}
-use Rattle.overlay_config.specs.declared.change_row.Kind.TheVariants as kinds
+use Rattle.overlay_config.specs.declared.kind.Kind.{Kind}
+use Rattle.overlay_config.specs.declared.kind.Kind.TheVariants as kinds
+use Rattle.overlay_config.specs.CommonRules.{common_of}
 use Rattle.overlay_config.specs.Document.{document}
-use Rattle.overlay_config.specs.Segment.{tunnel_words}
+use Rattle.overlay_config.specs.Segment.{tunnel_of, tunnel_words}
 use Rattle.overlay_settings.specs.Rules.{IsWithin}
 
 -- the words of the kinds of changes
 abbrev pub kind_words : List (List ℕ × Kind)
 kind_words = (codes "add_flood", kinds.AddFlood) ∷ (codes "remove_flood", kinds.RemoveFlood) ∷ (codes "fix", kinds.Fix) ∷ (codes "unfix", kinds.Unfix) ∷ (codes "set_ageing", kinds.SetAgeing)
-    ∷ (codes "set_learning", kinds.SetLearning) ∷ (codes "set_member", kinds.SetMember) ∷ (codes "port_up", kinds.PortUp) ∷ (codes "port_down", kinds.PortDown) ∷ (codes "flush", kinds.Flush) ∷ []
+    ∷ (codes "set_learning", kinds.SetLearning) ∷ (codes "set_member", kinds.SetMember) ∷ (codes "port_up", kinds.PortUp) ∷ (codes "port_down", kinds.PortDown) ∷ (codes "flush", kinds.Flush)
+    ∷ (codes "add_segment", kinds.AddSegment) ∷ (codes "remove_segment", kinds.RemoveSegment) ∷ (codes "set_limit", kinds.SetLimit) ∷ []
 
 -- the words of how frames leave at a port
 abbrev pub egress_words : List (List ℕ × Option Egress)
@@ -46,6 +49,9 @@ keys_of kinds.SetMember = keys_with (codes "vid" ∷ codes "port" ∷ codes "egr
 keys_of kinds.PortUp = keys_with (codes "port" ∷ [])
 keys_of kinds.PortDown = keys_with (codes "port" ∷ [])
 keys_of kinds.Flush = keys_with (codes "vid" ∷ [])
+keys_of kinds.AddSegment = keys_with (codes "vid" ∷ codes "vni" ∷ codes "tunnel" ∷ codes "limit" ∷ codes "ageing" ∷ codes "learn" ∷ codes "peers" ∷ codes "tags" ∷ [])
+keys_of kinds.RemoveSegment = keys_with (codes "vid" ∷ [])
+keys_of kinds.SetLimit = keys_with (codes "vid" ∷ codes "limit" ∷ [])
 
 -- the key `vid`
 abbrev pub vid_at : Place → Meaning ℕ
@@ -89,6 +95,18 @@ remote_of at = do
   tunnel ← tunnel_at at
   Ok (vid, addr, tunnel)
 
+-- seconds, or a number of entries, whether or not it is in range: that shows when the change is made
+abbrev pub any_number : Data → Option ℕ
+any_number = range 0 4294967295
+
+-- a segment that comes, its one tunnel of horizon group 0
+unfoldable pub new_segment_of : Place → Meaning NewSegment
+new_segment_of at = do
+  vid ← vid_at at
+  tunnel ← tunnel_of at
+  common ← common_of any_number any_number at
+  Ok (record { vid = vid; tunnels = tunnel ∷ []; limit = common.limit; ageing = common.ageing; learning = common.learning; peers = common.peers; tags = common.tags })
+
 -- the keys of each kind behind `at`, in order
 unfoldable pub change_in : Kind → Place → Meaning Change
 change_in kinds.AddFlood at = remote_of at >>= λ r. Ok (changes.AddFlood r.0 r.1 r.2)
@@ -104,7 +122,7 @@ change_in kinds.Unfix at = do
   Ok (changes.Unfix vid mac)
 change_in kinds.SetAgeing at = do
   vid ← vid_at at
-  seconds ← required at (codes "seconds") (range 0 4294967295)
+  seconds ← required at (codes "seconds") any_number
   Ok (changes.SetAgeing vid seconds)
 change_in kinds.SetLearning at = do
   vid ← vid_at at
@@ -118,6 +136,12 @@ change_in kinds.SetMember at = do
 change_in kinds.PortUp at = port_at at >>= λ port. Ok (changes.PortUp port)
 change_in kinds.PortDown at = port_at at >>= λ port. Ok (changes.PortDown port)
 change_in kinds.Flush at = vid_at at >>= λ vid. Ok (changes.Flush vid)
+change_in kinds.AddSegment at = new_segment_of at >>= λ rule. Ok (changes.AddSegment rule)
+change_in kinds.RemoveSegment at = vid_at at >>= λ vid. Ok (changes.RemoveSegment vid)
+change_in kinds.SetLimit at = do
+  vid ← vid_at at
+  limit ← required at (codes "limit") any_number
+  Ok (changes.SetLimit vid limit)
 
 -- the moment of the last change, or 0
 abbrev pub moment_before : List TimedChange → ℕ

@@ -4,6 +4,7 @@ pub mod Underlay
 pub mod Port
 pub mod Members
 pub mod Flood
+pub mod CommonRules
 pub mod LocalRules
 pub mod Segment
 pub mod Settings

@@ -1,13 +1,13 @@
 -- What a settings text means.
 pub use Rattle.overlay_settings.specs.Settings.{Settings}
-use Rattle.std.specs.Prelude.{ℕ, nat_lt, List, [], ◌∷◌, length, Ok, codes}
+use Rattle.std.specs.Prelude.{ℕ, nat_lt, List, [], ◌∷◌, length, Option, Some, None, Ok, codes}
 use Rattle.toml.specs.Data.{Members}
 use Rattle.flood_lists.specs.declared.own.Own.{Own}
 use Rattle.underlay.specs.Settings.{own}
 use Rattle.config_text.specs.declared.fault.SettingsFault.TheVariants.{OverLimit}
 use Rattle.config_text.specs.Fault.{Meaning, ◌>>=◌}
 use Rattle.config_text.specs.Column.{range}
-use Rattle.config_text.specs.Table.{Place, top, only, required, subtable, required_items, each, refuse_if}
+use Rattle.config_text.specs.Table.{Place, top, only, required, optional, subtable, required_items, each, refuse_if}
 use Rattle.overlay_settings.specs.declared.segment.SegmentRule.{SegmentRule}
 use Rattle.overlay_settings.specs.Settings.{sum_of_limits}
 use Rattle.overlay_config.specs.Document.{document}
@@ -17,7 +17,7 @@ use Rattle.overlay_config.specs.Segment.{segment_of}
 
 -- the keys at the top
 abbrev pub top_keys : List (List ℕ)
-top_keys = codes "version" ∷ codes "underlay" ∷ codes "port" ∷ codes "segment" ∷ []
+top_keys = codes "version" ∷ codes "pool" ∷ codes "underlay" ∷ codes "port" ∷ codes "segment" ∷ []
 
 -- beside the endpoint's own addresses and the number of its ports
 unfoldable pub segments_of : Own → ℕ → Place → Meaning (List SegmentRule)
@@ -27,17 +27,29 @@ segments_of own ports at = do
   total ← refuse_if (nat_lt 65536 (sum_of_limits segments)) (OverLimit (codes "limit"))
   Ok segments
 
+-- the pool that is given, which the limits may not sum to more than; or else their sum
+abbrev pub pool_for : Option ℕ → List SegmentRule → Meaning ℕ
+pool_for None segments = Ok (sum_of_limits segments)
+pool_for (Some pool) segments = refuse_if (nat_lt pool (sum_of_limits segments)) (OverLimit (codes "pool")) >>= λ enough. Ok pool
+
+-- what the keys at the top say before all tables: version 1, and a pool, where it is given
+unfoldable pub given_pool_of : Place → Meaning (Option ℕ)
+given_pool_of at = do
+  known ← only at top_keys
+  version ← required at (codes "version") (range 1 1)
+  optional at (codes "pool") (range 1 65536)
+
 -- what the table of a text of settings means
 unfoldable pub settings_of : Members → Meaning Settings
 settings_of members = do
-  known ← only (top members) top_keys
-  version ← required (top members) (codes "version") (range 1 1)
+  given ← given_pool_of (top members)
   below ← subtable (top members) (codes "underlay")
   underlay ← underlay_of below
   tables ← required_items (top members) (codes "port") 16
   ports ← each (λ earlier at. port_of at) (codes "port") [] tables
   segments ← segments_of (own underlay) (length ports) (top members)
-  Ok (record { underlay = underlay; ports = ports; segments = segments })
+  pool ← pool_for given segments
+  Ok (record { underlay = underlay; ports = ports; segments = segments; pool = pool })
 
 -- the settings that a text means, or its first fault
 abbrev pub settings_in : List ℕ → Meaning Settings

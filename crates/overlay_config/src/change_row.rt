@@ -1,74 +1,33 @@
 //! The table of a change.
-ghost use Rattle.std.specs.Prelude.{◌≡◌, IsUtf8, Err, IfOk, [], map};
+ghost use Rattle.std.specs.Prelude.{◌≡◌, IsUtf8, Err, IfOk, []};
 ghost use Rattle.toml.specs.View.{table_view};
 ghost use Rattle.config_text.specs.declared.fault.SettingsFault.TheVariants.{NotToml};
 ghost use Rattle.overlay_config.specs.Fault.{GivesAs};
 ghost use Rattle.config_text.specs.Reader.{place_of};
-ghost use Rattle.overlay_config.specs.Change.{keys_of, moment_before, target_of, remote_of, change_in, change_of, changes_in, changes_of, IsRising};
+ghost use Rattle.overlay_config.specs.Change.{moment_before, target_of, remote_of, new_segment_of, change_in, change_of, changes_in, changes_of, IsRising};
 ghost use Rattle.overlay_settings.specs.Rules.{EachBehind};
 
+use crate::common_rules::read_common;
 use crate::document::read_document;
-use crate::segment::TUNNELS;
+use crate::kind::{KINDS, Kind};
+use crate::segment::{TUNNELS, read_tunnel};
 use config_text::{
     AnyAddr, AnyMac, Key, Reader, Row, SettingsFault, Truth, U8Range, U32Range, U64Range,
     VidNumber, Words, read_rows,
 };
 use frame_view::Vid;
 use ip_udp_view::{Addr, Tunnel};
-use overlay_settings::{Change, Target, TimedChange};
+use overlay_settings::{Change, NewSegment, Target, TimedChange};
 use std::alloc::Global;
 use toml::Table;
+use underlay::Tunnels;
 use vlan_ports::Egress;
-
-/// The kind of a change.
-#[derive(Clone, Copy, Debug, PartialEq, Eq)]
-enum Kind {
-    AddFlood,
-    RemoveFlood,
-    Fix,
-    Unfix,
-    SetAgeing,
-    SetLearning,
-    SetMember,
-    PortUp,
-    PortDown,
-    Flush,
-}
-
-const KINDS: [(&str, Kind); 10] = [
-    ("add_flood", Kind::AddFlood),
-    ("remove_flood", Kind::RemoveFlood),
-    ("fix", Kind::Fix),
-    ("unfix", Kind::Unfix),
-    ("set_ageing", Kind::SetAgeing),
-    ("set_learning", Kind::SetLearning),
-    ("set_member", Kind::SetMember),
-    ("port_up", Kind::PortUp),
-    ("port_down", Kind::PortDown),
-    ("flush", Kind::Flush),
-];
 
 const EGRESSES: [(&str, Option<Egress>); 3] = [
     ("tagged", Some(Egress::Tagged)),
     ("untagged", Some(Egress::Untagged)),
     ("none", None),
 ];
-
-const FLOOD: [&str; 5] = ["kind", "at", "vid", "addr", "tunnel"];
-
-const FIX: [&str; 7] = ["kind", "at", "vid", "mac", "port", "remote", "tunnel"];
-
-const UNFIX: [&str; 4] = ["kind", "at", "vid", "mac"];
-
-const AGEING: [&str; 4] = ["kind", "at", "vid", "seconds"];
-
-const LEARNING: [&str; 4] = ["kind", "at", "vid", "on"];
-
-const MEMBER: [&str; 5] = ["kind", "at", "vid", "port", "egress"];
-
-const PORT: [&str; 3] = ["kind", "at", "port"];
-
-const FLUSH: [&str; 3] = ["kind", "at", "vid"];
 
 /// The latest moment that a classic capture has, to the nanosecond.
 const MOMENT: U64Range = U64Range {
@@ -78,31 +37,11 @@ const MOMENT: U64Range = U64Range {
 
 const ANY_PORT: U8Range = U8Range { low: 0, high: 255 };
 
-const SECONDS: U32Range = U32Range {
+/// What a change may tell of seconds and of entries; whether it is in range shows when the change is made.
+const ANY_NUMBER: U32Range = U32Range {
     low: 0,
     high: 4294967295,
 };
-
-impl Kind {
-    ghost use Rattle.std.specs.Prelude.{◌≡◌, map};
-    ghost use Rattle.overlay_config.specs.Change.{keys_of};
-
-    /// The keys of the kind's table.
-    fn keys(self) -> &'static [&'static str]
-        ensures { map (λ k. k.now) result.now ≡ keys_of self }
-    {
-        match self {
-            Kind::AddFlood | Kind::RemoveFlood => &FLOOD,
-            Kind::Fix => &FIX,
-            Kind::Unfix => &UNFIX,
-            Kind::SetAgeing => &AGEING,
-            Kind::SetLearning => &LEARNING,
-            Kind::SetMember => &MEMBER,
-            Kind::PortUp | Kind::PortDown => &PORT,
-            Kind::Flush => &FLUSH,
-        }
-    }
-}
 
 /// Where a fixed entry stands: one of a port and a remote, and for a remote the kind of tunnel, where it is told.
 #[tactic(auto, unfolding(crate::specs::Change::target_of))]
@@ -136,6 +75,25 @@ fn read_remote(at: &Reader) -> Result<(Vid, Addr, Option<Tunnel>), SettingsFault
     Ok((vid, addr, tunnel))
 }
 
+/// A segment that comes.
+#[tactic(auto, unfolding(crate::specs::Change::new_segment_of))]
+fn read_new_segment(at: &Reader) -> Result<NewSegment, SettingsFault>
+    ensures { result ≡ new_segment_of (place_of at.now) }
+{
+    let vid = at.required("vid", &VidNumber)?;
+    let tunnel = read_tunnel(at)?;
+    let common = read_common(at, &ANY_NUMBER, &ANY_NUMBER)?;
+    Ok(NewSegment {
+        vid,
+        tunnels: Tunnels::one(tunnel),
+        limit: common.limit,
+        ageing: common.ageing,
+        learning: common.learning,
+        peers: common.peers,
+        tags: common.tags,
+    })
+}
+
 /// What a change of this kind does.
 #[tactic(auto, unfolding(crate::specs::Change::change_in))]
 fn read_change(kind: Kind, at: &Reader) -> Result<Change, SettingsFault>
@@ -163,7 +121,7 @@ fn read_change(kind: Kind, at: &Reader) -> Result<Change, SettingsFault>
         }
         Kind::SetAgeing => {
             let vid = at.required("vid", &VidNumber)?;
-            let seconds = at.required("seconds", &SECONDS)?;
+            let seconds = at.required("seconds", &ANY_NUMBER)?;
             Ok(Change::SetAgeing { vid, seconds })
         }
         Kind::SetLearning => {
@@ -186,6 +144,15 @@ fn read_change(kind: Kind, at: &Reader) -> Result<Change, SettingsFault>
         Kind::Flush => Ok(Change::Flush {
             vid: at.required("vid", &VidNumber)?,
         }),
+        Kind::AddSegment => Ok(Change::AddSegment(read_new_segment(at)?)),
+        Kind::RemoveSegment => Ok(Change::RemoveSegment {
+            vid: at.required("vid", &VidNumber)?,
+        }),
+        Kind::SetLimit => {
+            let vid = at.required("vid", &VidNumber)?;
+            let limit = at.required("limit", &ANY_NUMBER)?;
+            Ok(Change::SetLimit { vid, limit })
+        }
     }
 }
 

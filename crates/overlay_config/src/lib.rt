@@ -7,8 +7,10 @@
 #![tactic(auto)]
 
 mod change_row;
+mod common_rules;
 mod document;
 mod flood;
+mod kind;
 mod known;
 pub mod laws;
 mod local_rules;
@@ -20,5 +22,5 @@ mod underlay_table;
 
 pub use change_row::changes_of;
 pub use config_text::{Key, SettingsFault};
-pub use overlay_settings::{Change, SegmentRule, Settings, Target, TimedChange};
+pub use overlay_settings::{Change, NewSegment, SegmentRule, Settings, Target, TimedChange};
 pub use settings::settings_of;

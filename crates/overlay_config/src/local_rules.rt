@@ -3,19 +3,16 @@ ghost use Rattle.std.specs.Prelude.{◌≡◌, ◌≤◌, length};
 ghost use Rattle.config_text.specs.Reader.{place_of};
 ghost use Rattle.overlay_config.specs.LocalRules.{local_of, members_of};
 
+use crate::common_rules::read_common;
 use crate::members::{MemberList, MemberPorts};
-use config_text::{Reader, SettingsFault, Truth, U16Range, U32Range, Words, gather};
+use config_text::{Reader, SettingsFault, U32Range, gather};
 use flood_lists::FloodList;
 use frame_view::Vid;
 use overlay_settings::SegmentRule;
 use underlay::{PeerRule, TagRule, Tunnels};
 use vlan_ports::PortList;
 
-const PEERS: [(&str, PeerRule); 2] = [("any", PeerRule::Any), ("listed", PeerRule::Listed)];
-
-const TAGS: [(&str, TagRule); 2] = [("drop", TagRule::Drop), ("pass", TagRule::Pass)];
-
-const LIMIT: U16Range = U16Range { low: 1, high: 8192 };
+const LIMIT: U32Range = U32Range { low: 1, high: 8192 };
 
 const AGEING: U32Range = U32Range {
     low: 10,
@@ -77,19 +74,15 @@ pub(crate) fn read_local(at: &Reader, ports: u8) -> Result<LocalRules, SettingsF
     requires { ports ≤ 16 }
     ensures { result ≡ local_of ports (place_of at.now) }
 {
-    let limit = at.defaulted("limit", &LIMIT, 256)?;
-    let ageing = at.defaulted("ageing", &AGEING, 300)?;
-    let learning = at.defaulted("learn", &Truth, true)?;
-    let peers = at.defaulted("peers", &Words { words: &PEERS }, PeerRule::Any)?;
-    let tags = at.defaulted("tags", &Words { words: &TAGS }, TagRule::Drop)?;
+    let common = read_common(at, &LIMIT, &AGEING)?;
     let untagged = read_members(at, "untagged", ports, &[])?;
     let tagged = read_members(at, "tagged", ports, untagged.as_slice())?;
     Ok(LocalRules {
-        limit,
-        ageing,
-        learning,
-        peers,
-        tags,
+        limit: common.limit as u16,
+        ageing: common.ageing,
+        learning: common.learning,
+        peers: common.peers,
+        tags: common.tags,
         untagged,
         tagged,
     })

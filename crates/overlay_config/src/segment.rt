@@ -68,7 +68,7 @@ fn is_taken(segments: &[SegmentRule], vid: Vid, tunnel: &SegmentTunnel) -> bool
 
 /// The tunnel of a segment.
 #[tactic(auto, unfolding(crate::specs::Segment::tunnel_of))]
-fn read_tunnel(at: &Reader) -> Result<SegmentTunnel, SettingsFault>
+pub(crate) fn read_tunnel(at: &Reader) -> Result<SegmentTunnel, SettingsFault>
     ensures { result ≡ tunnel_of (place_of at.now) }
 {
     let vni = at.required("vni", &VniNumber)?;

@@ -1,35 +1,40 @@
 //! The settings of an endpoint, from their text.
-ghost use Rattle.std.specs.Prelude.{◌≡◌, IsUtf8, Ok, Err, ℕ, ◌+◌, ◌<◌, ◌≤◌, ◌^◌, sum, map, length};
+ghost use Rattle.std.specs.Prelude.{◌≡◌, IsUtf8, IfOk, Ok, Err, ℕ, ◌+◌, ◌<◌, ◌≤◌, ◌^◌, sum, map, length};
 ghost use Rattle.toml.specs.View.{table_view};
 ghost use Rattle.config_text.specs.declared.fault.SettingsFault.TheVariants.{NotToml};
 ghost use Rattle.overlay_config.specs.Fault.{Gives, GivesAs};
 ghost use Rattle.config_text.specs.Reader.{place_of};
 ghost use Rattle.overlay_settings.specs.Settings.{sum_of_limits};
-ghost use Rattle.overlay_config.specs.Settings.{segments_of, settings_in, settings_of};
+ghost use Rattle.overlay_config.specs.Settings.{given_pool_of, pool_for, segments_of, settings_in, settings_of};
 
 use crate::document::read_document;
 use crate::port::PortRow;
 use crate::segment::SegmentRow;
 use crate::underlay_table::read_underlay;
-use config_text::{Key, Reader, SettingsFault, U8Range, read_rows};
+use config_text::{Key, Reader, SettingsFault, U8Range, U32Range, read_rows};
 use flood_lists::Own;
 use overlay_settings::{Parts, SegmentRule, Settings};
 use std::alloc::Global;
 use toml::Table;
 
-const KEYS: [&str; 4] = ["version", "underlay", "port", "segment"];
+const KEYS: [&str; 5] = ["version", "pool", "underlay", "port", "segment"];
 
 /// The most entries that all tables together may have.
-const POOL: u64 = 65536;
+const LARGEST_POOL: u32 = 65536;
+
+const POOL: U32Range = U32Range {
+    low: 1,
+    high: LARGEST_POOL,
+};
 
 /// The sum of the segments' limits.
-fn sum_of_limits(segments: &[SegmentRule]) -> u64
+fn sum_of_limits(segments: &[SegmentRule]) -> u32
     requires { length segments.now ≤ 256 }
     ensures { result ≡ sum_of_limits segments.now }
 {
-    let mut total: u64 = 0;
+    let mut total: u32 = 0;
     for segment in segments {
-        total += u64::from(segment.limit);
+        total += u32::from(segment.limit);
     }
     total
 }
@@ -43,15 +48,40 @@ fn read_segments(
     top: &Reader,
 ) -> Result<Vec<SegmentRule>, SettingsFault>
     requires { ports ≤ 16 }
-    ensures { GivesAs (λ v. v.items) result (segments_of own ports (place_of top.now)) }
+    ensures value { GivesAs (λ v. v.items) result (segments_of own ports (place_of top.now)) }
+    ensures few { IfOk result (λ v. length v.items ≤ 256) }
 {
     let row = SegmentRow { own, ports };
     let tables = top.required_items("segment", 256)?;
     let segments = read_rows(alloc, &row, "segment", tables)?;
-    if sum_of_limits(segments.as_slice()) > POOL {
+    if sum_of_limits(segments.as_slice()) > LARGEST_POOL {
         return Err(SettingsFault::OverLimit(Key::of("", "limit")));
     }
     Ok(segments)
+}
+
+/// The pool for these segments: the one that is given, or else the sum of their limits. `OverLimit`: they sum to more than
+/// is given.
+fn pool_for(given: Option<u32>, segments: &[SegmentRule]) -> Result<u32, SettingsFault>
+    requires { length segments.now ≤ 256 }
+    ensures { result ≡ pool_for given segments.now }
+{
+    let sum = sum_of_limits(segments);
+    match given {
+        None => Ok(sum),
+        Some(pool) if pool < sum => Err(SettingsFault::OverLimit(Key::of("", "pool"))),
+        Some(pool) => Ok(pool),
+    }
+}
+
+/// The pool that is given at the top of settings of version 1.
+#[tactic(auto, unfolding(crate::specs::Settings::given_pool_of))]
+fn read_given_pool(top: &Reader) -> Result<Option<u32>, SettingsFault>
+    ensures { result ≡ given_pool_of (place_of top.now) }
+{
+    top.only(&KEYS)?;
+    top.required("version", &U8Range { low: 1, high: 1 })?;
+    top.optional("pool", &POOL)
 }
 
 /// The parts of the settings that a document's table means.
@@ -60,16 +90,17 @@ fn read_parts(alloc: Global, table: &Table) -> Result<Parts, SettingsFault>
     ensures { Gives result (settings_of (table_view table.now)) }
 {
     let top = Reader::top(table);
-    top.only(&KEYS)?;
-    top.required("version", &U8Range { low: 1, high: 1 })?;
+    let given = read_given_pool(&top)?;
     let underlay = read_underlay(alloc, &top.subtable("underlay")?)?;
     let tables = top.required_items("port", 16)?;
     let ports = read_rows(alloc, &PortRow, "port", tables)?;
     let segments = read_segments(alloc, underlay.own(), ports.len() as u8, &top)?;
+    let pool = pool_for(given, segments.as_slice())?;
     Ok(Parts {
         underlay,
         ports,
         segments,
+        pool,
     })
 }
 
@@ -83,7 +114,8 @@ fn read_settings(alloc: Global, table: &Table) -> Result<Settings, SettingsFault
 
 /// The settings that a text means, or its first fault: `NotToml` where the text isn't UTF-8 or no TOML document, then
 /// the faults of its keys in the order of `docs/FORMATS.md`, in each table `BadValue` for a key that it doesn't have
-/// before those that it has, and last `OverLimit` for the sum of the limits. `OutOfMemory`: memory was refused.
+/// before those that it has, and last `OverLimit` for the sum of the limits, then for a pool that is given and is less.
+/// `OutOfMemory`: memory was refused.
 pub fn settings_of(alloc: Global, text: &[u8]) -> Result<Settings, SettingsFault>
     ensures document { IsUtf8 text.now → Gives result (settings_in text.now) }
     ensures not_text { (IsUtf8 text.now → ⊥) → Gives result (Err NotToml) }

@@ -2,7 +2,7 @@
 use Rattle.std.specs.Prelude.{ℕ, ◌==◌, Bool, true, Option, Some, None}
 use Rattle.std.specs.Option.{option_map_or}
 use Rattle.overlay_settings.specs.declared.change.Change.{Change}
-use Rattle.overlay_settings.specs.declared.change.Change.TheVariants.{AddFlood, RemoveFlood, Fix, Unfix, SetAgeing, SetLearning, SetMember, PortUp, PortDown, Flush}
+use Rattle.overlay_settings.specs.declared.change.Change.TheVariants.{AddFlood, RemoveFlood, Fix, Unfix, SetAgeing, SetLearning, SetMember, PortUp, PortDown, Flush, AddSegment, RemoveSegment, SetLimit}
 
 -- the VID of the segment that a change names; a change of a port names none
 abbrev pub named : Change → Option ℕ
@@ -16,6 +16,9 @@ named (SetMember vid port egress) = Some vid
 named (PortUp port) = None
 named (PortDown port) = None
 named (Flush vid) = Some vid
+named (AddSegment rule) = Some rule.vid
+named (RemoveSegment vid) = Some vid
+named (SetLimit vid limit) = Some vid
 
 -- it names the segment of this VID, or it is of a port and thereby about every segment
 abbrev pub is_about : ℕ → Change → Bool

@@ -1,6 +1,6 @@
 -- How the value that contracts see of settings is stored.
-use Rattle.std.specs.Prelude.{refl, List}
-use Rattle.std.specs.Coded.{Coded, code_by, coded×, coded_list}
+use Rattle.std.specs.Prelude.{refl, ℕ, List}
+use Rattle.std.specs.Coded.{Coded, code_by, coded×, coded_ℕ, coded_list}
 use Rattle.vlan_ports.specs.contracts.port.PortRule as port
 use Rattle.vlan_ports.specs.declared.port.PortRule.{PortRule}
 use Rattle.underlay.specs.contracts.settings.Underlay as settings
@@ -12,8 +12,8 @@ use Rattle.overlay_settings.specs.Settings.{Settings}
 -- settings are stored as the tuple of their parts
 abbrev pub settings_code : Coded Settings
 settings_code =
-    code_by (Underlay × (List PortRule × List SegmentRule))
-    (coded× settings.the_row.coded (coded× (coded_list port.the_row.coded) (coded_list segment.the_row.coded)))
-    (λ s. (s.underlay, (s.ports, s.segments)))
-    (λ p. record { underlay = p.0; ports = p.1.0; segments = p.1.1 })
+    code_by (Underlay × (List PortRule × (List SegmentRule × ℕ)))
+    (coded× settings.the_row.coded (coded× (coded_list port.the_row.coded) (coded× (coded_list segment.the_row.coded) coded_ℕ)))
+    (λ s. (s.underlay, (s.ports, (s.segments, s.pool))))
+    (λ p. record { underlay = p.0; ports = p.1.0; segments = p.1.1.0; pool = p.1.1.1 })
     (λ _. refl)

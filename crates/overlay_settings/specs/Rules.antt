@@ -114,4 +114,5 @@ pub record MeetsRules (s : Settings) : Type 0 where
   pub ports : EachBehind IsPort [] s.ports
   pub segment_count : IsWithin 1 256 (length s.segments)
   pub segments : EachBehind (IsSegment (own s.underlay) (length s.ports)) [] s.segments
-  pub limits : sum_of_limits s.segments ≤ 65536
+  pub pool : IsWithin 1 65536 s.pool
+  pub limits : sum_of_limits s.segments ≤ s.pool

@@ -19,6 +19,8 @@ pub record Settings : Type 0 where
   -- port 1, port 2 and so on
   pub ports : List PortRule
   pub segments : List SegmentRule
+  -- the most entries that all tables together may be given
+  pub pool : ℕ
 
 -- the next hops by the octets of the addresses to which they lead
 abbrev pub Exceptions : Type 0

@@ -4,6 +4,7 @@ ghost use Rattle.overlay_settings.specs.Change.{named};
 
 use frame_view::{Mac, Vid};
 use ip_udp_view::{Addr, Tunnel};
+use underlay::{PeerRule, TagRule, Tunnels};
 use vlan_ports::Egress;
 
 /// Where a fixed entry stands.
@@ -13,6 +14,22 @@ pub enum Target {
     Local(u8),
     /// The endpoint at this address, by the segment's tunnel of this kind; None: by its first tunnel.
     Remote(Addr, Option<Tunnel>),
+}
+
+/// A segment that comes while the endpoint runs: it has no member ports, no flood list and no entries yet.
+#[derive(Clone, Copy, Debug, PartialEq, Eq)]
+pub struct NewSegment {
+    /// Its VLAN identifier.
+    pub vid: Vid,
+    pub tunnels: Tunnels,
+    /// The most entries that its table may have. Whether that is 1 to 8,192 shows when the change is made.
+    pub limit: u32,
+    /// For how many seconds a learned entry is live. Whether that is 10 to 1,000,000 shows when the change is made.
+    pub ageing: u32,
+    /// Whether it learns.
+    pub learning: bool,
+    pub peers: PeerRule,
+    pub tags: TagRule,
 }
 
 /// A change. Whether its segment, port or tunnel is there shows when it is made.
@@ -69,6 +86,17 @@ pub enum Change {
     Flush {
         vid: Vid,
     },
+    /// Adds a segment.
+    AddSegment(NewSegment),
+    /// Removes a segment, with its member ports, its flood list and all its entries.
+    RemoveSegment {
+        vid: Vid,
+    },
+    /// Sets the most entries that a segment's table may have.
+    SetLimit {
+        vid: Vid,
+        limit: u32,
+    },
 }
 
 impl Change {
@@ -84,7 +112,10 @@ impl Change {
             | Change::SetAgeing { vid, .. }
             | Change::SetLearning { vid, .. }
             | Change::SetMember { vid, .. }
-            | Change::Flush { vid } => Some(vid),
+            | Change::Flush { vid }
+            | Change::RemoveSegment { vid }
+            | Change::SetLimit { vid, .. } => Some(vid),
+            Change::AddSegment(rule) => Some(rule.vid),
             Change::PortUp { .. } | Change::PortDown { .. } => None,
         }
     }

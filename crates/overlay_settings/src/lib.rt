@@ -8,6 +8,6 @@ mod change;
 mod segment;
 mod settings;
 
-pub use change::{Change, Target, TimedChange};
+pub use change::{Change, NewSegment, Target, TimedChange};
 pub use segment::SegmentRule;
 pub use settings::{Parts, Settings};

@@ -6,14 +6,16 @@ use std::marker::Model;
 use underlay::Underlay;
 use vlan_ports::PortRule;
 
-/// What settings say, whether or not they keep to the rules. Contracts see a record of the underlay, the ports and the
-/// segments.
+/// What settings say, whether or not they keep to the rules. Contracts see a record of the underlay, the ports, the
+/// segments and the pool.
 #[derive(Debug, Drop)]
 pub struct Parts {
     pub underlay: Underlay,
     /// The local ports: the k-th is port k.
     pub ports: Vec<PortRule>,
     pub segments: Vec<SegmentRule>,
+    /// The most entries that all tables together may be given, 1 to 65,536.
+    pub pool: u32,
 }
 
 impl Model for Parts {
@@ -24,7 +26,7 @@ impl Model for Parts {
 
     ghost coded = { settings_code };
 
-    ghost view = { λ p. record { underlay = p.underlay; ports = p.ports.items; segments = p.segments.items } };
+    ghost view = { λ p. record { underlay = p.underlay; ports = p.ports.items; segments = p.segments.items; pool = p.pool } };
 }
 
 /// The settings of an endpoint, which keep to every rule for them. Contracts see the same record.
@@ -73,6 +75,15 @@ impl Settings {
         ensures rules { MeetsRules self.now }
     {
         self.parts.segments.as_slice()
+    }
+
+    /// The most entries that all tables together may be given, 1 to 65,536: what the limits of the segments sum to at most,
+    /// also when segments come, go and get another limit.
+    pub fn pool(&self) -> u32
+        ensures value { result ≡ self.now.pool }
+        ensures rules { MeetsRules self.now }
+    {
+        self.parts.pool
     }
 
     /// What they say.

@@ -17,4 +17,6 @@ mod segment_rows;
 #[cfg(test)]
 mod sending_rows;
 #[cfg(test)]
+mod standing_rows;
+#[cfg(test)]
 mod transcript;

@@ -1,5 +1,5 @@
 -- What a change makes of what a segment sees.
-use Rattle.std.proofs.Common.{◌≡◌, ℕ, ◌-◌, ◌==◌, Bool, true, false, cond, Option, Some, None, refl, sym, ap, ◌∙◌, subst}
+use Rattle.std.proofs.Common.{◌≡◌, ℕ, ◌-◌, ◌==◌, Bool, true, false, cond, ◌||◌, Option, Some, None, refl, sym, ap, ◌∙◌, subst}
 use Rattle.std.specs.Prelude.{is_none, is_some, slice_set, slice_index_or}
 use Rattle.std.specs.Option.{option_map, option_map_or, unwrap_or}
 use Rattle.std.specs.FinMap.{empty, get, insert}
@@ -9,14 +9,16 @@ use Rattle.flood_lists.specs.Flood.{Entries}
 use Rattle.vlan_ports.specs.Ports.{Ports, Members, no_port, members_at, has_segment, member_set, with_member}
 use Rattle.vlan_ports.specs.declared.member.Egress.{Egress}
 use Rattle.vlan_ports.specs.declared.port.PortRule.{PortRule}
-use Rattle.vlan_ports.proofs.PlacesLemmas.{get-insert_at, get-insert_same}
-use Rattle.underlay.specs.Overlay.{Segments, flooding, with_flood}
+use Rattle.vlan_ports.proofs.PlacesLemmas.{get-insert_at, get-insert_same, get-remove_at}
+use Rattle.underlay.specs.Overlay.{Segments, segment_of, flooding, with_flood}
 use Rattle.underlay.specs.declared.segment.Segment.{Segment}
+use Rattle.overlay_settings.specs.declared.change.NewSegment.{NewSegment}
 use Rattle.overlay_settings.specs.declared.change.Change.{Change}
 use Rattle.endpoint_state.specs.Settings.{Settings, BridgeSettings, SegmentSettings, segment_at}
-use Rattle.endpoint_state.specs.Effect.{Effect, ToFlood, ToBridge, ToMembers, ToPort, ToNothing, effect, with_flood_of, with_bridge, applied}
+use Rattle.endpoint_state.specs.Effect.{Effect, ToFlood, ToBridge, ToLimit, ToMembers, ToPort, Comes, Goes, ToNothing, effect, with_flood_of, with_bridge, new_tunnels, new_bridge, with_segment, without_segment, applied}
 use Rattle.endpoint_state.specs.Change.{is_about, refused, accepted, changed}
 use Rattle.endpoint_state.proofs.EffectLemmas.{is_to, effect-other, IsThere, effect-there}
+use Rattle.segment_isolation.specs.Alone.{all_see}
 use Rattle.segment_isolation.proofs.Finding.{tunnels}
 use Rattle.segment_isolation.proofs.Seeing.{Seen, seen, limit_of, own_of}
 use Rattle.segment_isolation.proofs.Refusing.{refused-same}
@@ -64,6 +66,7 @@ flooded_by flood None x = x
 flooded_by flood (Some s) x = record {
   underlay = x.underlay;
   ports = x.ports;
+  pool = x.pool;
   stands = x.stands;
   tunnels = x.tunnels;
   limits = x.limits;
@@ -80,6 +83,7 @@ seen-flooded S v flood None = refl
 seen-flooded S v flood (Some s) = λ i. record {
   underlay = S.overlay.underlay;
   ports = S.ports.ports;
+  pool = S.pool;
   stands = (seen v S).stands;
   tunnels = fun_ext (flooding-tunnels S.overlay.segments v (flood s)) i;
   limits = (seen v S).limits;
@@ -93,6 +97,7 @@ seen-flooded_other vid v S flood None other = refl
 seen-flooded_other vid v S flood (Some s) other = λ i. record {
   underlay = S.overlay.underlay;
   ports = S.ports.ports;
+  pool = S.pool;
   stands = (seen vid S).stands;
   tunnels = fun_ext (flooding-tunnels S.overlay.segments v (flood s)) i;
   limits = (seen vid S).limits;
@@ -116,6 +121,7 @@ seen-bridge : (vid v : ℕ) (S : Settings) (change : BridgeSettings → BridgeSe
 seen-bridge vid v S change keeps = λ i. record {
   underlay = S.overlay.underlay;
   ports = S.ports.ports;
+  pool = S.pool;
   stands = (seen vid S).stands;
   tunnels = (seen vid S).tunnels;
   limits = fun_ext (λ w. limit-set change keeps (w == v) (S.bridges w)) i;
@@ -158,6 +164,7 @@ seen-member : (v port : ℕ) (egress : Option Egress) (S : Settings) → is_some
 seen-member v port egress S there = λ i. record {
   underlay = S.overlay.underlay;
   ports = S.ports.ports;
+  pool = S.pool;
   stands = fun_ext (member-stands S.ports v port egress there) i;
   tunnels = (seen v S).tunnels;
   limits = (seen v S).limits;
@@ -170,6 +177,7 @@ member_other : (vid v port : ℕ) (egress : Option Egress) (S : Settings) → is
 member_other vid v port egress S there other = λ i. record {
   underlay = S.overlay.underlay;
   ports = S.ports.ports;
+  pool = S.pool;
   stands = fun_ext (member-stands S.ports v port egress there) i;
   tunnels = (seen vid S).tunnels;
   limits = (seen vid S).limits;
@@ -189,9 +197,78 @@ ports_set port up x = record x { ports = slice_set x.ports (port - 1) (let p : P
 abbrev see_applied : ℕ → Effect → Seen → Seen
 see_applied vid (ToFlood v change) x = cond (vid == v) (flooded_by change (own_of x) x) x
 see_applied vid (ToBridge v change) x = record x { bridge = bridge_set (λ b. record (change b) { limit = b.limit }) v vid x.bridge }
+see_applied vid (ToLimit v limit) x = record x {
+  limits = λ w. cond (w == v) (option_map (λ l. limit) (x.limits w)) (x.limits w);
+  bridge = bridge_set (λ b. record b { limit = limit }) v vid x.bridge;
+}
 see_applied vid (ToMembers v port egress) x = cond (vid == v) (joined_by port egress x) x
 see_applied vid (ToPort port up) x = ports_set port up x
+see_applied vid (Comes new) x = record x {
+  stands = λ w. cond (w == new.vid) true (x.stands w);
+  tunnels = λ w. cond (w == new.vid) (Some new.tunnels) (x.tunnels w);
+  limits = λ w. cond (w == new.vid) (Some new.limit) (x.limits w);
+  members = cond (vid == new.vid) (Some empty) x.members;
+  segment = cond (vid == new.vid) (Some (segment_of (new_tunnels new))) x.segment;
+  bridge = cond (vid == new.vid) (Some (new_bridge new)) x.bridge;
+}
+see_applied vid (Goes v) x = record x {
+  stands = λ w. cond (w == v) false (x.stands w);
+  tunnels = λ w. cond (w == v) None (x.tunnels w);
+  limits = λ w. cond (w == v) None (x.limits w);
+  members = cond (vid == v) None x.members;
+  segment = cond (vid == v) None x.segment;
+  bridge = cond (vid == v) None x.bridge;
+}
 see_applied vid ToNothing x = x
+
+-- a function of what stands somewhere, chosen
+chosen : {X Y : Type 0} (f : X → Y) (b : Bool) (x y : X) → f (cond b x y) ≡ cond b (f x) (f y)
+chosen f true x y = refl
+chosen f false x y = refl
+
+limited : (b : Bool) (limit : ℕ) (o : Option BridgeSettings) → limit_of (cond b (option_map (λ (r : BridgeSettings). let left : BridgeSettings = record r { limit = limit } in left) o) o) ≡ cond b (option_map (λ l. limit) (limit_of o)) (limit_of o)
+limited true limit None = refl
+limited true limit (Some r) = refl
+limited false limit o = refl
+
+seen-limited : (vid v limit : ℕ) (S : Settings) → seen vid (applied (ToLimit v limit) S) ≡ see_applied vid (ToLimit v limit) (seen vid S)
+seen-limited vid v limit S = λ i. record {
+  underlay = S.overlay.underlay;
+  ports = S.ports.ports;
+  pool = S.pool;
+  stands = (seen vid S).stands;
+  tunnels = (seen vid S).tunnels;
+  limits = fun_ext (λ w. limited (w == v) limit (S.bridges w)) i;
+  members = (seen vid S).members;
+  segment = (seen vid S).segment;
+  bridge = bridge_set (λ b. record b { limit = limit }) v vid (S.bridges vid);
+}
+
+seen-comes : (vid : ℕ) (new : NewSegment) (S : Settings) → seen vid (with_segment S new) ≡ see_applied vid (Comes new) (seen vid S)
+seen-comes vid new S = λ i. record {
+  underlay = S.overlay.underlay;
+  ports = S.ports.ports;
+  pool = S.pool;
+  stands = fun_ext (λ w. ap is_some (get-insert_at S.ports.segments new.vid empty w) ∙ chosen is_some (w == new.vid) (Some empty) (members_at S.ports w)) i;
+  tunnels = fun_ext (λ w. ap (option_map tunnels) (get-insert_at S.overlay.segments new.vid (segment_of (new_tunnels new)) w) ∙ chosen (option_map tunnels) (w == new.vid) (Some (segment_of (new_tunnels new))) (get S.overlay.segments w)) i;
+  limits = fun_ext (λ w. chosen limit_of (w == new.vid) (Some (new_bridge new)) (S.bridges w)) i;
+  members = get-insert_at S.ports.segments new.vid empty vid i;
+  segment = get-insert_at S.overlay.segments new.vid (segment_of (new_tunnels new)) vid i;
+  bridge = cond (vid == new.vid) (Some (new_bridge new)) (S.bridges vid);
+}
+
+seen-goes : (vid v : ℕ) (S : Settings) → seen vid (without_segment S v) ≡ see_applied vid (Goes v) (seen vid S)
+seen-goes vid v S = λ i. record {
+  underlay = S.overlay.underlay;
+  ports = S.ports.ports;
+  pool = S.pool;
+  stands = fun_ext (λ w. ap is_some (get-remove_at S.ports.segments v w) ∙ chosen is_some (w == v) None (members_at S.ports w)) i;
+  tunnels = fun_ext (λ w. ap (option_map tunnels) (get-remove_at S.overlay.segments v w) ∙ chosen (option_map tunnels) (w == v) None (get S.overlay.segments w)) i;
+  limits = fun_ext (λ w. chosen limit_of (w == v) None (S.bridges w)) i;
+  members = get-remove_at S.ports.segments v vid i;
+  segment = get-remove_at S.overlay.segments v vid i;
+  bridge = cond (vid == v) None (S.bridges vid);
+}
 
 seen-applied : (vid : ℕ) (e : Effect) (S : Settings) → IsThere S e → seen vid (applied e S) ≡ see_applied vid e (seen vid S)
 seen-applied vid (ToFlood v change) S there = by (vid == v) refl
@@ -202,6 +279,7 @@ seen-applied vid (ToFlood v change) S there = by (vid == v) refl
         (seen-flooded S v change (segment_at S v))
     by false other = seen-flooded_other vid v S change (segment_at S v) other
 seen-applied vid (ToBridge v change) S there = seen-bridge vid v S (λ b. let left : BridgeSettings = record (change b) { limit = b.limit } in left) (λ b. refl)
+seen-applied vid (ToLimit v limit) S there = seen-limited vid v limit S
 seen-applied vid (ToMembers v port egress) S there = by (vid == v) refl
   where
     by : (b : Bool) → (vid == v) ≡ b → seen vid (with_members S v port egress) ≡ cond b (joined_by port egress (seen vid S)) (seen vid S)
@@ -210,16 +288,21 @@ seen-applied vid (ToMembers v port egress) S there = by (vid == v) refl
         (seen-member v port egress S there)
     by false other = member_other vid v port egress S there other
 seen-applied vid (ToPort port up) S there = refl
+seen-applied vid (Comes new) S there = seen-comes vid new S
+seen-applied vid (Goes v) S there = seen-goes vid v S
 seen-applied vid ToNothing S there = refl
 
--- one that isn't to the segment
-see_applied-other : (vid : ℕ) (e : Effect) (x : Seen) → is_to vid e ≡ false → see_applied vid e x ≡ x
-see_applied-other vid (ToFlood v change) x other = ap (λ (b : Bool). cond b (flooded_by change (own_of x) x) x) other
-see_applied-other vid (ToBridge v change) x other =
+-- one that is neither to the segment nor seen by every segment
+see_applied-other : (vid : ℕ) (e : Effect) (x : Seen) → is_to vid e ≡ false → all_see e ≡ false → see_applied vid e x ≡ x
+see_applied-other vid (ToFlood v change) x other unseen = ap (λ (b : Bool). cond b (flooded_by change (own_of x) x) x) other
+see_applied-other vid (ToBridge v change) x other unseen =
     ap (λ (b : Bool). let y : Seen = record x { bridge = cond b (option_map (λ (r : BridgeSettings). let left : BridgeSettings = record (change r) { limit = r.limit } in left) x.bridge) x.bridge } in y) other
-see_applied-other vid (ToMembers v port egress) x other = ap (λ (b : Bool). cond b (joined_by port egress x) x) other
-see_applied-other vid (ToPort port up) x other = absurd (false≢true (sym other))
-see_applied-other vid ToNothing x other = refl
+see_applied-other vid (ToMembers v port egress) x other unseen = ap (λ (b : Bool). cond b (joined_by port egress x) x) other
+see_applied-other vid (ToLimit v limit) x other unseen = absurd (false≢true (sym unseen))
+see_applied-other vid (ToPort port up) x other unseen = absurd (false≢true (sym unseen))
+see_applied-other vid (Comes new) x other unseen = absurd (false≢true (sym unseen))
+see_applied-other vid (Goes v) x other unseen = absurd (false≢true (sym unseen))
+see_applied-other vid ToNothing x other unseen = refl
 
 -- ---- the settings after a change that they don't refuse
 
@@ -227,14 +310,14 @@ accepted-same : (vid : ℕ) (S T : Settings) → seen vid S ≡ seen vid T → (
 accepted-same vid S T h c in_S in_T =
     seen-applied vid (effect c) S (effect-there S c in_S) ∙ ap (see_applied vid (effect c)) h ∙ sym (seen-applied vid (effect c) T (effect-there T c in_T))
 
-accepted-other : (vid : ℕ) (S : Settings) (c : Change) → is_about vid c ≡ false → is_none (refused S c) ≡ true → seen vid (accepted S c) ≡ seen vid S
-accepted-other vid S c other taken =
-    seen-applied vid (effect c) S (effect-there S c taken) ∙ see_applied-other vid (effect c) (seen vid S) (effect-other vid c other)
+accepted-other : (vid : ℕ) (S : Settings) (c : Change) → is_about vid c ≡ false → all_see (effect c) ≡ false → is_none (refused S c) ≡ true → seen vid (accepted S c) ≡ seen vid S
+accepted-other vid S c other unseen taken =
+    seen-applied vid (effect c) S (effect-there S c taken) ∙ see_applied-other vid (effect c) (seen vid S) (effect-other vid c other) unseen
 
 -- ---- the settings after any change
 
--- a change that is about the segment
-pub changed-same : (vid : ℕ) (S T : Settings) → seen vid S ≡ seen vid T → (c : Change) → is_about vid c ≡ true → seen vid (changed S c) ≡ seen vid (changed T c)
+-- a change that concerns the segment
+pub changed-same : (vid : ℕ) (S T : Settings) → seen vid S ≡ seen vid T → (c : Change) → is_about vid c || all_see (effect c) ≡ true → seen vid (changed S c) ≡ seen vid (changed T c)
 changed-same vid S T h c about = by (is_none (refused S c)) (is_none (refused T c)) refl (ap is_none (refused-same vid S T h c about))
   where
     by : (b d : Bool) → is_none (refused S c) ≡ b → b ≡ d → seen vid (cond b (accepted S c) S) ≡ seen vid (cond d (accepted T c) T)
@@ -243,10 +326,10 @@ changed-same vid S T h c about = by (is_none (refused S c)) (is_none (refused T 
     by true false is same = absurd (false≢true (sym same))
     by false true is same = absurd (false≢true same)
 
--- one that names another segment
-pub changed-other : (vid : ℕ) (S : Settings) (c : Change) → is_about vid c ≡ false → seen vid (changed S c) ≡ seen vid S
-changed-other vid S c other = by (is_none (refused S c)) refl
+-- one that doesn't
+pub changed-other : (vid : ℕ) (S : Settings) (c : Change) → is_about vid c ≡ false → all_see (effect c) ≡ false → seen vid (changed S c) ≡ seen vid S
+changed-other vid S c other unseen = by (is_none (refused S c)) refl
   where
     by : (b : Bool) → is_none (refused S c) ≡ b → seen vid (cond b (accepted S c) S) ≡ seen vid S
-    by true is = accepted-other vid S c other is
+    by true is = accepted-other vid S c other unseen is
     by false is = refl

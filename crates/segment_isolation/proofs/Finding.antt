@@ -32,7 +32,7 @@ found_at : (S : Overlay) (kind : Tunnel) (vni : ℕ) (e : ℕ × Segment) → se
 found_at S kind vni e is = get-entries S.segments e.0 ∙ (found_where nat_cmp_total (has_tunnel kind vni) (entries S.segments) e (entries_sorted S.segments) is).0
 
 -- the VID and the tunnels of what is found are told by all tunnels
-found_short : (S T : Overlay) → ((w : ℕ) → tunnels_at S w ≡ tunnels_at T w) → (kind : Tunnel) (vni : ℕ) → option_map (short tunnels) (segment_by S kind vni) ≡ option_map (short tunnels) (segment_by T kind vni)
+pub found_short : (S T : Overlay) → ((w : ℕ) → tunnels_at S w ≡ tunnels_at T w) → (kind : Tunnel) (vni : ℕ) → option_map (short tunnels) (segment_by S kind vni) ≡ option_map (short tunnels) (segment_by T kind vni)
 found_short S T alike kind vni =
     find_short tunnels (has kind vni) (entries S.segments)
     ∙ ap (find_where (λ (e : ℕ × List SegmentTunnel). has kind vni e.1)) (same_shorts tunnels nat_cmp nat_cmp_total nat_cmp-IsAntisymmetric S.segments T.segments alike)

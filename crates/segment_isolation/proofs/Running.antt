@@ -148,6 +148,7 @@ Agree-related vid s r t later h =
       settings = ap own_of settings;
       ports = ap (λ (x : Seen). x.ports) settings;
       underlay = ap (λ (x : Seen). x.underlay) settings;
+      pool = ap (λ (x : Seen). x.pool) settings;
       segments = λ w. summary-same vid w s.bridges.settings r.bridges.settings settings;
     }
 

@@ -15,6 +15,8 @@ use Rattle.segment_isolation.proofs.Finding.{tunnels_at}
 pub record Seen : Type 0 where
   pub underlay : Underlay
   pub ports : List PortRule
+  -- the most entries that all tables together may be given
+  pub pool : ℕ
   -- of each segment, whether it has members, its tunnels and its limit
   pub stands : ℕ → Bool
   pub tunnels : ℕ → Option (List SegmentTunnel)
@@ -32,6 +34,7 @@ abbrev pub seen : ℕ → Settings → Seen
 seen vid S = record {
   underlay = S.overlay.underlay;
   ports = S.ports.ports;
+  pool = S.pool;
   stands = λ w. has_segment S.ports w;
   tunnels = λ w. tunnels_at S.overlay w;
   limits = λ w. limit_of (S.bridges w);

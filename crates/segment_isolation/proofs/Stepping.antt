@@ -1,9 +1,9 @@
 -- An event that concerns a segment does the same to two states that look alike to it, and another event does nothing.
-use Rattle.std.proofs.Common.{◌≡◌, ℕ, ◌==◌, Bool, true, false, cond, List, map, length, Option, Some, None, Result, Ok, Err, refl, sym, ap, ◌∙◌, subst}
+use Rattle.std.proofs.Common.{◌≡◌, ℕ, ◌==◌, Bool, true, false, cond, ◌||◌, List, map, length, Option, Some, None, Result, Ok, Err, refl, sym, ap, ◌∙◌, subst}
 use Rattle.std.specs.Prelude.{is_none}
 use Rattle.std.specs.Option.{option_and_then, option_map_or}
 use Rattle.std.proofs.Math.Path.{fun_ext}
-use Rattle.std.proofs.lemmas.Bool.{eqb-true}
+use Rattle.std.proofs.lemmas.Bool.{eqb-true, false≢true}
 use Rattle.frame_view.specs.Frame.{Frame}
 use Rattle.frame_view.specs.declared.reason.Reason.{Reason}
 use Rattle.frame_view.specs.declared.reason.Refused.{Refused}
@@ -12,8 +12,10 @@ use Rattle.underlay.specs.declared.segment.Segment.{Segment}
 use Rattle.filter_db.specs.declared.place.Place.{Place}
 use Rattle.filter_db.specs.Table.{Table}
 use Rattle.overlay_settings.specs.declared.change.Change.{Change}
+use Rattle.overlay_settings.specs.declared.change.Change.TheVariants.{AddFlood, RemoveFlood, Fix, Unfix, SetAgeing, SetLearning, SetMember, PortUp, PortDown, Flush, AddSegment, RemoveSegment, SetLimit}
 use Rattle.endpoint_state.specs.declared.fault.ChangeFault.{ChangeFault}
 use Rattle.endpoint_state.specs.Settings.{Settings, SegmentSettings, segment_at}
+use Rattle.endpoint_state.specs.Effect.{effect}
 use Rattle.endpoint_state.specs.Change.{named, is_about, refused, changed, table_fault}
 use Rattle.endpoint_state.specs.State.{State as Bridges, fault, table_changed, accepted_state, after_change}
 use Rattle.endpoint_state.specs.Step.{table_learned, verdict_in, verdict}
@@ -23,7 +25,7 @@ use Rattle.endpoint_core.specs.Arrival.{came_at, came_by}
 use Rattle.endpoint_core.specs.Decision.{Sent, forwarded}
 use Rattle.endpoint_core.specs.Event.{Input, FrameAt, Packet, Asks}
 use Rattle.endpoint_core.specs.Step.{Decided, Replied, sent_at, by_verdict, decided_in, decided, after_came, answer_by, bridges_after}
-use Rattle.segment_isolation.specs.Alone.{is_segment, concerns_by}
+use Rattle.segment_isolation.specs.Alone.{is_segment, all_see, concerns_by}
 use Rattle.segment_isolation.proofs.Seeing.{Seen, View, seen, viewed, own_of}
 use Rattle.segment_isolation.proofs.Entering.{with_ports}
 use Rattle.segment_isolation.proofs.Refusing.{refused-same}
@@ -102,6 +104,14 @@ came_view-other vid t (Err refused) w other = refl
 
 -- ---- a change
 
+or_false : (b : Bool) → b || false ≡ true → b ≡ true
+or_false true h = refl
+or_false false h = h
+
+neither : (a b : Bool) → a || b ≡ false → (a ≡ false) × (b ≡ false)
+neither true b h = absurd (false≢true (sym h))
+neither false b h = (refl, h)
+
 -- why a table refuses it
 abbrev fault_at : Bridges → Change → Option ℕ → Option ChangeFault
 fault_at B c o = option_and_then (λ v. option_and_then (λ s. table_fault s c (B.tables v)) (segment_at B.settings v)) o
@@ -110,11 +120,40 @@ fault_at-same : (vid : ℕ) (B C : Bridges) → viewed vid B ≡ viewed vid C �
 fault_at-same vid B C h c None about = refl
 fault_at-same vid B C h c (Some v) about = ap (λ (w : View). option_and_then (λ s. table_fault s c w.table) (own_of w.settings)) (viewed_of vid v B C h about)
 
-fault-same : (vid : ℕ) (B C : Bridges) → viewed vid B ≡ viewed vid C → (c : Change) → is_about vid c ≡ true → fault B c ≡ fault C c
-fault-same vid B C h c about =
-    let settings : refused B.settings c ≡ refused C.settings c = refused-same vid B.settings C.settings (ap (λ (w : View). w.settings) h) c about in
-    let tables : fault_at B c (named c) ≡ fault_at C c (named c) = fault_at-same vid B C h c (named c) about in
+-- a table refuses no change that every segment sees
+unseen_fault : (c : Change) (s : SegmentSettings) (m : Table) → all_see (effect c) ≡ true → table_fault s c m ≡ None
+unseen_fault (AddFlood v addr tunnel) s m seen = refl
+unseen_fault (RemoveFlood v addr tunnel) s m seen = refl
+unseen_fault (Fix v mac target) s m seen = absurd (false≢true seen)
+unseen_fault (Unfix v mac) s m seen = absurd (false≢true seen)
+unseen_fault (SetAgeing v seconds) s m seen = refl
+unseen_fault (SetLearning v on) s m seen = refl
+unseen_fault (SetMember v port (Some egress)) s m seen = refl
+unseen_fault (SetMember v port None) s m seen = refl
+unseen_fault (PortUp port) s m seen = refl
+unseen_fault (PortDown port) s m seen = refl
+unseen_fault (Flush v) s m seen = refl
+unseen_fault (AddSegment new) s m seen = refl
+unseen_fault (RemoveSegment v) s m seen = refl
+unseen_fault (SetLimit v limit) s m seen = refl
+
+no_fault_in : (c : Change) (o : Option SegmentSettings) (m : Table) → all_see (effect c) ≡ true → option_and_then (λ s. table_fault s c m) o ≡ None
+no_fault_in c None m seen = refl
+no_fault_in c (Some s) m seen = unseen_fault c s m seen
+
+no_fault_at : (B : Bridges) (c : Change) (o : Option ℕ) → all_see (effect c) ≡ true → fault_at B c o ≡ None
+no_fault_at B c None seen = refl
+no_fault_at B c (Some v) seen = no_fault_in c (segment_at B.settings v) (B.tables v) seen
+
+fault-same : (vid : ℕ) (B C : Bridges) → viewed vid B ≡ viewed vid C → (c : Change) → is_about vid c || all_see (effect c) ≡ true → fault B c ≡ fault C c
+fault-same vid B C h c concerned =
+    let settings : refused B.settings c ≡ refused C.settings c = refused-same vid B.settings C.settings (ap (λ (w : View). w.settings) h) c concerned in
+    let tables : fault_at B c (named c) ≡ fault_at C c (named c) = by (all_see (effect c)) refl concerned in
     λ i. elim (settings i) [ Some why ↦ Some why | None ↦ tables i ]
+  where
+    by : (b : Bool) → all_see (effect c) ≡ b → is_about vid c || b ≡ true → fault_at B c (named c) ≡ fault_at C c (named c)
+    by true seen own = no_fault_at B c (named c) seen ∙ sym (no_fault_at C c (named c) seen)
+    by false unseen own = fault_at-same vid B C h c (named c) (or_false (is_about vid c) own)
 
 table_chosen : (t : ℕ) (c : Change) (B : Bridges) (vid : ℕ) (b : Bool) → (cond b (accepted_state t c B) B).tables vid ≡ cond b (table_changed t c (segment_at B.settings vid) vid (B.tables vid)) (B.tables vid)
 table_chosen t c B vid true = refl
@@ -123,7 +162,7 @@ table_chosen t c B vid false = refl
 viewed_changed : (vid t : ℕ) (c : Change) (B : Bridges) → viewed vid (after_change t c B) ≡ (let left : View = record { settings = seen vid (changed B.settings c); table = cond (is_none (refused B.settings c)) (table_changed t c (segment_at B.settings vid) vid (B.tables vid)) (B.tables vid) } in left)
 viewed_changed vid t c B = λ i. record { settings = seen vid (settings-alone t c B i); table = table_chosen t c B vid (is_none (refused B.settings c)) i }
 
-change-same : (vid t : ℕ) (B C : Bridges) → viewed vid B ≡ viewed vid C → (c : Change) → is_about vid c ≡ true → viewed vid (after_change t c B) ≡ viewed vid (after_change t c C)
+change-same : (vid t : ℕ) (B C : Bridges) → viewed vid B ≡ viewed vid C → (c : Change) → is_about vid c || all_see (effect c) ≡ true → viewed vid (after_change t c B) ≡ viewed vid (after_change t c C)
 change-same vid t B C h c about =
     let S : seen vid B.settings ≡ seen vid C.settings = ap (λ (w : View). w.settings) h in
     let answers : refused B.settings c ≡ refused C.settings c = refused-same vid B.settings C.settings S c about in
@@ -134,13 +173,14 @@ change-same vid t B C h c about =
 
 unchanged : (t : ℕ) (c : Change) (o : Option SegmentSettings) (vid : ℕ) (m : Table) → is_about vid c ≡ false → (b : Bool) → cond b (table_changed t c o vid m) m ≡ m
 unchanged t c o vid m other false = refl
-unchanged t c None vid m other true = refl
+unchanged t c None vid m other true = rw other refl
 unchanged t c (Some s) vid m other true = rw other refl
 
-change-other : (vid t : ℕ) (c : Change) (B : Bridges) → is_about vid c ≡ false → viewed vid (after_change t c B) ≡ viewed vid B
+change-other : (vid t : ℕ) (c : Change) (B : Bridges) → is_about vid c || all_see (effect c) ≡ false → viewed vid (after_change t c B) ≡ viewed vid B
 change-other vid t c B other =
+    let both = neither (is_about vid c) (all_see (effect c)) other in
     viewed_changed vid t c B
-    ∙ (λ i. record { settings = changed-other vid B.settings c other i; table = unchanged t c (segment_at B.settings vid) vid (B.tables vid) other (is_none (refused B.settings c)) i })
+    ∙ (λ i. record { settings = changed-other vid B.settings c both.0 both.1 i; table = unchanged t c (segment_at B.settings vid) vid (B.tables vid) both.0 (is_none (refused B.settings c)) i })
 
 -- ---- an event
 

@@ -2,10 +2,11 @@
 --     concerns, only      the events of a run that concern a segment
 --     told, told_in      what all events are answered, and what those are, each with its moment
 --     Agree      for a segment two states are one
-use Rattle.std.specs.Prelude.{◌≡◌, ◌≤◌, ℕ, ◌==◌, Bool, false, if◌then◌else◌, List, [], ◌∷◌, Option}
+use Rattle.std.specs.Prelude.{◌≡◌, ◌≤◌, ℕ, ◌==◌, Bool, true, false, ◌||◌, if◌then◌else◌, List, [], ◌∷◌, Option}
 use Rattle.std.specs.Option.{option_map, option_map_or}
 use Rattle.underlay.specs.declared.tunnels.SegmentTunnel.{SegmentTunnel}
 use Rattle.endpoint_state.specs.Settings.{Settings, SegmentSettings, segment_at}
+use Rattle.endpoint_state.specs.Effect.{Effect, ToFlood, ToBridge, ToLimit, ToMembers, ToPort, Comes, Goes, ToNothing, effect}
 use Rattle.endpoint_state.specs.Change.{is_about}
 use Rattle.endpoint_state.specs.State.{State as Bridges, aged}
 use Rattle.endpoint_core.specs.Event.{Input, FrameAt, Packet, Asks, Event}
@@ -22,19 +23,30 @@ abbrev pub carries : ℕ → Answer → Bool
 carries vid (Decided decision) = is_segment vid decision.segment
 carries vid (Replied fault) = false
 
--- a frame or a packet whose decision carries the segment; a change that names it, or that is of a port and thereby about
--- every segment
+-- every segment sees it: it is of the ports, or a segment comes, goes or gets another limit, which leaves more or less room
+-- for all others
+abbrev pub all_see : Effect → Bool
+all_see (ToFlood vid change) = false
+all_see (ToBridge vid change) = false
+all_see (ToLimit vid limit) = true
+all_see (ToMembers vid port egress) = false
+all_see (ToPort port up) = true
+all_see (Comes new) = true
+all_see (Goes vid) = true
+all_see ToNothing = false
+
+-- a frame or a packet whose decision carries the segment; a change that names it, or that every segment sees
 abbrev pub concerns_by : ℕ → Answer → Input → Bool
 concerns_by vid a (FrameAt port original b) = carries vid a
 concerns_by vid a (Packet original b) = carries vid a
-concerns_by vid a (Asks c) = is_about vid c
+concerns_by vid a (Asks c) = is_about vid c || all_see (effect c)
 
 -- an event that comes to an endpoint in state s
 abbrev pub concerns : ℕ → State → Event → Bool
 concerns vid s e = concerns_by vid (answer s e) e.input
 
--- the events that concern the segment, of those that come from state s on: without the changes that name another segment,
--- and without the frames and packets whose decision carries another segment or none
+-- the events that concern the segment, of those that come from state s on: without the changes that name another segment
+-- and that not every segment sees, and without the frames and packets whose decision carries another segment or none
 abbrev pub only : ℕ → State → List Event → List Event
 only vid s [] = []
 only vid s (e ∷ es) =
@@ -88,5 +100,7 @@ pub record Agree (vid t : ℕ) (B C : Bridges) : Type 0 where
   -- the ports, with the state of each
   pub ports : B.settings.ports.ports ≡ C.settings.ports.ports
   pub underlay : B.settings.overlay.underlay ≡ C.settings.overlay.underlay
+  -- the most entries that all tables together may be given
+  pub pool : B.settings.pool ≡ C.settings.pool
   -- the segments, each by its VID, with its tunnels and its limit
   pub segments : (w : ℕ) → summary_at B.settings w ≡ summary_at C.settings w

@@ -5,10 +5,11 @@ ghost use Rattle.endpoint_core.specs.Event.{Event, IsRising};
 ghost use Rattle.endpoint_core.specs.Step.{opened, state_after};
 ghost use Rattle.segment_isolation.specs.Alone.{only, told, told_in, Agree};
 
-/// Of any events whose moments never fall, leave out the changes that name another segment, and the frames and packets whose
-/// decision carries another segment or none. Then the segment's decisions and emissions come at the same moments and are the
-/// same, octet for octet. Before each event both runs agree, from that event's moment on, in the segment's table and settings,
-/// in the ports and their states, and in which segments there are, with their tunnels and limits.
+/// Of any events whose moments never fall, leave out the changes that name another segment, but for those by which one
+/// comes, goes or gets another limit, and the frames and packets whose decision carries another segment or none. Then the
+/// segment's decisions and emissions come at the same moments and are the same, octet for octet. Before each event both
+/// runs agree, from that event's moment on, in the segment's table and settings, in the ports and their states, in the
+/// pool, and in which segments there are, with their tunnels and limits.
 pub fn alone()
     ensures told { (vid : ℕ) (S : Settings) (es : List Event) → IsRising 0 es →
         told (opened S) (only vid (opened S) es) ≡ told_in vid (opened S) es }

@@ -1,5 +1,6 @@
 //! Texts of changes, and what they mean or their first fault.
 use crate::change_cases::{ALL_KINDS, ALL_MEANINGS, CHANGES, LISTS};
+use crate::segment_change_cases::{ADDED, LIMITED, REMOVED, SEGMENT_KINDS, SEGMENT_MEANINGS};
 use overlay_config::changes_of;
 use std::alloc::{AllocError, Global};
 use std::test::Fail;
@@ -16,11 +17,13 @@ fn line_of(alloc: Global, text: &[u8]) -> Result<String, AllocError> {
 #[test]
 fn changes_of_each_kind_are_read(rt: HostRuntime) -> Result<(), Fail> {
     let alloc = rt.alloc();
-    let mut told = String::new(alloc);
-    for timed in &changes_of(alloc, ALL_KINDS.as_bytes())? {
-        told.push_str(&format!(in alloc; "{}: {:?}\n", timed.at, timed.change)?)?;
+    for (text, want) in [(ALL_KINDS, ALL_MEANINGS), (SEGMENT_KINDS, SEGMENT_MEANINGS)] {
+        let mut told = String::new(alloc);
+        for timed in &changes_of(alloc, text.as_bytes())? {
+            told.push_str(&format!(in alloc; "{}: {:?}\n", timed.at, timed.change)?)?;
+        }
+        assert_eq!(rt; told.as_str(), want);
     }
-    assert_eq!(rt; told.as_str(), ALL_MEANINGS);
     Ok(())
 }
 
@@ -30,6 +33,26 @@ fn a_change_is_refused_by_its_first_fault(rt: HostRuntime) -> Result<(), Fail> {
     for (keys, want) in &CHANGES {
         let text = format!(in alloc; "[[change]]\n{keys}\n")?;
         assert_eq!(rt; line_of(alloc, text.as_bytes())?.as_str(), *want, "{keys}");
+    }
+    Ok(())
+}
+
+#[test]
+fn a_change_of_segments_is_refused_by_its_first_fault(rt: HostRuntime) -> Result<(), Fail> {
+    let alloc = rt.alloc();
+    for (kind, cases) in [
+        ("add_segment", &ADDED[..]),
+        ("remove_segment", &REMOVED[..]),
+        ("set_limit", &LIMITED[..]),
+    ] {
+        for (keys, want) in cases {
+            let text = format!(in alloc; "[[change]]\nkind = \"{kind}\"\n{keys}\n")?;
+            assert_eq!(rt;
+                line_of(alloc, text.as_bytes())?.as_str(),
+                *want,
+                "{kind}: {keys}"
+            );
+        }
     }
     Ok(())
 }

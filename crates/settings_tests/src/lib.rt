@@ -11,7 +11,11 @@ mod change_tests;
 #[cfg(test)]
 mod config_text_tests;
 #[cfg(test)]
+mod segment_change_cases;
+#[cfg(test)]
 mod settings_cases;
+#[cfg(test)]
+mod settings_line_cases;
 #[cfg(test)]
 mod settings_meanings;
 #[cfg(test)]

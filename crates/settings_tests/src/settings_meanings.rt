@@ -23,7 +23,7 @@ pub(crate) const MEANINGS: [(&str, &str); 4] = [
             vni: Vni { number: 6000 }, group: 0 }, second: None }, \
             flood: FloodList { entries: [Remote { tunnel: Geneve, addr: V4([192, 0, 2, 2]) }] }, limit: 256, \
             ageing: 300, learning: true, peers: Any, tags: Drop, untagged: PortList { numbers: [] }, \
-            tagged: PortList { numbers: [2, 3] } }] } }",
+            tagged: PortList { numbers: [2, 3] } }], pool: 512 } }",
     ),
     (
         PEER,
@@ -45,7 +45,7 @@ pub(crate) const MEANINGS: [(&str, &str); 4] = [
             vni: Vni { number: 6000 }, group: 0 }, second: None }, \
             flood: FloodList { entries: [Remote { tunnel: Geneve, addr: V4([192, 0, 2, 1]) }] }, limit: 256, \
             ageing: 300, learning: true, peers: Any, tags: Drop, untagged: PortList { numbers: [] }, \
-            tagged: PortList { numbers: [2, 3] } }] } }",
+            tagged: PortList { numbers: [2, 3] } }], pool: 512 } }",
     ),
     (
         BRIDGE,
@@ -62,10 +62,11 @@ pub(crate) const MEANINGS: [(&str, &str); 4] = [
             tunnels: Tunnels { first: SegmentTunnel { kind: Vxlan, vni: Vni { number: 5000 }, group: 0 }, \
             second: None }, flood: FloodList { entries: [] }, limit: 256, ageing: 300, learning: true, \
             peers: Any, tags: Drop, untagged: PortList { numbers: [1, 2, 3] }, \
-            tagged: PortList { numbers: [] } }] } }",
+            tagged: PortList { numbers: [] } }], pool: 256 } }",
     ),
     (
         r#"version = 1
+pool = 10000
 [underlay]
 mac = "02:00:00:00:AA:01"
 next_hop = "02:00:00:00:aa:fe"
@@ -114,6 +115,6 @@ flood = ["192.0.2.3", "239.1.1.1"]
             second: None }, flood: FloodList { entries: [Remote { tunnel: Vxlan, addr: V4([192, 0, 2, 3]) }, \
             Remote { tunnel: Vxlan, addr: V4([239, 1, 1, 1]) }] }, limit: 8192, ageing: 1000000, learning: false, \
             peers: Listed, tags: Pass, untagged: PortList { numbers: [2, 1] }, \
-            tagged: PortList { numbers: [] } }] } }",
+            tagged: PortList { numbers: [] } }], pool: 10000 } }",
     ),
 ];

@@ -1,8 +1,6 @@
 //! Texts of settings, and what they mean or their first fault.
-use crate::settings_cases::{
-    FEWEST, FIRST_LINES, NUMBERED, PARTS, PORT_LINES, SEGMENT_LINES, UNDERLAY, UNDERLAY_LINES,
-    WHOLE,
-};
+use crate::settings_cases::{FEWEST, FIRST_LINES, NUMBERED, PARTS, UNDERLAY, WHOLE};
+use crate::settings_line_cases::{PORT_LINES, SEGMENT_LINES, UNDERLAY_LINES};
 use crate::settings_meanings::MEANINGS;
 use overlay_config::settings_of;
 use std::alloc::{AllocError, Global};

@@ -18,28 +18,9 @@ use crate::fault::Target;
 use crate::put::{put_course, put_line};
 use decision_lines::Desk;
 use endpoint_core::Endpoint;
-use frame_view::Vid;
 use overlay_config::{Change, TimedChange};
 use pcap_stream::{Input, Output, Sink, Source};
 use timeline::{Captured, Event, Happening, Tap};
-
-/// The segment that a change names.
-fn named(change: &Change) -> Option<Vid>
-    ensures { result ≡ named change.now }
-{
-    match *change {
-        Change::AddFlood { vid, .. } => Some(vid),
-        Change::RemoveFlood { vid, .. } => Some(vid),
-        Change::Fix { vid, .. } => Some(vid),
-        Change::Unfix { vid, .. } => Some(vid),
-        Change::SetAgeing { vid, .. } => Some(vid),
-        Change::SetLearning { vid, .. } => Some(vid),
-        Change::SetMember { vid, .. } => Some(vid),
-        Change::Flush { vid } => Some(vid),
-        Change::PortUp { .. } => None,
-        Change::PortDown { .. } => None,
-    }
-}
 
 /// Puts a change to the endpoint, and what comes of it to the outputs.
 pub fn take_change<W: Output>(
@@ -56,9 +37,10 @@ pub fn take_change<W: Output>(
         (with_input desk.old.number (named change) o event.now (answer (state_of endpoint.old) (change_at event.now.moment change))) result }
     ensures number { desk.new.number ≡ desk.old.number }
 {
-    let reply = endpoint.change(event.moment, change);
+    let asked = change;
+    let reply = endpoint.change(event.moment, asked);
     desk.line
-        .write_reply(&desk.number, event, named(&change), reply);
+        .write_reply(&desk.number, event, change.vid(), reply);
     put_line(decisions, desk.line.text())
 }
 

@@ -28,6 +28,7 @@ pub fn bridge_step<T: Tables>(
         T.segments tables.new ≡ learned c bridge.now.vid now from frame.now (T.segments tables.old) }
     // A step that learns moves the tables' moment on, and a look-up doesn't.
     ensures moment { T.moment tables.new ≡ (if bridge.now.learning then now else T.moment tables.old) }
+    ensures pool { T.pool tables.new ≡ T.pool tables.old }
 {
     let mut places = Outlets::new();
     match bridge_step_into(tables, bridge, now, from, frame, &mut places) {
@@ -57,6 +58,7 @@ pub fn bridge_step_into<T: Tables>(
         T.segments tables.new ≡ learned c bridge.now.vid now from frame.now (T.segments tables.old) }
     // A step that learns moves the tables' moment on, and a look-up doesn't.
     ensures moment { T.moment tables.new ≡ (if bridge.now.learning then now else T.moment tables.old) }
+    ensures pool { T.pool tables.new ≡ T.pool tables.old }
 {
     places.clear();
     if bridge.learning {

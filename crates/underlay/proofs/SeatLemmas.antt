@@ -1,5 +1,5 @@
 -- Rows behind an index: what is found, and what a put, a take and a change leave.
-use Rattle.std.proofs.Common.{◌≡◌, ℕ, zero, suc, ◌+◌, ◌-◌, ◌<◌, ◌≤◌, true, false, cond, eqb, List, [], ◌∷◌, length, map, get_or, set, replicate, take, Option, None, Some, refl, sym, ap, ◌∙◌, subst, arith, inl, inr}
+use Rattle.std.proofs.Common.{◌≡◌, ℕ, zero, suc, ◌+◌, ◌-◌, ◌<◌, ◌≤◌, Bool, true, false, cond, eqb, List, [], ◌∷◌, length, map, get_or, set, replicate, take, Option, None, Some, refl, sym, ap, ◌∙◌, subst, arith, inl, inr}
 use Rattle.std.specs.Option.{option_map}
 use Rattle.std.specs.Ordering.{nat_cmp}
 use Rattle.std.specs.FinMap.{FinMap, empty, get, insert, remove, len}
@@ -341,3 +341,31 @@ keeps-taken {R = R} number f rows index q j kept at lt = by (get_or rows j None)
     by : (x : Option R) → get_or rows j None ≡ x → Keeps number f (set rows j None) (set index q None)
     by None gone = absurd (none-some q (sym (ap (option_map number) gone) ∙ kept.2 q j at))
     by (Some s) there = keeps-take number f rows index q j s kept at there lt
+
+-- ---- how many rows so far hold something
+
+-- what a row adds to the count
+abbrev one_if : Bool → ℕ
+one_if true = 1
+one_if false = 0
+
+occupied-next : {R : Type 0} (rows : List (Option R)) (j : ℕ) (x : Option R) → x ≡ get_or rows j None → occupied (take (suc j) rows) ≡ occupied (take j rows) + one_if (is_some x)
+occupied-next [] zero x is = let e : one_if (is_some x) ≡ 0 = ap (λ (o : Option _). one_if (is_some o)) is in omega (arith, e)
+occupied-next [] (suc j) x is = let e : one_if (is_some x) ≡ 0 = ap (λ (o : Option _). one_if (is_some o)) is in omega (arith, e)
+occupied-next (None ∷ rows) zero x is = let e : one_if (is_some x) ≡ 0 = ap (λ (o : Option _). one_if (is_some o)) is in omega (arith, e)
+occupied-next (Some y ∷ rows) zero x is = let e : one_if (is_some x) ≡ 1 = ap (λ (o : Option _). one_if (is_some o)) is in omega (arith, e)
+occupied-next (None ∷ rows) (suc j) x is = occupied-next rows j x is
+occupied-next (Some y ∷ rows) (suc j) x is = omega (arith, occupied-next rows j x is)
+
+module _ {R : Type 0} (rows : List (Option R)) (j : ℕ) (x : Option R) (there : x ≡ get_or rows j None) where
+  pub one_counted : is_some x ≡ true → occupied (take (j + 1) rows) ≡ occupied (take j rows) + 1
+  one_counted some =
+      let e : j + 1 ≡ suc j = omega arith in
+      let one : one_if (is_some x) ≡ 1 = ap (λ (b : Bool). one_if b) some in
+      ap (λ (n : ℕ). occupied (take n rows)) e ∙ (let g : occupied (take (suc j) rows) ≡ occupied (take j rows) + 1 = omega (arith, occupied-next rows j x there, one) in g)
+
+  pub none_counted : is_some x ≡ false → occupied (take (j + 1) rows) ≡ occupied (take j rows)
+  none_counted none =
+      let e : j + 1 ≡ suc j = omega arith in
+      let no : one_if (is_some x) ≡ 0 = ap (λ (b : Bool). one_if b) none in
+      ap (λ (n : ℕ). occupied (take n rows)) e ∙ (let g : occupied (take (suc j) rows) ≡ occupied (take j rows) = omega (arith, occupied-next rows j x there, no) in g)

@@ -94,6 +94,13 @@ impl SegmentPlaces {
         }
     }
 
+    /// How many segments there are.
+    pub(crate) fn len(&self) -> usize
+        ensures { result ≡ len self.now.segments }
+    {
+        occupied(&self.rows)
+    }
+
     /// Puts a segment that isn't there at a free place. There are fewer than 256 before.
     pub(crate) fn put(&mut self, vid: Vid, segment: Segment, heads: SegmentHeads)
         requires new { get self.old.segments vid ≡ None }
@@ -188,6 +195,19 @@ fn segment_of(row: Option<Row>) -> Option<Segment>
         Some(row) => Some(row.segment),
         None => None,
     }
+}
+
+/// How many places have a segment.
+fn occupied(rows: &[Option<Row>]) -> usize
+    ensures { result ≡ occupied rows.now }
+{
+    let mut count = 0;
+    for row in rows {
+        if row.is_some() {
+            count += 1;
+        }
+    }
+    count
 }
 
 /// The first free place.

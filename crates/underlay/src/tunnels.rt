@@ -1,5 +1,6 @@
 //! The tunnels of a segment.
 ghost use Rattle.std.specs.Prelude.{◌≡◌, ◌≢◌, [], ◌∷◌, length, ◌==◌, slice_get, Some};
+ghost use Rattle.std.specs.Option.{option_to_list};
 ghost use Rattle.underlay.specs.Tunnels.{of_kind};
 
 use ip_udp_view::Tunnel;
@@ -17,7 +18,7 @@ pub struct SegmentTunnel {
 }
 
 /// A segment's one or two tunnels, of different kinds, seen by contracts as the list of them.
-#[derive(Debug, Drop)]
+#[derive(Clone, Copy, Debug, PartialEq, Eq)]
 pub struct Tunnels {
     /// Meant where a change names no kind.
     first: SegmentTunnel,
@@ -25,15 +26,20 @@ pub struct Tunnels {
 }
 
 impl Model for Tunnels {
-    ghost use Rattle.std.specs.Prelude.{List, ◌∷◌, ◌≢◌, IfSome};
+    ghost use Rattle.std.specs.Prelude.{List, ◌∷◌, ◌≢◌, IfSome, slice_get, slice_index_or};
     ghost use Rattle.std.specs.Option.{option_to_list};
     ghost use Rattle.underlay.specs.declared.tunnels.SegmentTunnel.{SegmentTunnel};
+    ghost use Rattle.underlay.specs.Tunnels.{no_tunnel, second_of};
 
     ghost Value = { List SegmentTunnel };
 
     ghost view = { λ t. t.first ∷ option_to_list t.second };
 
     ghost invariant = { λ t. IfSome t.second (λ second. second.kind ≢ t.first.kind) };
+
+    ghost inverse = { λ l. record { first = slice_index_or l 0 no_tunnel; second = slice_get l 1 } };
+
+    ghost inverse_ok = { λ t h i. record { first = t.first; second = second_of t.first t.second i } };
 }
 
 impl Tunnels {
@@ -63,6 +69,13 @@ impl Tunnels {
         ensures { slice_get self.now 0 ≡ Some result }
     {
         self.first
+    }
+
+    /// The first tunnel, and the second where there is one.
+    pub(crate) fn both(&self) -> (SegmentTunnel, Option<SegmentTunnel>)
+        ensures { self.now ≡ result.0 ∷ option_to_list result.1 }
+    {
+        (self.first, self.second)
     }
 
     /// Whether there are two.

@@ -11,7 +11,7 @@ ghost use Rattle.underlay.specs.Settings.{own, kind_at};
 use crate::heads::SegmentHeads;
 use crate::places::SegmentPlaces;
 use crate::vni_index::VniIndex;
-use crate::{Segment, SegmentTunnel, TunnelRule, Underlay};
+use crate::{Segment, SegmentTunnel, TunnelRule, Tunnels, Underlay};
 use flood_lists::{FloodFault, FloodList, NotThere, Own};
 use frame_view::Vid;
 use geneve_head::Known;
@@ -122,6 +122,13 @@ impl Under {
         self.underlay.zero6
     }
 
+    /// How many segments there are, 256 at most.
+    pub fn segment_count(&self) -> usize
+        ensures { result ≡ len self.now.segments }
+    {
+        self.segments.len()
+    }
+
     /// Whether there is a segment of this VID.
     pub fn has(&self, vid: Vid) -> bool
         ensures { result ≡ has_segment self.now vid }
@@ -150,6 +157,24 @@ impl Under {
         ensures { result ≡ taken self.now kind vni }
     {
         self.index(kind).get(vni).is_some()
+    }
+
+    /// Whether no segment has a tunnel of this one's kind and VNI.
+    fn is_free(&self, tunnel: SegmentTunnel) -> bool
+        ensures { result ≡ not (taken self.now tunnel.kind tunnel.vni) }
+    {
+        !self.taken(tunnel.kind, tunnel.vni)
+    }
+
+    /// Whether no segment has a tunnel of the kind and VNI of one of these.
+    pub fn are_free(&self, tunnels: &Tunnels) -> bool
+        ensures { result ≡ are_free self.now tunnels.now }
+    {
+        let (first, second) = tunnels.both();
+        match second {
+            Some(second) => self.is_free(first) && self.is_free(second),
+            None => self.is_free(first),
+        }
     }
 
     /// The tunnel of a kind of the segment of this VID.

@@ -9,5 +9,6 @@ abbrev pub invariant-loop-number : goal.invariant-loop-number
 invariant-loop-number g l = record {
   time : g.T.Tables.moment l.tables ≤ l.fn.now;
   after : (vid : ℕ) → aged_all l.fn.now (g.T.Tables.segments l.tables) vid ≡ so_far (flush_place_in l.fn.place) l.fn.now l.number (g.T.Tables.segments l.fn.tables) vid;
+  pool : g.T.Tables.pool l.tables ≡ g.T.Tables.pool l.fn.tables;
   reached : (S : Overlay) (vid : ℕ) → AreReached S vid (table_of vid (g.T.Tables.segments l.fn.tables)).entries → AreReached S vid (table_of vid (g.T.Tables.segments l.tables)).entries;
 }

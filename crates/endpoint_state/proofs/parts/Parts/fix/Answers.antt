@@ -18,9 +18,10 @@ returns-in_err-fix-clause-after g c =
     let new = g.T.Tables.segments c.fix.new.self in
     let it = stands parts.ports parts.under parts.learning segments c.args.vid c.requires.sound c.in_ok-place.ensures.there in
     let place : c.in_ok-place.place ≡ place_of it.tunneled.tunnels c.args.target = subst (λ (o : Option SegmentSettings). IfSome o (λ s. c.in_ok-place.place ≡ place_of s.tunnels c.args.target)) it.settings c.in_ok-place.ensures.place in
-    after-entries c.args.now c.args.vid (Fix c.args.vid c.args.mac c.args.target) (fix_in c.in_ok-place.place c.args.mac) parts.ports parts.ports parts.under parts.under parts.learning segments new
+    after-entries c.args.now c.args.vid (Fix c.args.vid c.args.mac c.args.target) (fix_in c.in_ok-place.place c.args.mac) parts.ports parts.ports parts.under parts.under parts.learning (g.T.Tables.pool parts.tables) (g.T.Tables.pool c.fix.new.self) segments new
     it refl c.in_ok-place.ensures.fault c.fix.ensures.after
     (ap (λ t. aged_all t new) (sym c.fix.ensures.moment) ∙ g.met.T.Tables.settled c.fix.new.self)
+    c.fix.ensures.pool
     (λ b s. refl) refl (ap (λ (p : Place). fix it.table.limit p c.args.mac (aged c.args.now it.table).entries) place)
 
 pub returns-clause-after : goal.returns-clause-after
@@ -30,9 +31,10 @@ returns-clause-after g c =
     let new = g.T.Tables.segments c.fix.new.self in
     let it = stands parts.ports parts.under parts.learning segments c.args.vid c.requires.sound c.in_ok-place.ensures.there in
     let place : c.in_ok-place.place ≡ place_of it.tunneled.tunnels c.args.target = subst (λ (o : Option SegmentSettings). IfSome o (λ s. c.in_ok-place.place ≡ place_of s.tunnels c.args.target)) it.settings c.in_ok-place.ensures.place in
-    after-entries c.args.now c.args.vid (Fix c.args.vid c.args.mac c.args.target) (fix_in c.in_ok-place.place c.args.mac) parts.ports parts.ports parts.under parts.under parts.learning segments new
+    after-entries c.args.now c.args.vid (Fix c.args.vid c.args.mac c.args.target) (fix_in c.in_ok-place.place c.args.mac) parts.ports parts.ports parts.under parts.under parts.learning (g.T.Tables.pool parts.tables) (g.T.Tables.pool c.fix.new.self) segments new
     it refl c.in_ok-place.ensures.fault c.fix.ensures.after
     (ap (λ t. aged_all t new) (sym c.fix.ensures.moment) ∙ g.met.T.Tables.settled c.fix.new.self)
+    c.fix.ensures.pool
     (λ b s. refl) refl (ap (λ (p : Place). fix it.table.limit p c.args.mac (aged c.args.now it.table).entries) place)
 
 pub returns-in_err-fix-clause-sound : goal.returns-in_err-fix-clause-sound

@@ -12,10 +12,11 @@ returns-clause-after g c =
     let parts = c.args.self.now in
     let segments = g.T.Tables.segments parts.tables in
     let new = g.T.Tables.segments c.flush.new.self in
-    after-entries c.args.now c.args.vid (Flush c.args.vid) flush_in parts.ports parts.ports parts.under parts.under parts.learning segments new
+    after-entries c.args.now c.args.vid (Flush c.args.vid) flush_in parts.ports parts.ports parts.under parts.under parts.learning (g.T.Tables.pool parts.tables) (g.T.Tables.pool c.flush.new.self) segments new
     (stands parts.ports parts.under parts.learning segments c.args.vid c.requires.sound c.in_ok-check_segment.ensures.there)
     refl c.in_ok-check_segment.ensures.fault c.flush.ensures.after
     (ap (λ t. aged_all t new) (sym c.flush.ensures.moment) ∙ g.met.T.Tables.settled c.flush.new.self)
+    c.flush.ensures.pool
     (λ b s. refl) refl refl
 
 pub returns-clause-sound : goal.returns-clause-sound

@@ -33,7 +33,7 @@ returns-clause-after g c =
     let segments = g.T.Tables.segments parts.tables in
     let new = g.T.Tables.segments c.flush_place.new.self in
     let it = stands parts.ports parts.under parts.learning segments vid c.requires.sound c.in_ok-kind.ensures.there in
-    let S = settings_by parts.ports parts.under parts.learning segments in
+    let S = settings_by parts.ports parts.under parts.learning (g.T.Tables.pool parts.tables) segments in
     let named : kind_named it.tunneled.tunnels tunnel ≡ Some kind = named-in _ _ tunnel kind it.settings c.in_ok-kind.ensures.kind in
     let flood : flood_at parts.under vid ≡ it.tunneled.flood = ap (λ (o : Option Segment). option_map_or (λ h. h.flood) o []) it.has_tunnels in
     let none : refused S change ≡ None =
@@ -43,14 +43,15 @@ returns-clause-after g c =
     ∙ ap (λ (b : Bool). first ((NotThere, not b) ∷ [])) (sym c.in_ok-remove_flood.ensures.there) in
     let kind_is : kind_in it.tunneled.tunnels tunnel ≡ kind = ap (λ (o : Option Tunnel). unwrap_or o Vxlan) named in
     let overlay = with_flood parts.under vid (without (flood_at parts.under vid) kind addr) in
-    let settings : settings_by parts.ports overlay parts.learning segments ≡ accepted S change =
-    ap (λ (f : Entries). let s : Settings = settings_by parts.ports (with_flood parts.under vid (without f kind addr)) parts.learning segments in s) flood
-    ∙ ap (λ (k : Tunnel). let s : Settings = settings_by parts.ports (with_flood parts.under vid (without it.tunneled.flood k addr)) parts.learning segments in s) (sym kind_is)
+    let settings : settings_by parts.ports overlay parts.learning (g.T.Tables.pool parts.tables) segments ≡ accepted S change =
+    ap (λ (f : Entries). let s : Settings = settings_by parts.ports (with_flood parts.under vid (without f kind addr)) parts.learning (g.T.Tables.pool parts.tables) segments in s) flood
+    ∙ ap (λ (k : Tunnel). let s : Settings = settings_by parts.ports (with_flood parts.under vid (without it.tunneled.flood k addr)) parts.learning (g.T.Tables.pool parts.tables) segments in s) (sym kind_is)
     ∙ sym (ap (λ (o : Option SegmentSettings). option_map_or (λ s. let t : Settings = record S { overlay = with_flood parts.under vid (without s.flood (kind_in s.tunnels tunnel) addr) } in t) o S) it.settings) in
-    ap (λ (o : Overlay). let s : State = record { settings = settings_by parts.ports o parts.learning new; tables = tables_at now new } in s) c.in_ok-remove_flood.ensures.removed
-    ∙ after-entries now vid change (flush_place_in (Remote kind addr)) parts.ports parts.ports parts.under overlay parts.learning segments new
+    ap (λ (o : Overlay). let s : State = record { settings = settings_by parts.ports o parts.learning (g.T.Tables.pool c.flush_place.new.self) new; tables = tables_at now new } in s) c.in_ok-remove_flood.ensures.removed
+    ∙ after-entries now vid change (flush_place_in (Remote kind addr)) parts.ports parts.ports parts.under overlay parts.learning (g.T.Tables.pool parts.tables) (g.T.Tables.pool c.flush_place.new.self) segments new
     it refl (sym none) c.flush_place.ensures.after
     (ap (λ t. aged_all t new) (sym c.flush_place.ensures.moment) ∙ g.met.T.Tables.settled c.flush_place.new.self)
+    c.flush_place.ensures.pool
     (λ b s. refl) settings
     (ap (λ (k : Tunnel). flush_place (Remote k addr) (aged now it.table).entries) (sym kind_is))
 

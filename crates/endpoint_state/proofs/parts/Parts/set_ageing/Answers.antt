@@ -1,4 +1,4 @@
-use Rattle.std.proofs.Common.{◌≡◌, ◌∙◌, refl, sym, ap, Bool, not, Option, None, ◌∷◌, []}
+use Rattle.std.proofs.Common.{◌≡◌, ◌∙◌, ℕ, refl, sym, ap, Bool, not, Option, None, ◌∷◌, []}
 use Rattle.filter_db.specs.Segment.{aged_all, set_ageing_in}
 use Rattle.filter_db.specs.Table.{is_live, nanoseconds}
 use Rattle.overlay_settings.specs.declared.change.Change.TheVariants.{SetAgeing}
@@ -6,9 +6,8 @@ use Rattle.frame_view.specs.First.{first}
 use Rattle.endpoint_state.specs.declared.fault.ChangeFault.TheVariants.{OutOfRange}
 use Rattle.endpoint_state.specs.Change.{refused, in_segment, is_ageing}
 use Rattle.endpoint_state.specs.Settings.{SegmentSettings, joined}
-use Rattle.endpoint_state.proofs.TargetLemmas.{ageing-fits}
 use Rattle.endpoint_state.specs.Learning.{learns}
-use Rattle.endpoint_state.specs.State.{bridge_of, settings_of, state_of, tables_at}
+use Rattle.endpoint_state.specs.State.{bridge_of, settings_by, settings_of, state_of, tables_at}
 use Rattle.endpoint_state.proofs.AfterLemmas.{after-accepted, tables-named, settings-ageing}
 use Rattle.endpoint_state.proofs.SoundLemmas.{sound-adjusted, reached-kept}
 use Rattle.endpoint_state.proofs.StandsLemmas.{stands}
@@ -22,12 +21,13 @@ returns-clause-after g c =
     let segments = g.T.Tables.segments parts.tables in
     let new = g.T.Tables.segments c.set_ageing.new.self in
     let it = stands parts.ports parts.under parts.learning segments vid c.requires.sound c.in_ok-check_segment.ensures.there in
-    let none : refused (settings_of g.T.Tables.segments parts) (SetAgeing vid c.args.seconds)
+    let none : refused (settings_of g.T.Tables.segments g.T.Tables.pool parts) (SetAgeing vid c.args.seconds)
     ≡ None = ap (λ (o : Option SegmentSettings). in_segment o (λ s. first ((OutOfRange, not (is_ageing c.args.seconds)) ∷ []))) it.settings
-    ∙ ap (λ (b : Bool). first ((OutOfRange, not b) ∷ [])) (ageing-fits c.args.seconds c.if-seconds-lt-SHORTEST_AGEING.false c.if-seconds-gt-LONGEST_AGEING.false) in
-    after-accepted now (SetAgeing vid c.args.seconds) (state_of g.T.Tables.segments now parts) _ (tables_at now new) none
-    (settings-ageing parts.ports parts.under parts.learning now vid c.args.seconds segments new c.set_ageing.ensures.after)
-    (tables-named now vid (SetAgeing vid c.args.seconds) (set_ageing_in now c.args.seconds) (settings_of g.T.Tables.segments parts) (joined (bridge_of (learns parts.learning vid) it.table) it.tunneled it.members) it.table segments new refl it.settings it.has_table c.set_ageing.ensures.after
+    ∙ ap (λ (b : Bool). first ((OutOfRange, not b) ∷ [])) (sym c.is_ageing.ensures ∙ c.if-not-is_ageing.false) in
+    after-accepted now (SetAgeing vid c.args.seconds) (state_of g.T.Tables.segments g.T.Tables.pool now parts) _ (tables_at now new) none
+    (ap (λ (n : ℕ). settings_by parts.ports parts.under parts.learning n new) c.set_ageing.ensures.pool
+    ∙ settings-ageing parts.ports parts.under parts.learning (g.T.Tables.pool parts.tables) now vid c.args.seconds segments new c.set_ageing.ensures.after)
+    (tables-named now vid (SetAgeing vid c.args.seconds) (set_ageing_in now c.args.seconds) (settings_of g.T.Tables.segments g.T.Tables.pool parts) (joined (bridge_of (learns parts.learning vid) it.table) it.tunneled it.members) it.table segments new refl it.settings it.has_table c.set_ageing.ensures.after
     (ap (λ t. aged_all t new) (sym c.set_ageing.ensures.moment) ∙ g.met.T.Tables.settled c.set_ageing.new.self) refl)
 
 pub returns-clause-sound : goal.returns-clause-sound

@@ -31,12 +31,13 @@ returns-then-is_none-clause-after g c =
     let it = stands parts.ports parts.under parts.learning segments vid c.requires.sound c.in_ok-check_segment.ensures.there in
     let own = joined (bridge_of (learns parts.learning vid) it.table) it.tunneled it.members in
     let ended : egress ≡ None = none_of egress c.if-is_none.ensures in
-    ap (λ (p : Ports). let s : State = record { settings = settings_by p parts.under parts.learning new; tables = tables_at now new } in s) c.set_member.ensures
-    ∙ after-entries now vid (SetMember vid port egress) (flush_place_in (Local port)) parts.ports (with_member parts.ports vid port egress) parts.under parts.under parts.learning segments new
+    ap (λ (p : Ports). let s : State = record { settings = settings_by p parts.under parts.learning (g.T.Tables.pool c.flush_place.new.self) new; tables = tables_at now new } in s) c.set_member.ensures
+    ∙ after-entries now vid (SetMember vid port egress) (flush_place_in (Local port)) parts.ports (with_member parts.ports vid port egress) parts.under parts.under parts.learning (g.T.Tables.pool parts.tables) (g.T.Tables.pool c.flush_place.new.self) segments new
     it refl
     (c.in_ok-check_port.ensures ∙ sym (ap (λ (o : Option SegmentSettings). in_segment o (λ s. port_fault (length parts.ports.ports) port)) it.settings))
     c.flush_place.ensures.after
     (ap (λ t. aged_all t new) (sym c.flush_place.ensures.moment) ∙ g.met.T.Tables.settled c.flush_place.new.self)
+    c.flush_place.ensures.pool
     (λ b s. refl) refl
     (ap (λ (e : Option Egress). entries_changed now own (SetMember vid port e) (aged now it.table).entries) (sym ended))
 

@@ -11,10 +11,11 @@ returns-in_err-unfix-clause-after g c =
     let parts = c.args.self.now in
     let segments = g.T.Tables.segments parts.tables in
     let new = g.T.Tables.segments c.unfix.new.self in
-    after-entries c.args.now c.args.vid (Unfix c.args.vid c.args.mac) (unfix_in c.args.mac) parts.ports parts.ports parts.under parts.under parts.learning segments new
+    after-entries c.args.now c.args.vid (Unfix c.args.vid c.args.mac) (unfix_in c.args.mac) parts.ports parts.ports parts.under parts.under parts.learning (g.T.Tables.pool parts.tables) (g.T.Tables.pool c.unfix.new.self) segments new
     (stands parts.ports parts.under parts.learning segments c.args.vid c.requires.sound c.in_ok-check_segment.ensures.there)
     refl c.in_ok-check_segment.ensures.fault c.unfix.ensures.after
     (ap (λ t. aged_all t new) (sym c.unfix.ensures.moment) ∙ g.met.T.Tables.settled c.unfix.new.self)
+    c.unfix.ensures.pool
     (λ b s. refl) refl refl
 
 pub returns-clause-after : goal.returns-clause-after
@@ -22,10 +23,11 @@ returns-clause-after g c =
     let parts = c.args.self.now in
     let segments = g.T.Tables.segments parts.tables in
     let new = g.T.Tables.segments c.unfix.new.self in
-    after-entries c.args.now c.args.vid (Unfix c.args.vid c.args.mac) (unfix_in c.args.mac) parts.ports parts.ports parts.under parts.under parts.learning segments new
+    after-entries c.args.now c.args.vid (Unfix c.args.vid c.args.mac) (unfix_in c.args.mac) parts.ports parts.ports parts.under parts.under parts.learning (g.T.Tables.pool parts.tables) (g.T.Tables.pool c.unfix.new.self) segments new
     (stands parts.ports parts.under parts.learning segments c.args.vid c.requires.sound c.in_ok-check_segment.ensures.there)
     refl c.in_ok-check_segment.ensures.fault c.unfix.ensures.after
     (ap (λ t. aged_all t new) (sym c.unfix.ensures.moment) ∙ g.met.T.Tables.settled c.unfix.new.self)
+    c.unfix.ensures.pool
     (λ b s. refl) refl refl
 
 pub returns-in_err-unfix-clause-sound : goal.returns-in_err-unfix-clause-sound

@@ -1,0 +1,45 @@
+//! The keys `limit` to `tags`, which a segment of settings and one that comes later have alike.
+ghost use Rattle.std.specs.Prelude.{◌≡◌};
+ghost use Rattle.config_text.specs.Column.{range};
+ghost use Rattle.config_text.specs.Reader.{place_of};
+ghost use Rattle.overlay_config.specs.CommonRules.{common_of};
+
+use config_text::{Reader, SettingsFault, Truth, U32Range, Words};
+use underlay::{PeerRule, TagRule};
+
+const PEERS: [(&str, PeerRule); 2] = [("any", PeerRule::Any), ("listed", PeerRule::Listed)];
+
+const TAGS: [(&str, TagRule); 2] = [("drop", TagRule::Drop), ("pass", TagRule::Pass)];
+
+/// What a segment goes by, whatever its tunnels and its member ports are.
+#[derive(Clone, Copy, Debug)]
+pub(crate) struct CommonRules {
+    pub(crate) limit: u32,
+    pub(crate) ageing: u32,
+    pub(crate) learning: bool,
+    pub(crate) peers: PeerRule,
+    pub(crate) tags: TagRule,
+}
+
+/// The keys from `limit` to `tags`, the first two within these ranges.
+#[tactic(auto, unfolding(crate::specs::CommonRules::common_of))]
+pub(crate) fn read_common(
+    at: &Reader,
+    limits: &U32Range,
+    ageings: &U32Range,
+) -> Result<CommonRules, SettingsFault>
+    ensures { result ≡ common_of (range limits.now.low limits.now.high) (range ageings.now.low ageings.now.high) (place_of at.now) }
+{
+    let limit = at.defaulted("limit", limits, 256)?;
+    let ageing = at.defaulted("ageing", ageings, 300)?;
+    let learning = at.defaulted("learn", &Truth, true)?;
+    let peers = at.defaulted("peers", &Words { words: &PEERS }, PeerRule::Any)?;
+    let tags = at.defaulted("tags", &Words { words: &TAGS }, TagRule::Drop)?;
+    Ok(CommonRules {
+        limit,
+        ageing,
+        learning,
+        peers,
+        tags,
+    })
+}

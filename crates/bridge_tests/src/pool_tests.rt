@@ -1,11 +1,15 @@
 //! Segments that come, go and get other limits while others learn.
+ghost use Rattle.std.specs.Prelude.{◌≡◌};
+
 use crate::calls::{Answer, Call, PORT_1, PORT_2, add, call_of, call_on, next, remove, set_limit};
 use filter_db::{Learned, ListTables, PoolTables, TableRule, Tables};
 use frame_view::Vid;
 use shared_tables::SharedTables;
 use std::test::Fail;
 
-fn rule(vid: Vid, limit: u16) -> TableRule {
+fn rule(vid: Vid, limit: u16) -> TableRule
+    ensures { result ≡ record { vid = vid; limit = limit; ageing = 10 } }
+{
     TableRule {
         vid,
         limit,

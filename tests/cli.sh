@@ -127,7 +127,7 @@ ends 0 "" explain --settings $a --depth 2 "$folder/nested.pcap"
   stop 12 NotIp" ] || complain "two tunnels deep: $(cat "$folder/stdout")"
 ends 0 "" --version
 grep -q '^tep ' "$folder/stdout" || complain "no version"
-for command in run check explain; do
+for command in run check explain migrate; do
     ends 0 "" $command --version
     grep -q "^tep-$command " "$folder/stdout" || complain "no version of tep $command"
     ends 0 "" $command --help
@@ -161,6 +161,64 @@ cmp examples/decisions.txt "$folder/out/decisions.txt" || complain "the decision
 ends 3 "read -" check -s - <$a
 ends 3 "read -" explain -s $a - <&-
 
+# pcapng: the captures as interfaces of one file, by name and by number; what comes out is the same, octet for octet.
+all=$folder/all.pcapng
+tests/pcapng.py "$all" eth0=$underlay eth1="${ports[0]}" eth2="${ports[1]}" eth3="${ports[2]}" || complain "no pcapng capture"
+runs 0 "" $a $changes $underlay "${ports[@]}"
+mkdir "$folder/classic"
+cp "$folder"/out/* "$folder/classic"
+for interfaces in "eth0 eth1 eth2 eth3" "0 1 2 3"; do
+    # shellcheck disable=SC2086
+    set -- $interfaces
+    runs 0 "" $a $changes "$all#$1" "$all#$2" "$all#$3" "$all#$4"
+    diff -r "$folder/classic" "$folder/out" || complain "the run over the interfaces $interfaces of one capture differs"
+    runs 0 "" $a $changes "/dev/stdin#$1" "$all#$2" "${ports[1]}" "$all#$4" <"$all"
+    diff -r "$folder/classic" "$folder/out" || complain "the run over captures in both formats differs"
+    ends 0 "" explain -s $a "$all#$1"
+    prints "$folder/explained"
+done
+ends 0 "" explain -s $a "$all#none"
+prints /dev/null
+tests/pcapng.py "$folder/underlay.pcapng" eth0=$underlay
+ends 0 "" explain -s $a "$folder/underlay.pcapng"
+prints "$folder/explained"
+ends 0 "" explain -s $a - <"$folder/underlay.pcapng"
+prints "$folder/explained"
+if command -v editcap >/dev/null; then
+    editcap -F pcapng $underlay "$folder/underlay.pcapng"
+    ends 0 "" explain -s $a "$folder/underlay.pcapng"
+    prints "$folder/explained"
+fi
+# A text that ends within a block is a cut capture.
+head -c $(($(stat -c %s "$folder/underlay.pcapng") - 1)) "$folder/underlay.pcapng" >"$folder/cut.pcapng"
+ends 0 "" explain -s $a "$folder/cut.pcapng"
+[ "$(tail -n 1 "$folder/stdout")" = "cut u 1" ] || complain "a cut pcapng capture: $(cat "$folder/stdout")"
+# A block of 8 octets behind the section's header of 28.
+{ head -c 28 "$all" && printf '\0\0\0\6\0\0\0\10\0\0\0\10'; } >"$folder/bad.pcapng"
+ends 1 "u: block 2 at octet 28: BadLength" explain -s $a "$folder/bad.pcapng"
+runs 1 "u: block 2 at octet 28: BadLength" $a $changes "$folder/bad.pcapng" "${ports[@]}"
+runs 1 "p2: block 2 at octet 28: BadLength" $a $changes $underlay "${ports[0]}" "$folder/bad.pcapng" "${ports[2]}"
+# A classic capture has no interfaces.
+ends 1 "u: block 1 at octet 0: NoSection" explain -s $a "$underlay#eth0"
+runs 1 "p3: block 1 at octet 0: NoSection" $a $changes $underlay "${ports[@]:0:2}" "${ports[2]}#0"
+# A '#' in the name of a file is no interface where one more stands behind it.
+cp $underlay "$folder/a#b.pcap"
+ends 3 "read $folder/a#b.pcap" explain -s $a "$folder/a#b.pcap"
+ends 0 "" explain -s $a "$folder/a#b.pcap#"
+prints "$folder/explained"
+rm -r "$folder/classic"
+
+# Settings of version 1 as settings of version 2, which mean the same; those of version 2 stay.
+ends 0 "" migrate --settings $a
+cp "$folder/stdout" "$folder/migrated.toml"
+grep -q '^version = 2$' "$folder/migrated.toml" || complain "no version 2: $(cat "$folder/migrated.toml")"
+ends 0 "" check -s "$folder/migrated.toml" -c $changes
+says "ok: 3 ports, 2 segments, 1 changes"
+runs 0 "" "$folder/migrated.toml" $changes $underlay "${ports[@]}"
+cmp examples/decisions.txt "$folder/out/decisions.txt" || complain "the decisions with migrated settings"
+ends 0 "" migrate -s "$folder/migrated.toml"
+prints "$folder/migrated.toml"
+
 # Each output is written anew: what stood there before is gone.
 head -c 100000 /dev/zero >"$folder/out/decisions.txt"
 runs 0 "" $a $changes $underlay "${ports[@]}"
@@ -173,6 +231,8 @@ ends 1 "settings: Missing segment.1.vni" check --settings "$folder/no_vni.toml"
 sed 's/^vid = 20/vid = 10/' $a >"$folder/twice.toml"
 ends 1 "settings: TwoSegments segment.2" check --settings "$folder/twice.toml"
 ends 1 "settings: NotToml" check --settings "${ports[0]}"
+ends 1 "settings: NotToml" migrate --settings "${ports[0]}"
+ends 1 "settings: Missing segment.1.vni" migrate --settings "$folder/no_vni.toml"
 echo 'x = 1' >"$folder/x.toml"
 ends 1 "changes: BadValue *" check --settings $a --changes "$folder/x.toml"
 runs 1 "settings: BadValue *" "$folder/x.toml" "$folder/x.toml" /dev/null /dev/null
@@ -219,7 +279,7 @@ prints /dev/null
 # The words: status 2.
 for words in "nothing" "run" "check" "check --depth 1" "run --settings s --underlay u --out o" \
     "explain c" "explain --settings s" "explain --settings s --depth 0 c" "explain --settings s --depth 5 c" \
-    "run -s s -u - -o o -" "run -s s -u u -o o - -" "chek -s s"; do
+    "run -s s -u - -o o -" "run -s s -u u -o o - -" "run -s s -u=-#0 -o o -" "migrate" "migrate -s s c" "chek -s s"; do
     # shellcheck disable=SC2086
     ./tep $words >"$folder/stdout" 2>"$folder/stderr"
     got=$?
@@ -249,6 +309,7 @@ ends 2 "words" check --settings $'\xff'
 no=$folder/no
 ends 3 "read $no" check --settings "$no" --changes "$folder"
 ends 3 "read $folder" check --settings $a --changes "$folder"
+ends 3 "read $no" migrate --settings "$no"
 ends 3 "read $no.s" explain --settings "$no.s" "$no.u"
 ends 3 "read $no.u" explain --settings "$folder/x.toml" "$no.u"
 runs 3 "read $no.s" "$no.s" "$no.c" "$no.u" "$no.1" "$no.2"

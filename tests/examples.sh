@@ -23,6 +23,7 @@ is_taken() {
 
 is_taken "ok: 4 ports, 3 segments, 16 changes" every_key.toml every_change.toml
 is_taken "ok: 3 ports, 2 segments, 8 changes" a.toml segments.toml
+is_taken "ok: 3 ports, 2 segments, 2 changes" two_tunnels.toml two_tunnels_changes.toml
 is_taken "ok: 3 ports, 1 segments, 0 changes" linux/settings.toml
 is_taken "ok: 3 ports, 2 segments, 0 changes" openvswitch.toml
 

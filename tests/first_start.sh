@@ -99,7 +99,7 @@ of=$(sed -nE 's/^\[1\/([0-9]+)\] .*/\1/p' "$folder/stderr")
 [ "${of:-0}" -gt 10 ] && [ "$of" -lt "$count" ] || complain "$of of $count crates are to be proved"
 told stderr "tep: first a look at the sample, not proved yet:
 four lines
-tep: now each crate is proved, and then the program is built. This takes about half an hour on four processors, once.
+tep: now each crate is proved, and then the program is built. This takes about 40 minutes on four processors, once.
 tep: The log is $log. An interrupt loses nothing: the next ./tep goes on from there.
 [1/$of] header_sums 0:00
 [2/$of] frame_view 0:00

@@ -1,9 +1,7 @@
 -- What a run answers at each of its ends.
-use Rattle.std.proofs.Common.{◌≡◌, sym, subst, refl, ℕ, ◌==◌, true, false, inl, inr, List, length, map, Vec, Global, Result, Ok, Err}
-use Rattle.std.specs.Prelude.{IsUtf8}
+use Rattle.std.proofs.Common.{◌≡◌, refl, ℕ, ◌==◌, true, false, List, length, map, Vec, Global, Result, Ok, Err}
 use Rattle.config_text.specs.declared.fault.SettingsFault.{SettingsFault}
 use Rattle.config_text.specs.declared.fault.SettingsFault.TheVariants as text
-use Rattle.config_text.specs.declared.fault.SettingsFault.TheVariants.{NotToml}
 use Rattle.overlay_config.specs.Fault.{Meaning, GivesAs}
 use Rattle.overlay_config.specs.Settings.{Settings}
 use Rattle.overlay_settings.specs.declared.change.TimedChange.{TimedChange}
@@ -12,14 +10,8 @@ use Rattle.timeline.specs.Timeline as timeline
 use Rattle.timeline.specs.declared.fault.TimelineFault.{TimelineFault}
 use Rattle.timeline.specs.declared.fault.TimelineFault.TheVariants as faults
 use Rattle.capture_run.specs.Fault.{of_timeline, of_settings, of_changes}
-use Rattle.capture_run.specs.Run.{Gives, Means, run, by_timeline}
+use Rattle.capture_run.specs.Run.{Gives, run, by_timeline}
 use Rattle.capture_run.specs.declared.fault.RunFault.TheVariants.{PortCount}
-
--- what was read of a text is what it means
-pub read_is : {A B : Type 0} (view : A → B) (r : Meaning A) (meaning_of : List ℕ → Meaning B) (text : List ℕ) (m : Meaning B) → Means meaning_of text m
-    → (IsUtf8 text → GivesAs view r (meaning_of text)) → ((IsUtf8 text → ⊥) → GivesAs view r (Err NotToml)) → GivesAs view r m
-read_is view r meaning_of text m (inl h) is not = subst (GivesAs view r) (sym h.1) (is h.0)
-read_is view r meaning_of text m (inr h) is not = subst (GivesAs view r) (sym h.1) (not h.0)
 
 pub settings_fault : {A : Type 0} (view : A → Settings) (fault : SettingsFault) (s : Meaning Settings) (c : Meaning (List TimedChange)) (ports : List (Vec ℕ Global)) (underlay : List ℕ)
     → GivesAs view (Err fault) s → Gives (Err (of_settings fault)) (run s c ports underlay)

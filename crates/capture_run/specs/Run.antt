@@ -1,7 +1,6 @@
 -- What a whole run answers: what comes out of it, or the first fault.
-use Rattle.std.specs.Prelude.{◌≡◌, ◌⊎◌, ◌==◌, IsUtf8, ℕ, if◌then◌else◌, List, length, map, Vec, Result, Ok, Err}
+use Rattle.std.specs.Prelude.{◌≡◌, ◌==◌, ℕ, if◌then◌else◌, List, length, map, Vec, Result, Ok, Err}
 use Rattle.std.specs.declared.alloc.Global.{Global}
-use Rattle.config_text.specs.declared.fault.SettingsFault.TheVariants.{NotToml}
 use Rattle.overlay_config.specs.Fault.{Meaning}
 use Rattle.overlay_config.specs.Settings.{Settings}
 use Rattle.overlay_settings.specs.declared.change.TimedChange.{TimedChange}
@@ -14,10 +13,6 @@ use Rattle.capture_run.specs.Writing.{seen}
 use Rattle.capture_run.specs.declared.fault.RunFault.{RunFault}
 use Rattle.capture_run.specs.declared.fault.RunFault.TheVariants as faults
 use Rattle.capture_run.specs.declared.outputs.Outputs.{Outputs as Texts}
-
--- what a text means that has to be in UTF-8
-abbrev pub Means : {A : Type 0} → (List ℕ → Meaning A) → List ℕ → Meaning A → Type 0
-Means meaning_of text meaning = (IsUtf8 text × (meaning ≡ meaning_of text)) ⊎ ((IsUtf8 text → ⊥) × (meaning ≡ Err NotToml))
 
 -- with these settings and changes, by what the captures tell
 abbrev pub by_timeline : Settings → List TimedChange → ℕ → Result Timeline TimelineFault → Result Outputs RunFault

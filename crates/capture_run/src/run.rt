@@ -1,16 +1,14 @@
 //! Runs.
-ghost use Rattle.std.specs.Prelude.{◌≡◌, List, length, map, IfOk, OnOk};
-ghost use Rattle.overlay_config.specs.Fault.{Meaning};
+ghost use Rattle.std.specs.Prelude.{◌≡◌, length, map, IfOk, OnOk};
 ghost use Rattle.overlay_config.specs.Change.{changes_in};
-ghost use Rattle.overlay_config.specs.Settings.{Settings, settings_in};
-ghost use Rattle.overlay_settings.specs.declared.change.TimedChange.{TimedChange};
+ghost use Rattle.overlay_config.specs.Settings.{settings_in};
 ghost use Rattle.std.specs.List.{AllByRecursion};
 ghost use Rattle.timeline.specs.Events.{IsEventOf};
 ghost use Rattle.timeline.specs.Order.{IsRising};
 ghost use Rattle.endpoint_core.specs.Kept.{state_of};
 ghost use Rattle.endpoint_state.specs.Opened.{settings_told};
 ghost use Rattle.capture_run.specs.Outputs.{outputs};
-ghost use Rattle.capture_run.specs.Run.{Gives, Means, run};
+ghost use Rattle.capture_run.specs.Run.{Gives, run};
 ghost use Rattle.capture_run.specs.Writing.{seen, with_cuts, with_events};
 
 use crate::fault::{RunFault, of_captures, of_changes, of_settings};
@@ -35,8 +33,7 @@ pub fn run_bytes(
     ports: &[Vec<u8>],
     underlay: &[u8],
 ) -> Result<Outputs, RunFault>
-    ensures { (s : Meaning Settings) (c : Meaning (List TimedChange))
-        → Means settings_in settings.now s → Means changes_in changes.now c → Gives result (run s c ports.now underlay.now) }
+    ensures { Gives result (run (settings_in settings.now) (changes_in changes.now) ports.now underlay.now) }
 {
     let settings = match settings_of(alloc, settings) {
         Ok(settings) => settings,

@@ -215,3 +215,25 @@ fn ends_an_endless_capture_at_the_bound(rt: HostRuntime) -> Result<(), Fail> {
     assert_eq!(rt; source.fill(), Err(SourceFault::Read), "one octet more");
     Ok(())
 }
+
+/// Where the last read finds the end, the end is told; with one read fewer, one more was needed. Ten octets take two
+/// reads of five, and the end one more; two records take twelve of at most seven, and the end one more.
+#[test]
+fn finds_the_end_with_its_last_read(rt: HostRuntime) -> Result<(), Fail> {
+    let alloc = rt.alloc();
+    let ten = b"\xA1\xB2\xC3\xD4\0\x02\0\x04\0\0";
+    for (reads, fault) in [(2, SourceFault::Read), (3, SourceFault::NotPcap)] {
+        let mut source = Source::new(alloc, in_pieces(ten, 5, 0), reads)?;
+        assert_eq!(rt; source.open(), Err(fault), "{reads} reads of ten octets");
+    }
+    let cases = [
+        (12, "1000000005 [7, 8, 9] of 3, 2000000000 [4] of 1, Read"),
+        (13, "1000000005 [7, 8, 9] of 3, 2000000000 [4] of 1, end"),
+    ];
+    for (reads, expected) in cases {
+        let mut source = Source::new(alloc, in_pieces(TWO_RECORDS, 7, 0), reads)?;
+        let words = told(alloc, &mut source)?;
+        assert_eq!(rt; words.as_str(), expected, "{reads} reads");
+    }
+    Ok(())
+}

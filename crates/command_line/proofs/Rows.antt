@@ -3,7 +3,7 @@ use Rattle.std.proofs.Common.{◌≡◌, refl, codes, [], ◌∷◌, Some, None,
 use Rattle.clap.specs.Words.{takes}
 use Rattle.clap.proofs.OnLiterals.{clap_on_literals}
 use Rattle.command_line.specs.App.{tep_app}
-use Rattle.command_line.specs.Meaning.{sample, check, run, explain, words_meant}
+use Rattle.command_line.specs.Meaning.{sample, check, run, explain, migrate, words_meant}
 
 no_words : words_meant (codes "tep" ∷ []) ≡ Some sample
 unfolding clap_on_literals
@@ -34,3 +34,7 @@ an_explanation_of_three = refl
 a_depth_of_five_is_refused : takes tep_app (codes "tep" ∷ codes "explain" ∷ codes "--depth=5" ∷ codes "c" ∷ codes "--settings" ∷ codes "s" ∷ []) ≡ false
 unfolding clap_on_literals
 a_depth_of_five_is_refused = refl
+
+a_migration : words_meant (codes "tep" ∷ codes "migrate" ∷ codes "-s" ∷ codes "s" ∷ []) ≡ Some (migrate (codes "s"))
+unfolding clap_on_literals
+a_migration = refl

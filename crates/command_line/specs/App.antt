@@ -110,6 +110,14 @@ explain_app = with_rule (with_rule (with_rule (new_app (codes "explain")) settin
 abbrev pub explain_shape : Shape
 explain_shape = explain_app.top
 
+-- `migrate` with the text that it reads
+abbrev pub migrate_app : App
+migrate_app = with_rule (new_app (codes "migrate")) settings_rule
+
+-- what `clap` keeps of `migrate`
+abbrev pub migrate_shape : Shape
+migrate_shape = migrate_app.top
+
 -- the program's name, and that it and its subcommands have a version to tell
 abbrev pub versioned_app : App
 versioned_app = let app = new_app (codes "tep") in record app { top = record app.top { has_version = true; propagate_version = true } }
@@ -118,6 +126,10 @@ versioned_app = let app = new_app (codes "tep") in record app { top = record app
 abbrev pub run_and_check_app : App
 run_and_check_app = with_subcommand (with_subcommand versioned_app run_shape) check_shape
 
+-- the program with its first three subcommands
+abbrev pub run_check_and_explain_app : App
+run_check_and_explain_app = with_subcommand run_and_check_app explain_shape
+
 -- the program with its subcommands
 abbrev pub tep_app : App
-tep_app = with_subcommand run_and_check_app explain_shape
+tep_app = with_subcommand run_check_and_explain_app migrate_shape

@@ -6,18 +6,20 @@ use Rattle.clap.specs.ValueTests.{is_unsigned_in}
 use Rattle.clap.specs.Walk.{texts}
 use Rattle.clap.specs.Words.{IsAmong, Row, Text, all_of, fault_of, first_of, kind_of, one_of, subcommand_of, takes}
 use Rattle.command_line.specs.App.{tep_app}
+use Rattle.command_line.specs.Capture.{file_of}
 use Rattle.command_line.specs.declared.line.Line.{Line}
 use Rattle.command_line.specs.declared.line.Line.TheVariants as line
 use Rattle.command_line.specs.declared.line.LineFault.{LineFault}
 use Rattle.command_line.specs.declared.line.LineFault.TheVariants as fault
 
 -- a command with its values: of `run` the settings, the changes, the underlay, the folder and the ports; of `check` the
--- settings and the changes; of `explain` the settings, the depth and the capture
+-- settings and the changes; of `explain` the settings, the depth and the capture; of `migrate` the settings
 pub data Meaning : Type 0 where
   sample : Meaning
   run : Text → Option Text → Text → Text → List Text → Meaning
   check : Text → Option Text → Meaning
   explain : Text → ℕ → Text → Meaning
+  migrate : Text → Meaning
 
 -- what a command line is as such a meaning
 abbrev pub meaning_of : Line → Meaning
@@ -26,6 +28,7 @@ meaning_of (line.Run settings changes underlay out ports) =
     run settings.now (option_map (λ t. t.now) changes) underlay.now out.now (texts ports.items)
 meaning_of (line.Check settings changes) = check settings.now (option_map (λ t. t.now) changes)
 meaning_of (line.Explain settings depth capture) = explain settings.now depth capture.now
+meaning_of (line.Migrate settings) = migrate settings.now
 
 -- a depth is 1 to 4
 abbrev pub HasDepth : Line → Type 0
@@ -33,6 +36,7 @@ HasDepth line.Sample = ⊤
 HasDepth (line.Run settings changes underlay out ports) = ⊤
 HasDepth (line.Check settings changes) = ⊤
 HasDepth (line.Explain settings depth capture) = (1 ≤ depth) × (depth ≤ 4)
+HasDepth (line.Migrate settings) = ⊤
 
 -- ---- what matches mean: nothing, where a required value is missing
 
@@ -71,12 +75,17 @@ abbrev pub explain_meant : List Row → Option Meaning
 explain_meant rows = option_and_then (λ s. option_and_then (λ c. option_map (λ d. explain s d c)
     (depth_in rows)) (first_of (codes "capture") rows)) (settings_in rows)
 
+-- what `migrate` is asked to do
+abbrev pub migrate_meant : List Row → Option Meaning
+migrate_meant rows = option_map (λ s. migrate s) (settings_in rows)
+
 -- what a subcommand of this name is asked to do
 abbrev pub command_meant : Text → List Row → Option Meaning
 command_meant name rows =
     if bytes_eq name (codes "run") then run_meant rows
     else (if bytes_eq name (codes "check") then check_meant rows
-    else (if bytes_eq name (codes "explain") then explain_meant rows else None))
+    else (if bytes_eq name (codes "explain") then explain_meant rows
+    else (if bytes_eq name (codes "migrate") then migrate_meant rows else None)))
 
 -- what a parse means that met this subcommand with these matches, or none
 abbrev pub line_meant : Option (Text × List Row) → Option Meaning
@@ -89,16 +98,17 @@ words_meant words = line_meant (subcommand_of tep_app words)
 
 -- ---- standard input
 
--- how many of some names are the one by which standard input is asked for
+-- how many captures of some names are standard input, whichever interface's packets are taken
 abbrev pub inputs_among : List Text → ℕ
-inputs_among names = count_by (λ name. bytes_eq name (codes "-")) names
+inputs_among names = count_by (λ name. bytes_eq (file_of name) (codes "-")) names
 
--- how many captures are standard input; the texts of `run` and `check` are files, whatever their names
+-- how many captures are standard input; the texts of `run`, `check` and `migrate` are files, whatever their names
 abbrev pub input_uses : Meaning → ℕ
 input_uses sample = 0
 input_uses (run settings changes underlay out ports) = inputs_among (underlay ∷ ports)
 input_uses (check settings changes) = 0
 input_uses (explain settings depth capture) = inputs_among (capture ∷ [])
+input_uses (migrate settings) = 0
 
 -- it is read once at most
 abbrev pub ReadsInputOnce : Meaning → Type 0

@@ -2,7 +2,7 @@
 ghost use Rattle.std.specs.Prelude.{◌≡◌, IfOk, false};
 ghost use Rattle.clap.specs.Words.{app_of, shape_of};
 ghost use Rattle.clap.specs.declared.builder.Command.TheViews.{out-Command as fields_of};
-ghost use Rattle.command_line.specs.App.{run_settings_app, run_shape, check_shape, explain_shape, run_and_check_app, tep_app};
+ghost use Rattle.command_line.specs.App.{check_shape, explain_shape, migrate_shape, run_and_check_app, run_check_and_explain_app, run_settings_app, run_shape, tep_app};
 
 use crate::arguments::{capture, changes, depth, out, ports, settings, underlay};
 use clap::Command;
@@ -13,11 +13,14 @@ const EXAMPLE: &str =
     "Example:\n  tep run -s settings.toml -u underlay.pcap -o out port1.pcap port2.pcap";
 
 const RUN_EXAMPLE: &str =
-    "Example:\n  tep run -s settings.toml -c changes.toml -u underlay.pcap -o out port1.pcap port2.pcap\n  cat out/decisions.txt";
+    "Captures are pcap or pcapng. FILE#INTERFACE takes one interface of a pcapng capture, by number or name.\n\nExamples:\n  tep run -s settings.toml -c changes.toml -u underlay.pcap -o out port1.pcap port2.pcap\n  tep run -s settings.toml -u all.pcapng#eth0 -o out all.pcapng#eth1 all.pcapng#eth2\n  cat out/decisions.txt";
 
 const CHECK_EXAMPLE: &str = "Example:\n  tep check -s settings.toml -c changes.toml";
 
-const EXPLAIN_EXAMPLE: &str = "Example:\n  tep explain -s settings.toml -d 2 underlay.pcap";
+const EXPLAIN_EXAMPLE: &str =
+    "A capture is pcap or pcapng. FILE#INTERFACE takes one interface of a pcapng capture, by number or name.\n\nExamples:\n  tep explain -s settings.toml -d 2 underlay.pcap\n  tep explain -s settings.toml all.pcapng#eth0";
+
+const MIGRATE_EXAMPLE: &str = "Example:\n  tep migrate -s settings.toml >migrated.toml";
 
 /// The first two options of `run`.
 fn run_settings<'a>(alloc: Global) -> Result<Command<'a>, AllocError>
@@ -67,6 +70,17 @@ fn explain<'a>(alloc: Global) -> Result<Command<'a>, AllocError>
         .arg(capture(alloc))
 }
 
+/// `migrate`.
+fn migrate<'a>(alloc: Global) -> Result<Command<'a>, AllocError>
+    ensures shape { IfOk result (λ c. shape_of c ≡ migrate_shape) }
+    ensures local { IfOk result (λ c. (fields_of c).has_globals ≡ false) }
+{
+    Command::new(alloc, "migrate")
+        .about("Prints a settings text as one of version 2")
+        .after_help(MIGRATE_EXAMPLE)
+        .arg(settings(alloc))
+}
+
 /// The program with its first two commands.
 fn run_and_check<'a>(alloc: Global) -> Result<Command<'a>, AllocError>
     ensures app { IfOk result (λ c. app_of c ≡ run_and_check_app) }
@@ -83,9 +97,17 @@ fn run_and_check<'a>(alloc: Global) -> Result<Command<'a>, AllocError>
         .subcommand(check(alloc)?)
 }
 
+/// The program with its first three commands.
+fn run_check_and_explain<'a>(alloc: Global) -> Result<Command<'a>, AllocError>
+    ensures app { IfOk result (λ c. app_of c ≡ run_check_and_explain_app) }
+    ensures local { IfOk result (λ c. (fields_of c).has_globals ≡ false) }
+{
+    run_and_check(alloc)?.subcommand(explain(alloc)?)
+}
+
 /// The whole program.
 pub(crate) fn tep<'a>(alloc: Global) -> Result<Command<'a>, AllocError>
     ensures { IfOk result (λ c. app_of c ≡ tep_app) }
 {
-    run_and_check(alloc)?.subcommand(explain(alloc)?)
+    run_check_and_explain(alloc)?.subcommand(migrate(alloc)?)
 }

@@ -5,17 +5,15 @@ ghost use Rattle.clap.specs.Words.{fault_of};
 ghost use Rattle.command_line.specs.App.{tep_app};
 ghost use Rattle.command_line.specs.Meaning.{Explains, HasDepth, ReadsInputOnce, input_uses, inputs_among, meaning_of, words_meant};
 
+use crate::capture::{STANDARD_INPUT, capture_name};
 use crate::commands;
 use crate::matches::line_from;
 use clap::error::ErrorKind;
 use std::alloc::Global;
 use thiserror::Error;
 
-/// The name by which standard input is asked for, where a capture is named.
-pub const STANDARD_INPUT: &str = "-";
-
 /// What the words ask for, with the values that stand in them: names of files and of a folder, as they were given, none of
-/// them empty. One capture at most is [`STANDARD_INPUT`].
+/// them empty; [`capture_name`] takes those of captures apart. One capture at most is [`STANDARD_INPUT`].
 #[derive(Debug, Drop)]
 pub enum Line<'a> {
     /// A run on the built-in sample.
@@ -48,6 +46,11 @@ pub enum Line<'a> {
         depth: u8,
         /// The capture of the underlay that is explained.
         capture: &'a str,
+    },
+    /// A settings text as one of version 2.
+    Migrate {
+        /// The settings text's file.
+        settings: &'a str,
     },
 }
 
@@ -109,18 +112,18 @@ fn input_uses(line: &Line<'_>) -> usize
             ..
         } => inputs_among(&[*underlay]) + inputs_among(ports.as_slice()),
         Line::Explain { capture, .. } => inputs_among(&[*capture]),
-        Line::Sample | Line::Check { .. } => 0,
+        Line::Sample | Line::Check { .. } | Line::Migrate { .. } => 0,
     }
 }
 
-/// How many of some names are standard input's.
+/// How many captures of some names are standard input.
 fn inputs_among(names: &[&str]) -> usize
     ensures count { result ≡ inputs_among (texts names.now) }
     ensures bound { result ≤ length names.now }
 {
     let mut count = 0;
     for name in names {
-        if *name == STANDARD_INPUT {
+        if capture_name(*name).file == STANDARD_INPUT {
             count += 1;
         }
     }

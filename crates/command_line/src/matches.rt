@@ -2,7 +2,7 @@
 ghost use Rattle.std.specs.Prelude.{◌≡◌, ◌≤◌, IfOk, IfErr, IfSome, Some, option_and_then, option_map};
 ghost use Rattle.clap.specs.Words.{all_of, first_of, found_of, rows_of, subcommand_rows_of};
 ghost use Rattle.clap.specs.Walk.{texts};
-ghost use Rattle.command_line.specs.Meaning.{HasDepth, LacksValue, check_meant, depth_in, explain_meant, line_meant, meaning_of, run_meant, small_depth};
+ghost use Rattle.command_line.specs.Meaning.{HasDepth, LacksValue, check_meant, depth_in, explain_meant, line_meant, meaning_of, migrate_meant, run_meant, small_depth};
 
 use crate::line::{Line, LineFault};
 use clap::ArgMatches;
@@ -21,6 +21,7 @@ pub(crate) fn line_from<'a>(alloc: Global, matches: &ArgMatches<'a>) -> Result<L
         "run" => run_from(alloc, inner),
         "check" => check_from(inner),
         "explain" => explain_from(inner),
+        "migrate" => migrate_from(inner),
         _ => Err(LineFault::NoValue),
     }
 }
@@ -102,4 +103,14 @@ fn explain_from<'a>(inner: &ArgMatches<'a>) -> Result<Line<'a>, LineFault>
         depth,
         capture,
     })
+}
+
+/// The line that asks for a settings text of version 2.
+fn migrate_from<'a>(inner: &ArgMatches<'a>) -> Result<Line<'a>, LineFault>
+    ensures ok { IfOk result (λ line. migrate_meant (rows_of (found_of inner.now)) ≡ Some (meaning_of line)) }
+    ensures depth { IfOk result HasDepth }
+    ensures fault { IfErr result (LacksValue (migrate_meant (rows_of (found_of inner.now)))) }
+{
+    let settings = text(inner, "settings").ok_or(LineFault::NoValue)?;
+    Ok(Line::Migrate { settings })
 }

@@ -128,9 +128,9 @@ listed at key limit put empty = limited_items at key limit >>= λ ds. fits (path
 abbrev pub numbered : List ℕ → ℕ → List ℕ
 numbered name k = name ++ codes "." ++ decimal k
 
--- the name and each number of so many tables leave room for a key of 11 octets in a path
-abbrev pub FitNumbers : List ℕ → ℕ → Type 0
-FitNumbers name count = (k : ℕ) → k ≤ count → length name + length (decimal k) ≤ 19
+-- the name and the number of each of so many tables, with a dot behind either, have so many octets at most
+abbrev pub FitNumbers : ℕ → List ℕ → ℕ → Type 0
+FitNumbers longest name count = (k : ℕ) → k ≤ count → length name + length (decimal k) + 2 ≤ longest
 
 -- a table in a list
 abbrev pub row_place : List ℕ → ℕ → Data → Meaning Place

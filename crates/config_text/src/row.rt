@@ -1,5 +1,5 @@
 //! Lists of tables.
-ghost use Rattle.std.specs.Prelude.{◌≡◌, ◌+◌, ◌≤◌, ◌<◌, List, [], length, map, vec_len, IfOk};
+ghost use Rattle.std.specs.Prelude.{◌≡◌, ◌+◌, ◌≤◌, ◌<◌, ℕ, List, [], length, map, vec_len, IfOk};
 ghost use Rattle.toml.specs.View.{view};
 ghost use Rattle.config_text.specs.Fault.{Meaning, GivesAs};
 ghost use Rattle.config_text.specs.Table.{FitNumbers, Place, each};
@@ -18,21 +18,26 @@ pub trait Row {
     /// What a table means.
     ghost means: { Self → List Self.Out → Place → Meaning Self.Out };
 
+    /// The most octets that stand before a key in its path; 21 leave room for a key of 11.
+    ghost longest: { Self → ℕ } = { λ _. 21 };
+
     fn read(&self, earlier: &[Self::Out], at: &Reader) -> Result<Self::Out, SettingsFault>
-        requires { length earlier.now < 10000 }
+        requires few { length earlier.now < 10000 }
+        requires short { length (place_of at.now).prefix ≤ longest self.now }
         ensures { result ≡ means self.now earlier.now (place_of at.now) };
 }
 
-/// The tables of a list, in order, each read behind those before it. The name and each number have 19 octets at most.
-/// The first fault is the answer: `BadValue` of an item's own path, as `port.2`, where it is no table, or what its row
-/// answers. `OutOfMemory`: memory was refused.
+/// The tables of a list, in order, each read behind those before it. What stands before their keys is no longer than
+/// their row takes, and leaves room for a key of 11 octets. The first fault is the answer: `BadValue` of an item's own
+/// path, as `port.2`, where it is no table, or what its row answers. `OutOfMemory`: memory was refused.
 pub fn read_rows<R: Row>(
     alloc: Global,
     row: &R,
     name: &str,
     items: &[Value],
 ) -> Result<Vec<R::Out>, SettingsFault>
-    requires short { FitNumbers name.now (length items.now) }
+    requires short { FitNumbers (R.longest row.now) name.now (length items.now) }
+    requires room { R.longest row.now ≤ 21 }
     requires few { length items.now ≤ 10000 }
     ensures value { GivesAs (λ v. v.items) result (each (R.means row.now) name.now [] (map view items.now)) }
     ensures len { IfOk result (λ v. vec_len v ≡ length items.now) }

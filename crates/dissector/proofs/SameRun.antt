@@ -1,6 +1,5 @@
 -- A run depends on the octets of its captures alone.
-use Rattle.std.proofs.Common.{◌≡◌, ◌∙◌, refl, sym, ap, inl, ℕ, ◌+◌, ◌==◌, if◌then◌else◌, List, [], ◌∷◌, length, map, Vec, Global, Result, Ok, Err}
-use Rattle.std.specs.Prelude.{IsUtf8}
+use Rattle.std.proofs.Common.{◌≡◌, ◌∙◌, refl, sym, ap, ℕ, ◌+◌, ◌==◌, if◌then◌else◌, List, [], ◌∷◌, length, map, Vec, Global, Result, Ok, Err}
 use Rattle.std.proofs.lemmas.List.{length-map}
 use Rattle.overlay_config.specs.Fault.{Meaning}
 use Rattle.overlay_config.specs.Settings.{Settings}
@@ -13,15 +12,11 @@ use Rattle.timeline.specs.Timeline.{Timeline, told, unless, cuts_of}
 use Rattle.timeline.specs.declared.fault.TimelineFault.{TimelineFault}
 use Rattle.timeline.specs.declared.source.Tap.TheVariants.{Port, Underlay}
 use Rattle.capture_run.specs.Outputs.{Outputs}
-use Rattle.capture_run.specs.Run.{Gives, Means, run, by_timeline}
+use Rattle.capture_run.specs.Run.{Gives, run, by_timeline}
 use Rattle.capture_run.specs.declared.fault.RunFault.{RunFault}
 use Rattle.capture_run.specs.declared.fault.RunFault.TheVariants as faults
 use Rattle.explanation.specs.Explanation.{Gives as GivesText}
 use Rattle.dissector.specs.Given.{decisions_of}
-
--- what a text means, where the octets are that text
-pub means_at : {A : Type 0} (meaning_of : List ℕ → Meaning A) (text octets : List ℕ) → IsUtf8 octets → octets ≡ text → Means meaning_of octets (meaning_of text)
-means_at meaning_of text octets utf8 is = inl (utf8, ap meaning_of (sym is))
 
 -- ---- captures by their octets
 

@@ -1,10 +1,11 @@
 //! A run on a built-in sample.
-ghost use Rattle.std.specs.Prelude.{◌≡◌, ℕ, List, [], Vec, map, IfOk};
+ghost use Rattle.std.specs.Prelude.{◌≡◌, ℕ, List, [], Vec, map, IfOk, IsOkUnless};
 ghost use Rattle.std.specs.declared.alloc.Global.{Global as GlobalAlloc};
 ghost use Rattle.overlay_config.specs.Change.{changes_in};
 ghost use Rattle.overlay_config.specs.Settings.{settings_in};
 ghost use Rattle.pcap_io.specs.Written.{written_header};
 ghost use Rattle.capture_run.specs.Run.{run};
+ghost use Rattle.capture_run.specs.declared.fault.RunFault.TheVariants.{OutOfMemory};
 ghost use Rattle.explanation.specs.Explanation.{Gives as GivesText};
 ghost use Rattle.dissector.specs.Given.{decisions_of};
 ghost use Rattle.dissector.specs.Sample.{capture_of, captures, settings_text};
@@ -125,8 +126,9 @@ fn captures(alloc: Global) -> Result<Vec<Vec<u8>>, AllocError>
 ///
 /// `OutOfMemory` comes only where memory was refused, and no other fault comes.
 pub fn sample(alloc: Global) -> Result<Vec<u8>, RunFault>
-    ensures { (ports : List (Vec ℕ GlobalAlloc)) → map (λ v. v.items) ports ≡ captures
+    ensures lines { (ports : List (Vec ℕ GlobalAlloc)) → map (λ v. v.items) ports ≡ captures
         → GivesText result (decisions_of (run (settings_in settings_text) (changes_in []) ports written_header)) }
+    ensures accepted { IsOkUnless result OutOfMemory }
 {
     let ports = captures(alloc)?;
     let underlay = capture(alloc, &[])?;

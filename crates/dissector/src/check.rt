@@ -1,10 +1,7 @@
 //! A look at a settings text and a changes text.
-ghost use Rattle.std.specs.Prelude.{◌≡◌, IfOk, List, length};
+ghost use Rattle.std.specs.Prelude.{◌≡◌, IfOk};
 ghost use Rattle.overlay_config.specs.Change.{changes_in};
-ghost use Rattle.overlay_config.specs.Fault.{Meaning};
-ghost use Rattle.overlay_config.specs.Settings.{Settings, settings_in};
-ghost use Rattle.overlay_settings.specs.declared.change.TimedChange.{TimedChange};
-ghost use Rattle.capture_run.specs.Run.{Means};
+ghost use Rattle.overlay_config.specs.Settings.{settings_in};
 ghost use Rattle.dissector.specs.Check.{checked, counts_line};
 ghost use Rattle.explanation.specs.Explanation.{Gives as GivesText};
 
@@ -17,8 +14,7 @@ use std::fmt::Write;
 ///
 /// The first fault is answered, the settings' before the changes'. `OutOfMemory` comes only where memory was refused.
 pub fn check_text(alloc: Global, settings: &[u8], changes: &[u8]) -> Result<Vec<u8>, RunFault>
-    ensures { (s : Meaning Settings) (c : Meaning (List TimedChange))
-        → Means settings_in settings.now s → Means changes_in changes.now c → GivesText result (checked s c) }
+    ensures { GivesText result (checked (settings_in settings.now) (changes_in changes.now)) }
 {
     let settings = match settings_of(alloc, settings) {
         Ok(settings) => settings,

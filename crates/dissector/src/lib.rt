@@ -14,7 +14,7 @@ mod text;
 
 pub use built_in::sample;
 pub use check::check_text;
-pub use command_line::{Line, LineFault, STANDARD_INPUT, line_of};
+pub use command_line::{CaptureName, Line, LineFault, STANDARD_INPUT, capture_name, line_of};
 pub use explanation::{explain, explain_bytes};
 pub use packet_layers::{Head, HeadKind, Layers, Span, Stop, dissect};
 pub use status::{exit_code, stream_code};

@@ -1,4 +1,5 @@
 pub mod FlowLemmas
+pub mod PartsLemmas
 pub mod Sending
 pub mod SenderLemmas
 pub mod FittingLemmas

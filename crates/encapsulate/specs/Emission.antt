@@ -35,3 +35,7 @@ local_text vid Untagged f = plain f
 abbrev pub local_tag : ℕ → Egress → Frame → List ℕ
 local_tag vid Tagged f = tag_text (tci_of f.pcp f.dei vid)
 local_tag vid Untagged f = []
+
+-- its parts: no head, and around this tag the frame, whatever tag it came with
+abbrev pub local_parts : ℕ → Egress → Frame → Parts
+local_parts vid egress f = around [] (local_tag vid egress f) f

@@ -1,8 +1,9 @@
 -- What is sent to a remote endpoint, and why a frame isn't (RFC 7348, 4.3, 5 and 6.1; RFC 8926, 3.3).
-use Rattle.std.specs.Prelude.{ℕ, ◌-◌, ◌&&◌, nat_lt, Bool, false, List, [], ◌∷◌, Option, Some, None, Result, Ok, Err}
+use Rattle.std.specs.Prelude.{ℕ, ◌-◌, ◌&&◌, nat_lt, Bool, false, List, [], ◌∷◌, length, take}
+use Rattle.std.specs.Prelude.{Option, Some, None, Result, Ok, Err}
 use Rattle.std.specs.Option.{option_map_or}
 use Rattle.frame_view.specs.First.{first}
-use Rattle.frame_view.specs.Frame.{Frame, size}
+use Rattle.frame_view.specs.Frame.{Frame, plain, size}
 use Rattle.frame_view.specs.Tag.{begins_tag}
 use Rattle.frame_view.specs.declared.reason.Reason.{Reason}
 use Rattle.frame_view.specs.declared.reason.Reason.TheVariants.{TooBig, InnerTagOut}
@@ -54,6 +55,21 @@ remote_text S vid kind a f =
 abbrev pub sending : Overlay → ℕ → Tunnel → Addr → Frame → Result (List ℕ) Reason
 sending S vid kind a f = elim (admits S vid a f) [ Some reason ↦ Err reason | None ↦ Ok (remote_text S vid kind a f) ]
 
+-- ---- in parts
+
+-- what stands before the end of a text
+abbrev pub before : List ℕ → List ℕ → List ℕ
+before end whole = take (length whole - length end) whole
+
+-- the packet in its parts: the outer headers, which are all that stands before the frame, and the frame without a tag
+abbrev pub remote_parts : Overlay → ℕ → Tunnel → Addr → Frame → Parts
+remote_parts S vid kind a f = around (before (plain f) (remote_text S vid kind a f)) [] f
+
+-- these, or the reason why there is no packet
+abbrev pub sending_parts : Overlay → ℕ → Tunnel → Addr → Frame → Result Parts Reason
+sending_parts S vid kind a f =
+    elim (admits S vid a f) [ Some reason ↦ Err reason | None ↦ Ok (remote_parts S vid kind a f) ]
+
 -- the octets that a result has, where it has any
 abbrev pub texts : Result Parts Reason → Result (List ℕ) Reason
 texts (Ok e) = Ok (text e)
@@ -63,3 +79,8 @@ texts (Err reason) = Err reason
 abbrev pub text_behind : {A : Type 0} → List ℕ → Frame → Result A Reason → Result (List ℕ) Reason
 text_behind head f (Ok _) = Ok (text (around head [] f))
 text_behind head f (Err reason) = Err reason
+
+-- the same in its parts
+abbrev pub parts_behind : {A : Type 0} → List ℕ → Frame → Result A Reason → Result Parts Reason
+parts_behind head f (Ok _) = Ok (around head [] f)
+parts_behind head f (Err reason) = Err reason

@@ -1,7 +1,8 @@
 //! What leaves at one outlet.
-ghost use Rattle.std.specs.Prelude.{◌≡◌, ◌≤◌, ◌⊎◌, ◌+◌, ◌++◌, [], ◌∷◌, map, length, vec_len, vec_capacity, OnOk, OnErr};
+ghost use Rattle.std.specs.Prelude.{◌≡◌, ◌<◌, ◌≤◌, ◌⊎◌, ◌+◌, ◌++◌, [], ◌∷◌, map, length, OnOk, OnErr};
+ghost use Rattle.std.specs.Prelude.{vec_len, vec_capacity};
 ghost use Rattle.std.specs.List.{concat};
-ghost use Rattle.encapsulate.specs.Emission.{no_parts, text, around, local_text, local_tag};
+ghost use Rattle.encapsulate.specs.Emission.{no_parts, text, around, local_text, local_parts, local_tag};
 ghost use Rattle.vlan_ports.specs.declared.member.Egress.TheVariants.{Tagged};
 
 use frame_view::{BridgeFrame, CUSTOMER_TAG, Vid};
@@ -90,10 +91,11 @@ impl<'a> Emission<'a> {
         }
     }
 
-    /// Adds the octets at the end. Where memory is refused nothing changes.
+    /// Adds the octets at the end. Where memory is refused nothing changes; none is asked for where there is room.
     pub fn append_to(&self, out: &mut Vec<u8>) -> Result<(), AllocError>
         ensures ok { OnOk result (out.new.items ≡ out.old.items ++ text self.now) }
         ensures err { OnErr result (out.new.items ≡ out.old.items) }
+        ensures full { OnErr result (vec_capacity out.old < vec_len out.old + length (text self.now)) }
     {
         out.reserve(self.len())?;
         put(out, self.head.as_slice());
@@ -132,7 +134,7 @@ pub(crate) fn four<'b>(
 /// has the frame's priority and drop eligible bit and the segment's VID.
 pub fn local<'a>(vid: Vid, egress: Egress, frame: &BridgeFrame<'a>) -> Emission<'a>
     ensures text { text result ≡ local_text vid egress frame.now }
-    ensures parts { result ≡ around [] (local_tag vid egress frame.now) frame.now }
+    ensures parts { result ≡ local_parts vid egress frame.now }
 {
     let tag = match egress {
         Egress::Tagged => Some(tag_of(vid, frame)),

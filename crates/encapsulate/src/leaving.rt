@@ -1,7 +1,7 @@
 //! What leaves at one outlet, lent.
 ghost use Rattle.std.specs.Prelude.{◌≡◌, ◌≤◌, ◌⊎◌, ◌+◌, ◌++◌, [], ◌∷◌, map, length};
 ghost use Rattle.std.specs.List.{concat};
-ghost use Rattle.encapsulate.specs.Emission.{text, around, local_text, local_tag};
+ghost use Rattle.encapsulate.specs.Emission.{text, around, local_text, local_parts};
 
 use crate::emission::{four, tag_of};
 use frame_view::{BridgeFrame, Vid};
@@ -83,7 +83,7 @@ pub fn local_in<'h, 'a>(
     room: &'h mut Head,
 ) -> Leaving<'h, 'a>
     ensures text { text result ≡ local_text vid egress frame.now }
-    ensures parts { result ≡ around [] (local_tag vid egress frame.now) frame.now }
+    ensures parts { result ≡ local_parts vid egress frame.now }
 {
     let tag = match egress {
         Egress::Tagged => Some(tag_of(vid, frame)),

@@ -8,6 +8,7 @@ ghost use Rattle.encapsulate.specs.Emission.{around};
 ghost use Rattle.ip_udp_view.specs.declared.addr.Addr.TheVariants.{V4, V6};
 ghost use Rattle.frame_view.specs.Frame.{plain};
 ghost use Rattle.encapsulate.specs.Remote.{largest, drops_tags_at, remote_text, sending, text_behind, texts, admits};
+ghost use Rattle.encapsulate.specs.Remote.{sending_parts};
 ghost use Rattle.encapsulate.specs.Sums.{AreSums};
 
 use crate::emission::Emission;
@@ -45,6 +46,7 @@ pub fn wrap<'a>(
     requires sums { AreSums frame.now sums.now }
     ensures sent { texts result ≡ sending under.now vid kind addr frame.now }
     ensures parts { IfOk result (λ e. e ≡ around e.head [] frame.now) }
+    ensures exact { result ≡ sending_parts under.now vid kind addr frame.now }
 {
     let mut head = Head::new();
     put_head(under, vid, kind, addr, frame, sums, &mut head)?;
@@ -66,6 +68,7 @@ pub fn wrap_in<'h, 'a>(
     requires sums { AreSums frame.now sums.now }
     ensures sent { texts result ≡ sending under.now vid kind addr frame.now }
     ensures parts { IfOk result (λ e. e ≡ around e.head [] frame.now) }
+    ensures exact { result ≡ sending_parts under.now vid kind addr frame.now }
 {
     put_head(under, vid, kind, addr, frame, sums, room)?;
     Ok(Leaving::behind(room.as_slice(), frame))

@@ -1,5 +1,6 @@
 pub mod CellsLemmas
 pub mod CountsLemmas
+pub mod PartsLemmas
 pub mod Runs
 pub mod Tallies
 pub mod ComingLemmas

@@ -13,8 +13,8 @@ use Rattle.vlan_ports.specs.Ports.{Ports, egress_at}
 use Rattle.underlay.specs.Overlay.{Overlay}
 use Rattle.decapsulate.specs.Arrival.{arrival_of}
 use Rattle.decapsulate.specs.declared.arrived.Arrived.{Arrived}
-use Rattle.encapsulate.specs.Emission.{local_text}
-use Rattle.encapsulate.specs.Remote.{sending}
+use Rattle.encapsulate.specs.Emission.{Parts, no_parts, local_text, local_parts}
+use Rattle.encapsulate.specs.Remote.{sending, sending_parts}
 use Rattle.endpoint_core.specs.Came.{Came}
 
 -- ---- by a local port
@@ -61,3 +61,14 @@ local_octets ports vid f port = option_map_or (λ egress. local_text vid egress 
 unfoldable pub emitted : Ports → Overlay → ℕ → Frame → Place → Result (List ℕ) Reason
 emitted ports overlay vid f (Local port) = Ok (local_octets ports vid f port)
 emitted ports overlay vid f (Remote kind addr) = sending overlay vid kind addr f
+
+-- ---- in parts
+
+-- that frame at a local port
+abbrev pub local_emission : Ports → ℕ → Frame → ℕ → Parts
+local_emission ports vid f port = option_map_or (λ egress. local_parts vid egress f) (egress_at ports vid port) no_parts
+
+-- the frame at an outlet, or why nothing is sent there
+unfoldable pub emitted_parts : Ports → Overlay → ℕ → Frame → Place → Result Parts Reason
+emitted_parts ports overlay vid f (Local port) = Ok (local_emission ports vid f port)
+emitted_parts ports overlay vid f (Remote kind addr) = sending_parts overlay vid kind addr f

@@ -16,10 +16,11 @@ use Rattle.endpoint_state.specs.Settings.{Settings}
 use Rattle.endpoint_state.specs.State.{State as Bridges, aged, fault, after_change}
 use Rattle.endpoint_state.specs.Step.{verdict, after_frame}
 use Rattle.endpoint_core.specs.Came.{Came}
-use Rattle.endpoint_core.specs.Arrival.{came_at, came_by, emitted}
+use Rattle.endpoint_core.specs.Arrival.{came_at, came_by, emitted, emitted_parts}
 use Rattle.endpoint_core.specs.Counts.{Counts, no_counts, counted}
 use Rattle.endpoint_core.specs.Decision.{Sent, Decision, refused_as, dropped_in, forwarded}
 use Rattle.endpoint_core.specs.Event.{Input, FrameAt, Packet, Asks, Event}
+use Rattle.endpoint_core.specs.declared.decision.Outcome.{Outcome}
 
 -- the state of an endpoint
 pub record State : Type 0 where
@@ -43,6 +44,10 @@ has_two_tunnels overlay vid = option_map_or (λ segment. length segment.tunnels 
 -- what is sent of a frame at a place
 abbrev pub sent_at : Settings → ℕ → Frame → Place → Sent
 sent_at S vid f place = record { place = place; sent = emitted S.ports S.overlay vid f place }
+
+-- the same in its parts
+abbrev pub outcome_at : Settings → ℕ → Frame → Place → Outcome
+outcome_at S vid f place = record { place = place; sent = emitted_parts S.ports S.overlay vid f place }
 
 -- the outlets, each with what is sent there; or why there are none
 abbrev pub by_verdict : Settings → Came → Result (List Place) Reason → Decision

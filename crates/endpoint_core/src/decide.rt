@@ -1,10 +1,10 @@
 //! Where a frame or a packet goes.
-ghost use Rattle.std.specs.Prelude.{◌≡◌, ◌≤◌, length, IfOk, IsSome, true};
+ghost use Rattle.std.specs.Prelude.{◌≡◌, ◌≤◌, length, IfOk, IsSome, Ok, true};
 ghost use Rattle.endpoint_state.specs.Held.{settings_of, state_at, moment_of};
 ghost use Rattle.endpoint_state.specs.Settings.{segment_at};
 ghost use Rattle.endpoint_state.specs.Sound.{is_reached};
 ghost use Rattle.endpoint_state.specs.Step.{after_frame};
-ghost use Rattle.endpoint_core.specs.Course.{decision_of, IsThere, IsShortFrame, CanLeave, IsEmptied};
+ghost use Rattle.endpoint_core.specs.Course.{decision_of, IsThere, IsShortFrame, CanLeave, IsEmptied, IsOfWhatCame};
 ghost use Rattle.endpoint_core.specs.Step.{decided, decided_in, after_came};
 
 use crate::Course;
@@ -30,6 +30,7 @@ pub(crate) fn decide<'a>(
     ensures short { IsShortFrame result }
     ensures leave { CanLeave (settings_of state.new) result places.new.items }
     ensures empty { IsEmptied result places.new.items }
+    ensures came { IsOfWhatCame came.entry result }
     ensures time { moment_of state.new ≤ now }
 {
     match came {
@@ -58,6 +59,7 @@ fn forward<'a>(
     ensures short { IsShortFrame result }
     ensures leave { CanLeave (settings_of state.new) result places.new.items }
     ensures empty { IsEmptied result places.new.items }
+    ensures came { IsOfWhatCame (Ok came.entry) result }
     ensures time { moment_of state.new ≤ now }
 {
     match state.step(now, came.vid, came.from, &came.frame, places) {

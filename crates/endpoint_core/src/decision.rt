@@ -1,14 +1,14 @@
 //! What is decided of a frame or a packet.
-ghost use Rattle.std.specs.Prelude.{◌≡◌, ◌≤◌, length, map, All, IsTrue, IsSome, Err};
+ghost use Rattle.std.specs.Prelude.{◌≡◌, ◌≤◌, [], length, map, All, IsTrue, IsSome, Err};
 ghost use Rattle.std.specs.List.{list_all};
 ghost use Rattle.frame_view.specs.declared.reason.Reason.TheVariants.{NoOutlet};
 ghost use Rattle.filter_db.specs.Place.{no_place};
 ghost use Rattle.endpoint_state.specs.Held.{settings_of};
 ghost use Rattle.endpoint_state.specs.Settings.{segment_at};
 ghost use Rattle.endpoint_state.specs.Step.{can_leave};
-ghost use Rattle.endpoint_core.specs.Course.{decision_of, IsThere, IsShortFrame, CanLeave};
+ghost use Rattle.endpoint_core.specs.Course.{decision_of, outcomes_of, IsThere, IsShortFrame, CanLeave};
 ghost use Rattle.endpoint_core.specs.Decision.{refused_as, forwarded, octets_of, IsShort};
-ghost use Rattle.endpoint_core.specs.Step.{sent_at, has_two_tunnels};
+ghost use Rattle.endpoint_core.specs.Step.{sent_at, outcome_at, has_two_tunnels};
 
 use crate::Course;
 use crate::arrival::Came;
@@ -71,7 +71,8 @@ impl<'a> Decision<'a> {
         requires short { IsShortFrame course.now }
         requires leave { CanLeave (settings_of state.now) course.now places.now }
         requires few { length places.now ≤ 32 }
-        ensures { octets_of result ≡ decision_of (settings_of state.now) course.now places.now }
+        ensures octets { octets_of result ≡ decision_of (settings_of state.now) course.now places.now }
+        ensures parts { result.outcomes ≡ outcomes_of (settings_of state.now) course.now places.now }
     {
         match course {
             Course::Dropped(refused) => Decision::refused(*refused),
@@ -81,7 +82,8 @@ impl<'a> Decision<'a> {
 
     /// A drop.
     fn refused(refused: Refused) -> Decision<'a>
-        ensures { octets_of result ≡ refused_as refused }
+        ensures octets { octets_of result ≡ refused_as refused }
+        ensures parts { result.outcomes ≡ [] }
     {
         Decision {
             segment: refused.segment,
@@ -97,8 +99,10 @@ impl<'a> Decision<'a> {
         requires few { length places.now ≤ 32 }
         requires short { length came.now.frame.body ≤ 65549 }
         requires leave { IsTrue (list_all (can_leave (settings_of state.now) came.now.vid) places.now) }
-        ensures { let S = settings_of state.now in let vid = came.now.vid in
+        ensures octets { let S = settings_of state.now in let vid = came.now.vid in
             octets_of result ≡ forwarded vid (has_two_tunnels S.overlay vid) (map (sent_at S vid came.now.frame) places.now) }
+        ensures parts { let S = settings_of state.now in
+            result.outcomes ≡ map (outcome_at S came.now.vid came.now.frame) places.now }
     {
         let mut outcomes = ArrayVec::new();
         for place in places {

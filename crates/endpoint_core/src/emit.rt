@@ -6,10 +6,10 @@ ghost use Rattle.encapsulate.specs.Remote.{texts};
 ghost use Rattle.endpoint_state.specs.Held.{settings_of};
 ghost use Rattle.endpoint_state.specs.Settings.{segment_at};
 ghost use Rattle.endpoint_state.specs.Step.{can_leave};
-ghost use Rattle.endpoint_core.specs.Arrival.{local_octets};
+ghost use Rattle.endpoint_core.specs.Arrival.{local_octets, local_emission};
 ghost use Rattle.endpoint_core.specs.Counts.{number_sent};
 ghost use Rattle.endpoint_core.specs.Decision.{sent_of};
-ghost use Rattle.endpoint_core.specs.Step.{sent_at};
+ghost use Rattle.endpoint_core.specs.Step.{sent_at, outcome_at};
 
 use crate::Outcome;
 use crate::arrival::Came;
@@ -19,7 +19,7 @@ use filter_db::Place;
 use frame_view::{BridgeFrame, Reason, Vid};
 
 /// What is sent of a frame of a segment at a place where it can leave, its head in a room, or why nothing is.
-#[tactic(auto, unfolding(crate::specs::Arrival::emitted))]
+#[tactic(auto, unfolding(crate::specs::Arrival::emitted, crate::specs::Arrival::emitted_parts))]
 pub(crate) fn emit_in<'h, 'a>(
     state: &EndpointState,
     came: &Came<'a>,
@@ -29,6 +29,7 @@ pub(crate) fn emit_in<'h, 'a>(
     requires { IsTrue (can_leave (settings_of state.now) came.now.vid place) }
     ensures value { texts result ≡ (sent_at (settings_of state.now) came.now.vid came.now.frame place).sent }
     ensures body { IfOk result (λ e. e.body ≡ came.now.frame.body) }
+    ensures parts { result ≡ (outcome_at (settings_of state.now) came.now.vid came.now.frame place).sent }
 {
     match place {
         Place::Local(port) => Ok(emit_local_in(state, came.vid, &came.frame, port, room)),
@@ -55,6 +56,7 @@ fn emit_local_in<'h, 'a>(
     requires { IsTrue (can_leave (settings_of state.now) vid (Local port)) }
     ensures value { text result ≡ local_octets (settings_of state.now).ports vid frame.now port }
     ensures body { result.body ≡ frame.now.body }
+    ensures parts { result ≡ local_emission (settings_of state.now).ports vid frame.now port }
 {
     let egress = state.ports().egress(vid, port).unwrap();
     local_in(vid, egress, frame, room)
@@ -77,11 +79,12 @@ pub(crate) fn number_at(state: &EndpointState, vid: Vid, frame: &BridgeFrame, pl
 }
 
 /// What is sent of a frame of a segment at a place where it can leave, or why nothing is.
-#[tactic(auto, unfolding(crate::specs::Arrival::emitted))]
+#[tactic(auto, unfolding(crate::specs::Arrival::emitted, crate::specs::Arrival::emitted_parts))]
 pub(crate) fn emit<'a>(state: &EndpointState, came: &Came<'a>, place: Place) -> Outcome<'a>
     requires { IsTrue (can_leave (settings_of state.now) came.now.vid place) }
     ensures value { sent_of result ≡ sent_at (settings_of state.now) came.now.vid came.now.frame place }
     ensures body { IfOk result.sent (λ e. e.body ≡ came.now.frame.body) }
+    ensures parts { result ≡ outcome_at (settings_of state.now) came.now.vid came.now.frame place }
 {
     match place {
         Place::Local(port) => Outcome {
@@ -112,6 +115,7 @@ fn emit_local<'a>(
     requires { IsTrue (can_leave (settings_of state.now) vid (Local port)) }
     ensures value { text result ≡ local_octets (settings_of state.now).ports vid frame.now port }
     ensures body { result.body ≡ frame.now.body }
+    ensures parts { result ≡ local_emission (settings_of state.now).ports vid frame.now port }
 {
     let egress = state.ports().egress(vid, port).unwrap();
     local(vid, egress, frame)

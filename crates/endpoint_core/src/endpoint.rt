@@ -4,8 +4,11 @@ ghost use Rattle.frame_view.specs.First.{fault_of};
 ghost use Rattle.endpoint_state.specs.Opened.{settings_told};
 ghost use Rattle.endpoint_core.specs.Decision.{octets_of};
 ghost use Rattle.endpoint_core.specs.Event.{frame_at, packet_at, change_at};
-ghost use Rattle.endpoint_core.specs.Step.{Decided, Replied, opened, answer, after, sent_at, has_two_tunnels};
+ghost use Rattle.endpoint_core.specs.Step.{Decided, Replied, opened, answer, after};
+ghost use Rattle.endpoint_core.specs.Step.{sent_at, outcome_at, has_two_tunnels};
+ghost use Rattle.endpoint_core.specs.Arrival.{came_at, came_by};
 ghost use Rattle.endpoint_core.specs.Course.{decision_of, IsThere, IsShortFrame, CanLeave, IsEmptied};
+ghost use Rattle.endpoint_core.specs.Course.{AreInParts, IsOfWhatCame};
 ghost use Rattle.encapsulate.specs.Remote.{texts};
 ghost use Rattle.endpoint_state.specs.Settings.{segment_at};
 ghost use Rattle.endpoint_state.specs.Step.{can_leave};
@@ -114,6 +117,8 @@ impl Endpoint {
         ensures short { IsShortFrame result }
         ensures leave { CanLeave (state_of self.new).bridges.settings result places.new.items }
         ensures empty { IsEmptied result places.new.items }
+        ensures came { let S = (state_of self.old).bridges.settings in
+            IsOfWhatCame (came_at S.ports port original octets.now) result }
     {
         let came = come_at(self.state.ports(), port, original, octets);
         let course = decide(&mut self.state, now, came, places);
@@ -138,6 +143,8 @@ impl Endpoint {
         ensures short { IsShortFrame result }
         ensures leave { CanLeave (state_of self.new).bridges.settings result places.new.items }
         ensures empty { IsEmptied result places.new.items }
+        ensures came { let S = (state_of self.old).bridges.settings in
+            IsOfWhatCame (came_by S.overlay original octets.now) result }
     {
         let came = come_by(self.state.under(), original, octets);
         let course = decide(&mut self.state, now, came, places);
@@ -164,6 +171,8 @@ impl Endpoint {
         requires { IsTrue (can_leave (state_of self.now).bridges.settings came.now.vid place) }
         ensures sent { texts result ≡ (sent_at (state_of self.now).bridges.settings came.now.vid came.now.frame place).sent }
         ensures body { IfOk result (λ e. e.body ≡ came.now.frame.body) }
+        ensures parts { let S = (state_of self.now).bridges.settings in
+            result ≡ (outcome_at S came.now.vid came.now.frame place).sent }
     {
         emit_in(&self.state, came, place, room)
     }
@@ -176,6 +185,8 @@ impl Endpoint {
         requires high { port ≤ length (state_of self.old).bridges.settings.ports.ports }
         ensures answer { Decided (octets_of result) ≡ answer (state_of self.old) (frame_at now port original octets.now) }
         ensures after { state_of self.new ≡ after (state_of self.old) (frame_at now port original octets.now) }
+        ensures parts { let S = (state_of self.old).bridges.settings in
+            AreInParts (state_of self.new).bridges.settings (came_at S.ports port original octets.now) result.outcomes }
     {
         let mut places = Outlets::new();
         let course = self.take_frame(now, port, original, octets, &mut places);
@@ -188,6 +199,8 @@ impl Endpoint {
         requires { (state_of self.old).moment ≤ now }
         ensures answer { Decided (octets_of result) ≡ answer (state_of self.old) (packet_at now original octets.now) }
         ensures after { state_of self.new ≡ after (state_of self.old) (packet_at now original octets.now) }
+        ensures parts { let S = (state_of self.old).bridges.settings in
+            AreInParts (state_of self.new).bridges.settings (came_by S.overlay original octets.now) result.outcomes }
     {
         let mut places = Outlets::new();
         let course = self.take_packet(now, original, octets, &mut places);

@@ -1,8 +1,7 @@
 //! Packets of a capture, explained one by one.
 ghost use Rattle.std.specs.Prelude.{◌≡◌, ◌≤◌, ◌+◌, ◌++◌, [], IfOk, OnOk};
 ghost use Rattle.std.specs.List.{AllByRecursion, flat_map};
-ghost use Rattle.overlay_config.specs.Fault.{Meaning};
-ghost use Rattle.overlay_config.specs.Settings.{Settings, settings_in};
+ghost use Rattle.overlay_config.specs.Settings.{settings_in};
 ghost use Rattle.timeline.specs.Events.{IsEventOf};
 ghost use Rattle.timeline.specs.Order.{IsRising};
 ghost use Rattle.endpoint_state.specs.Opened.{settings_told};
@@ -11,7 +10,6 @@ ghost use Rattle.endpoint_core.specs.Kept.{state_of};
 ghost use Rattle.endpoint_core.specs.Step.{answer, after};
 ghost use Rattle.decision_lines.specs.Lines.{line, answer_text, cut_line};
 ghost use Rattle.capture_run.specs.Outputs.{event_of};
-ghost use Rattle.capture_run.specs.Run.{Means};
 ghost use Rattle.packet_layers.specs.Dissection.{dissection};
 ghost use Rattle.explanation.specs.Text.{layers_text};
 ghost use Rattle.explanation.specs.Explanation.{explanation, explained_run, Gives};
@@ -40,7 +38,7 @@ pub fn explain_bytes(
 ) -> Result<Vec<u8>, RunFault>
     requires low { 1 ≤ depth }
     requires high { depth ≤ 4 }
-    ensures { (s : Meaning Settings) → Means settings_in settings.now s → Gives result (explained_run s capture.now depth) }
+    ensures { Gives result (explained_run (settings_in settings.now) capture.now depth) }
 {
     let settings = match settings_of(alloc, settings) {
         Ok(settings) => settings,

@@ -2,5 +2,9 @@ mod Pairs
 mod Readings
 mod Hops
 mod Numbers
+mod Tunnels
 pub mod Meets
 mod Rising
+mod Rewrites
+mod SegmentKept
+mod Keeps

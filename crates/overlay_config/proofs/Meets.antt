@@ -7,28 +7,22 @@ use Rattle.std.proofs.lemmas.List.Sums.{sum_by-cons}
 use Rattle.toml.specs.Data.{Data, Members, Items, no_items, item, as_array, as_str}
 use Rattle.ip_udp_view.specs.declared.addr.Addr.{Addr}
 use Rattle.ip_udp_view.specs.declared.addr.Addr.TheVariants.{V4, V6}
-use Rattle.ip_udp_view.specs.declared.addr.Tunnel.{Tunnel}
-use Rattle.ip_udp_view.specs.declared.addr.Tunnel.TheVariants.{Vxlan, Geneve}
 use Rattle.frame_view.specs.Address.{is_group as is_group_mac}
-use Rattle.ip_udp_view.specs.Addr.{IsAddr, is_group, is_usable, same_addr, same_kind}
+use Rattle.ip_udp_view.specs.Addr.{IsAddr, is_group, is_usable, same_addr}
 use Rattle.std.specs.FinMap.{empty, len}
 use Rattle.flood_lists.specs.declared.own.Own.{Own}
-use Rattle.flood_lists.specs.declared.remote.Remote.{Remote}
-use Rattle.flood_lists.specs.First.{first}
-use Rattle.flood_lists.specs.Flood.{Entries, add_faults}
 use Rattle.geneve_head.specs.Options.{holds}
 use Rattle.vlan_ports.specs.declared.port.Accept.TheVariants.{All}
 use Rattle.vlan_ports.specs.declared.port.PortRule.{PortRule}
 use Rattle.underlay.specs.declared.segment.PeerRule.TheVariants.{Any}
 use Rattle.underlay.specs.declared.segment.TagRule.TheVariants.{Drop}
-use Rattle.underlay.specs.declared.tunnels.SegmentTunnel.{SegmentTunnel}
 use Rattle.underlay.specs.declared.settings.Underlay.{Underlay}
 use Rattle.underlay.specs.Settings.{own}
 use Rattle.config_text.specs.declared.fault.SettingsFault.TheVariants.{Missing, BadValue, TwoSegments, OverLimit}
 use Rattle.config_text.specs.Address.{mac_of, ip4_of, ip6_of, addr_of}
-use Rattle.config_text.specs.Column.{range, truth, text, one_of, any_addr, gathered, individual_mac, is_individual, is_endpoint, endpoint_addr, own_ip4, own_ip6}
+use Rattle.config_text.specs.Column.{range, truth, text, one_of, gathered, individual_mac, is_individual, is_endpoint, endpoint_addr, own_ip4, own_ip6}
 use Rattle.config_text.specs.Table.{Place, top, path, required, only, defaulted, optional, listed, items, limited_items, required_items, subtable, each, numbered, refuse_if}
-use Rattle.config_text.proofs.Addresses.{kept_some, then_some, mac_length, ip4_is, ip6_is, addr_is}
+use Rattle.config_text.proofs.Addresses.{kept_some, then_some, mac_length, ip4_is, ip6_is}
 use Rattle.overlay_settings.specs.declared.segment.SegmentRule.{SegmentRule}
 use Rattle.overlay_config.specs.declared.common_rules.CommonRules.{CommonRules}
 use Rattle.overlay_config.specs.declared.local_rules.LocalRules.{LocalRules}
@@ -39,14 +33,17 @@ use Rattle.overlay_settings.specs.Settings.{Exceptions}
 use Rattle.overlay_config.specs.Underlay.{exceptions, underlay_of, underlay_keys, own_addrs_of, tunnel_ports_of, pair_in, known_option, with_known, put_known, hop_of, hop_keys, hops_of}
 use Rattle.overlay_settings.specs.Settings.{is_member}
 use Rattle.overlay_config.specs.Members.{with_member, put_member}
-use Rattle.overlay_config.specs.Flood.{with_remote, put_remote}
-use Rattle.overlay_config.specs.Segment.{segment_of, segment_keys, flood_of, is_taken, tunnel_of, tunnel_words, vni_number}
+use Rattle.overlay_config.specs.declared.segment.Version.{Version}
+use Rattle.overlay_config.specs.declared.segment.Version.TheVariants.{One, Two}
+use Rattle.overlay_config.specs.Tunnel.{TunnelRules, tunnel_of, flood_of, tunnels_of}
+use Rattle.overlay_config.specs.Segment.{rules_of, segment_of, segment_keys, is_taken}
 use Rattle.overlay_settings.specs.Settings.{Settings, sum_of_limits}
-use Rattle.overlay_config.specs.Settings.{given_pool_of, pool_for, segments_of, settings_of, settings_in, top_keys}
+use Rattle.overlay_config.specs.Settings.{version_of, given_pool_of, pool_for, segments_of, settings_of, settings_in}
 use Rattle.overlay_config.specs.Document.{document}
-use Rattle.overlay_settings.specs.Rules.{IsWithin, EachBehind, IsKnown, IsEndpoint, IsIndividual, IsHop, AreHops, IsUnderlay, IsPort, IsMember, IsTunnel, IsRemote, IsSegment, MeetsRules}
+use Rattle.overlay_settings.specs.Rules.{IsWithin, EachBehind, IsKnown, IsEndpoint, IsIndividual, IsHop, AreHops, IsUnderlay, IsPort, IsMember, IsSegment, MeetsRules}
 use Rattle.overlay_config.proofs.Hops.{all_size, none_size, hops_are}
-use Rattle.overlay_config.proofs.Readings.{bind_then, ok_is, fits_ok, refuse_ok, range_meets, required_meets, optional_meets, required_range, defaulted_range, limited_items_ok, required_items_ok, Longer, from_none, each_meets, gathered_meets, some_is, unless_ok, when_ok, or_left}
+use Rattle.overlay_config.proofs.Readings.{bind_then, ok_is, fits_ok, refuse_ok, range_meets, required_meets, optional_meets, required_range, defaulted_range, limited_items_ok, required_items_ok, Longer, from_none, each_meets, gathered_meets, listed_meets, some_is, unless_ok, when_ok}
+use Rattle.overlay_config.proofs.Tunnels.{addr_meets, AreTunnels, tunnel_meets, one_meets, tunnels_meet}
 
 -- ---- ports
 
@@ -89,9 +86,6 @@ ip6_meets d x e =
     let k = kept_some (λ ip. is_endpoint (V6 ip)) (text ip6_of d) x e in
     let a = written ip6_of d x k.0 in
     endpoint_is (V6 x) (ip6_is a.0 x a.1) k.1
-
-addr_meets : (d : Data) (x : Addr) → any_addr d ≡ Some x → IsAddr x
-addr_meets d x e = let a = written addr_of d x e in addr_is a.0 x a.1
 
 endpoint_meets : (d : Data) (x : Addr) → endpoint_addr d ≡ Some x → IsEndpoint x
 endpoint_meets d x e = let k = kept_some is_endpoint (text addr_of d) x e in endpoint_is x (addr_meets d x k.0) k.1
@@ -191,18 +185,6 @@ known_meets earlier d longer e =
     let m = when_ok (nat_lt (length earlier) 16) (earlier ++ a.0 ∷ []) longer k.1 in
     record { last = a.0; is = sym m.1; meets = (o.0, o.1, k.0) }
 
-listed_ok : {L : Type 0} (at : Place) (key : List ℕ) (limit : ℕ) (put : L → Data → Option L) (empty all : L) → listed at key limit put empty ≡ Ok all → (ds : List Data) × (length ds ≤ limit) × (gathered put empty ds ≡ Some all)
-listed_ok at key limit put empty all e =
-    bind_then (limited_items at key limit) _ all e (λ ds ds-is e0.
-    (ds, limited_items_ok at key limit ds ds-is, fits_ok (path at key) (gathered put empty ds) all e0))
-
-module _ {A : Type 0} (P : List A → A → Type 0) (put : List A → Data → Option (List A)) (meets : (earlier : List A) (d : Data) (longer : List A) → put earlier d ≡ Some longer → Longer P earlier longer) where
-  listed_meets : (at : Place) (key : List ℕ) (limit : ℕ) (all : List A) → listed at key limit put [] ≡ Ok all → (length all ≤ limit) × EachBehind P [] all
-  listed_meets at key limit all e =
-      let a = listed_ok at key limit put [] all e in
-      let b = from_none P (length a.0) all (gathered_meets P put meets [] a.0 all a.2) in
-      (omega (arith, a.1, b.1), b.0)
-
 default_mtu : IsWithin 1280 65535 1550
 default_mtu = (lit≤ tt, lit≤ tt)
 
@@ -264,34 +246,11 @@ members_meet at key ports other all e =
     bind_then (items at key) _ all e (λ ds ds-is e0.
     (from_none (IsMember ports other) (length ds) all (gathered_meets (IsMember ports other) (put_member ports other) (member_meets ports other) [] ds all (fits_ok (path at key) (gathered (put_member ports other) [] ds) all e0))).0)
 
-same_kind_refl : (kind : Tunnel) → same_kind kind kind ≡ true
-same_kind_refl Vxlan = refl
-same_kind_refl Geneve = refl
-
-abbrev remote : Tunnel → Addr → Remote
-remote kind addr = record { tunnel = kind; addr = addr }
-
-remote_meets : (own : Own) (tunnel : SegmentTunnel) (earlier : Entries) (d : Data) (longer : Entries) → put_remote own tunnel.kind earlier d ≡ Some longer → Longer (IsRemote own (tunnel ∷ [])) earlier longer
-remote_meets own tunnel earlier d longer e =
-    let kind = tunnel.kind in
-    let a = then_some (with_remote own kind earlier) (any_addr d) longer e in
-    let k = when_ok (is_none (first (add_faults own earlier kind a.0))) (earlier ++ remote kind a.0 ∷ []) longer a.2 in
-    record { last = remote kind a.0; is = sym k.1; meets = record { kind = or_left (same_kind kind kind) false (same_kind_refl kind); taken = k.0; is_addr = addr_meets d a.0 a.1 } }
-
-vni_meets : (d : Data) (x : ℕ) → vni_number d ≡ Some x → IsWithin 0 16777215 x
-vni_meets d x e = range_meets 0 16777215 d x e
-
 default_limit : IsWithin 1 8192 256
 default_limit = (lit≤ tt, lit≤ tt)
 
 default_ageing : IsWithin 10 1000000 300
 default_ageing = (lit≤ tt, lit≤ tt)
-
-one_or_two : IsWithin 1 2 1
-one_or_two = (lit≤ tt, lit≤ tt)
-
-group_zero : IsWithin 0 255 0
-group_zero = (lit≤ tt, lit≤ tt)
 
 -- the rules that say nothing of tunnels
 record AreLocal (ports : ℕ) (x : LocalRules) : Type 0 where
@@ -331,47 +290,51 @@ local_meets ports at x e =
       tagged = members_meet at (codes "tagged") ports untagged tagged tagged-is;
     }))))
 
-tunnel_meets : (at : Place) (t : SegmentTunnel) → tunnel_of at ≡ Ok t → IsTunnel [] t
-unfolding tunnel_of
-tunnel_meets at t e =
-    bind_then (required at (codes "vni") vni_number) _ t e (λ vni vni-is e0.
-    bind_then (required at (codes "tunnel") (one_of tunnel_words)) _ t e0 (λ kind kind-is e1.
-    subst (IsTunnel []) (ok_is _ t e1) (required_meets (IsWithin 0 16777215) vni_number vni_meets at (codes "vni") vni vni-is, group_zero, refl)))
+rules_meet : (version : Version) (own : Own) (ports : ℕ) (at : Place) (x : TunnelRules × LocalRules) → rules_of version own ports at ≡ Ok x → AreTunnels own x.0 × AreLocal ports x.1
+unfolding rules_of
+rules_meet One own ports at x e =
+    bind_then (tunnel_of at) _ x e (λ tunnel tunnel-is e0.
+    bind_then (local_of ports at) _ x e0 (λ local local-is e1.
+    bind_then (flood_of own tunnel.kind at) _ x e1 (λ flood flood-is e2.
+    subst (λ r. AreTunnels own r.0 × AreLocal ports r.1) (ok_is _ x e2)
+    (one_meets own at tunnel flood (tunnel_meets at tunnel tunnel-is) flood-is, local_meets ports at local local-is))))
+rules_meet Two own ports at x e =
+    bind_then (tunnels_of own at) _ x e (λ tunnels tunnels-is e0.
+    bind_then (local_of ports at) _ x e0 (λ local local-is e1.
+    subst (λ r. AreTunnels own r.0 × AreLocal ports r.1) (ok_is _ x e1)
+    (tunnels_meet own at tunnels tunnels-is, local_meets ports at local local-is)))
 
-segment_meets : (own : Own) (ports : ℕ) (earlier : List SegmentRule) (at : Place) (s : SegmentRule) → segment_of own ports earlier at ≡ Ok s → IsSegment own ports earlier s
+segment_meets : (version : Version) (own : Own) (ports : ℕ) (earlier : List SegmentRule) (at : Place) (s : SegmentRule) → segment_of version own ports earlier at ≡ Ok s → IsSegment own ports earlier s
 unfolding segment_of
-segment_meets own ports earlier at s e =
-    bind_then (only at segment_keys) _ s e (λ known known-is e0.
+segment_meets version own ports earlier at s e =
+    bind_then (only at (segment_keys version)) _ s e (λ known known-is e0.
     bind_then (required at (codes "vid") (range 1 4094)) _ s e0 (λ vid vid-is e1.
-    bind_then (tunnel_of at) _ s e1 (λ tunnel tunnel-is e2.
-    bind_then (local_of ports at) _ s e2 (λ local local-is e3.
-    bind_then (flood_of own tunnel.kind at) _ s e3 (λ flood flood-is e4.
-    bind_then (refuse_if (is_taken vid (tunnel ∷ []) earlier) (TwoSegments (numbered (codes "segment") (length earlier + 1)))) _ s e4 (λ apart apart-is e5.
-    let l = local_meets ports at local local-is in
-    let f = listed_meets (IsRemote own (tunnel ∷ [])) (put_remote own tunnel.kind) (remote_meets own tunnel) at (codes "flood") 16 flood flood-is in
-    subst (IsSegment own ports earlier) (ok_is _ s e5) (record {
+    bind_then (rules_of version own ports at) _ s e1 (λ rules rules-is e2.
+    bind_then (refuse_if (is_taken vid rules.0.0 earlier) (TwoSegments (numbered (codes "segment") (length earlier + 1)))) _ s e2 (λ apart apart-is e3.
+    let r = rules_meet version own ports at rules rules-is in
+    subst (IsSegment own ports earlier) (ok_is _ s e3) (record {
       vid = required_range at (codes "vid") 1 4094 vid vid-is;
-      tunnel_count = one_or_two;
-      tunnels = (tunnel_meets at tunnel tunnel-is, tt);
-      flood_count = f.0;
-      flood = f.1;
-      limit = l.limit;
-      ageing = l.ageing;
-      untagged = l.untagged;
-      tagged = l.tagged;
+      tunnel_count = r.0.tunnel_count;
+      tunnels = r.0.tunnels;
+      flood_count = r.0.flood_count;
+      flood = r.0.flood;
+      limit = r.1.limit;
+      ageing = r.1.ageing;
+      untagged = r.1.untagged;
+      tagged = r.1.tagged;
       apart = refuse_ok _ _ apart apart-is;
-    })))))))
+    })))))
 
 -- ---- all
 
-segments_meet : (own : Own) (ports : ℕ) (at : Place) (segments : List SegmentRule) → segments_of own ports at ≡ Ok segments
+segments_meet : (version : Version) (own : Own) (ports : ℕ) (at : Place) (segments : List SegmentRule) → segments_of version own ports at ≡ Ok segments
     → IsWithin 1 256 (length segments) × EachBehind (IsSegment own ports) [] segments × (sum_of_limits segments ≤ 65536)
 unfolding segments_of
-segments_meet own ports at segments e =
+segments_meet version own ports at segments e =
     bind_then (required_items at (codes "segment") 256) _ segments e (λ tables tables-is e0.
-    bind_then (each (segment_of own ports) (codes "segment") [] tables) _ segments e0 (λ all all-is e1.
+    bind_then (each (segment_of version own ports) (codes "segment") [] tables) _ segments e0 (λ all all-is e1.
     bind_then (refuse_if (nat_lt 65536 (sum_of_limits all)) (OverLimit (codes "limit"))) _ segments e1 (λ total total-is e2.
-    let q = from_none (IsSegment own ports) (length tables) all (each_meets (IsSegment own ports) (segment_of own ports) (codes "segment") (segment_meets own ports) [] tables all all-is) in
+    let q = from_none (IsSegment own ports) (length tables) all (each_meets (IsSegment own ports) (segment_of version own ports) (codes "segment") (segment_meets version own ports) [] tables all all-is) in
     let few = required_items_ok at (codes "segment") 256 tables tables-is in
     subst (λ l. IsWithin 1 256 (length l) × EachBehind (IsSegment own ports) [] l × (sum_of_limits l ≤ 65536)) (ok_is all segments e2)
     (subst (IsWithin 1 256) (sym q.1) few, q.0, ltb-false 65536 (sum_of_limits all) (refuse_ok _ _ total total-is)))))
@@ -391,26 +354,23 @@ pool_meets (Some given) segments pool e is sums =
     subst (λ n. IsWithin 1 65536 n × (sum_of_limits segments ≤ n)) (ok_is given pool e0) (is, ltb-false given (sum_of_limits segments) (refuse_ok _ _ enough enough-is)))
 
 given_meets : (at : Place) (given : Option ℕ) → given_pool_of at ≡ Ok given → IfSome given (IsWithin 1 65536)
-unfolding given_pool_of
-given_meets at given e =
-    bind_then (only at top_keys) _ given e (λ known known-is e0.
-    bind_then (required at (codes "version") (range 1 1)) _ given e0 (λ version version-is e1.
-    optional_meets (IsWithin 1 65536) (range 1 65536) (range_meets 1 65536) at (codes "pool") given e1))
+given_meets at given e = optional_meets (IsWithin 1 65536) (range 1 65536) (range_meets 1 65536) at (codes "pool") given e
 
 -- settings that are read keep to the rules
 pub settings_meet : (members : Members) (s : Settings) → settings_of members ≡ Ok s → MeetsRules s
 unfolding settings_of
 settings_meet members s e =
-    bind_then (given_pool_of (top members)) _ s e (λ given given-is e0.
+    bind_then (version_of (top members)) _ s e (λ version version-is ev.
+    bind_then (given_pool_of (top members)) _ s ev (λ given given-is e0.
     bind_then (subtable (top members) (codes "underlay")) _ s e0 (λ below below-is e1.
     bind_then (underlay_of below) _ s e1 (λ underlay underlay-is e2.
     bind_then (required_items (top members) (codes "port") 16) _ s e2 (λ tables tables-is e3.
     bind_then (each (λ earlier at. port_of at) (codes "port") [] tables) _ s e3 (λ ports ports-is e4.
-    bind_then (segments_of (own underlay) (length ports) (top members)) _ s e4 (λ segments segments-is e5.
+    bind_then (segments_of version (own underlay) (length ports) (top members)) _ s e4 (λ segments segments-is e5.
     bind_then (pool_for given segments) _ s e5 (λ pool pool-is e6.
     let p = from_none IsPort (length tables) ports (each_meets IsPort (λ earlier at. port_of at) (codes "port") port_meets [] tables ports ports-is) in
     let few = required_items_ok (top members) (codes "port") 16 tables tables-is in
-    let q = segments_meet (own underlay) (length ports) (top members) segments segments-is in
+    let q = segments_meet version (own underlay) (length ports) (top members) segments segments-is in
     let l = pool_meets given segments pool pool-is (given_meets (top members) given given-is) (some_entries (own underlay) (length ports) segments q.0.0 q.1, q.2) in
     subst MeetsRules (ok_is _ s e6) (record {
       underlay = underlay_meets below underlay underlay-is;
@@ -420,7 +380,7 @@ settings_meet members s e =
       segments = q.1;
       pool = l.0;
       limits = l.1;
-    }))))))))
+    })))))))))
 
 pub texts_meet : (text : List ℕ) (s : Settings) → settings_in text ≡ Ok s → MeetsRules s
 texts_meet text s e = bind_then (document text) settings_of s e (λ members members-is e0. settings_meet members s e0)

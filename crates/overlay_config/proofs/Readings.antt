@@ -8,7 +8,7 @@ use Rattle.config_text.specs.declared.fault.SettingsFault.{SettingsFault}
 use Rattle.config_text.specs.declared.fault.SettingsFault.TheVariants.{OverLimit}
 use Rattle.config_text.specs.Fault.{Meaning, ◌>>=◌}
 use Rattle.config_text.specs.Column.{in_range, range, gathered}
-use Rattle.config_text.specs.Table.{Place, path, fits, required_value, required, default_value, defaulted, optional_value, optional, items, limited, limited_items, some_items, required_items, each, row_place, refuse_if}
+use Rattle.config_text.specs.Table.{Place, path, fits, required_value, required, default_value, defaulted, optional_value, optional, items, limited, limited_items, some_items, required_items, listed, each, row_place, refuse_if}
 use Rattle.config_text.proofs.Addresses.{then_some}
 use Rattle.overlay_settings.specs.Rules.{IsWithin, EachBehind}
 
@@ -19,7 +19,7 @@ pub bind_then : {A B P : Type 0} (m : Meaning A) (f : A → Meaning B) (y : B) �
 bind_then (Ok x) f y e next = next x refl e
 bind_then (Err d) f y e next = absurd cc
 
-bind_ok : {A B : Type 0} (m : Meaning A) (f : A → Meaning B) (y : B) → (m >>= f) ≡ Ok y → (x : A) × (m ≡ Ok x) × (f x ≡ Ok y)
+pub bind_ok : {A B : Type 0} (m : Meaning A) (f : A → Meaning B) (y : B) → (m >>= f) ≡ Ok y → (x : A) × (m ≡ Ok x) × (f x ≡ Ok y)
 bind_ok (Ok x) f y e = (x, refl, e)
 bind_ok (Err d) f y e = absurd cc
 
@@ -171,3 +171,15 @@ module _ {A : Type 0} (P : List A → A → Type 0) (put : List A → Data → O
       let b = meets earlier d a.0 a.1 in
       let rest : Behind P (earlier ++ b.last ∷ []) (length ds) all = subst (λ l. Behind P l (length ds) all) b.is (gathered_meets a.0 ds all a.2) in
       one_behind P earlier b.last (length ds) all b.meets rest
+
+pub listed_ok : {L : Type 0} (at : Place) (key : List ℕ) (limit : ℕ) (put : L → Data → Option L) (empty all : L) → listed at key limit put empty ≡ Ok all → (ds : List Data) × (length ds ≤ limit) × (gathered put empty ds ≡ Some all)
+listed_ok at key limit put empty all e =
+    bind_then (limited_items at key limit) _ all e (λ ds ds-is e0.
+    (ds, limited_items_ok at key limit ds ds-is, fits_ok (path at key) (gathered put empty ds) all e0))
+
+module _ {A : Type 0} (P : List A → A → Type 0) (put : List A → Data → Option (List A)) (meets : (earlier : List A) (d : Data) (longer : List A) → put earlier d ≡ Some longer → Longer P earlier longer) where
+  pub listed_meets : (at : Place) (key : List ℕ) (limit : ℕ) (all : List A) → listed at key limit put [] ≡ Ok all → (length all ≤ limit) × EachBehind P [] all
+  listed_meets at key limit all e =
+      let a = listed_ok at key limit put [] all e in
+      let b = from_none P (length a.0) all (gathered_meets P put meets [] a.0 all a.2) in
+      (omega (arith, a.1, b.1), b.0)

@@ -4,12 +4,14 @@ use Rattle.std.specs.Option.{option_map_or}
 use Rattle.toml.specs.Data.{Data, Members}
 use Rattle.ip_udp_view.specs.declared.addr.Addr.{Addr}
 use Rattle.ip_udp_view.specs.declared.addr.Tunnel.{Tunnel}
+use Rattle.ip_udp_view.specs.declared.addr.Tunnel.TheVariants.{Vxlan, Geneve}
+use Rattle.underlay.specs.declared.tunnels.SegmentTunnel.{SegmentTunnel}
 use Rattle.vlan_ports.specs.declared.member.Egress.{Egress}
 use Rattle.vlan_ports.specs.declared.member.Egress.TheVariants.{Tagged, Untagged}
 use Rattle.config_text.specs.declared.fault.SettingsFault.TheVariants.{Missing, BadValue, NotRising}
 use Rattle.config_text.specs.Fault.{Meaning, ◌>>=◌}
 use Rattle.config_text.specs.Column.{range, truth, one_of, any_mac, any_addr}
-use Rattle.config_text.specs.Table.{Place, top, path, only, required, optional, absent, limited_items, each, numbered, refuse_if}
+use Rattle.config_text.specs.Table.{Place, top, path, only, required, optional, defaulted, absent, limited_items, each, numbered, refuse_if}
 use Rattle.overlay_settings.specs.declared.change.Target.{Target}
 use Rattle.overlay_settings.specs.declared.change.Target.TheVariants.{Local, Remote}
 use Rattle.overlay_settings.specs.declared.change.Change.{Change}
@@ -20,7 +22,7 @@ use Rattle.overlay_config.specs.declared.kind.Kind.{Kind}
 use Rattle.overlay_config.specs.declared.kind.Kind.TheVariants as kinds
 use Rattle.overlay_config.specs.CommonRules.{common_of}
 use Rattle.overlay_config.specs.Document.{document}
-use Rattle.overlay_config.specs.Segment.{tunnel_of, tunnel_words}
+use Rattle.overlay_config.specs.Tunnel.{tunnel_of, tunnel_words, vni_number, group_number}
 use Rattle.overlay_settings.specs.Rules.{IsWithin}
 
 -- the words of the kinds of changes
@@ -49,7 +51,7 @@ keys_of kinds.SetMember = keys_with (codes "vid" ∷ codes "port" ∷ codes "egr
 keys_of kinds.PortUp = keys_with (codes "port" ∷ [])
 keys_of kinds.PortDown = keys_with (codes "port" ∷ [])
 keys_of kinds.Flush = keys_with (codes "vid" ∷ [])
-keys_of kinds.AddSegment = keys_with (codes "vid" ∷ codes "vni" ∷ codes "tunnel" ∷ codes "limit" ∷ codes "ageing" ∷ codes "learn" ∷ codes "peers" ∷ codes "tags" ∷ [])
+keys_of kinds.AddSegment = keys_with (codes "vid" ∷ codes "vni" ∷ codes "tunnel" ∷ codes "group" ∷ codes "vni2" ∷ codes "group2" ∷ codes "limit" ∷ codes "ageing" ∷ codes "learn" ∷ codes "peers" ∷ codes "tags" ∷ [])
 keys_of kinds.RemoveSegment = keys_with (codes "vid" ∷ [])
 keys_of kinds.SetLimit = keys_with (codes "vid" ∷ codes "limit" ∷ [])
 
@@ -99,13 +101,32 @@ remote_of at = do
 abbrev pub any_number : Data → Option ℕ
 any_number = range 0 4294967295
 
--- a segment that comes, its one tunnel of horizon group 0
+-- the kind of tunnel that this one isn't
+abbrev pub other_kind : Tunnel → Tunnel
+other_kind Vxlan = Geneve
+other_kind Geneve = Vxlan
+
+-- the second tunnel, of the other kind, where a VNI of it is told; a horizon group goes with it alone
+abbrev pub second_in : Place → Tunnel → Option ℕ → Meaning (List SegmentTunnel)
+second_in at kind None = absent at (codes "group2") >>= λ none. Ok []
+second_in at kind (Some vni) = defaulted at (codes "group2") group_number 0 >>= λ group. Ok (record { kind = other_kind kind; vni = vni; group = group } ∷ [])
+
+-- the tunnels of a segment that comes, of which there are one or two
+unfoldable pub new_tunnels_of : Place → Meaning (List SegmentTunnel)
+new_tunnels_of at = do
+  tunnel ← tunnel_of at
+  group ← defaulted at (codes "group") group_number 0
+  vni ← optional at (codes "vni2") vni_number
+  second ← second_in at tunnel.kind vni
+  Ok (record tunnel { group = group } ∷ second)
+
+-- a segment that comes
 unfoldable pub new_segment_of : Place → Meaning NewSegment
 new_segment_of at = do
   vid ← vid_at at
-  tunnel ← tunnel_of at
+  tunnels ← new_tunnels_of at
   common ← common_of any_number any_number at
-  Ok (record { vid = vid; tunnels = tunnel ∷ []; limit = common.limit; ageing = common.ageing; learning = common.learning; peers = common.peers; tags = common.tags })
+  Ok (record { vid = vid; tunnels = tunnels; limit = common.limit; ageing = common.ageing; learning = common.learning; peers = common.peers; tags = common.tags })
 
 -- the keys of each kind behind `at`, in order
 unfoldable pub change_in : Kind → Place → Meaning Change

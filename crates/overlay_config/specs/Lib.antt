@@ -6,6 +6,8 @@ pub mod Members
 pub mod Flood
 pub mod CommonRules
 pub mod LocalRules
+pub mod Tunnel
 pub mod Segment
 pub mod Settings
 pub mod Change
+pub mod Migrate

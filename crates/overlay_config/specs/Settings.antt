@@ -1,6 +1,6 @@
 -- What a settings text means.
 pub use Rattle.overlay_settings.specs.Settings.{Settings}
-use Rattle.std.specs.Prelude.{ℕ, nat_lt, List, [], ◌∷◌, length, Option, Some, None, Ok, codes}
+use Rattle.std.specs.Prelude.{ℕ, nat_lt, List, [], ◌∷◌, length, ◌==◌, if◌then◌else◌, Option, Some, None, Ok, codes}
 use Rattle.toml.specs.Data.{Members}
 use Rattle.flood_lists.specs.declared.own.Own.{Own}
 use Rattle.underlay.specs.Settings.{own}
@@ -10,6 +10,8 @@ use Rattle.config_text.specs.Column.{range}
 use Rattle.config_text.specs.Table.{Place, top, only, required, optional, subtable, required_items, each, refuse_if}
 use Rattle.overlay_settings.specs.declared.segment.SegmentRule.{SegmentRule}
 use Rattle.overlay_settings.specs.Settings.{sum_of_limits}
+use Rattle.overlay_config.specs.declared.segment.Version.{Version}
+use Rattle.overlay_config.specs.declared.segment.Version.TheVariants.{One, Two}
 use Rattle.overlay_config.specs.Document.{document}
 use Rattle.overlay_config.specs.Underlay.{underlay_of}
 use Rattle.overlay_config.specs.Port.{port_of}
@@ -20,10 +22,10 @@ abbrev pub top_keys : List (List ℕ)
 top_keys = codes "version" ∷ codes "pool" ∷ codes "underlay" ∷ codes "port" ∷ codes "segment" ∷ []
 
 -- beside the endpoint's own addresses and the number of its ports
-unfoldable pub segments_of : Own → ℕ → Place → Meaning (List SegmentRule)
-segments_of own ports at = do
+unfoldable pub segments_of : Version → Own → ℕ → Place → Meaning (List SegmentRule)
+segments_of version own ports at = do
   tables ← required_items at (codes "segment") 256
-  segments ← each (segment_of own ports) (codes "segment") [] tables
+  segments ← each (segment_of version own ports) (codes "segment") [] tables
   total ← refuse_if (nat_lt 65536 (sum_of_limits segments)) (OverLimit (codes "limit"))
   Ok segments
 
@@ -32,22 +34,27 @@ abbrev pub pool_for : Option ℕ → List SegmentRule → Meaning ℕ
 pool_for None segments = Ok (sum_of_limits segments)
 pool_for (Some pool) segments = refuse_if (nat_lt pool (sum_of_limits segments)) (OverLimit (codes "pool")) >>= λ enough. Ok pool
 
--- what the keys at the top say before all tables: version 1, and a pool, where it is given
-unfoldable pub given_pool_of : Place → Meaning (Option ℕ)
-given_pool_of at = do
+-- the version, asked behind the names of the keys alone
+unfoldable pub version_of : Place → Meaning Version
+version_of at = do
   known ← only at top_keys
-  version ← required at (codes "version") (range 1 1)
-  optional at (codes "pool") (range 1 65536)
+  version ← required at (codes "version") (range 1 2)
+  Ok (if version == 1 then One else Two)
+
+-- the pool, where it is given
+abbrev pub given_pool_of : Place → Meaning (Option ℕ)
+given_pool_of at = optional at (codes "pool") (range 1 65536)
 
 -- what the table of a text of settings means
 unfoldable pub settings_of : Members → Meaning Settings
 settings_of members = do
+  version ← version_of (top members)
   given ← given_pool_of (top members)
   below ← subtable (top members) (codes "underlay")
   underlay ← underlay_of below
   tables ← required_items (top members) (codes "port") 16
   ports ← each (λ earlier at. port_of at) (codes "port") [] tables
-  segments ← segments_of (own underlay) (length ports) (top members)
+  segments ← segments_of version (own underlay) (length ports) (top members)
   pool ← pool_for given segments
   Ok (record { underlay = underlay; ports = ports; segments = segments; pool = pool })
 

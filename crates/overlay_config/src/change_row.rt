@@ -1,16 +1,15 @@
 //! The table of a change.
-ghost use Rattle.std.specs.Prelude.{◌≡◌, IsUtf8, Err, IfOk, []};
+ghost use Rattle.std.specs.Prelude.{◌≡◌, IfOk, []};
 ghost use Rattle.toml.specs.View.{table_view};
-ghost use Rattle.config_text.specs.declared.fault.SettingsFault.TheVariants.{NotToml};
 ghost use Rattle.overlay_config.specs.Fault.{GivesAs};
 ghost use Rattle.config_text.specs.Reader.{place_of};
-ghost use Rattle.overlay_config.specs.Change.{moment_before, target_of, remote_of, new_segment_of, change_in, change_of, changes_in, changes_of, IsRising};
+ghost use Rattle.overlay_config.specs.Change.{moment_before, target_of, remote_of, other_kind, new_tunnels_of, new_segment_of, change_in, change_of, changes_in, changes_of, IsRising};
 ghost use Rattle.overlay_settings.specs.Rules.{EachBehind};
 
 use crate::common_rules::read_common;
 use crate::document::read_document;
 use crate::kind::{KINDS, Kind};
-use crate::segment::{TUNNELS, read_tunnel};
+use crate::tunnel::{GROUP, TUNNELS, VniNumber, read_tunnel};
 use config_text::{
     AnyAddr, AnyMac, Key, Reader, Row, SettingsFault, Truth, U8Range, U32Range, U64Range,
     VidNumber, Words, read_rows,
@@ -20,7 +19,7 @@ use ip_udp_view::{Addr, Tunnel};
 use overlay_settings::{Change, NewSegment, Target, TimedChange};
 use std::alloc::Global;
 use toml::Table;
-use underlay::Tunnels;
+use underlay::{SegmentTunnel, Tunnels};
 use vlan_ports::Egress;
 
 const EGRESSES: [(&str, Option<Egress>); 3] = [
@@ -75,17 +74,48 @@ fn read_remote(at: &Reader) -> Result<(Vid, Addr, Option<Tunnel>), SettingsFault
     Ok((vid, addr, tunnel))
 }
 
+/// The kind of tunnel that this one isn't.
+fn other_kind(kind: Tunnel) -> Tunnel
+    ensures { result ≡ other_kind kind }
+{
+    match kind {
+        Tunnel::Vxlan => Tunnel::Geneve,
+        Tunnel::Geneve => Tunnel::Vxlan,
+    }
+}
+
+/// The tunnels of a segment that comes: `vni2` is the VNI of a second one, of the other kind, and `group2` its horizon
+/// group.
+#[tactic(auto, unfolding(crate::specs::Change::new_tunnels_of))]
+fn read_new_tunnels(at: &Reader) -> Result<Tunnels, SettingsFault>
+    ensures { result ≡ new_tunnels_of (place_of at.now) }
+{
+    let mut first = read_tunnel(at)?;
+    first.group = at.defaulted("group", &GROUP, 0)?;
+    let Some(vni) = at.optional("vni2", &VniNumber)? else {
+        at.absent("group2")?;
+        return Ok(Tunnels::one(first));
+    };
+    let group = at.defaulted("group2", &GROUP, 0)?;
+    let second = SegmentTunnel {
+        kind: other_kind(first.kind),
+        vni,
+        group,
+    };
+    Ok(Tunnels::two(first, second))
+}
+
 /// A segment that comes.
 #[tactic(auto, unfolding(crate::specs::Change::new_segment_of))]
 fn read_new_segment(at: &Reader) -> Result<NewSegment, SettingsFault>
     ensures { result ≡ new_segment_of (place_of at.now) }
 {
     let vid = at.required("vid", &VidNumber)?;
-    let tunnel = read_tunnel(at)?;
+    let tunnels = read_new_tunnels(at)?;
     let common = read_common(at, &ANY_NUMBER, &ANY_NUMBER)?;
     Ok(NewSegment {
         vid,
-        tunnels: Tunnels::one(tunnel),
+        tunnels,
         limit: common.limit,
         ageing: common.ageing,
         learning: common.learning,
@@ -200,8 +230,7 @@ fn read_changes(alloc: Global, table: &Table) -> Result<Vec<TimedChange>, Settin
 /// where the text isn't UTF-8 or no TOML document, then those of the list and of its changes from the first, each
 /// change's in the order of `docs/FORMATS.md`, with `NotRising` last. `OutOfMemory`: memory was refused.
 pub fn changes_of(alloc: Global, text: &[u8]) -> Result<Vec<TimedChange>, SettingsFault>
-    ensures document { IsUtf8 text.now → GivesAs (λ v. v.items) result (changes_in text.now) }
-    ensures not_text { (IsUtf8 text.now → ⊥) → GivesAs (λ v. v.items) result (Err NotToml) }
+    ensures value { GivesAs (λ v. v.items) result (changes_in text.now) }
     ensures rising { IfOk result (λ changes. EachBehind IsRising [] changes.items) }
 {
     read_changes(alloc, &read_document(alloc, text)?)

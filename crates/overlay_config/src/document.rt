@@ -1,9 +1,7 @@
 //! Texts as TOML documents.
-ghost use Rattle.std.specs.Prelude.{◌≡◌, IsUtf8, Err};
 ghost use Rattle.toml.specs.View.{table_view};
 ghost use Rattle.config_text.specs.Fault.{GivesAs};
 ghost use Rattle.overlay_config.specs.Document.{document};
-ghost use Rattle.config_text.specs.declared.fault.SettingsFault.TheVariants.{NotToml};
 
 use config_text::SettingsFault;
 use std::alloc::Global;
@@ -11,8 +9,7 @@ use toml::Table;
 
 /// The table of a document. `NotToml`: the text isn't UTF-8, or isn't TOML.
 pub(crate) fn read_document(alloc: Global, text: &[u8]) -> Result<Table, SettingsFault>
-    ensures document { IsUtf8 text.now → GivesAs table_view result (document text.now) }
-    ensures not_text { (IsUtf8 text.now → ⊥) → GivesAs table_view result (Err NotToml) }
+    ensures { GivesAs table_view result (document text.now) }
 {
     let Ok(text) = std::str::from_utf8(text) else {
         return Err(SettingsFault::NotToml);

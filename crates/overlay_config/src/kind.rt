@@ -51,8 +51,9 @@ const PORT: [&str; 3] = ["kind", "at", "port"];
 
 const SEGMENT: [&str; 3] = ["kind", "at", "vid"];
 
-const NEW_SEGMENT: [&str; 10] = [
-    "kind", "at", "vid", "vni", "tunnel", "limit", "ageing", "learn", "peers", "tags",
+const NEW_SEGMENT: [&str; 13] = [
+    "kind", "at", "vid", "vni", "tunnel", "group", "vni2", "group2", "limit", "ageing", "learn",
+    "peers", "tags",
 ];
 
 const LIMIT: [&str; 4] = ["kind", "at", "vid", "limit"];

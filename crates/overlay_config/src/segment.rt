@@ -1,95 +1,90 @@
 //! The table of a segment.
-ghost use Rattle.std.specs.Prelude.{◌≡◌, ◌≤◌, ◌∷◌, []};
+ghost use Rattle.std.specs.Prelude.{◌≡◌, ◌≤◌, length, map};
 ghost use Rattle.config_text.specs.Reader.{place_of};
-ghost use Rattle.overlay_settings.specs.Settings.{tunnel_rule};
-ghost use Rattle.overlay_config.specs.Segment.{flood_of, is_alike, is_taken, segment_of, tunnel_of, vni_number};
-ghost use Rattle.underlay.specs.Overlay.{has_tunnel, segment_of as told};
+ghost use Rattle.overlay_config.specs.Segment.{is_alike, is_taken, rules_of, segment_keys, segment_of};
 
-use crate::flood::Remotes;
-use crate::local_rules::read_local;
-use config_text::{Column, Key, Reader, Row, SettingsFault, VidNumber, Words};
-use flood_lists::{FloodList, Own};
+use crate::local_rules::{LocalRules, read_local};
+use crate::tunnel::{TunnelRules, read_flood, read_tunnel, read_tunnels};
+use config_text::{Key, Reader, Row, SettingsFault, VidNumber};
+use flood_lists::Own;
 use frame_view::Vid;
-use ip_udp_view::Tunnel;
 use overlay_settings::SegmentRule;
-use toml::Value;
-use underlay::{SegmentTunnel, Tunnels};
-use vxlan_head::Vni;
 
-const KEYS: [&str; 11] = [
+/// The versions of settings, which differ in what a segment says of its tunnels.
+#[derive(Clone, Copy, Debug, PartialEq, Eq)]
+pub(crate) enum Version {
+    One,
+    Two,
+}
+
+const KEYS_ONE: [&str; 11] = [
     "vid", "vni", "tunnel", "limit", "ageing", "learn", "peers", "tags", "untagged", "tagged",
     "flood",
 ];
 
-/// The kinds of tunnels by their words.
-pub(crate) const TUNNELS: [(&str, Tunnel); 2] = [
-    ("vxlan", Tunnel::Vxlan),
-    ("geneve", Tunnel::Geneve),
+const KEYS_TWO: [&str; 9] = [
+    "vid", "tunnel", "limit", "ageing", "learn", "peers", "tags", "untagged", "tagged",
 ];
 
-/// The number of a network, 0 to 16777215.
-#[derive(Clone, Copy, Debug)]
-struct VniNumber;
-
-impl Column for VniNumber {
-    type Out = Vni;
-
-    ghost reads = { λ _. vni_number };
-
-    fn read(&self, value: &Value) -> Option<Vni> {
-        Vni::new(u32::try_from(value.as_integer()?).ok()?)
+impl Version {
+    /// The keys of a segment's table.
+    fn keys(self) -> &'static [&'static str]
+        ensures { map (λ k. k.now) result.now ≡ segment_keys self }
+    {
+        match self {
+            Version::One => &KEYS_ONE,
+            Version::Two => &KEYS_TWO,
+        }
     }
 }
 
-/// Whether a segment has a tunnel of the kind and VNI of this one.
-fn has_tunnel(rule: &SegmentRule, tunnel: &SegmentTunnel) -> bool
-    ensures { result ≡ has_tunnel tunnel.now.kind tunnel.now.vni (told (tunnel_rule rule.now)) }
+/// Whether a segment has this VID, or a tunnel of the kind and VNI of one of these.
+fn is_alike(rule: &SegmentRule, vid: Vid, tunnels: &TunnelRules) -> bool
+    ensures { result ≡ is_alike vid tunnels.now.0 rule.now }
 {
-    rule.tunnels
-        .of(tunnel.kind)
-        .is_some_and(|own| own.vni == tunnel.vni)
+    rule.vid == vid || tunnels.clash(rule)
 }
 
-/// Whether a segment has this VID, or a tunnel of the kind and VNI of this one.
-fn is_alike(rule: &SegmentRule, vid: Vid, tunnel: &SegmentTunnel) -> bool
-    ensures { result ≡ is_alike vid (tunnel.now ∷ []) rule.now }
-{
-    rule.vid == vid || has_tunnel(rule, tunnel)
-}
-
-/// Whether one of these segments has this VID, or a tunnel of the kind and VNI of this one.
-fn is_taken(segments: &[SegmentRule], vid: Vid, tunnel: &SegmentTunnel) -> bool
-    ensures { result ≡ is_taken vid (tunnel.now ∷ []) segments.now }
+/// Whether one of these segments has this VID, or a tunnel of the kind and VNI of one of these.
+fn is_taken(segments: &[SegmentRule], vid: Vid, tunnels: &TunnelRules) -> bool
+    ensures { result ≡ is_taken vid tunnels.now.0 segments.now }
 {
     segments
         .iter()
-        .any(|segment| is_alike(segment, vid, tunnel))
+        .any(|segment| is_alike(segment, vid, tunnels))
 }
 
-/// The tunnel of a segment.
-#[tactic(auto, unfolding(crate::specs::Segment::tunnel_of))]
-pub(crate) fn read_tunnel(at: &Reader) -> Result<SegmentTunnel, SettingsFault>
-    ensures { result ≡ tunnel_of (place_of at.now) }
+/// The keys behind `vid`: the tunnels with the flood list, and the rules that say nothing of them.
+#[tactic(auto, unfolding(crate::specs::Segment::rules_of))]
+fn read_rules(
+    version: Version,
+    own: Own,
+    ports: u8,
+    at: &Reader,
+) -> Result<(TunnelRules, LocalRules), SettingsFault>
+    requires few { ports ≤ 16 }
+    requires short { length (place_of at.now).prefix ≤ 12 }
+    ensures { result ≡ rules_of version own ports (place_of at.now) }
 {
-    let vni = at.required("vni", &VniNumber)?;
-    let kind = at.required("tunnel", &Words { words: &TUNNELS })?;
-    Ok(SegmentTunnel {
-        kind,
-        vni,
-        group: 0,
-    })
-}
-
-/// The flood list of a segment with tunnels of this kind.
-fn read_flood(at: &Reader, own: Own, kind: Tunnel) -> Result<FloodList, SettingsFault>
-    ensures { result ≡ flood_of own kind (place_of at.now) }
-{
-    at.listed("flood", 16, &Remotes { kind, own }, FloodList::new())
+    match version {
+        Version::One => {
+            let tunnel = read_tunnel(at)?;
+            let local = read_local(at, ports)?;
+            let flood = read_flood(at, own, tunnel.kind)?;
+            Ok((TunnelRules::one(tunnel, flood), local))
+        }
+        Version::Two => {
+            let tunnels = read_tunnels(at, own)?;
+            let local = read_local(at, ports)?;
+            Ok((tunnels, local))
+        }
+    }
 }
 
 /// The table of a segment, beside the endpoint's own addresses and the number of its ports.
 #[derive(Clone, Copy, Debug)]
 pub(crate) struct SegmentRow {
+    pub(crate) version: Version,
     pub(crate) own: Own,
     pub(crate) ports: u8,
     ghost few: { ports ≤ 16 },
@@ -98,21 +93,23 @@ pub(crate) struct SegmentRow {
 impl Row for SegmentRow {
     type Out = SegmentRule;
 
-    ghost means = { λ r. segment_of r.own r.ports };
+    ghost means = { λ r. segment_of r.version r.own r.ports };
+
+    // `segment.256.`, so that there is room for the tables of its tunnels.
+    ghost longest = { λ _. 12 };
 
     #[tactic(auto, unfolding(crate::specs::Segment::segment_of))]
     fn read(&self, earlier: &[SegmentRule], at: &Reader) -> Result<SegmentRule, SettingsFault> {
-        at.only(&KEYS)?;
+        at.only(self.version.keys())?;
         let vid = at.required("vid", &VidNumber)?;
-        let tunnel = read_tunnel(at)?;
-        let local = read_local(at, self.ports)?;
-        let flood = read_flood(at, self.own, tunnel.kind)?;
-        if is_taken(earlier, vid, &tunnel) {
+        let (tunnels, local) = read_rules(self.version, self.own, self.ports, at)?;
+        if is_taken(earlier, vid, &tunnels) {
             return Err(SettingsFault::TwoSegments(Key::numbered(
                 "segment",
                 earlier.len() as u16 + 1,
             )));
         }
-        Ok(local.segment(vid, Tunnels::one(tunnel), flood))
+        let (tunnels, flood) = tunnels.into_parts();
+        Ok(local.segment(vid, tunnels, flood))
     }
 }

@@ -1,15 +1,14 @@
 //! The settings of an endpoint, from their text.
-ghost use Rattle.std.specs.Prelude.{◌≡◌, IsUtf8, IfOk, Ok, Err, ℕ, ◌+◌, ◌<◌, ◌≤◌, ◌^◌, sum, map, length};
+ghost use Rattle.std.specs.Prelude.{◌≡◌, IfOk, Ok, Err, ℕ, ◌+◌, ◌<◌, ◌≤◌, ◌^◌, sum, map, length};
 ghost use Rattle.toml.specs.View.{table_view};
-ghost use Rattle.config_text.specs.declared.fault.SettingsFault.TheVariants.{NotToml};
 ghost use Rattle.overlay_config.specs.Fault.{Gives, GivesAs};
 ghost use Rattle.config_text.specs.Reader.{place_of};
 ghost use Rattle.overlay_settings.specs.Settings.{sum_of_limits};
-ghost use Rattle.overlay_config.specs.Settings.{given_pool_of, pool_for, segments_of, settings_in, settings_of};
+ghost use Rattle.overlay_config.specs.Settings.{given_pool_of, pool_for, segments_of, settings_in, settings_of, version_of};
 
 use crate::document::read_document;
 use crate::port::PortRow;
-use crate::segment::SegmentRow;
+use crate::segment::{SegmentRow, Version};
 use crate::underlay_table::read_underlay;
 use config_text::{Key, Reader, SettingsFault, U8Range, U32Range, read_rows};
 use flood_lists::Own;
@@ -43,15 +42,20 @@ fn sum_of_limits(segments: &[SegmentRule]) -> u32
 #[tactic(auto, unfolding(crate::specs::Settings::segments_of))]
 fn read_segments(
     alloc: Global,
+    version: Version,
     own: Own,
     ports: u8,
     top: &Reader,
 ) -> Result<Vec<SegmentRule>, SettingsFault>
     requires { ports ≤ 16 }
-    ensures value { GivesAs (λ v. v.items) result (segments_of own ports (place_of top.now)) }
+    ensures value { GivesAs (λ v. v.items) result (segments_of version own ports (place_of top.now)) }
     ensures few { IfOk result (λ v. length v.items ≤ 256) }
 {
-    let row = SegmentRow { own, ports };
+    let row = SegmentRow {
+        version,
+        own,
+        ports,
+    };
     let tables = top.required_items("segment", 256)?;
     let segments = read_rows(alloc, &row, "segment", tables)?;
     if sum_of_limits(segments.as_slice()) > LARGEST_POOL {
@@ -74,13 +78,24 @@ fn pool_for(given: Option<u32>, segments: &[SegmentRule]) -> Result<u32, Setting
     }
 }
 
-/// The pool that is given at the top of settings of version 1.
-#[tactic(auto, unfolding(crate::specs::Settings::given_pool_of))]
+/// The version, asked behind the names of the keys alone.
+#[tactic(auto, unfolding(crate::specs::Settings::version_of))]
+pub(crate) fn read_version(top: &Reader) -> Result<Version, SettingsFault>
+    ensures { result ≡ version_of (place_of top.now) }
+{
+    top.only(&KEYS)?;
+    let version = top.required("version", &U8Range { low: 1, high: 2 })?;
+    Ok(if version == 1 {
+        Version::One
+    } else {
+        Version::Two
+    })
+}
+
+/// The pool, where it is given.
 fn read_given_pool(top: &Reader) -> Result<Option<u32>, SettingsFault>
     ensures { result ≡ given_pool_of (place_of top.now) }
 {
-    top.only(&KEYS)?;
-    top.required("version", &U8Range { low: 1, high: 1 })?;
     top.optional("pool", &POOL)
 }
 
@@ -90,11 +105,12 @@ fn read_parts(alloc: Global, table: &Table) -> Result<Parts, SettingsFault>
     ensures { Gives result (settings_of (table_view table.now)) }
 {
     let top = Reader::top(table);
+    let version = read_version(&top)?;
     let given = read_given_pool(&top)?;
     let underlay = read_underlay(alloc, &top.subtable("underlay")?)?;
     let tables = top.required_items("port", 16)?;
     let ports = read_rows(alloc, &PortRow, "port", tables)?;
-    let segments = read_segments(alloc, underlay.own(), ports.len() as u8, &top)?;
+    let segments = read_segments(alloc, version, underlay.own(), ports.len() as u8, &top)?;
     let pool = pool_for(given, segments.as_slice())?;
     Ok(Parts {
         underlay,
@@ -105,7 +121,7 @@ fn read_parts(alloc: Global, table: &Table) -> Result<Parts, SettingsFault>
 }
 
 /// The settings that a document's table means.
-fn read_settings(alloc: Global, table: &Table) -> Result<Settings, SettingsFault>
+pub(crate) fn read_settings(alloc: Global, table: &Table) -> Result<Settings, SettingsFault>
     ensures { Gives result (settings_of (table_view table.now)) }
 {
     let parts = read_parts(alloc, table)?;
@@ -117,8 +133,7 @@ fn read_settings(alloc: Global, table: &Table) -> Result<Settings, SettingsFault
 /// before those that it has, and last `OverLimit` for the sum of the limits, then for a pool that is given and is less.
 /// `OutOfMemory`: memory was refused.
 pub fn settings_of(alloc: Global, text: &[u8]) -> Result<Settings, SettingsFault>
-    ensures document { IsUtf8 text.now → Gives result (settings_in text.now) }
-    ensures not_text { (IsUtf8 text.now → ⊥) → Gives result (Err NotToml) }
+    ensures { Gives result (settings_in text.now) }
 {
     read_settings(alloc, &read_document(alloc, text)?)
 }

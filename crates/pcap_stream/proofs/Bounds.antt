@@ -31,6 +31,7 @@ pub short_header : (style : Style) (old new : Supply) (octets : List ℕ) → le
 short_header style old new octets long (inl failed) = inl failed
 short_header style old new octets long (inr out) = inr (record {
   quiet = out.quiet;
+  no_end = out.no_end;
   none_left = out.none_left;
   taken = out.taken;
   consumed = out.consumed;
@@ -46,11 +47,12 @@ unfinished_octets style octets taken header long is short =
     subst IsUnfinished (sym (next_of-cut style (octets ++ taken) header (omega arith) (ap (readable style) (record_header_in-front style.order octets taken long) ∙ is) (omega arith))) tt
 
 pub short_octets : (style : Style) (old mid new : Supply) (octets part : List ℕ) (n : ℕ) (header : RecordHeader) → length octets ≡ 16 → 16 ≤ n
-    → Consumes old.rest mid.rest (take n octets) → old.reads ≤ mid.reads + 16 → mid.failures ≡ old.failures → Ok header ≡ readable style (record_header_in style.order octets)
+    → Consumes old.rest mid.rest (take n octets) → old.reads ≤ mid.reads + 16 → mid.failures ≡ old.failures → mid.ends ≡ old.ends → Ok header ≡ readable style (record_header_in style.order octets)
     → length part ≡ header.captured → StopsShort (λ taken. length taken < length part) mid new → StopsShort (IsShortRecord style) old new
-short_octets style old mid new octets part n header long full taken few quiet is size (inl failed) = inl (omega (arith, failed, quiet))
-short_octets style old mid new octets part n header long full taken few quiet is size (inr out) = inr (record {
+short_octets style old mid new octets part n header long full taken few quiet no_end is size (inl failed) = inl (omega (arith, failed, quiet))
+short_octets style old mid new octets part n header long full taken few quiet no_end is size (inr out) = inr (record {
   quiet = out.quiet ∙ quiet;
+  no_end = out.no_end ∙ no_end;
   none_left = out.none_left;
   taken = octets ++ out.taken;
   consumed = Consumes-trans old.rest mid.rest new.rest octets out.taken (subst (Consumes old.rest mid.rest) (take_all n octets (omega arith)) taken) out.consumed;

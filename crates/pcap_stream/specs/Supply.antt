@@ -3,12 +3,13 @@ use Rattle.std.specs.Prelude.{◌≡◌, ◌⊎◌, ◌≤◌, ℕ, ◌+◌, ◌
 use Rattle.std.specs.Io.KnownBytes.{Consumes}
 use Rattle.pcap_stream.specs.Counts.{GoesOnBy}
 
--- the octets that the input has left, where it tells them, its counts of reads and of failures, and how many reads may
--- still be made of it
+-- the octets that the input has left, where it tells them, its counts of reads and of failures, how many of the reads
+-- found the end, and how many may still be made
 pub record Supply : Type 0 where
   pub rest : Option (List ℕ)
   pub calls : ℕ
   pub failures : ℕ
+  pub ends : ℕ
   pub reads : ℕ
 
 -- as many reads were made of the input as there are fewer left
@@ -20,9 +21,11 @@ pub record Spends (old new : Supply) : Type 0 where
 abbrev pub GivesUp : Supply → Supply → Type 0
 GivesUp old new = GoesOnBy 1 old.failures new.failures ⊎ ((new.failures ≡ old.failures) × (new.reads ≡ 0))
 
--- no read failed and none is left: those that were made took some octets, at least one each, and these are too few
+-- no read failed or found the end, and none is left: those that were made took some octets, at least one each, and
+-- these are too few
 pub record RunsOut (IsShort : List ℕ → Type 0) (old new : Supply) : Type 0 where
   pub quiet : new.failures ≡ old.failures
+  pub no_end : new.ends ≡ old.ends
   pub none_left : new.reads ≡ 0
   pub taken : List ℕ
   pub consumed : Consumes old.rest new.rest taken

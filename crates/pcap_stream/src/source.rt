@@ -48,6 +48,7 @@ impl<R: Input> Source<R> {
             rest = R.remaining input;
             calls = R.calls input;
             failures = R.failures input;
+            ends = 0;
             reads = reads;
           };
         }) }
@@ -126,6 +127,15 @@ impl<R: Input> Source<R> {
             }),
             _ => None,
         }
+    }
+
+    /// The input, as the reads so far left it.
+    pub fn input(&self) -> &R
+        ensures rest { R.remaining result.now ≡ self.now.supply.rest }
+        ensures calls { R.calls result.now ≡ self.now.supply.calls }
+        ensures failures { R.failures result.now ≡ self.now.supply.failures }
+    {
+        self.supply.input()
     }
 
     /// Whether the end came with a rest before it that is no whole record, which is left out.

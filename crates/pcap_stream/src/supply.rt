@@ -1,5 +1,5 @@
 //! An input of which only so many reads may be made.
-ghost use Rattle.std.specs.Prelude.{◌≡◌, ◌<◌, ◌≤◌, ◌⊎◌, ◌+◌, drop, take, length, IfOk, OnErr, OnOk};
+ghost use Rattle.std.specs.Prelude.{◌≡◌, ◌≢◌, ◌<◌, ◌≤◌, ◌⊎◌, ◌+◌, drop, take, length, IfOk, OnErr, OnOk};
 ghost use Rattle.std.specs.Io.{ReadsAtMost};
 ghost use Rattle.std.specs.Io.KnownBytes.{Consumes, IsAtEnd, Keeps};
 ghost use Rattle.pcap_stream.specs.Counts.{GoesOnBy};
@@ -8,13 +8,16 @@ ghost use Rattle.pcap_stream.specs.Supply.{GivesUp, IsThrifty, Spends, StopsShor
 use crate::device::DeviceFault;
 use crate::input::Input;
 use std::marker::Model;
+use work_count::Count;
 
 /// An input, and how many reads may still be made of it.
 ///
-/// Contracts see the octets that the input has left, its counts, and the reads.
+/// Contracts see the octets that the input has left, its counts, how many reads found the end, and the reads.
 #[derive(Drop)]
 pub struct Supply<R: Input> {
     input: R,
+    /// The reads that found the end.
+    ends: Count,
     reads: u64,
 }
 
@@ -27,6 +30,7 @@ impl<R: Input> Model for Supply<R> {
       rest = R.remaining s.input;
       calls = R.calls s.input;
       failures = R.failures s.input;
+      ends = s.ends.total;
       reads = s.reads;
     } };
 }
@@ -37,19 +41,36 @@ impl<R: Input> Supply<R> {
           rest = R.remaining input;
           calls = R.calls input;
           failures = R.failures input;
+          ends = 0;
           reads = reads;
         } }
     {
-        Supply { input, reads }
+        Supply {
+            input,
+            ends: Count::zero(),
+            reads,
+        }
     }
 
-    /// One read, into what is behind the first `at` octets. Here alone the number of reads goes down.
+    /// The input.
+    pub fn input(&self) -> &R
+        ensures rest { R.remaining result.now ≡ self.now.rest }
+        ensures calls { R.calls result.now ≡ self.now.calls }
+        ensures failures { R.failures result.now ≡ self.now.failures }
+    {
+        &self.input
+    }
+
+    /// One read, into what is behind the first `at` octets. Here alone the number of reads goes down and the end is met.
     fn read_behind(&mut self, octets: &mut [u8], at: usize) -> Result<usize, DeviceFault>
         requires { at < length octets.old }
         ensures front { take at octets.new ≡ take at octets.old }
         ensures fits { IfOk result (λ n. at + n ≤ length octets.new) }
         ensures taken { IfOk result (λ n. Consumes self.old.rest self.new.rest (take n (drop at octets.new))) }
         ensures end { IfOk result (λ n. n ≡ 0 → IsAtEnd self.new.rest) }
+        ensures ends { IfOk result (λ n. n ≡ 0 → self.new.ends ≡ self.old.ends + 1) }
+        ensures no_end { IfOk result (λ n. n ≢ 0 → self.new.ends ≡ self.old.ends) }
+        ensures kept { OnErr result (self.new.ends ≡ self.old.ends) }
         ensures none { OnErr result (Keeps self.old.rest self.new.rest) }
         ensures spent { Spends self.old self.new }
         ensures one { self.old.reads ≤ self.new.reads + 1 }
@@ -62,7 +83,11 @@ impl<R: Input> Supply<R> {
             return Err(DeviceFault);
         }
         self.reads -= 1;
-        self.input.read(&mut octets[at..])
+        let n = self.input.read(&mut octets[at..])?;
+        if n == 0 {
+            self.ends.tick();
+        }
+        Ok(n)
     }
 
     /// Fills `octets` from the front as far as the input goes, and says how far.
@@ -74,6 +99,7 @@ impl<R: Input> Supply<R> {
         ensures fewer { OnOk result (0 < length octets.new → self.new.reads < self.old.reads) }
         ensures part { IfOk result (λ n. self.old.reads ≤ self.new.reads + n + 1) }
         ensures whole { IfOk result (λ n. length octets.new ≤ n → self.old.reads ≤ self.new.reads + n) }
+        ensures no_end { IfOk result (λ n. length octets.new ≤ n → self.new.ends ≡ self.old.ends) }
         ensures thrift { OnErr result (IsThrifty self.old self.new) }
         ensures quiet { OnOk result (self.new.failures ≡ self.old.failures) }
         ensures gives_up { OnErr result (GivesUp self.old self.new) }

@@ -1,5 +1,5 @@
 -- A block's text is read as the block.
-use Rattle.std.proofs.Common.{◌≡◌, ◌≢◌, ◌∙◌, refl, sym, ap, subst, ℕ, ◌+◌, ◌-◌, ◌%◌, ◌/◌, ◌*◌, ◌^◌, ◌<◌, ◌≤◌, Bool, true, false, List, [], ◌∷◌, ◌++◌, length, take, drop, arith, append_assoc, inl, inr, length-append, length-drop, length-take, Option, None, Some}
+use Rattle.std.proofs.Common.{◌≡◌, ◌≢◌, ◌∙◌, refl, sym, ap, subst, ℕ, ◌+◌, ◌-◌, ◌%◌, ◌^◌, ◌<◌, ◌≤◌, Bool, true, false, List, [], ◌∷◌, ◌++◌, length, take, drop, arith, append_assoc, inl, inr, length-append, length-drop, length-take, Option, None, Some}
 use Rattle.std.specs.List.{find}
 use Rattle.std.specs.Prelude.{◌==◌, ◌&&◌, ◌||◌, IsTrue, MatchBool, nat_lt, not, if◌then◌else◌}
 use Rattle.std.proofs.lemmas.Bool.{cases_lt, le-ltb, ltb-false, ne_eqb, eqb-true, eqb-false, eq-eqb}
@@ -12,7 +12,7 @@ use Rattle.pcap_io.proofs.Numbers.{length-octets_of, number_of-fits, number_of-o
 use Rattle.pcap_io.specs.Style.{number_of, octets_of}
 use Rattle.pcap_io.specs.declared.style.Order.{Order}
 use Rattle.pcap_io.specs.declared.style.Order.TheVariants.{Big, Little}
-use Rattle.pcapng_input.specs.Block.{AnotherBlock, Block, CutShort, NextBlock, NoBlock, Refused, block_at, block_by_length, block_by_order, byte_order_magic, end_by_size, is_no_length, is_read, is_section, longest_block, next_block, order_at, section_header, told_order}
+use Rattle.pcapng_input.specs.Block.{AnotherBlock, Block, CutShort, NoBlock, Refused, block_at, block_by_length, block_by_order, byte_order_magic, end_by_size, is_no_length, is_read, is_section, longest_block, next_block, order_at, section_header, told_order}
 use Rattle.pcapng_input.specs.BlockText.{BeginsWithMagic, IsBlockText, block_text}
 use Rattle.pcapng_input.specs.declared.fault.BlockFault.TheVariants.{BadLength, TooLarge}
 

@@ -1,7 +1,14 @@
 pub mod BlockTexts
+pub mod Giving
+pub mod Grown
+pub mod Leading
+pub mod Leads
 pub mod Limits
+pub mod Opening
 pub mod OptionLists
+pub mod Passing
 pub mod Powers
 pub mod Readings
+pub mod Settling
 pub mod Told
 pub mod Written

@@ -1,3 +1,5 @@
+pub mod Adapted
+pub mod Adapter
 pub mod Block
 pub mod BlockText
 pub mod Classic
@@ -9,3 +11,4 @@ pub mod Options
 pub mod Packet
 pub mod Reading
 pub mod Seen
+pub mod State

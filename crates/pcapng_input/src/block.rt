@@ -28,10 +28,10 @@ pub const ENHANCED_PACKET: u32 = 6;
 const BYTE_ORDER_MAGIC: u32 = 0x1A2B_3C4D;
 
 /// The octets of a block with an empty body.
-const EMPTY_BLOCK: usize = 12;
+pub const EMPTY_BLOCK: usize = 12;
 
 /// The octets of a block that is read at most.
-const LONGEST_BLOCK: usize = 327_680;
+pub const LONGEST_BLOCK: usize = 327_680;
 
 /// A block.
 #[derive(Drop)]
@@ -91,7 +91,7 @@ fn told_order(text: &[u8]) -> Option<Order>
 }
 
 /// The byte order of the block that a text begins with.
-fn order_at(section: Option<Order>, text: &[u8]) -> Option<Order>
+pub fn order_at(section: Option<Order>, text: &[u8]) -> Option<Order>
     requires { 12 ≤ length text.now }
     ensures { result ≡ order_at section text.now }
 {

@@ -16,7 +16,7 @@ use std::alloc::{AllocError, Global};
 const SECOND: u64 = 1_000_000_000;
 
 /// What stands before the octets of a record, by its moment, how many octets it has, and how many the frame had.
-fn record_head(moment: u64, captured: u32, original: u32) -> [u8; RECORD_HEADER_LENGTH]
+pub fn record_head(moment: u64, captured: u32, original: u32) -> [u8; RECORD_HEADER_LENGTH]
     requires { moment ≤ last_moment }
     ensures { result ≡ record_header_of moment captured original }
 {

@@ -1,6 +1,7 @@
 //! What is known in front of a block.
 ghost use Rattle.std.specs.Prelude.{◌≡◌, ◌≤◌, ◌<◌, ◌+◌, ◌^◌, length, IfOk, IfErr, IfSome, OnErr, OnOk, Ok};
 ghost use Rattle.pcap_io.specs.Record.{IsWithinLimits};
+ghost use Rattle.pcapng_input.specs.Adapted.{behind_other};
 ghost use Rattle.pcapng_input.specs.Context.{IsStepError};
 ghost use Rattle.pcapng_input.specs.Reading.{block_fault_at, start, step_of};
 
@@ -74,6 +75,16 @@ impl Context {
             block: self.blocks + 1,
             offset: self.offset,
         }
+    }
+
+    /// Goes on behind a block of so many octets that says nothing.
+    pub fn skip(&mut self, size: u64)
+        requires blocks { self.old.blocks + 1 < 2 ^ 64 }
+        requires offset { self.old.offset + size < 2 ^ 64 }
+        ensures { self.new ≡ behind_other self.old size }
+    {
+        self.blocks += 1;
+        self.offset += size;
     }
 
     /// Goes on behind a block, and answers its packet as a record, if it has one that is selected. After an error

@@ -1,4 +1,5 @@
 //! Laws over the definitions.
+ghost use Rattle.pcapng_input.specs.Adapted.{TellsOtherTexts, TellsTheClassicText};
 ghost use Rattle.pcapng_input.specs.BlockText.{FindsBlockTexts, ReadsBlockTexts};
 ghost use Rattle.pcapng_input.specs.Classic.{TellsThePackets};
 
@@ -13,4 +14,11 @@ pub fn block_texts()
 /// text ends within a block.
 pub fn all_packets()
     ensures { TellsThePackets }
+{}
+
+/// What an input of a capture tells of a text that it reads as pcapng is the text's classic capture, or its first fault,
+/// and of any other the text.
+pub fn told_texts()
+    ensures pcapng { TellsTheClassicText }
+    ensures others { TellsOtherTexts }
 {}

@@ -7,10 +7,13 @@
 //! opened here.
 #![tactic(auto)]
 
+mod adapter;
 mod block;
+mod capture_input;
 mod classic;
 mod context;
 mod fault;
+mod gathered;
 mod interface;
 pub mod laws;
 mod meaning;
@@ -18,8 +21,13 @@ mod moment;
 mod number;
 mod option;
 mod packet;
+mod reading;
+mod ready;
+mod settle;
+mod state;
 
 pub use block::is_pcapng;
+pub use capture_input::CaptureInput;
 pub use classic::classic_of;
 pub use fault::{BlockFault, PcapngError, PcapngFault};
 pub use interface::Selection;

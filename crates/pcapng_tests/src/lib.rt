@@ -9,4 +9,6 @@ mod classic_tests;
 #[cfg(test)]
 mod fault_tests;
 #[cfg(test)]
+mod input_tests;
+#[cfg(test)]
 mod texts;

@@ -20,3 +20,5 @@ mod sending_rows;
 mod standing_rows;
 #[cfg(test)]
 mod transcript;
+#[cfg(test)]
+mod two_tunnel_rows;

@@ -1,4 +1,5 @@
 //! Runs told line by line.
+use crate::two_tunnel_rows::TWO_TUNNELS;
 use capture_run::{Outputs, RunFault, run_bytes};
 use std::alloc::{AllocError, Global};
 use std::process::Abort;
@@ -7,7 +8,8 @@ use test_inputs::Captures;
 use test_inputs::settings::{BRIDGE, ENDPOINT, PEER};
 
 /// A run told line by line:
-/// - `A`, `B` and `L` stand for the settings of an endpoint, of its peer, and of a learning bridge alone;
+/// - `A`, `B` and `L` stand for the settings of an endpoint, of its peer, and of a learning bridge alone; `A2` for those of
+///   the endpoint in version 2, one of its segments with two tunnels;
 /// - `~ OLD => NEW` puts NEW for OLD in the settings, a `;` in either being the end of a line;
 /// - `c KEYS` is a change, with commas between its keys;
 /// - `MOMENT TAP LENGTH OCTETS` is a record that comes, and `= TAP OCTETS` a whole capture;
@@ -64,6 +66,7 @@ impl Transcript {
     fn choose(&mut self, alloc: Global, name: &str) -> Result<(), Fail> {
         let settings = match name {
             "A" => ENDPOINT,
+            "A2" => TWO_TUNNELS,
             "B" => PEER,
             "L" => BRIDGE,
             _ => return Err(Fail::new("no such settings")),

@@ -1,6 +1,6 @@
 //! Command lines of every kind.
 use clap::error::ErrorKind;
-use command_line::{LineFault, line_of};
+use command_line::{CaptureName, LineFault, capture_name, line_of};
 use std::alloc::Global;
 use std::test::Fail;
 
@@ -12,7 +12,7 @@ fn told<'a>(alloc: Global, words: &'a [&'a str]) -> Result<String, Fail> {
 }
 
 /// Words, and the line that they ask for.
-const LINES: [(&[&str], &str); 8] = [
+const LINES: [(&[&str], &str); 9] = [
     (&["tep"], "Sample"),
     (
         &[
@@ -51,6 +51,10 @@ const LINES: [(&[&str], &str); 8] = [
     (
         &["tep", "explain", "-d", "1", "-", "-s", "s"],
         "Explain { settings: \"s\", depth: 1, capture: \"-\" }",
+    ),
+    (
+        &["tep", "migrate", "-s", "s"],
+        "Migrate { settings: \"s\" }",
     ),
 ];
 
@@ -93,6 +97,10 @@ fn other_words_are_refused_for_their_kind(rt: HostRuntime) {
         "no such option"
     );
     assert!(rt;
+        kind(alloc, &["tep", "migrate"]) == Some(ErrorKind::MissingRequiredArgument),
+        "settings of no file"
+    );
+    assert!(rt;
         kind(alloc, &["tep", "--help"]) == Some(ErrorKind::DisplayHelp),
         "help"
     );
@@ -106,7 +114,7 @@ fn other_words_are_refused_for_their_kind(rt: HostRuntime) {
             "{words:?}"
         );
     }
-    for command in ["run", "check", "explain"] {
+    for command in ["run", "check", "explain", "migrate"] {
         assert!(rt;
             kind(alloc, &["tep", command, "--version"]) == Some(ErrorKind::DisplayVersion),
             "the version, asked of {command}"
@@ -136,14 +144,33 @@ fn an_empty_name_is_refused(rt: HostRuntime) {
 #[test]
 fn standard_input_is_one_capture_at_most(rt: HostRuntime) {
     let alloc = rt.alloc();
-    let lines: [&[&str]; 2] = [
+    let lines: [&[&str]; 3] = [
         &["tep", "run", "-s=s", "-u", "-", "-o=d", "-"],
         &["tep", "run", "-s=s", "-u=u", "-o=d", "-", "p2", "-"],
+        &["tep", "run", "-s=s", "-u=-#eth1", "-o=d", "-"],
     ];
     for words in &lines {
         assert!(rt;
             matches!(line_of(alloc, words), Err(LineFault::InputTwice)),
             "{words:?}"
         );
+    }
+}
+
+/// The names that docs/OPERATING.md takes apart.
+#[test]
+fn the_name_of_a_capture_is_a_file_and_an_interface(rt: HostRuntime) {
+    let names = [
+        ("all.pcapng", "all.pcapng", None),
+        ("all.pcapng#eth1", "all.pcapng", Some("eth1")),
+        ("12:30.pcapng#0", "12:30.pcapng", Some("0")),
+        ("-#eth1", "-", Some("eth1")),
+        ("a#b.pcap#", "a#b.pcap", None),
+        ("a#b.pcapng#1", "a#b.pcapng", Some("1")),
+    ];
+    for (name, wanted_file, wanted_interface) in names {
+        let CaptureName { file, interface } = capture_name(name);
+        assert_eq!(rt; file, wanted_file, "{name}");
+        assert_eq!(rt; interface, wanted_interface, "{name}");
     }
 }

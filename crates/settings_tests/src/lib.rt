@@ -11,6 +11,8 @@ mod change_tests;
 #[cfg(test)]
 mod config_text_tests;
 #[cfg(test)]
+mod migrate_tests;
+#[cfg(test)]
 mod segment_change_cases;
 #[cfg(test)]
 mod settings_cases;
@@ -20,3 +22,7 @@ mod settings_line_cases;
 mod settings_meanings;
 #[cfg(test)]
 mod settings_tests;
+#[cfg(test)]
+mod two_tunnel_cases;
+#[cfg(test)]
+mod two_tunnel_tests;

@@ -20,6 +20,30 @@ learn = false
 peers = "listed"
 tags = "pass"
 [[change]]
+kind = "add_segment"
+at = 2
+vid = 31
+vni = 0
+tunnel = "vxlan"
+group = 255
+[[change]]
+kind = "add_segment"
+at = 2
+vid = 32
+vni = 5000
+tunnel = "vxlan"
+vni2 = 9000
+[[change]]
+kind = "add_segment"
+at = 2
+vid = 33
+vni = 9000
+tunnel = "geneve"
+group = 1
+vni2 = 9000
+group2 = 2
+limit = 1
+[[change]]
 kind = "set_limit"
 at = 3
 vid = 30
@@ -34,13 +58,16 @@ vid = 30
 pub(crate) const SEGMENT_MEANINGS: &str =
     r#"1: AddSegment(NewSegment { vid: Vid { number: 30 }, tunnels: Tunnels { first: SegmentTunnel { kind: Geneve, vni: Vni { number: 7000 }, group: 0 }, second: None }, limit: 256, ageing: 300, learning: true, peers: Any, tags: Drop })
 2: AddSegment(NewSegment { vid: Vid { number: 4094 }, tunnels: Tunnels { first: SegmentTunnel { kind: Vxlan, vni: Vni { number: 16777215 }, group: 0 }, second: None }, limit: 0, ageing: 4294967295, learning: false, peers: Listed, tags: Pass })
+2: AddSegment(NewSegment { vid: Vid { number: 31 }, tunnels: Tunnels { first: SegmentTunnel { kind: Vxlan, vni: Vni { number: 0 }, group: 255 }, second: None }, limit: 256, ageing: 300, learning: true, peers: Any, tags: Drop })
+2: AddSegment(NewSegment { vid: Vid { number: 32 }, tunnels: Tunnels { first: SegmentTunnel { kind: Vxlan, vni: Vni { number: 5000 }, group: 0 }, second: Some(SegmentTunnel { kind: Geneve, vni: Vni { number: 9000 }, group: 0 }) }, limit: 256, ageing: 300, learning: true, peers: Any, tags: Drop })
+2: AddSegment(NewSegment { vid: Vid { number: 33 }, tunnels: Tunnels { first: SegmentTunnel { kind: Geneve, vni: Vni { number: 9000 }, group: 1 }, second: Some(SegmentTunnel { kind: Vxlan, vni: Vni { number: 9000 }, group: 2 }) }, limit: 1, ageing: 300, learning: true, peers: Any, tags: Drop })
 3: SetLimit { vid: Vid { number: 30 }, limit: 4294967295 }
 4: RemoveSegment { vid: Vid { number: 30 } }
 "#;
 
 /// The keys of one change of the kind `add_segment`, and the fault that they are; where there are two, the first in the
 /// order of the keys.
-pub(crate) const ADDED: [(&str, &str); 18] = [
+pub(crate) const ADDED: [(&str, &str); 28] = [
     (
         "vid = 1\nvni = 1\ntunnel = \"vxlan\"",
         "Missing change.1.at",
@@ -56,6 +83,46 @@ pub(crate) const ADDED: [(&str, &str); 18] = [
     (
         "at = 0\nvid = 1\nvni = 0\ntunnel = \"gre\"\nlimit = -1",
         "BadValue change.1.tunnel",
+    ),
+    (
+        "at = 0\nvid = 1\nvni = 0\ntunnel = \"gre\"\ngroup = -1",
+        "BadValue change.1.tunnel",
+    ),
+    (
+        "at = 0\nvid = 1\nvni = 0\ntunnel = \"vxlan\"\ngroup = 256\nvni2 = -1",
+        "BadValue change.1.group",
+    ),
+    (
+        "at = 0\nvid = 1\nvni = 0\ntunnel = \"vxlan\"\nvni2 = 16777216\ngroup2 = -1",
+        "BadValue change.1.vni2",
+    ),
+    (
+        "at = 0\nvid = 1\nvni = 0\ntunnel = \"vxlan\"\nvni2 = 0\ngroup2 = 256\nlimit = -1",
+        "BadValue change.1.group2",
+    ),
+    (
+        "at = 0\nvid = 1\nvni = 0\ntunnel = \"vxlan\"\ngroup2 = 0",
+        "BadValue change.1.group2",
+    ),
+    (
+        "at = 0\nvid = 1\nvni = 0\ntunnel = \"vxlan\"\ngroup2 = \"two\"\nlimit = -1",
+        "BadValue change.1.group2",
+    ),
+    (
+        "at = 0\nvid = 1\nvni = 0\ntunnel = \"vxlan\"\nvni2 = 0\nlimit = -1",
+        "BadValue change.1.limit",
+    ),
+    (
+        "at = 0\nvid = 1\nvni = 0\ntunnel = \"vxlan\"\nvni2 = 0\ntunnel2 = \"geneve\"",
+        "BadValue change.1.*",
+    ),
+    (
+        "at = 0\nvid = 1\nvni = 7\ntunnel = \"vxlan\"\nvni2 = 7",
+        "ok",
+    ),
+    (
+        "at = 0\nvid = 1\nvni = 0\ntunnel = \"geneve\"\ngroup = 0\nvni2 = 16777215\ngroup2 = 255",
+        "ok",
     ),
     (
         "at = 0\nvid = 1\nvni = 0\ntunnel = \"vxlan\"\nlimit = 4294967296\nageing = -1",

@@ -148,7 +148,7 @@ pub(crate) const WHOLE: [(&str, &str); 6] = [
     ("", "Missing version"),
     ("version = 1\n", "Missing underlay.mac"),
     ("version = 1\nunderlay = 1\n", "BadValue underlay"),
-    ("version = 2\nunderlay = 1\n", "BadValue version"),
+    ("version = 2\nunderlay = 1\n", "BadValue underlay"),
     ("version = 1\nversion = 1\n", "NotToml"),
     ("version", "NotToml"),
 ];

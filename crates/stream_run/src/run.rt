@@ -2,10 +2,7 @@
 ghost use Rattle.std.specs.Prelude.{◌≡◌, ◌≤◌, ℕ, List, All, Vec as AVec, length};
 ghost use Rattle.std.specs.declared.alloc.Global.{Global as AGlobal};
 ghost use Rattle.overlay_config.specs.Change.{changes_in};
-ghost use Rattle.overlay_config.specs.Fault.{Meaning};
-ghost use Rattle.overlay_config.specs.Settings.{Settings as Told, settings_in};
-ghost use Rattle.overlay_settings.specs.declared.change.TimedChange.{TimedChange as Timed};
-ghost use Rattle.capture_run.specs.Run.{Means};
+ghost use Rattle.overlay_config.specs.Settings.{settings_in};
 ghost use Rattle.stream_run.specs.Begun.{IsUnread};
 ghost use Rattle.stream_run.specs.Left.{Answers, Leaves, WritesWith, ends};
 ghost use Rattle.stream_run.specs.Over.{IsRunOver, LeavesOver, Tells};
@@ -47,13 +44,11 @@ pub fn run_streams<R: Input, W: Output>(
     requires sinks { length port_sinks.old ≡ length ports.old }
     requires new_ports { All IsUnread ports.old }
     requires new_underlay { IsUnread underlay.old }
-    ensures run { (s : Meaning Told) (c : Meaning (List Timed)) → Means settings_in settings.now s → Means changes_in changes.now c
-        → Answers s c
+    ensures run { Answers (settings_in settings.now) (changes_in changes.now)
         (ends ports.old underlay.old (drains port_sinks.old underlay_sink.old (W.written decisions.old) (W.failures decisions.old)))
         (ends ports.new underlay.new (drains port_sinks.new underlay_sink.new (W.written decisions.new) (W.failures decisions.new))) result }
-    ensures over { (s : Meaning Told) (c : Meaning (List Timed)) (texts : List (AVec ℕ AGlobal)) (text : List ℕ) → Means settings_in settings.now s → Means changes_in changes.now c
-        → Tells ports.old underlay.old texts text
-        → IsRunOver s c texts text
+    ensures over { (texts : List (AVec ℕ AGlobal)) (text : List ℕ) → Tells ports.old underlay.old texts text
+        → IsRunOver (settings_in settings.now) (changes_in changes.now) texts text
         (drains port_sinks.old underlay_sink.old (W.written decisions.old) (W.failures decisions.old))
         (drains port_sinks.new underlay_sink.new (W.written decisions.new) (W.failures decisions.new)) result }
     ensures reads { ReadsWith ports.old underlay.old ports.new underlay.new result }

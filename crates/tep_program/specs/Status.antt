@@ -11,6 +11,7 @@ use Rattle.tep_program.specs.declared.stop.Stop.TheVariants as stop
 -- 1 for a text or a capture that is refused, 3 for want of memory, a failed read or a failed write
 abbrev pub status_of : Stop → ℕ
 status_of (stop.Run fault) = run.status_of fault
+status_of (stop.Pcapng tap fault) = 1
 status_of (stop.Read name) = 3
 status_of (stop.Write output) = 3
 

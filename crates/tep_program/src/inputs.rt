@@ -3,12 +3,14 @@ ghost use Rattle.std.specs.Prelude.{◌≡◌, All, IfOk, length};
 ghost use Rattle.pcap_stream.specs.Source.{New, Stream};
 
 use crate::stop::Stop;
-use dissector::{STANDARD_INPUT, read_text};
+use dissector::{STANDARD_INPUT, capture_name, read_text};
 use pcap_stream::{Source, StdInput};
+use pcapng_input::{CaptureInput, Selection};
 use std::alloc::AllocError;
 use std::fs;
 use std::io::{self, BufReader, Input, Read};
 use std::rt::Files;
+use timeline::Tap;
 
 /// How many octets of a capture are read at once.
 const BLOCK: usize = 65_536;
@@ -34,20 +36,49 @@ impl<F: Read + Drop, I: Read + Drop> Read for Device<F, I> {
     }
 }
 
-/// A capture, which is read in blocks.
-pub type Capture<F, I> = Source<StdInput<BufReader<Device<F, I>>>>;
+/// What a capture tells as classic pcap, and is read in blocks.
+pub type ClassicInput<'a, F, I> = CaptureInput<'a, StdInput<BufReader<Device<F, I>>>>;
+
+/// The records of a capture.
+pub type Capture<'a, F, I> = Source<ClassicInput<'a, F, I>>;
+
+/// The interfaces that the words ask for: one by its number or by its name, or all.
+fn selection_of(interface: Option<&str>) -> Selection<'_> {
+    let Some(interface) = interface else {
+        return Selection::All;
+    };
+    match interface.parse::<u32>() {
+        Ok(number) => Selection::Number(number),
+        Err(_) => Selection::Name(interface.as_bytes()),
+    }
+}
 
 /// Opens what a capture's name stands for: a file, or standard input. Nothing of it is read yet.
-fn open_named<'a, R: Files + Input>(
+fn open_named<'a, R: Files + Input + AllocGlobal>(
     rt: &R,
     name: &'a str,
-) -> Result<Device<R::File, R::Reader>, Stop<'a>> {
-    if name == STANDARD_INPUT {
-        return Ok(Device::Standard(rt.reader()));
-    }
-    match fs::open(rt, name) {
-        Ok(file) => Ok(Device::File(file)),
-        Err(_) => Err(Stop::Read(name)),
+) -> Result<ClassicInput<'a, R::File, R::Reader>, Stop<'a>> {
+    let asked = capture_name(name);
+    let device = if asked.file == STANDARD_INPUT {
+        Device::Standard(rt.reader())
+    } else {
+        match fs::open(rt, asked.file) {
+            Ok(file) => Device::File(file),
+            Err(_) => return Err(Stop::Read(name)),
+        }
+    };
+    let Ok(reader) = BufReader::with_capacity(rt.alloc(), BLOCK, device) else {
+        return Err(Stop::from(AllocError));
+    };
+    let input = StdInput::new(reader);
+    match CaptureInput::new(
+        rt.alloc(),
+        input,
+        selection_of(asked.interface),
+        CAPTURE_READS,
+    ) {
+        Ok(input) => Ok(input),
+        Err(error) => Err(Stop::from(error)),
     }
 }
 
@@ -72,32 +103,36 @@ pub fn read_if_given<'a, R: Files + AllocGlobal>(
     }
 }
 
-/// The whole of a capture.
-pub fn read_capture<'a, R: Files + Input + AllocGlobal>(
+/// The whole of the underlay's capture, as classic pcap.
+pub fn read_underlay<'a, R: Files + Input + AllocGlobal>(
     rt: &R,
     name: &'a str,
 ) -> Result<Vec<u8>, Stop<'a>> {
-    let device = open_named(rt, name)?;
-    read_text(rt.alloc(), &mut StdInput::new(device), TEXT_READS).map_err(|fault| Stop::reading(
-        name, fault,
-    ))
+    let mut input = match open_named(rt, name) {
+        Ok(input) => input,
+        Err(stop) => return Err(stop),
+    };
+    match read_text(rt.alloc(), &mut input, TEXT_READS) {
+        Ok(text) => Ok(text),
+        Err(fault) => match input.fault() {
+            Some(fault) => Err(Stop::Pcapng(Tap::Underlay, fault)),
+            None => Err(Stop::reading(name, fault)),
+        },
+    }
 }
 
 /// Opens a capture. Nothing of it is read yet.
 pub fn open_capture<'a, R: Files + Input + AllocGlobal>(
     rt: &R,
     name: &'a str,
-) -> Result<Capture<R::File, R::Reader>, Stop<'a>>
+) -> Result<Capture<'a, R::File, R::Reader>, Stop<'a>>
     ensures { IfOk result (λ (capture : Stream). capture.standing ≡ New) }
 {
-    let device = match open_named(rt, name) {
-        Ok(device) => device,
+    let input = match open_named(rt, name) {
+        Ok(input) => input,
         Err(stop) => return Err(stop),
     };
-    let Ok(reader) = BufReader::with_capacity(rt.alloc(), BLOCK, device) else {
-        return Err(Stop::from(AllocError));
-    };
-    match Source::new(rt.alloc(), StdInput::new(reader), CAPTURE_READS) {
+    match Source::new(rt.alloc(), input, CAPTURE_READS) {
         Ok(capture) => Ok(capture),
         Err(error) => Err(Stop::from(error)),
     }
@@ -107,7 +142,7 @@ pub fn open_capture<'a, R: Files + Input + AllocGlobal>(
 pub fn open_captures<'a, R: Files + Input + AllocGlobal>(
     rt: &R,
     names: &[&'a str],
-) -> Result<Vec<Capture<R::File, R::Reader>>, Stop<'a>>
+) -> Result<Vec<Capture<'a, R::File, R::Reader>>, Stop<'a>>
     ensures count { IfOk result (λ captures. length captures.items ≡ length names.now) }
     ensures fresh { IfOk result (λ captures. All (λ (capture : Stream). capture.standing ≡ New) captures.items) }
 {

@@ -1,5 +1,5 @@
 //! The names of what a run reads, and which files they are.
-use dissector::STANDARD_INPUT;
+use dissector::{STANDARD_INPUT, capture_name};
 use std::fs::{self, Metadata};
 use std::os::unix::fs::{FileTypeExt, MetadataExt};
 use std::path::Path;
@@ -58,10 +58,11 @@ impl<'a> Names<'_, 'a> {
 
 /// The file that a capture's name stands for.
 fn file_of(name: &str) -> &str {
-    if name == STANDARD_INPUT {
+    let file = capture_name(name).file;
+    if file == STANDARD_INPUT {
         STANDARD_INPUT_FILE
     } else {
-        name
+        file
     }
 }
 

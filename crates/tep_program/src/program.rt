@@ -4,13 +4,14 @@ ghost use Rattle.clap.specs.Walk.{texts};
 ghost use Rattle.command_line.specs.Meaning.{HasDepth};
 ghost use Rattle.tep_program.specs.Status.{IsStatusOf, status_of};
 
-use crate::inputs::{read_capture, read_file, read_if_given};
+use crate::inputs::{read_file, read_if_given, read_underlay};
 use crate::names::Names;
 use crate::runs::run_on_files;
 use crate::stop::{Output, Stop};
-use capture_run::RunFault;
+use capture_run::{RunFault, of_settings};
 use clap::error::ErrorKind as Refusal;
 use dissector::{Line, LineFault, check_text, explain_bytes, line_of, sample};
+use overlay_config::migrate;
 use std::alloc::{AllocError, Global};
 use std::env;
 use std::io::{self, ErrorKind, Input, Write};
@@ -115,6 +116,7 @@ fn perform<'a, R: Files + Input + AllocGlobal + Print>(
             depth,
             capture,
         } => explain(rt, *settings, *depth, *capture),
+        Line::Migrate { settings } => print_migrated(rt, *settings),
     }
 }
 
@@ -136,6 +138,18 @@ fn check<'a, R: Files + AllocGlobal + Print>(
     print_text(rt, line.as_slice())
 }
 
+/// Prints a settings text as one of version 2.
+fn print_migrated<'a, R: Files + AllocGlobal + Print>(
+    rt: &R,
+    settings: &'a str,
+) -> Result<(), Stop<'a>> {
+    let settings = read_file(rt, settings)?;
+    match migrate(rt.alloc(), settings.as_slice()) {
+        Ok(text) => print_text(rt, text.as_slice()),
+        Err(fault) => Err(Stop::Run(of_settings(fault))),
+    }
+}
+
 /// Prints how the packets of a capture are made up, and what is decided of them.
 fn explain<'a, R: Files + Input + AllocGlobal + Print>(
     rt: &R,
@@ -147,7 +161,7 @@ fn explain<'a, R: Files + Input + AllocGlobal + Print>(
     requires high { depth ≤ 4 }
 {
     let settings = read_file(rt, settings)?;
-    let capture = read_capture(rt, capture)?;
+    let capture = read_underlay(rt, capture)?;
     let text = explain_bytes(
         rt.alloc(),
         settings.as_slice(),

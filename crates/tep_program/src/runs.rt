@@ -1,14 +1,16 @@
 //! Runs over captures, in files and pipes.
-use crate::inputs::{open_capture, open_captures, read_file, read_if_given};
+use crate::inputs::{Capture, open_capture, open_captures, read_file, read_if_given};
 use crate::names::Names;
 use crate::outputs::{open_outputs, spare_inputs};
 use crate::stop::Stop;
 use capture_run::{RunFault, of_changes, of_settings};
 use overlay_config::{changes_of, settings_of};
+use pcapng_input::PcapngFault;
 use std::alloc::Global;
-use std::io::Input;
+use std::io::{Input, Read};
 use std::rt::Files;
-use stream_run::run_streams;
+use stream_run::{StreamFault, run_streams};
+use timeline::Tap;
 
 /// How many octets of an output are written at once, where no capture's next octets are waited for.
 const BLOCK: usize = 65_536;
@@ -60,7 +62,26 @@ pub fn run_on_files<'a, R: Files + Input + AllocGlobal>(
     let finished = outputs.finish();
     match run {
         Ok(()) => finished,
+        Err(StreamFault::Read(tap)) => match fault_of(tap, ports.as_slice(), &underlay) {
+            Some(fault) => Err(Stop::Pcapng(tap, fault)),
+            None => Err(Stop::Read(names.capture(tap))),
+        },
         Err(fault) => Err(Stop::running(names, fault)),
+    }
+}
+
+/// The fault of the pcapng capture at a tap, where it has met one.
+fn fault_of<F: Read + Drop, I: Read + Drop>(
+    tap: Tap,
+    ports: &[Capture<'_, F, I>],
+    underlay: &Capture<'_, F, I>,
+) -> Option<PcapngFault> {
+    match tap {
+        Tap::Underlay => underlay.input().fault(),
+        Tap::Port(number) => {
+            let index = usize::from(number).checked_sub(1)?;
+            ports.get(index)?.input().fault()
+        }
     }
 }
 

@@ -6,10 +6,12 @@ ghost use Rattle.tep_program.specs.Status.{status_of};
 use crate::names::Names;
 use capture_run::RunFault;
 use dissector::{TextFault, exit_code};
+use pcapng_input::PcapngFault;
 use std::alloc::AllocError;
 use std::fmt;
 use stream_run::{StreamFault, Target};
 use thiserror::Error;
+use timeline::Tap;
 
 /// Why the program gives up. It prints as one line on standard error.
 #[derive(Debug, Drop, Error)]
@@ -17,6 +19,9 @@ pub enum Stop<'a> {
     /// A text or a capture is refused, or memory was.
     #[error("{0}")]
     Run(#[from] RunFault),
+    /// A pcapng capture is refused.
+    #[error("{0}: {1}")]
+    Pcapng(Tap, PcapngFault),
     /// The file of this name, as it was given, couldn't be read.
     #[error("read {0}")]
     Read(&'a str),
@@ -82,6 +87,7 @@ impl<'a> Stop<'a> {
     {
         match self {
             Stop::Run(fault) => exit_code(fault),
+            Stop::Pcapng(..) => 1,
             Stop::Read(_) | Stop::Write(_) => 3,
         }
     }

@@ -9,59 +9,54 @@ use Rattle.endpoint_state.specs.Opened.{settings_told}
 use Rattle.capture_run.specs.Fault.{of_timeline}
 use Rattle.capture_run.specs.Outputs.{outputs}
 use Rattle.capture_run.specs.Run.{Gives, run, by_timeline}
-use Rattle.capture_run.proofs.Faults.{read_is, settings_fault, changes_fault, timeline_fault, port_count_fault, ports_counted}
+use Rattle.capture_run.proofs.Faults.{settings_fault, changes_fault, timeline_fault, port_count_fault, ports_counted}
 use Rattle.capture_run.proofs.run.run_bytes.Goals as goal
 
 pub returns-in-Err : goal.returns-in-Err
-returns-in-Err c s' c' means_s means_c =
-    subst (λ f. Gives (Err f) (run s' c' c.args.ports.now c.args.underlay.now)) (sym c.of_settings.ensures)
-    (settings_fault (λ (x : Settings). x) c.in-Err.fault s' c' c.args.ports.now c.args.underlay.now
-    (read_is (λ (x : Settings). x) (Err c.in-Err.fault) settings_in c.args.settings.now s' means_s c.in-Err.ensures.document c.in-Err.ensures.not_text))
+returns-in-Err c =
+    let s = settings_in c.args.settings.now in
+    let changes = changes_in c.args.changes.now in
+    subst (λ f. Gives (Err f) (run s changes c.args.ports.now c.args.underlay.now)) (sym c.of_settings.ensures)
+    (settings_fault (λ (x : Settings). x) c.in-Err.fault s changes c.args.ports.now c.args.underlay.now c.in-Err.ensures)
 
 pub returns-in-Err-changes_of : goal.returns-in-Err-changes_of
-returns-in-Err-changes_of c s' c' means_s means_c =
-    let settings = read_is (λ (x : Settings). x) (Ok c.in-Ok.settings) settings_in c.args.settings.now s' means_s c.in-Ok.ensures.document c.in-Ok.ensures.not_text in
-    subst (λ m. Gives (Err c.of_changes.result) (run m c' c.args.ports.now c.args.underlay.now)) (sym settings)
-    (subst (λ f. Gives (Err f) (run (Ok c.in-Ok.settings) c' c.args.ports.now c.args.underlay.now)) (sym c.of_changes.ensures)
-    (changes_fault (λ (v : Vec TimedChange Global). v.items) c.in-Err-changes_of.fault c.in-Ok.settings c' c.args.ports.now c.args.underlay.now
-    (read_is (λ (v : Vec TimedChange Global). v.items) (Err c.in-Err-changes_of.fault) changes_in c.args.changes.now c' means_c c.in-Err-changes_of.ensures.document c.in-Err-changes_of.ensures.not_text)))
+returns-in-Err-changes_of c =
+    let changes = changes_in c.args.changes.now in
+    subst (λ m. Gives (Err c.of_changes.result) (run m changes c.args.ports.now c.args.underlay.now)) (sym c.in-Ok.ensures)
+    (subst (λ f. Gives (Err f) (run (Ok c.in-Ok.settings) changes c.args.ports.now c.args.underlay.now)) (sym c.of_changes.ensures)
+    (changes_fault (λ (v : Vec TimedChange Global). v.items) c.in-Err-changes_of.fault c.in-Ok.settings changes c.args.ports.now c.args.underlay.now c.in-Err-changes_of.ensures.value))
 
 pub returns-then-ports : goal.returns-then-ports
-returns-then-ports c s' c' means_s means_c =
-    let settings = read_is (λ (x : Settings). x) (Ok c.in-Ok.settings) settings_in c.args.settings.now s' means_s c.in-Ok.ensures.document c.in-Ok.ensures.not_text in
-    let changes = read_is (λ (v : Vec TimedChange Global). v.items) (Ok c.in-Ok-changes_of.changes) changes_in c.args.changes.now c' means_c c.in-Ok-changes_of.ensures.document c.in-Ok-changes_of.ensures.not_text in
+returns-then-ports c =
     let apart : (length c.args.ports.now == length c.in-Ok.settings.ports) ≡ false = ne_eqb _ _ (λ e. c.if-ports.true (e ∙ sym (ap length c.ports.ensures.value))) in
-    ap (λ m. run m c' c.args.ports.now c.args.underlay.now) settings
-    ∙ ap (λ m. run (Ok c.in-Ok.settings) m c.args.ports.now c.args.underlay.now) changes
+    ap (λ m. run m (changes_in c.args.changes.now) c.args.ports.now c.args.underlay.now) c.in-Ok.ensures
+    ∙ ap (λ m. run (Ok c.in-Ok.settings) m c.args.ports.now c.args.underlay.now) c.in-Ok-changes_of.ensures.value
     ∙ port_count_fault c.in-Ok.settings c.in-Ok-changes_of.changes.items c.args.ports.now c.args.underlay.now apart
 
 pub returns-in-Err-read : goal.returns-in-Err-read
-returns-in-Err-read c s' c' means_s means_c =
+returns-in-Err-read c =
     let ports = c.args.ports.now in
     let underlay = c.args.underlay.now in
     let read = c.in-Ok-changes_of.changes.items in
-    let settings = read_is (λ (x : Settings). x) (Ok c.in-Ok.settings) settings_in c.args.settings.now s' means_s c.in-Ok.ensures.document c.in-Ok.ensures.not_text in
-    let changes = read_is (λ (v : Vec TimedChange Global). v.items) (Ok c.in-Ok-changes_of.changes) changes_in c.args.changes.now c' means_c c.in-Ok-changes_of.ensures.document c.in-Ok-changes_of.ensures.not_text in
     let same : (length ports == length c.in-Ok.settings.ports) ≡ true = eq-eqb _ _ (c.if-ports.false ∙ ap length c.ports.ensures.value) in
     let moments = c.as_slice-2.ensures.value ∙ c.in_ok-moments.ensures ∙ ap (map (λ (t : TimedChange). t.at)) c.as_slice.ensures.value in
     let found = subst (λ ms. timeline.Gives (Err c.in-Err-read.fault) (told ms ports underlay)) moments c.in-Err-read.ensures.told in
-    subst (λ f. Gives (Err f) (run s' c' ports underlay)) (sym c.of_captures.ensures)
+    subst (λ f. Gives (Err f) (run (settings_in c.args.settings.now) (changes_in c.args.changes.now) ports underlay)) (sym c.of_captures.ensures)
     (subst (Gives (Err (of_timeline c.in-Err-read.fault)))
-    (sym (ap (λ m. run m c' ports underlay) settings ∙ ap (λ m. run (Ok c.in-Ok.settings) m ports underlay) changes ∙ ports_counted c.in-Ok.settings read ports underlay same))
+    (sym (ap (λ m. run m (changes_in c.args.changes.now) ports underlay) c.in-Ok.ensures ∙ ap (λ m. run (Ok c.in-Ok.settings) m ports underlay) c.in-Ok-changes_of.ensures.value
+    ∙ ports_counted c.in-Ok.settings read ports underlay same))
     (timeline_fault c.in-Err-read.fault c.in-Ok.settings read (length ports) (told (map (λ (t : TimedChange). t.at) read) ports underlay) found))
 
 pub returns : goal.returns
-returns c s' c' means_s means_c =
+returns c =
     let ports = c.args.ports.now in
     let underlay = c.args.underlay.now in
     let read = c.in-Ok-changes_of.changes.items in
-    let settings = read_is (λ (x : Settings). x) (Ok c.in-Ok.settings) settings_in c.args.settings.now s' means_s c.in-Ok.ensures.document c.in-Ok.ensures.not_text in
-    let changes = read_is (λ (v : Vec TimedChange Global). v.items) (Ok c.in-Ok-changes_of.changes) changes_in c.args.changes.now c' means_c c.in-Ok-changes_of.ensures.document c.in-Ok-changes_of.ensures.not_text in
     let same : (length ports == length c.in-Ok.settings.ports) ≡ true = eq-eqb _ _ (c.if-ports.false ∙ ap length c.ports.ensures.value) in
     let moments = c.as_slice-2.ensures.value ∙ c.in_ok-moments.ensures ∙ ap (map (λ (t : TimedChange). t.at)) c.as_slice.ensures.value in
     let found = subst (λ ms. timeline.Gives (Ok c.in-Ok-read.timeline) (told ms ports underlay)) moments c.in-Ok-read.ensures.told in
-    ap (λ m. run m c' ports underlay) settings
-    ∙ ap (λ m. run (Ok c.in-Ok.settings) m ports underlay) changes
+    ap (λ m. run m (changes_in c.args.changes.now) ports underlay) c.in-Ok.ensures
+    ∙ ap (λ m. run (Ok c.in-Ok.settings) m ports underlay) c.in-Ok-changes_of.ensures.value
     ∙ ports_counted c.in-Ok.settings read ports underlay same
     ∙ ap (by_timeline c.in-Ok.settings read (length ports)) found
     ∙ ap Ok (sym (c.in_ok-outputs.ensures ∙ ap (λ cs. outputs (settings_told c.in-Ok.settings) (map (λ (t : TimedChange). t.change) cs) (length ports) c.in-Ok-read.timeline) c.as_slice-3.ensures.value))

@@ -47,4 +47,4 @@ returns-in_err-got-2-clause-short g c =
     let read = c.in_ok-got.ensures in
     on_err _ c.from_residual-in_err-got-2.result
     (short_octets c.args.style c.args.supply.now c.fill.new.self c.fill-2.new.self c.fill.new.octets c.fill-2.new.octets c.in_ok-got.got c.in-Ok.header (search rules)
-    c.if-got-lt-RECORD_HEADER_LENGTH.false read.taken (omega arith) read.quiet c.in-Ok.ensures.value (search rules) c.in_err-got-2.ensures.short)
+    c.if-got-lt-RECORD_HEADER_LENGTH.false read.taken (omega arith) read.quiet (read.no_end (search rules)) c.in-Ok.ensures.value (search rules) c.in_err-got-2.ensures.short)

@@ -4,7 +4,7 @@ use Rattle.overlay_config.specs.Change.{IsRising, changes_in}
 use Rattle.overlay_config.specs.Settings.{Settings, settings_in}
 use Rattle.overlay_settings.specs.Rules.{EachBehind}
 use Rattle.overlay_settings.specs.declared.change.TimedChange.{TimedChange}
-use Rattle.capture_run.proofs.Faults.{changes_fault, port_count_fault, read_is, settings_fault}
+use Rattle.capture_run.proofs.Faults.{changes_fault, port_count_fault, settings_fault}
 use Rattle.capture_run.specs.Fault.{of_changes, of_settings}
 use Rattle.capture_run.specs.declared.fault.RunFault.TheVariants as faults
 use Rattle.stream_run.specs.Left.{Answers, Leaves, ends}
@@ -17,29 +17,28 @@ use Rattle.stream_run.proofs.Refusing.{changes_refused, count_refused, counted, 
 use Rattle.stream_run.proofs.run.run_streams.Goals as goal
 
 pub returns-in-Err-clause-run : goal.returns-in-Err-clause-run
-returns-in-Err-clause-run g c s' c' means_s means_c =
+returns-in-Err-clause-run g c =
+    let s = settings_in c.args.settings.now in
+    let changes = changes_in c.args.changes.now in
     let e = ends c.args.ports.now c.args.underlay.now (drains c.args.port_sinks.now c.args.underlay_sink.now (g.W.Output.written c.args.decisions.now) (g.W.Output.failures c.args.decisions.now)) in
-    subst (λ f. Answers s' c' e e (Err (stream.Run f))) (sym c.of_settings.ensures)
-    (settings_refused (λ (x : Settings). x) c.in-Err.fault s' c' e c.requires.sinks
-    (read_is (λ (x : Settings). x) (Err c.in-Err.fault) settings_in c.args.settings.now s' means_s c.in-Err.ensures.document c.in-Err.ensures.not_text))
+    subst (λ f. Answers s changes e e (Err (stream.Run f))) (sym c.of_settings.ensures)
+    (settings_refused (λ (x : Settings). x) c.in-Err.fault s changes e c.requires.sinks c.in-Err.ensures)
 
 pub returns-in-Err-changes_of-clause-run : goal.returns-in-Err-changes_of-clause-run
-returns-in-Err-changes_of-clause-run g c s' c' means_s means_c =
+returns-in-Err-changes_of-clause-run g c =
+    let changes = changes_in c.args.changes.now in
     let e = ends c.args.ports.now c.args.underlay.now (drains c.args.port_sinks.now c.args.underlay_sink.now (g.W.Output.written c.args.decisions.now) (g.W.Output.failures c.args.decisions.now)) in
-    let settings = read_is (λ (x : Settings). x) (Ok c.in-Ok.settings) settings_in c.args.settings.now s' means_s c.in-Ok.ensures.document c.in-Ok.ensures.not_text in
-    subst (λ m. Answers m c' e e (Err (stream.Run c.of_changes.result))) (sym settings)
-    (subst (λ f. Answers (Ok c.in-Ok.settings) c' e e (Err (stream.Run f))) (sym c.of_changes.ensures)
-    (changes_refused (λ (v : Vec TimedChange Global). v.items) c.in-Err-changes_of.fault c.in-Ok.settings c' e c.requires.sinks
-    (read_is (λ (v : Vec TimedChange Global). v.items) (Err c.in-Err-changes_of.fault) changes_in c.args.changes.now c' means_c c.in-Err-changes_of.ensures.document c.in-Err-changes_of.ensures.not_text)))
+    subst (λ m. Answers m changes e e (Err (stream.Run c.of_changes.result))) (sym c.in-Ok.ensures)
+    (subst (λ f. Answers (Ok c.in-Ok.settings) changes e e (Err (stream.Run f))) (sym c.of_changes.ensures)
+    (changes_refused (λ (v : Vec TimedChange Global). v.items) c.in-Err-changes_of.fault c.in-Ok.settings changes e c.requires.sinks c.in-Err-changes_of.ensures.value))
 
 pub returns-then-ports-clause-run : goal.returns-then-ports-clause-run
-returns-then-ports-clause-run g c s' c' means_s means_c =
+returns-then-ports-clause-run g c =
+    let changes = changes_in c.args.changes.now in
     let e = ends c.args.ports.now c.args.underlay.now (drains c.args.port_sinks.now c.args.underlay_sink.now (g.W.Output.written c.args.decisions.now) (g.W.Output.failures c.args.decisions.now)) in
-    let settings = read_is (λ (x : Settings). x) (Ok c.in-Ok.settings) settings_in c.args.settings.now s' means_s c.in-Ok.ensures.document c.in-Ok.ensures.not_text in
-    let changes = read_is (λ (v : Vec TimedChange Global). v.items) (Ok c.in-Ok-changes_of.changes) changes_in c.args.changes.now c' means_c c.in-Ok-changes_of.ensures.document c.in-Ok-changes_of.ensures.not_text in
     let apart : (length c.args.ports.now == length c.in-Ok.settings.ports) ≡ false = ne_eqb _ _ (λ e. c.if-ports.true (e ∙ sym (ap length c.ports.ensures.value))) in
-    subst (λ m. Answers m c' e e (Err (stream.Run faults.PortCount))) (sym settings)
-    (subst (λ m. Answers (Ok c.in-Ok.settings) m e e (Err (stream.Run faults.PortCount))) (sym changes) (count_refused c.in-Ok.settings c.in-Ok-changes_of.changes.items e apart))
+    subst (λ m. Answers m changes e e (Err (stream.Run faults.PortCount))) (sym c.in-Ok.ensures)
+    (subst (λ m. Answers (Ok c.in-Ok.settings) m e e (Err (stream.Run faults.PortCount))) (sym c.in-Ok-changes_of.ensures.value) (count_refused c.in-Ok.settings c.in-Ok-changes_of.changes.items e apart))
 
 pub run_with-requires-clause-few : goal.run_with-requires-clause-few
 run_with-requires-clause-few g c = omega (arith, c.if-ports.false, ap length c.ports.ensures.value, c.ports.ensures.rules.port_count.1)
@@ -48,14 +47,13 @@ pub run_with-requires-clause-timely : goal.run_with-requires-clause-timely
 run_with-requires-clause-timely g c = timely c.as_slice.result.now (subst (EachBehind IsRising []) (sym c.as_slice.ensures.value) c.in-Ok-changes_of.ensures.rising)
 
 pub returns-clause-run : goal.returns-clause-run
-returns-clause-run g c s' c' means_s means_c =
+returns-clause-run g c =
+    let changes = changes_in c.args.changes.now in
     let old = ends c.args.ports.now c.args.underlay.now (drains c.args.port_sinks.now c.args.underlay_sink.now (g.W.Output.written c.args.decisions.now) (g.W.Output.failures c.args.decisions.now)) in
     let new = ends c.run_with.new.ports c.run_with.new.underlay (drains c.run_with.new.port_sinks c.run_with.new.underlay_sink (g.W.Output.written c.run_with.new.decisions) (g.W.Output.failures c.run_with.new.decisions)) in
-    let settings = read_is (λ (x : Settings). x) (Ok c.in-Ok.settings) settings_in c.args.settings.now s' means_s c.in-Ok.ensures.document c.in-Ok.ensures.not_text in
-    let changes = read_is (λ (v : Vec TimedChange Global). v.items) (Ok c.in-Ok-changes_of.changes) changes_in c.args.changes.now c' means_c c.in-Ok-changes_of.ensures.document c.in-Ok-changes_of.ensures.not_text in
     let same : (length c.args.ports.now == length c.in-Ok.settings.ports) ≡ true = eq-eqb _ _ (c.if-ports.false ∙ ap length c.ports.ensures.value) in
-    subst (λ m. Answers m c' old new c.run_with.result) (sym settings)
-    (subst (λ m. Answers (Ok c.in-Ok.settings) m old new c.run_with.result) (sym changes)
+    subst (λ m. Answers m changes old new c.run_with.result) (sym c.in-Ok.ensures)
+    (subst (λ m. Answers (Ok c.in-Ok.settings) m old new c.run_with.result) (sym c.in-Ok-changes_of.ensures.value)
     (counted c.in-Ok.settings c.in-Ok-changes_of.changes.items old new c.run_with.result same
     (subst (λ l. Leaves c.in-Ok.settings l old.drains new.drains c.run_with.result) c.as_slice.ensures.value c.run_with.ensures.outputs)))
 
@@ -65,42 +63,41 @@ returns-clause-writes g c = writes_by c.in-Ok.settings c.as_slice.result.now _ _
 -- ---- by the octets of the captures
 
 pub returns-in-Err-clause-over : goal.returns-in-Err-clause-over
-returns-in-Err-clause-over g c s' c' texts text means_s means_c tells =
+returns-in-Err-clause-over g c texts text tells =
+    let s = settings_in c.args.settings.now in
+    let changes = changes_in c.args.changes.now in
     let d = drains c.args.port_sinks.now c.args.underlay_sink.now (g.W.Output.written c.args.decisions.now) (g.W.Output.failures c.args.decisions.now) in
-    subst (λ f. IsRunOver s' c' texts text d d (Err (stream.Run f))) (sym c.of_settings.ensures)
-    (over_refusal texts text d d s' c' (of_settings c.in-Err.fault) (settings_refusal c.in-Err.fault)
-    (settings_fault (λ (x : Settings). x) c.in-Err.fault s' c' texts text (read_is (λ (x : Settings). x) (Err c.in-Err.fault) settings_in c.args.settings.now s' means_s c.in-Err.ensures.document c.in-Err.ensures.not_text))
+    subst (λ f. IsRunOver s changes texts text d d (Err (stream.Run f))) (sym c.of_settings.ensures)
+    (over_refusal texts text d d s changes (of_settings c.in-Err.fault) (settings_refusal c.in-Err.fault)
+    (settings_fault (λ (x : Settings). x) c.in-Err.fault s changes texts text c.in-Err.ensures)
     (none_at d (length texts) (c.requires.sinks ∙ tells_texts c.args.ports.now c.args.underlay.now texts text tells)))
 
 pub returns-in-Err-changes_of-clause-over : goal.returns-in-Err-changes_of-clause-over
-returns-in-Err-changes_of-clause-over g c s' c' texts text means_s means_c tells =
+returns-in-Err-changes_of-clause-over g c texts text tells =
+    let changes = changes_in c.args.changes.now in
     let d = drains c.args.port_sinks.now c.args.underlay_sink.now (g.W.Output.written c.args.decisions.now) (g.W.Output.failures c.args.decisions.now) in
-    let settings = read_is (λ (x : Settings). x) (Ok c.in-Ok.settings) settings_in c.args.settings.now s' means_s c.in-Ok.ensures.document c.in-Ok.ensures.not_text in
-    subst (λ m. IsRunOver m c' texts text d d (Err (stream.Run c.of_changes.result))) (sym settings)
-    (subst (λ f. IsRunOver (Ok c.in-Ok.settings) c' texts text d d (Err (stream.Run f))) (sym c.of_changes.ensures)
-    (over_refusal texts text d d (Ok c.in-Ok.settings) c' (of_changes c.in-Err-changes_of.fault) (changes_refusal c.in-Err-changes_of.fault)
-    (changes_fault (λ (v : Vec TimedChange Global). v.items) c.in-Err-changes_of.fault c.in-Ok.settings c' texts text
-    (read_is (λ (v : Vec TimedChange Global). v.items) (Err c.in-Err-changes_of.fault) changes_in c.args.changes.now c' means_c c.in-Err-changes_of.ensures.document c.in-Err-changes_of.ensures.not_text))
+    subst (λ m. IsRunOver m changes texts text d d (Err (stream.Run c.of_changes.result))) (sym c.in-Ok.ensures)
+    (subst (λ f. IsRunOver (Ok c.in-Ok.settings) changes texts text d d (Err (stream.Run f))) (sym c.of_changes.ensures)
+    (over_refusal texts text d d (Ok c.in-Ok.settings) changes (of_changes c.in-Err-changes_of.fault) (changes_refusal c.in-Err-changes_of.fault)
+    (changes_fault (λ (v : Vec TimedChange Global). v.items) c.in-Err-changes_of.fault c.in-Ok.settings changes texts text c.in-Err-changes_of.ensures.value)
     (none_at d (length texts) (c.requires.sinks ∙ tells_texts c.args.ports.now c.args.underlay.now texts text tells))))
 
 pub returns-then-ports-clause-over : goal.returns-then-ports-clause-over
-returns-then-ports-clause-over g c s' c' texts text means_s means_c tells =
+returns-then-ports-clause-over g c texts text tells =
+    let changes = changes_in c.args.changes.now in
     let d = drains c.args.port_sinks.now c.args.underlay_sink.now (g.W.Output.written c.args.decisions.now) (g.W.Output.failures c.args.decisions.now) in
-    let settings = read_is (λ (x : Settings). x) (Ok c.in-Ok.settings) settings_in c.args.settings.now s' means_s c.in-Ok.ensures.document c.in-Ok.ensures.not_text in
-    let changes = read_is (λ (v : Vec TimedChange Global). v.items) (Ok c.in-Ok-changes_of.changes) changes_in c.args.changes.now c' means_c c.in-Ok-changes_of.ensures.document c.in-Ok-changes_of.ensures.not_text in
     let many = tells_texts c.args.ports.now c.args.underlay.now texts text tells in
     let apart : (length texts == length c.in-Ok.settings.ports) ≡ false = ne_eqb _ _ (λ e. c.if-ports.true (many ∙ e ∙ sym (ap length c.ports.ensures.value))) in
-    subst (λ m. IsRunOver m c' texts text d d (Err (stream.Run faults.PortCount))) (sym settings)
-    (subst (λ m. IsRunOver (Ok c.in-Ok.settings) m texts text d d (Err (stream.Run faults.PortCount))) (sym changes)
+    subst (λ m. IsRunOver m changes texts text d d (Err (stream.Run faults.PortCount))) (sym c.in-Ok.ensures)
+    (subst (λ m. IsRunOver (Ok c.in-Ok.settings) m texts text d d (Err (stream.Run faults.PortCount))) (sym c.in-Ok-changes_of.ensures.value)
     (over_refusal texts text d d (Ok c.in-Ok.settings) (Ok c.in-Ok-changes_of.changes.items) faults.PortCount tt (port_count_fault c.in-Ok.settings c.in-Ok-changes_of.changes.items texts text apart)
     (none_at d (length texts) (c.requires.sinks ∙ many))))
 
 pub returns-clause-over : goal.returns-clause-over
-returns-clause-over g c s' c' texts text means_s means_c tells =
+returns-clause-over g c texts text tells =
+    let changes = changes_in c.args.changes.now in
     let old = drains c.args.port_sinks.now c.args.underlay_sink.now (g.W.Output.written c.args.decisions.now) (g.W.Output.failures c.args.decisions.now) in
     let new = drains c.run_with.new.port_sinks c.run_with.new.underlay_sink (g.W.Output.written c.run_with.new.decisions) (g.W.Output.failures c.run_with.new.decisions) in
-    let settings = read_is (λ (x : Settings). x) (Ok c.in-Ok.settings) settings_in c.args.settings.now s' means_s c.in-Ok.ensures.document c.in-Ok.ensures.not_text in
-    let changes = read_is (λ (v : Vec TimedChange Global). v.items) (Ok c.in-Ok-changes_of.changes) changes_in c.args.changes.now c' means_c c.in-Ok-changes_of.ensures.document c.in-Ok-changes_of.ensures.not_text in
-    subst (λ m. IsRunOver m c' texts text old new c.run_with.result) (sym settings)
-    (subst (λ m. IsRunOver (Ok c.in-Ok.settings) m texts text old new c.run_with.result) (sym changes)
+    subst (λ m. IsRunOver m changes texts text old new c.run_with.result) (sym c.in-Ok.ensures)
+    (subst (λ m. IsRunOver (Ok c.in-Ok.settings) m texts text old new c.run_with.result) (sym c.in-Ok-changes_of.ensures.value)
     (subst (λ l. LeavesOver c.in-Ok.settings l texts text old new c.run_with.result) c.as_slice.ensures.value (c.run_with.ensures.over texts text tells)))

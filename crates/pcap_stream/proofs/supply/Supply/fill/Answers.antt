@@ -1,4 +1,4 @@
-use Rattle.std.proofs.Common.{Err, Ok, OnErr, Result, arith, rules}
+use Rattle.std.proofs.Common.{◌∙◌, Err, Ok, OnErr, Result, arith, rules}
 use Rattle.pcap_stream.proofs.Parts.{Spends-trans, front_more, thrifty_failed}
 use Rattle.pcap_stream.proofs.supply.Supply.fill.Goals as goal
 
@@ -11,6 +11,7 @@ loop-at-preserved g c =
       same = search rules;
       taken = front_more _ _ _ c.loop-at.octets c.read_behind.new.octets c.loop-at.at c.in_ok-n.n read.front before.taken read.taken;
       quiet = search rules;
+      no_end = read.no_end c.if-n-eq0.false ∙ before.no_end;
       spent = Spends-trans _ _ _ before.spent read.spent;
       thrift = omega arith;
       fewer = λ _. omega arith;

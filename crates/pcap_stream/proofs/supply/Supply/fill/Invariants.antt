@@ -9,6 +9,7 @@ invariant-loop-at g l = record {
   same : length l.octets ≡ length l.initial.octets;
   taken : Consumes l.initial.self.rest l.self.rest (take l.at l.octets);
   quiet : l.self.failures ≡ l.initial.self.failures;
+  no_end : l.self.ends ≡ l.initial.self.ends;
   spent : Spends l.initial.self l.self;
   thrift : l.initial.self.reads ≤ l.self.reads + l.at;
   fewer : 0 < l.at → l.self.reads < l.initial.self.reads;

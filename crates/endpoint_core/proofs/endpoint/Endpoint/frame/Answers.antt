@@ -1,0 +1,13 @@
+use Rattle.std.proofs.Common.{subst}
+use Rattle.endpoint_state.specs.Held.{settings_of}
+use Rattle.endpoint_core.specs.Arrival.{came_at}
+use Rattle.endpoint_core.specs.Course.{AreInParts}
+use Rattle.endpoint_core.specs.Kept.{Kept}
+use Rattle.endpoint_core.proofs.PartsLemmas.{in-parts}
+use Rattle.endpoint_core.proofs.endpoint.Endpoint.frame.Goals as goal
+
+pub returns-clause-parts : goal.returns-clause-parts
+returns-clause-parts c =
+    let came = came_at (settings_of c.args.self.now.held).ports c.args.port c.args.original c.args.octets.now in
+    subst (λ (k : Kept). AreInParts (settings_of k.held) came c.of.result.outcomes) c.self.view_is
+    (in-parts (settings_of c.self.inside.state) came c.take_frame-course.result c.as_slice.result.now c.of.result.outcomes c.take_frame-course.ensures.came c.of.ensures.parts)

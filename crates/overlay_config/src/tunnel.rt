@@ -1,0 +1,226 @@
+//! The tunnels of a segment, and its flood list.
+ghost use Rattle.std.specs.Prelude.{◌≡◌, ◌≢◌, ◌≤◌, ◌+◌, decimal, length, IfOk, IfSome};
+ghost use Rattle.std.specs.Option.{option_to_list};
+ghost use Rattle.toml.specs.View.{view};
+ghost use Rattle.config_text.specs.Reader.{place_of};
+ghost use Rattle.overlay_settings.specs.Settings.{tunnel_rule};
+ghost use Rattle.underlay.specs.Overlay.{has_tunnel, segment_of as told};
+ghost use Rattle.overlay_config.specs.Tunnel.{flood_of, tunnel_of, tunnel_item_of, tunnel_table_of, tunnels_of, vni_number};
+
+use crate::flood::Remotes;
+use config_text::{Column, Reader, SettingsFault, U8Range, Words};
+use flood_lists::{FloodList, Own};
+use ip_udp_view::Tunnel;
+use overlay_settings::SegmentRule;
+use std::marker::Model;
+use toml::Value;
+use underlay::{SegmentTunnel, Tunnels};
+use vxlan_head::Vni;
+
+const KEYS: [&str; 4] = ["kind", "vni", "group", "flood"];
+
+/// The kinds of tunnels by their words.
+pub(crate) const TUNNELS: [(&str, Tunnel); 2] = [
+    ("vxlan", Tunnel::Vxlan),
+    ("geneve", Tunnel::Geneve),
+];
+
+/// A horizon group.
+pub(crate) const GROUP: U8Range = U8Range { low: 0, high: 255 };
+
+/// The most remotes of a segment's flood list.
+const LONGEST_FLOOD: usize = 16;
+
+/// The number of a network, 0 to 16777215.
+#[derive(Clone, Copy, Debug)]
+pub(crate) struct VniNumber;
+
+impl Column for VniNumber {
+    type Out = Vni;
+
+    ghost reads = { λ _. vni_number };
+
+    fn read(&self, value: &Value) -> Option<Vni> {
+        Vni::new(u32::try_from(value.as_integer()?).ok()?)
+    }
+}
+
+/// The one tunnel of a segment in version 1.
+#[tactic(auto, unfolding(crate::specs::Tunnel::tunnel_of))]
+pub(crate) fn read_tunnel(at: &Reader) -> Result<SegmentTunnel, SettingsFault>
+    ensures { result ≡ tunnel_of (place_of at.now) }
+{
+    let vni = at.required("vni", &VniNumber)?;
+    let kind = at.required("tunnel", &Words { words: &TUNNELS })?;
+    Ok(SegmentTunnel {
+        kind,
+        vni,
+        group: 0,
+    })
+}
+
+/// The flood list of a segment in version 1, with tunnels of this kind.
+pub(crate) fn read_flood(at: &Reader, own: Own, kind: Tunnel) -> Result<FloodList, SettingsFault>
+    ensures { result ≡ flood_of own kind (place_of at.now) }
+{
+    at.listed(
+        "flood",
+        LONGEST_FLOOD,
+        &Remotes { kind, own },
+        FloodList::new(),
+    )
+}
+
+/// A segment's one or two tunnels, of different kinds, and its flood list; seen by contracts as the list of the tunnels
+/// and that list.
+#[derive(Debug, Drop)]
+pub(crate) struct TunnelRules {
+    first: SegmentTunnel,
+    second: Option<SegmentTunnel>,
+    flood: FloodList,
+}
+
+impl Model for TunnelRules {
+    ghost use Rattle.std.specs.Prelude.{◌∷◌, ◌≢◌, IfSome};
+    ghost use Rattle.std.specs.Option.{option_to_list};
+    ghost use Rattle.overlay_config.specs.Tunnel as told;
+
+    ghost Value = { told.TunnelRules };
+
+    ghost view = { λ r. (r.first ∷ option_to_list r.second, r.flood) };
+
+    ghost invariant = { λ r. IfSome r.second (λ second. second.kind ≢ r.first.kind) };
+}
+
+impl TunnelRules {
+    ghost use Rattle.std.specs.Prelude.{◌≡◌, ◌∷◌, []};
+    ghost use Rattle.std.specs.List.{list_any};
+    ghost use Rattle.overlay_settings.specs.Settings.{tunnel_rule};
+    ghost use Rattle.underlay.specs.Overlay.{has_tunnel, segment_of as told};
+
+    /// One tunnel.
+    pub(crate) fn one(tunnel: SegmentTunnel, flood: FloodList) -> TunnelRules
+        ensures { result ≡ (tunnel ∷ [], flood) }
+    {
+        TunnelRules {
+            first: tunnel,
+            second: None,
+            flood,
+        }
+    }
+
+    /// Whether a segment has a tunnel of the kind and VNI of one of these.
+    pub(crate) fn clash(&self, rule: &SegmentRule) -> bool
+        ensures { result ≡ list_any (λ t. has_tunnel t.kind t.vni (told (tunnel_rule rule.now))) self.now.0 }
+    {
+        match &self.second {
+            Some(second) => has_tunnel(rule, &self.first) || has_tunnel(rule, second),
+            None => has_tunnel(rule, &self.first),
+        }
+    }
+
+    /// The tunnels and the flood list.
+    pub(crate) fn into_parts(self) -> (Tunnels, FloodList)
+        ensures { result ≡ self }
+    {
+        let TunnelRules {
+            first,
+            second,
+            flood,
+        } = self;
+        let tunnels = match second {
+            Some(second) => Tunnels::two(first, second),
+            None => Tunnels::one(first),
+        };
+        (tunnels, flood)
+    }
+}
+
+/// Whether a segment has a tunnel of the kind and VNI of this one.
+fn has_tunnel(rule: &SegmentRule, tunnel: &SegmentTunnel) -> bool
+    ensures { result ≡ has_tunnel tunnel.now.kind tunnel.now.vni (told (tunnel_rule rule.now)) }
+{
+    rule.tunnels
+        .of(tunnel.kind)
+        .is_some_and(|own| own.vni == tunnel.vni)
+}
+
+/// A table of a segment's tunnels.
+#[derive(Debug, Drop)]
+struct TunnelTable {
+    tunnel: SegmentTunnel,
+    /// The segment's flood list up to this tunnel.
+    flood: FloodList,
+}
+
+/// A table of a segment's tunnels, behind the one before it.
+#[tactic(auto, unfolding(crate::specs::Tunnel::tunnel_table_of))]
+fn read_table(
+    at: &Reader,
+    own: Own,
+    earlier: Option<TunnelTable>,
+) -> Result<TunnelTable, SettingsFault>
+    ensures value { result ≡ tunnel_table_of own (option_to_list earlier) (place_of at.now) }
+    ensures apart { IfOk result (λ t. IfSome earlier (λ e. t.tunnel.kind ≢ e.tunnel.kind)) }
+{
+    at.only(&KEYS)?;
+    let kind = at.required("kind", &Words { words: &TUNNELS })?;
+    let before = match earlier {
+        None => FloodList::new(),
+        Some(table) => {
+            if table.tunnel.kind == kind {
+                return Err(SettingsFault::BadValue(at.path("kind")));
+            }
+            table.flood
+        }
+    };
+    let vni = at.required("vni", &VniNumber)?;
+    let group = at.defaulted("group", &GROUP, 0)?;
+    let room = LONGEST_FLOOD - before.targets().len();
+    let flood = at.listed("flood", room, &Remotes { kind, own }, before)?;
+    let tunnel = SegmentTunnel { kind, vni, group };
+    Ok(TunnelTable { tunnel, flood })
+}
+
+/// The table of this number in a list of tunnels, behind the one before it. The list's name and the number have 19 octets
+/// at most.
+fn read_item(
+    list: &str,
+    number: u16,
+    value: &Value,
+    own: Own,
+    earlier: Option<TunnelTable>,
+) -> Result<TunnelTable, SettingsFault>
+    requires { length list.now + length (decimal number) ≤ 19 }
+    ensures value { result ≡ tunnel_item_of own (option_to_list earlier) list.now number (view value.now) }
+    ensures apart { IfOk result (λ t. IfSome earlier (λ e. t.tunnel.kind ≢ e.tunnel.kind)) }
+{
+    let at = Reader::row(list, number, value)?;
+    read_table(&at, own, earlier)
+}
+
+/// The tunnels of a segment in version 2, and its flood list.
+#[tactic(auto, unfolding(crate::specs::Tunnel::tunnels_of))]
+pub(crate) fn read_tunnels(at: &Reader, own: Own) -> Result<TunnelRules, SettingsFault>
+    requires { length (place_of at.now).prefix ≤ 12 }
+    ensures { result ≡ tunnels_of own (place_of at.now) }
+{
+    let list = at.path("tunnel");
+    match at.limited_items("tunnel", 2)? {
+        [] => Err(SettingsFault::Missing(list)),
+        [first] => {
+            let table = read_item(list.as_str(), 1, first, own, None)?;
+            Ok(TunnelRules::one(table.tunnel, table.flood))
+        }
+        [first, second, ..] => {
+            let table = read_item(list.as_str(), 1, first, own, None)?;
+            let first = table.tunnel;
+            let table = read_item(list.as_str(), 2, second, own, Some(table))?;
+            Ok(TunnelRules {
+                first,
+                second: Some(table.tunnel),
+                flood: table.flood,
+            })
+        }
+    }
+}

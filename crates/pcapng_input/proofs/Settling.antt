@@ -1,0 +1,185 @@
+-- What is made of the octets held of a block.
+use Rattle.std.proofs.Common.{◌≡◌, ◌∙◌, refl, sym, ap, subst, ℕ, ◌+◌, ◌%◌, ◌<◌, ◌≤◌, Bool, true, false, List, [], ◌∷◌, ◌++◌, length, drop, arith, append_assoc, append-nil, Option, None, Some, Ok, Err, inl, inr}
+use Rattle.std.specs.Prelude.{◌||◌, nat_lt, not, if◌then◌else◌}
+use Rattle.std.specs.List.{flat_map}
+use Rattle.std.proofs.lemmas.List.Concat.{flat_map-cons}
+use Rattle.std.proofs.lemmas.Bool.{cases_lt, eqb-true, ltb-false, ltb-true}
+use Rattle.pcap_io.specs.Record.{Record}
+use Rattle.pcap_io.specs.Style.{number_of}
+use Rattle.pcap_io.specs.Written.{written_record}
+use Rattle.pcap_io.specs.declared.style.Order.{Order}
+use Rattle.pcapng_input.proofs.Grown.{Grows, IsCutBlock, cut_block, grown, no_block, none_behind, not_all_read, twelve, wanted-short, wanted-told}
+use Rattle.pcapng_input.proofs.Passing.{passes}
+use Rattle.pcapng_input.proofs.Readings.{packets-behind, packets-end, packets-faulty}
+use Rattle.pcapng_input.specs.Adapted.{Told, told_behind, told_end, told_reading}
+use Rattle.pcapng_input.specs.Block.{AllRead, AnotherBlock, Block, CutShort, NoBlock, Refused, longest_block, next_block, order_at}
+use Rattle.pcapng_input.specs.Classic.{found_text}
+use Rattle.pcapng_input.specs.Reading.{Context, EndsFaulty, PacketReading, block_fault_at, ended, found_before, packets_in, step_of}
+use Rattle.pcapng_input.specs.State.{IsRest, IsSettled, wanted_size, wanting_by}
+use Rattle.pcapng_input.specs.declared.fault.BlockFault.{BlockFault}
+use Rattle.pcapng_input.specs.declared.fault.PcapngFault.{PcapngFault}
+use Rattle.pcapng_input.specs.declared.interface.Selection.{Selection}
+use Rattle.pcapng_input.specs.declared.settle.Settled.{Settled}
+use Rattle.pcapng_input.specs.declared.settle.Settled.TheVariants as settled
+
+-- fewer than 12 octets
+pub settles_short : (selection : Selection) (context : Context) (held ready : List ℕ) (is_more : Bool) → ready ≡ [] → length held < 12
+    → IsSettled selection context context held ready is_more settled.Unfinished
+settles_short selection context held ready is_more none short =
+    (none, refl, record { part = omega (arith, short, wanted-short context.order held short); room = omega (arith, wanted-short context.order held short) })
+
+-- either 12 octets are there or nothing is behind
+abbrev pub Long : Bool → List ℕ → Type 0
+Long is_more held = is_more ≡ true → 12 ≤ length held
+
+-- a record that is found is told in front of those behind it
+told_found : (found : Option Record) (reading : PacketReading) → told_reading (found_before found reading) ≡ told_behind (found_text found) (told_reading reading)
+told_found None reading = refl
+told_found (Some r) reading =
+    let front = flat_map written_record reading.records in
+    let first : flat_map written_record (r ∷ reading.records) ≡ written_record r ++ front = flat_map-cons written_record r reading.records in
+    ap (λ t. told_behind t (told_end reading.end)) first
+    ∙ ap (λ t. with_octets t (told_end reading.end)) (append_assoc (written_record r) front (told_end reading.end).octets)
+  where
+    with_octets : List ℕ → Told → Told
+    with_octets t told = record { octets = t; fault = told.fault }
+
+-- a block was found in what is held: it is found with the rest behind it
+block_grown : (context : Context) (held rest behind : List ℕ) (block : Block) → AnotherBlock block behind ≡ next_block context.order held
+    → length held ≤ wanted_size context.order held → AnotherBlock block rest ≡ next_block context.order (held ++ rest)
+block_grown context held rest behind block next fits = elim (cases_lt (length held) 12) [
+  | inl short ↦ absurd (short_none short next)
+  | inr long ↦
+      let empty = none_behind context.order held behind block next fits in
+      let more : next_block context.order (held ++ rest) ≡ AnotherBlock block (behind ++ rest) =
+      subst (λ n. Grows n (next_block context.order (held ++ rest)) rest) (sym next) (grown context.order held rest long) in
+      sym (more ∙ ap (λ t. AnotherBlock block (t ++ rest)) empty)
+]
+  where
+    short_none : length held < 12 → AnotherBlock block behind ≡ next_block context.order held → ⊥
+    short_none short e = no_block context.order held block behind short e
+
+-- a block was taken
+pub settles_taken : (selection : Selection) (context new : Context) (held behind ready : List ℕ) (is_more : Bool) (block : Block) (found : Option Record) (order : Option Order)
+    → order ≡ context.order → AnotherBlock block behind ≡ next_block order held → length held ≤ wanted_size context.order held
+    → step_of selection context block ≡ Ok (record { context = new; found = found }) → ready ≡ found_text found
+    → new.blocks ≡ context.blocks + 1 → new.offset ≡ context.offset + (12 + length block.body) → 12 + length block.body + length behind ≤ length held
+    → IsSettled selection context new held ready is_more settled.Taken
+settles_taken selection context new held behind ready is_more block found order order_is next fits step put blocks offset shorter = (
+  blocks,
+  omega (arith, offset),
+  omega (arith, offset, shorter),
+  λ rest.
+      let here = block_grown context held rest behind block (next ∙ ap (λ o. next_block o held) order_is) fits in
+      ap told_reading (packets-behind selection context (held ++ rest) block rest (record { context = new; found = found }) here step)
+      ∙ told_found found (packets_in selection new rest)
+      ∙ ap (λ t. told_behind t (told_reading (packets_in selection new rest))) (sym put),
+)
+
+-- a block has a fault
+pub settles_faulty : (selection : Selection) (context new : Context) (held behind ready : List ℕ) (is_more : Bool) (block : Block) (fault : PcapngFault) (order : Option Order)
+    → order ≡ context.order → AnotherBlock block behind ≡ next_block order held → length held ≤ wanted_size context.order held
+    → (step_of selection context block ≡ Err fault.fault) × (fault ≡ block_fault_at context fault.fault) → ready ≡ [] → new ≡ context
+    → IsSettled selection context new held ready is_more (settled.Refused fault)
+settles_faulty selection context new held behind ready is_more block fault order order_is next fits is none same = (
+  none,
+  same,
+  λ rest end.
+      let here = block_grown context held rest behind block (next ∙ ap (λ o. next_block o held) order_is) fits in
+      ap told_reading (packets-faulty selection context (held ++ rest) block rest fault.fault here is.0)
+      ∙ ap (λ f. told_reading (ended (EndsFaulty f))) (sym is.1),
+)
+
+-- no rest
+at_end : (held rest : List ℕ) → rest ≡ [] → held ++ rest ≡ held
+at_end held rest end = ap (λ t. held ++ t) end ∙ append-nil held
+
+-- the text ends behind a block
+pub settles_whole : (selection : Selection) (context : Context) (held ready : List ℕ) (is_more : Bool) (order : Option Order)
+    → order ≡ context.order → NoBlock AllRead ≡ next_block order held → Long is_more held → ready ≡ [] → IsSettled selection context context held ready is_more settled.Ended
+settles_whole selection context held ready is_more order order_is next long none = (
+  refl,
+  λ rest end.
+      let here = next ∙ ap (λ o. next_block o held) order_is in
+      let last : is_more ≡ false = by_more is_more refl here in
+      ap (λ t. told_reading (packets_in selection context t)) (at_end held rest (end last))
+      ∙ ap told_reading (packets-end selection context held AllRead here)
+      ∙ ap (λ t. ended_with t) (sym none),
+)
+  where
+    ended_with : List ℕ → Told
+    ended_with t = record { octets = t; fault = None }
+
+    by_more : (b : Bool) → is_more ≡ b → NoBlock AllRead ≡ next_block context.order held → is_more ≡ false
+    by_more false e here = e
+    by_more true e here = absurd (not_all_read context.order held (long e) here)
+
+-- it ends within one
+pub settles_cut : (selection : Selection) (context : Context) (held ready : List ℕ) (is_more : Bool) (order : Option Order)
+    → order ≡ context.order → NoBlock CutShort ≡ next_block order held → is_more ≡ false → ready ≡ 0 ∷ [] → IsSettled selection context context held ready is_more settled.Ended
+settles_cut selection context held ready is_more order order_is next last cut = (
+  refl,
+  λ rest end.
+      let here = next ∙ ap (λ o. next_block o held) order_is in
+      ap (λ t. told_reading (packets_in selection context t)) (at_end held rest (end last))
+      ∙ ap told_reading (packets-end selection context held CutShort here)
+      ∙ ap (λ t. ended_with t) (sym cut),
+)
+  where
+    ended_with : List ℕ → Told
+    ended_with t = record { octets = t; fault = None }
+
+-- what stands there is no block
+pub settles_refused : (selection : Selection) (context : Context) (held ready : List ℕ) (is_more : Bool) (order : Option Order) (fault : BlockFault) (told : PcapngFault)
+    → order ≡ context.order → NoBlock (Refused fault) ≡ next_block order held → Long is_more held → ready ≡ [] → told ≡ block_fault_at context fault
+    → IsSettled selection context context held ready is_more (settled.Refused told)
+settles_refused selection context held ready is_more order fault told order_is next long none is = (
+  none,
+  refl,
+  λ rest end.
+      ap told_reading (packets-end selection context (held ++ rest) (Refused fault) (by_more rest end is_more refl))
+      ∙ ap (λ f. told_reading (ended (EndsFaulty f))) (sym is),
+)
+  where
+    here : NoBlock (Refused fault) ≡ next_block context.order held
+    here = next ∙ ap (λ o. next_block o held) order_is
+
+    by_more : (rest : List ℕ) → IsRest is_more rest → (b : Bool) → is_more ≡ b → NoBlock (Refused fault) ≡ next_block context.order (held ++ rest)
+    by_more rest end false e = here ∙ ap (next_block context.order) (sym (at_end held rest (end e)))
+    by_more rest end true e =
+        sym (subst (λ n. Grows n (next_block context.order (held ++ rest)) rest) (sym here) (grown context.order held rest (long e)))
+
+-- more of the block is wanted
+pub settles_wanting : (selection : Selection) (context : Context) (held ready : List ℕ) (is_more : Bool) (order : Option Order) (result : Settled)
+    → order ≡ context.order → NoBlock CutShort ≡ next_block order held → 12 ≤ length held → length held ≤ longest_block → ready ≡ []
+    → result ≡ wanting_by (order_at order held) held → IsSettled selection context context held ready is_more result
+settles_wanting selection context held ready is_more order result order_is next long room none is =
+    let here = next ∙ ap (λ o. next_block o held) order_is in
+    let cut = cut_block context.order held long here in
+    let answer : result ≡ wanting_by (Some cut.0) held = is ∙ ap (λ o. wanting_by (order_at o held) held) order_is ∙ ap (λ o. wanting_by o held) cut.1.told in
+    subst (IsSettled selection context context held ready is_more) (sym answer) (by_size cut.0 cut.1 (nat_lt longest_block (number_of cut.0 4 (drop 4 held))) refl)
+  where
+    second_no : (a b : Bool) → (a || b) ≡ false → b ≡ false
+    second_no true b e = absurd cc
+    second_no false b e = e
+
+    not_no : (b : Bool) → not b ≡ false → b ≡ true
+    not_no true e = refl
+    not_no false e = absurd cc
+
+    by_size : (o : Order) → IsCutBlock context.order held o → (b : Bool) → nat_lt longest_block (number_of o 4 (drop 4 held)) ≡ b
+        → IsSettled selection context context held ready is_more
+        (if b then settled.Long o (number_of o 4 (drop 4 held)) else settled.Unfinished)
+    by_size o cut true more =
+        let size = number_of o 4 (drop 4 held) in
+        let aligned : size % 4 ≡ 0 = eqb-true _ _ (not_no _ (second_no _ _ cut.fine)) in
+        let long_block = ltb-true longest_block size more in (
+          none,
+          refl,
+          omega (arith, aligned, long_block, room),
+          λ rest. ap told_reading (passes selection context held rest o long cut long_block),
+        )
+    by_size o cut false more =
+        let size = number_of o 4 (drop 4 held) in
+        let wanted = wanted-told context.order held o long cut.told (twelve size cut.fine) in
+        (none, refl, record { part = omega (arith, wanted, cut.part); room = omega (arith, wanted, ltb-false longest_block size more) })

@@ -1,0 +1,61 @@
+use Rattle.std.proofs.Common.{◌≡◌, ◌∙◌, ◌≤◌, true, ap, arith, length, refl, rules, subst}
+use Rattle.std.proofs.lemmas.Bool.{both_ways}
+use Rattle.pcapng_input.proofs.Settling.{settles_cut, settles_faulty, settles_refused, settles_short, settles_taken, settles_wanting, settles_whole}
+use Rattle.pcapng_input.specs.Block.{next_block, order_at}
+use Rattle.pcapng_input.specs.Context.{IsStepError}
+use Rattle.pcapng_input.specs.Reading.{step_of}
+use Rattle.pcapng_input.specs.State.{wanting_by}
+use Rattle.pcapng_input.specs.declared.fault.PcapngError.TheVariants.{Faulty}
+use Rattle.pcapng_input.proofs.settle.settle.Goals as goal
+use Rattle.pcapng_input.proofs.settle.settle.Goals.{else-is_more-via-else-is_more, else-is_more-via-then-is_more+else-held-lt-EMPTY_BLOCK}
+
+pub returns-then-held-lt-EMPTY_BLOCK : goal.returns-then-held-lt-EMPTY_BLOCK
+returns-then-held-lt-EMPTY_BLOCK c =
+    settles_short c.args.selection c.args.context.now c.args.held.now c.args.ready.now c.args.is_more c.requires.empty c.if-held-lt-EMPTY_BLOCK.true
+
+pub returns-then-is_more-2 : goal.returns-then-is_more-2
+returns-then-is_more-2 c =
+    let held = c.args.held.now in
+    settles_wanting c.args.selection c.args.context.now held c.args.ready.now c.args.is_more c.args.context.now.order c.unfinished.result refl
+    (c.in-CutShort.ensures.next ∙ ap (λ o. next_block o held) c.order.ensures)
+    (elim c.else-is_more.branch [
+      | else-is_more-via-then-is_more+else-held-lt-EMPTY_BLOCK w ↦ omega (arith, w.if-held-lt-EMPTY_BLOCK.false)
+      | else-is_more-via-else-is_more w ↦ absurd (both_ways c.args.is_more w.if-is_more.false c.if-is_more-2.true)
+    ])
+    c.requires.size c.requires.empty (c.unfinished.ensures ∙ ap (λ o. wanting_by (order_at o held) held) c.order-then-is_more-2.ensures)
+
+pub returns-in-Ok : goal.returns-in-Ok
+returns-in-Ok c =
+    settles_taken c.args.selection c.args.context.now c.step.new.self c.args.held.now c.in-Another.field-1.now c.put_found.new.ready c.args.is_more c.in-Another.block c.in-Ok.found
+    c.order.result c.order.ensures c.in-Another.ensures.next c.requires.part c.in-Ok.ensures.step c.put_found.ensures c.in-Ok.ensures.blocks c.in-Ok.ensures.offset
+    c.in-Another.ensures.shorter
+
+pub returns-in-Err-Faulty : goal.returns-in-Err-Faulty
+returns-in-Err-Faulty c =
+    let same : c.in-Err-Faulty.field-0 ≡ Faulty c.in-Err-Faulty.fault = search rules in
+    let step = subst (IsStepError (step_of c.args.selection c.args.context.now c.in-Another.block) c.args.context.now) same c.in-Err-Faulty.ensures.fault in
+    settles_faulty c.args.selection c.args.context.now c.step.new.self c.args.held.now c.in-Another.field-1.now c.args.ready.now c.args.is_more c.in-Another.block c.in-Err-Faulty.fault
+    c.order.result c.order.ensures c.in-Another.ensures.next c.requires.part step c.requires.empty c.in-Err-Faulty.ensures.err
+
+pub returns-in-AllRead : goal.returns-in-AllRead
+returns-in-AllRead c =
+    let long : c.args.is_more ≡ true → 12 ≤ length c.args.held.now =
+    elim c.else-is_more.branch [
+      | else-is_more-via-then-is_more+else-held-lt-EMPTY_BLOCK w ↦ λ e. omega (arith, w.if-held-lt-EMPTY_BLOCK.false)
+      | else-is_more-via-else-is_more w ↦ λ e. absurd (both_ways c.args.is_more w.if-is_more.false e)
+    ] in
+    settles_whole c.args.selection c.args.context.now c.args.held.now c.args.ready.now c.args.is_more c.order.result c.order.ensures c.in-AllRead.ensures.next long c.requires.empty
+
+pub returns-else-is_more-2 : goal.returns-else-is_more-2
+returns-else-is_more-2 c =
+    settles_cut c.args.selection c.args.context.now c.args.held.now c.put.new.self c.args.is_more c.order.result c.order.ensures c.in-CutShort.ensures.next c.if-is_more-2.false c.put.ensures
+
+pub returns-in-Refused : goal.returns-in-Refused
+returns-in-Refused c =
+    let long : c.args.is_more ≡ true → 12 ≤ length c.args.held.now =
+    elim c.else-is_more.branch [
+      | else-is_more-via-then-is_more+else-held-lt-EMPTY_BLOCK w ↦ λ e. omega (arith, w.if-held-lt-EMPTY_BLOCK.false)
+      | else-is_more-via-else-is_more w ↦ λ e. absurd (both_ways c.args.is_more w.if-is_more.false e)
+    ] in
+    settles_refused c.args.selection c.args.context.now c.args.held.now c.args.ready.now c.args.is_more c.order.result c.in-Refused.fault c.fault.result c.order.ensures
+    c.in-Refused.ensures.next long c.requires.empty c.fault.ensures

@@ -1,0 +1,111 @@
+-- What an input of a capture tells: a pcapng text (draft-ietf-opsawg-pcapng) as a classic one, and any other as it is.
+use Rattle.std.specs.Prelude.{◌≡◌, ℕ, ◌+◌, ◌==◌, ◌&&◌, ◌||◌, nat_le, nat_lt, if◌then◌else◌, Bool, true, false, List, [], ◌∷◌, ◌++◌, length, drop, Option, Some, None, Result, Ok, Err}
+use Rattle.std.specs.List.{flat_map}
+use Rattle.pcap_io.specs.Style.{number_of}
+use Rattle.pcap_io.specs.Written.{written_header, written_record}
+use Rattle.pcap_io.specs.declared.style.Order.{Order}
+use Rattle.pcapng_input.specs.Block.{is_section}
+use Rattle.pcapng_input.specs.Classic.{classic_text}
+use Rattle.pcapng_input.specs.Reading.{Context, EndsCut, EndsFaulty, EndsWhole, PacketReading, TextEnd, block_fault_at, ended, packets_in, packets_of}
+use Rattle.pcapng_input.specs.declared.fault.BlockFault.TheVariants.{BadLength}
+use Rattle.pcapng_input.specs.declared.fault.PcapngFault.{PcapngFault}
+use Rattle.pcapng_input.specs.declared.interface.Selection.{Selection}
+use Rattle.pcapng_input.specs.declared.interface.Selection.TheVariants.{All, Number, Name}
+
+-- the octets of a capture that are told up to its first fault, and that fault, if it has one
+pub record Told : Type 0 where
+  pub octets : List ℕ
+  pub fault : Option PcapngFault
+
+-- some octets in front
+abbrev pub told_behind : List ℕ → Told → Told
+told_behind front told = record { octets = front ++ told.octets; fault = told.fault }
+
+-- how a classic capture ends by how the text does: a cut text is told by the first octet of a record's header
+abbrev pub told_end : TextEnd → Told
+told_end EndsWhole = record { octets = []; fault = None }
+told_end EndsCut = record { octets = 0 ∷ []; fault = None }
+told_end (EndsFaulty fault) = record { octets = []; fault = Some fault }
+
+-- the records of a reading, and how it ends
+abbrev pub told_reading : PacketReading → Told
+told_reading reading = told_behind (flat_map written_record reading.records) (told_end reading.end)
+
+-- the packets of one interface are asked for
+abbrev pub is_of_one : Selection → Bool
+is_of_one All = false
+is_of_one (Number selected) = true
+is_of_one (Name selected) = true
+
+-- a text is read as pcapng: it begins as a section header does, or the packets of one interface are asked for, which only a
+-- pcapng text has
+abbrev pub is_adapted : Selection → List ℕ → Bool
+is_adapted selection text = is_of_one selection || (nat_le 4 (length text) && is_section text)
+
+-- a pcapng text as a classic capture
+abbrev pub told_packets : Selection → List ℕ → Told
+told_packets selection text = told_behind written_header (told_reading (packets_of selection text))
+
+-- what is told of a whole text
+unfoldable pub told_text : Selection → List ℕ → Told
+told_text selection text = if is_adapted selection text then told_packets selection text else record { octets = text; fault = None }
+
+-- a told capture is this classic one, or has this fault
+abbrev pub TellsClassic : Told → Result (List ℕ) PcapngFault → Type 0
+TellsClassic told (Ok capture) = told ≡ record { octets = capture; fault = None }
+TellsClassic told (Err fault) = told.fault ≡ Some fault
+
+-- a law: where a text is read as pcapng, its classic capture is told, or its first fault
+abbrev pub TellsTheClassicText : Type 0
+TellsTheClassicText = (selection : Selection) (text : List ℕ) → is_adapted selection text ≡ true → TellsClassic (told_text selection text) (classic_text selection text)
+
+-- a law: any other text is told as it is
+abbrev pub TellsOtherTexts : Type 0
+TellsOtherTexts = (selection : Selection) (text : List ℕ) → is_adapted selection text ≡ false → told_text selection text ≡ record { octets = text; fault = None }
+
+-- ---- within a text
+
+-- what is known behind a block of this length that says nothing
+abbrev pub behind_other : Context → ℕ → Context
+behind_other context size = record {
+  order = context.order;
+  interfaces = context.interfaces;
+  last = context.last;
+  blocks = context.blocks + 1;
+  offset = context.offset + size;
+}
+
+-- the packets of a text that begins with the second length of a block of this length, which says nothing
+abbrev pub packets_closing : Selection → Context → Order → ℕ → List ℕ → PacketReading
+packets_closing selection context order size text =
+    if nat_lt (length text) 4 then ended EndsCut
+    else if number_of order 4 text == size then packets_in selection (behind_other context size) (drop 4 text)
+    else ended (EndsFaulty (block_fault_at context BadLength))
+
+-- where an input stands: in front of a text; in a text that is told as it is; in front of a block; so many octets in front
+-- of the second length of a block that says nothing; at the end; at a fault
+pub data Stand : Type 0 where
+  Begun : Stand
+  Plain : Stand
+  Within : (context : Context) → Stand
+  Passing : (context : Context) (order : Order) (size left : ℕ) → Stand
+  Over : Stand
+  Faulty : (fault : PcapngFault) → Stand
+
+-- what is told of the text that stands there
+abbrev pub told_at : Selection → Stand → List ℕ → Told
+told_at selection Begun text = told_text selection text
+told_at selection Plain text = record { octets = text; fault = None }
+told_at selection (Within context) text = told_reading (packets_in selection context text)
+told_at selection (Passing context order size left) text = told_reading (packets_closing selection context order size (drop left text))
+told_at selection Over text = record { octets = []; fault = None }
+told_at selection (Faulty fault) text = record { octets = []; fault = Some fault }
+
+-- the fault that was met, if any
+abbrev pub met : Stand → Option PcapngFault
+met Begun = None
+met Plain = None
+met (Within context) = None
+met (Passing context order size left) = None
+met Over = None
+met (Faulty fault) = Some fault

@@ -1,0 +1,161 @@
+//! An input of a capture below its counts.
+ghost use Rattle.std.specs.Prelude.{◌≡◌, ◌<◌, ℕ, [], Option, Some, None, min, length, option_map, IfOk, IfSome, OnErr, OnOk};
+ghost use Rattle.std.specs.Io.{ReadsAtMost};
+ghost use Rattle.std.specs.Io.KnownBytes.{ReadConsumes};
+ghost use Rattle.pcap_stream.specs.Supply.{Spends};
+ghost use Rattle.pcapng_input.specs.Adapted.{is_of_one, told_text};
+ghost use Rattle.pcapng_input.specs.Adapter.{IsAllTold, KeepsFault, KeepsTold, met_fault, told, told_fault, told_octets};
+
+use crate::context::Context;
+use crate::fault::PcapngFault;
+use crate::gathered::Gathered;
+use crate::interface::Selection;
+use crate::reading::read_on;
+use crate::ready::Ready;
+use crate::state::State;
+use pcap_io::global_header;
+use pcap_stream::{DeviceFault, Input};
+use std::alloc::{AllocError, Global};
+use std::marker::Model;
+
+/// The reads of an input at most. Those of so many blocks have fewer than 2^64 octets.
+const MOST_READS: u64 = 35_184_372_088_832;
+
+/// An input of a capture: what was read of it, what is ready of what it tells, and where it stands.
+#[derive(Drop)]
+pub struct Adapter<'s, R: Input> {
+    selection: Selection<'s>,
+    context: Context,
+    gathered: Gathered<R>,
+    ready: Ready,
+    state: State,
+}
+
+impl<'s, R: Input> Model for Adapter<'s, R> {
+    ghost use Rattle.std.specs.Prelude.{◌≡◌, false};
+    ghost use Rattle.pcapng_input.specs.Adapted.{is_of_one};
+    ghost use Rattle.pcapng_input.specs.Adapter.{Adapter};
+    ghost use Rattle.pcapng_input.specs.State.{IsSound, IsTaken, stand_of};
+
+    ghost Value = { Adapter };
+
+    ghost view = { λ a. record {
+      selection = a.selection;
+      ready = a.ready;
+      stand = stand_of a.state a.context;
+      below = a.gathered;
+    } };
+
+    ghost invariant = { λ a. IsSound a.state a.context a.gathered × IsTaken a.selection a.state };
+}
+
+/// Whether the packets of one interface are asked for.
+fn is_of_one(selection: Selection<'_>) -> bool
+    ensures { result ≡ is_of_one selection.entry }
+{
+    match selection {
+        Selection::All => false,
+        Selection::Number(_) => true,
+        Selection::Name(_) => true,
+    }
+}
+
+impl<'s, R: Input> Adapter<'s, R> {
+    /// Reserves room, and reads nothing.
+    pub fn new(
+        alloc: Global,
+        input: R,
+        selection: Selection<'s>,
+        reads: u64,
+    ) -> Result<Adapter<'s, R>, AllocError>
+    where
+        R: Drop,
+        ensures told { IfOk result (λ adapter. told adapter ≡ option_map (told_text selection.entry) (R.remaining input)) }
+        ensures supply { IfOk result (λ adapter. adapter.below.supply ≡ record {
+          rest = R.remaining input;
+          calls = R.calls input;
+          failures = R.failures input;
+          ends = 0;
+          reads = min reads 35184372088832;
+        }) }
+        ensures fault { IfOk result (λ adapter. met_fault adapter ≡ None) }
+    {
+        let reads = if reads < MOST_READS {
+            reads
+        } else {
+            MOST_READS
+        };
+        let gathered = Gathered::new(alloc, input, reads)?;
+        let mut ready = Ready::new(alloc)?;
+        let state = if is_of_one(selection) {
+            ready.put(&global_header(), &[]);
+            State::Within
+        } else {
+            State::Begun
+        };
+        Ok(Adapter {
+            selection,
+            context: Context::new(alloc),
+            gathered,
+            ready,
+            state,
+        })
+    }
+
+    /// The fault that was met.
+    pub fn fault(&self) -> Option<PcapngFault>
+        ensures met { result ≡ met_fault self.now }
+        ensures exact { IfSome result (λ fault. IfSome (told_fault self.now) (λ told. told ≡ Some fault)) }
+    {
+        match self.state {
+            State::Faulty(fault) => Some(fault),
+            _ => None,
+        }
+    }
+
+    /// Gives what is told next, by as many reads below as it takes.
+    pub fn give(&mut self, octets: &mut [u8]) -> Result<usize, DeviceFault>
+        ensures bound { ReadsAtMost result octets.new }
+        ensures taken { ReadConsumes (told_octets self.old) (told_octets self.new) result octets.new }
+        ensures fault { KeepsFault (told_fault self.old) (told_fault self.new) }
+        ensures all { IfOk result (λ n. n ≡ 0 → 0 < length octets.new → IsAllTold (told self.new)) }
+        ensures spent { Spends self.old.below.supply self.new.below.supply }
+    {
+        if octets.is_empty() {
+            return Ok(0);
+        }
+        while self.ready.is_empty() {
+            match self.state {
+                State::Over => return Ok(0),
+                State::NoMemory | State::Faulty(_) => return Err(DeviceFault),
+                State::Plain => return self.gathered.pass(octets),
+                _ => self.advance()?,
+            }
+        }
+        Ok(self.ready.give(octets))
+    }
+
+    /// One read below, and what it brings.
+    fn advance(&mut self) -> Result<(), DeviceFault>
+        requires { self.old.ready ≡ [] }
+        ensures kept { KeepsTold (told self.old) (told self.new) }
+        ensures ready { OnErr result (self.new.ready ≡ []) }
+        ensures spent { Spends self.old.below.supply self.new.below.supply }
+        ensures fewer { OnOk result (self.new.below.supply.reads < self.old.below.supply.reads) }
+        ensures quiet { OnOk result (self.new.below.supply.failures ≡ self.old.below.supply.failures) }
+    {
+        match read_on(
+            self.selection,
+            &mut self.context,
+            &mut self.gathered,
+            &mut self.ready,
+            self.state,
+        ) {
+            Ok(state) => {
+                self.state = state;
+                Ok(())
+            }
+            Err(fault) => Err(fault),
+        }
+    }
+}

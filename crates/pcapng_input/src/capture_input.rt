@@ -1,0 +1,91 @@
+//! Inputs of captures.
+ghost use Rattle.std.specs.Prelude.{◌≡◌, ◌<◌, ℕ, Option, None, Some, min, length, option_map, IfOk, IfSome};
+ghost use Rattle.std.specs.Io.{ReadsAtMost};
+ghost use Rattle.std.specs.Io.KnownBytes.{ReadConsumes};
+ghost use Rattle.pcap_stream.specs.Counts.{CountsFaults, GoesOnBy};
+ghost use Rattle.pcap_stream.specs.Supply.{Spends};
+ghost use Rattle.pcapng_input.specs.Adapted.{told_text};
+ghost use Rattle.pcapng_input.specs.Adapter.{IsAllTold, KeepsFault, met_fault, told, told_fault, told_octets};
+
+use crate::adapter::Adapter;
+use crate::fault::PcapngFault;
+use crate::interface::Selection;
+use pcap_stream::{DeviceFault, Input};
+use std::alloc::{AllocError, Global};
+
+/// An input of a capture: a pcapng one is told as the classic capture of its packets, and any other octet for octet.
+///
+/// It keeps the octets of one block, 327,680, and of one record, and what the section describes. A text is pcapng where it
+/// begins with the octets 0A 0D 0D 0A. Where the packets of one interface are asked for, only pcapng is taken: any other
+/// text has the fault `NoSection` then. At a fault of a pcapng text, and once memory was refused, each read fails.
+#[derive(Drop)]
+pub struct CaptureInput<'s, R: Input> {
+    adapter: Adapter<'s, R>,
+    calls: u64,
+    failures: u64,
+}
+
+impl<'s, R: Input> CaptureInput<'s, R> {
+    /// Reserves room, and reads nothing. `reads` is how many reads of the input it may make over its life, of which it
+    /// makes at most 35,184,372,088,832: a read that would need one more fails.
+    pub fn new(
+        alloc: Global,
+        input: R,
+        selection: Selection<'s>,
+        reads: u64,
+    ) -> Result<CaptureInput<'s, R>, AllocError>
+    where
+        R: Drop,
+        ensures told { IfOk result (λ made. told made.adapter ≡ option_map (told_text selection.entry) (R.remaining input)) }
+        ensures supply { IfOk result (λ made. made.adapter.below.supply ≡ record {
+          rest = R.remaining input;
+          calls = R.calls input;
+          failures = R.failures input;
+          ends = 0;
+          reads = min reads 35184372088832;
+        }) }
+        ensures fault { IfOk result (λ made. met_fault made.adapter ≡ None) }
+    {
+        let adapter = Adapter::new(alloc, input, selection, reads)?;
+        Ok(CaptureInput {
+            adapter,
+            calls: 0,
+            failures: 0,
+        })
+    }
+
+    /// The first fault of the pcapng text, once it was met.
+    pub fn fault(&self) -> Option<PcapngFault>
+        ensures met { result ≡ met_fault self.now.adapter }
+        ensures exact { IfSome result (λ fault. IfSome (told_fault self.now.adapter) (λ told. told ≡ Some fault)) }
+    {
+        self.adapter.fault()
+    }
+}
+
+impl<'s, R: Input> Input for CaptureInput<'s, R> {
+    ghost remaining = { λ s. told_octets s.adapter };
+
+    ghost calls = { λ s. s.calls };
+
+    ghost failures = { λ s. s.failures };
+
+    fn read(&mut self, octets: &mut [u8]) -> Result<usize, DeviceFault>
+        ensures bound { ReadsAtMost result octets.new }
+        ensures taken { ReadConsumes (told_octets self.old.adapter) (told_octets self.new.adapter) result octets.new }
+        ensures calls { GoesOnBy 1 self.old.calls self.new.calls }
+        ensures failures { CountsFaults self.old.failures self.new.failures result }
+        ensures fault { KeepsFault (told_fault self.old.adapter) (told_fault self.new.adapter) }
+        ensures all { IfOk result (λ n. n ≡ 0 → 0 < length octets.new → IsAllTold (told self.new.adapter)) }
+        ensures spent { Spends self.old.adapter.below.supply self.new.adapter.below.supply }
+    {
+        self.calls = self.calls.wrapping_add(1);
+        match self.adapter.give(octets) {
+            Ok(n) => Ok(n),
+            Err(fault) => {
+                self.failures = self.failures.wrapping_add(1);
+                Err(fault)
+            }
+        }
+    }
+}

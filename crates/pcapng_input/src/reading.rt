@@ -1,0 +1,217 @@
+//! What one more read brings an adapted input to.
+ghost use Rattle.std.specs.Prelude.{◌≡◌, ◌≤◌, ◌<◌, ◌+◌, ◌-◌, [], false, length, IfOk, OnErr, OnOk};
+ghost use Rattle.std.specs.Io.KnownBytes.{Keeps};
+ghost use Rattle.pcap_stream.specs.Supply.{GivesUp, Spends};
+ghost use Rattle.pcapng_input.specs.Adapted.{Begun, Passing, Within, is_of_one};
+ghost use Rattle.pcapng_input.specs.Reading.{start};
+ghost use Rattle.pcapng_input.specs.State.{IsSound, IsTaken, Leads, stand_of};
+ghost use Rattle.pcapng_input.specs.declared.interface.Selection.{Selection};
+ghost use Rattle.pcapng_input.specs.declared.state.State.TheVariants as state;
+
+use crate::block::{LONGEST_BLOCK, is_pcapng};
+use crate::context::Context;
+use crate::fault::BlockFault;
+use crate::gathered::Gathered;
+use crate::interface::Selection;
+use crate::number::number4;
+use crate::ready::Ready;
+use crate::settle::{Settled, settle, wanted};
+use crate::state::State;
+use pcap_io::{Order, global_header};
+use pcap_stream::{DeviceFault, Input};
+
+/// The octets by which the format is told.
+const MAGIC: usize = 4;
+
+/// The octets of a block's second length.
+const SECOND_LENGTH: usize = 4;
+
+/// Reads the first octets, by which the format is told.
+pub fn read_magic<R: Input>(
+    context: &Context,
+    gathered: &mut Gathered<R>,
+    ready: &mut Ready,
+) -> Result<State, DeviceFault>
+    requires sound { IsSound state.Begun context.now gathered.old }
+    requires empty { ready.old ≡ [] }
+    ensures leads { IfOk result (λ state. (selection : Selection) → is_of_one selection ≡ false → Leads selection Begun gathered.old context.now ready.new gathered.new state) }
+    ensures taken { IfOk result (λ state. (selection : Selection) → is_of_one selection ≡ false → IsTaken selection state) }
+    ensures sound { IfOk result (λ state. IsSound state context.now gathered.new) }
+    ensures ready { OnErr result (ready.new ≡ []) }
+    ensures held { OnErr result (gathered.new.held ≡ gathered.old.held) }
+    ensures kept { OnErr result (Keeps gathered.old.supply.rest gathered.new.supply.rest) }
+    ensures spent { Spends gathered.old.supply gathered.new.supply }
+    ensures fewer { OnOk result (gathered.new.supply.reads < gathered.old.supply.reads) }
+    ensures quiet { OnOk result (gathered.new.supply.failures ≡ gathered.old.supply.failures) }
+    ensures gives_up { OnErr result (GivesUp gathered.old.supply gathered.new.supply) }
+{
+    let is_more = gathered.fetch(MAGIC)?;
+    let held = gathered.held();
+    if is_more && held.len() < MAGIC {
+        return Ok(State::Begun);
+    }
+    if is_pcapng(held) {
+        ready.put(&global_header(), &[]);
+        return Ok(State::Within);
+    }
+    ready.put(held, &[]);
+    gathered.clear();
+    Ok(State::Plain)
+}
+
+/// Reads more of a block.
+pub fn read_block<R: Input>(
+    selection: Selection<'_>,
+    context: &mut Context,
+    gathered: &mut Gathered<R>,
+    ready: &mut Ready,
+) -> Result<State, DeviceFault>
+    requires sound { IsSound state.Within context.old gathered.old }
+    requires empty { ready.old ≡ [] }
+    ensures leads { IfOk result (Leads selection.entry (Within context.old) gathered.old context.new ready.new gathered.new) }
+    ensures taken { IfOk result (IsTaken selection.entry) }
+    ensures sound { IfOk result (λ state. IsSound state context.new gathered.new) }
+    ensures context { OnErr result (context.new ≡ context.old) }
+    ensures ready { OnErr result (ready.new ≡ []) }
+    ensures held { OnErr result (gathered.new.held ≡ gathered.old.held) }
+    ensures kept { OnErr result (Keeps gathered.old.supply.rest gathered.new.supply.rest) }
+    ensures spent { Spends gathered.old.supply gathered.new.supply }
+    ensures fewer { OnOk result (gathered.new.supply.reads < gathered.old.supply.reads) }
+    ensures quiet { OnOk result (gathered.new.supply.failures ≡ gathered.old.supply.failures) }
+    ensures gives_up { OnErr result (GivesUp gathered.old.supply gathered.new.supply) }
+{
+    let wanted = wanted(context.order(), gathered.held());
+    let is_more = gathered.fetch(wanted)?;
+    let held = gathered.held();
+    match settle(selection, context, ready, held, is_more) {
+        Settled::Unfinished => Ok(State::Within),
+        Settled::Long { order, size } => {
+            let left = size - SECOND_LENGTH - held.len();
+            gathered.clear();
+            Ok(State::Passing { order, size, left })
+        }
+        Settled::Taken => {
+            gathered.clear();
+            Ok(State::Within)
+        }
+        Settled::Ended => Ok(State::Over),
+        Settled::Refused(fault) => Ok(State::Faulty(fault)),
+        Settled::NoMemory => Ok(State::NoMemory),
+    }
+}
+
+/// Reads what stands in front of the second length of a block that is passed over.
+pub fn pass_body<R: Input>(
+    context: &Context,
+    gathered: &mut Gathered<R>,
+    ready: &mut Ready,
+    order: Order,
+    size: usize,
+    left: usize,
+) -> Result<State, DeviceFault>
+    requires sound { IsSound (state.Passing order size left) context.now gathered.old }
+    requires some { 0 < left }
+    requires empty { ready.old ≡ [] }
+    ensures leads { IfOk result (λ state. (selection : Selection) → Leads selection (Passing context.now order size left) gathered.old context.now ready.new gathered.new state) }
+    ensures taken { IfOk result (λ state. (selection : Selection) → IsTaken selection state) }
+    ensures sound { IfOk result (λ state. IsSound state context.now gathered.new) }
+    ensures ready { OnErr result (ready.new ≡ []) }
+    ensures held { OnErr result (gathered.new.held ≡ gathered.old.held) }
+    ensures kept { OnErr result (Keeps gathered.old.supply.rest gathered.new.supply.rest) }
+    ensures spent { Spends gathered.old.supply gathered.new.supply }
+    ensures fewer { OnOk result (gathered.new.supply.reads < gathered.old.supply.reads) }
+    ensures quiet { OnOk result (gathered.new.supply.failures ≡ gathered.old.supply.failures) }
+    ensures gives_up { OnErr result (GivesUp gathered.old.supply gathered.new.supply) }
+{
+    let wanted = if left < LONGEST_BLOCK {
+        left
+    } else {
+        LONGEST_BLOCK
+    };
+    let is_more = gathered.fetch(wanted)?;
+    if !is_more {
+        ready.put(&[0], &[]);
+        return Ok(State::Over);
+    }
+    let left = left - gathered.held().len();
+    gathered.clear();
+    Ok(State::Passing { order, size, left })
+}
+
+/// Reads the second length of a block that is passed over.
+pub fn pass_end<R: Input>(
+    context: &mut Context,
+    gathered: &mut Gathered<R>,
+    ready: &mut Ready,
+    order: Order,
+    size: usize,
+) -> Result<State, DeviceFault>
+    requires sound { IsSound (state.Passing order size 0) context.old gathered.old }
+    requires empty { ready.old ≡ [] }
+    ensures leads { IfOk result (λ state. (selection : Selection) → Leads selection (Passing context.old order size 0) gathered.old context.new ready.new gathered.new state) }
+    ensures taken { IfOk result (λ state. (selection : Selection) → IsTaken selection state) }
+    ensures sound { IfOk result (λ state. IsSound state context.new gathered.new) }
+    ensures context { OnErr result (context.new ≡ context.old) }
+    ensures ready { OnErr result (ready.new ≡ []) }
+    ensures held { OnErr result (gathered.new.held ≡ gathered.old.held) }
+    ensures kept { OnErr result (Keeps gathered.old.supply.rest gathered.new.supply.rest) }
+    ensures spent { Spends gathered.old.supply gathered.new.supply }
+    ensures fewer { OnOk result (gathered.new.supply.reads < gathered.old.supply.reads) }
+    ensures quiet { OnOk result (gathered.new.supply.failures ≡ gathered.old.supply.failures) }
+    ensures gives_up { OnErr result (GivesUp gathered.old.supply gathered.new.supply) }
+{
+    let is_more = gathered.fetch(SECOND_LENGTH)?;
+    let held = gathered.held();
+    if !is_more {
+        ready.put(&[0], &[]);
+        return Ok(State::Over);
+    }
+    if held.len() < SECOND_LENGTH {
+        return Ok(State::Passing {
+            order,
+            size,
+            left: 0,
+        });
+    }
+    if number4(order, held) as usize != size {
+        return Ok(State::Faulty(context.fault(BlockFault::BadLength)));
+    }
+    context.skip(size as u64);
+    gathered.clear();
+    Ok(State::Within)
+}
+
+/// One read below, and what it brings. At the end, at a fault and in a text that is told as it is none is made here.
+pub fn read_on<R: Input>(
+    selection: Selection<'_>,
+    context: &mut Context,
+    gathered: &mut Gathered<R>,
+    ready: &mut Ready,
+    state: State,
+) -> Result<State, DeviceFault>
+    requires sound { IsSound state context.old gathered.old }
+    requires taken { IsTaken selection state }
+    requires empty { ready.old ≡ [] }
+    ensures leads { IfOk result (Leads selection.entry (stand_of state context.old) gathered.old context.new ready.new gathered.new) }
+    ensures taken { IfOk result (IsTaken selection.entry) }
+    ensures sound { IfOk result (λ state. IsSound state context.new gathered.new) }
+    ensures context { OnErr result (context.new ≡ context.old) }
+    ensures ready { OnErr result (ready.new ≡ []) }
+    ensures held { OnErr result (gathered.new.held ≡ gathered.old.held) }
+    ensures kept { OnErr result (Keeps gathered.old.supply.rest gathered.new.supply.rest) }
+    ensures spent { Spends gathered.old.supply gathered.new.supply }
+    ensures fewer { OnOk result (gathered.new.supply.reads < gathered.old.supply.reads) }
+    ensures quiet { OnOk result (gathered.new.supply.failures ≡ gathered.old.supply.failures) }
+{
+    match state {
+        State::Begun => read_magic(context, gathered, ready),
+        State::Within => read_block(selection, context, gathered, ready),
+        State::Passing { order, size, left } => {
+            if left > 0 {
+                return pass_body(context, gathered, ready, order, size, left);
+            }
+            pass_end(context, gathered, ready, order, size)
+        }
+        _ => Err(DeviceFault),
+    }
+}

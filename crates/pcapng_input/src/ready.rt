@@ -1,0 +1,94 @@
+//! Octets that are ready to be given.
+ghost use Rattle.std.specs.Prelude.{◌≡◌, ◌≤◌, ◌<◌, ◌+◌, ◌++◌, [], length, nat_eq, take, IfOk};
+ghost use Rattle.pcap_io.specs.Record.{longest};
+
+use pcap_io::{LONGEST, RECORD_HEADER_LENGTH};
+use std::alloc::{AllocError, Global};
+use std::marker::Model;
+
+/// Octets that are ready to be given from the front, at most those of a record. Contracts see them.
+#[derive(Drop)]
+pub struct Ready {
+    room: Vec<u8>,
+    from: usize,
+    to: usize,
+}
+
+impl Model for Ready {
+    ghost use Rattle.std.specs.Prelude.{◌≡◌, ◌≤◌, ◌-◌, ◌+◌, ℕ, List, length, take, drop};
+    ghost use Rattle.pcap_io.specs.Record.{longest};
+
+    ghost Value = { List ℕ };
+
+    ghost view = { λ r. take (r.to - r.from) (drop r.from r.room.items) };
+
+    ghost invariant = { λ r. (r.from ≤ r.to) × (r.to ≤ length r.room.items) × (length r.room.items ≡ longest + 16) };
+}
+
+/// Puts a text behind the first `at` octets of a room, and says where it ends.
+fn put_behind(room: &mut [u8], at: usize, text: &[u8]) -> usize
+    requires { at + length text.now ≤ length room.old }
+    ensures end { result ≡ at + length text.now }
+    ensures text { take result room.new ≡ take at room.old ++ text.now }
+{
+    let end = at + text.len();
+    room[at..end].copy_from_slice(text);
+    end
+}
+
+/// Copies the first octets of a text, as many as there is room for, and says how many.
+fn copy_front(octets: &mut [u8], text: &[u8]) -> usize
+    ensures fits { result ≤ length octets.new }
+    ensures within { result ≤ length text.now }
+    ensures same { take result octets.new ≡ take result text.now }
+    ensures some { result ≡ 0 → 0 < length octets.new → length text.now ≡ 0 }
+{
+    let size = if octets.len() < text.len() {
+        octets.len()
+    } else {
+        text.len()
+    };
+    octets[..size].copy_from_slice(&text[..size]);
+    size
+}
+
+impl Ready {
+    /// Reserves the room. Nothing is ready yet.
+    pub fn new(alloc: Global) -> Result<Ready, AllocError>
+        ensures { IfOk result (λ ready. ready ≡ []) }
+    {
+        let room = vec![in alloc; 0u8; LONGEST + RECORD_HEADER_LENGTH]?;
+        Ok(Ready {
+            room,
+            from: 0,
+            to: 0,
+        })
+    }
+
+    pub fn is_empty(&self) -> bool
+        ensures { result ≡ nat_eq (length self.now) 0 }
+    {
+        self.from == self.to
+    }
+
+    /// Makes two texts ready, one behind the other, in place of what was.
+    pub fn put(&mut self, front: &[u8], behind: &[u8])
+        requires { length front.now + length behind.now ≤ longest + 16 }
+        ensures { self.new ≡ front.now ++ behind.now }
+    {
+        let middle = put_behind(self.room.as_mut_slice(), 0, front);
+        self.to = put_behind(self.room.as_mut_slice(), middle, behind);
+        self.from = 0;
+    }
+
+    /// Gives what is ready from the front, and says how much.
+    pub fn give(&mut self, octets: &mut [u8]) -> usize
+        ensures fits { result ≤ length octets.new }
+        ensures given { self.old ≡ take result octets.new ++ self.new }
+        ensures some { result ≡ 0 → 0 < length octets.new → self.old ≡ [] }
+    {
+        let size = copy_front(octets, &self.room[self.from..self.to]);
+        self.from += size;
+        size
+    }
+}

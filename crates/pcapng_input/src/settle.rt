@@ -1,0 +1,116 @@
+//! What is made of the octets that were read of a block.
+ghost use Rattle.std.specs.Prelude.{◌≡◌, ◌≤◌, ◌<◌, ◌+◌, ◌^◌, [], length, IfSome};
+ghost use Rattle.pcap_io.specs.Record.{IsWithinLimits};
+ghost use Rattle.pcapng_input.specs.Block.{longest_block, order_at};
+ghost use Rattle.pcapng_input.specs.Classic.{found_text};
+ghost use Rattle.pcapng_input.specs.State.{IsSettled, wanted_size, wanting_by};
+
+use crate::block::{EMPTY_BLOCK, LONGEST_BLOCK, NextBlock, next_block, order_at};
+use crate::classic::record_head;
+use crate::context::Context;
+use crate::fault::{PcapngError, PcapngFault};
+use crate::interface::Selection;
+use crate::number::number4;
+use crate::ready::Ready;
+use pcap_io::{Order, Record};
+
+/// What is made of the octets that were read of a block.
+#[derive(Clone, Copy)]
+pub enum Settled {
+    /// More of them are wanted.
+    Unfinished,
+    /// The block has more than there is room for, and is passed over.
+    Long { order: Order, size: usize },
+    /// It was taken. Its record is ready, if it has one.
+    Taken,
+    /// The text ends here. What tells that it is cut is ready, if it is.
+    Ended,
+    /// The block has a fault.
+    Refused(PcapngFault),
+    /// Memory was refused.
+    NoMemory,
+}
+
+/// How many octets of a block are wanted, by those that were read of it.
+#[tactic(auto, unfolding(crate::specs::State::wanted_size))]
+pub fn wanted(section: Option<Order>, held: &[u8]) -> usize
+    ensures { result ≡ wanted_size section held.now }
+{
+    if held.len() < EMPTY_BLOCK {
+        return EMPTY_BLOCK;
+    }
+    let Some(order) = order_at(section, held) else {
+        return EMPTY_BLOCK;
+    };
+    let size = number4(order, &held[4..]) as usize;
+    if size < EMPTY_BLOCK {
+        return EMPTY_BLOCK;
+    }
+    size
+}
+
+/// Makes a record ready, if there is one.
+fn put_found(ready: &mut Ready, found: Option<Record<'_>>)
+    requires limits { IfSome found IsWithinLimits }
+    requires empty { ready.old ≡ [] }
+    ensures { ready.new ≡ found_text found.entry }
+{
+    if let Some(packet) = found {
+        let head = record_head(packet.moment, packet.octets.len() as u32, packet.original);
+        ready.put(&head, packet.octets);
+    }
+}
+
+/// Where more of a block is wanted than was read of it.
+fn unfinished(section: Option<Order>, held: &[u8]) -> Settled
+    requires { 12 ≤ length held.now }
+    ensures { result ≡ wanting_by (order_at section held.now) held.now }
+{
+    let Some(order) = order_at(section, held) else {
+        return Settled::Unfinished;
+    };
+    let size = number4(order, &held[4..]) as usize;
+    if size > LONGEST_BLOCK {
+        return Settled::Long { order, size };
+    }
+    Settled::Unfinished
+}
+
+/// What is made of the octets that were read of a block. There is nothing behind them where `is_more` is false.
+pub fn settle(
+    selection: Selection<'_>,
+    context: &mut Context,
+    ready: &mut Ready,
+    held: &[u8],
+    is_more: bool,
+) -> Settled
+    requires empty { ready.old ≡ [] }
+    requires size { length held.now ≤ longest_block }
+    requires part { length held.now ≤ wanted_size context.old.order held.now }
+    requires blocks { context.old.blocks + 1 < 2 ^ 64 }
+    requires offset { context.old.offset + length held.now < 2 ^ 64 }
+    ensures { IsSettled selection.entry context.old context.new held.now ready.new is_more result }
+{
+    if is_more && held.len() < EMPTY_BLOCK {
+        return Settled::Unfinished;
+    }
+    match next_block(context.order(), held) {
+        NextBlock::Another(block, _) => match context.step(selection, &block) {
+            Ok(found) => {
+                put_found(ready, found);
+                Settled::Taken
+            }
+            Err(PcapngError::Faulty(fault)) => Settled::Refused(fault),
+            Err(PcapngError::OutOfMemory) => Settled::NoMemory,
+        },
+        NextBlock::AllRead => Settled::Ended,
+        NextBlock::CutShort => {
+            if is_more {
+                return unfinished(context.order(), held);
+            }
+            ready.put(&[0], &[]);
+            Settled::Ended
+        }
+        NextBlock::Refused(fault) => Settled::Refused(context.fault(fault)),
+    }
+}

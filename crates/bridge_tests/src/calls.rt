@@ -29,7 +29,7 @@ pub(crate) enum Call {
 }
 
 /// What a call answers; Out where it isn't for a segment, comes too early or is out of range.
-#[derive(Clone, Copy, Debug, PartialEq, Eq)]
+#[derive(Clone, Copy, PartialEq, Eq)]
 pub(crate) enum Answer {
     Stands(Option<Place>),
     Learned(Learned),
@@ -112,11 +112,49 @@ pub(crate) fn set_limit<T: PoolTables>(tables: &mut T, vid: Vid, limit: u16, now
     true
 }
 
-/// The next number of a linear congruential sequence.
-pub(crate) fn next(number: u64) -> u64 {
-    number
-        .wrapping_mul(6_364_136_223_846_793_005)
-        .wrapping_add(1_442_695_040_888_963_407)
+/// Whether two tables answer the same to a call, which isn't out of place.
+pub(crate) fn agree<S: Tables, T: Tables>(
+    one: &mut S,
+    other: &mut T,
+    vid: Vid,
+    now: u64,
+    call: Call,
+) -> bool {
+    let wanted = call_on(one, vid, now, call);
+    wanted != Answer::Out && call_on(other, vid, now, call) == wanted
+}
+
+/// A course of calls, told by the numbers of a linear congruential sequence. Moments never go back.
+#[derive(Drop)]
+pub(crate) struct Course {
+    number: u64,
+    pub(crate) now: u64,
+}
+
+impl Course {
+    pub(crate) fn new() -> Course {
+        Course { number: 1, now: 0 }
+    }
+
+    /// Goes on to the next call.
+    pub(crate) fn go_on(&mut self) {
+        self.number = self
+            .number
+            .wrapping_mul(6_364_136_223_846_793_005)
+            .wrapping_add(1_442_695_040_888_963_407);
+        self.now = self
+            .now
+            .saturating_add((self.number >> 34) % 4 * 500_000_000);
+    }
+
+    /// Which of four segments is called.
+    pub(crate) fn quarter(&self) -> u64 {
+        (self.number >> 5) % 4
+    }
+
+    pub(crate) fn call(&self) -> Call {
+        call_of(self.number)
+    }
 }
 
 /// The place that a number tells.
@@ -131,7 +169,7 @@ fn place_of(number: u64) -> Place {
 }
 
 /// The call that a number tells.
-pub(crate) fn call_of(number: u64) -> Call {
+fn call_of(number: u64) -> Call {
     let last = ((number >> 16) % 12) as u8;
     let place = place_of(number >> 24);
     match (number >> 40) % 20 {

@@ -1,9 +1,8 @@
 //! Calls of the tables of two segments, answered by both bodies of the trait: a list for each segment, and one pool of
 //! slots.
-ghost use Rattle.std.specs.Prelude.{◌≤◌};
-
 use crate::calls::{Answer, Call, GENEVE_2, PORT_1, PORT_2, SECOND, VXLAN_2, call_on};
-use filter_db::{Learned, ListTables, NotThere, TableFull, TableRule};
+use crate::checks::check_at;
+use filter_db::{Learned, ListTables, NotThere, TableFull, TableRule, Tables};
 use frame_view::Vid;
 use shared_tables::SharedTables;
 use std::alloc::Global;
@@ -44,19 +43,20 @@ const LIVE_1: Answer = Answer::Count(1);
 
 const DONE: Answer = Answer::Done;
 
-/// Opens tables with this limit and ageing for VID 9 and VID 10, and calls them: a VID, a moment, a call and its answer
-/// each.
-fn run(
-    rt: &impl Abort,
-    alloc: Global,
-    name: &str,
+/// Calls of tables that are opened with this limit and ageing for VID 9 and VID 10: a VID, a moment, a call and its
+/// answer each.
+struct Run {
+    name: &'static str,
     limit: u16,
     ageing: u32,
-    calls: &[(u16, u64, Call, Answer)],
-) -> Result<(), Fail>
-    requires limit { (1 ≤ limit) × (limit ≤ 8192) }
-    requires ageing { (10 ≤ ageing) × (ageing ≤ 1000000) }
-{
+    calls: &'static [(u16, u64, Call, Answer)],
+}
+
+/// Both bodies of the trait, opened for VID 9 and VID 10 with this limit and ageing.
+fn opened(alloc: Global, limit: u16, ageing: u32) -> Result<(ListTables, SharedTables), Fail> {
+    if limit < 1 || limit > 8192 || ageing < 10 || ageing > 1_000_000 {
+        return Err(Fail::new("a limit or an ageing out of range"));
+    }
     let nine = Vid::new(9).ok_or("VID 9")?;
     let ten = Vid::new(10).ok_or("VID 10")?;
     let rules = [
@@ -71,105 +71,161 @@ fn run(
             ageing,
         },
     ];
-    let mut lists = ListTables::open(alloc, &rules)?;
-    let mut shared = SharedTables::open(alloc, &rules, 2 * u32::from(limit))?;
-    for (number, (vid, now, call, wanted)) in calls.iter().enumerate() {
-        let vid = if *vid == 9 { nine } else { ten };
-        let given = call_on(&mut lists, vid, *now, *call);
-        assert!(rt; given == *wanted, "{name}, call {number} of lists");
-        let given = call_on(&mut shared, vid, *now, *call);
-        assert!(rt; given == *wanted, "{name}, call {number} of the pool");
+    let lists = ListTables::open(alloc, &rules)?;
+    let shared = SharedTables::open(alloc, &rules, 2 * u32::from(limit))?;
+    Ok((lists, shared))
+}
+
+/// Asks both bodies for the answers of runs.
+fn answer(rt: &impl Abort, alloc: Global, runs: &[Run]) -> Result<(), Fail> {
+    for run in runs {
+        let (mut lists, mut shared) = opened(alloc, run.limit, run.ageing)?;
+        for (number, told) in run.calls.iter().enumerate() {
+            check_at(rt, is_answered(&mut lists, told), run.name, number);
+            check_at(rt, is_answered(&mut shared, told), run.name, number);
+        }
     }
     Ok(())
 }
 
+/// Whether tables answer a call so.
+fn is_answered<T: Tables>(tables: &mut T, told: &(u16, u64, Call, Answer)) -> bool {
+    let (number, now, call, wanted) = *told;
+    match Vid::new(number) {
+        Some(vid) => call_on(tables, vid, now, call) == wanted,
+        None => false,
+    }
+}
+
+const AGEING: [Run; 3] = [
+    Run {
+        name: "ageing 300",
+        limit: 8,
+        ageing: 300,
+        calls: &[
+            (10, 0, Call::Learn(1, PORT_1), NEW),
+            (10, 299_999_999_999, Call::Look(1), AT_PORT_1),
+            (10, 300 * SECOND, Call::Look(1), ABSENT),
+            (10, 299_999_999_999, Call::Live, LIVE_1),
+            (10, 300 * SECOND, Call::Live, LIVE_0),
+        ],
+    },
+    Run {
+        name: "ageing 10",
+        limit: 8,
+        ageing: 10,
+        calls: &[
+            (10, 0, Call::Learn(2, PORT_2), NEW),
+            (10, 9_999_999_999, Call::Look(2), AT_PORT_2),
+            (10, 10_000_000_000, Call::Look(2), ABSENT),
+            (10, 5 * SECOND, Call::Learn(2, PORT_2), REFRESHED),
+            (10, 14_999_999_999, Call::Look(2), AT_PORT_2),
+            (10, 15 * SECOND, Call::Learn(2, PORT_1), NEW),
+        ],
+    },
+    Run {
+        name: "ageing raised",
+        limit: 8,
+        ageing: 10,
+        calls: &[
+            (10, 0, Call::Learn(2, PORT_2), NEW),
+            (10, 15 * SECOND, Call::Learn(3, PORT_2), NEW),
+            (10, 20 * SECOND, Call::SetAgeing(300), DONE),
+            (10, 20 * SECOND, Call::Look(2), ABSENT),
+            (10, 20 * SECOND, Call::Live, LIVE_1),
+            (10, 314 * SECOND, Call::Look(3), AT_PORT_2),
+            (10, 314 * SECOND, Call::SetAgeing(10), DONE),
+            (10, 314 * SECOND, Call::Live, LIVE_0),
+        ],
+    },
+];
+
 #[test]
 fn forgets_at_the_ageing(rt: HostRuntime) -> Result<(), Fail> {
-    let long = [
-        (10, 0, Call::Learn(1, PORT_1), NEW),
-        (10, 299_999_999_999, Call::Look(1), AT_PORT_1),
-        (10, 300 * SECOND, Call::Look(1), ABSENT),
-        (10, 299_999_999_999, Call::Live, LIVE_1),
-        (10, 300 * SECOND, Call::Live, LIVE_0),
-    ];
-    run(&rt, rt.alloc(), "ageing 300", 8, 300, &long)?;
-    let short = [
-        (10, 0, Call::Learn(2, PORT_2), NEW),
-        (10, 9_999_999_999, Call::Look(2), AT_PORT_2),
-        (10, 10_000_000_000, Call::Look(2), ABSENT),
-        (10, 5 * SECOND, Call::Learn(2, PORT_2), REFRESHED),
-        (10, 14_999_999_999, Call::Look(2), AT_PORT_2),
-        (10, 15 * SECOND, Call::Learn(2, PORT_1), NEW),
-    ];
-    run(&rt, rt.alloc(), "ageing 10", 8, 10, &short)?;
-    let raised = [
-        (10, 0, Call::Learn(2, PORT_2), NEW),
-        (10, 15 * SECOND, Call::Learn(3, PORT_2), NEW),
-        (10, 20 * SECOND, Call::SetAgeing(300), DONE),
-        (10, 20 * SECOND, Call::Look(2), ABSENT),
-        (10, 20 * SECOND, Call::Live, LIVE_1),
-        (10, 314 * SECOND, Call::Look(3), AT_PORT_2),
-        (10, 314 * SECOND, Call::SetAgeing(10), DONE),
-        (10, 314 * SECOND, Call::Live, LIVE_0),
-    ];
-    run(&rt, rt.alloc(), "ageing raised", 8, 10, &raised)
+    answer(&rt, rt.alloc(), &AGEING)
 }
+
+const LIMITS: [Run; 2] = [
+    Run {
+        name: "limit 2",
+        limit: 2,
+        ageing: 10,
+        calls: &[
+            (10, 0, Call::Learn(1, PORT_1), NEW),
+            (10, SECOND, Call::Learn(2, PORT_1), NEW),
+            (10, 2 * SECOND, Call::Learn(3, PORT_2), FULL),
+            (10, 2 * SECOND, Call::Fix(3, PORT_2), NO_ROOM),
+            (10, 2 * SECOND, Call::Look(3), ABSENT),
+            (10, 3 * SECOND, Call::Learn(2, PORT_1), REFRESHED),
+            (10, 10 * SECOND, Call::Learn(3, PORT_2), NEW),
+            (10, 10 * SECOND, Call::Look(1), ABSENT),
+            (10, 10 * SECOND, Call::Fix(2, PORT_1), FIXED),
+            (10, 20 * SECOND, Call::Live, LIVE_1),
+        ],
+    },
+    Run {
+        name: "limit 1 of two segments",
+        limit: 1,
+        ageing: 10,
+        calls: &[
+            (10, 0, Call::Learn(1, PORT_1), NEW),
+            (9, 0, Call::Learn(2, PORT_1), NEW),
+            (9, 0, Call::Learn(1, PORT_1), FULL),
+            (10, 0, Call::Learn(1, PORT_1), REFRESHED),
+            (9, 0, Call::Look(1), ABSENT),
+        ],
+    },
+];
 
 #[test]
 fn keeps_to_its_limit(rt: HostRuntime) -> Result<(), Fail> {
-    let two = [
-        (10, 0, Call::Learn(1, PORT_1), NEW),
-        (10, SECOND, Call::Learn(2, PORT_1), NEW),
-        (10, 2 * SECOND, Call::Learn(3, PORT_2), FULL),
-        (10, 2 * SECOND, Call::Fix(3, PORT_2), NO_ROOM),
-        (10, 2 * SECOND, Call::Look(3), ABSENT),
-        (10, 3 * SECOND, Call::Learn(2, PORT_1), REFRESHED),
-        (10, 10 * SECOND, Call::Learn(3, PORT_2), NEW),
-        (10, 10 * SECOND, Call::Look(1), ABSENT),
-        (10, 10 * SECOND, Call::Fix(2, PORT_1), FIXED),
-        (10, 20 * SECOND, Call::Live, LIVE_1),
-    ];
-    run(&rt, rt.alloc(), "limit 2", 2, 10, &two)?;
-    let one = [
-        (10, 0, Call::Learn(1, PORT_1), NEW),
-        (9, 0, Call::Learn(2, PORT_1), NEW),
-        (9, 0, Call::Learn(1, PORT_1), FULL),
-        (10, 0, Call::Learn(1, PORT_1), REFRESHED),
-        (9, 0, Call::Look(1), ABSENT),
-    ];
-    run(&rt, rt.alloc(), "limit 1 of two segments", 1, 10, &one)
+    answer(&rt, rt.alloc(), &LIMITS)
 }
+
+const APART: [Run; 2] = [
+    Run {
+        name: "two segments",
+        limit: 8,
+        ageing: 300,
+        calls: &[
+            (9, 0, Call::Learn(1, PORT_1), NEW),
+            (10, 0, Call::Learn(1, VXLAN_2), NEW),
+            (9, 0, Call::Look(1), AT_PORT_1),
+            (10, 0, Call::Look(1), AT_VXLAN_2),
+            (9, SECOND, Call::Flush, DONE),
+            (9, SECOND, Call::Look(1), ABSENT),
+            (10, SECOND, Call::Look(1), AT_VXLAN_2),
+        ],
+    },
+    Run {
+        name: "places",
+        limit: 8,
+        ageing: 300,
+        calls: &[
+            (10, 0, Call::Learn(1, VXLAN_2), NEW),
+            (10, 0, Call::Learn(1, GENEVE_2), MOVED),
+            (10, 0, Call::Learn(2, VXLAN_2), NEW),
+            (10, 0, Call::Learn(3, PORT_1), NEW),
+            (10, 0, Call::Fix(4, VXLAN_2), FIXED),
+            (10, 0, Call::FlushPlace(VXLAN_2), DONE),
+            (10, 0, Call::Look(1), AT_GENEVE_2),
+            (10, 0, Call::Look(2), ABSENT),
+            (10, 0, Call::Look(3), AT_PORT_1),
+            (10, 0, Call::Look(4), AT_VXLAN_2),
+        ],
+    },
+];
 
 #[test]
 fn keeps_segments_and_places_apart(rt: HostRuntime) -> Result<(), Fail> {
-    let segments = [
-        (9, 0, Call::Learn(1, PORT_1), NEW),
-        (10, 0, Call::Learn(1, VXLAN_2), NEW),
-        (9, 0, Call::Look(1), AT_PORT_1),
-        (10, 0, Call::Look(1), AT_VXLAN_2),
-        (9, SECOND, Call::Flush, DONE),
-        (9, SECOND, Call::Look(1), ABSENT),
-        (10, SECOND, Call::Look(1), AT_VXLAN_2),
-    ];
-    run(&rt, rt.alloc(), "two segments", 8, 300, &segments)?;
-    let places = [
-        (10, 0, Call::Learn(1, VXLAN_2), NEW),
-        (10, 0, Call::Learn(1, GENEVE_2), MOVED),
-        (10, 0, Call::Learn(2, VXLAN_2), NEW),
-        (10, 0, Call::Learn(3, PORT_1), NEW),
-        (10, 0, Call::Fix(4, VXLAN_2), FIXED),
-        (10, 0, Call::FlushPlace(VXLAN_2), DONE),
-        (10, 0, Call::Look(1), AT_GENEVE_2),
-        (10, 0, Call::Look(2), ABSENT),
-        (10, 0, Call::Look(3), AT_PORT_1),
-        (10, 0, Call::Look(4), AT_VXLAN_2),
-    ];
-    run(&rt, rt.alloc(), "places", 8, 300, &places)
+    answer(&rt, rt.alloc(), &APART)
 }
 
-#[test]
-fn leaves_fixed_entries_alone(rt: HostRuntime) -> Result<(), Fail> {
-    let calls = [
+const FIXED_ENTRIES: [Run; 1] = [Run {
+    name: "fixed",
+    limit: 8,
+    ageing: 10,
+    calls: &[
         (10, 0, Call::Learn(1, PORT_1), NEW),
         (10, 0, Call::Unfix(1), NOT_THERE),
         (10, 0, Call::Look(1), AT_PORT_1),
@@ -181,6 +237,10 @@ fn leaves_fixed_entries_alone(rt: HostRuntime) -> Result<(), Fail> {
         (10, 1_000_000 * SECOND, Call::Unfix(1), UNFIXED),
         (10, 1_000_000 * SECOND, Call::Unfix(1), NOT_THERE),
         (10, 1_000_000 * SECOND, Call::Look(1), ABSENT),
-    ];
-    run(&rt, rt.alloc(), "fixed", 8, 10, &calls)
+    ],
+}];
+
+#[test]
+fn leaves_fixed_entries_alone(rt: HostRuntime) -> Result<(), Fail> {
+    answer(&rt, rt.alloc(), &FIXED_ENTRIES)
 }

@@ -8,6 +8,8 @@
 #[cfg(test)]
 mod calls;
 #[cfg(test)]
+mod checks;
+#[cfg(test)]
 mod filter_db_tests;
 #[cfg(test)]
 mod flood_lists_tests;

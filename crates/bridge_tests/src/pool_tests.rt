@@ -1,15 +1,64 @@
 //! Segments that come, go and get other limits while others learn.
-ghost use Rattle.std.specs.Prelude.{◌≡◌};
-
-use crate::calls::{Answer, Call, PORT_1, PORT_2, add, call_of, call_on, next, remove, set_limit};
-use filter_db::{Learned, ListTables, PoolTables, TableRule, Tables};
+use crate::calls::{
+    Answer, Call, Course, PORT_1, PORT_2, SECOND, add, agree, call_on, remove, set_limit,
+};
+use crate::checks::{check, check_at};
+use filter_db::{Learned, ListTables, PoolTables, TableRule};
 use frame_view::Vid;
 use shared_tables::SharedTables;
+use std::alloc::{AllocError, Global};
+use std::process::Abort;
 use std::test::Fail;
 
-fn rule(vid: Vid, limit: u16) -> TableRule
-    ensures { result ≡ record { vid = vid; limit = limit; ageing = 10 } }
-{
+const NEW: Answer = Answer::Learned(Learned::New);
+
+const FIXED: Answer = Answer::Fixed(Ok(()));
+
+const ABSENT: Answer = Answer::Stands(None);
+
+const AT_PORT_1: Answer = Answer::Stands(Some(PORT_1));
+
+const AT_PORT_2: Answer = Answer::Stands(Some(PORT_2));
+
+/// A step of a pool, and what comes of it.
+#[derive(Clone, Copy)]
+enum Step {
+    /// A call for a VID at a moment, and its answer.
+    Calls(u16, u64, Call, Answer),
+    /// A segment of this VID and limit with ageing 10 at moment 0, and whether it comes.
+    Adds(u16, u16, bool),
+    /// The segment of this VID at moment 0, and whether it goes.
+    Removes(u16, bool),
+    /// The segment of this VID at a moment, another limit, and whether it gets that.
+    Limits(u16, u64, u16, bool),
+    /// How many segments there are, and the room that is left.
+    Leaves(u32, u32),
+}
+
+/// Whether that comes of a step.
+fn comes_of(tables: &mut SharedTables, step: Step) -> bool {
+    match step {
+        Step::Calls(vid, now, call, wanted) => match Vid::new(vid) {
+            Some(vid) => call_on(tables, vid, now, call) == wanted,
+            None => false,
+        },
+        Step::Adds(vid, limit, wanted) => match Vid::new(vid) {
+            Some(vid) => add(tables, rule(vid, limit), 0) == wanted,
+            None => false,
+        },
+        Step::Removes(vid, wanted) => match Vid::new(vid) {
+            Some(vid) => remove(tables, vid, 0) == wanted,
+            None => false,
+        },
+        Step::Limits(vid, now, limit, wanted) => match Vid::new(vid) {
+            Some(vid) => set_limit(tables, vid, limit, now) == wanted,
+            None => false,
+        },
+        Step::Leaves(count, room) => tables.segment_count() == count && tables.room() == room,
+    }
+}
+
+fn rule(vid: Vid, limit: u16) -> TableRule {
     TableRule {
         vid,
         limit,
@@ -17,115 +66,197 @@ fn rule(vid: Vid, limit: u16) -> TableRule
     }
 }
 
-/// With limit 2 two addresses are learned. At limit 1 both are forgotten, at limit 2 both stay.
-#[test]
-fn a_lower_limit_forgets_all_or_nothing(rt: HostRuntime) -> Result<(), Fail> {
-    let ten = Vid::new(10).ok_or("VID 10")?;
-    let rules = [rule(ten, 2)];
-    for (limit, first, live) in [(1, None, 0), (2, Some(PORT_1), 2)] {
-        let mut tables = SharedTables::open(rt.alloc(), &rules, 2)?;
-        for (last, place) in [(1, PORT_1), (2, PORT_2)] {
-            let learned = call_on(&mut tables, ten, 0, Call::Learn(last, place));
-            assert_eq!(rt; learned, Answer::Learned(Learned::New));
-        }
-        assert!(rt; set_limit(&mut tables, ten, limit, 0), "limit {limit}");
-        let stands = call_on(&mut tables, ten, 0, Call::Look(1));
-        assert_eq!(rt; stands, Answer::Stands(first));
-        assert_eq!(rt;
-            call_on(&mut tables, ten, 0, Call::Live),
-            Answer::Count(live)
-        );
+/// A pool of so many slots, without segments.
+fn pool(alloc: Global, slots: u16) -> Result<SharedTables, AllocError> {
+    SharedTables::open(alloc, &[], u32::from(slots))
+}
+
+/// Asks for what comes of each step of a pool.
+fn walk(rt: &impl Abort, alloc: Global, slots: u16, steps: &[Step]) -> Result<(), Fail> {
+    let mut tables = pool(alloc, slots)?;
+    for (number, step) in steps.iter().enumerate() {
+        check_at(rt, comes_of(&mut tables, *step), "step", number);
     }
     Ok(())
 }
 
+/// With limit 2 two addresses are learned. At limit 1 both are forgotten.
+const ALL: [Step; 6] = [
+    Step::Adds(10, 2, true),
+    Step::Calls(10, 0, Call::Learn(1, PORT_1), NEW),
+    Step::Calls(10, 0, Call::Learn(2, PORT_2), NEW),
+    Step::Limits(10, 0, 1, true),
+    Step::Calls(10, 0, Call::Look(1), ABSENT),
+    Step::Calls(10, 0, Call::Live, Answer::Count(0)),
+];
+
+/// At limit 2 both stay.
+const NOTHING: [Step; 6] = [
+    Step::Adds(10, 2, true),
+    Step::Calls(10, 0, Call::Learn(1, PORT_1), NEW),
+    Step::Calls(10, 0, Call::Learn(2, PORT_2), NEW),
+    Step::Limits(10, 0, 2, true),
+    Step::Calls(10, 0, Call::Look(1), AT_PORT_1),
+    Step::Calls(10, 0, Call::Live, Answer::Count(2)),
+];
+
+#[test]
+fn a_lower_limit_forgets_all_or_nothing(rt: HostRuntime) -> Result<(), Fail> {
+    walk(&rt, rt.alloc(), 2, &ALL)?;
+    walk(&rt, rt.alloc(), 2, &NOTHING)
+}
+
 /// A fixed entry goes too, and what is dead doesn't count: of two entries one is dead, so that limit 1 leaves the other.
+const LIVE: [Step; 9] = [
+    Step::Adds(10, 3, true),
+    Step::Calls(10, 0, Call::Learn(1, PORT_1), NEW),
+    Step::Calls(10, 0, Call::Fix(2, PORT_2), FIXED),
+    Step::Limits(10, 10 * SECOND, 1, true),
+    Step::Calls(10, 10 * SECOND, Call::Look(2), AT_PORT_2),
+    Step::Limits(10, 10 * SECOND, 3, true),
+    Step::Calls(10, 10 * SECOND, Call::Learn(1, PORT_1), NEW),
+    Step::Limits(10, 10 * SECOND, 1, true),
+    Step::Calls(10, 10 * SECOND, Call::Look(2), ABSENT),
+];
+
 #[test]
 fn a_lower_limit_counts_what_is_live(rt: HostRuntime) -> Result<(), Fail> {
-    let ten = Vid::new(10).ok_or("VID 10")?;
-    let rules = [rule(ten, 3)];
-    let mut tables = SharedTables::open(rt.alloc(), &rules, 3)?;
-    let _ = call_on(&mut tables, ten, 0, Call::Learn(1, PORT_1));
-    let _ = call_on(&mut tables, ten, 0, Call::Fix(2, PORT_2));
-    let later = 10_000_000_000;
-    assert!(rt; set_limit(&mut tables, ten, 1, later), "limit 1");
-    let stands = call_on(&mut tables, ten, later, Call::Look(2));
-    assert_eq!(rt; stands, Answer::Stands(Some(PORT_2)));
-    assert!(rt; set_limit(&mut tables, ten, 3, later), "limit 3");
-    let _ = call_on(&mut tables, ten, later, Call::Learn(1, PORT_1));
-    assert!(rt; set_limit(&mut tables, ten, 1, later), "limit 1 again");
-    let stands = call_on(&mut tables, ten, later, Call::Look(2));
-    assert_eq!(rt; stands, Answer::Stands(None));
-    Ok(())
+    walk(&rt, rt.alloc(), 3, &LIVE)
 }
 
 /// A pool of 600 with limits of 512 and 88 has no room; what a segment leaves can be taken by others.
+const SHARING: [Step; 12] = [
+    Step::Adds(10, 256, true),
+    Step::Adds(20, 256, true),
+    Step::Leaves(2, 88),
+    Step::Adds(30, 100, false),
+    Step::Adds(30, 88, true),
+    Step::Leaves(3, 0),
+    Step::Limits(20, 0, 300, false),
+    Step::Limits(20, 0, 200, true),
+    Step::Adds(30, 1, false),
+    Step::Removes(30, true),
+    Step::Removes(30, false),
+    Step::Leaves(2, 144),
+];
+
 #[test]
 fn limits_share_the_pool(rt: HostRuntime) -> Result<(), Fail> {
-    let ten = Vid::new(10).ok_or("VID 10")?;
-    let twenty = Vid::new(20).ok_or("VID 20")?;
-    let thirty = Vid::new(30).ok_or("VID 30")?;
-    let rules = [rule(ten, 256), rule(twenty, 256)];
-    let mut tables = SharedTables::open(rt.alloc(), &rules, 600)?;
-    assert_eq!(rt; tables.room(), 88);
-    assert!(rt; !add(&mut tables, rule(thirty, 100), 0), "no room for 100");
-    assert!(rt; add(&mut tables, rule(thirty, 88), 0), "room for 88");
-    assert_eq!(rt; tables.segment_count(), 3);
-    assert_eq!(rt; tables.room(), 0);
-    assert!(rt; !set_limit(&mut tables, twenty, 300, 0), "no room for 300");
-    assert!(rt; set_limit(&mut tables, twenty, 200, 0), "room for 200");
-    assert!(rt; !add(&mut tables, rule(thirty, 1), 0), "VID 30 is there");
-    assert!(rt; remove(&mut tables, thirty, 0), "VID 30 goes");
-    assert!(rt; !remove(&mut tables, thirty, 0), "VID 30 has gone");
-    assert_eq!(rt; tables.room(), 144);
-    assert_eq!(rt; tables.segment_count(), 2);
-    Ok(())
+    walk(&rt, rt.alloc(), 600, &SHARING)
 }
 
 /// The room of a full set of segments: 256 may stand, each with limit 1.
 #[test]
 fn counts_256_segments(rt: HostRuntime) -> Result<(), Fail> {
-    let mut tables = SharedTables::open(rt.alloc(), &[], 300)?;
+    let mut tables = pool(rt.alloc(), 300)?;
     for number in 1..=256u16 {
-        let vid = Vid::new(number).ok_or("a VID")?;
-        assert!(rt; add(&mut tables, rule(vid, 1), 0), "VID {number}");
+        check(
+            &rt,
+            comes_of(&mut tables, Step::Adds(number, 1, true)),
+            "a VID",
+        );
     }
-    assert_eq!(rt; tables.segment_count(), 256);
-    assert_eq!(rt; tables.room(), 44);
-    let next = Vid::new(257).ok_or("VID 257")?;
-    assert!(rt; !add(&mut tables, rule(next, 1), 0), "a 257th segment");
+    check(
+        &rt,
+        comes_of(&mut tables, Step::Leaves(256, 44)),
+        "the room",
+    );
+    let next = Step::Adds(257, 1, false);
+    check(&rt, comes_of(&mut tables, next), "a 257th segment");
     Ok(())
+}
+
+/// Segments 9 and 10, which stand, and 30, which comes and goes.
+#[derive(Clone, Copy)]
+struct Segments {
+    nine: Vid,
+    ten: Vid,
+    thirty: Vid,
+}
+
+fn three_segments() -> Result<Segments, Fail> {
+    Ok(Segments {
+        nine: Vid::new(9).ok_or("VID 9")?,
+        ten: Vid::new(10).ok_or("VID 10")?,
+        thirty: Vid::new(30).ok_or("VID 30")?,
+    })
+}
+
+/// Lists for the two that stand, with limits 7 and 10.
+fn two_lists(alloc: Global) -> Result<ListTables, Fail> {
+    let nine = Vid::new(9).ok_or("VID 9")?;
+    let ten = Vid::new(10).ok_or("VID 10")?;
+    let rules = [
+        TableRule {
+            vid: nine,
+            limit: 7,
+            ageing: 10,
+        },
+        TableRule {
+            vid: ten,
+            limit: 10,
+            ageing: 10,
+        },
+    ];
+    Ok(ListTables::open(alloc, &rules)?)
+}
+
+/// A list for the one that comes, with limit 5.
+fn fresh_list(alloc: Global, vid: Vid) -> Result<ListTables, AllocError> {
+    let rules = [TableRule {
+        vid,
+        limit: 5,
+        ageing: 10,
+    }];
+    ListTables::open(alloc, &rules)
+}
+
+/// Twelve calls, one in four of segment 9, one of 10 and two of 30: whether the pool answers as the lists do.
+fn agree_in_a_round(
+    (lists, fresh): (&mut ListTables, &mut ListTables),
+    shared: &mut SharedTables,
+    segments: &Segments,
+    course: &mut Course,
+) -> bool {
+    for _call in 0..12u32 {
+        course.go_on();
+        let (now, call) = (course.now, course.call());
+        let holds = match course.quarter() {
+            0 => agree(lists, shared, segments.nine, now, call),
+            1 => agree(lists, shared, segments.ten, now, call),
+            _ => agree(fresh, shared, segments.thirty, now, call),
+        };
+        if !holds {
+            return false;
+        }
+    }
+    true
 }
 
 /// A segment comes and goes a thousand times while two others learn: they answer as lists do that know nothing of it,
 /// and it answers as a fresh list each time.
 #[test]
 fn comes_and_goes_a_thousand_times(rt: HostRuntime) -> Result<(), Fail> {
-    let nine = Vid::new(9).ok_or("VID 9")?;
-    let ten = Vid::new(10).ok_or("VID 10")?;
-    let thirty = Vid::new(30).ok_or("VID 30")?;
-    let rules = [rule(nine, 7), rule(ten, 10)];
-    let mut lists = ListTables::open(rt.alloc(), &rules)?;
-    let mut shared = SharedTables::open(rt.alloc(), &rules, 22)?;
-    let mut number = 1;
-    let mut now: u64 = 0;
-    for round in 0..1_000u32 {
-        let comes = [rule(thirty, 5)];
-        let mut fresh = ListTables::open(rt.alloc(), &comes)?;
-        assert!(rt; add(&mut shared, rule(thirty, 5), now), "round {round}");
-        for _call in 0..12u32 {
-            number = next(number);
-            now = now.saturating_add((number >> 34) % 4 * 500_000_000);
-            let call = call_of(number);
-            let (vid, wanted) = match (number >> 5) % 4 {
-                0 => (nine, call_on(&mut lists, nine, now, call)),
-                1 => (ten, call_on(&mut lists, ten, now, call)),
-                _ => (thirty, call_on(&mut fresh, thirty, now, call)),
-            };
-            let given = call_on(&mut shared, vid, now, call);
-            assert!(rt; wanted != Answer::Out && given == wanted, "round {round}");
-        }
-        assert!(rt; remove(&mut shared, thirty, now), "round {round}");
+    let segments = three_segments()?;
+    let mut lists = two_lists(rt.alloc())?;
+    let mut shared = pool(rt.alloc(), 22)?;
+    let added = add(&mut shared, rule(segments.nine, 7), 0)
+        && add(&mut shared, rule(segments.ten, 10), 0);
+    check(&rt, added, "the segments that stand");
+    let mut course = Course::new();
+    for round in 0..1_000 {
+        let mut fresh = fresh_list(rt.alloc(), segments.thirty)?;
+        let comes = add(&mut shared, rule(segments.thirty, 5), course.now);
+        check_at(&rt, comes, "it comes in round", round);
+        let holds = agree_in_a_round(
+            (&mut lists, &mut fresh),
+            &mut shared,
+            &segments,
+            &mut course,
+        );
+        check_at(&rt, holds, "the answers of round", round);
+        let goes = remove(&mut shared, segments.thirty, course.now);
+        check_at(&rt, goes, "it goes in round", round);
     }
     Ok(())
 }

@@ -1,12 +1,12 @@
 //! Frames among three ports and two remotes, over tables that are lists.
-ghost use Rattle.std.specs.Prelude.{◌≡◌, length, IfOk};
-
 use crate::calls::{PORT_1, PORT_2, PORT_3, VXLAN_2};
+use crate::checks::{check, check_at};
 use filter_db::{ListTables, Place, TableRule, Tables};
 use flood_lists::{FloodList, Own};
-use frame_view::{BridgeFrame, EtherView, Reason, Vid};
+use frame_view::{BridgeFrame, EtherView, Mac, Reason, Vid};
 use ip_udp_view::{Addr, Tunnel};
 use std::alloc::Global;
+use std::process::Abort;
 use std::test::Fail;
 use tunnel_learning::{Bridge, Verdict, bridge_step};
 use vlan_ports::{Accept, MemberRule, PortList, PortRule, PortSet};
@@ -23,9 +23,7 @@ fn vid() -> Result<Vid, Fail> {
 }
 
 /// Three ports that are up and untagged members of segment 10.
-fn three_ports(alloc: Global) -> Result<PortSet, Fail>
-    ensures { IfOk result (λ set. length set.ports ≡ 3) }
-{
+fn three_ports(alloc: Global) -> Result<PortSet, Fail> {
     let vid = vid()?;
     let port = PortRule {
         pvid: vid,
@@ -59,24 +57,30 @@ fn mac(last: u8) -> [u8; 6] {
     }
 }
 
-/// Whether a frame from a place, to and from addresses by their last octets, has this verdict.
-fn is_answered(
-    tables: &mut ListTables,
-    bridge: &Bridge,
-    now: u64,
-    frame: (Place, u8, u8),
-    expected: Result<&[Place], Reason>,
-) -> bool {
-    let (from, dst, src) = frame;
+/// The octets of a frame to and from addresses by their last octets.
+fn frame_of(dst: u8, src: u8) -> [u8; 14] {
     let [a, b, c, d, e, f] = mac(dst);
     let [g, h, i, j, k, l] = mac(src);
-    let octets = [a, b, c, d, e, f, g, h, i, j, k, l, 0x08, 0x00];
-    let Ok(view) = EtherView::read(&octets) else {
-        return false;
-    };
+    [a, b, c, d, e, f, g, h, i, j, k, l, 0x08, 0x00]
+}
+
+/// A frame from a place, to and from addresses by their last octets, and where it goes, or why it doesn't.
+struct Came {
+    from: Place,
+    dst: u8,
+    src: u8,
+    goes: Result<&'static [Place], Reason>,
+}
+
+/// What the bridge does with a frame that comes at a moment.
+fn verdict(tables: &mut ListTables, bridge: &Bridge, now: u64, came: &Came) -> Option<Verdict> {
     if !tables.has(bridge.vid) || now < tables.now() {
-        return false;
+        return None;
     }
+    let octets = frame_of(came.dst, came.src);
+    let Ok(view) = EtherView::read(&octets) else {
+        return None;
+    };
     let frame = BridgeFrame {
         dst: view.dst(),
         src: view.src(),
@@ -85,37 +89,77 @@ fn is_answered(
         addresses: view.addresses(),
         body: view.after_addresses(),
     };
-    match (bridge_step(tables, bridge, now, from, &frame), expected) {
-        (Verdict::Outlets(places), Ok(expected)) => places.as_slice() == expected,
-        (Verdict::Dropped(reason), Err(expected)) => reason == expected,
+    Some(bridge_step(tables, bridge, now, came.from, &frame))
+}
+
+/// Whether a frame that comes at a moment goes where it should.
+fn is_answered(tables: &mut ListTables, bridge: &Bridge, now: u64, came: &Came) -> bool {
+    match (verdict(tables, bridge, now, came), came.goes) {
+        (Some(Verdict::Outlets(places)), Ok(wanted)) => places.as_slice() == wanted,
+        (Some(Verdict::Dropped(reason)), Err(wanted)) => reason == wanted,
         _ => false,
     }
 }
 
-#[test]
-fn four_frames_among_three_ports(rt: HostRuntime) -> Result<(), Fail> {
-    let ports = three_ports(rt.alloc())?;
-    let flood = FloodList::new();
+/// Asks for where each of some frames goes, one a nanosecond from 1 on.
+fn walk(rt: &impl Abort, tables: &mut ListTables, bridge: &Bridge, frames: &[Came]) {
+    let mut now: u64 = 0;
+    for (number, came) in frames.iter().enumerate() {
+        now = now.saturating_add(1);
+        check_at(rt, is_answered(tables, bridge, now, came), "frame", number);
+    }
+}
+
+/// The same among three ports, and remotes of these groups, over an empty table.
+fn walk_among(
+    rt: &impl Abort,
+    alloc: Global,
+    (flood, groups): (&FloodList, [u8; 2]),
+    frames: &[Came],
+) -> Result<(), Fail> {
+    let ports = three_ports(alloc)?;
     let bridge = Bridge {
         vid: vid()?,
         learning: true,
-        groups: [0, 0],
+        groups,
         ports: &ports,
-        flood: &flood,
+        flood,
     };
-    let mut tables = one_table(rt.alloc())?;
-    for (now, frame, expected) in [
-        (1, (PORT_1, ALL, 1), Ok([PORT_2, PORT_3].as_slice())),
-        (2, (PORT_2, 1, 2), Ok([PORT_1].as_slice())),
-        (3, (PORT_1, 2, 1), Ok([PORT_2].as_slice())),
-        (4, (PORT_2, 2, 2), Err(Reason::SamePlace)),
-    ] {
-        assert!(rt;
-            is_answered(&mut tables, &bridge, now, frame, expected),
-            "frame {now}"
-        );
-    }
+    let mut tables = one_table(alloc)?;
+    walk(rt, &mut tables, &bridge, frames);
     Ok(())
+}
+
+const AMONG_PORTS: [Came; 4] = [
+    Came {
+        from: PORT_1,
+        dst: ALL,
+        src: 1,
+        goes: Ok(&[PORT_2, PORT_3]),
+    },
+    Came {
+        from: PORT_2,
+        dst: 1,
+        src: 2,
+        goes: Ok(&[PORT_1]),
+    },
+    Came {
+        from: PORT_1,
+        dst: 2,
+        src: 1,
+        goes: Ok(&[PORT_2]),
+    },
+    Came {
+        from: PORT_2,
+        dst: 2,
+        src: 2,
+        goes: Err(Reason::SamePlace),
+    },
+];
+
+#[test]
+fn four_frames_among_three_ports(rt: HostRuntime) -> Result<(), Fail> {
+    walk_among(&rt, rt.alloc(), (&FloodList::new(), [0, 0]), &AMONG_PORTS)
 }
 
 /// A list of a VXLAN and a Geneve remote.
@@ -130,98 +174,123 @@ fn two_remotes() -> Result<FloodList, Fail> {
     Ok(flood)
 }
 
-#[test]
-fn remotes_of_one_group(rt: HostRuntime) -> Result<(), Fail> {
-    let ports = three_ports(rt.alloc())?;
-    let flood = two_remotes()?;
-    let bridge = Bridge {
-        vid: vid()?,
-        learning: true,
-        groups: [0, 0],
-        ports: &ports,
-        flood: &flood,
-    };
-    let mut tables = one_table(rt.alloc())?;
-    for (now, frame, expected) in [
-        (
-            1,
-            (PORT_1, ALL, 1),
-            Ok([PORT_2, PORT_3, VXLAN_2, GENEVE_3].as_slice()),
-        ),
-        (
-            2,
-            (VXLAN_2, ALL, 5),
-            Ok([PORT_1, PORT_2, PORT_3].as_slice()),
-        ),
-        (3, (GENEVE_3, 5, 6), Err(Reason::Horizon)),
-        (4, (VXLAN_3, 5, 6), Err(Reason::Horizon)),
-        (5, (VXLAN_2, 5, 7), Err(Reason::SamePlace)),
-        (6, (PORT_1, 5, 1), Ok([VXLAN_2].as_slice())),
-    ] {
-        assert!(rt;
-            is_answered(&mut tables, &bridge, now, frame, expected),
-            "frame {now}"
-        );
-    }
-    Ok(())
-}
+const OF_ONE_GROUP: [Came; 6] = [
+    Came {
+        from: PORT_1,
+        dst: ALL,
+        src: 1,
+        goes: Ok(&[PORT_2, PORT_3, VXLAN_2, GENEVE_3]),
+    },
+    Came {
+        from: VXLAN_2,
+        dst: ALL,
+        src: 5,
+        goes: Ok(&[PORT_1, PORT_2, PORT_3]),
+    },
+    Came {
+        from: GENEVE_3,
+        dst: 5,
+        src: 6,
+        goes: Err(Reason::Horizon),
+    },
+    Came {
+        from: VXLAN_3,
+        dst: 5,
+        src: 6,
+        goes: Err(Reason::Horizon),
+    },
+    Came {
+        from: VXLAN_2,
+        dst: 5,
+        src: 7,
+        goes: Err(Reason::SamePlace),
+    },
+    Came {
+        from: PORT_1,
+        dst: 5,
+        src: 1,
+        goes: Ok(&[VXLAN_2]),
+    },
+];
+
+const OF_TWO_GROUPS: [Came; 3] = [
+    Came {
+        from: VXLAN_2,
+        dst: ALL,
+        src: 5,
+        goes: Ok(&[PORT_1, PORT_2, PORT_3, GENEVE_3]),
+    },
+    Came {
+        from: GENEVE_3,
+        dst: 5,
+        src: 6,
+        goes: Ok(&[VXLAN_2]),
+    },
+    Came {
+        from: VXLAN_3,
+        dst: 5,
+        src: 6,
+        goes: Err(Reason::Horizon),
+    },
+];
 
 #[test]
-fn remotes_of_two_groups(rt: HostRuntime) -> Result<(), Fail> {
-    let ports = three_ports(rt.alloc())?;
+fn remotes_of_one_group_and_of_two(rt: HostRuntime) -> Result<(), Fail> {
     let flood = two_remotes()?;
-    let bridge = Bridge {
-        vid: vid()?,
-        learning: true,
-        groups: [1, 2],
-        ports: &ports,
-        flood: &flood,
-    };
-    let mut tables = one_table(rt.alloc())?;
-    for (now, frame, expected) in [
-        (
-            1,
-            (VXLAN_2, ALL, 5),
-            Ok([PORT_1, PORT_2, PORT_3, GENEVE_3].as_slice()),
-        ),
-        (2, (GENEVE_3, 5, 6), Ok([VXLAN_2].as_slice())),
-        (3, (VXLAN_3, 5, 6), Err(Reason::Horizon)),
-    ] {
-        assert!(rt;
-            is_answered(&mut tables, &bridge, now, frame, expected),
-            "frame {now}"
-        );
+    walk_among(&rt, rt.alloc(), (&flood, [0, 0]), &OF_ONE_GROUP)?;
+    walk_among(&rt, rt.alloc(), (&flood, [1, 2]), &OF_TWO_GROUPS)
+}
+
+/// Address 2 stands at port 2, which is down. A source is learned although its frame goes nowhere.
+const PORTS_DOWN: [Came; 3] = [
+    Came {
+        from: PORT_1,
+        dst: ALL,
+        src: 1,
+        goes: Err(Reason::NoOutlet),
+    },
+    Came {
+        from: PORT_1,
+        dst: 2,
+        src: 1,
+        goes: Err(Reason::Unreachable),
+    },
+    Came {
+        from: VXLAN_2,
+        dst: 1,
+        src: 3,
+        goes: Ok(&[PORT_1]),
+    },
+];
+
+/// Takes a port down; whether there is one.
+fn take_down(ports: &mut PortSet, port: u8) -> bool {
+    if port == 0 || port > ports.ports() {
+        return false;
     }
-    Ok(())
+    ports.set_up(port, false);
+    true
+}
+
+/// Whether address 2 gets fixed at port 2.
+fn fixes_2(tables: &mut ListTables, vid: Vid) -> bool {
+    tables.has(vid) && tables.now() == 0 && tables.fix(vid, Mac(mac(2)), PORT_2, 0).is_ok()
 }
 
 #[test]
 fn ports_that_are_down(rt: HostRuntime) -> Result<(), Fail> {
     let mut ports = three_ports(rt.alloc())?;
-    let flood = FloodList::new();
-    let vid = vid()?;
+    let are_down = take_down(&mut ports, 2) && take_down(&mut ports, 3);
+    check(&rt, are_down, "ports 2 and 3");
     let mut tables = one_table(rt.alloc())?;
-    assert!(rt; tables.has(vid) && tables.now() == 0);
-    tables.fix(vid, frame_view::Mac(mac(2)), PORT_2, 0)?;
-    ports.set_up(2, false);
-    ports.set_up(3, false);
+    check(&rt, fixes_2(&mut tables, vid()?), "a fixed entry");
     let bridge = Bridge {
-        vid,
+        vid: vid()?,
         learning: true,
         groups: [0, 0],
         ports: &ports,
-        flood: &flood,
+        flood: &FloodList::new(),
     };
-    // A source is learned although its frame goes nowhere.
-    for (now, frame, expected) in [
-        (1, (PORT_1, ALL, 1), Err(Reason::NoOutlet)),
-        (2, (PORT_1, 2, 1), Err(Reason::Unreachable)),
-        (3, (VXLAN_2, 1, 3), Ok([PORT_1].as_slice())),
-    ] {
-        assert!(rt;
-            is_answered(&mut tables, &bridge, now, frame, expected),
-            "frame {now}"
-        );
-    }
+    walk(&rt, &mut tables, &bridge, &PORTS_DOWN);
     Ok(())
 }

@@ -13,6 +13,8 @@ mod change_rows;
 #[cfg(test)]
 mod learning_rows;
 #[cfg(test)]
+mod migrated_rows;
+#[cfg(test)]
 mod segment_rows;
 #[cfg(test)]
 mod sending_rows;

@@ -1,187 +1,309 @@
+use crate::checks::check;
 use frame_view::Reason;
 use geneve_head::{GnFault, GnOption, GnView, Known, KnownFull, gn_head};
+use std::alloc::{AllocError, Global};
 use std::test::Fail;
 use vxlan_head::Vni;
 
+/// Headers, and the VNI of each.
+const HEADERS: [(&str, [u8; 8], Result<u32, GnFault>); 9] = [
+    (
+        "VNI 6000",
+        [0, 0, 0x65, 0x58, 0x00, 0x17, 0x70, 0],
+        Ok(6000),
+    ),
+    (
+        "VNI 6000, the bit C and each reserved bit set",
+        [0, 0x7F, 0x65, 0x58, 0x00, 0x17, 0x70, 0xFF],
+        Ok(6000),
+    ),
+    (
+        "version 1",
+        [0x40, 0x80, 0x65, 0x58, 0, 0, 0, 0],
+        Err(GnFault::BadVersion),
+    ),
+    (
+        "version 3",
+        [0xC0, 0x80, 0x65, 0x58, 0, 0, 0, 0],
+        Err(GnFault::BadVersion),
+    ),
+    (
+        "version 1 and options that aren't there",
+        [0x7F, 0, 0x65, 0x58, 0, 0, 0, 0],
+        Err(GnFault::BadVersion),
+    ),
+    (
+        "an option that isn't there",
+        [0x01, 0x80, 0x08, 0x00, 0, 0, 0, 0],
+        Err(GnFault::ShortTunnel),
+    ),
+    (
+        "control and IPv4",
+        [0, 0x80, 0x08, 0x00, 0, 0, 0, 0],
+        Err(GnFault::Control),
+    ),
+    (
+        "IPv4",
+        [0, 0, 0x08, 0x00, 0, 0, 0, 0],
+        Err(GnFault::NotEthernet),
+    ),
+    (
+        "type 6559",
+        [0, 0, 0x65, 0x59, 0, 0, 0, 0],
+        Err(GnFault::NotEthernet),
+    ),
+];
+
+/// Whether a packet has this VNI, or this fault.
+fn has_vni(packet: &[u8], wanted: Result<u32, GnFault>) -> bool {
+    match (GnView::read(packet, &Known::new()), wanted) {
+        (Ok(view), Ok(vni)) => view.vni().get() == vni,
+        (Err(fault), Err(wanted)) => fault == wanted,
+        _ => false,
+    }
+}
+
 #[test]
 fn reads_headers(rt: HostRuntime) {
-    let cases: [([u8; 8], Result<u32, GnFault>); 9] = [
-        ([0, 0, 0x65, 0x58, 0x00, 0x17, 0x70, 0], Ok(6000)),
-        ([0, 0x7F, 0x65, 0x58, 0x00, 0x17, 0x70, 0xFF], Ok(6000)),
-        (
-            [0x40, 0x80, 0x65, 0x58, 0, 0, 0, 0],
-            Err(GnFault::BadVersion),
-        ),
-        (
-            [0xC0, 0x80, 0x65, 0x58, 0, 0, 0, 0],
-            Err(GnFault::BadVersion),
-        ),
-        ([0x7F, 0, 0x65, 0x58, 0, 0, 0, 0], Err(GnFault::BadVersion)),
-        (
-            [0x01, 0x80, 0x08, 0x00, 0, 0, 0, 0],
-            Err(GnFault::ShortTunnel),
-        ),
-        ([0, 0x80, 0x08, 0x00, 0, 0, 0, 0], Err(GnFault::Control)),
-        ([0, 0, 0x08, 0x00, 0, 0, 0, 0], Err(GnFault::NotEthernet)),
-        ([0, 0, 0x65, 0x59, 0, 0, 0, 0], Err(GnFault::NotEthernet)),
-    ];
-    let known = Known::new();
-    for (header, wanted) in cases {
-        let found = GnView::read(&header, &known).map(|view| view.vni().get());
-        assert_eq!(rt; found, wanted, "header {header:?}");
+    for (case, header, wanted) in HEADERS {
+        check(&rt, has_vni(&header, wanted), case);
     }
 }
 
-#[test]
-fn reads_options(rt: HostRuntime) {
-    // Eight octets of options in front of two of payload.
-    let cases: [([u8; 8], Result<usize, GnFault>); 8] = [
-        (
-            [0x01, 0x02, 0x80, 1, 0, 0, 0, 0],
-            Err(GnFault::CriticalOption),
-        ),
-        ([0x01, 0x02, 0x00, 1, 0, 0, 0, 0], Ok(1)),
-        ([0x01, 0x02, 0x00, 0, 0, 0, 0x7F, 0], Ok(2)),
-        ([0x01, 0x02, 0x00, 0xE0, 0, 0, 0, 0xE0], Ok(2)),
-        (
-            [0x01, 0x02, 0x00, 0, 0, 0, 0x80, 0],
-            Err(GnFault::CriticalOption),
-        ),
-        ([0x01, 0x02, 0x00, 2, 0, 0, 0, 0], Err(GnFault::BadOptions)),
-        ([0x01, 0x02, 0x80, 2, 0, 0, 0, 0], Err(GnFault::BadOptions)),
-        ([0x01, 0x02, 0x80, 0, 0, 0, 0, 1], Err(GnFault::BadOptions)),
-    ];
-    let known = Known::new();
-    for (options, wanted) in cases {
-        let mut packet = [
-            0x02, 0, 0x65, 0x58, 0, 0x17, 0x70, 0, 0, 0, 0, 0, 0, 0, 0, 0, 0xAA, 0xBB,
-        ];
-        packet[8..16].copy_from_slice(&options);
-        let found = GnView::read(&packet, &known).map(|view| view.options().count());
-        assert_eq!(rt; found, wanted, "options {options:?}");
-        packet[1] = 0x40;
-        let found = GnView::read(&packet, &known).map(|view| view.options().count());
-        assert_eq!(rt; found, wanted, "options {options:?} under the bit C");
-    }
-}
+/// Eight octets of options, and how many options they are.
+const OPTIONS: [(&str, [u8; 8], Result<usize, GnFault>); 8] = [
+    (
+        "a critical one",
+        [0x01, 0x02, 0x80, 1, 0, 0, 0, 0],
+        Err(GnFault::CriticalOption),
+    ),
+    ("one", [0x01, 0x02, 0x00, 1, 0, 0, 0, 0], Ok(1)),
+    (
+        "two, the second of type 7F",
+        [0x01, 0x02, 0x00, 0, 0, 0, 0x7F, 0],
+        Ok(2),
+    ),
+    (
+        "two with reserved bits",
+        [0x01, 0x02, 0x00, 0xE0, 0, 0, 0, 0xE0],
+        Ok(2),
+    ),
+    (
+        "two, the second critical",
+        [0x01, 0x02, 0x00, 0, 0, 0, 0x80, 0],
+        Err(GnFault::CriticalOption),
+    ),
+    (
+        "one that is too long",
+        [0x01, 0x02, 0x00, 2, 0, 0, 0, 0],
+        Err(GnFault::BadOptions),
+    ),
+    (
+        "a critical one that is too long",
+        [0x01, 0x02, 0x80, 2, 0, 0, 0, 0],
+        Err(GnFault::BadOptions),
+    ),
+    (
+        "a critical one before one that is too long",
+        [0x01, 0x02, 0x80, 0, 0, 0, 0, 1],
+        Err(GnFault::BadOptions),
+    ),
+];
 
-#[test]
-fn takes_known_critical_options(rt: HostRuntime) -> Result<(), Fail> {
+/// Whether a packet with these flags, these options and two octets of payload has so many options, or this fault.
+fn has_options(flags: u8, options: [u8; 8], wanted: Result<usize, GnFault>) -> bool {
+    let [a, b, c, d, e, f, g, h] = options;
     let packet = [
-        0x02, 0, 0x65, 0x58, 0, 0x17, 0x70, 0, 0x01, 0x02, 0x80, 1, 0, 0, 0, 0,
+        0x02, flags, 0x65, 0x58, 0, 0x17, 0x70, 0, a, b, c, d, e, f, g, h, 0xAA, 0xBB,
     ];
-    for (class, kind, wanted) in [(258, 128, true), (258, 0, false), (259, 128, false)] {
-        let mut known = Known::new();
-        known.try_push(class, kind)?;
-        let is_taken = GnView::read(&packet, &known).is_ok();
-        assert_eq!(rt; is_taken, wanted, "class {class}, type {kind} known");
+    match (GnView::read(&packet, &Known::new()), wanted) {
+        (Ok(view), Ok(count)) => view.options().count() == count,
+        (Err(fault), Err(wanted)) => fault == wanted,
+        _ => false,
     }
-    Ok(())
+}
+
+#[test]
+fn reads_options_whether_the_bit_c_is_set_or_not(rt: HostRuntime) {
+    for (case, options, wanted) in OPTIONS {
+        check(&rt, has_options(0, options, wanted), case);
+        check(&rt, has_options(0x40, options, wanted), case);
+    }
+}
+
+/// A packet whose critical option has class 258 and type 128.
+const CRITICAL: [u8; 16] = [
+    0x02, 0, 0x65, 0x58, 0, 0x17, 0x70, 0, 0x01, 0x02, 0x80, 1, 0, 0, 0, 0,
+];
+
+/// Whether that packet is taken where the option of this class and type is known.
+fn is_taken(class: u16, kind: u8) -> bool {
+    let mut known = Known::new();
+    known.try_push(class, kind).is_ok() && GnView::read(&CRITICAL, &known).is_ok()
+}
+
+#[test]
+fn takes_known_critical_options(rt: HostRuntime) {
+    check(&rt, is_taken(258, 128), "that option is known");
+    check(&rt, !is_taken(258, 0), "another type is known");
+    check(&rt, !is_taken(259, 128), "another class is known");
+}
+
+/// Packets, and the octets of the header and of the payload of each.
+const LENGTHS: [(&str, &[u8], Result<(usize, usize), GnFault>); 6] = [
+    ("no octet", &[], Err(GnFault::ShortTunnel)),
+    (
+        "7 octets",
+        &[0x02, 0, 0x65, 0x58, 0, 0x17, 0x70],
+        Err(GnFault::ShortTunnel),
+    ),
+    (
+        "12 octets",
+        &[0x02, 0, 0x65, 0x58, 0, 0x17, 0x70, 0, 0x01, 0x02, 0x00, 1],
+        Err(GnFault::ShortTunnel),
+    ),
+    (
+        "15 octets",
+        &[
+            0x02, 0, 0x65, 0x58, 0, 0x17, 0x70, 0, 0x01, 0x02, 0x00, 1, 0, 0, 0,
+        ],
+        Err(GnFault::ShortTunnel),
+    ),
+    (
+        "16 octets",
+        &[
+            0x02, 0, 0x65, 0x58, 0, 0x17, 0x70, 0, 0x01, 0x02, 0x00, 1, 0, 0, 0, 0,
+        ],
+        Ok((16, 0)),
+    ),
+    (
+        "17 octets",
+        &[
+            0x02, 0, 0x65, 0x58, 0, 0x17, 0x70, 0, 0x01, 0x02, 0x00, 1, 0, 0, 0, 0, 0xAA,
+        ],
+        Ok((16, 1)),
+    ),
+];
+
+/// Whether a packet has so many octets of header and of payload, or this fault.
+fn has_lengths(packet: &[u8], wanted: Result<(usize, usize), GnFault>) -> bool {
+    match (GnView::read(packet, &Known::new()), wanted) {
+        (Ok(view), Ok((head, payload))) => {
+            view.head().len() == head && view.payload().len() == payload
+        }
+        (Err(fault), Err(wanted)) => fault == wanted,
+        _ => false,
+    }
+}
+
+/// A packet with 128 octets and 124 of options, the most that a header has, and 40 of payload.
+fn longest() -> [u8; 300] {
+    let mut packet = [0; 300];
+    packet[0] = 63;
+    packet[2] = 0x65;
+    packet[3] = 0x58;
+    packet[5] = 0x17;
+    packet[6] = 0x70;
+    packet[11] = 31;
+    packet[139] = 30;
+    packet
 }
 
 #[test]
 fn needs_the_whole_header(rt: HostRuntime) {
-    let packet = [
-        0x02, 0, 0x65, 0x58, 0, 0x17, 0x70, 0, 0x01, 0x02, 0x00, 1, 0, 0, 0, 0, 0xAA,
-    ];
-    for (length, wanted) in [
-        (0, Err(GnFault::ShortTunnel)),
-        (7, Err(GnFault::ShortTunnel)),
-        (12, Err(GnFault::ShortTunnel)),
-        (15, Err(GnFault::ShortTunnel)),
-        (16, Ok((16, 0))),
-        (17, Ok((16, 1))),
-    ] {
-        let found = GnView::read(&packet[..length], &Known::new()).map(|view| (
-            view.head().len(),
-            view.payload().len(),
-        ));
-        assert_eq!(rt; found, wanted, "{length} octets");
+    for (case, packet, wanted) in LENGTHS {
+        check(&rt, has_lengths(packet, wanted), case);
+    }
+    check(&rt, has_lengths(&longest(), Ok((260, 40))), "300 octets");
+}
+
+/// A packet with two options.
+const TWO_OPTIONS: [u8; 29] = [
+    0x05, 0, 0x65, 0x58, 0, 0x17, 0x70, 0, 0x01, 0x02, 0x03, 0xE2, 1, 2, 3, 4, 5, 6, 7, 8, 0xFF,
+    0xFE, 0x7F, 1, 9, 10, 11, 12, 0xAA,
+];
+
+/// The option of this number, from 0, of a packet.
+fn option_of<'a>(packet: &'a [u8], number: usize) -> Option<GnOption<'a>> {
+    match GnView::read(packet, &Known::new()) {
+        Ok(view) => view.options().nth(number),
+        Err(_) => None,
+    }
+}
+
+/// Whether a packet has this option at this number.
+fn has_option(packet: &[u8], number: usize, class: u16, kind: u8, body: &[u8]) -> bool {
+    match option_of(packet, number) {
+        Some(option) => option.class == class && option.kind == kind && option.body == body,
+        None => false,
     }
 }
 
 #[test]
-fn hands_out_two_options(rt: HostRuntime) -> Result<(), Fail> {
-    let packet = [
-        0x05, 0, 0x65, 0x58, 0, 0x17, 0x70, 0, 0x01, 0x02, 0x03, 0xE2, 1, 2, 3, 4, 5, 6, 7, 8,
-        0xFF, 0xFE, 0x7F, 1, 9, 10, 11, 12, 0xAA,
-    ];
-    let mut options = GnView::read(&packet, &Known::new())?.options();
-    let first = GnOption {
-        class: 0x0102,
-        kind: 0x03,
-        body: &packet[12..20],
-    };
-    let second = GnOption {
-        class: 0xFFFE,
-        kind: 0x7F,
-        body: &packet[24..28],
-    };
-    assert_eq!(rt; options.next(), Some(first), "the first");
-    assert_eq!(rt; options.next(), Some(second), "the second");
-    assert_eq!(rt; options.next(), None, "behind them");
-    Ok(())
+fn hands_out_two_options(rt: HostRuntime) {
+    let first = has_option(&TWO_OPTIONS, 0, 0x0102, 0x03, &[1, 2, 3, 4, 5, 6, 7, 8]);
+    check(&rt, first, "the first");
+    let second = has_option(&TWO_OPTIONS, 1, 0xFFFE, 0x7F, &[9, 10, 11, 12]);
+    check(&rt, second, "the second");
+    check(&rt, option_of(&TWO_OPTIONS, 2).is_none(), "behind them");
+    let packet = longest();
+    check(&rt, has_option(&packet, 0, 0, 0, &[0; 124]), "the longest");
+    check(&rt, has_option(&packet, 1, 0, 0, &[0; 120]), "the next");
+    check(&rt, option_of(&packet, 2).is_none(), "behind the longest");
 }
 
-#[test]
-fn reads_the_longest_header(rt: HostRuntime) -> Result<(), Fail> {
-    // 128 octets and 124 of options, the most that a header has.
-    let mut packet = [0; 300];
-    packet[..8].copy_from_slice(&[63, 0, 0x65, 0x58, 0, 0x17, 0x70, 0]);
-    packet[11] = 31;
-    packet[139] = 30;
-    let view = GnView::read(&packet, &Known::new())?;
-    assert_eq!(rt; (view.head().len(), view.payload().len()), (260, 40));
-    let mut lengths = [0; 2];
-    for (length, option) in lengths.iter_mut().zip(view.options()) {
-        *length = option.body.len();
+/// The options of class 258 and types 0 to 15, as many as may be known; None where one isn't taken.
+fn sixteen() -> Option<Known> {
+    let mut known = Known::new();
+    for kind in 0..16u8 {
+        if known.try_push(258, kind).is_err() {
+            return None;
+        }
     }
-    assert_eq!(rt; lengths, [124, 120]);
-    Ok(())
+    Some(known)
 }
 
 #[test]
 fn lists_known_options(rt: HostRuntime) -> Result<(), Fail> {
-    let mut known = Known::new();
-    for kind in 0..16u8 {
-        known.try_push(258, kind)?;
-    }
-    assert_eq!(rt; known.try_push(258, 16), Err(KnownFull), "a seventeenth");
-    assert_eq!(rt; known.pairs().len(), 16);
-    for (class, kind, wanted) in [(258, 15, true), (258, 16, false), (259, 15, false)] {
-        assert_eq!(rt;
-            known.holds(class, kind),
-            wanted,
-            "class {class}, type {kind}"
-        );
-    }
+    let mut known = sixteen().ok_or("sixteen options")?;
+    let seventeenth = known.try_push(258, 16);
+    check(&rt, seventeenth == Err(KnownFull), "a seventeenth");
+    check(&rt, known.pairs().len() == 16, "the number of them");
+    check(&rt, known.holds(258, 15), "class 258, type 15");
+    check(&rt, !known.holds(258, 16), "class 258, type 16");
+    check(&rt, !known.holds(259, 15), "class 259, type 15");
     Ok(())
 }
 
 #[test]
 fn writes_the_header(rt: HostRuntime) -> Result<(), Fail> {
     let vni = Vni::new(6000).ok_or("a VNI")?;
-    assert_eq!(rt; gn_head(vni), [0, 0, 0x65, 0x58, 0x00, 0x17, 0x70, 0]);
+    let wanted = [0, 0, 0x65, 0x58, 0x00, 0x17, 0x70, 0];
+    check(&rt, gn_head(vni) == wanted, "VNI 6000");
     Ok(())
+}
+
+const FAULTS: [(GnFault, &str); 6] = [
+    (GnFault::ShortTunnel, "ShortTunnel"),
+    (GnFault::BadVersion, "BadVersion"),
+    (GnFault::Control, "Control"),
+    (GnFault::NotEthernet, "NotEthernet"),
+    (GnFault::BadOptions, "BadOptions"),
+    (GnFault::CriticalOption, "CriticalOption"),
+];
+
+/// Whether a fault has this name, and so has its reason of a drop.
+fn is_named(alloc: Global, fault: GnFault, name: &str) -> Result<bool, AllocError> {
+    let text = fault.to_string(alloc)?;
+    Ok(text.as_str() == name && Reason::from(fault).name() == name)
 }
 
 #[test]
 fn names_its_faults_as_the_reasons_of_a_drop(rt: HostRuntime) -> Result<(), Fail> {
-    for (fault, name) in [
-        (GnFault::ShortTunnel, "ShortTunnel"),
-        (GnFault::BadVersion, "BadVersion"),
-        (GnFault::Control, "Control"),
-        (GnFault::NotEthernet, "NotEthernet"),
-        (GnFault::BadOptions, "BadOptions"),
-        (GnFault::CriticalOption, "CriticalOption"),
-    ] {
-        assert_eq!(rt; Reason::from(fault).name(), name, "the reason of {fault:?}");
-        assert_eq!(rt;
-            fault.to_string(rt.alloc())?.as_str(),
-            name,
-            "the text of {fault:?}"
-        );
+    for (fault, name) in FAULTS {
+        check(&rt, is_named(rt.alloc(), fault, name)?, name);
     }
-    assert_eq!(rt; KnownFull.to_string(rt.alloc())?.as_str(), "KnownFull");
+    let text = KnownFull.to_string(rt.alloc())?;
+    check(&rt, text.as_str() == "KnownFull", "KnownFull");
     Ok(())
 }

@@ -17,6 +17,10 @@
 #![tactic(auto)]
 
 #[cfg(test)]
+mod addr_tests;
+#[cfg(test)]
+mod checks;
+#[cfg(test)]
 mod frame_view_tests;
 #[cfg(test)]
 mod geneve_head_tests;

@@ -1,57 +1,103 @@
+use crate::checks::check;
 use frame_view::Reason;
+use std::alloc::{AllocError, Global};
 use std::test::Fail;
 use vxlan_head::{Vni, VxFault, VxView, vx_head};
 
-#[test]
-fn reads_headers(rt: HostRuntime) {
-    let cases: [([u8; 8], Result<u32, VxFault>); 6] = [
-        ([0x08, 0, 0, 0, 0x00, 0x13, 0x88, 0], Ok(5000)),
-        ([0xFF, 0xFF, 0xFF, 0xFF, 0x00, 0x13, 0x88, 0xFF], Ok(5000)),
-        ([0x08, 0, 0, 0, 0xFF, 0xFF, 0xFF, 0], Ok(16_777_215)),
-        (
-            [0xF7, 0, 0, 0, 0x00, 0x13, 0x88, 0],
-            Err(VxFault::NoVniFlag),
-        ),
-        (
-            [0xF7, 0xFF, 0xFF, 0xFF, 0xFF, 0xFF, 0xFF, 0xFF],
-            Err(VxFault::NoVniFlag),
-        ),
-        ([0; 8], Err(VxFault::NoVniFlag)),
-    ];
-    for (header, wanted) in cases {
-        let found = VxView::read(&header).map(|view| view.vni().get());
-        assert_eq!(rt; found, wanted, "header {header:?}");
+/// Packets, and the VNI and the octets of payload in each.
+const PACKETS: [(&str, &[u8], Result<(u32, usize), VxFault>); 10] = [
+    (
+        "VNI 5000",
+        &[0x08, 0, 0, 0, 0x00, 0x13, 0x88, 0],
+        Ok((5000, 0)),
+    ),
+    (
+        "VNI 5000, each reserved bit set",
+        &[0xFF, 0xFF, 0xFF, 0xFF, 0x00, 0x13, 0x88, 0xFF],
+        Ok((5000, 0)),
+    ),
+    (
+        "the last VNI",
+        &[0x08, 0, 0, 0, 0xFF, 0xFF, 0xFF, 0],
+        Ok((16_777_215, 0)),
+    ),
+    (
+        "each flag but that of a VNI",
+        &[0xF7, 0, 0, 0, 0x00, 0x13, 0x88, 0],
+        Err(VxFault::NoVniFlag),
+    ),
+    (
+        "each bit but that flag",
+        &[0xF7, 0xFF, 0xFF, 0xFF, 0xFF, 0xFF, 0xFF, 0xFF],
+        Err(VxFault::NoVniFlag),
+    ),
+    ("no bit", &[0; 8], Err(VxFault::NoVniFlag)),
+    ("no octet", &[], Err(VxFault::ShortTunnel)),
+    (
+        "7 octets",
+        &[0x08, 0, 0, 0, 0x00, 0x13, 0x88],
+        Err(VxFault::ShortTunnel),
+    ),
+    (
+        "8 octets",
+        &[0x08, 0, 0, 0, 0x00, 0x13, 0x88, 0],
+        Ok((5000, 0)),
+    ),
+    (
+        "10 octets",
+        &[0x08, 0, 0, 0, 0x00, 0x13, 0x88, 0, 0xAA, 0xBB],
+        Ok((5000, 2)),
+    ),
+];
+
+/// Whether a packet has this VNI and so many octets of payload, or this fault.
+fn is_read(packet: &[u8], wanted: Result<(u32, usize), VxFault>) -> bool {
+    match (VxView::read(packet), wanted) {
+        (Ok(view), Ok((vni, length))) => view.vni().get() == vni && view.payload().len() == length,
+        (Err(fault), Err(wanted)) => fault == wanted,
+        _ => false,
     }
 }
 
 #[test]
-fn reads_what_stands_behind_a_header(rt: HostRuntime) {
-    let packet = [0x08, 0, 0, 0, 0x00, 0x13, 0x88, 0, 0xAA, 0xBB];
-    for (length, wanted) in [
-        (0, Err(VxFault::ShortTunnel)),
-        (7, Err(VxFault::ShortTunnel)),
-        (8, Ok(0)),
-        (10, Ok(2)),
-    ] {
-        let found = VxView::read(&packet[..length]).map(|view| view.payload().len());
-        assert_eq!(rt; found, wanted, "{length} octets");
+fn reads_headers_and_what_stands_behind(rt: HostRuntime) {
+    for (case, packet, wanted) in PACKETS {
+        check(&rt, is_read(packet, wanted), case);
+    }
+}
+
+/// Numbers, and the header of each that is a VNI.
+const HEADERS: [(&str, u32, Option<[u8; 8]>); 4] = [
+    ("VNI 0", 0, Some([0x08, 0, 0, 0, 0, 0, 0, 0])),
+    ("VNI 5000", 5000, Some([0x08, 0, 0, 0, 0x00, 0x13, 0x88, 0])),
+    (
+        "VNI 16777215",
+        16_777_215,
+        Some([0x08, 0, 0, 0, 0xFF, 0xFF, 0xFF, 0]),
+    ),
+    ("VNI 16777216", 16_777_216, None),
+];
+
+/// Whether a number is a VNI with this header, or none where no header is told.
+fn is_written(number: u32, wanted: Option<[u8; 8]>) -> bool {
+    match (Vni::new(number), wanted) {
+        (Some(vni), Some(header)) => vx_head(vni) == header,
+        (None, None) => true,
+        _ => false,
     }
 }
 
 #[test]
 fn writes_the_header(rt: HostRuntime) {
-    for (number, wanted) in [
-        (0, Some([0x08, 0, 0, 0, 0, 0, 0, 0])),
-        (5000, Some([0x08, 0, 0, 0, 0x00, 0x13, 0x88, 0])),
-        (16_777_215, Some([0x08, 0, 0, 0, 0xFF, 0xFF, 0xFF, 0])),
-        (16_777_216, None),
-    ] {
-        assert_eq!(rt;
-            Vni::new(number).map(|vni| vx_head(vni)),
-            wanted,
-            "VNI {number}"
-        );
+    for (case, number, wanted) in HEADERS {
+        check(&rt, is_written(number, wanted), case);
     }
+}
+
+/// Whether a fault has this name, and so has its reason of a drop.
+fn is_named(alloc: Global, fault: VxFault, name: &str) -> Result<bool, AllocError> {
+    let text = fault.to_string(alloc)?;
+    Ok(text.as_str() == name && Reason::from(fault).name() == name)
 }
 
 #[test]
@@ -60,12 +106,7 @@ fn names_its_faults_as_the_reasons_of_a_drop(rt: HostRuntime) -> Result<(), Fail
         (VxFault::ShortTunnel, "ShortTunnel"),
         (VxFault::NoVniFlag, "NoVniFlag"),
     ] {
-        assert_eq!(rt; Reason::from(fault).name(), name, "the reason of {fault:?}");
-        assert_eq!(rt;
-            fault.to_string(rt.alloc())?.as_str(),
-            name,
-            "the text of {fault:?}"
-        );
+        check(&rt, is_named(rt.alloc(), fault, name)?, name);
     }
     Ok(())
 }

@@ -122,9 +122,13 @@ migrate_shape = migrate_app.top
 abbrev pub versioned_app : App
 versioned_app = let app = new_app (codes "tep") in record app { top = record app.top { has_version = true; propagate_version = true } }
 
+-- the program with its first subcommand
+abbrev pub with_run_app : App
+with_run_app = with_subcommand versioned_app run_shape
+
 -- the program with its first two subcommands
 abbrev pub run_and_check_app : App
-run_and_check_app = with_subcommand (with_subcommand versioned_app run_shape) check_shape
+run_and_check_app = with_subcommand with_run_app check_shape
 
 -- the program with its first three subcommands
 abbrev pub run_check_and_explain_app : App

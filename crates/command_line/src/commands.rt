@@ -1,37 +1,73 @@
 //! The program's commands, as `clap` is told of them.
 ghost use Rattle.std.specs.Prelude.{◌≡◌, IfOk, false};
-ghost use Rattle.clap.specs.Words.{app_of, shape_of};
+ghost use Rattle.clap.specs.Words.{app_of, new_app, rule_of, shape_of, with_rule};
 ghost use Rattle.clap.specs.declared.builder.Command.TheViews.{out-Command as fields_of};
-ghost use Rattle.command_line.specs.App.{check_shape, explain_shape, migrate_shape, run_and_check_app, run_check_and_explain_app, run_settings_app, run_shape, tep_app};
+ghost use Rattle.command_line.specs.App.{check_shape, explain_shape, migrate_shape, run_and_check_app, run_check_and_explain_app, run_settings_app, run_shape, tep_app, versioned_app, with_run_app};
 
 use crate::arguments::{capture, changes, depth, out, ports, settings, underlay};
-use clap::Command;
+use clap::{Arg, Command};
 use std::alloc::{AllocError, Global};
 
-/// What stands below the help of each command.
-const EXAMPLE: &str =
-    "Example:\n  tep run -s settings.toml -u underlay.pcap -o out port1.pcap port2.pcap";
+/// What the program's help begins with.
+fn program_about<'a>() -> &'a str {
+    "A VXLAN and Geneve tunnel endpoint over captures; without words it runs on a built-in sample"
+}
 
-const RUN_EXAMPLE: &str =
-    "Captures are pcap or pcapng. FILE#INTERFACE takes one interface of a pcapng capture, by number or name.\n\nExamples:\n  tep run -s settings.toml -c changes.toml -u underlay.pcap -o out port1.pcap port2.pcap\n  tep run -s settings.toml -u all.pcapng#eth0 -o out all.pcapng#eth1 all.pcapng#eth2\n  cat out/decisions.txt";
+/// What stands below the program's help.
+fn example<'a>() -> &'a str {
+    "Example:\n  tep run -s settings.toml -u underlay.pcap -o out port1.pcap port2.pcap"
+}
 
-const CHECK_EXAMPLE: &str = "Example:\n  tep check -s settings.toml -c changes.toml";
+/// What stands below the help of `run`.
+fn run_example<'a>() -> &'a str {
+    "Captures are pcap or pcapng. FILE#INTERFACE takes one interface of a pcapng capture, by number or name.\n\nExamples:\n  tep run -s settings.toml -c changes.toml -u underlay.pcap -o out port1.pcap port2.pcap\n  tep run -s settings.toml -u all.pcapng#eth0 -o out all.pcapng#eth1 all.pcapng#eth2\n  cat out/decisions.txt"
+}
 
-const EXPLAIN_EXAMPLE: &str =
-    "A capture is pcap or pcapng. FILE#INTERFACE takes one interface of a pcapng capture, by number or name.\n\nExamples:\n  tep explain -s settings.toml -d 2 underlay.pcap\n  tep explain -s settings.toml all.pcapng#eth0";
+/// What stands below the help of `check`.
+fn check_example<'a>() -> &'a str {
+    "Example:\n  tep check -s settings.toml -c changes.toml"
+}
 
-const MIGRATE_EXAMPLE: &str = "Example:\n  tep migrate -s settings.toml >migrated.toml";
+/// What stands below the help of `explain`.
+fn explain_example<'a>() -> &'a str {
+    "A capture is pcap or pcapng. FILE#INTERFACE takes one interface of a pcapng capture, by number or name.\n\nExamples:\n  tep explain -s settings.toml -d 2 underlay.pcap\n  tep explain -s settings.toml all.pcapng#eth0"
+}
+
+/// What stands below the help of `migrate`.
+fn migrate_example<'a>() -> &'a str {
+    "Example:\n  tep migrate -s settings.toml >migrated.toml"
+}
+
+/// A command of this name, with its line of help and what stands below it.
+fn named<'a>(alloc: Global, name: &'a str, about: &'a str, example: &'a str) -> Command<'a>
+    ensures app { app_of result ≡ new_app name.entry.now }
+    ensures local { (fields_of result).has_globals ≡ false }
+{
+    Command::new(alloc, name).about(about).after_help(example)
+}
+
+/// A command with one argument more.
+fn taking<'a>(command: Command<'a>, arg: Arg<'a>) -> Result<Command<'a>, AllocError>
+    requires { arg.global ≡ false }
+    ensures app { IfOk result (λ c. app_of c ≡ with_rule (app_of command.entry) (rule_of arg.entry)) }
+    ensures local { IfOk result (λ c. (fields_of c).has_globals ≡ (fields_of command.entry).has_globals) }
+{
+    command.arg(arg)
+}
 
 /// The first two options of `run`.
 fn run_settings<'a>(alloc: Global) -> Result<Command<'a>, AllocError>
     ensures app { IfOk result (λ c. app_of c ≡ run_settings_app) }
     ensures local { IfOk result (λ c. (fields_of c).has_globals ≡ false) }
 {
-    Command::new(alloc, "run")
-        .about("Runs the endpoint over captures")
-        .after_help(RUN_EXAMPLE)
-        .arg(settings(alloc))?
-        .arg(changes(alloc))
+    let command = named(
+        alloc,
+        "run",
+        "Runs the endpoint over captures",
+        run_example(),
+    );
+    let command = taking(command, settings(alloc))?;
+    taking(command, changes(alloc))
 }
 
 /// `run`, with all that it takes.
@@ -39,10 +75,9 @@ fn run<'a>(alloc: Global) -> Result<Command<'a>, AllocError>
     ensures shape { IfOk result (λ c. shape_of c ≡ run_shape) }
     ensures local { IfOk result (λ c. (fields_of c).has_globals ≡ false) }
 {
-    run_settings(alloc)?
-        .arg(underlay(alloc))?
-        .arg(out(alloc))?
-        .arg(ports(alloc))
+    let command = taking(run_settings(alloc)?, underlay(alloc))?;
+    let command = taking(command, out(alloc))?;
+    taking(command, ports(alloc))
 }
 
 /// `check`.
@@ -50,11 +85,14 @@ fn check<'a>(alloc: Global) -> Result<Command<'a>, AllocError>
     ensures shape { IfOk result (λ c. shape_of c ≡ check_shape) }
     ensures local { IfOk result (λ c. (fields_of c).has_globals ≡ false) }
 {
-    Command::new(alloc, "check")
-        .about("Checks a settings text and a changes text")
-        .after_help(CHECK_EXAMPLE)
-        .arg(settings(alloc))?
-        .arg(changes(alloc))
+    let command = named(
+        alloc,
+        "check",
+        "Checks a settings text and a changes text",
+        check_example(),
+    );
+    let command = taking(command, settings(alloc))?;
+    taking(command, changes(alloc))
 }
 
 /// `explain`.
@@ -62,12 +100,15 @@ fn explain<'a>(alloc: Global) -> Result<Command<'a>, AllocError>
     ensures shape { IfOk result (λ c. shape_of c ≡ explain_shape) }
     ensures local { IfOk result (λ c. (fields_of c).has_globals ≡ false) }
 {
-    Command::new(alloc, "explain")
-        .about("Takes the packets of a capture apart")
-        .after_help(EXPLAIN_EXAMPLE)
-        .arg(settings(alloc))?
-        .arg(depth(alloc))?
-        .arg(capture(alloc))
+    let command = named(
+        alloc,
+        "explain",
+        "Takes the packets of a capture apart",
+        explain_example(),
+    );
+    let command = taking(command, settings(alloc))?;
+    let command = taking(command, depth(alloc))?;
+    taking(command, capture(alloc))
 }
 
 /// `migrate`.
@@ -75,10 +116,33 @@ fn migrate<'a>(alloc: Global) -> Result<Command<'a>, AllocError>
     ensures shape { IfOk result (λ c. shape_of c ≡ migrate_shape) }
     ensures local { IfOk result (λ c. (fields_of c).has_globals ≡ false) }
 {
-    Command::new(alloc, "migrate")
-        .about("Prints a settings text as one of version 2")
-        .after_help(MIGRATE_EXAMPLE)
-        .arg(settings(alloc))
+    let command = named(
+        alloc,
+        "migrate",
+        "Prints a settings text as one of version 2",
+        migrate_example(),
+    );
+    taking(command, settings(alloc))
+}
+
+/// The program without its commands.
+fn program<'a>(alloc: Global) -> Command<'a>
+    ensures app { app_of result ≡ versioned_app }
+    ensures local { (fields_of result).has_globals ≡ false }
+{
+    Command::new(alloc, "tep")
+        .about(program_about())
+        .after_help(example())
+        .version("0.1.0")
+        .propagate_version(true)
+}
+
+/// The program with its first command.
+fn with_run<'a>(alloc: Global) -> Result<Command<'a>, AllocError>
+    ensures app { IfOk result (λ c. app_of c ≡ with_run_app) }
+    ensures local { IfOk result (λ c. (fields_of c).has_globals ≡ false) }
+{
+    program(alloc).subcommand(run(alloc)?)
 }
 
 /// The program with its first two commands.
@@ -86,15 +150,7 @@ fn run_and_check<'a>(alloc: Global) -> Result<Command<'a>, AllocError>
     ensures app { IfOk result (λ c. app_of c ≡ run_and_check_app) }
     ensures local { IfOk result (λ c. (fields_of c).has_globals ≡ false) }
 {
-    Command::new(alloc, "tep")
-        .about(
-            "A VXLAN and Geneve tunnel endpoint over captures; without words it runs on a built-in sample",
-        )
-        .after_help(EXAMPLE)
-        .version("0.1.0")
-        .propagate_version(true)
-        .subcommand(run(alloc)?)?
-        .subcommand(check(alloc)?)
+    with_run(alloc)?.subcommand(check(alloc)?)
 }
 
 /// The program with its first three commands.

@@ -1,3 +1,1 @@
-pub mod Accepted
 pub mod Refused
-pub mod SameRun

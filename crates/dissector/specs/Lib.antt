@@ -1,5 +1,3 @@
 pub mod Check
-pub mod Given
-pub mod Sample
 pub mod Status
 pub mod Text

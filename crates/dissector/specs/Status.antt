@@ -1,9 +1,11 @@
--- The exit statuses of the faults of runs.
+-- The exit statuses of the faults of runs and of the program.
 use Rattle.std.specs.Prelude.{ℕ}
 use Rattle.capture_run.specs.declared.fault.RunFault.{RunFault}
 use Rattle.capture_run.specs.declared.fault.RunFault.TheVariants as faults
 use Rattle.stream_run.specs.declared.fault.StreamFault.{StreamFault}
 use Rattle.stream_run.specs.declared.fault.StreamFault.TheVariants as streams
+use Rattle.dissector.specs.declared.failure.Failure.{Failure}
+use Rattle.dissector.specs.declared.failure.Failure.TheVariants as failures
 
 -- 1 for what was refused, 3 for want of memory
 abbrev pub status_of : RunFault → ℕ
@@ -19,3 +21,10 @@ abbrev pub stream_status_of : StreamFault → ℕ
 stream_status_of (streams.Run fault) = status_of fault
 stream_status_of (streams.Read tap) = 3
 stream_status_of (streams.Write target) = 3
+
+-- of what the program gives up for: 1 for a text or a capture that is refused, 3 for want of memory, a failed read or a failed write
+abbrev pub failure_status_of : Failure → ℕ
+failure_status_of (failures.Run fault) = status_of fault
+failure_status_of (failures.Pcapng tap fault) = 1
+failure_status_of (failures.Read name) = 3
+failure_status_of (failures.Write output) = 3

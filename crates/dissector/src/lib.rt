@@ -4,18 +4,19 @@
 //! [`exit_code`] is the exit status of a [`RunFault`](capture_run::RunFault), and [`stream_code`] that of a
 //! [`StreamFault`](stream_run::StreamFault). [`read_text`] reads a whole text from any
 //! input in a bounded number of reads. [`line_of`] reads the program's words. [`explain_bytes`] takes the packets of a
-//! capture apart, and [`dissect`] one packet. No file is opened here.
+//! capture apart, and [`dissect`] one packet. A [`Failure`] is why the program gives up. No file is opened here.
 #![tactic(auto)]
 
-mod built_in;
 mod check;
+mod failure;
 mod status;
 mod text;
 
-pub use built_in::sample;
 pub use check::check_text;
 pub use command_line::{CaptureName, Line, LineFault, STANDARD_INPUT, capture_name, line_of};
 pub use explanation::{explain, explain_bytes};
+pub use failure::{Failure, OutputFile};
 pub use packet_layers::{Head, HeadKind, Layers, Span, Stop, dissect};
+pub use sample_run::sample;
 pub use status::{exit_code, stream_code};
 pub use text::{TextFault, read_text};

@@ -1,5 +1,5 @@
 -- What is made of the octets held of a block.
-use Rattle.std.proofs.Common.{◌≡◌, ◌∙◌, refl, sym, ap, subst, ℕ, ◌+◌, ◌%◌, ◌<◌, ◌≤◌, Bool, true, false, List, [], ◌∷◌, ◌++◌, length, drop, arith, append_assoc, append-nil, Option, None, Some, Ok, Err, inl, inr}
+use Rattle.std.proofs.Common.{◌≡◌, ◌∙◌, refl, sym, ap, subst, ℕ, ◌+◌, ◌%◌, ◌<◌, ◌≤◌, Bool, true, false, List, [], ◌∷◌, ◌++◌, length, drop, arith, append_assoc, append-nil, Option, None, Some, Result, Ok, Err, inl, inr}
 use Rattle.std.specs.Prelude.{◌||◌, nat_lt, not, if◌then◌else◌}
 use Rattle.std.specs.List.{flat_map}
 use Rattle.std.proofs.lemmas.List.Concat.{flat_map-cons}
@@ -14,7 +14,8 @@ use Rattle.pcapng_input.proofs.Readings.{packets-behind, packets-end, packets-fa
 use Rattle.pcapng_input.specs.Adapted.{Told, told_behind, told_end, told_reading}
 use Rattle.pcapng_input.specs.Block.{AllRead, AnotherBlock, Block, CutShort, NoBlock, Refused, longest_block, next_block, order_at}
 use Rattle.pcapng_input.specs.Classic.{found_text}
-use Rattle.pcapng_input.specs.Reading.{Context, EndsFaulty, PacketReading, block_fault_at, ended, found_before, packets_in, step_of}
+use Rattle.pcapng_input.specs.Context.{IsTakenAs}
+use Rattle.pcapng_input.specs.Reading.{Context, EndsFaulty, PacketReading, Step, block_fault_at, ended, found_before, packets_in, step_of}
 use Rattle.pcapng_input.specs.State.{IsRest, IsSettled, wanted_size, wanting_by}
 use Rattle.pcapng_input.specs.declared.fault.BlockFault.{BlockFault}
 use Rattle.pcapng_input.specs.declared.fault.PcapngFault.{PcapngFault}
@@ -75,6 +76,21 @@ settles_taken selection context new held behind ready is_more block found order 
       ∙ told_found found (packets_in selection new rest)
       ∙ ap (λ t. told_behind t (told_reading (packets_in selection new rest))) (sym put),
 )
+
+-- the same by its step and the record that was put
+pub settles_put : (selection : Selection) (context new : Context) (held behind ready : List ℕ) (is_more : Bool) (block : Block) (order : Option Order)
+    → order ≡ context.order → AnotherBlock block behind ≡ next_block order held → length held ≤ wanted_size context.order held
+    → IsTakenAs new ready (step_of selection context block)
+    → new.blocks ≡ context.blocks + 1 → new.offset ≡ context.offset + (12 + length block.body) → 12 + length block.body + length behind ≤ length held
+    → IsSettled selection context new held ready is_more settled.Taken
+settles_put selection context new held behind ready is_more block order order_is next fits taken blocks offset shorter =
+    by_step (step_of selection context block) refl taken
+  where
+    by_step : (step : Result Step BlockFault) → step_of selection context block ≡ step → IsTakenAs new ready step → IsSettled selection context new held ready is_more settled.Taken
+    by_step (Err fault) e is = absurd is
+    by_step (Ok step) e is =
+        settles_taken selection context new held behind ready is_more block step.found order order_is next fits
+        (e ∙ ap (λ (c : Context). Ok (record { context = c; found = step.found })) (sym is.0)) is.1 blocks offset shorter
 
 -- a block has a fault
 pub settles_faulty : (selection : Selection) (context new : Context) (held behind ready : List ℕ) (is_more : Bool) (block : Block) (fault : PcapngFault) (order : Option Order)

@@ -115,12 +115,11 @@ more_blocks blocks offset new_blocks new_offset size p q h = omega arith
 pub more_offset : (offset new_offset size rest behind text : ℕ) → new_offset ≡ offset + (12 + size) → 12 + size + behind ≤ rest → offset + rest ≤ text → new_offset + behind ≤ text
 more_offset offset new_offset size rest behind text p q h = omega arith
 
--- a header and octets behind it are the record that was found
-pub found_whole : (r : Record) (found : Option Record) (ready head octets : List ℕ) (moment captured original : ℕ) → found ≡ Some r
+-- a header and octets behind it are the record
+pub record_whole : {E : Type 0} (r : Record) (ready head octets : List ℕ) (moment captured original : ℕ) (result : Result (Unit {0}) E)
     → r ≡ record { moment = moment; original = original; octets = octets } → captured ≡ length octets → head ≡ record_header_of moment captured original
-    → ready ≡ head ++ octets → ready ≡ found_text found
+    → OnOk result (ready ≡ head ++ octets) → OnOk result (ready ≡ written_record r)
 unfolding written_record
-found_whole r found ready head octets moment captured original found_is is size header put =
-    let record_is : written_record r ≡ record_header_of moment (length octets) original ++ octets = ap written_record is in
-    let text_is : found_text found ≡ written_record r = ap found_text found_is in
-    put ∙ ap (λ t. t ++ octets) (header ∙ ap (λ n. record_header_of moment n original) size) ∙ sym record_is ∙ sym text_is
+record_whole r ready head octets moment captured original (Ok x) is size header put =
+    put ∙ ap (λ t. t ++ octets) (header ∙ ap (λ n. record_header_of moment n original) size) ∙ sym (ap written_record is)
+record_whole r ready head octets moment captured original (Err e) is size header put = tt

@@ -61,7 +61,7 @@ fn is_of_one(selection: Selection<'_>) -> bool
 }
 
 impl<'s, R: Input> Adapter<'s, R> {
-    /// Reserves room, and reads nothing.
+    /// Reserves room for the first octets, and reads nothing.
     pub fn new(
         alloc: Global,
         input: R,
@@ -88,7 +88,7 @@ impl<'s, R: Input> Adapter<'s, R> {
         let gathered = Gathered::new(alloc, input, reads)?;
         let mut ready = Ready::new(alloc)?;
         let state = if is_of_one(selection) {
-            ready.put(&global_header(), &[]);
+            ready.put(&global_header());
             State::Within
         } else {
             State::Begun

@@ -15,9 +15,11 @@ use std::alloc::{AllocError, Global};
 
 /// An input of a capture: a pcapng one is told as the classic capture of its packets, and any other octet for octet.
 ///
-/// It keeps the octets of one block, 327,680, and of one record, and what the section describes. A text is pcapng where it
-/// begins with the octets 0A 0D 0D 0A. Where the packets of one interface are asked for, only pcapng is taken: any other
-/// text has the fault `NoSection` then. At a fault of a pcapng text, and once memory was refused, each read fails.
+/// It keeps the octets of one block and of one record, in rooms that grow to the longest so far, at most 327,680 and 262,160
+/// octets, and what the section describes. A text is pcapng where it begins with the octets 0A 0D 0D 0A. Where the packets of
+/// one interface are asked for, only pcapng is taken: any other text has the fault `NoSection` then. At a fault of a pcapng
+/// text each read fails. So does one for which memory is refused, and it takes nothing; where that was for a record or an
+/// interface, each read behind it fails too.
 #[derive(Drop)]
 pub struct CaptureInput<'s, R: Input> {
     adapter: Adapter<'s, R>,
@@ -26,8 +28,9 @@ pub struct CaptureInput<'s, R: Input> {
 }
 
 impl<'s, R: Input> CaptureInput<'s, R> {
-    /// Reserves room, and reads nothing. `reads` is how many reads of the input it may make over its life, of which it
-    /// makes at most 35,184,372,088,832: a read that would need one more fails.
+    /// Reserves 36 octets, all that a text needs that isn't pcapng, and reads nothing. `reads` is how many reads of the
+    /// input it may make over its life, of which it makes at most 35,184,372,088,832: a read that would need one more
+    /// fails.
     pub fn new(
         alloc: Global,
         input: R,

@@ -1,16 +1,17 @@
 //! What is known in front of a block.
-ghost use Rattle.std.specs.Prelude.{◌≡◌, ◌≤◌, ◌<◌, ◌+◌, ◌^◌, length, IfOk, IfErr, IfSome, OnErr, OnOk, Ok};
+ghost use Rattle.std.specs.Prelude.{◌≡◌, ◌≤◌, ◌<◌, ◌+◌, ◌^◌, length, None, IfOk, IfErr, IfSome, OnErr, OnOk, Ok, Err};
 ghost use Rattle.pcap_io.specs.Record.{IsWithinLimits};
 ghost use Rattle.pcapng_input.specs.Adapted.{behind_other};
 ghost use Rattle.pcapng_input.specs.Context.{IsStepError};
-ghost use Rattle.pcapng_input.specs.Reading.{block_fault_at, start, step_of};
+ghost use Rattle.pcapng_input.specs.Meaning.{IsMeantWithinLimits, block_meaning};
+ghost use Rattle.pcapng_input.specs.Reading.{block_fault_at, context_behind, record_meant, start, step_of};
 
 use crate::block::Block;
 use crate::fault::{BlockFault, PcapngError, PcapngFault};
 use crate::interface::{Interface, Selection};
 use crate::meaning::{BlockMeaning, block_meaning};
 use pcap_io::{Order, Record};
-use std::alloc::Global;
+use std::alloc::{AllocError, Global};
 use std::marker::Model;
 
 /// The octets of a block that aren't its body.
@@ -87,6 +88,47 @@ impl Context {
         self.offset += size;
     }
 
+    /// What the block that stands here means.
+    pub fn meaning<'a>(
+        &self,
+        selection: Selection<'_>,
+        block: &Block<'a>,
+    ) -> Result<BlockMeaning<'a>, PcapngFault>
+        requires { self.now.blocks + 1 < 2 ^ 64 }
+        ensures value { IfOk result (λ meant. block_meaning selection.entry self.now.interfaces self.now.last block.now ≡ Ok meant) }
+        ensures fault { IfErr result (λ fault. block_meaning selection.entry self.now.interfaces self.now.last block.now ≡ Err fault.fault) }
+        ensures place { IfErr result (λ fault. fault ≡ block_fault_at self.now fault.fault) }
+        ensures limits { IfOk result IsMeantWithinLimits }
+    {
+        match block_meaning(selection, self.interfaces.as_slice(), self.last, block) {
+            Ok(meant) => Ok(meant),
+            Err(fault) => Err(self.fault(fault)),
+        }
+    }
+
+    /// Goes on behind a block that means this. After an error nothing has changed, and the block means no record.
+    pub fn go_on(&mut self, block: &Block<'_>, meant: &BlockMeaning<'_>) -> Result<(), AllocError>
+        requires blocks { self.old.blocks + 1 < 2 ^ 64 }
+        requires offset { self.old.offset + (12 + length block.now.body) < 2 ^ 64 }
+        requires limits { IsMeantWithinLimits meant.now }
+        ensures behind { OnOk result (self.new ≡ context_behind self.old block.now meant.now) }
+        ensures err { OnErr result (self.new ≡ self.old) }
+        ensures none { OnErr result (record_meant meant.now ≡ None) }
+    {
+        match meant {
+            BlockMeaning::Section => {
+                self.order = Some(block.order);
+                self.interfaces.clear();
+            }
+            BlockMeaning::Described(interface) => self.interfaces.push(*interface)?,
+            BlockMeaning::Packet(record) => self.last = record.moment,
+            BlockMeaning::Nothing => {}
+        }
+        self.blocks += 1;
+        self.offset += AROUND_BODY + block.body.len() as u64;
+        Ok(())
+    }
+
     /// Goes on behind a block, and answers its packet as a record, if it has one that is selected. After an error
     /// nothing has changed.
     #[tactic(auto, unfolding(crate::specs::Reading::step_of))]
@@ -104,28 +146,11 @@ impl Context {
         ensures err { OnErr result (self.new ≡ self.old) }
         ensures limits { IfOk result (λ found. IfSome found IsWithinLimits) }
     {
-        let meant = match block_meaning(selection, self.interfaces.as_slice(), self.last, block) {
+        let meant = match self.meaning(selection, block) {
             Ok(meant) => meant,
-            Err(fault) => return Err(PcapngError::Faulty(self.fault(fault))),
+            Err(fault) => return Err(PcapngError::Faulty(fault)),
         };
-        let found = match meant {
-            BlockMeaning::Section => {
-                self.order = Some(block.order);
-                self.interfaces.clear();
-                None
-            }
-            BlockMeaning::Described(interface) => {
-                self.interfaces.push(interface)?;
-                None
-            }
-            BlockMeaning::Packet(record) => {
-                self.last = record.moment;
-                Some(record)
-            }
-            BlockMeaning::Nothing => None,
-        };
-        self.blocks += 1;
-        self.offset += AROUND_BODY + block.body.len() as u64;
-        Ok(found)
+        self.go_on(block, &meant)?;
+        Ok(meant.record())
     }
 }

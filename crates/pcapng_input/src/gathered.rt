@@ -7,13 +7,14 @@ ghost use Rattle.pcap_stream.specs.Supply.{GivesUp, Spends};
 ghost use Rattle.pcapng_input.specs.Adapter.{IsFetched};
 ghost use Rattle.pcapng_input.specs.Block.{longest_block};
 
-use crate::block::LONGEST_BLOCK;
+use crate::block::EMPTY_BLOCK;
+use crate::room::lengthen;
 use pcap_stream::{DeviceFault, Input};
 use std::alloc::{AllocError, Global};
 use std::marker::Model;
 
-/// The octets in front of what an input has left, in room for the longest block that is read, and how many reads may still
-/// be made of the input. Contracts see these octets and the input; how many reads found the end isn't counted.
+/// The octets in front of what an input has left, in room for the longest block so far, and how many reads may still be made
+/// of the input. Contracts see these octets and the input; how many reads found the end isn't counted.
 #[derive(Drop)]
 pub struct Gathered<R: Input> {
     input: R,
@@ -40,7 +41,7 @@ impl<R: Input> Model for Gathered<R> {
       };
     } };
 
-    ghost invariant = { λ g. (g.held ≤ length g.room.items) × (length g.room.items ≡ longest_block) };
+    ghost invariant = { λ g. (g.held ≤ length g.room.items) × (length g.room.items ≤ longest_block) };
 }
 
 /// One read into a part of a room.
@@ -63,7 +64,7 @@ fn read_between<R: Input>(
 }
 
 impl<R: Input> Gathered<R> {
-    /// Reserves the room, and reads nothing.
+    /// Reserves room for a block with an empty body, and reads nothing.
     pub fn new(alloc: Global, input: R, reads: u64) -> Result<Gathered<R>, AllocError>
     where
         R: Drop,
@@ -78,7 +79,7 @@ impl<R: Input> Gathered<R> {
           };
         }) }
     {
-        let room = vec![in alloc; 0u8; LONGEST_BLOCK]?;
+        let room = vec![in alloc; 0u8; EMPTY_BLOCK]?;
         Ok(Gathered {
             input,
             reads,
@@ -94,7 +95,8 @@ impl<R: Input> Gathered<R> {
         &self.room[..self.held]
     }
 
-    /// One read, so that at most `wanted` octets are held. It answers whether there were any.
+    /// One read, so that at most `wanted` octets are held. It answers whether there were any. Where there is no room for so
+    /// many and memory is refused, none is made.
     pub fn fetch(&mut self, wanted: usize) -> Result<bool, DeviceFault>
         requires { (length self.old.held < wanted) × (wanted ≤ longest_block) }
         ensures fetched { IfOk result (IsFetched wanted self.old self.new) }
@@ -103,9 +105,11 @@ impl<R: Input> Gathered<R> {
         ensures spent { Spends self.old.supply self.new.supply }
         ensures fewer { OnOk result (self.new.supply.reads < self.old.supply.reads) }
         ensures quiet { OnOk result (self.new.supply.failures ≡ self.old.supply.failures) }
-        ensures gives_up { OnErr result (GivesUp self.old.supply self.new.supply) }
     {
         if self.reads == 0 {
+            return Err(DeviceFault);
+        }
+        if let Err(AllocError) = lengthen(&mut self.room, wanted) {
             return Err(DeviceFault);
         }
         self.reads -= 1;

@@ -23,6 +23,7 @@ mod option;
 mod packet;
 mod reading;
 mod ready;
+mod room;
 mod settle;
 mod state;
 

@@ -33,6 +33,20 @@ pub enum BlockMeaning<'a> {
     Nothing,
 }
 
+impl<'a> BlockMeaning<'a> {
+    ghost use Rattle.pcapng_input.specs.Reading.{record_meant};
+
+    /// The record that is meant, if any.
+    pub fn record(self) -> Option<Record<'a>>
+        ensures { result ≡ record_meant self.entry }
+    {
+        match self {
+            BlockMeaning::Packet(record) => Some(record),
+            _ => None,
+        }
+    }
+}
+
 /// The meaning of a section header.
 #[tactic(auto, unfolding(crate::specs::Meaning::section_in))]
 fn section_in<'a>(block: &Block<'a>) -> Result<BlockMeaning<'a>, BlockFault>

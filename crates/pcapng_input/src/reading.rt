@@ -1,7 +1,7 @@
 //! What one more read brings an adapted input to.
 ghost use Rattle.std.specs.Prelude.{◌≡◌, ◌≤◌, ◌<◌, ◌+◌, ◌-◌, [], false, length, IfOk, OnErr, OnOk};
 ghost use Rattle.std.specs.Io.KnownBytes.{Keeps};
-ghost use Rattle.pcap_stream.specs.Supply.{GivesUp, Spends};
+ghost use Rattle.pcap_stream.specs.Supply.{Spends};
 ghost use Rattle.pcapng_input.specs.Adapted.{Begun, Passing, Within, is_of_one};
 ghost use Rattle.pcapng_input.specs.Reading.{start};
 ghost use Rattle.pcapng_input.specs.State.{IsSound, IsTaken, Leads, stand_of};
@@ -43,7 +43,6 @@ pub fn read_magic<R: Input>(
     ensures spent { Spends gathered.old.supply gathered.new.supply }
     ensures fewer { OnOk result (gathered.new.supply.reads < gathered.old.supply.reads) }
     ensures quiet { OnOk result (gathered.new.supply.failures ≡ gathered.old.supply.failures) }
-    ensures gives_up { OnErr result (GivesUp gathered.old.supply gathered.new.supply) }
 {
     let is_more = gathered.fetch(MAGIC)?;
     let held = gathered.held();
@@ -51,10 +50,10 @@ pub fn read_magic<R: Input>(
         return Ok(State::Begun);
     }
     if is_pcapng(held) {
-        ready.put(&global_header(), &[]);
+        ready.put(&global_header());
         return Ok(State::Within);
     }
-    ready.put(held, &[]);
+    ready.put(held);
     gathered.clear();
     Ok(State::Plain)
 }
@@ -78,7 +77,6 @@ pub fn read_block<R: Input>(
     ensures spent { Spends gathered.old.supply gathered.new.supply }
     ensures fewer { OnOk result (gathered.new.supply.reads < gathered.old.supply.reads) }
     ensures quiet { OnOk result (gathered.new.supply.failures ≡ gathered.old.supply.failures) }
-    ensures gives_up { OnErr result (GivesUp gathered.old.supply gathered.new.supply) }
 {
     let wanted = wanted(context.order(), gathered.held());
     let is_more = gathered.fetch(wanted)?;
@@ -121,7 +119,6 @@ pub fn pass_body<R: Input>(
     ensures spent { Spends gathered.old.supply gathered.new.supply }
     ensures fewer { OnOk result (gathered.new.supply.reads < gathered.old.supply.reads) }
     ensures quiet { OnOk result (gathered.new.supply.failures ≡ gathered.old.supply.failures) }
-    ensures gives_up { OnErr result (GivesUp gathered.old.supply gathered.new.supply) }
 {
     let wanted = if left < LONGEST_BLOCK {
         left
@@ -130,7 +127,7 @@ pub fn pass_body<R: Input>(
     };
     let is_more = gathered.fetch(wanted)?;
     if !is_more {
-        ready.put(&[0], &[]);
+        ready.put(&[0]);
         return Ok(State::Over);
     }
     let left = left - gathered.held().len();
@@ -158,12 +155,11 @@ pub fn pass_end<R: Input>(
     ensures spent { Spends gathered.old.supply gathered.new.supply }
     ensures fewer { OnOk result (gathered.new.supply.reads < gathered.old.supply.reads) }
     ensures quiet { OnOk result (gathered.new.supply.failures ≡ gathered.old.supply.failures) }
-    ensures gives_up { OnErr result (GivesUp gathered.old.supply gathered.new.supply) }
 {
     let is_more = gathered.fetch(SECOND_LENGTH)?;
     let held = gathered.held();
     if !is_more {
-        ready.put(&[0], &[]);
+        ready.put(&[0]);
         return Ok(State::Over);
     }
     if held.len() < SECOND_LENGTH {

@@ -1,12 +1,15 @@
 //! Octets that are ready to be given.
-ghost use Rattle.std.specs.Prelude.{◌≡◌, ◌≤◌, ◌<◌, ◌+◌, ◌++◌, [], length, nat_eq, take, IfOk};
+ghost use Rattle.std.specs.Prelude.{◌≡◌, ◌≤◌, ◌<◌, ◌+◌, ◌++◌, [], length, nat_eq, take, IfOk, OnErr, OnOk};
 ghost use Rattle.pcap_io.specs.Record.{longest};
 
-use pcap_io::{LONGEST, RECORD_HEADER_LENGTH};
+use crate::room::lengthen;
 use std::alloc::{AllocError, Global};
 use std::marker::Model;
 
-/// Octets that are ready to be given from the front, at most those of a record. Contracts see them.
+/// The octets that there is always room for: those of a capture's header.
+const LEAST: usize = 24;
+
+/// Octets that are ready to be given from the front, in room for the longest record so far. Contracts see them.
 #[derive(Drop)]
 pub struct Ready {
     room: Vec<u8>,
@@ -15,14 +18,13 @@ pub struct Ready {
 }
 
 impl Model for Ready {
-    ghost use Rattle.std.specs.Prelude.{◌≡◌, ◌≤◌, ◌-◌, ◌+◌, ℕ, List, length, take, drop};
-    ghost use Rattle.pcap_io.specs.Record.{longest};
+    ghost use Rattle.std.specs.Prelude.{◌≤◌, ◌-◌, ℕ, List, length, take, drop};
 
     ghost Value = { List ℕ };
 
     ghost view = { λ r. take (r.to - r.from) (drop r.from r.room.items) };
 
-    ghost invariant = { λ r. (r.from ≤ r.to) × (r.to ≤ length r.room.items) × (length r.room.items ≡ longest + 16) };
+    ghost invariant = { λ r. (r.from ≤ r.to) × (r.to ≤ length r.room.items) × (24 ≤ length r.room.items) };
 }
 
 /// Puts a text behind the first `at` octets of a room, and says where it ends.
@@ -53,11 +55,11 @@ fn copy_front(octets: &mut [u8], text: &[u8]) -> usize
 }
 
 impl Ready {
-    /// Reserves the room. Nothing is ready yet.
+    /// Reserves room for a capture's header. Nothing is ready yet.
     pub fn new(alloc: Global) -> Result<Ready, AllocError>
         ensures { IfOk result (λ ready. ready ≡ []) }
     {
-        let room = vec![in alloc; 0u8; LONGEST + RECORD_HEADER_LENGTH]?;
+        let room = vec![in alloc; 0u8; LEAST]?;
         Ok(Ready {
             room,
             from: 0,
@@ -71,14 +73,28 @@ impl Ready {
         self.from == self.to
     }
 
-    /// Makes two texts ready, one behind the other, in place of what was.
-    pub fn put(&mut self, front: &[u8], behind: &[u8])
-        requires { length front.now + length behind.now ≤ longest + 16 }
-        ensures { self.new ≡ front.now ++ behind.now }
+    /// Makes a short text ready in place of what was.
+    pub fn put(&mut self, text: &[u8])
+        requires { length text.now ≤ 24 }
+        ensures { self.new ≡ text.now }
     {
-        let middle = put_behind(self.room.as_mut_slice(), 0, front);
-        self.to = put_behind(self.room.as_mut_slice(), middle, behind);
+        self.to = put_behind(self.room.as_mut_slice(), 0, text);
         self.from = 0;
+    }
+
+    /// Makes a record ready in place of what was, its header and the octets behind that. Where memory is refused, nothing is
+    /// ready.
+    pub fn put_record(&mut self, header: &[u8], octets: &[u8]) -> Result<(), AllocError>
+        requires { length header.now + length octets.now ≤ longest + 16 }
+        ensures ok { OnOk result (self.new ≡ header.now ++ octets.now) }
+        ensures err { OnErr result (self.new ≡ []) }
+    {
+        self.from = 0;
+        self.to = 0;
+        lengthen(&mut self.room, header.len() + octets.len())?;
+        let middle = put_behind(self.room.as_mut_slice(), 0, header);
+        self.to = put_behind(self.room.as_mut_slice(), middle, octets);
+        Ok(())
     }
 
     /// Gives what is ready from the front, and says how much.

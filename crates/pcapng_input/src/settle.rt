@@ -1,18 +1,24 @@
 //! What is made of the octets that were read of a block.
-ghost use Rattle.std.specs.Prelude.{◌≡◌, ◌≤◌, ◌<◌, ◌+◌, ◌^◌, [], length, IfSome};
+ghost use Rattle.std.specs.Prelude.{◌≡◌, ◌≤◌, ◌<◌, ◌+◌, ◌^◌, [], length, IfErr, OnErr, OnOk};
 ghost use Rattle.pcap_io.specs.Record.{IsWithinLimits};
+ghost use Rattle.pcap_io.specs.Written.{written_record};
 ghost use Rattle.pcapng_input.specs.Block.{longest_block, order_at};
 ghost use Rattle.pcapng_input.specs.Classic.{found_text};
+ghost use Rattle.pcapng_input.specs.Context.{IsStepError, IsTakenAs};
+ghost use Rattle.pcapng_input.specs.Meaning.{IsMeantWithinLimits};
+ghost use Rattle.pcapng_input.specs.Reading.{record_meant, step_of};
 ghost use Rattle.pcapng_input.specs.State.{IsSettled, wanted_size, wanting_by};
 
-use crate::block::{EMPTY_BLOCK, LONGEST_BLOCK, NextBlock, next_block, order_at};
+use crate::block::{Block, EMPTY_BLOCK, LONGEST_BLOCK, NextBlock, next_block, order_at};
 use crate::classic::record_head;
 use crate::context::Context;
 use crate::fault::{PcapngError, PcapngFault};
 use crate::interface::Selection;
+use crate::meaning::BlockMeaning;
 use crate::number::number4;
 use crate::ready::Ready;
 use pcap_io::{Order, Record};
+use std::alloc::AllocError;
 
 /// What is made of the octets that were read of a block.
 #[derive(Clone, Copy)]
@@ -49,16 +55,55 @@ pub fn wanted(section: Option<Order>, held: &[u8]) -> usize
     size
 }
 
-/// Makes a record ready, if there is one.
-fn put_found(ready: &mut Ready, found: Option<Record<'_>>)
-    requires limits { IfSome found IsWithinLimits }
-    requires empty { ready.old ≡ [] }
-    ensures { ready.new ≡ found_text found.entry }
+/// Makes a record ready. Where memory is refused, nothing is ready.
+fn put_packet(ready: &mut Ready, packet: &Record<'_>) -> Result<(), AllocError>
+    requires { IsWithinLimits packet.now }
+    ensures ok { OnOk result (ready.new ≡ written_record packet.now) }
+    ensures err { OnErr result (ready.new ≡ []) }
 {
-    if let Some(packet) = found {
-        let head = record_head(packet.moment, packet.octets.len() as u32, packet.original);
-        ready.put(&head, packet.octets);
+    let captured = packet.octets.len() as u32;
+    let header = record_head(packet.moment, captured, packet.original);
+    ready.put_record(&header, packet.octets)
+}
+
+/// Makes the record of a block that means this ready, if it has one.
+fn put_meant(ready: &mut Ready, meant: &BlockMeaning<'_>) -> Result<(), AllocError>
+    requires limits { IsMeantWithinLimits meant.now }
+    requires empty { ready.old ≡ [] }
+    ensures ok { OnOk result (ready.new ≡ found_text (record_meant meant.now)) }
+    ensures err { OnErr result (ready.new ≡ []) }
+{
+    match meant {
+        BlockMeaning::Packet(packet) => put_packet(ready, packet),
+        _ => Ok(()),
     }
+}
+
+/// Goes on behind a block, and makes its record ready, if it has one that is selected. After an error nothing has changed.
+#[tactic(auto, unfolding(crate::specs::Reading::step_of))]
+fn take(
+    selection: Selection<'_>,
+    context: &mut Context,
+    ready: &mut Ready,
+    block: &Block<'_>,
+) -> Result<(), PcapngError>
+    requires empty { ready.old ≡ [] }
+    requires blocks { context.old.blocks + 1 < 2 ^ 64 }
+    requires offset { context.old.offset + (12 + length block.now.body) < 2 ^ 64 }
+    ensures taken { OnOk result (IsTakenAs context.new ready.new (step_of selection.entry context.old block.now)) }
+    ensures blocks { OnOk result (context.new.blocks ≡ context.old.blocks + 1) }
+    ensures offset { OnOk result (context.new.offset ≡ context.old.offset + (12 + length block.now.body)) }
+    ensures fault { IfErr result (IsStepError (step_of selection.entry context.old block.now) context.old) }
+    ensures context { OnErr result (context.new ≡ context.old) }
+    ensures ready { OnErr result (ready.new ≡ []) }
+{
+    let meant = match context.meaning(selection, block) {
+        Ok(meant) => meant,
+        Err(fault) => return Err(PcapngError::Faulty(fault)),
+    };
+    put_meant(ready, &meant)?;
+    context.go_on(block, &meant)?;
+    Ok(())
 }
 
 /// Where more of a block is wanted than was read of it.
@@ -95,11 +140,8 @@ pub fn settle(
         return Settled::Unfinished;
     }
     match next_block(context.order(), held) {
-        NextBlock::Another(block, _) => match context.step(selection, &block) {
-            Ok(found) => {
-                put_found(ready, found);
-                Settled::Taken
-            }
+        NextBlock::Another(block, _) => match take(selection, context, ready, &block) {
+            Ok(()) => Settled::Taken,
             Err(PcapngError::Faulty(fault)) => Settled::Refused(fault),
             Err(PcapngError::OutOfMemory) => Settled::NoMemory,
         },
@@ -108,7 +150,7 @@ pub fn settle(
             if is_more {
                 return unfinished(context.order(), held);
             }
-            ready.put(&[0], &[]);
+            ready.put(&[0]);
             Settled::Ended
         }
         NextBlock::Refused(fault) => Settled::Refused(context.fault(fault)),

@@ -1,211 +1,87 @@
 //! Texts that have a fault, and what is told of it.
 use crate::texts::{INTERFACE, PACKET, SECTION};
-use pcapng_input::{BlockFault, PcapngError, PcapngFault, Selection, classic_of};
+use pcapng_input::{Selection, classic_of};
 use std::alloc::{AllocError, Global};
 use std::test::Fail;
+use test_inputs::octets_of;
 
-/// A text by its parts, the fault that it has by the draft, and what the text is.
-const ROWS: [(&[&[u8]], &str, &str); 22] = [
-    (&[], "block 1 at octet 0: NoSection", "nothing"),
-    (
-        &[
-            b"\x4D\x3C\xB2\xA1\x02\x00\x04\x00\x00\x00\x00\x00\x00\x00\x00\x00\x00\x00\x04\x00\x01\x00\x00\x00",
-        ],
-        "block 1 at octet 0: NoSection",
-        "a classic capture",
-    ),
-    (
-        &[INTERFACE],
-        "block 1 at octet 0: NoSection",
-        "no section header in front",
-    ),
-    (
-        &[
-            b"\x0A\x0D\x0D\x0A\x1C\x00\x00\x00\x00\x00\x00\x00\x01\x00\x00\x00\xFF\xFF\xFF\xFF\xFF\xFF\xFF\xFF\x1C\x00\x00\x00",
-        ],
-        "block 1 at octet 0: NoSection",
-        "a section header without its magic",
-    ),
-    (
-        &[
-            b"\x0A\x0D\x0D\x0A\x1C\x00\x00\x00\x4D\x3C\x2B\x1A\x02\x00\x00\x00\xFF\xFF\xFF\xFF\xFF\xFF\xFF\xFF\x1C\x00\x00\x00",
-        ],
-        "block 1 at octet 0: BadVersion",
-        "major version 2",
-    ),
-    (
-        &[b"\x0A\x0D\x0D\x0A\x14\x00\x00\x00\x4D\x3C\x2B\x1A\x01\x00\x00\x00\x14\x00\x00\x00"],
-        "block 1 at octet 0: ShortBlock",
-        "a section header without a section length",
-    ),
-    (
-        &[
-            SECTION,
-            b"\x05\x00\x00\x00\x0D\x00\x00\x00\x0D\x00\x00\x00\x00\x00\x00\x00",
-        ],
-        "block 2 at octet 28: BadLength",
-        "a length of 13",
-    ),
-    (
-        &[SECTION, b"\x05\x00\x00\x00\x08\x00\x00\x00\x08\x00\x00\x00"],
-        "block 2 at octet 28: BadLength",
-        "a length of 8",
-    ),
-    (
-        &[SECTION, b"\x05\x00\x00\x00\x0C\x00\x00\x00\x10\x00\x00\x00"],
-        "block 2 at octet 28: BadLength",
-        "another length behind the body",
-    ),
-    (
-        &[
-            SECTION,
-            b"\x01\x00\x00\x00\x10\x00\x00\x00\x01\x00\x00\x00\x10\x00\x00\x00",
-        ],
-        "block 2 at octet 28: ShortBlock",
-        "a description of 4 octets",
-    ),
-    (
-        &[
-            SECTION,
-            b"\x01\x00\x00\x00\x18\x00\x00\x00\x01\x00\x00\x00\x00\x00\x00\x00\x09\x00\x00\x00\x18\x00\x00\x00",
-        ],
-        "block 2 at octet 28: ShortBlock",
-        "a tick length of no octet",
-    ),
-    (
-        &[
-            SECTION,
-            b"\x01\x00\x00\x00\x1C\x00\x00\x00\x01\x00\x00\x00\x00\x00\x00\x00\x0E\x00\x04\x00\x01\x00\x00\x00\x1C\x00\x00\x00",
-        ],
-        "block 2 at octet 28: ShortBlock",
-        "an offset of 4 octets",
-    ),
-    (
-        &[
-            SECTION,
-            b"\x01\x00\x00\x00\x1C\x00\x00\x00\x01\x00\x00\x00\x00\x00\x00\x00\x02\x00\x05\x00\x61\x62\x63\x64\x1C\x00\x00\x00",
-        ],
-        "block 2 at octet 28: ShortBlock",
-        "an option that runs out of its block",
-    ),
-    (
-        &[SECTION, PACKET],
-        "block 2 at octet 28: UnknownInterface",
-        "a packet of no interface",
-    ),
-    (
-        &[SECTION, INTERFACE, SECTION, PACKET],
-        "block 4 at octet 76: UnknownInterface",
-        "a packet of an interface of the section before",
-    ),
-    (
-        &[
-            SECTION,
-            b"\x01\x00\x00\x00\x14\x00\x00\x00\x65\x00\x00\x00\x00\x00\x00\x00\x14\x00\x00\x00",
-            PACKET,
-        ],
-        "block 3 at octet 48: BadLink",
-        "an interface of raw IP",
-    ),
-    (
-        &[
-            SECTION,
-            INTERFACE,
-            b"\x06\x00\x00\x00\x1C\x00\x00\x00\x00\x00\x00\x00\x00\x00\x00\x00\x00\x00\x00\x00\x00\x00\x00\x00\x1C\x00\x00\x00",
-        ],
-        "block 3 at octet 48: ShortBlock",
-        "a packet without its numbers",
-    ),
-    (
-        &[
-            SECTION,
-            INTERFACE,
-            b"\x06\x00\x00\x00\x24\x00\x00\x00\x00\x00\x00\x00\x00\x00\x00\x00\x00\x00\x00\x00\x05\x00\x00\x00\x05\x00\x00\x00\x61\x62\x63\x64\x24\x00\x00\x00",
-        ],
-        "block 3 at octet 48: ShortBlock",
-        "5 octets captured of 4",
-    ),
-    (
-        &[
-            SECTION,
-            INTERFACE,
-            b"\x06\x00\x00\x00\x20\x00\x00\x00\x00\x00\x00\x00\x00\x00\x00\x00\x00\x00\x00\x00\x01\x00\x04\x00\x01\x00\x04\x00\x20\x00\x00\x00",
-        ],
-        "block 3 at octet 48: TooLarge",
-        "262,145 octets captured",
-    ),
-    (
-        &[
-            SECTION,
-            INTERFACE,
-            b"\x06\x00\x00\x00\x04\x00\x05\x00\x00\x00\x00\x00",
-        ],
-        "block 3 at octet 48: TooLarge",
-        "a packet block of 327,684 octets",
-    ),
-    (
-        &[
-            SECTION,
-            INTERFACE,
-            b"\x06\x00\x00\x00\x24\x00\x00\x00\x00\x00\x00\x00\x40\x42\x0F\x00\x00\x00\x00\x00\x04\x00\x00\x00\x04\x00\x00\x00\x61\x62\x63\x64\x24\x00\x00\x00",
-        ],
-        "block 3 at octet 48: BadMoment",
-        "2 ^ 32 seconds",
-    ),
-    (
-        &[
-            SECTION,
-            b"\x01\x00\x00\x00\x20\x00\x00\x00\x01\x00\x00\x00\x00\x00\x00\x00\x0E\x00\x08\x00\xFF\xFF\xFF\xFF\xFF\xFF\xFF\xFF\x20\x00\x00\x00",
-            b"\x06\x00\x00\x00\x24\x00\x00\x00\x00\x00\x00\x00\x00\x00\x00\x00\x3F\x42\x0F\x00\x04\x00\x00\x00\x04\x00\x00\x00\x61\x62\x63\x64\x24\x00\x00\x00",
-        ],
-        "block 3 at octet 60: BadMoment",
-        "a microsecond before 1970",
-    ),
-];
+/// Texts that have a fault: what each is, its octets as words, and the fault that it has by the draft.
+const ROWS: &str = "\
+nothing |  | block 1 at octet 0: NoSection
+a classic capture | 4D3CB2A10200040000000000000000000000040001000000 | block 1 at octet 0: NoSection
+no section header in front | INTERFACE | block 1 at octet 0: NoSection
+a section header without its magic | 0A0D0D0A1C0000000000000001000000FFFFFFFFFFFFFFFF1C000000 | block 1 at octet 0: NoSection
+major version 2 | 0A0D0D0A1C0000004D3C2B1A02000000FFFFFFFFFFFFFFFF1C000000 | block 1 at octet 0: BadVersion
+a section header without a section length | 0A0D0D0A140000004D3C2B1A0100000014000000 | block 1 at octet 0: ShortBlock
+a length of 13 | SECTION 050000000D0000000D00000000000000 | block 2 at octet 28: BadLength
+a length of 8 | SECTION 050000000800000008000000 | block 2 at octet 28: BadLength
+another length behind the body | SECTION 050000000C00000010000000 | block 2 at octet 28: BadLength
+a description of 4 octets | SECTION 01000000100000000100000010000000 | block 2 at octet 28: ShortBlock
+a tick length of no octet | SECTION 010000001800000001000000000000000900000018000000 | block 2 at octet 28: ShortBlock
+an offset of 4 octets | SECTION 010000001C00000001000000000000000E000400010000001C000000 | block 2 at octet 28: ShortBlock
+an option that runs out of its block | SECTION 010000001C000000010000000000000002000500616263641C000000 | block 2 at octet 28: ShortBlock
+a packet of no interface | SECTION PACKET | block 2 at octet 28: UnknownInterface
+a packet of an interface of the section before | SECTION INTERFACE SECTION PACKET | block 4 at octet 76: UnknownInterface
+an interface of raw IP | SECTION 0100000014000000650000000000000014000000 PACKET | block 3 at octet 48: BadLink
+a packet without its numbers | SECTION INTERFACE 060000001C000000000000000000000000000000000000001C000000 | block 3 at octet 48: ShortBlock
+5 octets captured of 4 | SECTION INTERFACE 060000002400000000000000000000000000000005000000050000006162636424000000 | block 3 at octet 48: ShortBlock
+262,145 octets captured | SECTION INTERFACE 0600000020000000000000000000000000000000010004000100040020000000 | block 3 at octet 48: TooLarge
+a packet block of 327,684 octets | SECTION INTERFACE 060000000400050000000000 | block 3 at octet 48: TooLarge
+2 ^ 32 seconds | SECTION INTERFACE 06000000240000000000000040420F000000000004000000040000006162636424000000 | block 3 at octet 48: BadMoment
+a microsecond before 1970 | SECTION 010000002000000001000000000000000E000800FFFFFFFFFFFFFFFF20000000 060000002400000000000000000000003F420F0004000000040000006162636424000000 | block 3 at octet 60: BadMoment
+";
 
-/// Texts side by side.
-fn joined(alloc: Global, parts: &[&[u8]]) -> Result<Vec<u8>, AllocError> {
+/// The octets of words: blocks by their names, and hexadecimal digits.
+fn text_of(alloc: Global, words: &str) -> Result<Vec<u8>, Fail> {
     let mut text = Vec::new(alloc);
-    for part in parts {
-        text.extend_from_slice(*part)?;
+    for word in words.split_whitespace() {
+        match word {
+            "SECTION" => text.extend_from_slice(SECTION)?,
+            "INTERFACE" => text.extend_from_slice(INTERFACE)?,
+            "PACKET" => text.extend_from_slice(PACKET)?,
+            digits => text.append(&mut octets_of(alloc, digits)?)?,
+        }
     }
     Ok(text)
 }
 
+/// The error of a text, as it prints: nothing where there is none.
+fn error_of(alloc: Global, text: &[u8]) -> Result<String, AllocError> {
+    match classic_of(alloc, Selection::All, text) {
+        Ok(_) => Ok(String::new(alloc)),
+        Err(error) => format!(in alloc; "{error}"),
+    }
+}
+
+/// Whether the octets of words have this fault.
+fn has_fault(alloc: Global, words: &str, fault: &str) -> Result<bool, Fail> {
+    let text = text_of(alloc, words)?;
+    let error = error_of(alloc, text.as_slice())?;
+    Ok(error.as_str() == fault)
+}
+
 #[test]
 fn tells_the_first_fault(rt: HostRuntime) -> Result<(), Fail> {
-    for (parts, told, name) in ROWS {
-        let text = joined(rt.alloc(), parts)?;
-        match classic_of(rt.alloc(), Selection::All, text.as_slice()) {
-            Ok(_) => return Err(Fail::new(name)),
-            Err(error) => assert_eq!(rt;
-                format!(in rt.alloc(); "{error}")?.as_str(),
-                told,
-                "{name}"
-            ),
-        }
+    for row in ROWS.lines() {
+        let (name, rest) = row.split_once(" | ").ok_or("a name")?;
+        let (words, fault) = rest.split_once(" | ").ok_or("a fault")?;
+        assert!(rt; has_fault(rt.alloc(), words, fault)?, "{name}");
     }
     Ok(())
 }
 
 #[test]
 fn refuses_more_than_4096_interfaces(rt: HostRuntime) -> Result<(), Fail> {
-    let mut text = joined(rt.alloc(), &[SECTION])?;
+    let mut text = text_of(rt.alloc(), "SECTION")?;
     for _interface in 0..4096 {
         text.extend_from_slice(INTERFACE)?;
     }
-    assert!(rt; classic_of(rt.alloc(), Selection::All, text.as_slice()).is_ok());
+    assert!(rt; error_of(rt.alloc(), text.as_slice())?.is_empty());
     text.extend_from_slice(INTERFACE)?;
-    match classic_of(rt.alloc(), Selection::All, text.as_slice()) {
-        Ok(_) => Err(Fail::new("4,097 interfaces")),
-        Err(error) => {
-            let fault = PcapngFault {
-                fault: BlockFault::TooManyInterfaces,
-                block: 4098,
-                offset: 28 + 20 * 4096,
-            };
-            assert_eq!(rt; error, PcapngError::Faulty(fault));
-            Ok(())
-        }
-    }
+    let error = error_of(rt.alloc(), text.as_slice())?;
+    assert_eq!(rt;
+        error.as_str(),
+        "block 4098 at octet 81948: TooManyInterfaces"
+    );
+    Ok(())
 }

@@ -1,144 +1,126 @@
 //! Inputs of pcapng texts, read piece by piece.
+ghost use Rattle.std.specs.Prelude.{◌≤◌, length, IfOk};
+
+use crate::classic_tests::is_classic_of;
 use crate::texts::{
-    EDITED, EDITED_CLASSIC, HALVES, HALVES_CLASSIC, INTERFACE, MERGED, MERGED_CLASSIC, NAMED,
-    NAMED_CLASSIC, ORDERS, ORDERS_CLASSIC, PACKET, SECRETS, SECTION, SIMPLE, SIMPLE_CLASSIC,
+    EDITED, EDITED_CLASSIC, INTERFACE, PACKET, PACKET_CLASSIC, ROWS, SECTION, joined,
 };
 use pcap_stream::{DeviceFault, Input};
-use pcapng_input::{BlockFault, CaptureInput, PcapngFault, Selection};
-use std::alloc::Global;
+use pcapng_input::{CaptureInput, PcapngFault, Selection};
+use std::alloc::{AllocError, Global};
 use std::test::Fail;
 use test_inputs::capture_texts::LITTLE_NANO;
 use test_inputs::{Pieces, in_pieces};
 
-/// The record of `PACKET`: at 1970, 4 octets of 4.
-const RECORD: &[u8] =
-    b"\x00\x00\x00\x00\x00\x00\x00\x00\x04\x00\x00\x00\x04\x00\x00\x00\x01\x02\x03\x04";
+/// An input of a text that comes at most so many octets at a time; the read of this number fails, none where it is 0.
+fn opened<'a>(
+    alloc: Global,
+    text: &'a [u8],
+    selection: Selection<'a>,
+    size: usize,
+    fails_at: u64,
+) -> Result<CaptureInput<'a, Pieces<'a>>, AllocError> {
+    CaptureInput::new(alloc, in_pieces(text, size, fails_at), selection, 100_000)
+}
 
-/// What an input tells up to its end or a fault, asked for so many octets at once.
-fn told(
+/// One read.
+fn read(input: &mut CaptureInput<'_, Pieces<'_>>, room: &mut [u8]) -> Result<usize, DeviceFault>
+    ensures { IfOk result (λ n. n ≤ length room.new) }
+{
+    input.read(room)
+}
+
+/// The fault that an input met, as it prints: nothing where there is none.
+fn fault_of(alloc: Global, input: &CaptureInput<'_, Pieces<'_>>) -> Result<String, AllocError> {
+    printed(alloc, input.fault())
+}
+
+/// A fault as it prints, if there is one.
+fn printed(alloc: Global, fault: Option<PcapngFault>) -> Result<String, AllocError> {
+    match fault {
+        Some(fault) => format!(in alloc; "{fault}"),
+        None => Ok(String::new(alloc)),
+    }
+}
+
+/// Adds what an input tells, asked for so many octets at once, and says whether it came to the end.
+fn read_on(
     alloc: Global,
     input: &mut CaptureInput<'_, Pieces<'_>>,
+    told: &mut Vec<u8>,
     size: usize,
-) -> Result<(Vec<u8>, bool), Fail> {
-    let mut text = Vec::new(alloc);
+) -> Result<bool, Fail> {
     let mut room = vec![in alloc; 0u8; size]?;
-    for _read in 0..100_000 {
-        match input.read(room.as_mut_slice()) {
-            Ok(0) => return Ok((text, true)),
-            Ok(n) => text.extend_from_slice(&room[..n])?,
-            Err(DeviceFault) => return Ok((text, false)),
+    for _read in 0..500_000 {
+        match read(input, room.as_mut_slice()) {
+            Ok(0) => return Ok(true),
+            Ok(n) => told.extend_from_slice(&room[..n])?,
+            Err(DeviceFault) => return Ok(false),
         }
     }
     Err(Fail::new("an end"))
 }
 
-#[test]
-fn tells_what_editcap_reads(rt: HostRuntime) -> Result<(), Fail> {
-    for (text, selection, expected, name) in [
-        (EDITED, Selection::All, EDITED_CLASSIC, "written by editcap"),
-        (
-            SECRETS,
-            Selection::All,
-            EDITED_CLASSIC,
-            "a block of another type",
-        ),
-        (MERGED, Selection::All, MERGED_CLASSIC, "two interfaces"),
-        (MERGED, Selection::Number(1), EDITED_CLASSIC, "interface 1"),
-        (NAMED, Selection::Name(b"p2"), NAMED_CLASSIC, "interface p2"),
-        (ORDERS, Selection::All, ORDERS_CLASSIC, "two sections"),
-        (HALVES, Selection::All, HALVES_CLASSIC, "powers of two"),
-        (
-            SIMPLE,
-            Selection::All,
-            SIMPLE_CLASSIC,
-            "a simple packet block",
-        ),
-        (
-            EDITED_CLASSIC,
-            Selection::All,
-            EDITED_CLASSIC,
-            "a classic capture",
-        ),
-        (
-            b"\x0A\x0D\x0D",
-            Selection::All,
-            b"\x0A\x0D\x0D",
-            "three octets",
-        ),
-        (b"", Selection::All, b"", "nothing"),
-    ] {
-        for size in [1, 7, 4096] {
-            let pieces = in_pieces(text, size, 0);
-            let mut input = CaptureInput::new(rt.alloc(), pieces, selection, 100_000)?;
-            let (octets, is_whole) = told(rt.alloc(), &mut input, size)?;
-            assert_eq!(rt; octets.as_slice(), expected, "{name}");
-            assert!(rt; is_whole);
-            assert!(rt; input.fault().is_none());
-        }
-    }
-    Ok(())
+/// Whether an input of a text tells this, by so many octets at a time, and then ends with this fault, as it prints: none
+/// where that is empty.
+fn tells(
+    alloc: Global,
+    text: &[u8],
+    selection: Selection<'_>,
+    size: usize,
+    expected: &[u8],
+    fault: &str,
+) -> Result<bool, Fail> {
+    let mut input = opened(alloc, text, selection, size, 0)?;
+    let mut told = Vec::new(alloc);
+    let is_whole = read_on(alloc, &mut input, &mut told, size)?;
+    let met = fault_of(alloc, &input)?;
+    Ok(is_whole == fault.is_empty() && told.as_slice() == expected && met.as_str() == fault)
 }
 
-/// A packet of an interface that wasn't described stands behind one that is told.
-#[test]
-fn tells_what_stands_in_front_of_a_fault(rt: HostRuntime) -> Result<(), Fail> {
-    let mut text = Vec::new(rt.alloc());
-    for part in [SECTION, INTERFACE, PACKET, SECTION, PACKET] {
-        text.extend_from_slice(part)?;
-    }
-    let mut expected = Vec::new(rt.alloc());
-    expected.extend_from_slice(LITTLE_NANO)?;
-    expected.extend_from_slice(RECORD)?;
-    let offset = (SECTION.len() * 2 + INTERFACE.len() + PACKET.len()) as u64;
+/// Whether it tells that by 1, 7 and 4,096 octets at a time.
+fn always_tells(
+    alloc: Global,
+    text: &[u8],
+    selection: Selection<'_>,
+    expected: &[u8],
+    fault: &str,
+) -> Result<bool, Fail> {
     for size in [1, 7, 4096] {
-        let pieces = in_pieces(text.as_slice(), size, 0);
-        let mut input = CaptureInput::new(rt.alloc(), pieces, Selection::All, 100_000)?;
-        let (octets, is_whole) = told(rt.alloc(), &mut input, size)?;
-        assert!(rt; !is_whole);
-        assert_eq!(rt; octets.as_slice(), expected.as_slice());
-        let fault = PcapngFault {
-            fault: BlockFault::UnknownInterface,
-            block: 5,
-            offset,
-        };
-        assert_eq!(rt; input.fault(), Some(fault));
+        if !tells(alloc, text, selection, size, expected, fault)? {
+            return Ok(false);
+        }
+    }
+    Ok(true)
+}
+
+/// In memory, and piece by piece.
+#[test]
+fn reads_what_editcap_reads(rt: HostRuntime) -> Result<(), Fail> {
+    for (text, selection, classic, name) in ROWS {
+        assert!(rt;
+            is_classic_of(rt.alloc(), classic, selection, text)?,
+            "{name}"
+        );
+        assert!(rt;
+            always_tells(rt.alloc(), text, selection, classic, "")?,
+            "{name}, by pieces"
+        );
     }
     Ok(())
 }
 
-/// A block of type 5 with 400,000 octets, more than there is room for, and a packet behind it.
 #[test]
-fn passes_over_a_long_block(rt: HostRuntime) -> Result<(), Fail> {
-    for (last, is_read) in [(400_000u32, true), (400_004, false)] {
-        let mut text = Vec::new(rt.alloc());
-        text.extend_from_slice(SECTION)?;
-        text.extend_from_slice(INTERFACE)?;
-        text.extend_from_slice(&5u32.to_le_bytes())?;
-        text.extend_from_slice(&400_000u32.to_le_bytes())?;
-        text.extend_from_slice(vec![in rt.alloc(); 7u8; 399_988]?.as_slice())?;
-        text.extend_from_slice(&last.to_le_bytes())?;
-        text.extend_from_slice(PACKET)?;
-        let mut short = Vec::new(rt.alloc());
-        for part in [SECTION, INTERFACE, PACKET] {
-            short.extend_from_slice(part)?;
-        }
-        let expected = pcapng_input::classic_of(rt.alloc(), Selection::All, short.as_slice())?;
-        for size in [4096, 1_000_000] {
-            let pieces = in_pieces(text.as_slice(), size, 0);
-            let mut input = CaptureInput::new(rt.alloc(), pieces, Selection::All, 100_000)?;
-            let (octets, is_whole) = told(rt.alloc(), &mut input, 4096)?;
-            assert_eq!(rt; is_whole, is_read);
-            if is_read {
-                assert_eq!(rt; octets.as_slice(), expected.as_slice());
-            } else {
-                let fault = PcapngFault {
-                    fault: BlockFault::BadLength,
-                    block: 3,
-                    offset: 48,
-                };
-                assert_eq!(rt; input.fault(), Some(fault));
-            }
-        }
+fn tells_other_texts_as_they_are(rt: HostRuntime) -> Result<(), Fail> {
+    for (text, name) in [
+        (EDITED_CLASSIC, "a classic capture"),
+        (b"\x0A\x0D\x0D", "three octets"),
+        (b"", "nothing"),
+    ] {
+        assert!(rt;
+            always_tells(rt.alloc(), text, Selection::All, text, "")?,
+            "{name}"
+        );
     }
     Ok(())
 }
@@ -146,33 +128,134 @@ fn passes_over_a_long_block(rt: HostRuntime) -> Result<(), Fail> {
 /// Where the packets of one interface are asked for, a classic capture is refused.
 #[test]
 fn takes_one_interface_of_pcapng_alone(rt: HostRuntime) -> Result<(), Fail> {
-    let pieces = in_pieces(EDITED_CLASSIC, 7, 0);
-    let mut input = CaptureInput::new(rt.alloc(), pieces, Selection::Number(0), 1000)?;
-    let (octets, is_whole) = told(rt.alloc(), &mut input, 7)?;
-    assert_eq!(rt; octets.as_slice(), LITTLE_NANO);
-    assert!(rt; !is_whole);
-    let fault = PcapngFault {
-        fault: BlockFault::NoSection,
-        block: 1,
-        offset: 0,
-    };
-    assert_eq!(rt; input.fault(), Some(fault));
+    let one = Selection::Number(0);
+    let fault = "block 1 at octet 0: NoSection";
+    assert!(rt; always_tells(rt.alloc(), EDITED_CLASSIC, one, LITTLE_NANO, fault)?);
     Ok(())
+}
+
+/// A packet of an interface that wasn't described stands behind one that is told.
+#[test]
+fn tells_what_stands_in_front_of_a_fault(rt: HostRuntime) -> Result<(), Fail> {
+    let text = joined(rt.alloc(), &[SECTION, INTERFACE, PACKET, SECTION, PACKET])?;
+    let fault = "block 5 at octet 112: UnknownInterface";
+    assert!(rt;
+        always_tells(
+            rt.alloc(),
+            text.as_slice(),
+            Selection::All,
+            PACKET_CLASSIC,
+            fault
+        )?
+    );
+    Ok(())
+}
+
+/// Adds a number of a little-endian section.
+fn put_number(text: &mut Vec<u8>, number: u32) -> Result<(), AllocError> {
+    text.extend_from_slice(&number.to_le_bytes())
+}
+
+/// Adds so many octets, which are 7.
+fn put_sevens(text: &mut Vec<u8>, count: usize) -> Result<(), AllocError> {
+    text.resize(text.len().saturating_add(count), 7)
+}
+
+/// A section, an interface, a block of type 5 with 400,000 octets and this second length, and a packet.
+fn with_long_block(alloc: Global, second_length: u32) -> Result<Vec<u8>, AllocError> {
+    let mut text = joined(alloc, &[SECTION, INTERFACE])?;
+    put_number(&mut text, 5)?;
+    put_number(&mut text, 400_000)?;
+    put_sevens(&mut text, 399_988)?;
+    put_number(&mut text, second_length)?;
+    text.extend_from_slice(PACKET)?;
+    Ok(text)
+}
+
+/// The block has more than there is room for, and a packet stands behind it.
+#[test]
+fn passes_over_a_long_block(rt: HostRuntime) -> Result<(), Fail> {
+    let fault = "block 3 at octet 48: BadLength";
+    for (second_length, expected, fault) in [
+        (400_000, PACKET_CLASSIC, ""),
+        (400_004, LITTLE_NANO, fault),
+    ] {
+        let text = with_long_block(rt.alloc(), second_length)?;
+        for size in [4096, 1_000_000] {
+            assert!(rt;
+                tells(
+                    rt.alloc(),
+                    text.as_slice(),
+                    Selection::All,
+                    size,
+                    expected,
+                    fault
+                )?
+            );
+        }
+    }
+    Ok(())
+}
+
+/// A section, an interface, a packet, and one of so many octets at 1970, which are 7.
+fn with_packet_of(alloc: Global, size: u32) -> Result<Vec<u8>, AllocError> {
+    let length = size.wrapping_add(32);
+    let mut text = joined(alloc, &[SECTION, INTERFACE, PACKET])?;
+    for number in [6, length, 0, 0, 0, size, size] {
+        put_number(&mut text, number)?;
+    }
+    put_sevens(&mut text, size as usize)?;
+    put_number(&mut text, length)?;
+    Ok(text)
+}
+
+/// The classic capture of such a text.
+fn packet_of_classic(alloc: Global, size: u32) -> Result<Vec<u8>, AllocError> {
+    let mut text = joined(alloc, &[PACKET_CLASSIC])?;
+    for number in [0, 0, size, size] {
+        put_number(&mut text, number)?;
+    }
+    put_sevens(&mut text, size as usize)?;
+    Ok(text)
+}
+
+/// Each packet is longer than those before it; the last one is the longest that is taken.
+#[test]
+fn takes_longer_packets_behind_shorter_ones(rt: HostRuntime) -> Result<(), Fail> {
+    for octets in [1500, 262_144] {
+        let text = with_packet_of(rt.alloc(), octets)?;
+        let expected = packet_of_classic(rt.alloc(), octets)?;
+        for size in [4093, 1_000_000] {
+            assert!(rt;
+                tells(
+                    rt.alloc(),
+                    text.as_slice(),
+                    Selection::All,
+                    size,
+                    expected.as_slice(),
+                    ""
+                )?
+            );
+        }
+    }
+    Ok(())
+}
+
+/// Whether all of a text is told where the read of this number fails, by reads on both sides of it.
+fn goes_on(alloc: Global, fails_at: u64) -> Result<bool, Fail> {
+    let mut input = opened(alloc, EDITED, Selection::All, 7, fails_at)?;
+    let mut told = Vec::new(alloc);
+    let has_ended = read_on(alloc, &mut input, &mut told, 7)?;
+    let fault = fault_of(alloc, &input)?;
+    let is_whole = read_on(alloc, &mut input, &mut told, 7)?;
+    Ok(!has_ended && fault.is_empty() && is_whole && told.as_slice() == EDITED_CLASSIC)
 }
 
 /// A read that failed takes nothing: it goes on with the next.
 #[test]
 fn goes_on_behind_a_read_that_failed(rt: HostRuntime) -> Result<(), Fail> {
-    for n in [1, 2, 5, 9] {
-        let pieces = in_pieces(EDITED, 7, n);
-        let mut input = CaptureInput::new(rt.alloc(), pieces, Selection::All, 100_000)?;
-        let (mut octets, is_whole) = told(rt.alloc(), &mut input, 7)?;
-        assert!(rt; !is_whole);
-        assert!(rt; input.fault().is_none());
-        let (rest, is_whole) = told(rt.alloc(), &mut input, 7)?;
-        octets.extend_from_slice(rest.as_slice())?;
-        assert!(rt; is_whole);
-        assert_eq!(rt; octets.as_slice(), EDITED_CLASSIC);
+    for fails_at in [1, 2, 5, 9] {
+        assert!(rt; goes_on(rt.alloc(), fails_at)?, "read {fails_at}");
     }
     Ok(())
 }

@@ -3,6 +3,56 @@
 //! Wireshark's editcap, mergecap and text2pcap 4.0.17 wrote those that say so. The others are put together from the
 //! draft, block by block. Each classic capture is what `editcap -F nsecpcap` made of the pcapng one, header and all.
 
+use pcapng_input::Selection;
+use std::alloc::{AllocError, Global};
+use test_inputs::capture_texts::LITTLE_NANO;
+
+/// A text, the interfaces whose packets are taken, its classic capture, and what the text is.
+pub const ROWS: [(&[u8], Selection<'static>, &[u8], &str); 13] = [
+    (EDITED, Selection::All, EDITED_CLASSIC, "written by editcap"),
+    (
+        SECRETS,
+        Selection::All,
+        EDITED_CLASSIC,
+        "a block of another type, and options of a packet",
+    ),
+    (MERGED, Selection::All, MERGED_CLASSIC, "two interfaces"),
+    (ORDERS, Selection::All, ORDERS_CLASSIC, "two sections"),
+    (HALVES, Selection::All, HALVES_CLASSIC, "powers of two"),
+    (
+        OBSOLETE,
+        Selection::All,
+        OBSOLETE_CLASSIC,
+        "an obsolete packet block",
+    ),
+    (
+        SIMPLE,
+        Selection::All,
+        SIMPLE_CLASSIC,
+        "a simple packet block",
+    ),
+    (BEHIND, Selection::All, BEHIND_CLASSIC, "an offset below 0"),
+    (MERGED, Selection::Number(0), EDITED_CLASSIC, "interface 0"),
+    (MERGED, Selection::Number(1), EDITED_CLASSIC, "interface 1"),
+    (NAMED, Selection::Name(b"p2"), NAMED_CLASSIC, "interface p2"),
+    (NAMED, Selection::Name(b"p"), LITTLE_NANO, "interface p"),
+    (
+        MERGED,
+        Selection::Number(2),
+        LITTLE_NANO,
+        "no such interface",
+    ),
+];
+
+/// Texts side by side.
+pub fn joined(alloc: Global, parts: &[&[u8]]) -> Result<Vec<u8>, AllocError> {
+    let mut text = Vec::new(alloc);
+    for part in parts {
+        text.extend_from_slice(*part)?;
+    }
+    Ok(text)
+}
+
 /// Two packets on one interface without options, behind a section header with an option: `editcap -F pcapng` wrote it.
 pub const EDITED: &[u8] =
     b"\x0A\x0D\x0D\x0A\x6C\x00\x00\x00\x4D\x3C\x2B\x1A\x01\x00\x00\x00\xFF\xFF\xFF\xFF\xFF\xFF\xFF\xFF\
@@ -185,3 +235,8 @@ pub const INTERFACE: &[u8] =
 pub const PACKET: &[u8] =
     b"\x06\x00\x00\x00\x24\x00\x00\x00\x00\x00\x00\x00\x00\x00\x00\x00\x00\x00\x00\x00\x04\x00\x00\x00\
 \x04\x00\x00\x00\x01\x02\x03\x04\x24\x00\x00\x00";
+
+/// The record of that packet, behind a header.
+pub const PACKET_CLASSIC: &[u8] =
+    b"\x4D\x3C\xB2\xA1\x02\x00\x04\x00\x00\x00\x00\x00\x00\x00\x00\x00\x00\x00\x04\x00\x01\x00\x00\x00\
+\x00\x00\x00\x00\x00\x00\x00\x00\x04\x00\x00\x00\x04\x00\x00\x00\x01\x02\x03\x04";

@@ -4,16 +4,6 @@ use Rattle.clap.specs.Words.{IsAmong, Text, fault_of}
 use Rattle.clap.specs.declared.error.kind.ErrorKind.TheVariants.{DisplayHelp, DisplayVersion}
 use Rattle.command_line.specs.App.{tep_app}
 use Rattle.command_line.specs.Meaning.{ReadsInputOnce, input_uses, words_meant}
-use Rattle.dissector.specs.Status as run
-use Rattle.tep_program.specs.declared.stop.Stop.{Stop}
-use Rattle.tep_program.specs.declared.stop.Stop.TheVariants as stop
-
--- 1 for a text or a capture that is refused, 3 for want of memory, a failed read or a failed write
-abbrev pub status_of : Stop → ℕ
-status_of (stop.Run fault) = run.status_of fault
-status_of (stop.Pcapng tap fault) = 1
-status_of (stop.Read name) = 3
-status_of (stop.Write output) = 3
 
 -- words that `clap` doesn't take, among them those that ask for help, that lack a value, or that ask for standard input
 -- more than once

@@ -2,8 +2,7 @@
 ghost use Rattle.std.specs.Prelude.{◌≡◌, All, IfOk, length};
 ghost use Rattle.pcap_stream.specs.Source.{New, Stream};
 
-use crate::stop::Stop;
-use dissector::{STANDARD_INPUT, capture_name, read_text};
+use dissector::{Failure, STANDARD_INPUT, capture_name, read_text};
 use pcap_stream::{Source, StdInput};
 use pcapng_input::{CaptureInput, Selection};
 use std::alloc::AllocError;
@@ -57,18 +56,18 @@ fn selection_of(interface: Option<&str>) -> Selection<'_> {
 fn open_named<'a, R: Files + Input + AllocGlobal>(
     rt: &R,
     name: &'a str,
-) -> Result<ClassicInput<'a, R::File, R::Reader>, Stop<'a>> {
+) -> Result<ClassicInput<'a, R::File, R::Reader>, Failure<'a>> {
     let asked = capture_name(name);
     let device = if asked.file == STANDARD_INPUT {
         Device::Standard(rt.reader())
     } else {
         match fs::open(rt, asked.file) {
             Ok(file) => Device::File(file),
-            Err(_) => return Err(Stop::Read(name)),
+            Err(_) => return Err(Failure::Read(name)),
         }
     };
     let Ok(reader) = BufReader::with_capacity(rt.alloc(), BLOCK, device) else {
-        return Err(Stop::from(AllocError));
+        return Err(Failure::from(AllocError));
     };
     let input = StdInput::new(reader);
     match CaptureInput::new(
@@ -78,16 +77,19 @@ fn open_named<'a, R: Files + Input + AllocGlobal>(
         CAPTURE_READS,
     ) {
         Ok(input) => Ok(input),
-        Err(error) => Err(Stop::from(error)),
+        Err(error) => Err(Failure::from(error)),
     }
 }
 
 /// The whole of a text's file.
-pub fn read_file<'a, R: Files + AllocGlobal>(rt: &R, name: &'a str) -> Result<Vec<u8>, Stop<'a>> {
+pub fn read_file<'a, R: Files + AllocGlobal>(
+    rt: &R,
+    name: &'a str,
+) -> Result<Vec<u8>, Failure<'a>> {
     let Ok(file) = fs::open(rt, name) else {
-        return Err(Stop::Read(name));
+        return Err(Failure::Read(name));
     };
-    read_text(rt.alloc(), &mut StdInput::new(file), TEXT_READS).map_err(|fault| Stop::reading(
+    read_text(rt.alloc(), &mut StdInput::new(file), TEXT_READS).map_err(|fault| Failure::reading(
         name, fault,
     ))
 }
@@ -96,7 +98,7 @@ pub fn read_file<'a, R: Files + AllocGlobal>(rt: &R, name: &'a str) -> Result<Ve
 pub fn read_if_given<'a, R: Files + AllocGlobal>(
     rt: &R,
     name: Option<&'a str>,
-) -> Result<Vec<u8>, Stop<'a>> {
+) -> Result<Vec<u8>, Failure<'a>> {
     match name {
         Some(name) => read_file(rt, name),
         None => Ok(Vec::new(rt.alloc())),
@@ -107,16 +109,16 @@ pub fn read_if_given<'a, R: Files + AllocGlobal>(
 pub fn read_underlay<'a, R: Files + Input + AllocGlobal>(
     rt: &R,
     name: &'a str,
-) -> Result<Vec<u8>, Stop<'a>> {
+) -> Result<Vec<u8>, Failure<'a>> {
     let mut input = match open_named(rt, name) {
         Ok(input) => input,
-        Err(stop) => return Err(stop),
+        Err(failure) => return Err(failure),
     };
     match read_text(rt.alloc(), &mut input, TEXT_READS) {
         Ok(text) => Ok(text),
         Err(fault) => match input.fault() {
-            Some(fault) => Err(Stop::Pcapng(Tap::Underlay, fault)),
-            None => Err(Stop::reading(name, fault)),
+            Some(fault) => Err(Failure::Pcapng(Tap::Underlay, fault)),
+            None => Err(Failure::reading(name, fault)),
         },
     }
 }
@@ -125,16 +127,16 @@ pub fn read_underlay<'a, R: Files + Input + AllocGlobal>(
 pub fn open_capture<'a, R: Files + Input + AllocGlobal>(
     rt: &R,
     name: &'a str,
-) -> Result<Capture<'a, R::File, R::Reader>, Stop<'a>>
+) -> Result<Capture<'a, R::File, R::Reader>, Failure<'a>>
     ensures { IfOk result (λ (capture : Stream). capture.standing ≡ New) }
 {
     let input = match open_named(rt, name) {
         Ok(input) => input,
-        Err(stop) => return Err(stop),
+        Err(failure) => return Err(failure),
     };
     match Source::new(rt.alloc(), input, CAPTURE_READS) {
         Ok(capture) => Ok(capture),
-        Err(error) => Err(Stop::from(error)),
+        Err(error) => Err(Failure::from(error)),
     }
 }
 
@@ -142,7 +144,7 @@ pub fn open_capture<'a, R: Files + Input + AllocGlobal>(
 pub fn open_captures<'a, R: Files + Input + AllocGlobal>(
     rt: &R,
     names: &[&'a str],
-) -> Result<Vec<Capture<'a, R::File, R::Reader>>, Stop<'a>>
+) -> Result<Vec<Capture<'a, R::File, R::Reader>>, Failure<'a>>
     ensures count { IfOk result (λ captures. length captures.items ≡ length names.now) }
     ensures fresh { IfOk result (λ captures. All (λ (capture : Stream). capture.standing ≡ New) captures.items) }
 {
@@ -150,10 +152,10 @@ pub fn open_captures<'a, R: Files + Input + AllocGlobal>(
     for name in names {
         let capture = match open_capture(rt, *name) {
             Ok(capture) => capture,
-            Err(stop) => return Err(stop),
+            Err(failure) => return Err(failure),
         };
         if let Err(_) = captures.push(capture) {
-            return Err(Stop::from(AllocError));
+            return Err(Failure::from(AllocError));
         }
     }
     Ok(captures)

@@ -9,6 +9,5 @@ mod names;
 mod outputs;
 mod program;
 mod runs;
-mod stop;
 
 pub use program::{run, start};

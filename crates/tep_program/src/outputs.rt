@@ -2,7 +2,7 @@
 ghost use Rattle.std.specs.Prelude.{◌≡◌, IfOk, length};
 
 use crate::names::Names;
-use crate::stop::{Output, Stop};
+use dissector::{Failure, OutputFile};
 use pcap_stream::{Sink, StdOutput};
 use std::alloc::{AllocError, Global};
 use std::fs::{OpenFile, OpenOptions};
@@ -34,12 +34,12 @@ pub fn spare_inputs<R: Files + AllocGlobal>(
     rt: &R,
     folder: &str,
     names: Names<'_, '_>,
-) -> Result<(), Stop<'static>> {
+) -> Result<(), Failure<'static>> {
     for index in 0..names.ports.len() {
-        spare(rt, folder, names, Output::Port(index + 1))?;
+        spare(rt, folder, names, OutputFile::Port(index + 1))?;
     }
-    spare(rt, folder, names, Output::Underlay)?;
-    spare(rt, folder, names, Output::Decisions)
+    spare(rt, folder, names, OutputFile::Underlay)?;
+    spare(rt, folder, names, OutputFile::Decisions)
 }
 
 /// Refuses this output if it is one of the files that are read.
@@ -47,17 +47,17 @@ fn spare<R: Files + AllocGlobal>(
     rt: &R,
     folder: &str,
     names: Names<'_, '_>,
-    output: Output,
-) -> Result<(), Stop<'static>> {
+    output: OutputFile,
+) -> Result<(), Failure<'static>> {
     let path = path_of(rt.alloc(), folder, output)?;
     if names.contain(rt, path.as_path()) {
-        return Err(Stop::Write(output));
+        return Err(Failure::Write(output));
     }
     Ok(())
 }
 
 /// Where an output stands.
-fn path_of(alloc: Global, folder: &str, output: Output) -> Result<PathBuf, AllocError> {
+fn path_of(alloc: Global, folder: &str, output: OutputFile) -> Result<PathBuf, AllocError> {
     let name = format!(in alloc; "{output}")?;
     Path::new(folder).join(alloc, name.as_str())
 }
@@ -67,30 +67,30 @@ pub fn open_outputs<R: Files + AllocGlobal>(
     rt: &R,
     folder: &str,
     count: usize,
-) -> Result<Opened<R::File>, Stop<'static>>
+) -> Result<Opened<R::File>, Failure<'static>>
     ensures { IfOk result (λ opened. length opened.ports.items ≡ count) }
 {
     let mut ports = Vec::new(rt.alloc());
     for index in 0..count {
-        let file = match open(rt, folder, Output::Port(index + 1)) {
+        let file = match open(rt, folder, OutputFile::Port(index + 1)) {
             Ok(file) => file,
-            Err(stop) => return Err(stop),
+            Err(failure) => return Err(failure),
         };
         if ports.push(file).is_err() {
-            return Err(Stop::from(AllocError));
+            return Err(Failure::from(AllocError));
         }
     }
-    let underlay = match open(rt, folder, Output::Underlay) {
+    let underlay = match open(rt, folder, OutputFile::Underlay) {
         Ok(file) => file,
-        Err(stop) => return Err(stop),
+        Err(failure) => return Err(failure),
     };
-    match open(rt, folder, Output::Decisions) {
+    match open(rt, folder, OutputFile::Decisions) {
         Ok(decisions) => Ok(Opened {
             ports,
             underlay,
             decisions,
         }),
-        Err(stop) => Err(stop),
+        Err(failure) => Err(failure),
     }
 }
 
@@ -98,20 +98,20 @@ pub fn open_outputs<R: Files + AllocGlobal>(
 fn open<R: Files + AllocGlobal>(
     rt: &R,
     folder: &str,
-    output: Output,
-) -> Result<R::File, Stop<'static>> {
+    output: OutputFile,
+) -> Result<R::File, Failure<'static>> {
     let path = path_of(rt.alloc(), folder, output)?;
     OpenOptions::new()
         .write(true)
         .create(true)
         .open(rt, path.as_path())
-        .map_err(|_| Stop::Write(output))
+        .map_err(|_| Failure::Write(output))
 }
 
 impl<F: Write + OpenFile + Drop> Opened<F> {
     /// Empties the files. They are written in blocks of so many octets; where it is 0, each record and each line goes out at
     /// once.
-    pub fn emptied(self, alloc: Global, block: usize) -> Result<Outputs<F>, Stop<'static>>
+    pub fn emptied(self, alloc: Global, block: usize) -> Result<Outputs<F>, Failure<'static>>
         ensures { IfOk result (λ outputs. length outputs.ports.items ≡ length self.ports.items) }
     {
         let Opened {
@@ -121,26 +121,26 @@ impl<F: Write + OpenFile + Drop> Opened<F> {
         } = self;
         let mut ports = Vec::new(alloc);
         for file in files {
-            let output = Output::Port(ports.len() + 1);
+            let output = OutputFile::Port(ports.len() + 1);
             let written = match empty(alloc, file, output, block) {
                 Ok(written) => written,
-                Err(stop) => return Err(stop),
+                Err(failure) => return Err(failure),
             };
             if ports.push(Sink::new(written)).is_err() {
-                return Err(Stop::from(AllocError));
+                return Err(Failure::from(AllocError));
             }
         }
-        let underlay = match empty(alloc, underlay, Output::Underlay, block) {
+        let underlay = match empty(alloc, underlay, OutputFile::Underlay, block) {
             Ok(written) => Sink::new(written),
-            Err(stop) => return Err(stop),
+            Err(failure) => return Err(failure),
         };
-        match empty(alloc, decisions, Output::Decisions, block) {
+        match empty(alloc, decisions, OutputFile::Decisions, block) {
             Ok(decisions) => Ok(Outputs {
                 ports,
                 underlay,
                 decisions,
             }),
-            Err(stop) => Err(stop),
+            Err(failure) => Err(failure),
         }
     }
 }
@@ -149,15 +149,15 @@ impl<F: Write + OpenFile + Drop> Opened<F> {
 fn empty<F: Write + OpenFile + Drop>(
     alloc: Global,
     file: F,
-    output: Output,
+    output: OutputFile,
     block: usize,
-) -> Result<Written<F>, Stop<'static>> {
+) -> Result<Written<F>, Failure<'static>> {
     if cut(&file).is_err() {
-        return Err(Stop::Write(output));
+        return Err(Failure::Write(output));
     }
     match BufWriter::with_capacity(alloc, block, file) {
         Ok(writer) => Ok(StdOutput::new(writer)),
-        Err(_) => Err(Stop::from(AllocError)),
+        Err(_) => Err(Failure::from(AllocError)),
     }
 }
 
@@ -172,7 +172,7 @@ fn cut<F: OpenFile>(file: &F) -> io::Result<()> {
 
 impl<F: Write + Drop> Outputs<F> {
     /// Writes what the blocks still hold, file by file, and tells the first that failed.
-    pub fn finish(self) -> Result<(), Stop<'static>> {
+    pub fn finish(self) -> Result<(), Failure<'static>> {
         let Outputs {
             ports,
             underlay,
@@ -180,19 +180,19 @@ impl<F: Write + Drop> Outputs<F> {
         } = self;
         let mut finished = Ok(());
         for (index, port) in ports.into_iter().enumerate() {
-            let flushed = flush(Output::Port(index + 1), port.into_inner());
+            let flushed = flush(OutputFile::Port(index + 1), port.into_inner());
             finished = finished.and(flushed);
         }
         finished
-            .and(flush(Output::Underlay, underlay.into_inner()))
-            .and(flush(Output::Decisions, decisions))
+            .and(flush(OutputFile::Underlay, underlay.into_inner()))
+            .and(flush(OutputFile::Decisions, decisions))
     }
 }
 
 /// Writes what a file's block still holds.
-fn flush<F: Write + Drop>(output: Output, written: Written<F>) -> Result<(), Stop<'static>> {
+fn flush<F: Write + Drop>(output: OutputFile, written: Written<F>) -> Result<(), Failure<'static>> {
     match written.into_inner().flush() {
         Ok(()) => Ok(()),
-        Err(_) => Err(Stop::Write(output)),
+        Err(_) => Err(Failure::Write(output)),
     }
 }

@@ -2,15 +2,15 @@
 ghost use Rattle.std.specs.Prelude.{◌≡◌, ◌≤◌};
 ghost use Rattle.clap.specs.Walk.{texts};
 ghost use Rattle.command_line.specs.Meaning.{HasDepth};
-ghost use Rattle.tep_program.specs.Status.{IsStatusOf, status_of};
+ghost use Rattle.dissector.specs.Status.{failure_status_of};
+ghost use Rattle.tep_program.specs.Status.{IsStatusOf};
 
 use crate::inputs::{read_file, read_if_given, read_underlay};
 use crate::names::Names;
 use crate::runs::run_on_files;
-use crate::stop::{Output, Stop};
 use capture_run::{RunFault, of_settings};
 use clap::error::ErrorKind as Refusal;
-use dissector::{Line, LineFault, check_text, explain_bytes, line_of, sample};
+use dissector::{Failure, Line, LineFault, OutputFile, check_text, explain_bytes, line_of, sample};
 use overlay_config::migrate;
 use std::alloc::{AllocError, Global};
 use std::env;
@@ -28,7 +28,7 @@ pub fn start<R: Env + Files + Input + AllocGlobal + Print + Eprint>(rt: &R) -> E
         Err(error) if error.kind() == ErrorKind::OutOfMemory => Err(AllocError),
         Err(_) => Ok(words_refused(rt, &LineFault::NoValue)),
     };
-    ExitCode::from(status.unwrap_or_else(|error| stopped(rt, &Stop::from(error))))
+    ExitCode::from(status.unwrap_or_else(|error| stopped(rt, &Failure::from(error))))
 }
 
 /// The exit status, or that memory ran out before the words were read.
@@ -52,16 +52,16 @@ pub fn run<'a, R: Files + Input + AllocGlobal + Print + Eprint>(rt: &R, words: &
     match line_of(rt.alloc(), words) {
         Ok(line) => match perform(rt, &line) {
             Ok(()) => 0,
-            Err(stop) => stopped(rt, &stop),
+            Err(failure) => stopped(rt, &failure),
         },
-        Err(LineFault::OutOfMemory) => stopped(rt, &Stop::Run(RunFault::OutOfMemory)),
+        Err(LineFault::OutOfMemory) => stopped(rt, &Failure::Run(RunFault::OutOfMemory)),
         Err(LineFault::NoValue) => words_refused(rt, &LineFault::NoValue),
         Err(LineFault::InputTwice) => words_refused(rt, &LineFault::InputTwice),
         Err(LineFault::Refused(error)) => {
             let is_lost = is_lost(error.print(rt));
             match error.kind() {
                 Refusal::DisplayHelp | Refusal::DisplayVersion if is_lost => {
-                    stopped(rt, &Stop::Write(Output::Stdout))
+                    stopped(rt, &Failure::Write(OutputFile::Stdout))
                 }
                 Refusal::DisplayHelp | Refusal::DisplayVersion => 0,
                 _ => WORDS_REFUSED,
@@ -79,18 +79,18 @@ fn words_refused(rt: &impl Eprint, fault: &LineFault) -> u8
 }
 
 /// Says why the program gives up.
-fn stopped(rt: &impl Eprint, stop: &Stop<'_>) -> u8
-    ensures { result ≡ status_of stop.now }
+fn stopped(rt: &impl Eprint, failure: &Failure<'_>) -> u8
+    ensures { result ≡ failure_status_of failure.now }
 {
-    let _ = eprintln!(rt; "{stop}");
-    stop.status()
+    let _ = eprintln!(rt; "{failure}");
+    failure.status()
 }
 
 /// Does what a line asks for.
 fn perform<'a, R: Files + Input + AllocGlobal + Print>(
     rt: &R,
     line: &Line<'a>,
-) -> Result<(), Stop<'a>>
+) -> Result<(), Failure<'a>>
     requires { HasDepth line.now }
 {
     match line {
@@ -121,7 +121,7 @@ fn perform<'a, R: Files + Input + AllocGlobal + Print>(
 }
 
 /// Prints the decision lines of the sample.
-fn print_sample<R: AllocGlobal + Print>(rt: &R) -> Result<(), Stop<'static>> {
+fn print_sample<R: AllocGlobal + Print>(rt: &R) -> Result<(), Failure<'static>> {
     let lines = sample(rt.alloc())?;
     print_text(rt, lines.as_slice())
 }
@@ -131,7 +131,7 @@ fn check<'a, R: Files + AllocGlobal + Print>(
     rt: &R,
     settings: &'a str,
     changes: Option<&'a str>,
-) -> Result<(), Stop<'a>> {
+) -> Result<(), Failure<'a>> {
     let settings = read_file(rt, settings)?;
     let changes = read_if_given(rt, changes)?;
     let line = check_text(rt.alloc(), settings.as_slice(), changes.as_slice())?;
@@ -142,11 +142,11 @@ fn check<'a, R: Files + AllocGlobal + Print>(
 fn print_migrated<'a, R: Files + AllocGlobal + Print>(
     rt: &R,
     settings: &'a str,
-) -> Result<(), Stop<'a>> {
+) -> Result<(), Failure<'a>> {
     let settings = read_file(rt, settings)?;
     match migrate(rt.alloc(), settings.as_slice()) {
         Ok(text) => print_text(rt, text.as_slice()),
-        Err(fault) => Err(Stop::Run(of_settings(fault))),
+        Err(fault) => Err(Failure::Run(of_settings(fault))),
     }
 }
 
@@ -156,7 +156,7 @@ fn explain<'a, R: Files + Input + AllocGlobal + Print>(
     settings: &'a str,
     depth: u8,
     capture: &'a str,
-) -> Result<(), Stop<'a>>
+) -> Result<(), Failure<'a>>
     requires low { 1 ≤ depth }
     requires high { depth ≤ 4 }
 {
@@ -172,9 +172,9 @@ fn explain<'a, R: Files + Input + AllocGlobal + Print>(
 }
 
 /// Prints a text on standard output.
-fn print_text(rt: &impl Print, text: &[u8]) -> Result<(), Stop<'static>> {
+fn print_text(rt: &impl Print, text: &[u8]) -> Result<(), Failure<'static>> {
     if is_lost(io::writer(rt).write_all(text)) {
-        return Err(Stop::Write(Output::Stdout));
+        return Err(Failure::Write(OutputFile::Stdout));
     }
     Ok(())
 }

@@ -2,8 +2,8 @@
 use crate::inputs::{Capture, open_capture, open_captures, read_file, read_if_given};
 use crate::names::Names;
 use crate::outputs::{open_outputs, spare_inputs};
-use crate::stop::Stop;
 use capture_run::{RunFault, of_changes, of_settings};
+use dissector::Failure;
 use overlay_config::{changes_of, settings_of};
 use pcapng_input::PcapngFault;
 use std::alloc::Global;
@@ -23,16 +23,16 @@ pub fn run_on_files<'a, R: Files + Input + AllocGlobal>(
     rt: &R,
     names: Names<'_, 'a>,
     folder: &str,
-) -> Result<(), Stop<'a>> {
+) -> Result<(), Failure<'a>> {
     let settings = read_file(rt, names.settings)?;
     let changes = read_if_given(rt, names.changes)?;
     let mut underlay = match open_capture(rt, names.underlay) {
         Ok(underlay) => underlay,
-        Err(stop) => return Err(stop),
+        Err(failure) => return Err(failure),
     };
     let mut ports = match open_captures(rt, names.ports) {
         Ok(ports) => ports,
-        Err(stop) => return Err(stop),
+        Err(failure) => return Err(failure),
     };
     look_before(
         rt.alloc(),
@@ -63,10 +63,10 @@ pub fn run_on_files<'a, R: Files + Input + AllocGlobal>(
     match run {
         Ok(()) => finished,
         Err(StreamFault::Read(tap)) => match fault_of(tap, ports.as_slice(), &underlay) {
-            Some(fault) => Err(Stop::Pcapng(tap, fault)),
-            None => Err(Stop::Read(names.capture(tap))),
+            Some(fault) => Err(Failure::Pcapng(tap, fault)),
+            None => Err(Failure::Read(names.capture(tap))),
         },
-        Err(fault) => Err(Stop::running(names, fault)),
+        Err(fault) => Err(Failure::running(names.underlay, fault)),
     }
 }
 

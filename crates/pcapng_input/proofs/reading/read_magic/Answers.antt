@@ -1,4 +1,4 @@
-use Rattle.std.proofs.Common.{◌≡◌, ◌≤◌, ◌∙◌, ap, append-nil, arith, length, sym, true}
+use Rattle.std.proofs.Common.{◌≡◌, ◌≤◌, ◌∙◌, ap, arith, length, sym, true}
 use Rattle.std.specs.Prelude.{◌&&◌, nat_le}
 use Rattle.std.proofs.lemmas.Bool.{both_ways}
 use Rattle.pcapng_input.proofs.Leads.{first_pcapng, first_plain, part_short, placed_more}
@@ -9,7 +9,7 @@ use Rattle.pcapng_input.proofs.reading.read_magic.Goals.{else-is_more-via-else-i
 pub returns-then-is_pcapng-clause-leads : goal.returns-then-is_pcapng-clause-leads
 returns-then-is_pcapng-clause-leads g c = λ selection all.
     first_pcapng selection c.args.context.now c.args.gathered.now c.fetch.new.self 4 c.in_ok-is_more.is_more c.put.new.self c.in_ok-is_more.ensures.fetched all c.requires.sound.1
-    (c.put.ensures ∙ append-nil _ ∙ c.global_header.ensures)
+    (c.put.ensures ∙ c.global_header.ensures)
     (ap (λ t. nat_le 4 (length t) && is_section t) (sym c.held-held.ensures.octets) ∙ sym c.is_pcapng.ensures ∙ c.if-is_pcapng.true)
 
 pub returns-then-is_pcapng-clause-sound : goal.returns-then-is_pcapng-clause-sound
@@ -29,5 +29,5 @@ returns-clause-leads g c =
     ] in
     λ selection all.
     first_plain selection c.args.context.now c.args.gathered.now c.fetch.new.self c.clear.new.self 4 c.in_ok-is_more.is_more c.put-2.new.self c.in_ok-is_more.ensures.fetched
-    c.clear.ensures all (c.put-2.ensures ∙ append-nil _ ∙ same)
+    c.clear.ensures all (c.put-2.ensures ∙ same)
     (ap (λ t. nat_le 4 (length t) && is_section t) (sym same) ∙ sym c.is_pcapng.ensures ∙ c.if-is_pcapng.false) long

@@ -1,6 +1,6 @@
 use Rattle.std.proofs.Common.{◌≡◌, ◌∙◌, ◌≤◌, true, ap, arith, length, refl, rules, subst}
 use Rattle.std.proofs.lemmas.Bool.{both_ways}
-use Rattle.pcapng_input.proofs.Settling.{settles_cut, settles_faulty, settles_refused, settles_short, settles_taken, settles_wanting, settles_whole}
+use Rattle.pcapng_input.proofs.Settling.{settles_cut, settles_faulty, settles_put, settles_refused, settles_short, settles_wanting, settles_whole}
 use Rattle.pcapng_input.specs.Block.{next_block, order_at}
 use Rattle.pcapng_input.specs.Context.{IsStepError}
 use Rattle.pcapng_input.specs.Reading.{step_of}
@@ -26,16 +26,16 @@ returns-then-is_more-2 c =
 
 pub returns-in-Ok : goal.returns-in-Ok
 returns-in-Ok c =
-    settles_taken c.args.selection c.args.context.now c.step.new.self c.args.held.now c.in-Another.field-1.now c.put_found.new.ready c.args.is_more c.in-Another.block c.in-Ok.found
-    c.order.result c.order.ensures c.in-Another.ensures.next c.requires.part c.in-Ok.ensures.step c.put_found.ensures c.in-Ok.ensures.blocks c.in-Ok.ensures.offset
+    settles_put c.args.selection c.args.context.now c.take.new.context c.args.held.now c.in-Another.field-1.now c.take.new.ready c.args.is_more c.in-Another.block
+    c.order.result c.order.ensures c.in-Another.ensures.next c.requires.part c.in-Ok.ensures.taken c.in-Ok.ensures.blocks c.in-Ok.ensures.offset
     c.in-Another.ensures.shorter
 
 pub returns-in-Err-Faulty : goal.returns-in-Err-Faulty
 returns-in-Err-Faulty c =
     let same : c.in-Err-Faulty.field-0 ≡ Faulty c.in-Err-Faulty.fault = search rules in
     let step = subst (IsStepError (step_of c.args.selection c.args.context.now c.in-Another.block) c.args.context.now) same c.in-Err-Faulty.ensures.fault in
-    settles_faulty c.args.selection c.args.context.now c.step.new.self c.args.held.now c.in-Another.field-1.now c.args.ready.now c.args.is_more c.in-Another.block c.in-Err-Faulty.fault
-    c.order.result c.order.ensures c.in-Another.ensures.next c.requires.part step c.requires.empty c.in-Err-Faulty.ensures.err
+    settles_faulty c.args.selection c.args.context.now c.take.new.context c.args.held.now c.in-Another.field-1.now c.take.new.ready c.args.is_more c.in-Another.block c.in-Err-Faulty.fault
+    c.order.result c.order.ensures c.in-Another.ensures.next c.requires.part step c.in-Err-Faulty.ensures.ready c.in-Err-Faulty.ensures.context
 
 pub returns-in-AllRead : goal.returns-in-AllRead
 returns-in-AllRead c =

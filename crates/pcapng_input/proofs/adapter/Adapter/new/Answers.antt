@@ -1,4 +1,4 @@
-use Rattle.std.proofs.Common.{◌≤◌, ◌∙◌, ap, append-nil, arith, refl, subst, sym}
+use Rattle.std.proofs.Common.{◌≤◌, ◌∙◌, ap, arith, refl, subst, sym}
 use Rattle.pcapng_input.proofs.Leads.{sound_begun, sound_within}
 use Rattle.pcapng_input.proofs.Opening.{opens, opens_one}
 use Rattle.pcapng_input.specs.Adapter.{Adapter, Gathered}
@@ -34,7 +34,7 @@ returns-clause-told g c =
     elim c.if-is_of_one.branch [
       | then-is_of_one w ↦
           opens_one c.args.selection made context (g.R.Input.remaining c.args.input) (sym c.is_of_one.ensures ∙ w.if-is_of_one.true) refl
-          (w.ready-is ∙ w.put.ensures ∙ append-nil _ ∙ w.global_header.ensures) (ap (λ s. stand_of s context) w.state-is) c.new-3.ensures held rest
+          (w.ready-is ∙ w.put.ensures ∙ w.global_header.ensures) (ap (λ s. stand_of s context) w.state-is) c.new-3.ensures held rest
       | else-is_of_one w ↦
           opens c.args.selection made (g.R.Input.remaining c.args.input) refl (w.ready-is ∙ c.in_ok-ready.ensures) (ap (λ s. stand_of s context) w.state-is) held rest
     ]

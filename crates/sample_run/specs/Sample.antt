@@ -3,7 +3,7 @@ use Rattle.std.specs.Prelude.{ℕ, ◌*◌, List, [], ◌∷◌, ◌++◌, codes
 use Rattle.std.specs.List.{flat_map}
 use Rattle.pcap_io.specs.Record.{Record}
 use Rattle.pcap_io.specs.Written.{whole_frame, written}
-use Rattle.dissector.specs.declared.built_in.Passing.{Passing}
+use Rattle.sample_run.specs.declared.built_in.Passing.{Passing}
 
 -- each line is ended by LF
 abbrev pub lines : List (List ℕ) → List ℕ

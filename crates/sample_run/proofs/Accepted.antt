@@ -34,8 +34,8 @@ use Rattle.capture_run.specs.Outputs.{Outputs}
 use Rattle.capture_run.specs.Run.{Gives, run, by_timeline}
 use Rattle.capture_run.specs.declared.fault.RunFault.{RunFault}
 use Rattle.capture_run.specs.declared.fault.RunFault.TheVariants as faults
-use Rattle.dissector.specs.declared.built_in.Passing.{Passing}
-use Rattle.dissector.specs.Sample.{captures, everybody, frame, passes, record_of, settings_text, station}
+use Rattle.sample_run.specs.declared.built_in.Passing.{Passing}
+use Rattle.sample_run.specs.Sample.{captures, everybody, frame, passes, record_of, settings_text, station}
 
 -- ---- the texts
 

@@ -5,11 +5,11 @@ use Rattle.overlay_config.specs.Settings.{settings_in}
 use Rattle.std.specs.Str.{IsUtf8}
 use Rattle.pcap_io.specs.Written.{written_header}
 use Rattle.capture_run.specs.Run.{Gives, run}
-use Rattle.dissector.specs.Given.{decisions_of}
-use Rattle.dissector.specs.Sample.{settings_text}
-use Rattle.dissector.proofs.Accepted.{only_memory, sample_runs}
-use Rattle.dissector.proofs.SameRun.{fault_given, same_run}
-use Rattle.dissector.proofs.built_in.sample.Goals as goal
+use Rattle.sample_run.specs.Given.{decisions_of}
+use Rattle.sample_run.specs.Sample.{settings_text}
+use Rattle.sample_run.proofs.Accepted.{only_memory, sample_runs}
+use Rattle.sample_run.proofs.SameRun.{fault_given, same_run}
+use Rattle.sample_run.proofs.built_in.sample.Goals as goal
 
 -- the run of these texts is the sample's
 same_texts : (settings changes : List ℕ) (ports : List (Vec ℕ Global)) (underlay : List ℕ) → settings ≡ settings_text → changes ≡ [] → underlay ≡ written_header

@@ -16,7 +16,7 @@ use Rattle.capture_run.specs.Run.{Gives, run, by_timeline}
 use Rattle.capture_run.specs.declared.fault.RunFault.{RunFault}
 use Rattle.capture_run.specs.declared.fault.RunFault.TheVariants as faults
 use Rattle.explanation.specs.Explanation.{Gives as GivesText}
-use Rattle.dissector.specs.Given.{decisions_of}
+use Rattle.sample_run.specs.Given.{decisions_of}
 
 -- ---- captures by their octets
 

@@ -7,8 +7,8 @@ ghost use Rattle.pcap_io.specs.Written.{written_header};
 ghost use Rattle.capture_run.specs.Run.{run};
 ghost use Rattle.capture_run.specs.declared.fault.RunFault.TheVariants.{OutOfMemory};
 ghost use Rattle.explanation.specs.Explanation.{Gives as GivesText};
-ghost use Rattle.dissector.specs.Given.{decisions_of};
-ghost use Rattle.dissector.specs.Sample.{capture_of, captures, settings_text};
+ghost use Rattle.sample_run.specs.Given.{decisions_of};
+ghost use Rattle.sample_run.specs.Sample.{capture_of, captures, settings_text};
 
 use capture_run::{RunFault, run_bytes};
 use pcap_io::{put_header, put_record};

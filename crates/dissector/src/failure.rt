@@ -1,0 +1,93 @@
+//! Why the program gives up.
+ghost use Rattle.std.specs.Prelude.{◌≡◌};
+ghost use Rattle.dissector.specs.Status.{failure_status_of, stream_status_of};
+
+use crate::status::exit_code;
+use crate::text::TextFault;
+use capture_run::RunFault;
+use pcapng_input::PcapngFault;
+use std::alloc::AllocError;
+use std::fmt;
+use stream_run::{StreamFault, Target};
+use thiserror::Error;
+use timeline::Tap;
+
+/// Why the program gives up. It prints as one line on standard error.
+#[derive(Debug, Drop, Error)]
+pub enum Failure<'a> {
+    /// A text or a capture is refused, or memory was.
+    #[error("{0}")]
+    Run(#[from] RunFault),
+    /// A pcapng capture is refused.
+    #[error("{0}: {1}")]
+    Pcapng(Tap, PcapngFault),
+    /// The file of this name, as it was given, couldn't be read.
+    #[error("read {0}")]
+    Read(&'a str),
+    /// This couldn't be written.
+    #[error("write {0}")]
+    Write(OutputFile),
+}
+
+/// What is written: a file within the folder for outputs, or the text on standard output.
+#[derive(Clone, Copy, Debug, Drop)]
+pub enum OutputFile {
+    /// The capture of the port of this number.
+    Port(usize),
+    Underlay,
+    Decisions,
+    Stdout,
+}
+
+impl fmt::Display for OutputFile {
+    fn fmt<W: fmt::Write>(&self, f: &mut fmt::Formatter<W>) -> fmt::Result {
+        match self {
+            OutputFile::Port(number) => write!(f, "port{number}.pcap"),
+            OutputFile::Underlay => f.write_str("underlay.pcap"),
+            OutputFile::Decisions => f.write_str("decisions.txt"),
+            OutputFile::Stdout => f.write_str("stdout"),
+        }
+    }
+}
+
+impl<'a> From<AllocError> for Failure<'a> {
+    fn from(error: AllocError) -> Failure<'a> {
+        Failure::Run(RunFault::from(error))
+    }
+}
+
+impl<'a> Failure<'a> {
+    /// That the file of this name couldn't be read whole.
+    pub fn reading(name: &'a str, fault: TextFault) -> Failure<'a> {
+        match fault {
+            TextFault::Read => Failure::Read(name),
+            TextFault::OutOfMemory => Failure::Run(RunFault::OutOfMemory),
+        }
+    }
+
+    /// That a run stopped, of whose captures the one of this name is the one that a failed read was of.
+    pub fn running(name: &'a str, fault: StreamFault) -> Failure<'a>
+        ensures { failure_status_of result ≡ stream_status_of fault }
+    {
+        match fault {
+            StreamFault::Run(fault) => Failure::Run(fault),
+            StreamFault::Read(_) => Failure::Read(name),
+            StreamFault::Write(Target::Port(number)) => {
+                Failure::Write(OutputFile::Port(usize::from(number)))
+            }
+            StreamFault::Write(Target::Underlay) => Failure::Write(OutputFile::Underlay),
+            StreamFault::Write(Target::Decisions) => Failure::Write(OutputFile::Decisions),
+        }
+    }
+
+    /// The exit status: 1 for a text or a capture that is refused, 3 for want of memory, a failed read or a failed write.
+    pub fn status(&self) -> u8
+        ensures { result ≡ failure_status_of self.now }
+    {
+        match self {
+            Failure::Run(fault) => exit_code(fault),
+            Failure::Pcapng(..) => 1,
+            Failure::Read(_) | Failure::Write(_) => 3,
+        }
+    }
+}

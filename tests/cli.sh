@@ -74,7 +74,7 @@ says ""
 holds decisions.txt port1.pcap port2.pcap port3.pcap underlay.pcap
 cmp examples/decisions.txt "$folder/out/decisions.txt" || complain "the decisions differ"
 ends 0 "" --help
-sed 's/tep_help/tep/' crates/tep_help/stdout >"$folder/help"
+sed -n '/^\$ tep --help$/,/^\$ tep --version$/ { /^\$ tep/d; p }' docs/HELP.txt >"$folder/help"
 prints "$folder/help"
 ends 0 "" run --help
 grep -q 'Usage: tep run' "$folder/stdout" || complain "no help on run"

@@ -53,15 +53,6 @@ fn bucket_by_key(key: u64) -> usize
     (words(&octets) % BUCKETS as u64) as usize
 }
 
-/// The bucket of an address in a segment, below 4,096.
-#[cfg(test)]
-pub fn bucket(vid: Vid, mac: Mac) -> usize
-    ensures value { result ≡ bucket_of vid mac }
-    ensures in_range { result < 4096 }
-{
-    bucket_by_key(key(vid, mac))
-}
-
 /// Which of its bucket's chains a key is on.
 #[tactic(auto, unfolding(crate::specs::Bucket::spread))]
 fn spread(key: u64) -> usize

@@ -19,8 +19,6 @@ mod share;
 mod shared_tables;
 mod slots;
 mod standing;
-#[cfg(test)]
-mod tests;
 mod threads;
 
 pub use shared_tables::SharedTables;

@@ -18,14 +18,10 @@ use crate::opening::{no_heads, open_shares};
 use crate::share::{self, Share};
 use crate::slots::{SlotId, Slots, Thread};
 use crate::threads;
-#[cfg(test)]
-use crate::threads::Ends;
 use filter_db::{Place, TableRule};
 use frame_view::{Mac, Vid};
 use std::alloc::{AllocError, Global};
 use std::marker::Model;
-#[cfg(test)]
-use std::test::Fail;
 use work_count::Count;
 
 mod standing;
@@ -297,56 +293,4 @@ impl SharedTables {
             }
         }
     }
-}
-
-/// Each field of the tables and of a share by name: no address and no entry's moment stands beside the slots.
-#[test]
-fn keeps_no_address_beside_the_slots(rt: HostRuntime) -> Result<(), Fail> {
-    let rules = [TableRule {
-        vid: Vid::new(10).ok_or("VID 10")?,
-        limit: 1,
-        ageing: 10,
-    }];
-    let tables = SharedTables::open(rt.alloc(), &rules, 1)?;
-    let SharedTables {
-        slots,
-        heads,
-        shares,
-        moment,
-        calls,
-    } = &tables;
-    let _slots: &Slots = slots;
-    let _calls: &Count = calls;
-    let heads: &Vec<Option<SlotId>> = heads;
-    let shares: &Vec<Option<Share>> = shares;
-    let moment: &u64 = moment;
-    assert_eq!(rt; heads.len(), 65_536);
-    assert_eq!(rt; *moment, 0);
-    for share in shares {
-        if let Some(
-            Share {
-                limit,
-                ageing,
-                count,
-                queue,
-                fixed,
-            },
-        ) = share
-        {
-            let limit: &u32 = limit;
-            let ageing: &u32 = ageing;
-            let count: &u32 = count;
-            assert!(rt;
-                *limit == 1 && *ageing == 10 && *count == 0,
-                "the share of VID 10"
-            );
-            let Ends { first, last } = queue;
-            let newest: &Option<SlotId> = last;
-            let oldest: &Option<SlotId> = first;
-            assert!(rt; oldest.is_none() && newest.is_none(), "an empty queue");
-            let fixed: &Ends = fixed;
-            assert!(rt; fixed.first.is_none(), "no fixed entries");
-        }
-    }
-    Ok(())
 }

@@ -8,8 +8,6 @@ use filter_db::Place;
 use frame_view::{Mac, Vid};
 use std::alloc::{AllocError, Global};
 use std::marker::Model;
-#[cfg(test)]
-use std::test::Fail;
 use work_count::Count;
 
 /// The number of a slot.
@@ -400,51 +398,4 @@ impl Slots {
         self.slots[slot.number as usize] = vacant(self.free);
         self.free = Some(slot);
     }
-}
-
-/// Each field of the slots and of a slot by name: an address and a moment stand in a slot's key and last moment, and
-/// nowhere beside.
-#[test]
-fn keeps_addresses_and_moments_in_keys_alone(rt: HostRuntime) -> Result<(), Fail> {
-    let pool = Slots::new(rt.alloc(), 2)?;
-    let Slots {
-        slots,
-        free,
-        compared,
-        visited,
-    } = &pool;
-    let _compared: &Count = compared;
-    let _visited: &Count = visited;
-    let free: &Option<SlotId> = free;
-    assert!(rt; free.is_some(), "a free list");
-    let slots: &Vec<Slot> = slots;
-    assert_eq!(rt; slots.len(), 2);
-    for Slot {
-        key,
-        last,
-        chain,
-        line,
-        place,
-        kind,
-    } in slots {
-        let key: &u64 = key;
-        let last: &u64 = last;
-        assert!(rt; *key == 0 && *last == 0, "an entry in a free slot");
-        let kind: &Kind = kind;
-        assert!(rt; matches!(kind, Kind::Free), "a slot that isn't free");
-        let place: &Place = place;
-        assert!(rt; *place == Place::Local(0), "the place of a free slot");
-        let Near { previous, next } = chain;
-        let before: &u32 = previous;
-        let behind: &u32 = next;
-        assert!(rt;
-            *before == NOBODY && *behind == NOBODY,
-            "a free slot on a chain"
-        );
-        let Near { previous, next } = line;
-        let before: &u32 = previous;
-        let _behind: &u32 = next;
-        assert!(rt; *before == NOBODY, "a free slot behind another");
-    }
-    Ok(())
 }

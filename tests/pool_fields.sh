@@ -1,0 +1,28 @@
+#!/usr/bin/env bash
+# The fields of the pool of addresses, by name and type: an address and the moment at which it was seen stand in a slot's
+# key and last moment, and nowhere beside. No contract can say that, for contracts see no field.
+set -u
+cd "$(dirname "$0")/.." || exit 1
+
+# fields: the structs and enums of the pool's own files, without comments, one on a line
+fields() {
+    cat crates/shared_tables/src/*.rt crates/shared_tables/src/*/*.rt |
+        awk '
+            /^ *\/\// || /^ *#\[/ { next }
+            /^(pub(\([a-z]+\))? )?(struct|enum) / { inside = 1; text = "" }
+            inside { sub(/^ +/, ""); sub(/^pub(\([a-z]+\))? /, ""); text = text (text ? " " : "") $0 }
+            inside && /^}|;$/ { print text; inside = 0 }' | LC_ALL=C sort
+}
+
+diff - <(fields) <<'TEXT' || { echo "tests/pool_fields.sh: the pool keeps something else"; exit 1; }
+enum Kind { Free, Learned, Fixed, }
+enum Thread { Chain, Line, }
+struct Ends { first: Option<SlotId>, last: Option<SlotId>, }
+struct Links { previous: Option<SlotId>, next: Option<SlotId>, }
+struct Near { previous: u32, next: u32, }
+struct Share { limit: u32, ageing: u32, count: u32, queue: Ends, fixed: Ends, }
+struct SharedTables { slots: Slots, heads: Vec<Option<SlotId>>, shares: Vec<Option<Share>>, moment: u64, calls: Count, }
+struct Slot { key: u64, last: u64, chain: Near, line: Near, place: Place, kind: Kind, }
+struct SlotId { number: u32, }
+struct Slots { slots: Vec<Slot>, free: Option<SlotId>, compared: Count, visited: Count, }
+TEXT

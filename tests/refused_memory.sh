@@ -1,71 +1,136 @@
 #!/usr/bin/env bash
 # Where a call needs memory and is refused it, it answers just that, and what it was to extend is as before: each request for
 # memory of the calls below is refused in turn. One program, crates/refused_memory, is built for all of them. It makes a call
-# behind so many other requests, while its request 300 is refused: so the refused request goes from behind the call's last
-# one, through all of the call's, to before its first one, as the others become more.
+# behind so many other requests, while its request 500 is refused: so the refused request goes from behind the call's last
+# one to its first one, as the others become more.
+#
+#     tests/refused_memory.sh table    prints how many requests each call makes, as docs/PROVED.md has it
+#     tests/refused_memory.sh count    counts them anew, and prints what the list below has to be
 set -u
 cd "$(dirname "$0")/.." || exit 1
+mode=${1:-}
 folder=$(mktemp -d)
 trap 'rm -rf "$folder"' EXIT
-mkdir "$folder/cases" "$folder/more"
+mkdir "$folder/cases"
 status=0
 
-# put_cases NAME FIRST LAST: the call of this name behind FIRST to LAST requests
-put_cases() {
-    local name=$1 first=$2 last=$3 n
-    for n in $(seq "$first" "$last"); do
-        printf '%s %s\n' "$name" "$n" >"$folder/cases/${name}-$n"
+# The number of the request that is refused.
+refused=500
+
+# Each call, and how many requests it makes; in front of these come those of another call, and so many more, for what the
+# call is given. Those of none come first of all; they aren't refused here.
+calls="
+none 1 start 0
+line_of 84 none 0
+settings_of 68 none 0
+migrate 49 none 0
+changes_of 26 none 0
+check_text 98 none 0
+put_header 1 none 1
+put_record 1 none 1
+Source 1 none 0
+Timeline 3 none 0
+classic_of 4 none 0
+read_text 1 none 0
+ListTables 3 none 0
+SharedTables 3 none 0
+PortSet 2 settings_of 0
+Under 4 settings_of 0
+EndpointState 13 settings_of 0
+Endpoint 14 settings_of 0
+append_to 1 Endpoint 1
+result_text 3 Endpoint 0
+sample 88 none 0
+explain_bytes 60 none 0
+run_bytes 91 none 1
+run_streams 79 none 2
+"
+
+# fail SENTENCE: this isn't as it should be
+fail() {
+    echo "tests/refused_memory.sh: $1"
+    status=1
+}
+
+# total NAME: the requests up to the last one of a call
+total() {
+    local name made first more
+    [ "$1" != start ] || { echo 0; return; }
+    read -r name made first more < <(grep "^$1 " <<<"$calls")
+    echo $((made + more + $(total "$first")))
+}
+
+# put_case NAME COUNT: a case, the call of this name behind so many requests; all cases are of one length
+put_case() {
+    printf '%-20s %3d\n' "$1" "$2" >"$folder/cases/$1-$2"
+}
+
+# run_cases: runs all cases, in two halves side by side, and keeps in a log what the program prints for each
+run_cases() {
+    local number=0 file half
+    mkdir "$folder/half0" "$folder/half1"
+    for file in "$folder"/cases/*; do
+        half=$folder/half$((number % 2))
+        mv "$file" "$half"
+        number=$((number + 1))
     done
+    for half in half0 half1; do
+        (cd crates/refused_memory &&
+            rt try --steps 1 --seconds 300 --fail-alloc "$refused" --cases "$folder/$half" >"$folder/$half.log" 2>&1) &
+    done
+    wait
+    cat "$folder/half0.log" "$folder/half1.log" >"$folder/log"
 }
 
-for name in put_header put_record ListTables SharedTables Source Timeline read_text; do
-    put_cases $name 290 300
-done
-for name in append_to Endpoint result_text; do
-    put_cases $name 205 228
-done
-put_cases check_text 190 300
-put_cases sample 185 300
-# Of these two not the requests that they begin with, for the settings, which are those of check_text.
-put_cases explain_bytes 195 230
-put_cases run_bytes 105 160
-
-# In two halves, side by side.
-for case in "$folder"/cases/*[13579]; do
-    mv "$case" "$folder/more"
-done
-for half in cases more; do
-    (cd crates/refused_memory && rt try --steps 1 --fail-alloc 300 --cases "$folder/$half" >"$folder/$half.log" 2>&1) &
-done
-wait
-cat "$folder/cases.log" "$folder/more.log" >"$folder/log"
-
-# answers_of NAME: how often each answer to the cases of this name came, as their requests become more
-answers_of() {
-    awk -v name="$1" '$1 == "==" { split($2, part, "-"); getline; if (part[1] == name) print part[2] "\t" $0 }' "$folder/log" |
-        sort -n | cut -f 2 | uniq -c | awk '{ print $1, $2 }' | paste -s -d ' '
+# said NAME COUNT: what the program printed for a case: the answer, and how many requests were granted behind it
+said() {
+    awk -v name="$1-$2" '$1 == "==" && $2 == name { getline; print; exit }' "$folder/log"
 }
 
-# answers NAME COUNT: the call of this name is done, then refused memory so often, as COUNT says, and then, where its first
-# requests are among the cases, done
+# answers NAME: how often each answer came in the cases of a call, as the requests before it become more
 answers() {
-    local name=$1 count=$2 said
-    said=$(answers_of "$name")
-    [[ $said =~ ^[0-9]+\ done\ $count\ memory(\ [0-9]+\ done)?$ ]] || {
-        echo "tests/refused_memory.sh: $name answers '$said' as its requests are refused, one after another"
-        status=1
-    }
+    awk -v name="$1" '
+        $1 == "==" { at = match($2, /-[0-9]+$/); own = substr($2, 1, at - 1); count = substr($2, at + 1); getline
+            if (own == name) print count, $1 }' "$folder/log" |
+        sort -n | cut -d ' ' -f 2 | uniq -c | awk '{ print $1, $2 }' | paste -s -d ' '
 }
 
-# How many requests these make stands in their own texts; the others make some.
-for name in put_header put_record append_to Source; do
-    answers $name 1
-done
-for name in ListTables SharedTables Timeline; do
-    answers $name 3
-done
-for name in read_text Endpoint result_text check_text explain_bytes sample run_bytes; do
-    answers $name "[1-9][0-9]*"
-done
+# count: the list of calls as it has to be
+count() {
+    local name made first more granted
+    while read -r name made first more; do put_case "$name" 0; done < <(grep . <<<"$calls")
+    run_cases
+    while read -r name made first more; do
+        granted=$(said "$name" 0)
+        case $granted in
+            "done "*) made=$((refused - 1 - ${granted#done } - more - $(total "$first"))) ;;
+            *) fail "$name answers '$granted' with memory" ;;
+        esac
+        calls=$(sed "s/^$name [0-9]* /$name $made /" <<<"$calls")
+    done < <(grep . <<<"$calls")
+    grep . <<<"$calls"
+}
+
+if [ "$mode" = count ]; then
+    count
+    exit "$status"
+fi
+
+while read -r name made first more; do
+    last=$((refused - 1 - $(total "$name")))
+    [ "$name" != none ] || made=0
+    for n in $(seq "$last" $((last + made))); do put_case "$name" "$n"; done
+done < <(grep . <<<"$calls")
+run_cases
+
+while read -r name made first more; do
+    # With the refused request right behind the call's last one it is done, and no request is granted behind it.
+    last=$((refused - 1 - $(total "$name")))
+    [ "$(said "$name" "$last")" = "done 0" ] || fail "$name behind $last requests answers '$(said "$name" "$last")'"
+    [ "$name" != none ] || continue
+    wanted="1 done $made memory"
+    [ "$(answers "$name")" = "$wanted" ] || fail "$name answers '$(answers "$name")' in place of '$wanted'"
+    [ "$mode" != table ] || echo "| \`$name\` | $made |"
+done < <(grep . <<<"$calls")
 
 exit "$status"

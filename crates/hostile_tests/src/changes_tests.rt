@@ -1,5 +1,5 @@
 //! Texts of changes that nobody would write.
-use crate::reading::of_changes;
+use crate::reading::{Kind, said_of};
 use std::test::Fail;
 
 /// Texts, and the fault that they are.
@@ -48,7 +48,7 @@ const TEXTS: [(&str, &str); 20] = [
 fn a_strange_text_has_its_fault(rt: HostRuntime) -> Result<(), Fail> {
     let alloc = rt.alloc();
     for (text, wanted) in &TEXTS {
-        let said = of_changes(alloc, text.as_bytes())?;
+        let said = said_of(alloc, Kind::Changes, text.as_bytes())?;
         assert_eq!(rt; said.as_str(), *wanted, "{text}");
     }
     Ok(())

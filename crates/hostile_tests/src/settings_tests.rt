@@ -1,5 +1,5 @@
 //! Single lines of settings that nobody would write.
-use crate::reading::of_settings;
+use crate::reading::{Kind, said_of};
 use std::test::Fail;
 use test_inputs::settings::ENDPOINT;
 
@@ -72,7 +72,7 @@ fn a_strange_line_has_its_fault(rt: HostRuntime) -> Result<(), Fail> {
     let alloc = rt.alloc();
     for (line, wanted) in &LINES {
         let text = ENDPOINT.replace(alloc, VERSION, line)?;
-        let said = of_settings(alloc, text.as_bytes())?;
+        let said = said_of(alloc, Kind::Settings, text.as_bytes())?;
         assert_eq!(rt; said.as_str(), *wanted, "{line}");
     }
     Ok(())
@@ -106,7 +106,7 @@ fn octets_that_are_no_characters_are_not_toml(rt: HostRuntime) -> Result<(), Fai
     for octets in &OCTETS {
         let mut text = Vec::from_slice(alloc, *octets)?;
         text.extend_from_slice(behind.as_bytes())?;
-        let said = of_settings(alloc, &text)?;
+        let said = said_of(alloc, Kind::Settings, &text)?;
         assert_eq!(rt; said.as_str(), "NotToml", "{octets:?}");
     }
     Ok(())
@@ -129,7 +129,7 @@ fn long_lines_are_read(rt: HostRuntime) -> Result<(), Fail> {
         let long = character.repeat(alloc, 100_000)?;
         let mut text = line.replace(alloc, "#", &long)?;
         text.push_str(ENDPOINT)?;
-        let said = of_settings(alloc, text.as_bytes())?;
+        let said = said_of(alloc, Kind::Settings, text.as_bytes())?;
         assert_eq!(rt; said.as_str(), *wanted, "{line}");
     }
     Ok(())

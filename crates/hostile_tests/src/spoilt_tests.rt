@@ -1,5 +1,5 @@
 //! Good texts that are cut at every length, or have one octet in place of another.
-use crate::reading::{of_changes, of_settings};
+use crate::reading::{Kind, said_of};
 use std::alloc::{AllocError, Global};
 use std::test::Fail;
 use test_inputs::settings::ENDPOINT;
@@ -21,6 +21,9 @@ kind = "flush"
 at = 4294967295999999999
 vid = 10
 "#;
+
+/// Good texts.
+const TEXTS: [(Kind, &str); 2] = [(Kind::Settings, ENDPOINT), (Kind::Changes, CHANGES)];
 
 /// Whether a line that was cut is still TOML, where a line is the name of a table in brackets, or a key and a number, a
 /// string or a list: it is empty, or its value or its brackets are whole.
@@ -51,28 +54,27 @@ fn is_toml_text(text: &str) -> bool {
     }
 }
 
-#[test]
-fn settings_are_cut_at_every_length(rt: HostRuntime) -> Result<(), Fail> {
-    let alloc = rt.alloc();
-    for n in 0..=ENDPOINT.len() {
-        let text = ENDPOINT.get(..n).ok_or("half a character")?;
-        let said = of_settings(alloc, text.as_bytes())?;
+/// How long the first front of a text is that isn't NotToml just where it isn't TOML; the whole length where there is none.
+fn right_cuts(alloc: Global, kind: Kind, text: &str) -> Result<usize, AllocError> {
+    for n in 0..text.len() {
+        let cut = text.get(..n).unwrap_or_default();
+        let said = said_of(alloc, kind, cut.as_bytes())?;
         let is_read = said.as_str() != "NotToml";
-        assert_eq!(rt; is_read, is_toml_text(text), "{said}: {text}");
-        assert!(rt; said.as_str() != "OutOfMemory", "{text}");
+        if is_read != is_toml_text(cut) || said.as_str() == "OutOfMemory" {
+            return Ok(n);
+        }
     }
-    Ok(())
+    Ok(text.len())
 }
 
 #[test]
-fn changes_are_cut_at_every_length(rt: HostRuntime) -> Result<(), Fail> {
+fn a_text_is_cut_at_every_length(rt: HostRuntime) -> Result<(), Fail> {
     let alloc = rt.alloc();
-    for n in 0..=CHANGES.len() {
-        let text = CHANGES.get(..n).ok_or("half a character")?;
-        let said = of_changes(alloc, text.as_bytes())?;
-        let is_read = said.as_str() != "NotToml";
-        assert_eq!(rt; is_read, is_toml_text(text), "{said}: {text}");
-        assert!(rt; said.as_str() != "OutOfMemory", "{text}");
+    for (kind, text) in &TEXTS {
+        let length = right_cuts(alloc, *kind, text)?;
+        let said = said_of(alloc, *kind, text.as_bytes())?;
+        assert_eq!(rt; length, text.len());
+        assert_eq!(rt; said.as_str(), "ok");
     }
     Ok(())
 }
@@ -92,37 +94,32 @@ fn replaced(alloc: Global, text: &str, place: usize, other: u8) -> Result<Vec<u8
     Ok(octets)
 }
 
-/// Each octet in turn is replaced by each of 16 others: by half of them the text is TOML no more.
-#[test]
-fn each_octet_of_settings_is_replaced(rt: HostRuntime) -> Result<(), Fail> {
-    let alloc = rt.alloc();
-    for place in 0..ENDPOINT.len() {
-        for other in &NOWHERE {
-            let said = of_settings(alloc, &replaced(alloc, ENDPOINT, place, *other)?)?;
-            assert_eq!(rt; said.as_str(), "NotToml", "{other} at {place}");
-        }
-        for other in &SOMEWHERE {
-            let said = of_settings(alloc, &replaced(alloc, ENDPOINT, place, *other)?)?;
-            assert!(rt; said.as_str() != "OutOfMemory", "{other} at {place}");
+/// Whether a text with another octet in a place is answered: as NotToml, for the half of them that stand nowhere.
+fn is_right_at(alloc: Global, kind: Kind, text: &str, place: usize) -> Result<bool, AllocError> {
+    for other in &NOWHERE {
+        let said = said_of(alloc, kind, &replaced(alloc, text, place, *other)?)?;
+        if said.as_str() != "NotToml" {
+            return Ok(false);
         }
     }
-    assert_eq!(rt; of_settings(alloc, ENDPOINT.as_bytes())?.as_str(), "ok");
-    Ok(())
+    for other in &SOMEWHERE {
+        let said = said_of(alloc, kind, &replaced(alloc, text, place, *other)?)?;
+        if said.as_str() == "OutOfMemory" {
+            return Ok(false);
+        }
+    }
+    Ok(true)
 }
 
+/// Each octet in turn is replaced by each of 16 others.
 #[test]
-fn each_octet_of_changes_is_replaced(rt: HostRuntime) -> Result<(), Fail> {
+fn each_octet_is_replaced(rt: HostRuntime) -> Result<(), Fail> {
     let alloc = rt.alloc();
-    for place in 0..CHANGES.len() {
-        for other in &NOWHERE {
-            let said = of_changes(alloc, &replaced(alloc, CHANGES, place, *other)?)?;
-            assert_eq!(rt; said.as_str(), "NotToml", "{other} at {place}");
-        }
-        for other in &SOMEWHERE {
-            let said = of_changes(alloc, &replaced(alloc, CHANGES, place, *other)?)?;
-            assert!(rt; said.as_str() != "OutOfMemory", "{other} at {place}");
+    for (kind, text) in &TEXTS {
+        for place in 0..text.len() {
+            let is_right = is_right_at(alloc, *kind, text, place)?;
+            assert!(rt; is_right, "octet {place}");
         }
     }
-    assert_eq!(rt; of_changes(alloc, CHANGES.as_bytes())?.as_str(), "ok");
     Ok(())
 }

@@ -1,5 +1,5 @@
 //! Texts that are thrown together from pieces, always the same.
-use crate::reading::{of_changes, of_settings};
+use crate::reading::{Kind, said_of};
 use std::alloc::{AllocError, Global};
 use std::test::Fail;
 use test_inputs::settings::ENDPOINT;
@@ -73,23 +73,29 @@ fn thrown(alloc: Global, state: &mut u64) -> Result<String, AllocError> {
     Ok(text)
 }
 
-/// Whatever is thrown together has a fault or a meaning, and the same when it is read again; as a comment it has none.
+/// Whether a text has a fault or a meaning, the same when it is read again, and none as a comment.
+fn is_answered(alloc: Global, text: &str) -> Result<bool, AllocError> {
+    let settings = said_of(alloc, Kind::Settings, text.as_bytes())?;
+    let again = said_of(alloc, Kind::Settings, text.as_bytes())?;
+    let changes = said_of(alloc, Kind::Changes, text.as_bytes())?;
+    let lines = text.replace(alloc, "\n", "\n# ")?.replace(alloc, "\r", "")?;
+    let mut commented = String::from_str(alloc, ENDPOINT)?;
+    commented.push_str("# ")?;
+    commented.push_str(&lines)?;
+    commented.push_str("\n")?;
+    let said = said_of(alloc, Kind::Settings, commented.as_bytes())?;
+    let is_memory = settings.as_str() == "OutOfMemory" || changes.as_str() == "OutOfMemory";
+    Ok(!is_memory && again.as_str() == settings.as_str() && said.as_str() == "ok")
+}
+
 #[test]
 fn whatever_is_thrown_together_is_answered(rt: HostRuntime) -> Result<(), Fail> {
     let alloc = rt.alloc();
     let mut state = 7348;
     for n in 0..2_000u16 {
         let text = thrown(alloc, &mut state)?;
-        let settings = of_settings(alloc, text.as_bytes())?;
-        let changes = of_changes(alloc, text.as_bytes())?;
-        let are_answered = settings.as_str() != "OutOfMemory" && changes.as_str() != "OutOfMemory";
-        assert!(rt; are_answered, "text {n}: {text}");
-        let again = of_settings(alloc, text.as_bytes())?;
-        assert_eq!(rt; again.as_str(), settings.as_str(), "text {n}: {text}");
-        let lines = text.replace(alloc, "\n", "\n# ")?.replace(alloc, "\r", "")?;
-        let commented = format!(in alloc; "{ENDPOINT}# {lines}\n")?;
-        let said = of_settings(alloc, commented.as_bytes())?;
-        assert_eq!(rt; said.as_str(), "ok", "text {n} as a comment: {text}");
+        let is_answered = is_answered(alloc, &text)?;
+        assert!(rt; is_answered, "text {n}: {text}");
     }
     Ok(())
 }

@@ -1,6 +1,9 @@
 //! What a call answered.
 use std::alloc::Global;
 
+/// The number of the request that is refused, beyond all that a call's case makes.
+const MOST: u16 = 500;
+
 /// What a call answered where memory may be refused.
 #[derive(Clone, Copy)]
 pub(crate) enum Answer {
@@ -20,6 +23,11 @@ impl Answer {
             (false, true) => Answer::Memory,
             (false, false) => Answer::Wrong,
         }
+    }
+
+    /// Of a text that is to be the expected one.
+    pub(crate) fn text(text: &[u8], expected: &[u8]) -> Answer {
+        Answer::of(text == expected, false)
     }
 
     /// Of a text that was the octet 7, and was to grow by what is expected.
@@ -45,4 +53,14 @@ pub(crate) fn request(alloc: Global, count: u16) {
     for _ in 0..count {
         let _ = Vec::<u8>::with_capacity(alloc, 1);
     }
+}
+
+/// How many requests for memory are granted before one is refused: 500 where none is.
+pub(crate) fn granted(alloc: Global) -> u16 {
+    for count in 0..MOST {
+        if Vec::<u8>::with_capacity(alloc, 1).is_err() {
+            return count;
+        }
+    }
+    MOST
 }

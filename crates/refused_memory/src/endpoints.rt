@@ -1,61 +1,86 @@
-//! Calls of an endpoint, and of what it decides.
+//! Calls with what an endpoint decides.
+ghost use Rattle.std.specs.Prelude.{◌≤◌, length};
+ghost use Rattle.endpoint_core.specs.Kept.{state_of};
+
 use crate::answer::{Answer, request};
+use crate::inputs;
 use endpoint_core::{Decision, Endpoint, result_text};
 use overlay_config::{Settings, settings_of};
-use std::alloc::Global;
+use std::alloc::{AllocError, Global};
 use std::test::Fail;
-use test_inputs::capture_texts::ONE_FRAME;
-use test_inputs::settings::ENDPOINT;
 
 /// The settings of two segments.
-fn settings(alloc: Global) -> Result<Settings, Fail> {
-    match settings_of(alloc, ENDPOINT.as_bytes()) {
+pub(crate) fn settings(alloc: Global) -> Result<Settings, Fail> {
+    match settings_of(alloc, inputs::endpoint().as_bytes()) {
         Ok(settings) => Ok(settings),
         Err(_) => Err(Fail::new("no settings")),
     }
 }
 
-/// Opens an endpoint.
-pub(crate) fn opened(alloc: Global, count: u16) -> Result<Answer, Fail> {
-    let settings = settings(alloc)?;
-    request(alloc, count);
-    Ok(Answer::of(Endpoint::open(alloc, settings).is_ok(), true))
+/// An endpoint with these settings.
+pub(crate) fn opened(alloc: Global, settings: Settings) -> Result<Endpoint, AllocError> {
+    Endpoint::open(alloc, settings)
+}
+
+/// What is decided of a frame at a port.
+fn frame<'a>(endpoint: &mut Endpoint, now: u64, port: u8, octets: &'a [u8]) -> Decision<'a>
+    requires moment { (state_of endpoint.old).moment ≤ now }
+    requires low { 1 ≤ port }
+    requires high { port ≤ length (state_of endpoint.old).bridges.settings.ports.ports }
+{
+    endpoint.frame(now, port, 14, octets)
+}
+
+/// What is decided of a frame at port 1, if there is one.
+fn decision<'a>(endpoint: &mut Endpoint, octets: &'a [u8]) -> Option<Decision<'a>> {
+    let now = endpoint.now();
+    if endpoint.ports() == 0 {
+        return None;
+    }
+    Some(frame(endpoint, now, 1, octets))
 }
 
 /// What is decided of the capture's frame at port 1.
-fn decided(endpoint: &mut Endpoint) -> Result<Decision<'static>, Fail> {
-    if endpoint.now() > 0 || endpoint.ports() < 1 {
-        return Err(Fail::new("no port at the first moment"));
+fn decided<'a>(alloc: Global) -> Result<Decision<'a>, Fail> {
+    let settings = settings(alloc)?;
+    let mut endpoint = opened(alloc, settings)?;
+    match decision(&mut endpoint, inputs::octets()) {
+        Some(decision) => Ok(decision),
+        None => Err(Fail::new("no port")),
     }
-    Ok(endpoint.frame(0, 1, 14, &ONE_FRAME[40..]))
+}
+
+/// Of a decision that is printed.
+fn printed(alloc: Global, decision: &Decision, expected: &str) -> Answer {
+    match result_text(alloc, decision) {
+        Ok(text) => Answer::text(text.as_slice(), expected.as_bytes()),
+        Err(_) => Answer::Memory,
+    }
 }
 
 /// Prints a decision.
 pub(crate) fn result(alloc: Global, count: u16) -> Result<Answer, Fail> {
-    let mut endpoint = Endpoint::open(alloc, settings(alloc)?)?;
-    let decision = decided(&mut endpoint)?;
+    let decision = decided(alloc)?;
     request(alloc, count);
-    Ok(match result_text(alloc, &decision) {
-        Ok(text) => Answer::of(
-            text.as_slice() == b"p2=14 p3=18 192.0.2.2=64".as_slice(),
-            false,
-        ),
-        Err(_) => Answer::Memory,
-    })
+    Ok(printed(alloc, &decision, inputs::result()))
 }
 
-/// Puts what leaves at port 2 behind an octet.
-pub(crate) fn emission(alloc: Global, count: u16) -> Result<Answer, Fail> {
-    let mut endpoint = Endpoint::open(alloc, settings(alloc)?)?;
-    let decision = decided(&mut endpoint)?;
+/// Of the first emission of a decision, which is put behind an octet.
+fn put(alloc: Global, count: u16, decision: &Decision, expected: &[u8]) -> Result<Answer, Fail> {
+    let mut out = Vec::from_slice(alloc, &[7])?;
     let Some(outcome) = decision.outcomes().first() else {
         return Err(Fail::new("no outcome"));
     };
     let Ok(emission) = &outcome.sent else {
         return Err(Fail::new("no emission"));
     };
-    let mut out = Vec::from_slice(alloc, &[7])?;
     request(alloc, count);
     let added = emission.append_to(&mut out);
-    Ok(Answer::grown(added.is_ok(), out.as_slice(), &ONE_FRAME[40..]))
+    Ok(Answer::grown(added.is_ok(), out.as_slice(), expected))
+}
+
+/// Puts what leaves at port 2 behind an octet.
+pub(crate) fn emission(alloc: Global, count: u16) -> Result<Answer, Fail> {
+    let decision = decided(alloc)?;
+    put(alloc, count, &decision, inputs::octets())
 }

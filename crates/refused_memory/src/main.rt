@@ -1,5 +1,6 @@
 //! Makes a call behind other requests for memory, and prints what it answered: `done`, `memory` where memory was refused,
-//! or `wrong`. Standard input has the call's name and how many requests come before it.
+//! or `wrong`; and how many requests were granted behind it. Standard input has the call's name and how many requests come
+//! before it.
 //!
 //! `tests/refused_memory.sh` runs it while the request of a fixed number is refused. As the requests before a call become
 //! more, the refused one goes through all that the call makes.
@@ -7,9 +8,14 @@
 
 mod answer;
 mod calls;
+mod captures;
 mod endpoints;
+mod inputs;
+mod openings;
+mod runs;
 mod texts;
 
+use crate::answer::granted;
 use crate::calls::make;
 use std::io;
 use std::test::Fail;
@@ -20,6 +26,9 @@ fn main(rt: HostRuntime) -> Result<(), Fail> {
     let Some((name, count)) = text.as_str().trim().split_once(' ') else {
         return Err(Fail::new("no name and no count"));
     };
-    rt.println(make(alloc, name, count.parse::<u16>()?)?.word())?;
+    let answer = make(alloc, name, count.trim().parse::<u16>()?)?;
+    let word = answer.word();
+    let granted = granted(alloc);
+    println!(rt; "{word} {granted}")?;
     Ok(())
 }

@@ -1,0 +1,147 @@
+//! Whole runs.
+ghost use Rattle.std.specs.Prelude.{◌≡◌, All, IfOk, None, length};
+ghost use Rattle.pcap_stream.specs.Source.{New};
+ghost use Rattle.stream_run.specs.Begun.{IsUnread};
+
+use crate::answer::{Answer, request};
+use crate::inputs;
+use crate::texts::printed;
+use capture_run::{RunFault, run_bytes};
+use dissector::{explain_bytes, sample};
+use pcap_stream::{DeviceFault, Output, Sink, Source, StdInput};
+use std::alloc::{AllocError, Global};
+use std::test::Fail;
+use stream_run::{StreamFault, run_streams};
+
+/// Runs the built-in sample.
+pub(crate) fn sampled(alloc: Global, count: u16) -> Answer {
+    request(alloc, count);
+    printed(sample(alloc), inputs::sample_says())
+}
+
+/// Explains a capture.
+pub(crate) fn explained(alloc: Global, count: u16, capture: &[u8], expected: &str) -> Answer {
+    request(alloc, count);
+    let text = explain_bytes(alloc, inputs::small().as_bytes(), capture, 4);
+    printed(text, expected)
+}
+
+/// Of a run over texts.
+fn ran_over(alloc: Global, ports: &[Vec<u8>], underlay: &[u8], expected: &str) -> Answer {
+    let settings = inputs::small().as_bytes();
+    let changes = inputs::changes().as_bytes();
+    match run_bytes(alloc, settings, changes, ports, underlay) {
+        Ok(outputs) => Answer::text(outputs.decisions.as_slice(), expected.as_bytes()),
+        Err(fault) => Answer::of(false, matches!(fault, RunFault::OutOfMemory)),
+    }
+}
+
+/// A run over texts.
+pub(crate) fn ran(alloc: Global, count: u16) -> Result<Answer, Fail> {
+    let ports = [Vec::from_slice(alloc, inputs::capture())?];
+    request(alloc, count);
+    Ok(ran_over(alloc, &ports, inputs::cut(), inputs::decisions()))
+}
+
+/// Counts what is written. It takes no memory.
+#[derive(Drop)]
+struct Counted {
+    octets: usize,
+}
+
+impl Output for Counted {
+    ghost written = { λ _. None };
+
+    ghost failures = { λ _. 0 };
+
+    fn write(&mut self, octets: &[u8]) -> Result<usize, DeviceFault> {
+        self.octets = self.octets.saturating_add(octets.len());
+        Ok(octets.len())
+    }
+}
+
+/// An input over octets in memory.
+type Octets<'a> = StdInput<&'a [u8]>;
+
+/// A source of which nothing was read.
+fn source<'a>(alloc: Global, octets: &'a [u8]) -> Result<Source<Octets<'a>>, AllocError>
+    ensures { IfOk result (λ source. source.standing ≡ New) }
+{
+    Source::new(alloc, StdInput::new(octets), 9)
+}
+
+/// Nothing was written yet.
+fn sink() -> Sink<Counted> {
+    Sink::new(Counted { octets: 0 })
+}
+
+/// The run over these streams.
+fn run_over<'a>(
+    alloc: Global,
+    ports: &mut [Source<Octets<'a>>],
+    underlay: &mut Source<Octets<'a>>,
+    sinks: &mut [Sink<Counted>],
+    underlay_sink: &mut Sink<Counted>,
+    decisions: &mut Counted,
+) -> Result<(), StreamFault>
+    requires sinks { length sinks.old ≡ length ports.old }
+    requires new_ports { All IsUnread ports.old }
+    requires new_underlay { IsUnread underlay.old }
+{
+    run_streams(
+        alloc,
+        inputs::small().as_bytes(),
+        inputs::changes().as_bytes(),
+        ports,
+        underlay,
+        sinks,
+        underlay_sink,
+        decisions,
+    )
+}
+
+/// Of a run that wrote so many octets of lines and of packets. Where memory is refused, there are none.
+fn told(end: Result<(), StreamFault>, lines: usize, packets: usize) -> Answer {
+    match end {
+        Ok(()) => Answer::of(
+            lines == inputs::decisions().len() && packets == inputs::PACKETS,
+            false,
+        ),
+        Err(fault) => {
+            let is_memory = matches!(fault, StreamFault::Run(RunFault::OutOfMemory));
+            Answer::of(false, is_memory && lines == 0 && packets == 0)
+        }
+    }
+}
+
+/// Of a run over these captures.
+fn streamed_over<'a>(
+    alloc: Global,
+    port: Source<Octets<'a>>,
+    mut underlay: Source<Octets<'a>>,
+) -> Answer
+    requires port { port.standing ≡ New }
+    requires underlay { underlay.standing ≡ New }
+{
+    let mut ports = [port];
+    let mut sinks = [sink()];
+    let mut underlay_sink = sink();
+    let mut decisions = Counted { octets: 0 };
+    let end = run_over(
+        alloc,
+        &mut ports,
+        &mut underlay,
+        &mut sinks,
+        &mut underlay_sink,
+        &mut decisions,
+    );
+    told(end, decisions.octets, underlay_sink.into_inner().octets)
+}
+
+/// A run over streams.
+pub(crate) fn streamed(alloc: Global, count: u16) -> Result<Answer, Fail> {
+    let port = source(alloc, inputs::capture())?;
+    let underlay = source(alloc, inputs::cut())?;
+    request(alloc, count);
+    Ok(streamed_over(alloc, port, underlay))
+}

@@ -54,6 +54,11 @@ pub fn moment_of(slot: &Slot) -> u64 {
 pub fn count_of(slots: &Slots) -> usize {
     slots.slots.len()
 }
+
+#[test]
+fn nothing_is_run(rt: HostRuntime) {
+    assert!(rt; true);
+}
 TEXT
 
 # The decision about a packet borrows its octets: it can't outlive them.

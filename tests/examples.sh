@@ -14,7 +14,7 @@ complain() {
     status=1
 }
 
-# is_taken LINE SETTINGS [CHANGES]: the texts are taken, and this is said of them
+# is_taken LINES SETTINGS [CHANGES]: the texts are taken, and this is said of them
 is_taken() {
     local said
     said=$(./tep check --settings "examples/$2" ${3:+--changes "examples/$3"} 2>&1)
@@ -22,7 +22,8 @@ is_taken() {
 }
 
 is_taken "ok: 4 ports, 3 segments, 16 changes" every_key.toml every_change.toml
-is_taken "ok: 3 ports, 2 segments, 8 changes" a.toml segments.toml
+is_taken "ok: 3 ports, 2 segments, 8 changes
+change 7 at 7000000000: refused 12 PoolFull" a.toml segments.toml
 is_taken "ok: 3 ports, 2 segments, 2 changes" two_tunnels.toml two_tunnels_changes.toml
 is_taken "ok: 3 ports, 1 segments, 0 changes" linux/settings.toml
 is_taken "ok: 3 ports, 2 segments, 0 changes" openvswitch.toml

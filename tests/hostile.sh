@@ -99,8 +99,14 @@ for path in "$folder"/settings\ * "$folder"/changes\ *; do
         settings) words=(--settings "$path") ;;
         *) words=(--settings "$folder/good" --changes "$path") ;;
     esac
-    timeout 10 ./tep check "${words[@]}" >"$folder/said" 2>&1
+    timeout 10 ./tep check "${words[@]}" >"$folder/printed" 2>"$folder/said"
     ended=$?
+    # What is printed of a fault is cut to a line's length; of texts that are taken it is all that is said.
+    [ "$fault" != ok ] || cat "$folder/printed" >>"$folder/said"
+    if [ "$(wc -c <"$folder/printed")" -gt 1000 ]; then
+        echo "tests/hostile.sh: of $kind $number $(wc -c <"$folder/printed") octets are printed"
+        status=1
+    fi
     if [ "$fault" = ok ]; then
         wanted="ok: 1 ports, 1 segments, 0 changes" wanted_end=0
     else

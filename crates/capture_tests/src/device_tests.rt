@@ -41,31 +41,52 @@ impl Write for Interrupted {
     }
 }
 
+/// Whether a read and a write of an octet that are interrupted so many times are answered so.
+fn is_answered(left: u8, wanted: Result<usize, DeviceFault>) -> bool {
+    let mut input = StdInput::new(Interrupted { left });
+    let mut output = StdOutput::new(Interrupted { left });
+    input.read(&mut [0]) == wanted && output.write(&[0]) == wanted
+}
+
 #[test]
 fn tries_again_sixteen_times(rt: HostRuntime) {
-    for (left, answered) in [(0, Ok(0)), (16, Ok(0)), (17, Err(DeviceFault))] {
-        let mut input = StdInput::new(Interrupted { left });
-        assert_eq!(rt; input.read(&mut [0]), answered, "{left} interruptions");
-        let mut output = StdOutput::new(Interrupted { left });
-        assert_eq!(rt; output.write(&[0]), answered, "{left} interruptions");
+    assert!(rt; is_answered(0, Ok(0)), "no interruption");
+    assert!(rt; is_answered(16, Ok(0)), "16 interruptions");
+    assert!(rt; is_answered(17, Err(DeviceFault)), "17 interruptions");
+}
+
+/// Copies a record; whether there was one, and it was read and written.
+fn copies_one<R: Input, W: Output>(source: &mut Source<R>, sink: &mut Sink<W>) -> bool
+    requires { source.old.standing ≢ New }
+    ensures { source.new.standing ≢ New }
+{
+    if source.fill().is_err() {
+        return false;
     }
+    match source.head() {
+        Some(record) => sink
+            .put(record.moment, &[], record.octets, &[], &[])
+            .is_ok(),
+        None => false,
+    }
+}
+
+/// Copies a capture of two records; whether it was read and written.
+fn copies_two<R: Input, W: Output>(source: &mut Source<R>, sink: &mut Sink<W>) -> bool
+    requires { source.old.standing ≡ New }
+{
+    source.open().is_ok()
+        && sink.begin().is_ok()
+        && copies_one(source, sink)
+        && copies_one(source, sink)
 }
 
 #[test]
 fn copies_over_standard_devices(rt: HostRuntime) -> Result<(), Fail> {
     let mut source = Source::new(rt.alloc(), StdInput::new(TWO_RECORDS), 100)?;
     let mut sink = Sink::new(StdOutput::new(Vec::new(rt.alloc())));
-    assert!(rt; source.open().is_ok());
-    assert!(rt; sink.begin().is_ok());
-    for _ in 0..2 {
-        assert!(rt; source.fill().is_ok());
-        let record = source.head().ok_or("a record")?;
-        assert!(rt;
-            sink.put(record.moment, &[], record.octets, &[], &[])
-                .is_ok()
-        );
-    }
+    assert!(rt; copies_two(&mut source, &mut sink));
     let written = sink.into_inner().into_inner();
-    assert_eq!(rt; written.as_slice(), TWO_RECORDS);
+    assert!(rt; written.as_slice() == TWO_RECORDS);
     Ok(())
 }

@@ -1,5 +1,5 @@
 //! Captures that are written, and read again.
-use pcap_io::{Capture, put_header, put_record};
+use pcap_io::{Capture, Record, put_header, put_record};
 use std::alloc::{AllocError, Global};
 use std::test::Fail;
 
@@ -8,11 +8,16 @@ const WRITTEN: &[u8] = b"\x4D\x3C\xB2\xA1\x02\0\x04\0\0\0\0\0\0\0\0\0\0\0\x04\0\
 \x01\0\0\0\0\x65\xCD\x1D\x0A\0\0\0\x0A\0\0\0\x01\x02\x03\x04\x81\0\0\x0A\x08\x06\
 \xFF\xFF\xFF\xFF\xFF\xC9\x9A\x3B\0\0\0\0\0\0\0\0";
 
+/// Whether what is written is so many octets of it.
+fn are_written(out: &[u8], length: usize) -> bool {
+    Some(out) == WRITTEN.get(..length)
+}
+
 #[test]
 fn writes_little_endian_nanoseconds(rt: HostRuntime) -> Result<(), Fail> {
     let mut out = Vec::new(rt.alloc());
     put_header(&mut out)?;
-    assert_eq!(rt; out.as_slice(), &WRITTEN[..24], "the header");
+    assert!(rt; are_written(&out, 24), "the header");
     put_record(
         &mut out,
         1_500_000_000,
@@ -21,9 +26,9 @@ fn writes_little_endian_nanoseconds(rt: HostRuntime) -> Result<(), Fail> {
         b"\x81\0\0\x0A",
         b"\x08\x06",
     )?;
-    assert_eq!(rt; out.as_slice(), &WRITTEN[..50], "a record in four parts");
+    assert!(rt; are_written(&out, 50), "a record in four parts");
     put_record(&mut out, 4_294_967_295_999_999_999, b"", b"", b"", b"")?;
-    assert_eq!(rt; out.as_slice(), WRITTEN, "a record of nothing");
+    assert!(rt; are_written(&out, WRITTEN.len()), "a record of nothing");
     Ok(())
 }
 
@@ -36,6 +41,17 @@ fn longest(alloc: Global) -> Result<Vec<u8>, AllocError> {
     Ok(out)
 }
 
+/// Whether a record is that one.
+fn is_longest(record: &Record) -> bool {
+    record.moment == 7
+        && record.original == 262_144
+        && record.octets.len() == 262_144
+        && record
+            .octets
+            .starts_with(b"\x01\x01\x01\x01\x01\x01\x01\x01\x01\x01\x01\x01\xA5")
+        && record.octets.last() == Some(&0xA5)
+}
+
 #[test]
 fn writes_and_reads_the_longest_record(rt: HostRuntime) -> Result<(), Fail> {
     let text = longest(rt.alloc())?;
@@ -43,13 +59,7 @@ fn writes_and_reads_the_longest_record(rt: HostRuntime) -> Result<(), Fail> {
     let Some(Ok(record)) = capture.next() else {
         panic!(rt; "no record");
     };
-    assert_eq!(rt; (record.moment, record.original), (7, 262_144));
-    assert_eq!(rt; record.octets.len(), 262_144);
-    assert_eq!(rt;
-        &record.octets[..13],
-        b"\x01\x01\x01\x01\x01\x01\x01\x01\x01\x01\x01\x01\xA5".as_slice()
-    );
-    assert_eq!(rt; record.octets.last(), Some(&0xA5));
+    assert!(rt; is_longest(&record));
     assert!(rt; capture.next().is_none());
     Ok(())
 }

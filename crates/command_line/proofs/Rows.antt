@@ -1,5 +1,5 @@
 -- What some lines mean, computed.
-use Rattle.std.proofs.Common.{◌≡◌, refl, codes, [], ◌∷◌, Some, None, false}
+use Rattle.std.proofs.Common.{◌≡◌, refl, codes, [], ◌∷◌, Some, None, false, true}
 use Rattle.clap.specs.Words.{takes}
 use Rattle.clap.proofs.OnLiterals.{clap_on_literals}
 use Rattle.command_line.specs.App.{tep_app}
@@ -10,24 +10,34 @@ unfolding clap_on_literals
 no_words = refl
 
 a_check : words_meant (codes "tep" ∷ codes "check" ∷ codes "--settings=s" ∷ codes "--changes" ∷ codes "c" ∷ [])
-    ≡ Some (check (codes "s") (Some (codes "c")))
+    ≡ Some (check (codes "s") (Some (codes "c")) None [])
 unfolding clap_on_literals
 a_check = refl
 
+a_check_of_captures : words_meant (codes "tep" ∷ codes "check" ∷ codes "-s" ∷ codes "s" ∷ codes "-u" ∷ codes "u" ∷ codes "p1" ∷ codes "p2" ∷ [])
+    ≡ Some (check (codes "s") None (Some (codes "u")) (codes "p1" ∷ codes "p2" ∷ []))
+unfolding clap_on_literals
+a_check_of_captures = refl
+
 a_run : words_meant (codes "tep" ∷ codes "run" ∷ codes "--settings" ∷ codes "s" ∷ codes "--underlay" ∷ codes "u" ∷ codes "--out" ∷ codes "d" ∷ codes "p1" ∷ codes "p2" ∷ [])
-    ≡ Some (run (codes "s") None (codes "u") (codes "d") (codes "p1" ∷ codes "p2" ∷ []))
+    ≡ Some (run (codes "s") None (codes "u") (codes "d") (codes "p1" ∷ codes "p2" ∷ []) false None [])
 unfolding clap_on_literals
 a_run = refl
+
+a_run_that_tells : words_meant (codes "tep" ∷ codes "run" ∷ codes "-ss" ∷ codes "-uu" ∷ codes "-od" ∷ codes "p1" ∷ codes "--tables" ∷ codes "--tables-at=70" ∷ codes "--why" ∷ codes "7" ∷ codes "--why" ∷ codes "u:1" ∷ [])
+    ≡ Some (run (codes "s") None (codes "u") (codes "d") (codes "p1" ∷ []) true (Some 70) (codes "7" ∷ codes "u:1" ∷ []))
+unfolding clap_on_literals
+a_run_that_tells = refl
 
 a_run_without_ports_is_refused : takes tep_app (codes "tep" ∷ codes "run" ∷ codes "--settings" ∷ codes "s" ∷ codes "--underlay" ∷ codes "u" ∷ codes "--out" ∷ codes "d" ∷ []) ≡ false
 unfolding clap_on_literals
 a_run_without_ports_is_refused = refl
 
-an_explanation : words_meant (codes "tep" ∷ codes "explain" ∷ codes "--settings" ∷ codes "s" ∷ codes "c" ∷ []) ≡ Some (explain (codes "s") 4 (codes "c"))
+an_explanation : words_meant (codes "tep" ∷ codes "explain" ∷ codes "--settings" ∷ codes "s" ∷ codes "c" ∷ []) ≡ Some (explain (codes "s") 4 false (codes "c"))
 unfolding clap_on_literals
 an_explanation = refl
 
-an_explanation_of_three : words_meant (codes "tep" ∷ codes "explain" ∷ codes "--depth=3" ∷ codes "c" ∷ codes "--settings" ∷ codes "s" ∷ []) ≡ Some (explain (codes "s") 3 (codes "c"))
+an_explanation_of_three : words_meant (codes "tep" ∷ codes "explain" ∷ codes "--depth=3" ∷ codes "--values" ∷ codes "c" ∷ codes "--settings" ∷ codes "s" ∷ []) ≡ Some (explain (codes "s") 3 true (codes "c"))
 unfolding clap_on_literals
 an_explanation_of_three = refl
 

@@ -1,13 +1,15 @@
 -- The program's command is simple, and what that says of a parse.
 use Rattle.std.proofs.Common.{◌≡◌, ◌∙◌, ap, sym, refl, Bool, true, false}
-use Rattle.std.proofs.Common.{List, Option, [], ℕ, subst, inl, inr}
+use Rattle.std.proofs.Common.{List, Option, Some, None, [], ℕ, subst, inl, inr}
 use Rattle.clap.specs.Words.{App, HasKind, HasMatchesOf, IsAmong, fault_of, is_simple, is_simple_and_free, kind_of, subcommand_of, subcommand_rows_of, takes}
 use Rattle.clap.specs.declared.parser.matches.ArgMatches.{ArgMatches}
 use Rattle.clap.specs.declared.error.Error.{Error}
 use Rattle.clap.specs.declared.error.ErrorKind.TheVariants.{OutOfMemory}
 use Rattle.clap.proofs.OnLiterals.{clap_on_literals}
 use Rattle.command_line.specs.App.{tep_app}
-use Rattle.command_line.specs.Meaning.{Meaning, line_meant, words_meant}
+use Rattle.command_line.specs.Meaning.{Explains, LacksValue, Meaning, line_meant, words_meant}
+use Rattle.command_line.specs.declared.line.LineFault.{LineFault}
+use Rattle.command_line.specs.declared.line.LineFault.TheVariants as fault
 
 pub tep-simple : is_simple tep_app ≡ true
 unfolding clap_on_literals
@@ -42,3 +44,10 @@ meant_by a words m meaning is has meant =
     let both = subst (λ (x : App). HasMatchesOf x words m) is has tep-simple in
     let rows : subcommand_rows_of m ≡ subcommand_of tep_app words = both.1 in
     ap line_meant (sym rows) ∙ meant
+
+pub explained_by : (a : App) (words : List (List ℕ)) (m : ArgMatches) (f : LineFault) → a ≡ tep_app → HasMatchesOf a words m
+    → (is_simple_and_free a ≡ true → fault_of a words ≡ []) → LacksValue (line_meant (subcommand_rows_of m)) f → Explains words f
+explained_by a words m fault.OutOfMemory is has none lacks = tt
+explained_by a words m (fault.Refused e) is has none lacks = absurd lacks
+explained_by a words m fault.NoValue is has none lacks = (taken_by a words is none, meant_by a words m None is has lacks)
+explained_by a words m fault.InputTwice is has none lacks = absurd lacks

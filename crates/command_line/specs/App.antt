@@ -1,8 +1,8 @@
 -- What `clap` is told of the program: its commands and their arguments. It serves to say what a command line means.
-use Rattle.std.specs.Prelude.{codes, true, Some, pos, [], ◌∷◌}
+use Rattle.std.specs.Prelude.{codes, true, false, Some, pos, [], ◌∷◌, ◌^◌, ◌-◌}
 use Rattle.clap.specs.Words.{App, Rule, Shape, new_app, new_rule, with_rule, with_subcommand}
 use Rattle.clap.specs.Lexer.{usize_max}
-use Rattle.clap.specs.declared.builder.action.ArgAction.TheVariants.{Set, Append}
+use Rattle.clap.specs.declared.builder.action.ArgAction.TheVariants.{Set, Append, SetTrue}
 use Rattle.clap.specs.declared.builder.value_parser.ValueParser.TheVariants as parser
 
 -- ---- the arguments: no name of a file or a folder is the empty text
@@ -39,6 +39,10 @@ underlay_rule = record (new_rule (codes "underlay")) {
   parser = Some parser.NonEmptyString;
 }
 
+-- the same where it may be left out
+abbrev pub seen_underlay_rule : Rule
+seen_underlay_rule = record underlay_rule { required = false }
+
 -- `-o DIR`, `--out DIR`, required
 abbrev pub out_rule : Rule
 out_rule = record (new_rule (codes "out")) {
@@ -60,6 +64,35 @@ ports_rule = record (new_rule (codes "ports")) {
   parser = Some parser.NonEmptyString;
 }
 
+-- the same where they may be left out
+abbrev pub seen_ports_rule : Rule
+seen_ports_rule = record ports_rule { required = false }
+
+-- `--tables`
+abbrev pub tables_rule : Rule
+tables_rule = record (new_rule (codes "tables")) {
+  long = Some (codes "tables");
+  action = Some SetTrue;
+}
+
+-- `--tables-at MOMENT`, a number of 64 bits
+abbrev pub tables_at_rule : Rule
+tables_at_rule = record (new_rule (codes "tables-at")) {
+  long = Some (codes "tables-at");
+  value_names = 1;
+  action = Some Set;
+  parser = Some (parser.Unsigned 0 (2 ^ 64 - 1));
+}
+
+-- `--why EVENT`, as often as wanted
+abbrev pub why_rule : Rule
+why_rule = record (new_rule (codes "why")) {
+  long = Some (codes "why");
+  value_names = 1;
+  action = Some Append;
+  parser = Some parser.NonEmptyString;
+}
+
 -- `-d N`, `--depth N`, a number of 1 to 4, by default 4
 abbrev pub depth_rule : Rule
 depth_rule = record (new_rule (codes "depth")) {
@@ -69,6 +102,13 @@ depth_rule = record (new_rule (codes "depth")) {
   action = Some Set;
   parser = Some (parser.Signed (pos 1) (pos 4));
   defaults = codes "4" ∷ [];
+}
+
+-- `--values`
+abbrev pub values_rule : Rule
+values_rule = record (new_rule (codes "values")) {
+  long = Some (codes "values");
+  action = Some SetTrue;
 }
 
 -- one capture
@@ -87,24 +127,36 @@ abbrev pub run_settings_app : App
 run_settings_app = with_rule (with_rule (new_app (codes "run")) settings_rule) changes_rule
 
 -- `run` with its captures and its folder
+abbrev pub run_captures_app : App
+run_captures_app = with_rule (with_rule (with_rule run_settings_app underlay_rule) out_rule) ports_rule
+
+-- `run` with what it tells besides
 abbrev pub run_app : App
-run_app = with_rule (with_rule (with_rule run_settings_app underlay_rule) out_rule) ports_rule
+run_app = with_rule (with_rule (with_rule run_captures_app tables_rule) tables_at_rule) why_rule
 
 -- what `clap` keeps of `run`
 abbrev pub run_shape : Shape
 run_shape = run_app.top
 
 -- `check` with the texts that it reads
+abbrev pub check_texts_app : App
+check_texts_app = with_rule (with_rule (new_app (codes "check")) settings_rule) changes_rule
+
+-- `check` with the captures that it looks at
 abbrev pub check_app : App
-check_app = with_rule (with_rule (new_app (codes "check")) settings_rule) changes_rule
+check_app = with_rule (with_rule check_texts_app seen_underlay_rule) seen_ports_rule
 
 -- what `clap` keeps of `check`
 abbrev pub check_shape : Shape
 check_shape = check_app.top
 
--- `explain` with a settings text, a depth and a capture
+-- `explain` with a settings text and a depth
+abbrev pub explain_depth_app : App
+explain_depth_app = with_rule (with_rule (new_app (codes "explain")) settings_rule) depth_rule
+
+-- `explain` with whether values are told, and a capture
 abbrev pub explain_app : App
-explain_app = with_rule (with_rule (with_rule (new_app (codes "explain")) settings_rule) depth_rule) capture_rule
+explain_app = with_rule (with_rule explain_depth_app values_rule) capture_rule
 
 -- what `clap` keeps of `explain`
 abbrev pub explain_shape : Shape

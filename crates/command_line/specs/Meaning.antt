@@ -1,5 +1,5 @@
 -- What a command line means: the program's own words, after clap's definition of simple commands.
-use Rattle.std.specs.Prelude.{◌≡◌, ◌≤◌, ℕ, ◌&&◌, nat_le, List, Option, Some, None, IsSomeAnd, codes, count_by, option_and_then, option_map, if◌then◌else◌, ⊤, false, [], ◌∷◌}
+use Rattle.std.specs.Prelude.{◌≡◌, ◌≤◌, ℕ, ◌&&◌, nat_le, ◌^◌, ◌-◌, Bool, List, Option, Some, None, IsSomeAnd, codes, count_by, option_and_then, option_map, unwrap_or, if◌then◌else◌, ⊤, false, [], ◌∷◌}
 use Rattle.std.specs.Str.{bytes_eq}
 use Rattle.std.specs.Str.Parse.{digits_value, without_leading_plus}
 use Rattle.clap.specs.ValueTests.{is_unsigned_in}
@@ -12,30 +12,33 @@ use Rattle.command_line.specs.declared.line.Line.TheVariants as line
 use Rattle.command_line.specs.declared.line.LineFault.{LineFault}
 use Rattle.command_line.specs.declared.line.LineFault.TheVariants as fault
 
--- a command with its values: of `run` the settings, the changes, the underlay, the folder and the ports; of `check` the
--- settings and the changes; of `explain` the settings, the depth and the capture; of `migrate` the settings
+-- a command with its values: of `run` the settings, the changes, the underlay, the folder, the ports, whether the tables are
+-- told, the moment at which they are, and the events that are told in full; of `check` the
+-- settings, the changes, the underlay and the ports; of `explain` the settings, the depth, whether values are told, and the
+-- capture; of `migrate` the settings
 pub data Meaning : Type 0 where
   sample : Meaning
-  run : Text → Option Text → Text → Text → List Text → Meaning
-  check : Text → Option Text → Meaning
-  explain : Text → ℕ → Text → Meaning
+  run : Text → Option Text → Text → Text → List Text → Bool → Option ℕ → List Text → Meaning
+  check : Text → Option Text → Option Text → List Text → Meaning
+  explain : Text → ℕ → Bool → Text → Meaning
   migrate : Text → Meaning
 
 -- what a command line is as such a meaning
 abbrev pub meaning_of : Line → Meaning
 meaning_of line.Sample = sample
-meaning_of (line.Run settings changes underlay out ports) =
-    run settings.now (option_map (λ t. t.now) changes) underlay.now out.now (texts ports.items)
-meaning_of (line.Check settings changes) = check settings.now (option_map (λ t. t.now) changes)
-meaning_of (line.Explain settings depth capture) = explain settings.now depth capture.now
+meaning_of (line.Run settings changes underlay out ports tables tables_at why) =
+    run settings.now (option_map (λ t. t.now) changes) underlay.now out.now (texts ports.items) tables tables_at (texts why.items)
+meaning_of (line.Check settings changes underlay ports) =
+    check settings.now (option_map (λ t. t.now) changes) (option_map (λ t. t.now) underlay) (texts ports.items)
+meaning_of (line.Explain settings depth values capture) = explain settings.now depth values capture.now
 meaning_of (line.Migrate settings) = migrate settings.now
 
 -- a depth is 1 to 4
 abbrev pub HasDepth : Line → Type 0
 HasDepth line.Sample = ⊤
-HasDepth (line.Run settings changes underlay out ports) = ⊤
-HasDepth (line.Check settings changes) = ⊤
-HasDepth (line.Explain settings depth capture) = (1 ≤ depth) × (depth ≤ 4)
+HasDepth (line.Run settings changes underlay out ports tables tables_at why) = ⊤
+HasDepth (line.Check settings changes underlay ports) = ⊤
+HasDepth (line.Explain settings depth values capture) = (1 ≤ depth) × (depth ≤ 4)
 HasDepth (line.Migrate settings) = ⊤
 
 -- ---- what matches mean: nothing, where a required value is missing
@@ -60,19 +63,44 @@ small_depth depth = if nat_le 1 depth && nat_le depth 4 then Some depth else Non
 abbrev pub depth_in : List Row → Option ℕ
 depth_in rows = option_and_then depth_of (one_of (codes "depth") rows)
 
+-- whether the value of a flag says that it is set
+abbrev pub set_by : Option Text → Bool
+set_by None = false
+set_by (Some t) = bytes_eq t (codes "true")
+
+-- whether a flag is set
+abbrev pub is_set : Text → List Row → Bool
+is_set id rows = set_by (first_of id rows)
+
+-- the captures of ports, where some are named
+abbrev pub seen_ports : List Row → List Text
+seen_ports rows = unwrap_or (all_of (codes "ports") rows) []
+
+-- the number of 64 bits that a text is
+abbrev pub moment_of : Text → Option ℕ
+moment_of text = if is_unsigned_in 0 (2 ^ 64 - 1) text then Some (digits_value 10 (without_leading_plus text)) else None
+
+-- the moment at which tables are told, where one is named
+abbrev pub moment_in : List Row → Option ℕ
+moment_in rows = option_and_then moment_of (one_of (codes "tables-at") rows)
+
+-- the events that are told in full
+abbrev pub why_in : List Row → List Text
+why_in rows = unwrap_or (all_of (codes "why") rows) []
+
 -- what `run` is asked to do
 abbrev pub run_meant : List Row → Option Meaning
 run_meant rows = option_and_then (λ s. option_and_then (λ u. option_and_then (λ o.
-    option_map (λ ps. run s (changes_in rows) u o ps) (all_of (codes "ports") rows))
+    option_map (λ ps. run s (changes_in rows) u o ps (is_set (codes "tables") rows) (moment_in rows) (why_in rows)) (all_of (codes "ports") rows))
     (first_of (codes "out") rows)) (first_of (codes "underlay") rows)) (settings_in rows)
 
 -- what `check` is asked to do
 abbrev pub check_meant : List Row → Option Meaning
-check_meant rows = option_map (λ s. check s (changes_in rows)) (settings_in rows)
+check_meant rows = option_map (λ s. check s (changes_in rows) (first_of (codes "underlay") rows) (seen_ports rows)) (settings_in rows)
 
 -- what `explain` is asked to do
 abbrev pub explain_meant : List Row → Option Meaning
-explain_meant rows = option_and_then (λ s. option_and_then (λ c. option_map (λ d. explain s d c)
+explain_meant rows = option_and_then (λ s. option_and_then (λ c. option_map (λ d. explain s d (is_set (codes "values") rows) c)
     (depth_in rows)) (first_of (codes "capture") rows)) (settings_in rows)
 
 -- what `migrate` is asked to do
@@ -102,12 +130,13 @@ words_meant words = line_meant (subcommand_of tep_app words)
 abbrev pub inputs_among : List Text → ℕ
 inputs_among names = count_by (λ name. bytes_eq (file_of name) (codes "-")) names
 
--- how many captures are standard input; the texts of `run`, `check` and `migrate` are files, whatever their names
+-- how many captures are standard input; texts are files, whatever their names
 abbrev pub input_uses : Meaning → ℕ
 input_uses sample = 0
-input_uses (run settings changes underlay out ports) = inputs_among (underlay ∷ ports)
-input_uses (check settings changes) = 0
-input_uses (explain settings depth capture) = inputs_among (capture ∷ [])
+input_uses (run settings changes underlay out ports tables tables_at why) = inputs_among (underlay ∷ ports)
+input_uses (check settings changes None ports) = inputs_among ports
+input_uses (check settings changes (Some underlay) ports) = inputs_among (underlay ∷ ports)
+input_uses (explain settings depth values capture) = inputs_among (capture ∷ [])
 input_uses (migrate settings) = 0
 
 -- it is read once at most

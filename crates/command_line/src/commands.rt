@@ -2,9 +2,12 @@
 ghost use Rattle.std.specs.Prelude.{◌≡◌, IfOk, false};
 ghost use Rattle.clap.specs.Words.{app_of, new_app, rule_of, shape_of, with_rule};
 ghost use Rattle.clap.specs.declared.builder.Command.TheViews.{out-Command as fields_of};
-ghost use Rattle.command_line.specs.App.{check_shape, explain_shape, migrate_shape, run_and_check_app, run_check_and_explain_app, run_settings_app, run_shape, tep_app, versioned_app, with_run_app};
+ghost use Rattle.command_line.specs.App.{check_shape, check_texts_app, explain_depth_app, explain_shape, migrate_shape, run_and_check_app, run_check_and_explain_app, run_captures_app, run_settings_app, run_shape, tep_app, versioned_app, with_run_app};
 
-use crate::arguments::{capture, changes, depth, out, ports, settings, underlay};
+use crate::arguments::{
+    capture, changes, depth, out, ports, seen_ports, seen_underlay, settings, tables, tables_at,
+    underlay, values, why,
+};
 use clap::{Arg, Command};
 use std::alloc::{AllocError, Global};
 
@@ -20,17 +23,17 @@ fn example<'a>() -> &'a str {
 
 /// What stands below the help of `run`.
 fn run_example<'a>() -> &'a str {
-    "Captures are pcap or pcapng. FILE#INTERFACE takes one interface of a pcapng capture, by number or name.\n\nExamples:\n  tep run -s settings.toml -c changes.toml -u underlay.pcap -o out port1.pcap port2.pcap\n  tep run -s settings.toml -u all.pcapng#eth0 -o out all.pcapng#eth1 all.pcapng#eth2\n  cat out/decisions.txt"
+    "Captures are pcap or pcapng. FILE#INTERFACE takes one interface of a pcapng capture, by number or name.\n\nExamples:\n  tep run -s settings.toml -c changes.toml -u underlay.pcap -o out port1.pcap port2.pcap\n  tep run -s settings.toml -u underlay.pcap -o out --why 7 --why p2:1 --tables port1.pcap port2.pcap\n  tep run -s settings.toml -u all.pcapng#eth0 -o out all.pcapng#eth1 all.pcapng#eth2\n  cat out/decisions.txt"
 }
 
 /// What stands below the help of `check`.
 fn check_example<'a>() -> &'a str {
-    "Example:\n  tep check -s settings.toml -c changes.toml"
+    "Examples:\n  tep check -s settings.toml -c changes.toml\n  tep check -s settings.toml -u underlay.pcap port1.pcap port2.pcap"
 }
 
 /// What stands below the help of `explain`.
 fn explain_example<'a>() -> &'a str {
-    "A capture is pcap or pcapng. FILE#INTERFACE takes one interface of a pcapng capture, by number or name.\n\nExamples:\n  tep explain -s settings.toml -d 2 underlay.pcap\n  tep explain -s settings.toml all.pcapng#eth0"
+    "A capture is pcap or pcapng. FILE#INTERFACE takes one interface of a pcapng capture, by number or name.\n\nExamples:\n  tep explain -s settings.toml -d 2 underlay.pcap\n  tep explain -s settings.toml --values underlay.pcap\n  tep explain -s settings.toml all.pcapng#eth0"
 }
 
 /// What stands below the help of `migrate`.
@@ -70,9 +73,9 @@ fn run_settings<'a>(alloc: Global) -> Result<Command<'a>, AllocError>
     taking(command, changes(alloc))
 }
 
-/// `run`, with all that it takes.
-fn run<'a>(alloc: Global) -> Result<Command<'a>, AllocError>
-    ensures shape { IfOk result (λ c. shape_of c ≡ run_shape) }
+/// `run`, with its captures and its folder.
+fn run_captures<'a>(alloc: Global) -> Result<Command<'a>, AllocError>
+    ensures app { IfOk result (λ c. app_of c ≡ run_captures_app) }
     ensures local { IfOk result (λ c. (fields_of c).has_globals ≡ false) }
 {
     let command = taking(run_settings(alloc)?, underlay(alloc))?;
@@ -80,24 +83,43 @@ fn run<'a>(alloc: Global) -> Result<Command<'a>, AllocError>
     taking(command, ports(alloc))
 }
 
-/// `check`.
-fn check<'a>(alloc: Global) -> Result<Command<'a>, AllocError>
-    ensures shape { IfOk result (λ c. shape_of c ≡ check_shape) }
+/// `run`, with all that it takes.
+fn run<'a>(alloc: Global) -> Result<Command<'a>, AllocError>
+    ensures shape { IfOk result (λ c. shape_of c ≡ run_shape) }
+    ensures local { IfOk result (λ c. (fields_of c).has_globals ≡ false) }
+{
+    let command = taking(run_captures(alloc)?, tables(alloc))?;
+    let command = taking(command, tables_at(alloc))?;
+    taking(command, why(alloc))
+}
+
+/// The first two options of `check`.
+fn check_texts<'a>(alloc: Global) -> Result<Command<'a>, AllocError>
+    ensures app { IfOk result (λ c. app_of c ≡ check_texts_app) }
     ensures local { IfOk result (λ c. (fields_of c).has_globals ≡ false) }
 {
     let command = named(
         alloc,
         "check",
-        "Checks a settings text and a changes text",
+        "Checks a settings text, a changes text and captures",
         check_example(),
     );
     let command = taking(command, settings(alloc))?;
     taking(command, changes(alloc))
 }
 
-/// `explain`.
-fn explain<'a>(alloc: Global) -> Result<Command<'a>, AllocError>
-    ensures shape { IfOk result (λ c. shape_of c ≡ explain_shape) }
+/// `check`, with all that it takes.
+fn check<'a>(alloc: Global) -> Result<Command<'a>, AllocError>
+    ensures shape { IfOk result (λ c. shape_of c ≡ check_shape) }
+    ensures local { IfOk result (λ c. (fields_of c).has_globals ≡ false) }
+{
+    let command = taking(check_texts(alloc)?, seen_underlay(alloc))?;
+    taking(command, seen_ports(alloc))
+}
+
+/// The first two options of `explain`.
+fn explain_depth<'a>(alloc: Global) -> Result<Command<'a>, AllocError>
+    ensures app { IfOk result (λ c. app_of c ≡ explain_depth_app) }
     ensures local { IfOk result (λ c. (fields_of c).has_globals ≡ false) }
 {
     let command = named(
@@ -107,7 +129,15 @@ fn explain<'a>(alloc: Global) -> Result<Command<'a>, AllocError>
         explain_example(),
     );
     let command = taking(command, settings(alloc))?;
-    let command = taking(command, depth(alloc))?;
+    taking(command, depth(alloc))
+}
+
+/// `explain`, with all that it takes.
+fn explain<'a>(alloc: Global) -> Result<Command<'a>, AllocError>
+    ensures shape { IfOk result (λ c. shape_of c ≡ explain_shape) }
+    ensures local { IfOk result (λ c. (fields_of c).has_globals ≡ false) }
+{
+    let command = taking(explain_depth(alloc)?, values(alloc))?;
     taking(command, capture(alloc))
 }
 

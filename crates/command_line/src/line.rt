@@ -30,13 +30,23 @@ pub enum Line<'a> {
         out: &'a str,
         /// The captures of port 1, port 2 and so on: one at least.
         ports: Vec<&'a str>,
+        /// Whether the tables are told as they are behind the last event.
+        tables: bool,
+        /// The moment, in nanoseconds, at which they are told: behind the last event up to it.
+        tables_at: Option<u64>,
+        /// The events of which it is told why they came out as they did.
+        why: Vec<&'a str>,
     },
-    /// A look at the texts alone.
+    /// A look at the texts, and at the captures that are named.
     Check {
         /// The settings text's file.
         settings: &'a str,
         /// The changes text's file.
         changes: Option<&'a str>,
+        /// The capture of the underlay.
+        underlay: Option<&'a str>,
+        /// The captures of port 1, port 2 and so on.
+        ports: Vec<&'a str>,
     },
     /// The packets of a capture taken apart.
     Explain {
@@ -44,6 +54,8 @@ pub enum Line<'a> {
         settings: &'a str,
         /// How many tunnels are looked into: 1 to 4.
         depth: u8,
+        /// Whether the values of each head are told.
+        values: bool,
         /// The capture of the underlay that is explained.
         capture: &'a str,
     },
@@ -111,8 +123,14 @@ fn input_uses(line: &Line<'_>) -> usize
             ports,
             ..
         } => inputs_among(&[*underlay]) + inputs_among(ports.as_slice()),
+        Line::Check {
+            underlay: Some(underlay),
+            ports,
+            ..
+        } => inputs_among(&[*underlay]) + inputs_among(ports.as_slice()),
+        Line::Check { ports, .. } => inputs_among(ports.as_slice()),
         Line::Explain { capture, .. } => inputs_among(&[*capture]),
-        Line::Sample | Line::Check { .. } | Line::Migrate { .. } => 0,
+        Line::Sample | Line::Migrate { .. } => 0,
     }
 }
 

@@ -2,7 +2,7 @@
 ghost use Rattle.std.specs.Prelude.{◌≡◌, ◌≤◌, IfOk, IfErr, IfSome, Some, option_and_then, option_map};
 ghost use Rattle.clap.specs.Words.{all_of, first_of, found_of, rows_of, subcommand_rows_of};
 ghost use Rattle.clap.specs.Walk.{texts};
-ghost use Rattle.command_line.specs.Meaning.{HasDepth, LacksValue, check_meant, depth_in, explain_meant, line_meant, meaning_of, migrate_meant, run_meant, small_depth};
+ghost use Rattle.command_line.specs.Meaning.{HasDepth, LacksValue, check_meant, depth_in, explain_meant, is_set, line_meant, meaning_of, migrate_meant, moment_in, run_meant, small_depth};
 
 use crate::line::{Line, LineFault};
 use clap::ArgMatches;
@@ -19,7 +19,7 @@ pub(crate) fn line_from<'a>(alloc: Global, matches: &ArgMatches<'a>) -> Result<L
     };
     match name {
         "run" => run_from(alloc, inner),
-        "check" => check_from(inner),
+        "check" => check_from(alloc, inner),
         "explain" => explain_from(inner),
         "migrate" => migrate_from(inner),
         _ => Err(LineFault::NoValue),
@@ -40,6 +40,16 @@ fn values<'m, 'a>(inner: &'m ArgMatches<'a>, id: &str) -> Option<&'m [&'a str]>
     inner.get_raw(id)
 }
 
+/// Whether a flag is set.
+fn is_set(inner: &ArgMatches<'_>, id: &str) -> bool
+    ensures { result ≡ is_set id.now (rows_of (found_of inner.now)) }
+{
+    match text(inner, id) {
+        Some(value) => value == "true",
+        None => false,
+    }
+}
+
 /// The depth, where it is 1 to 4.
 fn depth(inner: &ArgMatches) -> Option<u8>
     ensures range { IfSome result (λ depth. (1 ≤ depth) × (depth ≤ 4)) }
@@ -53,6 +63,13 @@ fn small(depth: Option<u8>) -> Option<u8>
     ensures range { IfSome result (λ depth. (1 ≤ depth) × (depth ≤ 4)) }
 {
     depth.filter(|depth| (1..=4).contains(depth))
+}
+
+/// The moment at which tables are told.
+fn moment(inner: &ArgMatches) -> Option<u64>
+    ensures { result ≡ moment_in (rows_of (found_of inner.now)) }
+{
+    inner.get_one::<u64>("tables-at")
 }
 
 /// The line that asks for a run.
@@ -69,24 +86,41 @@ fn run_from<'a>(alloc: Global, inner: &ArgMatches<'a>) -> Result<Line<'a>, LineF
     let Ok(ports) = Vec::from_slice(alloc, given) else {
         return Err(LineFault::OutOfMemory);
     };
+    let asked = values(inner, "why").unwrap_or(&[]);
+    let Ok(why) = Vec::from_slice(alloc, asked) else {
+        return Err(LineFault::OutOfMemory);
+    };
     Ok(Line::Run {
         settings,
         changes,
         underlay,
         out,
         ports,
+        tables: is_set(inner, "tables"),
+        tables_at: moment(inner),
+        why,
     })
 }
 
-/// The line that asks for a look at the texts.
-fn check_from<'a>(inner: &ArgMatches<'a>) -> Result<Line<'a>, LineFault>
+/// The line that asks for a look at the texts, and at captures.
+fn check_from<'a>(alloc: Global, inner: &ArgMatches<'a>) -> Result<Line<'a>, LineFault>
     ensures ok { IfOk result (λ line. check_meant (rows_of (found_of inner.now)) ≡ Some (meaning_of line)) }
     ensures depth { IfOk result HasDepth }
     ensures fault { IfErr result (LacksValue (check_meant (rows_of (found_of inner.now)))) }
 {
     let settings = text(inner, "settings").ok_or(LineFault::NoValue)?;
     let changes = text(inner, "changes");
-    Ok(Line::Check { settings, changes })
+    let underlay = text(inner, "underlay");
+    let given = values(inner, "ports").unwrap_or(&[]);
+    let Ok(ports) = Vec::from_slice(alloc, given) else {
+        return Err(LineFault::OutOfMemory);
+    };
+    Ok(Line::Check {
+        settings,
+        changes,
+        underlay,
+        ports,
+    })
 }
 
 /// The line that asks for packets taken apart.
@@ -101,6 +135,7 @@ fn explain_from<'a>(inner: &ArgMatches<'a>) -> Result<Line<'a>, LineFault>
     Ok(Line::Explain {
         settings,
         depth,
+        values: is_set(inner, "values"),
         capture,
     })
 }

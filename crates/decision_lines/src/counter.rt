@@ -33,6 +33,14 @@ impl Counter {
         }
     }
 
+    /// The number itself.
+    #[inline]
+    pub fn value(&self) -> u64
+        ensures { result ≡ self.now }
+    {
+        self.value
+    }
+
     /// Adds one.
     #[inline]
     pub fn add_one(&mut self)

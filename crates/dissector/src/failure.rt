@@ -27,6 +27,9 @@ pub enum Failure<'a> {
     /// This couldn't be written.
     #[error("write {0}")]
     Write(OutputFile),
+    /// No event has one of the names that were asked for, of which this is the first.
+    #[error("why: no event {0}")]
+    NoEvent(&'a str),
 }
 
 /// What is written: a file within the folder for outputs, or the text on standard output.
@@ -80,13 +83,13 @@ impl<'a> Failure<'a> {
         }
     }
 
-    /// The exit status: 1 for a text or a capture that is refused, 3 for want of memory, a failed read or a failed write.
+    /// The exit status: 1 for a text or a capture that is refused or an event that isn't there, 3 for want of memory, a failed read or a failed write.
     pub fn status(&self) -> u8
         ensures { result ≡ failure_status_of self.now }
     {
         match self {
             Failure::Run(fault) => exit_code(fault),
-            Failure::Pcapng(..) => 1,
+            Failure::Pcapng(..) | Failure::NoEvent(_) => 1,
             Failure::Read(_) | Failure::Write(_) => 3,
         }
     }

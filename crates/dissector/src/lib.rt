@@ -4,7 +4,8 @@
 //! [`exit_code`] is the exit status of a [`RunFault`](capture_run::RunFault), and [`stream_code`] that of a
 //! [`StreamFault`](stream_run::StreamFault). [`read_text`] reads a whole text from any
 //! input in a bounded number of reads. [`line_of`] reads the program's words. [`explain_bytes`] takes the packets of a
-//! capture apart, and [`dissect`] one packet. A [`Failure`] is why the program gives up. No file is opened here.
+//! capture apart, with their [`Values`] or without, and [`dissect`] one packet. A [`Failure`] is why the program gives up.
+//! No file is opened here.
 #![tactic(auto)]
 
 mod check;
@@ -14,7 +15,7 @@ mod text;
 
 pub use check::check_text;
 pub use command_line::{CaptureName, Line, LineFault, STANDARD_INPUT, capture_name, line_of};
-pub use explanation::{explain, explain_bytes};
+pub use explanation::{Values, explain, explain_bytes};
 pub use failure::{Failure, OutputFile};
 pub use packet_layers::{Head, HeadKind, Layers, Span, Stop, dissect};
 pub use sample_run::sample;

@@ -66,6 +66,20 @@ impl<'a> Came<'a> {
         self.vid
     }
 
+    /// The place that it came from.
+    pub fn place(&self) -> Place
+        ensures { result ≡ self.now.from }
+    {
+        self.from
+    }
+
+    /// The frame.
+    pub fn frame(&self) -> &BridgeFrame<'a>
+        ensures { result.now ≡ self.now.frame }
+    {
+        &self.frame
+    }
+
     /// Computes what all packets with the frame share, where a place that it goes to is a remote endpoint.
     pub(crate) fn sum_for(&mut self, places: &[Place], underlay: &Underlay)
         ensures { self.new ≡ self.old }

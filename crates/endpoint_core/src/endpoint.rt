@@ -1,5 +1,6 @@
 //! The endpoint.
 ghost use Rattle.std.specs.Prelude.{◌≡◌, ◌≤◌, IfOk, IsSome, IsTrue, length};
+ghost use Rattle.std.specs.FinMap.{entries};
 ghost use Rattle.frame_view.specs.First.{fault_of};
 ghost use Rattle.endpoint_state.specs.Opened.{settings_told};
 ghost use Rattle.endpoint_core.specs.Decision.{octets_of};
@@ -20,13 +21,15 @@ use crate::emit::emit_in;
 use crate::{Course, Decision};
 use encapsulate::{Head, Leaving};
 use endpoint_state::{Change, ChangeFault, EndpointState};
-use filter_db::Place;
-use frame_view::{Reason, Vid};
+use filter_db::{Entry, Place};
+use frame_view::{Mac, Reason, Vid};
 use overlay_settings::Settings;
 use std::alloc::{AllocError, Global};
 use std::marker::Model;
 use tunnel_learning::Outlets;
 use underlay::Under;
+
+mod foresight;
 
 /// A tunnel endpoint, seen by contracts as what it keeps: the settings in force and the tables, the counts, and the moment
 /// of its last step. Moments are handed in, in nanoseconds, and never fall.
@@ -87,6 +90,14 @@ impl Endpoint {
         ensures { result.now ≡ (state_of self.now).bridges.settings.overlay }
     {
         self.state.under()
+    }
+
+    /// The live entries of a segment at the moment of the last step, each with its address, in the order of the
+    /// addresses; none where the VID has no segment. `AllocError`: there was no room for the list.
+    pub fn entries(&self, alloc: Global, vid: Vid) -> Result<Vec<(Mac, Entry)>, AllocError>
+        ensures { IfOk result (λ rows. rows.items ≡ entries ((state_of self.now).bridges.tables vid)) }
+    {
+        self.state.entries(alloc, vid, self.moment)
     }
 
     /// How often an outcome was decided in a segment, or in none: number 0 for what was sent, and a reason's number for

@@ -3,8 +3,9 @@
 //! An [`Endpoint`] is opened with settings. A local frame, an outer packet or a [`Change`] comes in at a moment that is
 //! handed in, and a frame or packet gets a [`Decision`]: why it goes nowhere, or an [`Outcome`] for each outlet, with the
 //! octets that leave there. A decision borrows the octets that came in, and not the endpoint. No step takes memory.
-//! [`result_text`] prints a decision. [`laws`] says that all answers are those of one learning bridge (IEEE 802.1Q) for each
-//! segment, asked by the events of its own segment alone.
+//! [`Endpoint::entries`] lists the live entries of a segment, and [`Endpoint::foresee_frame`] and
+//! [`Endpoint::foresee_packet`] tell a decision without a step. [`result_text`] prints a decision. [`laws`] says that all
+//! answers are those of one learning bridge (IEEE 802.1Q) for each segment, asked by the events of its own segment alone.
 #![tactic(auto)]
 
 mod arrival;
@@ -23,5 +24,5 @@ pub use decision::{Decision, Outcome};
 pub use encapsulate::{Head, Leaving};
 pub use endpoint::Endpoint;
 pub use endpoint_state::{Change, ChangeFault, Target};
-pub use text::result_text;
+pub use text::{put_addr, put_place, result_text};
 pub use tunnel_learning::Outlets;

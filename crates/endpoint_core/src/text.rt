@@ -57,8 +57,8 @@ fn put_outcome(text: &mut String, two_tunnels: bool, outcome: &Outcome) -> Resul
 }
 
 /// Puts a place: the number of a local port, or the address of a remote endpoint, behind the kind of its tunnel where
-/// the segment has two.
-fn put_place(text: &mut String, two_tunnels: bool, place: Place) -> Result<(), AllocError>
+/// the segment has two. `AllocError`: there was no room for it.
+pub fn put_place(text: &mut String, two_tunnels: bool, place: Place) -> Result<(), AllocError>
     ensures { OnOk result (string_bytes text.new ≡ string_bytes text.old ++ place_text two_tunnels place) }
 {
     match place {
@@ -96,8 +96,8 @@ fn put_sent(text: &mut String, sent: &Result<Emission, Reason>) -> Result<(), Al
     }
 }
 
-/// Puts an address: four decimals, or eight groups of four hexadecimal digits.
-fn put_addr(text: &mut String, addr: Addr) -> Result<(), AllocError>
+/// Puts an address: four decimals, or eight groups of four hexadecimal digits. `AllocError`: there was no room for it.
+pub fn put_addr(text: &mut String, addr: Addr) -> Result<(), AllocError>
     ensures { OnOk result (string_bytes text.new ≡ string_bytes text.old ++ addr_text addr) }
 {
     match addr {

@@ -1,7 +1,9 @@
 pub mod AfterLemmas
+pub mod AloneLemmas
 pub mod ChangeLemmas
 pub mod EffectLemmas
 pub mod EverywhereLemmas
+pub mod ForesightLemmas
 pub mod LaterLemmas
 pub mod OpenLemmas
 pub mod RoomLemmas

@@ -3,7 +3,7 @@
 //! them learn.
 //!
 //! [`EndpointState`] is opened with settings, and a [`Change`] is made to it or refused with a [`ChangeFault`]. It steps
-//! the bridge of a segment for a frame. No call but `open` takes memory. It knows no header of a packet.
+//! the bridge of a segment for a frame. Only calls that are handed an allocator take memory. It knows no header of a packet.
 #![tactic(auto)]
 
 mod checks;

@@ -1,5 +1,6 @@
 //! What an endpoint holds.
 ghost use Rattle.std.specs.Prelude.{◌≡◌, ◌≤◌, ℕ, [], IfOk, OnErr, IsSome, IsTrue, None, is_some, replicate, true};
+ghost use Rattle.std.specs.FinMap.{entries};
 ghost use Rattle.std.specs.List.{list_all};
 ghost use Rattle.frame_view.specs.First.{fault_of};
 ghost use Rattle.tunnel_learning.specs.Verdict.{put_or};
@@ -15,8 +16,8 @@ use crate::layers::{layer_rules, table_rules};
 use crate::learning::Learning;
 use crate::parts::Parts;
 use crate::{Change, ChangeFault};
-use filter_db::{Place, Tables};
-use frame_view::{BridgeFrame, Reason, Vid};
+use filter_db::{Entry, Place, Tables};
+use frame_view::{BridgeFrame, Mac, Reason, Vid};
 use overlay_settings::Settings;
 use shared_tables::SharedTables;
 use std::alloc::{AllocError, Global};
@@ -26,7 +27,7 @@ use underlay::Under;
 use vlan_ports::PortSet;
 
 /// What an endpoint holds: ports with the members of segments, the underlay with tunnels and flood lists, the segments'
-/// tables, and which of them learn. No call but `open` takes memory.
+/// tables, and which of them learn. Only calls that are handed an allocator take memory.
 #[derive(Drop)]
 pub struct EndpointState {
     parts: Parts<SharedTables>,
@@ -95,6 +96,20 @@ impl EndpointState {
         self.parts.tables.now()
     }
 
+    /// The live entries of a segment at a moment, each with its address, in the order of the addresses; none where the
+    /// VID has no segment. The moment isn't before the tables' own. `AllocError`: there was no room for the list.
+    pub fn entries(
+        &self,
+        alloc: Global,
+        vid: Vid,
+        now: u64,
+    ) -> Result<Vec<(Mac, Entry)>, AllocError>
+        requires { moment_of self.now ≤ now }
+        ensures { IfOk result (λ rows. rows.items ≡ entries ((state_at now self.now).tables vid)) }
+    {
+        self.parts.tables.entries(alloc, vid, now)
+    }
+
     /// Whether a segment can send to a place: any local port, or a remote endpoint of a kind of tunnel that it has and of
     /// a family that the endpoint has an own address of.
     pub fn reaches(&self, vid: Vid, place: Place) -> bool
@@ -141,3 +156,6 @@ impl EndpointState {
         self.parts.step(now, vid, from, frame, places)
     }
 }
+
+mod bridges;
+mod foresight;

@@ -49,7 +49,7 @@ impl<T: Tables> Parts<T> {
 }
 
 /// The horizon groups of the VXLAN and the Geneve tunnel, 0 for a kind that isn't there.
-fn groups_of(tunnels: &Tunnels) -> [u8; 2]
+pub(crate) fn groups_of(tunnels: &Tunnels) -> [u8; 2]
     ensures { result ≡ group_in Vxlan tunnels.now ∷ group_in Geneve tunnels.now ∷ [] }
 {
     [

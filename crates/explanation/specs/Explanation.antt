@@ -20,6 +20,7 @@ use Rattle.capture_run.specs.Outputs.{event_of}
 use Rattle.capture_run.specs.declared.fault.RunFault.{RunFault}
 use Rattle.capture_run.specs.declared.fault.RunFault.TheVariants as faults
 use Rattle.packet_layers.specs.Dissection.{dissection}
+use Rattle.explanation.specs.declared.text.Values.{Values}
 use Rattle.explanation.specs.Text.{layers_text}
 
 -- the octets of a record
@@ -28,30 +29,30 @@ octets_in (happenings.Change index) = []
 octets_in (happenings.Record tap captured) = captured.octets
 
 -- the decision line of an event of this number, and the layers of its packet
-abbrev pub event_text : Overlay → ℕ → ℕ → Happens × Answer → List ℕ
-event_text overlay depth number row =
-    line number row.0 (answer_text None row.1) ++ layers_text (dissection overlay depth (octets_in row.0.happening))
+abbrev pub event_text : Overlay → ℕ → Values → ℕ → Happens × Answer → List ℕ
+event_text overlay depth values number row =
+    line number row.0 (answer_text None row.1) ++ layers_text values (dissection overlay depth (octets_in row.0.happening))
 
 -- the events are numbered on from this many
-abbrev pub event_texts : Overlay → ℕ → ℕ → List (Happens × Answer) → List ℕ
-event_texts overlay depth count [] = []
-event_texts overlay depth count (row ∷ rows) = event_text overlay depth (count + 1) row ++ event_texts overlay depth (count + 1) rows
+abbrev pub event_texts : Overlay → ℕ → Values → ℕ → List (Happens × Answer) → List ℕ
+event_texts overlay depth values count [] = []
+event_texts overlay depth values count (row ∷ rows) = event_text overlay depth values (count + 1) row ++ event_texts overlay depth values (count + 1) rows
 
 -- the events of a capture, each as the bridge of its segment decides it, and a line where the capture ends with a cut rest
-abbrev pub explanation : Settings → ℕ → Timeline → List ℕ
-explanation S depth timeline =
-    event_texts S.overlay depth 0 (zip timeline.events (decisions S [] (map (event_of []) timeline.events)))
+abbrev pub explanation : Settings → ℕ → Values → Timeline → List ℕ
+explanation S depth values timeline =
+    event_texts S.overlay depth values 0 (zip timeline.events (decisions S [] (map (event_of []) timeline.events)))
     ++ flat_map cut_line timeline.cuts
 
 -- the explanation of a capture that was read, or its fault
-abbrev pub by_timeline : Told → ℕ → Result Timeline TimelineFault → Result (List ℕ) RunFault
-by_timeline s depth (Ok timeline) = Ok (explanation (settings_told s) depth timeline)
-by_timeline s depth (Err fault) = Err (of_timeline fault)
+abbrev pub by_timeline : Told → ℕ → Values → Result Timeline TimelineFault → Result (List ℕ) RunFault
+by_timeline s depth values (Ok timeline) = Ok (explanation (settings_told s) depth values timeline)
+by_timeline s depth values (Err fault) = Err (of_timeline fault)
 
 -- by what the settings mean and the capture tells: the settings' fault first
-abbrev pub explained_run : Meaning Told → List ℕ → ℕ → Result (List ℕ) RunFault
-explained_run (Ok s) capture depth = by_timeline s depth (told [] [] capture)
-explained_run (Err fault) capture depth = Err (of_settings fault)
+abbrev pub explained_run : Meaning Told → List ℕ → ℕ → Values → Result (List ℕ) RunFault
+explained_run (Ok s) capture depth values = by_timeline s depth values (told [] [] capture)
+explained_run (Err fault) capture depth values = Err (of_settings fault)
 
 -- what a function returned is that, unless memory was refused
 abbrev pub Gives : Result (Vec ℕ Global) RunFault → Result (List ℕ) RunFault → Type 0

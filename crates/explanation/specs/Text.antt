@@ -3,36 +3,37 @@
 --       ip4 14 20
 --       payload 34 76
 --       stop 20 NotTunnel
+-- and, where values are shown,
+--       ip4 14 20 192.0.2.1 > 192.0.2.2 ttl 64 length 96 protocol 17
 use Rattle.std.specs.Prelude.{ℕ, List, [], ◌∷◌, ◌++◌, length, codes, decimal}
 use Rattle.std.specs.List.{flat_map}
 use Rattle.frame_view.specs.Reason.{number_of, name_of}
 use Rattle.endpoint_core.specs.Decision.{Decision}
 use Rattle.endpoint_core.specs.Text.{result_of}
-use Rattle.packet_layers.specs.declared.kind.HeadKind.{HeadKind}
-use Rattle.packet_layers.specs.declared.kind.HeadKind.TheVariants.{Ether, Tag, Kind, Ip4, Ip6, Udp, Vxlan, Geneve}
 use Rattle.packet_layers.specs.declared.kind.Stop.{Stop}
 use Rattle.packet_layers.specs.declared.kind.Stop.TheVariants.{At, Deep}
 use Rattle.packet_layers.specs.Apart.{Span, Head}
 use Rattle.packet_layers.specs.Dissection.{Layers}
+use Rattle.layer_values.specs.Values.{word_of, values_of}
+use Rattle.explanation.specs.declared.text.Values.{Values}
+use Rattle.explanation.specs.declared.text.Values.TheVariants.{Hidden, Shown}
 
--- the word of a head
-abbrev pub kind_word : HeadKind → List ℕ
-kind_word Ether = codes "ether"
-kind_word Tag = codes "tag"
-kind_word Kind = codes "type"
-kind_word Ip4 = codes "ip4"
-kind_word Ip6 = codes "ip6"
-kind_word Udp = codes "udp"
-kind_word Vxlan = codes "vxlan"
-kind_word Geneve = codes "geneve"
+-- a part: a word for it, its place and its length
+abbrev pub part_text : List ℕ → ℕ → ℕ → List ℕ
+part_text word place octets = codes "  " ++ word ++ codes " " ++ decimal place ++ codes " " ++ decimal octets
 
--- the line of a part
+-- the line of a part of which no more is told
 abbrev pub part_line : List ℕ → ℕ → ℕ → List ℕ
-part_line word place octets = codes "  " ++ word ++ codes " " ++ decimal place ++ codes " " ++ decimal octets ++ 10 ∷ []
+part_line word place octets = part_text word place octets ++ 10 ∷ []
 
--- the line of a head
-abbrev pub head_line : Head → List ℕ
-head_line h = part_line (kind_word h.kind) h.place (length h.octets)
+-- the values of a head, where they are shown
+abbrev pub shown : Values → Head → List ℕ
+shown Hidden h = []
+shown Shown h = values_of h.kind h.octets
+
+-- the line of a head, with its values where they are shown
+abbrev pub head_line : Values → Head → List ℕ
+head_line values h = part_text (word_of h.kind) h.place (length h.octets) ++ shown values h ++ 10 ∷ []
 
 -- the line of a tail
 abbrev pub tail_line : Span → List ℕ
@@ -48,9 +49,9 @@ stop_line (At reason) = codes "  stop " ++ decimal (number_of reason) ++ codes "
 stop_line Deep = codes "  stop Deep" ++ 10 ∷ []
 
 -- all of them, in the order of the packet
-abbrev pub layers_text : Layers → List ℕ
-layers_text l = flat_map head_line l.apart.heads ++ (payload_line l.apart.payload ++ (flat_map tail_line l.apart.tails ++ stop_line l.stop))
+abbrev pub layers_text : Values → Layers → List ℕ
+layers_text values l = flat_map (head_line values) l.apart.heads ++ (payload_line l.apart.payload ++ (flat_map tail_line l.apart.tails ++ stop_line l.stop))
 
--- what was decided of a packet, and its layers
+-- what was decided of a packet, and its layers without their values
 abbrev pub explained : Decision → Layers → List ℕ
-explained decision layers = result_of decision ++ (10 ∷ [] ++ layers_text layers)
+explained decision layers = result_of decision ++ (10 ∷ [] ++ layers_text Hidden layers)

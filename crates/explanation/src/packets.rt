@@ -15,7 +15,7 @@ ghost use Rattle.explanation.specs.Text.{layers_text};
 ghost use Rattle.explanation.specs.Explanation.{explanation, explained_run, Gives};
 ghost use Rattle.explanation.specs.Growing.{text_at, texts_from};
 
-use crate::text::layers_text;
+use crate::text::{Values, layers_text};
 use capture_run::{RunFault, of_captures, of_settings};
 use decision_lines::{Desk, Line};
 use endpoint_core::Endpoint;
@@ -25,8 +25,8 @@ use std::alloc::{AllocError, Global};
 use timeline::{Cut, Event, Happening, Tap, Timeline};
 
 /// Explains the packets of a capture, which come to a fresh endpoint with the settings of a text: for each its decision
-/// line and the lines of its layers, with at most `depth` tunnel headers, 1 to 4; and a line where the capture ends with a
-/// cut rest.
+/// line and the lines of its layers, with at most `depth` tunnel headers, 1 to 4, and with the values of the headers where
+/// these are shown; and a line where the capture ends with a cut rest.
 ///
 /// The first fault is answered: of the settings, of the capture's header, of a record. `OutOfMemory` comes only where
 /// memory was refused.
@@ -35,10 +35,11 @@ pub fn explain_bytes(
     settings: &[u8],
     capture: &[u8],
     depth: usize,
+    values: Values,
 ) -> Result<Vec<u8>, RunFault>
     requires low { 1 ≤ depth }
     requires high { depth ≤ 4 }
-    ensures { Gives result (explained_run (settings_in settings.now) capture.now depth) }
+    ensures { Gives result (explained_run (settings_in settings.now) capture.now depth values) }
 {
     let settings = match settings_of(alloc, settings) {
         Ok(settings) => settings,
@@ -48,7 +49,7 @@ pub fn explain_bytes(
         Ok(timeline) => timeline,
         Err(fault) => return Err(of_captures(fault)),
     };
-    Ok(explanation_of(alloc, settings, &timeline, depth)?)
+    Ok(explanation_of(alloc, settings, &timeline, depth, values)?)
 }
 
 /// The text of the packets of a capture.
@@ -57,11 +58,12 @@ fn explanation_of(
     settings: Settings,
     timeline: &Timeline,
     depth: usize,
+    values: Values,
 ) -> Result<Vec<u8>, AllocError>
     requires low { 1 ≤ depth }
     requires high { depth ≤ 4 }
     requires known { AllByRecursion (IsEventOf 0 0) timeline.now.events }
-    ensures { IfOk result (λ text. text.items ≡ explanation (settings_told settings) depth timeline.now) }
+    ensures { IfOk result (λ text. text.items ≡ explanation (settings_told settings) depth values timeline.now) }
 {
     let mut endpoint = Endpoint::open(alloc, settings)?;
     let mut desk = Desk::new();
@@ -72,6 +74,7 @@ fn explanation_of(
         &mut endpoint,
         &mut desk,
         depth,
+        values,
         timeline.events(),
     )?;
     put_cuts(&mut text, &mut desk.line, timeline.cuts())?;
@@ -85,6 +88,7 @@ fn put_packet(
     endpoint: &mut Endpoint,
     desk: &mut Desk,
     depth: usize,
+    values: Values,
     event: &Event,
     original: u32,
     octets: &[u8],
@@ -95,14 +99,14 @@ fn put_packet(
     ensures state { state_of endpoint.new ≡ after (state_of endpoint.old) (packet_at event.now.moment original octets.now) }
     ensures text { OnOk result (text.new.items ≡ text.old.items
         ++ (line desk.old.number event.now (answer_text None (answer (state_of endpoint.old) (packet_at event.now.moment original octets.now)))
-        ++ layers_text (dissection (state_of endpoint.old).bridges.settings.overlay depth octets.now))) }
+        ++ layers_text values (dissection (state_of endpoint.old).bridges.settings.overlay depth octets.now))) }
     ensures number { desk.new.number ≡ desk.old.number }
 {
     let layers = dissect(octets, endpoint.under(), depth);
     let course = endpoint.take_packet(event.moment, original, octets, &mut desk.places);
     desk.write_course(event, endpoint, &course);
     text.extend_from_slice(desk.line.text())?;
-    text.extend_from_slice(layers_text(alloc, &layers)?.as_slice())
+    text.extend_from_slice(layers_text(alloc, values, &layers)?.as_slice())
 }
 
 /// Puts an event, which is a packet, to the endpoint, and what comes of it to the text.
@@ -112,6 +116,7 @@ fn put_event(
     endpoint: &mut Endpoint,
     desk: &mut Desk,
     depth: usize,
+    values: Values,
     event: &Event,
 ) -> Result<(), AllocError>
     requires low { 1 ≤ depth }
@@ -119,7 +124,7 @@ fn put_event(
     requires time { (state_of endpoint.old).moment ≤ event.now.moment }
     requires known { IsEventOf 0 0 event.now }
     ensures state { state_of endpoint.new ≡ after (state_of endpoint.old) (event_of [] event.now) }
-    ensures text { OnOk result (text.new.items ≡ text.old.items ++ text_at depth desk.old.number (state_of endpoint.old) event.now) }
+    ensures text { OnOk result (text.new.items ≡ text.old.items ++ text_at depth values desk.old.number (state_of endpoint.old) event.now) }
     ensures number { desk.new.number ≡ desk.old.number }
 {
     match &event.happening {
@@ -129,6 +134,7 @@ fn put_event(
             endpoint,
             desk,
             depth,
+            values,
             event,
             captured.original,
             captured.octets,
@@ -145,6 +151,7 @@ fn put_events(
     endpoint: &mut Endpoint,
     desk: &mut Desk,
     depth: usize,
+    values: Values,
     events: &[Event],
 ) -> Result<(), AllocError>
     requires low { 1 ≤ depth }
@@ -152,11 +159,11 @@ fn put_events(
     requires first { desk.old.number ≡ 0 }
     requires rising { IsRising (state_of endpoint.old).moment events.now }
     requires known { AllByRecursion (IsEventOf 0 0) events.now }
-    ensures { OnOk result (text.new.items ≡ text.old.items ++ texts_from depth 0 (state_of endpoint.old) events.now) }
+    ensures { OnOk result (text.new.items ≡ text.old.items ++ texts_from depth values 0 (state_of endpoint.old) events.now) }
 {
     for event in events {
         desk.number.add_one();
-        put_event(alloc, text, endpoint, desk, depth, event)?;
+        put_event(alloc, text, endpoint, desk, depth, values, event)?;
     }
     Ok(())
 }

@@ -1,7 +1,7 @@
 //! The filtering database of a learning bridge (IEEE 802.1Q, 8.8), one table for each of many segments.
 //!
-//! A table tells for each MAC address the [`Place`] where its station stands: a local port, or a remote endpoint of a
-//! tunnel. [`Tables`] is all that a bridge needs of the tables, however they are kept: it learns, looks up, ages,
+//! A table has for each MAC address an [`Entry`]: the [`Place`] where its station stands, a local port or a remote
+//! endpoint of a tunnel, and the moment when it was last seen there. [`Tables`] is all that a bridge needs of the tables, however they are kept: it learns, looks up, ages,
 //! fixes and flushes. [`PoolTables`] are tables whose segments share a pool, and come and go while the tables are used.
 //! [`ListTables`] keeps a list for each segment, and takes memory only when it is opened. Moments are handed in, in
 //! nanoseconds.
@@ -15,6 +15,7 @@ mod rows;
 mod table;
 mod tables;
 
+pub use entry::Entry;
 pub use list_tables::ListTables;
 pub use place::Place;
 pub use pool_tables::PoolTables;

@@ -30,6 +30,13 @@ lent (Open style last) = last
 lent (Ended is_cut) = None
 lent (Failed fault) = None
 
+-- how the capture writes its numbers, while it is open
+abbrev pub style_at : Standing → Option Style
+style_at New = None
+style_at (Open style last) = Some style
+style_at (Ended is_cut) = None
+style_at (Failed fault) = None
+
 -- whether the end came with a rest before it that is no whole record
 abbrev pub ends_cut : Standing → Bool
 ends_cut New = false

@@ -1,7 +1,7 @@
 //! The records of a capture, one after another.
 ghost use Rattle.std.specs.Prelude.{◌≡◌, ◌≢◌, ◌<◌, ℕ, List, IfOk, IfSome, IsSome};
 ghost use Rattle.pcap_io.specs.Record.{IsWithinLimits};
-ghost use Rattle.pcap_stream.specs.Source.{FillsToTheBound, IsFilled, IsOpened, New, OpensToTheBound, answer, ends_cut, lent};
+ghost use Rattle.pcap_stream.specs.Source.{FillsToTheBound, IsFilled, IsOpened, New, OpensToTheBound, answer, ends_cut, lent, style_at};
 ghost use Rattle.pcap_stream.specs.State.{standing_of};
 ghost use Rattle.pcap_stream.specs.Supply.{IsThrifty, Spends};
 
@@ -9,7 +9,7 @@ use crate::fault::SourceFault;
 use crate::fetch::{State, fetch, fetch_header};
 use crate::input::Input;
 use crate::supply::Supply;
-use pcap_io::{LONGEST, Record};
+use pcap_io::{LONGEST, Record, Style};
 use std::alloc::{AllocError, Global};
 use std::marker::Model;
 
@@ -125,6 +125,16 @@ impl<R: Input> Source<R> {
                 original: fetched.original,
                 octets: &self.room[..fetched.captured],
             }),
+            _ => None,
+        }
+    }
+
+    /// How the capture writes its numbers: none before `open`, at the end, and after a fault.
+    pub fn style(&self) -> Option<Style>
+        ensures { result ≡ style_at self.now.standing }
+    {
+        match self.state {
+            State::Open(style, _) => Some(style),
             _ => None,
         }
     }

@@ -7,11 +7,11 @@ use crate::answer::{Answer, request};
 use crate::inputs;
 use crate::texts::printed;
 use capture_run::{RunFault, run_bytes};
-use dissector::{explain_bytes, sample};
+use dissector::{Values, explain_bytes, sample};
 use pcap_stream::{DeviceFault, Output, Sink, Source, StdInput};
 use std::alloc::{AllocError, Global};
 use std::test::Fail;
-use stream_run::{StreamFault, run_streams};
+use stream_run::{StreamFault, Unwatched, run_streams};
 
 /// Runs the built-in sample.
 pub(crate) fn sampled(alloc: Global, count: u16) -> Answer {
@@ -22,7 +22,13 @@ pub(crate) fn sampled(alloc: Global, count: u16) -> Answer {
 /// Explains a capture.
 pub(crate) fn explained(alloc: Global, count: u16, capture: &[u8], expected: &str) -> Answer {
     request(alloc, count);
-    let text = explain_bytes(alloc, inputs::small().as_bytes(), capture, 4);
+    let text = explain_bytes(
+        alloc,
+        inputs::small().as_bytes(),
+        capture,
+        4,
+        Values::Hidden,
+    );
     printed(text, expected)
 }
 
@@ -97,6 +103,7 @@ fn run_over<'a>(
         sinks,
         underlay_sink,
         decisions,
+        &mut Unwatched,
     )
 }
 

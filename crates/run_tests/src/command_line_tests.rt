@@ -26,31 +26,56 @@ const LINES: [(&[&str], &str); 9] = [
             "p1",
             "p2",
         ],
-        "Run { settings: \"s\", changes: None, underlay: \"u\", out: \"d\", ports: [\"p1\", \"p2\"] }",
+        "Run { settings: \"s\", changes: None, underlay: \"u\", out: \"d\", ports: [\"p1\", \"p2\"], tables: false, tables_at: None, why: [] }",
     ),
     (
         &["tep", "check", "--changes", "c", "--settings", "s"],
-        "Check { settings: \"s\", changes: Some(\"c\") }",
+        "Check { settings: \"s\", changes: Some(\"c\"), underlay: None, ports: [] }",
     ),
     (
         &["tep", "explain", "--settings", "s", "c"],
-        "Explain { settings: \"s\", depth: 4, capture: \"c\" }",
+        "Explain { settings: \"s\", depth: 4, values: false, capture: \"c\" }",
     ),
     (
-        &["tep", "explain", "--depth", "2", "c", "--settings=s"],
-        "Explain { settings: \"s\", depth: 2, capture: \"c\" }",
+        &[
+            "tep",
+            "explain",
+            "--depth",
+            "2",
+            "c",
+            "--settings=s",
+            "--values",
+        ],
+        "Explain { settings: \"s\", depth: 2, values: true, capture: \"c\" }",
     ),
     (
-        &["tep", "run", "-s", "s", "-c", "c", "-uu", "-o=d", "-", "p2"],
-        "Run { settings: \"s\", changes: Some(\"c\"), underlay: \"u\", out: \"d\", ports: [\"-\", \"p2\"] }",
+        &[
+            "tep",
+            "run",
+            "-s",
+            "s",
+            "-c",
+            "c",
+            "-uu",
+            "-o=d",
+            "-",
+            "p2",
+            "--tables",
+            "--tables-at",
+            "7",
+            "--why=2",
+            "--why",
+            "u:1",
+        ],
+        "Run { settings: \"s\", changes: Some(\"c\"), underlay: \"u\", out: \"d\", ports: [\"-\", \"p2\"], tables: true, tables_at: Some(7), why: [\"2\", \"u:1\"] }",
     ),
     (
-        &["tep", "check", "-s", "-", "-c", "-"],
-        "Check { settings: \"-\", changes: Some(\"-\") }",
+        &["tep", "check", "-s", "-", "-c", "-", "-u", "u", "p1", "-"],
+        "Check { settings: \"-\", changes: Some(\"-\"), underlay: Some(\"u\"), ports: [\"p1\", \"-\"] }",
     ),
     (
         &["tep", "explain", "-d", "1", "-", "-s", "s"],
-        "Explain { settings: \"s\", depth: 1, capture: \"-\" }",
+        "Explain { settings: \"s\", depth: 1, values: false, capture: \"-\" }",
     ),
     (
         &["tep", "migrate", "-s", "s"],
@@ -58,12 +83,16 @@ const LINES: [(&[&str], &str); 9] = [
     ),
 ];
 
+/// Whether the words ask for that line.
+fn asks_for<'a>(alloc: Global, words: &'a [&'a str], wanted: &str) -> Result<bool, Fail> {
+    Ok(told(alloc, words)?.as_str() == wanted)
+}
+
 #[test]
 fn words_ask_for_these_lines(rt: HostRuntime) -> Result<(), Fail> {
-    let alloc = rt.alloc();
     for (words, wanted) in &LINES {
-        let fields = told(alloc, words)?;
-        assert_eq!(rt; fields.as_str(), *wanted, "{words:?}");
+        let asks = asks_for(rt.alloc(), words, wanted)?;
+        assert!(rt; asks, "the words of {wanted}");
     }
     Ok(())
 }
@@ -76,101 +105,91 @@ fn kind<'a>(alloc: Global, words: &'a [&'a str]) -> Option<ErrorKind> {
     }
 }
 
+/// Words, and why they are refused.
+const OTHER_WORDS: [(&[&str], ErrorKind); 13] = [
+    (&["tep", "nothing"], ErrorKind::InvalidSubcommand),
+    (&["tep", "run"], ErrorKind::MissingRequiredArgument),
+    (
+        &["tep", "explain", "--depth=5", "--settings=s", "c"],
+        ErrorKind::ValueValidation,
+    ),
+    (&["tep", "check", "--depth"], ErrorKind::UnknownArgument),
+    (&["tep", "migrate"], ErrorKind::MissingRequiredArgument),
+    (&["tep", "--help"], ErrorKind::DisplayHelp),
+    (&["tep", "help", "run"], ErrorKind::DisplayHelp),
+    (&["tep", "--version"], ErrorKind::DisplayVersion),
+    (&["tep", "-V"], ErrorKind::DisplayVersion),
+    (&["tep", "run", "--version"], ErrorKind::DisplayVersion),
+    (&["tep", "check", "--version"], ErrorKind::DisplayVersion),
+    (&["tep", "explain", "--version"], ErrorKind::DisplayVersion),
+    (&["tep", "migrate", "--version"], ErrorKind::DisplayVersion),
+];
+
 #[test]
 fn other_words_are_refused_for_their_kind(rt: HostRuntime) {
-    let alloc = rt.alloc();
-    assert!(rt;
-        kind(alloc, &["tep", "nothing"]) == Some(ErrorKind::InvalidSubcommand),
-        "no such command"
-    );
-    assert!(rt;
-        kind(alloc, &["tep", "run"]) == Some(ErrorKind::MissingRequiredArgument),
-        "a run of nothing"
-    );
-    assert!(rt;
-        kind(alloc, &["tep", "explain", "--depth=5", "--settings=s", "c"])
-            == Some(ErrorKind::ValueValidation),
-        "too great a depth"
-    );
-    assert!(rt;
-        kind(alloc, &["tep", "check", "--depth"]) == Some(ErrorKind::UnknownArgument),
-        "no such option"
-    );
-    assert!(rt;
-        kind(alloc, &["tep", "migrate"]) == Some(ErrorKind::MissingRequiredArgument),
-        "settings of no file"
-    );
-    assert!(rt;
-        kind(alloc, &["tep", "--help"]) == Some(ErrorKind::DisplayHelp),
-        "help"
-    );
-    assert!(rt;
-        kind(alloc, &["tep", "help", "run"]) == Some(ErrorKind::DisplayHelp),
-        "help on run"
-    );
-    for words in [["tep", "--version"], ["tep", "-V"]] {
-        assert!(rt;
-            kind(alloc, &words) == Some(ErrorKind::DisplayVersion),
-            "{words:?}"
-        );
-    }
-    for command in ["run", "check", "explain", "migrate"] {
-        assert!(rt;
-            kind(alloc, &["tep", command, "--version"]) == Some(ErrorKind::DisplayVersion),
-            "the version, asked of {command}"
-        );
+    for (words, wanted) in &OTHER_WORDS {
+        let is_refused = kind(rt.alloc(), words) == Some(*wanted);
+        assert!(rt; is_refused, "the words {words:?}");
     }
 }
 
+/// Words with an empty name.
+const EMPTY_NAMES: [&[&str]; 6] = [
+    &["tep", "check", "--settings", ""],
+    &["tep", "check", "--settings=s", "--changes="],
+    &["tep", "run", "-s=s", "-u=", "-o=d", "p1"],
+    &["tep", "run", "-s=s", "-u=u", "-o=", "p1"],
+    &["tep", "run", "-s=s", "-u=u", "-o=d", "p1", ""],
+    &["tep", "explain", "-s=s", ""],
+];
+
 #[test]
 fn an_empty_name_is_refused(rt: HostRuntime) {
-    let alloc = rt.alloc();
-    let lines: [&[&str]; 6] = [
-        &["tep", "check", "--settings", ""],
-        &["tep", "check", "--settings=s", "--changes="],
-        &["tep", "run", "-s=s", "-u=", "-o=d", "p1"],
-        &["tep", "run", "-s=s", "-u=u", "-o=", "p1"],
-        &["tep", "run", "-s=s", "-u=u", "-o=d", "p1", ""],
-        &["tep", "explain", "-s=s", ""],
-    ];
-    for words in &lines {
-        assert!(rt;
-            kind(alloc, words) == Some(ErrorKind::InvalidValue),
-            "{words:?}"
-        );
+    for words in &EMPTY_NAMES {
+        let is_refused = kind(rt.alloc(), words) == Some(ErrorKind::InvalidValue);
+        assert!(rt; is_refused, "the words {words:?}");
     }
+}
+
+/// Words that name standard input twice.
+const INPUT_TWICE: [&[&str]; 3] = [
+    &["tep", "run", "-s=s", "-u", "-", "-o=d", "-"],
+    &["tep", "run", "-s=s", "-u=u", "-o=d", "-", "p2", "-"],
+    &["tep", "run", "-s=s", "-u=-#eth1", "-o=d", "-"],
+];
+
+/// Whether words name standard input twice.
+fn name_input_twice<'a>(alloc: Global, words: &'a [&'a str]) -> bool {
+    matches!(line_of(alloc, words), Err(LineFault::InputTwice))
 }
 
 #[test]
 fn standard_input_is_one_capture_at_most(rt: HostRuntime) {
-    let alloc = rt.alloc();
-    let lines: [&[&str]; 3] = [
-        &["tep", "run", "-s=s", "-u", "-", "-o=d", "-"],
-        &["tep", "run", "-s=s", "-u=u", "-o=d", "-", "p2", "-"],
-        &["tep", "run", "-s=s", "-u=-#eth1", "-o=d", "-"],
-    ];
-    for words in &lines {
-        assert!(rt;
-            matches!(line_of(alloc, words), Err(LineFault::InputTwice)),
-            "{words:?}"
-        );
+    for words in &INPUT_TWICE {
+        let is_refused = name_input_twice(rt.alloc(), words);
+        assert!(rt; is_refused, "the words {words:?}");
     }
 }
 
-/// The names that docs/OPERATING.md takes apart.
+/// The names that docs/OPERATING.md takes apart: each with its file and its interface.
+const NAMES: [(&str, &str, Option<&str>); 6] = [
+    ("all.pcapng", "all.pcapng", None),
+    ("all.pcapng#eth1", "all.pcapng", Some("eth1")),
+    ("12:30.pcapng#0", "12:30.pcapng", Some("0")),
+    ("-#eth1", "-", Some("eth1")),
+    ("a#b.pcap#", "a#b.pcap", None),
+    ("a#b.pcapng#1", "a#b.pcapng", Some("1")),
+];
+
+/// Whether a name is that of this file and this interface.
+fn is_named(name: &str, wanted_file: &str, wanted_interface: Option<&str>) -> bool {
+    let CaptureName { file, interface } = capture_name(name);
+    file == wanted_file && interface == wanted_interface
+}
+
 #[test]
 fn the_name_of_a_capture_is_a_file_and_an_interface(rt: HostRuntime) {
-    let names = [
-        ("all.pcapng", "all.pcapng", None),
-        ("all.pcapng#eth1", "all.pcapng", Some("eth1")),
-        ("12:30.pcapng#0", "12:30.pcapng", Some("0")),
-        ("-#eth1", "-", Some("eth1")),
-        ("a#b.pcap#", "a#b.pcap", None),
-        ("a#b.pcapng#1", "a#b.pcapng", Some("1")),
-    ];
-    for (name, wanted_file, wanted_interface) in names {
-        let CaptureName { file, interface } = capture_name(name);
-        assert_eq!(rt; file, wanted_file, "{name}");
-        assert_eq!(rt; interface, wanted_interface, "{name}");
+    for (name, file, interface) in &NAMES {
+        assert!(rt; is_named(name, file, *interface), "the name {name}");
     }
 }

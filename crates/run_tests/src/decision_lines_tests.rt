@@ -35,8 +35,9 @@ flood = ["192.0.2.2"]
 const SECOND: u64 = 1_000_000_000;
 
 /// What stands in a line of 16 ports and 16 IPv6 remotes, where 110 octets left at each.
-const LONGEST: &str =
-    "1000 18446744073709551615 p16 18446744073709551615 4094 p1=110 p2=110 p3=110 p4=110 p5=110 p6=110 p7=110 p8=110 p9=110 p10=110 p11=110 p12=110 p13=110 p14=110 p15=110 p16=110 vxlan:2001:0db8:0000:0000:0000:0000:0000:0001=110 geneve:2001:0db8:0000:0000:0000:0000:0000:0002=110 vxlan:2001:0db8:0000:0000:0000:0000:0000:0003=110 geneve:2001:0db8:0000:0000:0000:0000:0000:0004=110 vxlan:2001:0db8:0000:0000:0000:0000:0000:0005=110 geneve:2001:0db8:0000:0000:0000:0000:0000:0006=110 vxlan:2001:0db8:0000:0000:0000:0000:0000:0007=110 geneve:2001:0db8:0000:0000:0000:0000:0000:0008=110 vxlan:2001:0db8:0000:0000:0000:0000:0000:0009=110 geneve:2001:0db8:0000:0000:0000:0000:0000:000a=110 vxlan:2001:0db8:0000:0000:0000:0000:0000:000b=110 geneve:2001:0db8:0000:0000:0000:0000:0000:000c=110 vxlan:2001:0db8:0000:0000:0000:0000:0000:000d=110 geneve:2001:0db8:0000:0000:0000:0000:0000:000e=110 vxlan:2001:0db8:0000:0000:0000:0000:0000:000f=110 geneve:2001:0db8:0000:0000:0000:0000:0000:0010=110\n";
+fn longest<'a>() -> &'a str {
+    "1000 18446744073709551615 p16 18446744073709551615 4094 p1=110 p2=110 p3=110 p4=110 p5=110 p6=110 p7=110 p8=110 p9=110 p10=110 p11=110 p12=110 p13=110 p14=110 p15=110 p16=110 vxlan:2001:0db8:0000:0000:0000:0000:0000:0001=110 geneve:2001:0db8:0000:0000:0000:0000:0000:0002=110 vxlan:2001:0db8:0000:0000:0000:0000:0000:0003=110 geneve:2001:0db8:0000:0000:0000:0000:0000:0004=110 vxlan:2001:0db8:0000:0000:0000:0000:0000:0005=110 geneve:2001:0db8:0000:0000:0000:0000:0000:0006=110 vxlan:2001:0db8:0000:0000:0000:0000:0000:0007=110 geneve:2001:0db8:0000:0000:0000:0000:0000:0008=110 vxlan:2001:0db8:0000:0000:0000:0000:0000:0009=110 geneve:2001:0db8:0000:0000:0000:0000:0000:000a=110 vxlan:2001:0db8:0000:0000:0000:0000:0000:000b=110 geneve:2001:0db8:0000:0000:0000:0000:0000:000c=110 vxlan:2001:0db8:0000:0000:0000:0000:0000:000d=110 geneve:2001:0db8:0000:0000:0000:0000:0000:000e=110 vxlan:2001:0db8:0000:0000:0000:0000:0000:000f=110 geneve:2001:0db8:0000:0000:0000:0000:0000:0010=110\n"
+}
 
 /// The endpoint of these settings.
 fn endpoint(alloc: Global) -> Result<Endpoint, Fail> {
@@ -96,68 +97,68 @@ fn drop_in(segment: u16, reason: Reason) -> Refused {
     }
 }
 
+/// Whether the drop of a record is told so, the count-th event of a run, at as many seconds.
+fn tells_drop(
+    line: &mut Line,
+    (count, own, tap): (u16, u64, Tap),
+    refused: Refused,
+    expected: &str,
+) -> bool {
+    let octets = broadcast();
+    let count = u64::from(count);
+    let event = record(count * SECOND, own, tap, &octets);
+    line.write_drop(&counted(count), &event, refused);
+    line.text() == expected.as_bytes()
+}
+
 #[test]
 fn drops_are_told_with_number_and_name(rt: HostRuntime) {
-    let octets = broadcast();
     let mut line = Line::new();
-    for (count, tap, own, refused, expected) in [
-        (
-            9,
-            Tap::Underlay,
-            2,
-            drop_in(0, Reason::NotIp),
-            "9 9000000000 u 2 - drop 12 NotIp\n",
-        ),
-        (
-            4,
-            Tap::Port(2),
-            2,
-            drop_in(10, Reason::SamePlace),
-            "4 4000000000 p2 2 10 drop 35 SamePlace\n",
-        ),
-        (
-            100,
-            Tap::Port(16),
-            99,
-            drop_in(4094, Reason::BadOuterSource),
-            "100 100000000000 p16 99 4094 drop 15 BadOuterSource\n",
-        ),
-    ] {
-        let event = record(count * SECOND, own, tap, &octets);
-        line.write_drop(&counted(count), &event, refused);
-        assert!(rt; line.text() == expected.as_bytes(), "{expected}");
-    }
+    let refused = drop_in(0, Reason::NotIp);
+    let expected = "9 9000000000 u 2 - drop 12 NotIp\n";
+    assert!(rt; tells_drop(&mut line, (9, 2, Tap::Underlay), refused, expected));
+    let refused = drop_in(10, Reason::SamePlace);
+    let expected = "4 4000000000 p2 2 10 drop 35 SamePlace\n";
+    assert!(rt; tells_drop(&mut line, (4, 2, Tap::Port(2)), refused, expected));
+    let refused = drop_in(4094, Reason::BadOuterSource);
+    let expected = "100 100000000000 p16 99 4094 drop 15 BadOuterSource\n";
+    assert!(rt; tells_drop(&mut line, (100, 99, Tap::Port(16)), refused, expected));
+}
+
+/// Whether a change is told so, the count-th event of a run, at as many seconds.
+fn tells_reply(
+    line: &mut Line,
+    (count, own, segment): (u16, u64, u16),
+    reply: Result<(), ChangeFault>,
+    expected: &str,
+) -> bool {
+    let count = u64::from(count);
+    let event = change(count * SECOND, own);
+    line.write_reply(&counted(count), &event, Vid::new(segment), reply);
+    line.text() == expected.as_bytes()
 }
 
 #[test]
 fn changes_are_told_with_their_segment(rt: HostRuntime) {
     let mut line = Line::new();
-    for (count, own, segment, reply, expected) in [
-        (7, 1, 0, Ok(()), "7 7000000000 c 1 - done\n"),
-        (
-            10,
-            10_000,
-            20,
-            Err(ChangeFault::NoTunnel),
-            "10 10000000000 c 10000 20 refused 14 NoTunnel\n",
-        ),
-    ] {
-        let event = change(count * SECOND, own);
-        line.write_reply(&counted(count), &event, Vid::new(segment), reply);
-        assert!(rt; line.text() == expected.as_bytes(), "{expected}");
-    }
+    let expected = "7 7000000000 c 1 - done\n";
+    assert!(rt; tells_reply(&mut line, (7, 1, 0), Ok(()), expected));
+    let reply = Err(ChangeFault::NoTunnel);
+    let expected = "10 10000000000 c 10000 20 refused 14 NoTunnel\n";
+    assert!(rt; tells_reply(&mut line, (10, 10_000, 20), reply, expected));
+}
+
+/// Whether a rest is told so behind so many whole records.
+fn tells_cut(line: &mut Line, tap: Tap, whole: u64, expected: &str) -> bool {
+    line.write_cut(&Cut { tap, whole });
+    line.text() == expected.as_bytes()
 }
 
 #[test]
 fn cut_rests_are_told_with_their_whole_records(rt: HostRuntime) {
     let mut line = Line::new();
-    for (tap, whole, expected) in [
-        (Tap::Port(16), 3, "cut p16 3\n"),
-        (Tap::Underlay, 0, "cut u 0\n"),
-    ] {
-        line.write_cut(&Cut { tap, whole });
-        assert!(rt; line.text() == expected.as_bytes(), "{expected}");
-    }
+    assert!(rt; tells_cut(&mut line, Tap::Port(16), 3, "cut p16 3\n"));
+    assert!(rt; tells_cut(&mut line, Tap::Underlay, 0, "cut u 0\n"));
 }
 
 /// The first number below a bound that a counter tells wrongly, if there is one.
@@ -177,29 +178,41 @@ fn first_wrong(alloc: Global, bound: u64) -> Result<Option<u64>, Fail> {
 
 #[test]
 fn a_counter_has_the_digits_of_its_number(rt: HostRuntime) -> Result<(), Fail> {
-    let wrong = first_wrong(rt.alloc(), 10_011)?;
-    assert!(rt; wrong.is_none(), "the first wrong one: {wrong:?}");
+    assert_eq!(rt; first_wrong(rt.alloc(), 10_011)?, None);
     Ok(())
+}
+
+/// Whether the course of a broadcast that comes in at a port at 1 s is told so, the event of this number.
+fn tells_course(
+    desk: &mut Desk,
+    endpoint: &mut Endpoint,
+    (count, port): (u64, u8),
+    expected: &str,
+) -> bool {
+    if endpoint.now() > SECOND || port == 0 || port > endpoint.ports() {
+        return false;
+    }
+    let octets = broadcast();
+    desk.number = counted(count);
+    let event = record(SECOND, 1, Tap::Port(port), &octets);
+    let course = endpoint.take_frame(SECOND, port, 60, &octets, &mut desk.places);
+    desk.write_course(&event, endpoint, &course);
+    desk.line.text() == expected.as_bytes()
+}
+
+/// Whether a broadcast from port 1 and one from port 2 are told with their outcomes.
+fn tells_courses(endpoint: &mut Endpoint) -> bool {
+    let mut desk = Desk::new();
+    let first = "1 1000000000 p1 1 10 p2=60 p3=64 192.0.2.2=110\n";
+    let second = "2 1000000000 p2 1 10 p1=60 p3=64 192.0.2.2=110\n";
+    tells_course(&mut desk, endpoint, (1, 1), first)
+        && tells_course(&mut desk, endpoint, (2, 2), second)
 }
 
 #[test]
 fn outcomes_stand_behind_the_front(rt: HostRuntime) -> Result<(), Fail> {
     let mut endpoint = endpoint(rt.alloc())?;
-    let octets = broadcast();
-    let mut desk = Desk::new();
-    for (count, port, expected) in [
-        (1, 1, "1 1000000000 p1 1 10 p2=60 p3=64 192.0.2.2=110\n"),
-        (2, 2, "2 1000000000 p2 1 10 p1=60 p3=64 192.0.2.2=110\n"),
-    ] {
-        if endpoint.now() > SECOND || port > endpoint.ports() {
-            return Err(Fail::new("a moment or a port"));
-        }
-        desk.number = counted(count);
-        let event = record(SECOND, 1, Tap::Port(port), &octets);
-        let course = endpoint.take_frame(SECOND, port, 60, &octets, &mut desk.places);
-        desk.write_course(&event, &endpoint, &course);
-        assert!(rt; desk.line.text() == expected.as_bytes(), "{expected}");
-    }
+    assert!(rt; tells_courses(&mut endpoint));
     Ok(())
 }
 
@@ -234,25 +247,44 @@ fn put_all(line: &mut Line, places: &[Place], sent: &Result<Leaving, Reason>)
     }
 }
 
+/// Writes the line of an event where this left at all places.
+fn write_longest(line: &mut Line, sent: &Result<Leaving, Reason>) {
+    let octets = broadcast();
+    let event = record(u64::MAX, u64::MAX, Tap::Port(16), &octets);
+    line.begin(&counted(1_000), &event, Vid::new(4094));
+    put_all(line, &all_places(), sent);
+    line.end();
+}
+
+/// Writes that line of what leaves at each place, and so last of what leaves at the last; whether a frame leaves.
+fn writes_longest(line: &mut Line, endpoint: &mut Endpoint) -> bool {
+    let octets = broadcast();
+    let (mut places, mut head) = (Outlets::new(), Head::new());
+    if endpoint.now() > SECOND || endpoint.ports() == 0 {
+        return false;
+    }
+    let Course::Leaves(came) = endpoint.take_frame(SECOND, 1, 60, &octets, &mut places) else {
+        return false;
+    };
+    for place in places.as_slice() {
+        write_longest(line, &endpoint.emit(&came, *place, &mut head));
+    }
+    true
+}
+
+fn is_told(line: &Line, expected: &str) -> bool {
+    line.text() == expected.as_bytes()
+}
+
+/// Whether the last of them, at the remote, is the longest line.
+fn tells_longest(endpoint: &mut Endpoint) -> bool {
+    let mut line = Line::new();
+    writes_longest(&mut line, endpoint) && is_told(&line, longest())
+}
+
 #[test]
 fn a_line_has_room_for_all_outlets(rt: HostRuntime) -> Result<(), Fail> {
     let mut endpoint = endpoint(rt.alloc())?;
-    let octets = broadcast();
-    let (mut places, mut head, mut line) = (Outlets::new(), Head::new(), Line::new());
-    if endpoint.now() > SECOND || endpoint.ports() == 0 {
-        return Err(Fail::new("a moment or a port"));
-    }
-    let Course::Leaves(came) = endpoint.take_frame(SECOND, 1, 60, &octets, &mut places) else {
-        return Err(Fail::new("a frame that leaves"));
-    };
-    let event = record(u64::MAX, u64::MAX, Tap::Port(16), &octets);
-    for place in places.as_slice() {
-        let sent = endpoint.emit(&came, *place, &mut head);
-        line.begin(&counted(1_000), &event, Vid::new(4094));
-        put_all(&mut line, &all_places(), &sent);
-        line.end();
-    }
-    // The last place is the remote.
-    assert!(rt; line.text() == LONGEST.as_bytes(), "the longest line");
+    assert!(rt; tells_longest(&mut endpoint));
     Ok(())
 }

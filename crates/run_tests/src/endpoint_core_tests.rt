@@ -57,66 +57,109 @@ fn is_printed(alloc: Global, decision: Option<Decision>, expected: &str) -> Resu
     Ok(result_text(alloc, &decision)?.as_slice() == expected.as_bytes())
 }
 
+/// Whether what is decided of a frame at a port is printed so.
+fn is_decided(
+    alloc: Global,
+    endpoint: &mut Endpoint,
+    (now, port): (u64, u8),
+    octets: &[u8],
+    expected: &str,
+) -> Result<bool, Fail> {
+    if octets.len() > 1514 {
+        return Ok(false);
+    }
+    let decision = decided(endpoint, now, port, octets.len() as u32, octets);
+    is_printed(alloc, decision, expected)
+}
+
+/// Seconds, ports, addresses by their last octets, and what is decided of such frames.
+const LEARNING: [(u64, u8, u8, u8, &str); 4] = [
+    (1, 1, ALL, 1, "p2=60 p3=64 192.0.2.2=110"),
+    (2, 2, 1, 2, "p1=60"),
+    (3, 1, 2, 1, "p2=60"),
+    (4, 2, 2, 2, "drop 35 SamePlace"),
+];
+
+/// The first second at which another thing is decided.
+fn wrong_second(alloc: Global, endpoint: &mut Endpoint) -> Result<Option<u64>, Fail> {
+    for (second, port, dst, src, expected) in &LEARNING {
+        let at = (second.saturating_mul(SECOND), *port);
+        if !is_decided(alloc, endpoint, at, &frame(*dst, *src), expected)? {
+            return Ok(Some(*second));
+        }
+    }
+    Ok(None)
+}
+
+/// Whether five outcomes and a drop for 35 are counted in segment 10, and nothing elsewhere.
+fn has_counted(endpoint: &Endpoint) -> bool {
+    endpoint.count(Vid::new(10), 0) == 5
+        && endpoint.count(Vid::new(10), 35) == 1
+        && endpoint.count(None, 0) == 0
+        && endpoint.count(Vid::new(10), 41) == 0
+}
+
+/// Whether all is decided so, and counted.
+fn learns(alloc: Global, endpoint: &mut Endpoint) -> Result<bool, Fail> {
+    Ok(wrong_second(alloc, endpoint)?.is_none() && has_counted(endpoint))
+}
+
 #[test]
 fn a_bridge_learns_where_frames_come_from(rt: HostRuntime) -> Result<(), Fail> {
     let mut endpoint = opened_a(rt.alloc())?;
-    for (second, port, dst, src, expected) in [
-        (1, 1, ALL, 1, "p2=60 p3=64 192.0.2.2=110"),
-        (2, 2, 1, 2, "p1=60"),
-        (3, 1, 2, 1, "p2=60"),
-        (4, 2, 2, 2, "drop 35 SamePlace"),
-    ] {
-        let octets = frame(dst, src);
-        let decision = decided(&mut endpoint, second * SECOND, port, 60, &octets);
-        assert!(rt;
-            is_printed(rt.alloc(), decision, expected)?,
-            "frame {second}"
-        );
-    }
-    let ten = Vid::new(10);
-    for (segment, number, expected) in [(ten, 0, 5), (ten, 35, 1), (None, 0, 0), (ten, 41, 0)] {
-        assert!(rt;
-            endpoint.count(segment, number) == expected,
-            "count {number}"
-        );
-    }
+    let learns = learns(rt.alloc(), &mut endpoint)?;
+    assert!(rt; learns);
     Ok(())
+}
+
+/// Whether an address that is heard at 0 seconds is known a nanosecond before 10, and not at 10. Each decision is still
+/// there after the steps behind it.
+fn is_dead_at_its_ageing(alloc: Global, endpoint: &mut Endpoint) -> Result<bool, Fail> {
+    let from_2 = frame(ALL, 2);
+    let to_2 = frame(2, 1);
+    let first = decided(endpoint, 0, 2, 60, &from_2);
+    let second = decided(endpoint, 10 * SECOND - 1, 1, 60, &to_2);
+    let third = decided(endpoint, 10 * SECOND, 1, 60, &to_2);
+    Ok(
+        is_printed(alloc, first, "p1=60 p3=64 192.0.2.2=110")?
+            && is_printed(alloc, second, "p2=60")?
+            && is_printed(alloc, third, "p2=60 p3=64 192.0.2.2=110")?,
+    )
 }
 
 #[test]
 fn an_entry_is_dead_at_its_ageing(rt: HostRuntime) -> Result<(), Fail> {
     let mut endpoint = opened_a(rt.alloc())?;
-    let from_2 = frame(ALL, 2);
-    let to_2 = frame(2, 1);
-    let first = decided(&mut endpoint, 0, 2, 60, &from_2);
-    let second = decided(&mut endpoint, 10 * SECOND - 1, 1, 60, &to_2);
-    let third = decided(&mut endpoint, 10 * SECOND, 1, 60, &to_2);
-    // Each decision is still there after the steps behind it.
-    for (decision, expected) in [
-        (first, "p1=60 p3=64 192.0.2.2=110"),
-        (second, "p2=60"),
-        (third, "p2=60 p3=64 192.0.2.2=110"),
-    ] {
-        assert!(rt; is_printed(rt.alloc(), decision, expected)?, "{expected}");
-    }
+    let is_dead = is_dead_at_its_ageing(rt.alloc(), &mut endpoint)?;
+    assert!(rt; is_dead);
     Ok(())
+}
+
+/// An endpoint whose segment 10 floods to an IPv6 address, too.
+fn opened_to_two(alloc: Global) -> Result<Endpoint, Fail> {
+    let both = "flood = [\"2001:db8::2\", \"192.0.2.2\"]";
+    let text = ENDPOINT.replacen(alloc, "flood = [\"192.0.2.2\"]", both, 1)?;
+    opened(alloc, &text)
+}
+
+/// Of a frame of 1,514 octets.
+const TOO_BIG: &str =
+    "p2=1514 p3=1518 2001:0db8:0000:0000:0000:0000:0000:0002!TooBig 192.0.2.2=1564";
+
+/// Whether a frame of 1,514 octets leaves at three places, and is too big for the fourth.
+fn leaves_the_others(alloc: Global, endpoint: &mut Endpoint) -> Result<bool, Fail> {
+    let mut octets = [0; 1514];
+    octets[..60].copy_from_slice(&frame(ALL, 1));
+    let is_decided = is_decided(alloc, endpoint, (SECOND, 1), &octets, TOO_BIG)?;
+    let ten = Vid::new(10);
+    Ok(is_decided && endpoint.count(ten, 0) == 3 && endpoint.count(ten, 39) == 1)
 }
 
 #[test]
 fn a_copy_too_big_for_the_mtu_leaves_the_others(rt: HostRuntime) -> Result<(), Fail> {
-    let both = "flood = [\"2001:db8::2\", \"192.0.2.2\"]";
-    let text = ENDPOINT.replacen(rt.alloc(), "flood = [\"192.0.2.2\"]", both, 1)?;
-    let mut endpoint = opened(rt.alloc(), &text)?;
-    let mut octets = [0; 1514];
-    octets[..60].copy_from_slice(&frame(ALL, 1));
-    let decision = decided(&mut endpoint, SECOND, 1, 1514, &octets);
-    let expected = "p2=1514 p3=1518 2001:0db8:0000:0000:0000:0000:0000:0002!TooBig 192.0.2.2=1564";
-    assert!(rt; is_printed(rt.alloc(), decision, expected)?, "{expected}");
-    let ten = Vid::new(10);
-    assert!(rt;
-        endpoint.count(ten, 0) == 3 && endpoint.count(ten, 39) == 1,
-        "counts"
-    );
+    let mut endpoint = opened_to_two(rt.alloc())?;
+    let leaves = leaves_the_others(rt.alloc(), &mut endpoint)?;
+    assert!(rt; leaves);
     Ok(())
 }
 
@@ -128,68 +171,117 @@ const HEADERS: [u8; 50] = [
     0x88, 0x00,
 ];
 
-#[test]
-fn a_packet_brings_a_frame_from_its_sender(rt: HostRuntime) -> Result<(), Fail> {
-    let mut endpoint = opened(rt.alloc(), PEER)?;
+/// That packet.
+fn packet() -> [u8; 110] {
     let mut packet = [0; 110];
     packet[..50].copy_from_slice(&HEADERS);
     packet[50..].copy_from_slice(&frame(ALL, 1));
-    assert!(rt; endpoint.now() == 0, "the first moment");
-    let cases = [
-        (110, &packet[..], "p1=60 p2=60 p3=64"),
-        (110, &packet[..109], "drop 2 Sliced"),
-        (109, &packet[..109], "drop 13 BadIp"),
-    ];
-    for (original, octets, expected) in cases {
-        assert!(rt; endpoint.now() <= SECOND, "the moment");
-        let decision = endpoint.packet(SECOND, original, octets);
-        assert!(rt;
-            is_printed(rt.alloc(), Some(decision), expected)?,
-            "{expected}"
-        );
+    packet
+}
+
+/// Whether what is decided of a packet of this original length is printed so.
+fn is_answered(
+    alloc: Global,
+    endpoint: &mut Endpoint,
+    original: u32,
+    octets: &[u8],
+    expected: &str,
+) -> Result<bool, Fail> {
+    if endpoint.now() > SECOND {
+        return Ok(false);
     }
-    let answer = frame(1, 2);
-    let decision = decided(&mut endpoint, 2 * SECOND, 1, 60, &answer);
-    assert!(rt;
-        is_printed(rt.alloc(), decision, "192.0.2.1=110")?,
-        "the answer"
-    );
-    assert!(rt;
-        endpoint.count(None, 2) == 1 && endpoint.count(None, 13) == 1,
-        "counts"
-    );
+    let decision = endpoint.packet(SECOND, original, octets);
+    is_printed(alloc, Some(decision), expected)
+}
+
+/// Whether the packet brings its frame, and is refused where it is cut.
+fn brings_a_frame(alloc: Global, endpoint: &mut Endpoint) -> Result<bool, Fail> {
+    let packet = packet();
+    let Some(cut) = packet.get(..109) else {
+        return Ok(false);
+    };
+    Ok(
+        is_answered(alloc, endpoint, 110, &packet, "p1=60 p2=60 p3=64")?
+            && is_answered(alloc, endpoint, 110, cut, "drop 2 Sliced")?
+            && is_answered(alloc, endpoint, 109, cut, "drop 13 BadIp")?,
+    )
+}
+
+/// Whether a frame to its sender then leaves in a packet, and what was refused is counted.
+fn answers(alloc: Global, endpoint: &mut Endpoint) -> Result<bool, Fail> {
+    let at = (2 * SECOND, 1);
+    let is_sent = is_decided(alloc, endpoint, at, &frame(1, 2), "192.0.2.1=110")?;
+    Ok(is_sent && endpoint.count(None, 2) == 1 && endpoint.count(None, 13) == 1)
+}
+
+/// The first step of a packet and its answer that is decided otherwise.
+fn wrong_packet<'a>(alloc: Global, endpoint: &mut Endpoint) -> Result<Option<&'a str>, Fail> {
+    if endpoint.now() != 0 {
+        return Ok(Some("the first moment"));
+    }
+    if !brings_a_frame(alloc, endpoint)? {
+        return Ok(Some("the packet"));
+    }
+    if !answers(alloc, endpoint)? {
+        return Ok(Some("the answer"));
+    }
+    Ok(None)
+}
+
+#[test]
+fn a_packet_brings_a_frame_from_its_sender(rt: HostRuntime) -> Result<(), Fail> {
+    let mut endpoint = opened(rt.alloc(), PEER)?;
+    let wrong = wrong_packet(rt.alloc(), &mut endpoint)?;
+    assert_eq!(rt; wrong, None);
     Ok(())
+}
+
+/// Changes, what they are answered, and what is decided of a broadcast then.
+fn changes<'a>(absent: Vid) -> [(Change, Result<(), ChangeFault>, &'a str); 5] {
+    let all = "p2=60 p3=64 192.0.2.2=110";
+    let others = "p3=64 192.0.2.2=110";
+    [
+        (Change::PortDown { port: 9 }, Err(ChangeFault::NoPort), all),
+        (
+            Change::Flush { vid: absent },
+            Err(ChangeFault::NoSegment),
+            all,
+        ),
+        (Change::PortDown { port: 2 }, Ok(()), others),
+        (Change::PortDown { port: 2 }, Ok(()), others),
+        (Change::PortUp { port: 2 }, Ok(()), all),
+    ]
+}
+
+/// Whether a change is answered so, and holds then.
+fn holds_from_now(
+    alloc: Global,
+    endpoint: &mut Endpoint,
+    change: Change,
+    answer: Result<(), ChangeFault>,
+    expected: &str,
+) -> Result<bool, Fail> {
+    if endpoint.now() > 5 * SECOND || endpoint.change(5 * SECOND, change) != answer {
+        return Ok(false);
+    }
+    is_decided(alloc, endpoint, (5 * SECOND, 1), &frame(ALL, 1), expected)
+}
+
+/// The first change that is answered otherwise, or doesn't hold then.
+fn wrong_change(alloc: Global, endpoint: &mut Endpoint) -> Result<Option<Change>, Fail> {
+    let absent = Vid::new(30).ok_or("30 is a VID")?;
+    for (change, answer, expected) in &changes(absent) {
+        if !holds_from_now(alloc, endpoint, *change, *answer, expected)? {
+            return Ok(Some(*change));
+        }
+    }
+    Ok(None)
 }
 
 #[test]
 fn a_change_holds_from_its_moment_on(rt: HostRuntime) -> Result<(), Fail> {
     let mut endpoint = opened_a(rt.alloc())?;
-    let octets = frame(ALL, 1);
-    let absent = Vid::new(30).ok_or("30 is a VID")?;
-    let changes = [
-        (
-            Change::PortDown { port: 9 },
-            Err(ChangeFault::NoPort),
-            "p2=60 p3=64 192.0.2.2=110",
-        ),
-        (
-            Change::Flush { vid: absent },
-            Err(ChangeFault::NoSegment),
-            "p2=60 p3=64 192.0.2.2=110",
-        ),
-        (Change::PortDown { port: 2 }, Ok(()), "p3=64 192.0.2.2=110"),
-        (Change::PortDown { port: 2 }, Ok(()), "p3=64 192.0.2.2=110"),
-        (
-            Change::PortUp { port: 2 },
-            Ok(()),
-            "p2=60 p3=64 192.0.2.2=110",
-        ),
-    ];
-    for (change, answer, expected) in changes {
-        assert!(rt; endpoint.now() <= 5 * SECOND, "the moment");
-        assert!(rt; endpoint.change(5 * SECOND, change) == answer, "{expected}");
-        let decision = decided(&mut endpoint, 5 * SECOND, 1, 60, &octets);
-        assert!(rt; is_printed(rt.alloc(), decision, expected)?, "{expected}");
-    }
+    let wrong = wrong_change(rt.alloc(), &mut endpoint)?;
+    assert_eq!(rt; wrong, None);
     Ok(())
 }

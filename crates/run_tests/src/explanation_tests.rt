@@ -2,7 +2,7 @@
 ghost use Rattle.std.specs.Prelude.{◌≤◌};
 
 use endpoint_core::Endpoint;
-use explanation::{explain, explain_bytes};
+use explanation::{Values, explain, explain_bytes};
 use overlay_config::settings_of;
 use packet_layers::dissect;
 use pcap_io::{put_header, put_record};
@@ -110,56 +110,52 @@ fn is_explained_by(alloc: Global, settings: &str, capture: &[u8], depth: usize, 
     requires low { 1 ≤ depth }
     requires high { depth ≤ 4 }
 {
-    match explain_bytes(alloc, settings.as_bytes(), capture, depth) {
+    match explain_bytes(alloc, settings.as_bytes(), capture, depth, Values::Hidden) {
         Ok(text) => text.as_slice() == lines.as_bytes(),
         Err(_) => false,
     }
 }
 
-#[test]
-fn each_packet_has_its_layers(rt: HostRuntime) -> Result<(), Fail> {
-    let alloc = rt.alloc();
+/// A packet with a trailer, one with a tag, one with two options, one of no octet, one of one octet, and a rest that is no
+/// whole record.
+fn five_packets(alloc: Global) -> Result<Vec<u8>, Fail> {
     let padded = in_vxlan(alloc, &[], &[0; 6])?;
     let tagged = in_vxlan(alloc, &TAG, &[])?;
     let geneve = in_geneve(alloc)?;
     let mut packets = capture(alloc, &[&padded, &tagged, &geneve, &[], &[0xFF]])?;
     packets.extend_from_slice(&[0; 15])?;
-    assert!(rt;
-        is_explained(
-            alloc,
-            &packets,
-            4,
-            "1 1000000000 u 1 10 p1=60 p2=60 p3=64\n  ether 0 12\n  type 12 2\n  ip4 14 20\n  udp 34 8\n  vxlan 42 8\n  ether 50 12\n  type 62 2\n  payload 64 46\n  tail 110 6\n  stop 12 NotIp\n2 2000000000 u 2 10 p1=60 p2=60 p3=64\n  ether 0 12\n  tag 12 4\n  type 16 2\n  ip4 18 20\n  udp 38 8\n  vxlan 46 8\n  ether 54 12\n  type 66 2\n  payload 68 46\n  stop 12 NotIp\n3 3000000000 u 3 20 p2=64 p3=64\n  ether 0 12\n  type 12 2\n  ip4 14 20\n  udp 34 8\n  geneve 42 20\n  ether 62 12\n  type 74 2\n  payload 76 46\n  stop 12 NotIp\n4 4000000000 u 4 - drop 3 Runt\n  payload 0 0\n  stop 3 Runt\n5 5000000000 u 5 - drop 3 Runt\n  payload 0 1\n  stop 3 Runt\ncut u 5\n"
-        ),
-        "a trailer, a tag, two options, no octet, one octet, and a cut rest"
-    );
+    Ok(packets)
+}
+
+/// How they are explained.
+fn five_explained<'a>() -> &'a str {
+    "1 1000000000 u 1 10 p1=60 p2=60 p3=64\n  ether 0 12\n  type 12 2\n  ip4 14 20\n  udp 34 8\n  vxlan 42 8\n  ether 50 12\n  type 62 2\n  payload 64 46\n  tail 110 6\n  stop 12 NotIp\n2 2000000000 u 2 10 p1=60 p2=60 p3=64\n  ether 0 12\n  tag 12 4\n  type 16 2\n  ip4 18 20\n  udp 38 8\n  vxlan 46 8\n  ether 54 12\n  type 66 2\n  payload 68 46\n  stop 12 NotIp\n3 3000000000 u 3 20 p2=64 p3=64\n  ether 0 12\n  type 12 2\n  ip4 14 20\n  udp 34 8\n  geneve 42 20\n  ether 62 12\n  type 74 2\n  payload 76 46\n  stop 12 NotIp\n4 4000000000 u 4 - drop 3 Runt\n  payload 0 0\n  stop 3 Runt\n5 5000000000 u 5 - drop 3 Runt\n  payload 0 1\n  stop 3 Runt\ncut u 5\n"
+}
+
+#[test]
+fn each_packet_has_its_layers(rt: HostRuntime) -> Result<(), Fail> {
+    let packets = five_packets(rt.alloc())?;
+    assert!(rt; is_explained(rt.alloc(), &packets, 4, five_explained()));
     Ok(())
+}
+
+/// How the tunnels are explained where one is taken off.
+fn one_tunnel<'a>() -> &'a str {
+    "1 1000000000 u 1 10 p1=260 p2=260 p3=264\n  ether 0 12\n  type 12 2\n  ip4 14 20\n  udp 34 8\n  vxlan 42 8\n  ether 50 12\n  type 62 2\n  ip4 64 20\n  udp 84 8\n  payload 92 218\n  stop Deep\n"
+}
+
+/// And where four are.
+fn four_tunnels<'a>() -> &'a str {
+    "1 1000000000 u 1 10 p1=260 p2=260 p3=264\n  ether 0 12\n  type 12 2\n  ip4 14 20\n  udp 34 8\n  vxlan 42 8\n  ether 50 12\n  type 62 2\n  ip4 64 20\n  udp 84 8\n  vxlan 92 8\n  ether 100 12\n  type 112 2\n  ip4 114 20\n  udp 134 8\n  vxlan 142 8\n  ether 150 12\n  type 162 2\n  ip4 164 20\n  udp 184 8\n  vxlan 192 8\n  ether 200 12\n  type 212 2\n  ip4 214 20\n  udp 234 8\n  payload 242 68\n  stop Deep\n"
 }
 
 #[test]
 fn tunnels_are_taken_off_as_deep_as_asked(rt: HostRuntime) -> Result<(), Fail> {
-    let alloc = rt.alloc();
-    let packet = nested(alloc)?;
-    assert_eq!(rt; packet.len(), 310, "its length");
-    let packets = capture(alloc, &[&packet])?;
-    assert!(rt;
-        is_explained(
-            alloc,
-            &packets,
-            1,
-            "1 1000000000 u 1 10 p1=260 p2=260 p3=264\n  ether 0 12\n  type 12 2\n  ip4 14 20\n  udp 34 8\n  vxlan 42 8\n  ether 50 12\n  type 62 2\n  ip4 64 20\n  udp 84 8\n  payload 92 218\n  stop Deep\n"
-        ),
-        "one tunnel"
-    );
-    assert!(rt;
-        is_explained(
-            alloc,
-            &packets,
-            4,
-            "1 1000000000 u 1 10 p1=260 p2=260 p3=264\n  ether 0 12\n  type 12 2\n  ip4 14 20\n  udp 34 8\n  vxlan 42 8\n  ether 50 12\n  type 62 2\n  ip4 64 20\n  udp 84 8\n  vxlan 92 8\n  ether 100 12\n  type 112 2\n  ip4 114 20\n  udp 134 8\n  vxlan 142 8\n  ether 150 12\n  type 162 2\n  ip4 164 20\n  udp 184 8\n  vxlan 192 8\n  ether 200 12\n  type 212 2\n  ip4 214 20\n  udp 234 8\n  payload 242 68\n  stop Deep\n"
-        ),
-        "four tunnels"
-    );
+    let packet = nested(rt.alloc())?;
+    assert!(rt; packet.len() == 310, "its length");
+    let packets = capture(rt.alloc(), &[&packet])?;
+    assert!(rt; is_explained(rt.alloc(), &packets, 1, one_tunnel()));
+    assert!(rt; is_explained(rt.alloc(), &packets, 4, four_tunnels()));
     Ok(())
 }
 
@@ -187,48 +183,53 @@ fn in_vxlan6(alloc: Global) -> Result<Vec<u8>, Fail> {
     )
 }
 
-#[test]
-fn each_length_over_ipv6_has_its_tail(rt: HostRuntime) -> Result<(), Fail> {
-    let alloc = rt.alloc();
-    let packet = in_vxlan6(alloc)?;
-    assert_eq!(rt; packet.len(), 135, "its length");
-    let packets = capture(alloc, &[&packet])?;
-    assert!(rt;
-        is_explained(
-            alloc,
-            &packets,
-            4,
-            "1 1000000000 u 1 10 p1=60 p2=60 p3=64\n  ether 0 12\n  type 12 2\n  ip6 14 40\n  udp 54 8\n  vxlan 62 8\n  ether 70 12\n  type 82 2\n  payload 84 46\n  tail 130 3\n  tail 133 2\n  stop 12 NotIp\n"
-        ),
-        "no checksum is needed"
-    );
-    let settings = PEER.replace(alloc, "[underlay]", "[underlay]\nzero6 = false")?;
-    assert!(rt;
-        is_explained_by(
-            alloc,
-            &settings,
-            &packets,
-            4,
-            "1 1000000000 u 1 - drop 21 ZeroSum\n  ether 0 12\n  type 12 2\n  ip6 14 40\n  udp 54 8\n  payload 62 68\n  tail 130 3\n  tail 133 2\n  stop 21 ZeroSum\n"
-        ),
-        "a checksum is needed"
-    );
-    Ok(())
+/// How it is explained where no checksum is needed.
+fn without_checksum<'a>() -> &'a str {
+    "1 1000000000 u 1 10 p1=60 p2=60 p3=64\n  ether 0 12\n  type 12 2\n  ip6 14 40\n  udp 54 8\n  vxlan 62 8\n  ether 70 12\n  type 82 2\n  payload 84 46\n  tail 130 3\n  tail 133 2\n  stop 12 NotIp\n"
+}
+
+/// And where one is.
+fn with_checksum<'a>() -> &'a str {
+    "1 1000000000 u 1 - drop 21 ZeroSum\n  ether 0 12\n  type 12 2\n  ip6 14 40\n  udp 54 8\n  payload 62 68\n  tail 130 3\n  tail 133 2\n  stop 21 ZeroSum\n"
 }
 
 #[test]
-fn a_decision_is_explained(rt: HostRuntime) -> Result<(), Fail> {
-    let alloc = rt.alloc();
-    let settings = settings_of(alloc, PEER.as_bytes())?;
-    let mut endpoint = Endpoint::open(alloc, settings)?;
+fn each_length_over_ipv6_has_its_tail(rt: HostRuntime) -> Result<(), Fail> {
+    let packet = in_vxlan6(rt.alloc())?;
+    assert!(rt; packet.len() == 135, "its length");
+    let packets = capture(rt.alloc(), &[&packet])?;
+    assert!(rt; is_explained(rt.alloc(), &packets, 4, without_checksum()));
+    let settings = PEER.replace(rt.alloc(), "[underlay]", "[underlay]\nzero6 = false")?;
+    assert!(rt; is_explained_by(rt.alloc(), &settings, &packets, 4, with_checksum()));
+    Ok(())
+}
+
+fn are_lines(text: &[u8], lines: &str) -> bool {
+    text == lines.as_bytes()
+}
+
+/// Whether what is decided of a frame of 14 octets is explained so.
+fn is_decision_explained(alloc: Global, endpoint: &mut Endpoint) -> Result<bool, Fail> {
+    if endpoint.now() > SECOND {
+        return Err(Fail::new("the moment"));
+    }
     let packet = [0; 14];
     let decision = endpoint.packet(SECOND, 14, &packet);
     let layers = dissect(&packet, endpoint.under(), 4);
     let text = explain(alloc, &decision, &layers)?;
-    assert!(rt;
-        text.as_slice()
-            == "drop 12 NotIp\n  ether 0 12\n  type 12 2\n  payload 14 0\n  stop 12 NotIp\n".as_bytes(),
-        "a frame without a packet"
-    );
+    Ok(are_lines(&text, frame_explained()))
+}
+
+/// A frame without a packet.
+fn frame_explained<'a>() -> &'a str {
+    "drop 12 NotIp\n  ether 0 12\n  type 12 2\n  payload 14 0\n  stop 12 NotIp\n"
+}
+
+#[test]
+fn a_decision_is_explained(rt: HostRuntime) -> Result<(), Fail> {
+    let settings = settings_of(rt.alloc(), PEER.as_bytes())?;
+    let mut endpoint = Endpoint::open(rt.alloc(), settings)?;
+    let is_explained = is_decision_explained(rt.alloc(), &mut endpoint)?;
+    assert!(rt; is_explained);
     Ok(())
 }

@@ -17,6 +17,8 @@ mod endpoint_core_tests;
 #[cfg(test)]
 mod endpoint_state_tests;
 #[cfg(test)]
+mod explained_values_tests;
+#[cfg(test)]
 mod explanation_tests;
 #[cfg(test)]
 mod mesh_delivery_tests;

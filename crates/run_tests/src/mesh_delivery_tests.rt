@@ -70,40 +70,55 @@ fn leaves_at(alloc: Global, decision: &Decision, last: u8, expected: &str) -> Re
     is_printed(alloc, &brought, expected)
 }
 
+/// Whether a decision is printed so, and leaves so at the second and at the third endpoint.
+fn is_delivered(
+    alloc: Global,
+    decision: &Decision,
+    sent: &str,
+    at_third: &str,
+) -> Result<bool, Fail> {
+    Ok(
+        is_printed(alloc, decision, sent)?
+            && leaves_at(alloc, decision, 2, "p1=60 p2=60 p3=64")?
+            && leaves_at(alloc, decision, 3, at_third)?,
+    )
+}
+
+/// Whether a broadcast at port 1 of an endpoint, behind a change, is delivered so.
+fn delivers(
+    alloc: Global,
+    sender: &mut Endpoint,
+    change: Change,
+    sent: &str,
+    at_third: &str,
+) -> Result<bool, Fail> {
+    if sender.now() != 0 || sender.change(SECOND, change) != Ok(()) || sender.ports() != 3 {
+        return Ok(false);
+    }
+    let octets = broadcast();
+    let decision = sender.frame(SECOND, 1, 60, &octets);
+    is_delivered(alloc, &decision, sent, at_third)
+}
+
+/// The same of the first endpoint.
+fn leaves_once(alloc: Global, change: Change, sent: &str, at_third: &str) -> Result<bool, Fail> {
+    let mut sender = opened(alloc, "1", "[\"192.0.2.2\", \"192.0.2.3\"]")?;
+    delivers(alloc, &mut sender, change, sent, at_third)
+}
+
 #[test]
 fn a_broadcast_leaves_once_at_each_port(rt: HostRuntime) -> Result<(), Fail> {
-    let ten = Vid::new(10).ok_or("10 is a VID")?;
-    let third = Addr::V4([192, 0, 2, 3]);
-    let cases = [
-        (
-            Change::Flush { vid: ten },
-            "p2=60 p3=64 192.0.2.2=110 192.0.2.3=110",
-            "p1=60 p2=60 p3=64",
-        ),
-        (
-            Change::RemoveFlood {
-                vid: ten,
-                addr: third,
-                tunnel: None,
-            },
-            "p2=60 p3=64 192.0.2.2=110",
-            "",
-        ),
-    ];
-    for (change, sent, at_third) in cases {
-        let mut sender = opened(rt.alloc(), "1", "[\"192.0.2.2\", \"192.0.2.3\"]")?;
-        let octets = broadcast();
-        assert!(rt; sender.now() == 0, "the first moment");
-        assert!(rt; sender.change(SECOND, change) == Ok(()), "the change");
-        assert!(rt; sender.ports() == 3, "three ports");
-        let decision = sender.frame(SECOND, 1, 60, &octets);
-        assert!(rt; is_printed(rt.alloc(), &decision, sent)?, "{sent}");
-        for (last, expected) in [(2, "p1=60 p2=60 p3=64"), (3, at_third)] {
-            assert!(rt;
-                leaves_at(rt.alloc(), &decision, last, expected)?,
-                "at 192.0.2.{last}: {expected}"
-            );
-        }
-    }
+    let vid = Vid::new(10).ok_or("10 is a VID")?;
+    let flush = Change::Flush { vid };
+    let sent = "p2=60 p3=64 192.0.2.2=110 192.0.2.3=110";
+    let leaves = leaves_once(rt.alloc(), flush, sent, "p1=60 p2=60 p3=64")?;
+    assert!(rt; leaves, "to two endpoints");
+    let remove = Change::RemoveFlood {
+        vid,
+        addr: Addr::V4([192, 0, 2, 3]),
+        tunnel: None,
+    };
+    let leaves = leaves_once(rt.alloc(), remove, "p2=60 p3=64 192.0.2.2=110", "")?;
+    assert!(rt; leaves, "to one");
     Ok(())
 }

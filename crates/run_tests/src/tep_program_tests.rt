@@ -6,10 +6,10 @@ use tep_program::run;
 use test_inputs::capture_texts::{LITTLE_NANO, ONE_FRAME};
 
 /// Two local ports in one segment without remotes.
-const SETTINGS: &str =
-    "version = 1\n[underlay]\nmac = \"02:00:00:00:aa:01\"\nnext_hop = \"02:00:00:00:aa:fe\"\nip4 = \"192.0.2.1\"\n[[port]]\npvid = 10\n[[port]]\npvid = 10\n[[segment]]\nvid = 10\nvni = 5000\ntunnel = \"vxlan\"\nuntagged = [1, 2]\n";
+const SETTINGS: &[u8] =
+    b"version = 1\n[underlay]\nmac = \"02:00:00:00:aa:01\"\nnext_hop = \"02:00:00:00:aa:fe\"\nip4 = \"192.0.2.1\"\n[[port]]\npvid = 10\n[[port]]\npvid = 10\n[[segment]]\nvid = 10\nvni = 5000\ntunnel = \"vxlan\"\nuntagged = [1, 2]\n";
 
-const LINES: &str = "1 1000000000 p1 1 10 p2=14\n2 1000000000 p2 1 10 p1=14\ncut p2 1\n";
+const LINES: &[u8] = b"1 1000000000 p1 1 10 p2=14\n2 1000000000 p2 1 10 p1=14\ncut p2 1\n";
 
 /// The capture of one frame with a rest of three octets behind it.
 const CUT: &[u8] = b"\x4D\x3C\xB2\xA1\x02\0\x04\0\0\0\0\0\0\0\0\0\0\0\x04\0\x01\0\0\0\
@@ -39,72 +39,131 @@ fn status_of(rt: &HostRuntime, folder: &str, line: &str) -> Result<u8, Fail> {
     Ok(run(rt, words.as_slice()))
 }
 
-/// What is written is what the rules say of a frame of 14 octets at each of two ports, and of what was cut behind one.
+/// The files that the lines name.
+const INPUTS: [(&str, &[u8]); 4] = [
+    ("settings", SETTINGS),
+    ("empty", LITTLE_NANO),
+    ("one", ONE_FRAME),
+    ("cut", CUT),
+];
+
+/// The files that the run writes, and what is written is what the rules say of a frame of 14 octets at each of two ports,
+/// and of what was cut behind one.
+const OUTPUTS: [(&str, &[u8]); 4] = [
+    ("port1.pcap", ONE_FRAME),
+    ("port2.pcap", ONE_FRAME),
+    ("underlay.pcap", LITTLE_NANO),
+    ("decisions.txt", LINES),
+];
+
+/// Lines that write nothing, and their statuses.
+const STATUSES: [(&str, u8); 12] = [
+    ("tep", 0),
+    ("tep --help", 0),
+    ("tep --version", 0),
+    ("tep nothing", 2),
+    ("tep run", 2),
+    ("tep check --settings @/settings", 0),
+    ("tep check --settings @/one", 1),
+    ("tep check --settings @/none", 3),
+    (
+        "tep run --settings @/settings --underlay @/empty --out @ @/one",
+        1,
+    ),
+    (
+        "tep run --settings @/settings --underlay @/empty --out @ @/one @/settings",
+        1,
+    ),
+    (
+        "tep run --settings @/settings --underlay @/none --out @ @/one @/cut",
+        3,
+    ),
+    (
+        "tep run --settings @/settings --underlay @/empty --out @/none @/one @/cut",
+        3,
+    ),
+];
+
+/// The line of the run.
+const RUN: &str = "tep run --settings @/settings --underlay @/empty --out @ @/one @/cut";
+
+fn write_file(rt: &HostRuntime, folder: &str, name: &str, octets: &[u8]) -> Result<(), Fail> {
+    Ok(fs::write(rt, within(rt.alloc(), folder, name)?.as_str(), octets)?)
+}
+
+fn remove_file(rt: &HostRuntime, folder: &str, name: &str) -> Result<(), Fail> {
+    Ok(fs::remove_file(rt, within(rt.alloc(), folder, name)?.as_str())?)
+}
+
+/// Whether a file isn't there, or is empty.
+fn is_unwritten(rt: &HostRuntime, folder: &str, name: &str) -> Result<bool, Fail> {
+    match fs::read(rt, within(rt.alloc(), folder, name)?.as_str()) {
+        Ok(octets) => Ok(octets.is_empty()),
+        Err(_) => Ok(true),
+    }
+}
+
+/// Whether a file has these octets.
+fn is_written(rt: &HostRuntime, folder: &str, name: &str, wanted: &[u8]) -> Result<bool, Fail> {
+    let octets = fs::read(rt, within(rt.alloc(), folder, name)?.as_str())?;
+    Ok(octets.as_slice() == wanted)
+}
+
+/// The first line that ends with another status.
+fn wrong_line<'a>(rt: &HostRuntime, folder: &str) -> Result<Option<&'a str>, Fail> {
+    for (line, status) in &STATUSES {
+        if status_of(rt, folder, line)? != *status {
+            return Ok(Some(*line));
+        }
+    }
+    Ok(None)
+}
+
+/// The first file of the run's that is written before it.
+fn early_file<'a>(rt: &HostRuntime, folder: &str) -> Result<Option<&'a str>, Fail> {
+    for (name, _) in &OUTPUTS {
+        if !is_unwritten(rt, folder, name)? {
+            return Ok(Some(*name));
+        }
+    }
+    Ok(None)
+}
+
+/// The first file of the run's that has other octets; those before it are removed.
+fn wrong_file<'a>(rt: &HostRuntime, folder: &str) -> Result<Option<&'a str>, Fail> {
+    for (name, wanted) in &OUTPUTS {
+        if !is_written(rt, folder, name, wanted)? {
+            return Ok(Some(*name));
+        }
+        remove_file(rt, folder, name)?;
+    }
+    Ok(None)
+}
+
+/// Writes the files that the lines name.
+fn write_inputs(rt: &HostRuntime, folder: &str) -> Result<(), Fail> {
+    for (name, octets) in &INPUTS {
+        write_file(rt, folder, name, octets)?;
+    }
+    Ok(())
+}
+
+fn remove_inputs(rt: &HostRuntime, folder: &str) -> Result<(), Fail> {
+    for (name, _) in &INPUTS {
+        remove_file(rt, folder, name)?;
+    }
+    Ok(())
+}
+
 #[test]
 fn a_run_ends_with_its_status_and_its_files(rt: HostRuntime) -> Result<(), Fail> {
-    let alloc = rt.alloc();
     let folder = new_folder(&rt)?;
-    let folder = folder.as_str();
-    for (name, octets) in [
-        ("settings", SETTINGS.as_bytes()),
-        ("empty", LITTLE_NANO),
-        ("one", ONE_FRAME),
-        ("cut", CUT),
-    ] {
-        fs::write(&rt, within(alloc, folder, name)?.as_str(), octets)?;
-    }
-    let cases = [
-        ("tep", 0),
-        ("tep --help", 0),
-        ("tep --version", 0),
-        ("tep nothing", 2),
-        ("tep run", 2),
-        ("tep check --settings @/settings", 0),
-        ("tep check --settings @/one", 1),
-        ("tep check --settings @/none", 3),
-        (
-            "tep run --settings @/settings --underlay @/empty --out @ @/one",
-            1,
-        ),
-        (
-            "tep run --settings @/settings --underlay @/empty --out @ @/one @/settings",
-            1,
-        ),
-        (
-            "tep run --settings @/settings --underlay @/none --out @ @/one @/cut",
-            3,
-        ),
-        (
-            "tep run --settings @/settings --underlay @/empty --out @/none @/one @/cut",
-            3,
-        ),
-    ];
-    for (line, status) in cases {
-        assert_eq!(rt; status_of(&rt, folder, line)?, status, "{line}");
-    }
-    let outputs = [
-        ("port1.pcap", ONE_FRAME),
-        ("port2.pcap", ONE_FRAME),
-        ("underlay.pcap", LITTLE_NANO),
-        ("decisions.txt", LINES.as_bytes()),
-    ];
-    for (name, _) in outputs {
-        let stands = match fs::read(&rt, within(alloc, folder, name)?.as_str()) {
-            Ok(octets) => octets.len(),
-            Err(_) => 0,
-        };
-        assert_eq!(rt; stands, 0, "{name} before any run is done");
-    }
-    let line = "tep run --settings @/settings --underlay @/empty --out @ @/one @/cut";
-    assert_eq!(rt; status_of(&rt, folder, line)?, 0, "{line}");
-    for (name, expected) in outputs {
-        let octets = fs::read(&rt, within(alloc, folder, name)?.as_str())?;
-        assert!(rt; octets.as_slice() == expected, "{name}");
-        fs::remove_file(&rt, within(alloc, folder, name)?.as_str())?;
-    }
-    for name in ["settings", "empty", "one", "cut"] {
-        fs::remove_file(&rt, within(alloc, folder, name)?.as_str())?;
-    }
-    fs::remove_dir(&rt, folder)?;
+    write_inputs(&rt, &folder)?;
+    assert_eq!(rt; wrong_line(&rt, &folder)?, None);
+    assert_eq!(rt; early_file(&rt, &folder)?, None);
+    assert!(rt; status_of(&rt, &folder, RUN)? == 0);
+    assert_eq!(rt; wrong_file(&rt, &folder)?, None);
+    remove_inputs(&rt, &folder)?;
+    fs::remove_dir(&rt, folder.as_str())?;
     Ok(())
 }

@@ -18,3 +18,4 @@ pub mod Passing
 pub mod Sweeping
 pub mod Sizes
 pub mod StandingLemmas
+pub mod ListingLemmas

@@ -94,7 +94,7 @@ pub record Sifts (test : Option Held → Bool) (es es' : List (Option Held)) : T
   pub size : length es' ≡ length es
   pub each : (i : ℕ) → entry_at es' i ≡ cond (test (entry_at es i)) None (entry_at es i)
 
-tail_unique : (o : Option Held) (es : List (Option Held)) → IsUnique (o ∷ es) → IsUnique es
+pub tail_unique : (o : Option Held) (es : List (Option Held)) → IsUnique (o ∷ es) → IsUnique es
 tail_unique o es u i j e f a b vids macs = let q : suc i ≡ suc j = u (suc i) (suc j) e f a b vids macs in omega (arith, q)
 
 tail_sifts : (test : Option Held → Bool) (o o' : Option Held) (es es' : List (Option Held)) → Sifts test (o ∷ es) (o' ∷ es') → Sifts test es es'

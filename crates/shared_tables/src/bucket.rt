@@ -44,6 +44,22 @@ pub fn is_key_of(own: u64, vid: Vid, mac: Mac) -> bool
     own == key(vid, mac)
 }
 
+/// The VID in a key.
+pub fn vid_of(key: u64) -> u16
+    ensures { result ≡ vid_in key }
+{
+    let [high, low, _, _, _, _, _, _] = key.to_be_bytes();
+    u16::from_be_bytes([high, low])
+}
+
+/// The address in a key.
+pub fn mac_of(key: u64) -> Mac
+    ensures { result ≡ mac_in key }
+{
+    let [_, _, a, b, c, d, e, f] = key.to_be_bytes();
+    Mac([a, b, c, d, e, f])
+}
+
 /// The bucket of a key, below 4,096.
 fn bucket_by_key(key: u64) -> usize
     ensures value { result ≡ bucket_of (vid_in key) (mac_in key) }

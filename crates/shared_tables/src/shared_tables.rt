@@ -24,9 +24,10 @@ use std::alloc::{AllocError, Global};
 use std::marker::Model;
 use work_count::Count;
 
+mod listing;
 mod standing;
 
-/// The tables of all segments, in one pool of slots. No call but `open` takes memory.
+/// The tables of all segments, in one pool of slots. No call but `open` and `entries` takes memory.
 #[derive(Drop)]
 pub struct SharedTables {
     slots: Slots,

@@ -10,6 +10,8 @@ use std::alloc::{AllocError, Global};
 use std::marker::Model;
 use work_count::Count;
 
+mod listing;
+
 /// The number of a slot.
 #[derive(Clone, Copy)]
 pub struct SlotId {
@@ -295,7 +297,8 @@ impl Slots {
         self.slots.len() as u32
     }
 
-    /// Whether a slot holds this address of this segment. It is the only way to compare an address with a slot's.
+    /// Whether a slot holds this address of this segment. It is the only way to compare an address with a slot's but for a
+    /// listing.
     pub fn same(&mut self, slot: SlotId, vid: Vid, mac: Mac) -> bool
         requires in_pool { slot < length self.old.entries }
         requires held { IsSome (entry_at self.old.entries slot) }
@@ -306,7 +309,8 @@ impl Slots {
         is_of(&self.slots[slot.number as usize], vid, mac)
     }
 
-    /// Whether a slot's entry is dead, under an ageing in nanoseconds. It is the only way to tell an entry's age.
+    /// Whether a slot's entry is dead, under an ageing in nanoseconds. It is the only way to tell an entry's age but
+    /// for a listing.
     pub fn dead(&mut self, slot: SlotId, ageing: u64, now: u64) -> bool
         requires in_pool { slot < length self.old.entries }
         ensures dead { result ≡ is_dead_in (entry_at self.old.entries slot) ageing now }

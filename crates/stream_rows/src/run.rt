@@ -8,7 +8,7 @@ use capture_run::Outputs;
 use pcap_stream::{Sink, Source};
 use std::alloc::{AllocError, Global};
 use std::test::Fail;
-use stream_run::{StreamFault, run_streams};
+use stream_run::{StreamFault, Unwatched, run_streams};
 
 /// How the devices of a run do their work. Captures, and the outputs of their sides, are counted from 0: the ports', the
 /// underlay's, and behind them the decision lines.
@@ -113,6 +113,7 @@ impl Manner {
             sinks.as_mut_slice(),
             &mut underlay_sink,
             &mut decisions,
+            &mut Unwatched,
         );
         let mut ports = Vec::new(alloc);
         for sink in sinks {

@@ -1,6 +1,7 @@
 -- What a run leaves in its outputs, by the calls that it makes.
-use Rattle.std.proofs.Common.{◌≡◌, ◌∙◌, sym, ap, subst, ℕ, List, ◌++◌, append-nil, length, arith, Vec, Global, Ok, Err}
+use Rattle.std.proofs.Common.{◌≡◌, ◌∙◌, refl, sym, ap, subst, ℕ, List, ◌++◌, append-nil, length, arith, Vec, Global, Ok, Err}
 use Rattle.std.proofs.lemmas.List.{length-map}
+use Rattle.std.specs.List.{FoldsTo}
 use Rattle.pcap_stream.specs.Source.{Stream}
 use Rattle.overlay_settings.specs.Settings.{Settings}
 use Rattle.overlay_settings.specs.declared.change.TimedChange.{TimedChange}
@@ -14,13 +15,15 @@ use Rattle.stream_run.specs.Begun.{AreAtFirst, OpensInTurn}
 use Rattle.stream_run.specs.Coming.{coming}
 use Rattle.stream_run.specs.Cuts.{cuts_at}
 use Rattle.stream_run.specs.Over.{LeavesOver, Tells, texts_octets, whole_records}
+use Rattle.stream_run.specs.Sights.{Sight, sights}
 use Rattle.stream_run.specs.Stage.{Drains, Lead, StandAt, StandBetween, no_texts}
-use Rattle.stream_run.specs.Steps.{AreRead, AreReady, IsAt, IsRunOn, LeadsBehind, Run, run_at, texts_behind}
+use Rattle.stream_run.specs.Steps.{AreRead, AreReady, IsAt, IsRunOn, LeadsBehind, Run, changes_of, run_at, texts_behind}
+use Rattle.stream_run.specs.Watched.{IsWatchedRun, SeesOver, state_behind}
 use Rattle.stream_run.specs.declared.fault.StreamFault.{StreamFault}
 use Rattle.stream_run.specs.declared.fault.StreamFault.TheVariants as stream
 use Rattle.stream_run.specs.declared.fault.Target.{Target}
 use Rattle.stream_run.specs.declared.turn.Turn.{Turn}
-use Rattle.stream_run.proofs.Overall.{all_opened, one_refused, over_all, over_cuts, over_events, over_refused, over_unopened, tells_many}
+use Rattle.stream_run.proofs.Overall.{all_opened, one_refused, over_all, over_cuts, over_events, over_refused, over_unopened, seen_all, seen_cuts, seen_events, seen_unread, tells_many}
 use Rattle.stream_run.proofs.Wholes.{AllStandAtEnd, all_at_end, all_coming}
 
 -- all captures were opened, and tell these octets
@@ -44,6 +47,18 @@ module _ (s : Settings) (changes : List TimedChange) (texts : List (Vec ℕ Glob
   over_opening new ports new_ports underlay new_underlay (stream.Run faults.OutOfMemory) tells opens many at = absurd opens
   over_opening new ports new_ports underlay new_underlay (stream.Read place) tells opens many at = over_unopened s changes texts text start new at
   over_opening new ports new_ports underlay new_underlay (stream.Write target) tells opens many at = absurd opens
+
+  -- so nothing was seen
+  pub seen_opening : {T : Type 0} (sees : T → Sight → T → Type 0) (end : T → State → T → Type 0) (watch : T) (new : Drains) (ports new_ports : List Stream) (underlay new_underlay : Stream) (fault : StreamFault)
+      → OpensInTurn ports underlay new_ports new_underlay (Err fault) → StandAt start new (no_texts (length texts)) → SeesOver sees end s changes texts text start new watch watch (Err fault)
+  seen_opening sees end watch new ports new_ports underlay new_underlay (stream.Run (faults.Capture place f)) opens at = refl
+  seen_opening sees end watch new ports new_ports underlay new_underlay (stream.Run (faults.Record place n f)) opens at = absurd opens
+  seen_opening sees end watch new ports new_ports underlay new_underlay (stream.Run (faults.Settings f)) opens at = absurd opens
+  seen_opening sees end watch new ports new_ports underlay new_underlay (stream.Run (faults.Changes f)) opens at = absurd opens
+  seen_opening sees end watch new ports new_ports underlay new_underlay (stream.Run faults.PortCount) opens at = absurd opens
+  seen_opening sees end watch new ports new_ports underlay new_underlay (stream.Run faults.OutOfMemory) opens at = absurd opens
+  seen_opening sees end watch new ports new_ports underlay new_underlay (stream.Read place) opens at = seen_unread s changes texts text start new sees end watch place at
+  seen_opening sees end watch new ports new_ports underlay new_underlay (stream.Write target) opens at = absurd opens
 
   module _ (ports : List Stream) (underlay : Stream) (turns : List Turn) (state : State) (d : Drains) (run : Run) (ready : AreReady changes (run_at ports underlay turns state 0 d))
       (read : AreRead (texts_octets texts) text turns ports underlay) (at : StandAt start d (empty_outputs (length texts))) (is : state ≡ opened (settings_told s)) where
@@ -83,3 +98,36 @@ module _ (s : Settings) (changes : List TimedChange) (texts : List (Vec ℕ Glob
     over_whole new on many lead =
         over_all s changes texts text start new on.es run.turns run.ports run.underlay many (no_more on) (ends on)
         (subst (λ st. StandAt start new (with_cuts (texts_behind changes st (empty_outputs (length texts)) on.es) (cuts_at run.ports run.underlay run.turns))) is lead)
+
+    -- ---- what was seen
+
+    module _ {T : Type 0} (sees : T → Sight → T → Type 0) (end : T → State → T → Type 0) (old_watch : T) where
+      -- the events that came, from the settings on
+      sees_all : (es : List Event) (new_watch : T) → FoldsTo sees old_watch (sights (changes_of changes) state 0 es) new_watch → FoldsTo sees old_watch (sights (changes_of changes) (opened (settings_told s)) 0 es) new_watch
+      sees_all es new_watch h = subst (λ st. FoldsTo sees old_watch (sights (changes_of changes) st 0 es) new_watch) is h
+
+      -- where no write failed there is no part of another event
+      sees_whole : (new_watch : T) (on : IsWatchedRun sees changes (run_at ports underlay turns state 0 d) run old_watch new_watch (Ok tt)) → on.run.es ++ on.run.more ≡ on.run.es
+      sees_whole new_watch on = ap (λ l. on.run.es ++ l) on.run.part ∙ append-nil on.run.es
+
+      pub seen_run : (fault : StreamFault) (new_watch : T) → IsWatchedRun sees changes (run_at ports underlay turns state 0 d) run old_watch new_watch (Err fault) → SeesOver sees end s changes texts text start run.drains old_watch new_watch (Err fault)
+      seen_run fault new_watch on =
+          let told = on.run.told (texts_octets texts) text read in
+          seen_events s changes texts text start run.drains sees end old_watch fault run on.run.es on.run.more told.rest new_watch (all_are on.run.es on.run.more told.rest told.first) told.ends on.run.part
+          (subst (λ st. LeadsBehind {T = Unit {0}} changes st start run.drains (empty_outputs (length texts)) on.run.es on.run.more (Err fault)) is (on.run.outputs start (empty_outputs (length texts)) at))
+          (sees_all (on.run.es ++ on.run.more) new_watch on.seen)
+
+      pub seen_lines : (new : Drains) (target : Target) (new_watch : T) (on : IsWatchedRun sees changes (run_at ports underlay turns state 0 d) run old_watch new_watch (Ok tt))
+          → Lead {T = Unit {0}} start new (before_lines on.run) (with_cuts (before_lines on.run) (cuts_at run.ports run.underlay run.turns)) (Err target) → SeesOver sees end s changes texts text start new old_watch new_watch (Err (stream.Write target))
+      seen_lines new target new_watch on lead =
+          seen_cuts s changes texts text start new sees end old_watch target on.run.es run.turns run.ports run.underlay new_watch (no_more on.run) (ends on.run)
+          (subst (λ st. StandBetween start new (texts_behind changes st (empty_outputs (length texts)) on.run.es) (with_cuts (texts_behind changes st (empty_outputs (length texts)) on.run.es) (cuts_at run.ports run.underlay run.turns))) is lead.0)
+          (subst (λ l. FoldsTo sees old_watch (sights (changes_of changes) (opened (settings_told s)) 0 l) new_watch) (sees_whole new_watch on) (sees_all (on.run.es ++ on.run.more) new_watch on.seen))
+
+      pub seen_whole : (new : Drains) (last new_watch : T) (on : IsWatchedRun sees changes (run_at ports underlay turns state 0 d) run old_watch last (Ok tt)) → end last run.state new_watch → SeesOver sees end s changes texts text start new old_watch new_watch (Ok tt)
+      seen_whole new last new_watch on ended =
+          let all = sees_whole last on in
+          let from : run.state ≡ state_behind changes (opened (settings_told s)) on.run.es = on.state ∙ ap (state_behind changes state) all ∙ ap (λ st. state_behind changes st on.run.es) is in
+          seen_all s changes texts text start new sees end old_watch on.run.es last new_watch (no_more on.run)
+          (subst (λ l. FoldsTo sees old_watch (sights (changes_of changes) (opened (settings_told s)) 0 l) last) all (sees_all (on.run.es ++ on.run.more) last on.seen))
+          (subst (λ st. end last st new_watch) from ended)

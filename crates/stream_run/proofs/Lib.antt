@@ -18,3 +18,4 @@ mod Begun
 mod Closing
 mod Framing
 mod Refusing
+mod Showing

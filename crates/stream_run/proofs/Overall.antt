@@ -1,16 +1,17 @@
 -- What a run leaves in its outputs, by where it stops.
-use Rattle.std.proofs.Common.{◌≡◌, ◌∙◌, refl, sym, ap, subst, ℕ, zero, suc, ◌+◌, ◌-◌, ◌<◌, ◌≤◌, Bool, true, false, cond, inl, inr, List, [], ◌∷◌, ◌++◌, append-nil, append_assoc, length, length-append, map, take, slice_index_or, arith, Vec, Global, Some, None, Ok, Err}
+use Rattle.std.proofs.Common.{◌≡◌, ◌∙◌, refl, sym, ap, subst, ℕ, suc, ◌+◌, ◌-◌, ◌<◌, ◌≤◌, Bool, true, false, cond, inl, inr, List, [], ◌∷◌, ◌++◌, append-nil, append_assoc, length, length-append, map, take, slice_index_or, arith, Vec, Global, Some, None, Result, Ok, Err}
 use Rattle.std.specs.Prelude.{nat_lt, ⊤}
 use Rattle.std.proofs.Math.Seq.{take-append_seam}
 use Rattle.std.proofs.lemmas.Bool.{eq-eqb, ltb-true, ltb-false}
-use Rattle.std.proofs.lemmas.List.{get_or-map, length-map}
+use Rattle.std.proofs.lemmas.List.{get_or-map, length-map, take_all}
+use Rattle.std.specs.List.{FoldsTo}
 use Rattle.pcap_io.specs.declared.header.CaptureFault.{CaptureFault}
 use Rattle.pcap_stream.specs.InTurn.{IsReading}
 use Rattle.pcap_stream.specs.Source.{Stream}
 use Rattle.overlay_settings.specs.Settings.{Settings}
 use Rattle.overlay_settings.specs.declared.change.Change.{Change}
 use Rattle.overlay_settings.specs.declared.change.TimedChange.{TimedChange}
-use Rattle.endpoint_core.specs.Step.{opened}
+use Rattle.endpoint_core.specs.Step.{State, opened}
 use Rattle.endpoint_state.specs.Opened.{settings_told}
 use Rattle.endpoint_state.specs.Settings.{Settings as Bridged}
 use Rattle.timeline.proofs.Orders.{rising_merged}
@@ -39,8 +40,10 @@ use Rattle.stream_run.specs.Begun.{OpensInTurn}
 use Rattle.stream_run.specs.Coming.{EndBefore}
 use Rattle.stream_run.specs.Cuts.{cuts_at}
 use Rattle.stream_run.specs.Over.{BeginsIn, IsRunOver, LeavesOver, StandsSomewhere, Tells, texts_octets, texts_at, whole_records}
+use Rattle.stream_run.specs.Sights.{Sight, sights}
 use Rattle.stream_run.specs.Stage.{Drains, StandAt, StandBetween, first_of, no_texts, stage}
 use Rattle.stream_run.specs.Steps.{EndsIn, IsAt, IsPart, LeadsBehind, Run, changes_of, octets_at, source_at, texts_behind}
+use Rattle.stream_run.specs.Watched.{IsWatchedOver, SeesOver, first_sights, state_behind}
 use Rattle.stream_run.specs.declared.fault.StreamFault.{StreamFault}
 use Rattle.stream_run.specs.declared.fault.StreamFault.TheVariants as stream
 use Rattle.stream_run.specs.declared.fault.Target.{Target}
@@ -76,15 +79,6 @@ stage_events S cs n t es rest rising is =
 all_of : (k : ℕ) (t : Timeline) → k ≡ length t.events → ◌≡◌ {A = Timeline} (first_of (suc k) t) t
 all_of k t is = by (nat_lt (length t.events) (suc k)) refl (take_all (suc k) t.events (omega (arith, is)))
   where
-    take_all : (m : ℕ) (l : List Event) → length l ≤ m → take m l ≡ l
-    take_all m [] le = by_size m
-      where
-        by_size : (m : ℕ) → ◌≡◌ {A = List Event} (take m []) []
-        by_size zero = refl
-        by_size (suc m) = refl
-    take_all zero (e ∷ l) le = absurd (omega (arith, le))
-    take_all (suc m) (e ∷ l) le = ap (λ l. e ∷ l) (take_all m l (omega (arith, le)))
-
     by : (b : Bool) → nat_lt (length t.events) (suc k) ≡ b → take (suc k) t.events ≡ t.events → ◌≡◌ {A = Timeline} (record { events = take (suc k) t.events; cuts = cond b t.cuts [] }) t
     by true found all = ap (λ l. record { events = l; cuts = t.cuts }) all
     by false found all = absurd (omega (arith, ltb-false _ _ found, is))
@@ -259,6 +253,87 @@ module _ (s : Settings) (changes : List TimedChange) (texts : List (Vec ℕ Glob
             (ap (λ l. with_cuts (behind l) (cuts_at ports underlay turns)) (sym is) ∙ ap (with_cuts (behind whole.events)) (sym (cuts_at_end texts text turns ports underlay ends)) ∙ outputs_grown S cs (length texts) whole rising) at,
       )
 
+  -- ---- what was seen
+
+  module _ {T : Type 0} (sees : T → Sight → T → Type 0) (ends : T → State → T → Type 0) (old_watch : T) where
+    -- these events were seen
+    abbrev Sees : List Event → T → Type 0
+    Sees es new_watch = FoldsTo sees old_watch (sights (changes_of changes) (opened (settings_told s)) 0 es) new_watch
+
+    abbrev Seen : T → Result (Unit {0}) StreamFault → Type 0
+    Seen new_watch result = SeesOver sees ends s changes texts text start new old_watch new_watch result
+
+    -- they are the first ones
+    sees_first : (es rest : List Event) (k : ℕ) (new_watch : T) → whole.events ≡ es ++ rest → k ≡ length es → Sees es new_watch → FoldsTo sees old_watch (first_sights s changes texts text k) new_watch
+    sees_first es rest k new_watch is at h = subst (λ l. Sees l new_watch) (sym (ap (λ k. take k whole.events) at ∙ first_events whole es rest is)) h
+
+    -- nothing was
+    pub seen_unopened : StandAt start new (no_texts (length texts)) → Seen old_watch (Err (stream.Run faults.OutOfMemory))
+    unfolding over_unopened
+    seen_unopened at = (over_unopened at, refl)
+
+    pub seen_unread : (place : Tap) → StandAt start new (no_texts (length texts)) → Seen old_watch (Err (stream.Read place))
+    unfolding over_unopened
+    seen_unread place at = (over_unopened at, refl)
+
+    pub seen_headers : (target : Target) → StandBetween start new (no_texts (length texts)) (empty_outputs (length texts)) → Seen old_watch (Err (stream.Write target))
+    unfolding over_headers
+    seen_headers target between = (over_headers target between, refl)
+
+    pub seen_firsts : (fault : StreamFault) (turns : List Turn) (ports : List Stream) (underlay : Stream) → BeginsIn {T = Unit {0}} (texts_octets texts) text turns ports underlay (Err fault) → StandAt start new (empty_outputs (length texts))
+        → Seen old_watch (Err fault)
+    unfolding over_firsts stands_behind
+    seen_firsts (stream.Run (faults.Record place n f)) turns ports underlay h at = (over_firsts (stream.Run (faults.Record place n f)) turns ports underlay h at, refl)
+    seen_firsts (stream.Run (faults.Settings f)) turns ports underlay h at = absurd h
+    seen_firsts (stream.Run (faults.Changes f)) turns ports underlay h at = absurd h
+    seen_firsts (stream.Run faults.PortCount) turns ports underlay h at = absurd h
+    seen_firsts (stream.Run (faults.Capture place f)) turns ports underlay h at = absurd h
+    seen_firsts (stream.Run faults.OutOfMemory) turns ports underlay h at = absurd h
+    seen_firsts (stream.Read place) turns ports underlay h at = (over_firsts (stream.Read place) turns ports underlay h at, refl)
+    seen_firsts (stream.Write target) turns ports underlay h at = absurd h
+
+    -- the first events were, and where a write failed one more
+    pub seen_events : (fault : StreamFault) (run : Run) (es more rest : List Event) (new_watch : T) → whole.events ≡ es ++ (more ++ rest) → EndsIn {T = Unit {0}} (texts_octets texts) text es rest run (Err fault)
+        → IsPart {T = Unit {0}} more (Err fault) → LeadsBehind {T = Unit {0}} changes (opened (settings_told s)) start new (empty_outputs (length texts)) es more (Err fault) → Sees (es ++ more) new_watch → Seen new_watch (Err fault)
+    unfolding over_events stands_behind
+    seen_events (stream.Run (faults.Record place n f)) run es more rest new_watch is h part at seen = (
+      over_events (stream.Run (faults.Record place n f)) run es more rest is h part at,
+      sees_first (es ++ more) rest _ new_watch (is ∙ sym (append_assoc es more rest)) (omega (arith, ap length part, length-append es more)) seen,
+    )
+    seen_events (stream.Run (faults.Settings f)) run es more rest new_watch is h part at seen = absurd h
+    seen_events (stream.Run (faults.Changes f)) run es more rest new_watch is h part at seen = absurd h
+    seen_events (stream.Run faults.PortCount) run es more rest new_watch is h part at seen = absurd h
+    seen_events (stream.Run (faults.Capture place f)) run es more rest new_watch is h part at seen = absurd h
+    seen_events (stream.Run faults.OutOfMemory) run es more rest new_watch is h part at seen = (
+      over_events (stream.Run faults.OutOfMemory) run es more rest is h part at,
+      sees_first (es ++ more) rest _ new_watch (is ∙ sym (append_assoc es more rest)) (omega (arith, ap length part, length-append es more)) seen,
+    )
+    seen_events (stream.Read place) run es more rest new_watch is h part at seen = (
+      over_events (stream.Read place) run es more rest is h part at,
+      sees_first (es ++ more) rest _ new_watch (is ∙ sym (append_assoc es more rest)) (omega (arith, ap length part, length-append es more)) seen,
+    )
+    seen_events (stream.Write target) run es more rest new_watch is h part at seen = (
+      over_events (stream.Write target) run es more rest is h part at,
+      sees_first (es ++ more) rest _ new_watch (is ∙ sym (append_assoc es more rest)) (omega (arith, ap length part.1, length-append es more)) seen,
+    )
+
+    -- all events were, but not the end
+    pub seen_cuts : (target : Target) (es : List Event) (turns : List Turn) (ports : List Stream) (underlay : Stream) (new_watch : T) → whole.events ≡ es → AllStandAtEnd texts text turns ports underlay
+        → StandBetween start new (behind es) (with_cuts (behind es) (cuts_at ports underlay turns)) → Sees es new_watch → Seen new_watch (Err (stream.Write target))
+    unfolding over_cuts
+    seen_cuts target es turns ports underlay new_watch is at_end between seen = (
+      over_cuts target es turns ports underlay is at_end between,
+      subst (λ l. Sees l new_watch) (sym (take_all (length es + 1) whole.events (omega (arith, ap length is)) ∙ is)) seen,
+    )
+
+    -- all events were, and then the end
+    pub seen_all : (es : List Event) (last new_watch : T) → whole.events ≡ es → Sees es last → ends last (state_behind changes (opened (settings_told s)) es) new_watch → Seen new_watch (Ok tt)
+    seen_all es last new_watch is seen ended = (
+      last,
+      subst (λ l. Sees l last) (sym is) seen,
+      subst (λ l. ends last (state_behind changes (opened (settings_told s)) l) new_watch) (sym is) ended,
+    )
+
 -- ---- refused before
 
 -- a fault of a text or of the number of captures
@@ -304,3 +379,15 @@ module _ (texts : List (Vec ℕ Global)) (text : List ℕ) (start new : Drains) 
   over_refusal (Ok s) (Ok changes) faults.OutOfMemory refusal gives at = over_unopened s changes texts text start new at
   over_refusal (Ok s) (Err fault) faults.OutOfMemory refusal gives at = at
   over_refusal (Err fault) c faults.OutOfMemory refusal gives at = at
+
+  -- and nothing was seen
+  pub seen_refusal : {T : Type 0} (sees : T → Sight → T → Type 0) (ends : T → State → T → Type 0) (watch : T) (s : Meaning Settings) (c : Meaning (List TimedChange)) (fault : RunFault) → IsRefusal fault → StandAt start new (no_texts (length texts))
+      → IsWatchedOver sees ends s c texts text start new watch watch (Err (stream.Run fault))
+  seen_refusal sees ends watch (Ok s) (Ok changes) (faults.Settings f) refusal at = refl
+  seen_refusal sees ends watch (Ok s) (Ok changes) (faults.Changes f) refusal at = refl
+  seen_refusal sees ends watch (Ok s) (Ok changes) faults.PortCount refusal at = refl
+  seen_refusal sees ends watch (Ok s) (Ok changes) (faults.Capture place f) refusal at = refl
+  seen_refusal sees ends watch (Ok s) (Ok changes) (faults.Record place n f) refusal at = absurd refusal
+  seen_refusal sees ends watch (Ok s) (Ok changes) faults.OutOfMemory refusal at = seen_unopened s changes texts text start new sees ends watch at
+  seen_refusal sees ends watch (Ok s) (Err f) fault refusal at = refl
+  seen_refusal sees ends watch (Err f) c fault refusal at = refl

@@ -12,8 +12,10 @@ use Rattle.capture_run.specs.declared.fault.RunFault.TheVariants as faults
 use Rattle.pcap_stream.specs.Source.{Stream}
 use Rattle.stream_run.specs.Coming.{coming, source_events}
 use Rattle.stream_run.specs.Read.{AreQuiet, GivesUpAt, failures_of}
+use Rattle.stream_run.specs.Sights.{Sight, sight, sights}
 use Rattle.stream_run.specs.Stage.{Drains, StandAt, StandBetween}
 use Rattle.stream_run.specs.Steps.{AreFirst, AreRead, AreReady, EndsIn, Fetches, IsRunOn, IsStep, Run, changes_of, texts_behind}
+use Rattle.stream_run.specs.Watched.{IsWatchedRun, IsWatchedStep, state_behind}
 use Rattle.stream_run.specs.declared.fault.StreamFault.{StreamFault}
 use Rattle.stream_run.specs.declared.fault.StreamFault.TheVariants as stream
 use Rattle.stream_run.specs.declared.turn.First.{First}
@@ -23,6 +25,7 @@ use Rattle.stream_run.proofs.Telling.{are_ahead}
 use Rattle.timeline.specs.declared.source.Tap.{Tap}
 use Rattle.timeline.specs.declared.source.Tap.TheVariants.{Port, Underlay}
 use Rattle.std.proofs.lemmas.List.{get_or-map, length-map}
+use Rattle.std.specs.List.{FoldsTo}
 use Rattle.pcap_stream.specs.Counts.{GoesOnBy}
 use Rattle.pcap_stream.specs.Supply.{GivesUp, Supply}
 
@@ -69,7 +72,7 @@ pub record HasRun (changes : List TimedChange) (old now : Run) : Type 0 where
   pub told : (texts : List (List ℕ)) (text : List ℕ) → AreRead texts text old.turns old.ports old.underlay → IsUpTo changes texts text old now es
   pub outputs : (start : Drains) (o : Outputs) → StandAt start old.drains o → StandAt start now.drains (texts_behind changes old.state o es)
 
-pub run_begins : (changes : List TimedChange) (old : Run) → old.number ≡ 0 → AreReady changes old → HasRun changes old old
+run_begins : (changes : List TimedChange) (old : Run) → old.number ≡ 0 → AreReady changes old → HasRun changes old old
 run_begins changes old none ready = record {
   es = [];
   number = none;
@@ -102,7 +105,7 @@ comes_next changes texts text old now es rest e up_to is = up_to.first ∙ ap (�
 pub quiet_on : (a b c : List Stream) (x y z : Stream) → AreQuiet a x b y → AreQuiet b y c z → AreQuiet a x c z
 quiet_on a b c x y z p q = record { ports = q.ports ∙ p.ports; underlay = q.underlay ∙ p.underlay }
 
-pub run_steps : (changes : List TimedChange) (old now new : Run) (first : First) → HasRun changes old now → IsStep changes now new first (Ok tt) → HasRun changes old new
+run_steps : (changes : List TimedChange) (old now new : Run) (first : First) → HasRun changes old now → IsStep changes now new first (Ok tt) → HasRun changes old new
 run_steps changes old now new first has step = record {
   es = has.es ++ step.e ∷ [];
   number = step.number ∙ ap (λ n. n + 1) has.number ∙ sym (length-append has.es (step.e ∷ []));
@@ -158,7 +161,7 @@ stops_run changes texts text new es rest e faults.PortCount h = absurd h
 stops_run changes texts text new es rest e (faults.Capture place f) h = absurd h
 stops_run changes texts text new es rest e faults.OutOfMemory h = absurd h
 
-pub run_stops : (changes : List TimedChange) (old now new : Run) (first : First) (fault : StreamFault) → HasRun changes old now → IsStep changes now new first (Err fault) → IsRunOn changes old new (Err fault)
+run_stops : (changes : List TimedChange) (old now new : Run) (first : First) (fault : StreamFault) → HasRun changes old now → IsStep changes now new first (Err fault) → IsRunOn changes old new (Err fault)
 run_stops changes old now new first (stream.Write target) has step = record {
   es = has.es;
   more = step.e ∷ [];
@@ -201,7 +204,7 @@ run_stops changes old now new first (stream.Read place) has step = record {
 -- ---- where it ends
 
 -- nothing of its sources is left
-pub run_ends : (changes : List TimedChange) (old now : Run) → HasRun changes old now → ((t : Turn) (k : ℕ) → k < length now.turns → (slice_index_or now.turns k t).next ≡ None) → IsRunOn changes old now (Ok tt)
+run_ends : (changes : List TimedChange) (old now : Run) → HasRun changes old now → ((t : Turn) (k : ℕ) → k < length now.turns → (slice_index_or now.turns k t).next ≡ None) → IsRunOn changes old now (Ok tt)
 run_ends changes old now has none = record {
   es = has.es;
   more = [];
@@ -222,7 +225,7 @@ run_ends changes old now has none = record {
 }
 
 -- it may be the want of numbers
-pub run_breaks : (changes : List TimedChange) (old now : Run) → HasRun changes old now → IsRunOn changes old now (Err (stream.Run faults.OutOfMemory))
+run_breaks : (changes : List TimedChange) (old now : Run) → HasRun changes old now → IsRunOn changes old now (Err (stream.Run faults.OutOfMemory))
 run_breaks changes old now has = record {
   es = has.es;
   more = [];
@@ -234,3 +237,88 @@ run_breaks changes old now has = record {
   ready = tt;
   told = λ texts text read. record { rest = coming changes texts text now.turns; first = (has.told texts text read).first; ends = tt };
 }
+
+-- ---- with what is seen
+
+-- an event behind others
+sights_snoc : (cs : List Change) (count number : ℕ) (s : State) (es : List Event) (e : Event) → number ≡ count + length es + 1
+    → sights cs s count (es ++ e ∷ []) ≡ sights cs s count es ++ sight (state_after s (map (event_of cs) es)) number e ∷ []
+sights_snoc cs count number s [] e is = ap (λ n. sight s n e ∷ []) (omega (arith, is))
+sights_snoc cs count number s (f ∷ es) e is =
+    ap (λ l. sight s (count + 1) f ∷ l) (sights_snoc cs (count + 1) number (after s (event_of cs f)) es e (omega (arith, is)))
+
+folds_snoc : {P X : Type 0} (step : P → X → P → Type 0) (xs : List X) (x : X) (p q r : P) → FoldsTo step p xs q → step q x r → FoldsTo step p (xs ++ x ∷ []) r
+folds_snoc step [] x p q r h last = (r, subst (λ a. step a x r) (sym h) last, refl)
+folds_snoc step (y ∷ xs) x p q r h last = (h.0, h.1, folds_snoc step xs x h.0 q r h.2 last)
+
+-- nothing behind them
+runs_out : {T : Type 0} (sees : T → Sight → T → Type 0) (changes : List TimedChange) (s : State) (es : List Event) (old_watch new_watch : T)
+    → FoldsTo sees old_watch (sights (changes_of changes) s 0 es) new_watch → FoldsTo sees old_watch (sights (changes_of changes) s 0 (es ++ [])) new_watch
+runs_out sees changes s es old_watch new_watch h = subst (λ l. FoldsTo sees old_watch (sights (changes_of changes) s 0 l) new_watch) (sym (append-nil es)) h
+
+-- how far a run has come, and what was seen of it
+pub record HasShown {T : Type 0} (sees : T → Sight → T → Type 0) (changes : List TimedChange) (old now : Run) (old_watch now_watch : T) : Type 0 where
+  pub has : HasRun changes old now
+  pub seen : FoldsTo sees old_watch (sights (changes_of changes) old.state 0 has.es) now_watch
+
+module _ {T : Type 0} (sees : T → Sight → T → Type 0) (changes : List TimedChange) (old : Run) (old_watch : T) where
+  pub shown_begins : old.number ≡ 0 → AreReady changes old → HasShown sees changes old old old_watch old_watch
+  unfolding run_begins
+  shown_begins none ready = record { has = run_begins changes old none ready; seen = refl }
+
+  -- one event more is seen
+  sees_more : (now : Run) (has : HasRun changes old now) (e : Event) (now_watch new_watch : T) → FoldsTo sees old_watch (sights (changes_of changes) old.state 0 has.es) now_watch
+      → sees now_watch (sight now.state (now.number + 1) e) new_watch → FoldsTo sees old_watch (sights (changes_of changes) old.state 0 (has.es ++ e ∷ [])) new_watch
+  sees_more now has e now_watch new_watch seen more =
+      subst (λ l. FoldsTo sees old_watch l new_watch) (sym (sights_snoc (changes_of changes) 0 (now.number + 1) old.state has.es e (omega (arith, has.number))))
+      (folds_snoc sees (sights (changes_of changes) old.state 0 has.es) _ old_watch now_watch new_watch seen (subst (λ s. sees now_watch (sight s (now.number + 1) e) new_watch) has.state more))
+
+  -- the state behind it
+  state_more : (now new : Run) (first : First) (result : Result (Unit {0}) StreamFault) (has : HasRun changes old now) (step : IsStep changes now new first result)
+      → new.state ≡ state_behind changes old.state (has.es ++ step.e ∷ [])
+  state_more now new first result has step =
+      step.state ∙ ap (λ s. after s (event_of (changes_of changes) step.e)) has.state ∙ sym (state_snoc (changes_of changes) old.state has.es step.e)
+
+  pub shown_steps : (now new : Run) (first : First) (now_watch new_watch : T) → HasShown sees changes old now old_watch now_watch → IsWatchedStep sees changes now new first now_watch new_watch (Ok tt)
+      → HasShown sees changes old new old_watch new_watch
+  unfolding run_steps
+  shown_steps now new first now_watch new_watch so step = record {
+    has = run_steps changes old now new first so.has step.step;
+    seen = sees_more now so.has step.step.e now_watch new_watch so.seen step.seen;
+  }
+
+  pub shown_stops : (now new : Run) (first : First) (now_watch new_watch : T) (fault : StreamFault) → HasShown sees changes old now old_watch now_watch → IsWatchedStep sees changes now new first now_watch new_watch (Err fault)
+      → IsWatchedRun sees changes old new old_watch new_watch (Err fault)
+  unfolding run_stops
+  shown_stops now new first now_watch new_watch (stream.Write target) so step = record {
+    run = run_stops changes old now new first (stream.Write target) so.has step.step;
+    seen = sees_more now so.has step.step.e now_watch new_watch so.seen step.seen;
+    state = state_more now new first (Err (stream.Write target)) so.has step.step;
+  }
+  shown_stops now new first now_watch new_watch (stream.Run f) so step = record {
+    run = run_stops changes old now new first (stream.Run f) so.has step.step;
+    seen = runs_out sees changes old.state (so.has.es ++ step.step.e ∷ []) old_watch new_watch (sees_more now so.has step.step.e now_watch new_watch so.seen step.seen);
+    state = state_more now new first (Err (stream.Run f)) so.has step.step ∙ ap (state_behind changes old.state) (sym (append-nil (so.has.es ++ step.step.e ∷ [])));
+  }
+  shown_stops now new first now_watch new_watch (stream.Read place) so step = record {
+    run = run_stops changes old now new first (stream.Read place) so.has step.step;
+    seen = runs_out sees changes old.state (so.has.es ++ step.step.e ∷ []) old_watch new_watch (sees_more now so.has step.step.e now_watch new_watch so.seen step.seen);
+    state = state_more now new first (Err (stream.Read place)) so.has step.step ∙ ap (state_behind changes old.state) (sym (append-nil (so.has.es ++ step.step.e ∷ [])));
+  }
+
+  pub shown_ends : (now : Run) (now_watch : T) → HasShown sees changes old now old_watch now_watch → ((t : Turn) (k : ℕ) → k < length now.turns → (slice_index_or now.turns k t).next ≡ None)
+      → IsWatchedRun sees changes old now old_watch now_watch (Ok tt)
+  unfolding run_ends
+  shown_ends now now_watch so none = record {
+    run = run_ends changes old now so.has none;
+    seen = runs_out sees changes old.state so.has.es old_watch now_watch so.seen;
+    state = so.has.state ∙ ap (state_behind changes old.state) (sym (append-nil so.has.es));
+  }
+
+  pub shown_breaks : (now : Run) (now_watch : T) → HasShown sees changes old now old_watch now_watch → IsWatchedRun sees changes old now old_watch now_watch (Err (stream.Run faults.OutOfMemory))
+  unfolding run_breaks
+  shown_breaks now now_watch so = record {
+    run = run_breaks changes old now so.has;
+    seen = runs_out sees changes old.state so.has.es old_watch now_watch so.seen;
+    state = so.has.state ∙ ap (state_behind changes old.state) (sym (append-nil so.has.es));
+  }

@@ -7,9 +7,11 @@ use Rattle.capture_run.specs.Outputs.{Outputs, event_of}
 use Rattle.capture_run.specs.Writing.{with_event}
 use Rattle.capture_run.proofs.Changes.{ports_stay}
 use Rattle.stream_run.specs.Coming.{coming}
+use Rattle.stream_run.specs.Sights.{Sight, sight}
 use Rattle.stream_run.specs.Stage.{Drains, Lead, StandAt}
 use Rattle.stream_run.specs.Steps.{AreRead, AreReady, FetchesAt, IsNextEvent, IsStep, IsTaken, changes_of, moment_at, run_at}
 use Rattle.stream_run.specs.Turns.{IsFirst}
+use Rattle.stream_run.specs.Watched.{IsWatchedStep, IsWatchedTake}
 use Rattle.stream_run.specs.declared.fault.StreamFault.{StreamFault}
 use Rattle.stream_run.specs.declared.fault.StreamFault.TheVariants as stream
 use Rattle.stream_run.specs.declared.fault.Target.{Target}
@@ -48,7 +50,7 @@ module _ (changes : List TimedChange) (ports : List Stream) (underlay : Stream) 
       let at = event_moment ports underlay first.index done first.moment taken.e taken.next in
       omega (arith, up.time, at)
 
-  pub step_put : (new_number : ℕ) (target : Target) (d : Turn) → AreReady changes (run_at ports underlay turns state number before) → IsFirst turns (length turns) first → ((t : Turn) → done ≡ (slice_index_or turns first.index t).done) → n ≡ number + 1 → new_number ≡ n → Taken (Err target)
+  step_put : (new_number : ℕ) (target : Target) (d : Turn) → AreReady changes (run_at ports underlay turns state number before) → IsFirst turns (length turns) first → ((t : Turn) → done ≡ (slice_index_or turns first.index t).done) → n ≡ number + 1 → new_number ≡ n → Taken (Err target)
       → IsStep changes (run_at ports underlay turns state number before) (run_at ports underlay turns new_state new_number behind) first (Err (stream.Write target))
   step_put new_number target d ready is_first same one also taken = record {
     e = taken.e;
@@ -65,7 +67,7 @@ module _ (changes : List TimedChange) (ports : List Stream) (underlay : Stream) 
         record { rest = coming changes texts text (slice_set turns first.index turn); first = firsts (Err target) taken ready is_first same texts text read turn refl; fetched = tt };
   }
 
-  pub step_fault : (new_number : ℕ) (new : List Stream) (new_underlay : Stream) (fault : StreamFault) (d : Turn) → AreReady changes (run_at ports underlay turns state number before)
+  step_fault : (new_number : ℕ) (new : List Stream) (new_underlay : Stream) (fault : StreamFault) (d : Turn) → AreReady changes (run_at ports underlay turns state number before)
       → IsFirst turns (length turns) first → ((t : Turn) → done ≡ (slice_index_or turns first.index t).done) → n ≡ number + 1 → new_number ≡ n
       → Taken (Ok tt) → FetchesAt changes first.index (done + 1) first.moment ports underlay new new_underlay (Err fault)
       → IsStep changes (run_at ports underlay turns state number before) (run_at new new_underlay turns new_state new_number behind) first (Err fault)
@@ -90,7 +92,7 @@ module _ (changes : List TimedChange) (ports : List Stream) (underlay : Stream) 
         };
   }
 
-  pub step_turn : (new_number : ℕ) (new : List Stream) (new_underlay : Stream) (turn d : Turn) → AreReady changes (run_at ports underlay turns state number before) → IsFirst turns (length turns) first
+  step_turn : (new_number : ℕ) (new : List Stream) (new_underlay : Stream) (turn d : Turn) → AreReady changes (run_at ports underlay turns state number before) → IsFirst turns (length turns) first
       → ((t : Turn) → done ≡ (slice_index_or turns first.index t).done) → n ≡ number + 1 → new_number ≡ n
       → Taken (Ok tt) → FetchesAt changes first.index (done + 1) first.moment ports underlay new new_underlay (Ok turn)
       → IsStep changes (run_at ports underlay turns state number before) (run_at new new_underlay (slice_set turns first.index turn) new_state new_number behind) first (Ok tt)
@@ -124,3 +126,31 @@ module _ (changes : List TimedChange) (ports : List Stream) (underlay : Stream) 
           );
         };
       }
+
+  -- ---- with what is seen
+
+  module _ {T : Type 0} (sees : T → Sight → T → Type 0) (old_watch new_watch : T) where
+    abbrev TakenSeen : Result (Unit {0}) Target → Type 0
+    TakenSeen result = IsWatchedTake sees changes ports underlay first.index done first.moment n state new_state before behind old_watch new_watch result
+
+    shown : (result : Result (Unit {0}) Target) (taken : TakenSeen result) → n ≡ number + 1 → sees old_watch (sight state (number + 1) taken.taken.e) new_watch
+    shown result taken one = subst (λ k. sees old_watch (sight state k taken.taken.e) new_watch) one taken.seen
+
+    pub shown_put : (new_number : ℕ) (target : Target) (d : Turn) → AreReady changes (run_at ports underlay turns state number before) → IsFirst turns (length turns) first → ((t : Turn) → done ≡ (slice_index_or turns first.index t).done) → n ≡ number + 1 → new_number ≡ n → TakenSeen (Err target)
+        → IsWatchedStep sees changes (run_at ports underlay turns state number before) (run_at ports underlay turns new_state new_number behind) first old_watch new_watch (Err (stream.Write target))
+    unfolding step_put
+    shown_put new_number target d ready is_first same one also taken = record { step = step_put new_number target d ready is_first same one also taken.taken; seen = shown (Err target) taken one }
+
+    pub shown_fault : (new_number : ℕ) (new : List Stream) (new_underlay : Stream) (fault : StreamFault) (d : Turn) → AreReady changes (run_at ports underlay turns state number before)
+        → IsFirst turns (length turns) first → ((t : Turn) → done ≡ (slice_index_or turns first.index t).done) → n ≡ number + 1 → new_number ≡ n
+        → TakenSeen (Ok tt) → FetchesAt changes first.index (done + 1) first.moment ports underlay new new_underlay (Err fault)
+        → IsWatchedStep sees changes (run_at ports underlay turns state number before) (run_at new new_underlay turns new_state new_number behind) first old_watch new_watch (Err fault)
+    unfolding step_fault
+    shown_fault new_number new new_underlay fault d ready is_first same one also taken fetched = record { step = step_fault new_number new new_underlay fault d ready is_first same one also taken.taken fetched; seen = shown (Ok tt) taken one }
+
+    pub shown_turn : (new_number : ℕ) (new : List Stream) (new_underlay : Stream) (turn d : Turn) → AreReady changes (run_at ports underlay turns state number before) → IsFirst turns (length turns) first
+        → ((t : Turn) → done ≡ (slice_index_or turns first.index t).done) → n ≡ number + 1 → new_number ≡ n
+        → TakenSeen (Ok tt) → FetchesAt changes first.index (done + 1) first.moment ports underlay new new_underlay (Ok turn)
+        → IsWatchedStep sees changes (run_at ports underlay turns state number before) (run_at new new_underlay (slice_set turns first.index turn) new_state new_number behind) first old_watch new_watch (Ok tt)
+    unfolding step_turn
+    shown_turn new_number new new_underlay turn d ready is_first same one also taken fetched = record { step = step_turn new_number new new_underlay turn d ready is_first same one also taken.taken fetched; seen = shown (Ok tt) taken one }

@@ -1,4 +1,5 @@
 pub mod Words
+pub mod Sights
 pub mod Lines
 pub mod Stage
 pub mod Turns
@@ -11,3 +12,4 @@ pub mod Begun
 pub mod Cuts
 pub mod Left
 pub mod Over
+pub mod Watched

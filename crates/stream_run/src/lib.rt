@@ -7,6 +7,9 @@
 //! come last. Wherever the inputs tell their octets, what it answers and writes is what `capture_run` tells of them, up to
 //! where a read or a write fails or memory is refused. Where it stops at a [`StreamFault`], what was written stands.
 //!
+//! Whoever looks on, a [`Watch`], is shown each event just before the endpoint takes it, and the endpoint at the end of a run
+//! that stops at no fault; with [`Unwatched`] nobody looks on.
+//!
 //! [`open_capture`], [`fetch_at`], [`put_events`] and [`put_line`] are its parts. A [`Turn`] says of each source how many
 //! of its events came, and when the next one does. Nothing is made or moved on the way of an event but what a
 //! `decision_lines` desk lends.
@@ -23,6 +26,7 @@ mod run;
 mod step;
 mod take;
 mod turn;
+mod watch;
 
 pub use fault::{StreamFault, Target};
 pub use fetch::fetch_at;
@@ -31,3 +35,4 @@ pub use put::put_line;
 pub use run::run_streams;
 pub use step::put_events;
 pub use turn::Turn;
+pub use watch::{Unwatched, Watch};

@@ -9,12 +9,14 @@ ghost use Rattle.stream_run.specs.Over.{IsRunOver, LeavesOver, Tells};
 ghost use Rattle.stream_run.specs.Read.{ReadsWith};
 ghost use Rattle.stream_run.specs.Stage.{drains};
 ghost use Rattle.stream_run.specs.Steps.{AreTimely};
+ghost use Rattle.stream_run.specs.Watched.{IsShown, IsWatchedOver, SeesOver, Shows};
 
 use crate::begin::{begin_all, fetch_all, first_turns};
 use crate::cuts::put_cuts;
 use crate::fault::StreamFault;
 use crate::opening::open_all;
 use crate::step::put_events;
+use crate::watch::Watch;
 use capture_run::{RunFault, of_changes, of_settings};
 use decision_lines::Desk;
 use endpoint_core::Endpoint;
@@ -31,7 +33,10 @@ use std::alloc::Global;
 /// the headers written, and the events taken one after another; the lines of cut captures come last. Where it stops at a
 /// fault, what was written stands: the texts of the events so far, the same events for all outputs, and where a write
 /// failed at most a part of those of one event more. `OutOfMemory` comes only where memory was refused.
-pub fn run_streams<R: Input, W: Output>(
+///
+/// Whoever looks on is shown each event just before the endpoint takes it, and once all lines are written the endpoint.
+/// Where the run stops at a fault, it was shown the events so far, and where a write failed the one more, but not the end.
+pub fn run_streams<R: Input, W: Output, T: Watch>(
     alloc: Global,
     settings: &[u8],
     changes: &[u8],
@@ -40,6 +45,7 @@ pub fn run_streams<R: Input, W: Output>(
     port_sinks: &mut [Sink<W>],
     underlay_sink: &mut Sink<W>,
     decisions: &mut W,
+    watch: &mut T,
 ) -> Result<(), StreamFault>
     requires sinks { length port_sinks.old ≡ length ports.old }
     requires new_ports { All IsUnread ports.old }
@@ -51,6 +57,13 @@ pub fn run_streams<R: Input, W: Output>(
         → IsRunOver (settings_in settings.now) (changes_in changes.now) texts text
         (drains port_sinks.old underlay_sink.old (W.written decisions.old) (W.failures decisions.old))
         (drains port_sinks.new underlay_sink.new (W.written decisions.new) (W.failures decisions.new)) result }
+    ensures shown { IsShown T.sees T.ends (settings_in settings.now) (changes_in changes.now) ports.old
+        (drains port_sinks.old underlay_sink.old (W.written decisions.old) (W.failures decisions.old))
+        (drains port_sinks.new underlay_sink.new (W.written decisions.new) (W.failures decisions.new)) watch.old watch.new result }
+    ensures watched { (texts : List (AVec ℕ AGlobal)) (text : List ℕ) → Tells ports.old underlay.old texts text
+        → IsWatchedOver T.sees T.ends (settings_in settings.now) (changes_in changes.now) texts text
+        (drains port_sinks.old underlay_sink.old (W.written decisions.old) (W.failures decisions.old))
+        (drains port_sinks.new underlay_sink.new (W.written decisions.new) (W.failures decisions.new)) watch.old watch.new result }
     ensures reads { ReadsWith ports.old underlay.old ports.new underlay.new result }
     ensures writes { WritesWith
         (drains port_sinks.old underlay_sink.old (W.written decisions.old) (W.failures decisions.old))
@@ -76,11 +89,12 @@ pub fn run_streams<R: Input, W: Output>(
         port_sinks,
         underlay_sink,
         decisions,
+        watch,
     )
 }
 
 /// The run with these settings and changes, on as many captures as there are ports.
-fn run_with<R: Input, W: Output>(
+fn run_with<R: Input, W: Output, T: Watch>(
     alloc: Global,
     settings: Settings,
     changes: &[TimedChange],
@@ -89,6 +103,7 @@ fn run_with<R: Input, W: Output>(
     port_sinks: &mut [Sink<W>],
     underlay_sink: &mut Sink<W>,
     decisions: &mut W,
+    watch: &mut T,
 ) -> Result<(), StreamFault>
     requires few { length ports.old ≤ 16 }
     requires ports { length ports.old ≡ length settings.ports }
@@ -102,6 +117,12 @@ fn run_with<R: Input, W: Output>(
     ensures over { (texts : List (AVec ℕ AGlobal)) (text : List ℕ) → Tells ports.old underlay.old texts text → LeavesOver settings changes.now texts text
         (drains port_sinks.old underlay_sink.old (W.written decisions.old) (W.failures decisions.old))
         (drains port_sinks.new underlay_sink.new (W.written decisions.new) (W.failures decisions.new)) result }
+    ensures shown { Shows T.sees T.ends settings changes.now
+        (drains port_sinks.old underlay_sink.old (W.written decisions.old) (W.failures decisions.old))
+        (drains port_sinks.new underlay_sink.new (W.written decisions.new) (W.failures decisions.new)) watch.old watch.new result }
+    ensures watched { (texts : List (AVec ℕ AGlobal)) (text : List ℕ) → Tells ports.old underlay.old texts text → SeesOver T.sees T.ends settings changes.now texts text
+        (drains port_sinks.old underlay_sink.old (W.written decisions.old) (W.failures decisions.old))
+        (drains port_sinks.new underlay_sink.new (W.written decisions.new) (W.failures decisions.new)) watch.old watch.new result }
     ensures reads { ReadsWith ports.old underlay.old ports.new underlay.new result }
 {
     let Ok(mut turns) = first_turns(alloc, changes, ports.len() + 1) else {
@@ -130,11 +151,15 @@ fn run_with<R: Input, W: Output>(
         port_sinks,
         underlay_sink,
         decisions,
+        watch,
     ) {
         return Err(fault);
     }
     match put_cuts(ports, underlay, turns.as_slice(), &mut desk.line, decisions) {
-        Ok(()) => Ok(()),
+        Ok(()) => {
+            watch.end(&endpoint);
+            Ok(())
+        }
         Err(target) => Err(StreamFault::Write(target)),
     }
 }

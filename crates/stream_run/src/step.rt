@@ -2,22 +2,24 @@
 ghost use Rattle.std.specs.Prelude.{◌≡◌, ◌≤◌, ◌<◌, ◌+◌, ◌^◌, length};
 ghost use Rattle.endpoint_core.specs.Kept.{state_of};
 ghost use Rattle.stream_run.specs.Stage.{drains};
-ghost use Rattle.stream_run.specs.Steps.{AreReady, IsRunOn, IsStep, run_at};
+ghost use Rattle.stream_run.specs.Steps.{AreReady, run_at};
 ghost use Rattle.stream_run.specs.Turns.{IsFirst};
+ghost use Rattle.stream_run.specs.Watched.{IsWatchedRun, IsWatchedStep};
 
 use crate::fault::StreamFault;
 use crate::fetch::fetch_at;
 use crate::order::find_first;
 use crate::take::take_at;
 use crate::turn::{First, Turn};
+use crate::watch::Watch;
 use capture_run::RunFault;
 use decision_lines::Desk;
 use endpoint_core::Endpoint;
 use overlay_config::TimedChange;
 use pcap_stream::{Input, Output, Sink, Source};
 
-/// Puts the event that comes first through the endpoint, and fetches the next one of its source.
-fn put_first<R: Input, W: Output>(
+/// Shows the event that comes first, puts it through the endpoint, and fetches the next one of its source.
+fn put_first<R: Input, W: Output, T: Watch>(
     changes: &[TimedChange],
     ports: &mut [Source<R>],
     underlay: &mut Source<R>,
@@ -28,16 +30,17 @@ fn put_first<R: Input, W: Output>(
     underlay_sink: &mut Sink<W>,
     decisions: &mut W,
     first: First,
+    watch: &mut T,
 ) -> Result<(), StreamFault>
     requires few { desk.old.number + 2 < 2 ^ 64 }
     requires first { IsFirst turns.old (length turns.old) first }
     requires ready { AreReady changes.now (run_at ports.old underlay.old turns.old (state_of endpoint.old) desk.old.number
         (drains port_sinks.old underlay_sink.old (W.written decisions.old) (W.failures decisions.old))) }
-    ensures { IsStep changes.now
+    ensures { IsWatchedStep T.sees changes.now
         (run_at ports.old underlay.old turns.old (state_of endpoint.old) desk.old.number
         (drains port_sinks.old underlay_sink.old (W.written decisions.old) (W.failures decisions.old)))
         (run_at ports.new underlay.new turns.new (state_of endpoint.new) desk.new.number
-        (drains port_sinks.new underlay_sink.new (W.written decisions.new) (W.failures decisions.new))) first result }
+        (drains port_sinks.new underlay_sink.new (W.written decisions.new) (W.failures decisions.new))) first watch.old watch.new result }
 {
     let Turn { done, .. } = turns[first.index];
     desk.number.add_one();
@@ -53,6 +56,7 @@ fn put_first<R: Input, W: Output>(
         first.index,
         first.moment,
         done,
+        watch,
     ) {
         return Err(StreamFault::Write(target));
     }
@@ -72,8 +76,8 @@ fn put_first<R: Input, W: Output>(
     }
 }
 
-/// Puts the changes and the records of all captures through an endpoint, in order of moment.
-pub fn put_events<R: Input, W: Output>(
+/// Puts the changes and the records of all captures through an endpoint, in order of moment, and shows each before.
+pub fn put_events<R: Input, W: Output, T: Watch>(
     changes: &[TimedChange],
     ports: &mut [Source<R>],
     underlay: &mut Source<R>,
@@ -83,15 +87,16 @@ pub fn put_events<R: Input, W: Output>(
     port_sinks: &mut [Sink<W>],
     underlay_sink: &mut Sink<W>,
     decisions: &mut W,
+    watch: &mut T,
 ) -> Result<(), StreamFault>
     requires none { desk.old.number ≡ 0 }
     requires ready { AreReady changes.now (run_at ports.old underlay.old turns.old (state_of endpoint.old) 0
         (drains port_sinks.old underlay_sink.old (W.written decisions.old) (W.failures decisions.old))) }
-    ensures { IsRunOn changes.now
+    ensures { IsWatchedRun T.sees changes.now
         (run_at ports.old underlay.old turns.old (state_of endpoint.old) 0
         (drains port_sinks.old underlay_sink.old (W.written decisions.old) (W.failures decisions.old)))
         (run_at ports.new underlay.new turns.new (state_of endpoint.new) desk.new.number
-        (drains port_sinks.new underlay_sink.new (W.written decisions.new) (W.failures decisions.new))) result }
+        (drains port_sinks.new underlay_sink.new (W.written decisions.new) (W.failures decisions.new))) watch.old watch.new result }
 {
     // at an event a nanosecond the numbers last for 584 years
     for _count in 0..u64::MAX - 2 {
@@ -109,6 +114,7 @@ pub fn put_events<R: Input, W: Output>(
             underlay_sink,
             decisions,
             first,
+            watch,
         ) {
             return Err(fault);
         }

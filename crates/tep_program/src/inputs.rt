@@ -1,8 +1,9 @@
 //! What the program reads: files, and standard input.
-ghost use Rattle.std.specs.Prelude.{◌≡◌, All, IfOk, length};
+ghost use Rattle.std.specs.Prelude.{◌≡◌, ◌<◌, ◌+◌, ◌^◌, All, IfOk, length};
 ghost use Rattle.pcap_stream.specs.Source.{New, Stream};
 
 use dissector::{Failure, STANDARD_INPUT, capture_name, read_text};
+use file_kind::{FileKind, Peeked, peek};
 use pcap_stream::{Source, StdInput};
 use pcapng_input::{CaptureInput, Selection};
 use std::alloc::AllocError;
@@ -35,11 +36,17 @@ impl<F: Read + Drop, I: Read + Drop> Read for Device<F, I> {
     }
 }
 
-/// What a capture tells as classic pcap, and is read in blocks.
-pub type ClassicInput<'a, F, I> = CaptureInput<'a, StdInput<BufReader<Device<F, I>>>>;
+/// The octets of a file or of standard input, read in blocks.
+pub type Blocks<F, I> = StdInput<BufReader<Device<F, I>>>;
+
+/// What a capture tells as classic pcap.
+pub type ClassicInput<'a, F, I> = CaptureInput<'a, Blocks<F, I>>;
 
 /// The records of a capture.
 pub type Capture<'a, F, I> = Source<ClassicInput<'a, F, I>>;
+
+/// The records of a capture whose first octets were looked at.
+pub type SeenCapture<'a, F, I> = Source<CaptureInput<'a, Peeked<Blocks<F, I>>>>;
 
 /// The interfaces that the words ask for: one by its number or by its name, or all.
 fn selection_of(interface: Option<&str>) -> Selection<'_> {
@@ -52,24 +59,36 @@ fn selection_of(interface: Option<&str>) -> Selection<'_> {
     }
 }
 
-/// Opens what a capture's name stands for: a file, or standard input. Nothing of it is read yet.
+/// Opens the file of a capture of this name, or standard input. Nothing of it is read yet.
+fn open_blocks<'a, R: Files + Input + AllocGlobal>(
+    rt: &R,
+    name: &'a str,
+    file: &str,
+) -> Result<Blocks<R::File, R::Reader>, Failure<'a>> {
+    let device = if file == STANDARD_INPUT {
+        Device::Standard(rt.reader())
+    } else {
+        match fs::open(rt, file) {
+            Ok(file) => Device::File(file),
+            Err(_) => return Err(Failure::Read(name)),
+        }
+    };
+    match BufReader::with_capacity(rt.alloc(), BLOCK, device) {
+        Ok(reader) => Ok(StdInput::new(reader)),
+        Err(_) => Err(Failure::from(AllocError)),
+    }
+}
+
+/// Opens what a capture's name stands for. Nothing of it is read yet.
 fn open_named<'a, R: Files + Input + AllocGlobal>(
     rt: &R,
     name: &'a str,
 ) -> Result<ClassicInput<'a, R::File, R::Reader>, Failure<'a>> {
     let asked = capture_name(name);
-    let device = if asked.file == STANDARD_INPUT {
-        Device::Standard(rt.reader())
-    } else {
-        match fs::open(rt, asked.file) {
-            Ok(file) => Device::File(file),
-            Err(_) => return Err(Failure::Read(name)),
-        }
+    let input = match open_blocks(rt, name, asked.file) {
+        Ok(input) => input,
+        Err(failure) => return Err(failure),
     };
-    let Ok(reader) = BufReader::with_capacity(rt.alloc(), BLOCK, device) else {
-        return Err(Failure::from(AllocError));
-    };
-    let input = StdInput::new(reader);
     match CaptureInput::new(
         rt.alloc(),
         input,
@@ -77,6 +96,38 @@ fn open_named<'a, R: Files + Input + AllocGlobal>(
         CAPTURE_READS,
     ) {
         Ok(input) => Ok(input),
+        Err(error) => Err(Failure::from(error)),
+    }
+}
+
+/// Opens a capture, and looks at its first octets.
+pub fn open_seen<'a, R: Files + Input + AllocGlobal>(
+    rt: &R,
+    name: &'a str,
+) -> Result<(FileKind, SeenCapture<'a, R::File, R::Reader>), Failure<'a>>
+    ensures new { IfOk result (λ seen. seen.1.standing ≡ New) }
+    ensures reads { IfOk result (λ seen. seen.1.supply.reads + 1 < 2 ^ 64) }
+{
+    let asked = capture_name(name);
+    let blocks = match open_blocks(rt, name, asked.file) {
+        Ok(blocks) => blocks,
+        Err(failure) => return Err(failure),
+    };
+    let Ok((head, peeked)) = peek(blocks) else {
+        return Err(Failure::Read(name));
+    };
+    let kind = FileKind::of(head.octets());
+    let input = match CaptureInput::new(
+        rt.alloc(),
+        peeked,
+        selection_of(asked.interface),
+        CAPTURE_READS,
+    ) {
+        Ok(input) => input,
+        Err(error) => return Err(Failure::from(error)),
+    };
+    match Source::new(rt.alloc(), input, CAPTURE_READS - 1) {
+        Ok(capture) => Ok((kind, capture)),
         Err(error) => Err(Failure::from(error)),
     }
 }

@@ -4,9 +4,11 @@
 //! [`start`] gets the words of the process; [`run`] is handed them.
 #![tactic(auto)]
 
+mod checks;
 mod inputs;
 mod names;
 mod outputs;
+mod printing;
 mod program;
 mod runs;
 

@@ -5,16 +5,19 @@ ghost use Rattle.command_line.specs.Meaning.{HasDepth};
 ghost use Rattle.dissector.specs.Status.{failure_status_of};
 ghost use Rattle.tep_program.specs.Status.{IsStatusOf};
 
-use crate::inputs::{read_file, read_if_given, read_underlay};
+use crate::checks::check;
+use crate::inputs::{read_file, read_underlay};
 use crate::names::Names;
+use crate::printing::{is_lost, print_text};
 use crate::runs::run_on_files;
 use capture_run::{RunFault, of_settings};
 use clap::error::ErrorKind as Refusal;
-use dissector::{Failure, Line, LineFault, OutputFile, check_text, explain_bytes, line_of, sample};
+use dissector::{Failure, Line, LineFault, OutputFile, Values, explain_bytes, line_of, sample};
 use overlay_config::migrate;
+use run_reports::Reports;
 use std::alloc::{AllocError, Global};
 use std::env;
-use std::io::{self, ErrorKind, Input, Write};
+use std::io::{ErrorKind, Input};
 use std::process::ExitCode;
 use std::rt::{Env, Files};
 
@@ -95,13 +98,21 @@ fn perform<'a, R: Files + Input + AllocGlobal + Print>(
 {
     match line {
         Line::Sample => print_sample(rt),
-        Line::Check { settings, changes } => check(rt, *settings, *changes),
+        Line::Check {
+            settings,
+            changes,
+            underlay,
+            ports,
+        } => check(rt, *settings, *changes, *underlay, ports.as_slice()),
         Line::Run {
             settings,
             changes,
             underlay,
             out,
             ports,
+            tables,
+            tables_at,
+            why,
         } => {
             let names = Names {
                 settings: *settings,
@@ -109,13 +120,14 @@ fn perform<'a, R: Files + Input + AllocGlobal + Print>(
                 underlay: *underlay,
                 ports: ports.as_slice(),
             };
-            run_on_files(rt, names, *out)
+            run_and_tell(rt, names, *out, why.as_slice(), *tables_at, *tables)
         }
         Line::Explain {
             settings,
             depth,
+            values,
             capture,
-        } => explain(rt, *settings, *depth, *capture),
+        } => explain(rt, *settings, *depth, *values, *capture),
         Line::Migrate { settings } => print_migrated(rt, *settings),
     }
 }
@@ -126,16 +138,32 @@ fn print_sample<R: AllocGlobal + Print>(rt: &R) -> Result<(), Failure<'static>> 
     print_text(rt, lines.as_slice())
 }
 
-/// Looks at the texts, and prints what is in them.
-fn check<'a, R: Files + AllocGlobal + Print>(
+/// Runs on captures, and prints what is asked for besides: why the events of these names came out as they did, and the
+/// tables, at a moment and at the end.
+fn run_and_tell<'a, R: Files + Input + AllocGlobal + Print>(
     rt: &R,
-    settings: &'a str,
-    changes: Option<&'a str>,
+    names: Names<'_, 'a>,
+    folder: &str,
+    why: &[&'a str],
+    tables_at: Option<u64>,
+    tables: bool,
 ) -> Result<(), Failure<'a>> {
-    let settings = read_file(rt, settings)?;
-    let changes = read_if_given(rt, changes)?;
-    let line = check_text(rt.alloc(), settings.as_slice(), changes.as_slice())?;
-    print_text(rt, line.as_slice())
+    let mut reports = Reports::new(rt.alloc(), why, tables_at, tables);
+    // What was told stands, wherever the run stopped.
+    let run = run_on_files(rt, names, folder, &mut reports);
+    let found = match why.first() {
+        Some(name) if !reports.has_story() => Err(Failure::NoEvent(*name)),
+        _ => Ok(()),
+    };
+    run.and(print_told(rt, reports)).and(found)
+}
+
+/// Prints what a run told.
+fn print_told<R: Print>(rt: &R, reports: Reports<'_, '_>) -> Result<(), Failure<'static>> {
+    let Ok(text) = reports.into_text() else {
+        return Err(Failure::from(AllocError));
+    };
+    print_text(rt, text.as_slice())
 }
 
 /// Prints a settings text as one of version 2.
@@ -155,6 +183,7 @@ fn explain<'a, R: Files + Input + AllocGlobal + Print>(
     rt: &R,
     settings: &'a str,
     depth: u8,
+    values: bool,
     capture: &'a str,
 ) -> Result<(), Failure<'a>>
     requires low { 1 ≤ depth }
@@ -167,22 +196,11 @@ fn explain<'a, R: Files + Input + AllocGlobal + Print>(
         settings.as_slice(),
         capture.as_slice(),
         usize::from(depth),
+        if values {
+            Values::Shown
+        } else {
+            Values::Hidden
+        },
     )?;
     print_text(rt, text.as_slice())
-}
-
-/// Prints a text on standard output.
-fn print_text(rt: &impl Print, text: &[u8]) -> Result<(), Failure<'static>> {
-    if is_lost(io::writer(rt).write_all(text)) {
-        return Err(Failure::Write(OutputFile::Stdout));
-    }
-    Ok(())
-}
-
-/// Whether a text didn't come to standard output. Where its reader went away, it had enough of it, and nothing is lost.
-fn is_lost(printed: io::Result<()>) -> bool {
-    match printed {
-        Ok(()) => false,
-        Err(error) => error.kind() != ErrorKind::BrokenPipe,
-    }
 }

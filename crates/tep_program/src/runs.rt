@@ -9,20 +9,21 @@ use pcapng_input::PcapngFault;
 use std::alloc::Global;
 use std::io::{Input, Read};
 use std::rt::Files;
-use stream_run::{StreamFault, run_streams};
+use stream_run::{StreamFault, Watch, run_streams};
 use timeline::Tap;
 
 /// How many octets of an output are written at once, where no capture's next octets are waited for.
 const BLOCK: usize = 65_536;
 
-/// Runs on captures, and writes what comes out into a folder as it comes.
+/// Runs on captures, and writes what comes out into a folder as it comes. Someone looks on.
 ///
 /// Where the settings, the changes or the number of captures are refused, or an output is one of the files that are read,
 /// nothing is made or written; where an output can't be opened, what stands in the others is kept.
-pub fn run_on_files<'a, R: Files + Input + AllocGlobal>(
+pub fn run_on_files<'a, R: Files + Input + AllocGlobal, T: Watch>(
     rt: &R,
     names: Names<'_, 'a>,
     folder: &str,
+    watch: &mut T,
 ) -> Result<(), Failure<'a>> {
     let settings = read_file(rt, names.settings)?;
     let changes = read_if_given(rt, names.changes)?;
@@ -58,6 +59,7 @@ pub fn run_on_files<'a, R: Files + Input + AllocGlobal>(
         outputs.ports.as_mut_slice(),
         &mut outputs.underlay,
         &mut outputs.decisions,
+        watch,
     );
     let finished = outputs.finish();
     match run {

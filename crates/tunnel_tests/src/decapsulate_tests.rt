@@ -2,24 +2,19 @@
 ghost use Rattle.std.specs.Prelude.{◌≡◌, ◌≤◌, ◌<◌, ◌+◌};
 ghost use Rattle.std.specs.FinMap.{len};
 
-use crate::packets::{BROADCAST, ETHER4, FRONT6, VXLAN_5000, joined, tunnel, underlay};
+use crate::packets::{BROADCAST, tunnel, underlay};
 use decapsulate::unwrap;
-use flood_lists::FloodList;
+use flood_lists::{FloodList, Own};
 use frame_view::{Reason, Vid};
 use geneve_head::Known;
 use ip_udp_view::{Addr, Tunnel};
 use std::alloc::{AllocError, Global};
+use std::process::Abort;
 use std::test::Fail;
+use test_inputs::octets_of;
 use underlay::{PeerRule, TagRule, TunnelRule, Tunnels, Under, Underlay};
 
 const PEER: [u8; 4] = [192, 0, 2, 1];
-
-const STRANGER: [u8; 4] = [192, 0, 2, 3];
-
-const OWN: [u8; 4] = [192, 0, 2, 2];
-
-/// UDP from port 51719 to 4789, 76 octets, without a checksum.
-const UDP: [u8; 8] = [0xCA, 0x07, 0x12, 0xB5, 0x00, 0x4C, 0x00, 0x00];
 
 /// Why a packet is refused, with the VID where it is known.
 type Refusal = Option<(Option<u16>, Reason)>;
@@ -99,11 +94,7 @@ fn add(under: &mut Under, vid: u16, kind: Tunnel, vni: [u8; 3], rules: &Rules)
     if under.has(vid) || under.taken(kind, tunnel.vni) {
         return;
     }
-    let own = under.own();
-    let mut flood = FloodList::new();
-    for addr in [PEER, [239, 1, 1, 1]] {
-        let _added = flood.add(kind, Addr::V4(addr), &own);
-    }
+    let flood = flood_list(kind, &under.own());
     under.add_segment(TunnelRule {
         vid,
         tunnels: Tunnels::one(tunnel),
@@ -113,306 +104,310 @@ fn add(under: &mut Under, vid: u16, kind: Tunnel, vni: [u8; 3], rules: &Rules)
     });
 }
 
-/// An IPv4 header with these flags, this protocol and this checksum.
-fn header4(
-    total: u8,
-    flags: u8,
-    protocol: u8,
-    sum: [u8; 2],
-    source: [u8; 4],
-    destination: [u8; 4],
-) -> [u8; 20] {
-    let ([high, low], [a, b, c, d], [e, f, g, h]) = (sum, source, destination);
-    [
-        0x45, 0, 0, total, 0, 0, flags, 0, 0x40, protocol, high, low, a, b, c, d, e, f, g, h,
-    ]
+/// The flood list of both segments.
+fn flood_list(kind: Tunnel, own: &Own) -> FloodList {
+    let mut flood = FloodList::new();
+    for addr in [PEER, [239, 1, 1, 1]] {
+        let _added = flood.add(kind, Addr::V4(addr), own);
+    }
+    flood
 }
 
-/// A packet with VXLAN 5000 and the broadcast of 60 octets, behind this IPv4 header.
-fn behind_header4(alloc: Global, head: [u8; 20]) -> Result<Vec<u8>, AllocError> {
-    joined(
-        alloc,
-        &[&ETHER4, &head, &UDP, &VXLAN_5000, &BROADCAST, &[0; 46]],
-    )
+/// A packet in words, and why it is refused.
+type Case<'a> = (&'a str, Refusal);
+
+/// Whether a packet is answered as it should be.
+fn is_answered(alloc: Global, under: &Under, case: &Case) -> Result<bool, Fail> {
+    let (words, wanted) = case;
+    let packet = octets_of(alloc, words)?;
+    Ok(refusal(under, &packet) == *wanted)
 }
 
-/// A packet from 192.0.2.1 to the endpoint with this data at a UDP port. Its IP length, the low octet of its header
-/// checksum and its UDP length are told.
-fn carrying(
-    alloc: Global,
-    [total, sum, length]: [u8; 3],
-    port: [u8; 2],
-    data: &[&[u8]],
-) -> Result<Vec<u8>, AllocError> {
-    let head = header4(total, 0x40, 17, [0xB6, sum], PEER, OWN);
-    let udp = [0xCA, 0x07, port[0], port[1], 0x00, length, 0x00, 0x00];
-    let data = joined(alloc, data)?;
-    joined(alloc, &[&ETHER4, &head, &udp, &data])
+/// Asks an endpoint with these settings for each packet.
+fn check(rt: &impl Abort, alloc: Global, rules: &Rules, cases: &[Case]) -> Result<(), Fail> {
+    let under = endpoint(alloc, rules)?;
+    for case in cases {
+        let holds = is_answered(alloc, &under, case)?;
+        assert!(rt; holds, "the packet {}", case.0);
+    }
+    Ok(())
 }
+
+/// A packet from 192.0.2.1 with VXLAN 5000 and the broadcast of 60 octets.
+const PACKET: &str = "OUTER12 08000000 00138800 ALL M1 0806 00*46";
+
+/// The same with a trailer.
+const TRAILED: &str = "OUTER12 08000000 00138800 ALL M1 0806 00*46 00*6";
+
+/// The first 109 and the first 13 octets of it.
+const CUT: [Case; 2] = [
+    (
+        "OUTER12 08000000 00138800 ALL M1 0806 00*45",
+        Some((None, Reason::BadIp)),
+    ),
+    ("02000000AAFE 02000000AA01 08", Some((None, Reason::Runt))),
+];
 
 #[test]
 fn a_packet_brings_its_frame(rt: HostRuntime) -> Result<(), Fail> {
-    let alloc = rt.alloc();
-    let under = endpoint(alloc, &RULES)?;
-    let head = header4(0x60, 0x40, 17, [0xB6, 0x89], PEER, OWN);
-    let mut packet = behind_header4(alloc, head)?;
-    assert_eq!(rt; packet.len(), 110, "its length");
-    assert!(rt;
-        arrives(&under, &packet, 10, Tunnel::Vxlan, Addr::V4(PEER)),
-        "its segment and its sender"
-    );
+    let under = endpoint(rt.alloc(), &RULES)?;
+    let packet = octets_of(rt.alloc(), PACKET)?;
+    assert!(rt; packet.len() == 110, "its length");
+    let is_there = arrives(&under, &packet, 10, Tunnel::Vxlan, Addr::V4(PEER));
+    assert!(rt; is_there, "its segment and its sender");
     assert!(rt; brings(&under, &packet, &[0; 46]), "its frame");
-    for (length, wanted) in [(109, Reason::BadIp), (13, Reason::Runt)] {
-        let cut = packet.get(..length).unwrap_or(&[]);
-        assert_eq!(rt;
-            refusal(&under, cut),
-            Some((None, wanted)),
-            "cut at {length}"
-        );
-    }
-    packet.extend_from_slice(&[0; 6])?;
+    let trailed = octets_of(rt.alloc(), TRAILED)?;
     assert!(rt;
-        brings(&under, &packet, &[0; 46]),
+        brings(&under, &trailed, &[0; 46]),
         "its frame before a trailer"
     );
-    Ok(())
+    check(&rt, rt.alloc(), &RULES, &CUT)
 }
+
+/// Packets whose IPv4 headers differ: flags, protocol, checksum, source and destination.
+const OUTER_HEADERS: [Case; 10] = [
+    (
+        "ETHER 45000060 00004000 4011B688 C0000201 C0000202 CA0712B5 004C0000 08000000 00138800 ALL M1 0806 00*46",
+        Some((None, Reason::BadIpSum)),
+    ),
+    (
+        "ETHER 45000060 00004000 4011B688 C0000202 C0000202 CA0712B5 004C0000 08000000 00138800 ALL M1 0806 00*46",
+        Some((None, Reason::BadOuterSource)),
+    ),
+    (
+        "ETHER 45000060 00004000 40118888 EF010101 C0000202 CA0712B5 004C0000 08000000 00138800 ALL M1 0806 00*46",
+        Some((None, Reason::BadOuterSource)),
+    ),
+    (
+        "ETHER 45000060 00004000 4011B682 C0000201 C0000209 CA0712B5 004C0000 08000000 00138800 ALL M1 0806 00*46",
+        Some((None, Reason::NotForUs)),
+    ),
+    (
+        "ETHER 45000060 00006000 40119682 C0000201 C0000209 CA0712B5 004C0000 08000000 00138800 ALL M1 0806 00*46",
+        Some((None, Reason::NotForUs)),
+    ),
+    (
+        "ETHER 45000060 00006000 40119689 C0000201 C0000202 CA0712B5 004C0000 08000000 00138800 ALL M1 0806 00*46",
+        Some((None, Reason::Fragment)),
+    ),
+    (
+        "ETHER 45000060 00004000 4006B694 C0000201 C0000202 CA0712B5 004C0000 08000000 00138800 ALL M1 0806 00*46",
+        Some((None, Reason::NotUdp)),
+    ),
+    (
+        "ETHER 45000060 00004000 40118888 C0000201 EF010102 CA0712B5 004C0000 08000000 00138800 ALL M1 0806 00*46",
+        Some((Some(10), Reason::WrongGroup)),
+    ),
+    (
+        "ETHER 45000060 00004000 40118889 C0000201 EF010101 CA0712B5 004C0000 08000000 00138800 ALL M1 0806 00*46",
+        None,
+    ),
+    (
+        "ETHER 45000060 00004000 4011B687 C0000203 C0000202 CA0712B5 004C0000 08000000 00138800 ALL M1 0806 00*46",
+        None,
+    ),
+];
 
 #[test]
 fn outer_headers_are_asked_for(rt: HostRuntime) -> Result<(), Fail> {
-    let alloc = rt.alloc();
-    let under = endpoint(alloc, &RULES)?;
-    let other = [192, 0, 2, 9];
-    let group = [239, 1, 1, 1];
-    let unlisted = [239, 1, 1, 2];
-    for (flags, protocol, sum, source, destination, wanted) in [
-        (0x40, 17, [0xB6, 0x88], PEER, OWN, Some(Reason::BadIpSum)),
-        (
-            0x40,
-            17,
-            [0xB6, 0x88],
-            OWN,
-            OWN,
-            Some(Reason::BadOuterSource),
-        ),
-        (
-            0x40,
-            17,
-            [0x88, 0x88],
-            group,
-            OWN,
-            Some(Reason::BadOuterSource),
-        ),
-        (0x40, 17, [0xB6, 0x82], PEER, other, Some(Reason::NotForUs)),
-        (0x60, 17, [0x96, 0x82], PEER, other, Some(Reason::NotForUs)),
-        (0x60, 17, [0x96, 0x89], PEER, OWN, Some(Reason::Fragment)),
-        (0x40, 6, [0xB6, 0x94], PEER, OWN, Some(Reason::NotUdp)),
-        (
-            0x40,
-            17,
-            [0x88, 0x88],
-            PEER,
-            unlisted,
-            Some(Reason::WrongGroup),
-        ),
-        (0x40, 17, [0x88, 0x89], PEER, group, None),
-        (0x40, 17, [0xB6, 0x87], STRANGER, OWN, None),
-    ] {
-        let head = header4(0x60, flags, protocol, sum, source, destination);
-        let packet = behind_header4(alloc, head)?;
-        assert_eq!(rt;
-            refusal(&under, &packet).map(|refused| refused.1),
-            wanted,
-            "from {source:?} to {destination:?}, flags {flags}, protocol {protocol}, checksum {sum:?}"
-        );
-    }
-    Ok(())
+    check(&rt, rt.alloc(), &RULES, &OUTER_HEADERS)
 }
+
+/// Packets from 192.0.2.1, and from 192.0.2.3.
+const SENDERS: [Case; 2] = [
+    (PACKET, None),
+    (
+        "ETHER 45000060 00004000 4011B687 C0000203 C0000202 CA0712B5 004C0000 08000000 00138800 ALL M1 0806 00*46",
+        Some((Some(10), Reason::UnknownPeer)),
+    ),
+];
 
 #[test]
 fn a_listed_segment_hears_its_flood_list_alone(rt: HostRuntime) -> Result<(), Fail> {
-    let alloc = rt.alloc();
     let rules = Rules {
         peers: PeerRule::Listed,
         ..RULES
     };
-    let under = endpoint(alloc, &rules)?;
-    for (sum, source, wanted) in [
-        (0x89, PEER, None),
-        (0x87, STRANGER, Some((Some(10), Reason::UnknownPeer))),
-    ] {
-        let packet = behind_header4(alloc, header4(0x60, 0x40, 17, [0xB6, sum], source, OWN))?;
-        assert_eq!(rt; refusal(&under, &packet), wanted, "from {source:?}");
-    }
-    Ok(())
+    check(&rt, rt.alloc(), &rules, &SENDERS)
 }
+
+/// Packets whose VXLAN headers differ, and one to port 4788.
+const VXLAN_HEADERS: [Case; 6] = [
+    (PACKET, None),
+    ("OUTER12 FFFFFFFF 001388FF ALL M1 0806 00*46", None),
+    (
+        "OUTER12 F7000000 00138800 ALL M1 0806 00*46",
+        Some((None, Reason::NoVniFlag)),
+    ),
+    (
+        "OUTER12 08000000 00138900 ALL M1 0806 00*46",
+        Some((None, Reason::UnknownVni)),
+    ),
+    // The VNI of the other kind.
+    (
+        "OUTER12 08000000 00177000 ALL M1 0806 00*46",
+        Some((None, Reason::UnknownVni)),
+    ),
+    (
+        "ETHER 45000060 00004000 4011B689 C0000201 C0000202 CA0712B4 004C0000 08000000 00138800 ALL M1 0806 00*46",
+        Some((None, Reason::NotTunnel)),
+    ),
+];
 
 #[test]
 fn reserved_bits_of_vxlan_are_free(rt: HostRuntime) -> Result<(), Fail> {
-    let alloc = rt.alloc();
-    let under = endpoint(alloc, &RULES)?;
-    for (port, header, wanted) in [
-        (0xB5, VXLAN_5000, None),
-        (0xB5, [0xFF, 0xFF, 0xFF, 0xFF, 0, 0x13, 0x88, 0xFF], None),
-        (
-            0xB5,
-            [0xF7, 0, 0, 0, 0, 0x13, 0x88, 0],
-            Some(Reason::NoVniFlag),
-        ),
-        (
-            0xB5,
-            [8, 0, 0, 0, 0, 0x13, 0x89, 0],
-            Some(Reason::UnknownVni),
-        ),
-        // The VNI of the other kind.
-        (
-            0xB5,
-            [8, 0, 0, 0, 0, 0x17, 0x70, 0],
-            Some(Reason::UnknownVni),
-        ),
-        (0xB4, VXLAN_5000, Some(Reason::NotTunnel)),
-    ] {
-        let data = joined(alloc, &[&header, &BROADCAST, &[0; 46]])?;
-        let packet = carrying(alloc, [0x60, 0x89, 0x4C], [0x12, port], &[&data])?;
-        assert_eq!(rt;
-            refusal(&under, &packet),
-            wanted.map(|reason| (None, reason)),
-            "header {header:?}, port {port}"
-        );
-    }
-    Ok(())
+    check(&rt, rt.alloc(), &RULES, &VXLAN_HEADERS)
 }
+
+/// A frame to 01-80-C2-00-00-0F from a group address, one from a station, and one to 01-80-C2-00-00-10.
+const INNER_ADDRESSES: [Case; 3] = [
+    (
+        "OUTER12 08000000 00138800 0180C200000F 030000000001 00*48",
+        Some((Some(10), Reason::BadSource)),
+    ),
+    (
+        "OUTER12 08000000 00138800 0180C200000F 020000000001 00*48",
+        Some((Some(10), Reason::Reserved)),
+    ),
+    (
+        "OUTER12 08000000 00138800 0180C2000010 020000000001 00*48",
+        None,
+    ),
+];
 
 #[test]
 fn inner_addresses_are_asked_for(rt: HostRuntime) -> Result<(), Fail> {
-    let alloc = rt.alloc();
-    let under = endpoint(alloc, &RULES)?;
-    for (last, first, wanted) in [
-        (0x0F, 0x03, Some((Some(10), Reason::BadSource))),
-        (0x0F, 0x02, Some((Some(10), Reason::Reserved))),
-        (0x10, 0x02, None),
-    ] {
-        let addresses = [0x01, 0x80, 0xC2, 0, 0, last, first, 0, 0, 0, 0, 0x01];
-        let data = joined(alloc, &[&VXLAN_5000, &addresses, &[0; 48]])?;
-        let packet = carrying(alloc, [0x60, 0x89, 0x4C], [0x12, 0xB5], &[&data])?;
-        assert_eq!(rt; refusal(&under, &packet), wanted, "addresses {addresses:?}");
-    }
-    Ok(())
+    check(&rt, rt.alloc(), &RULES, &INNER_ADDRESSES)
 }
+
+/// A frame of 13 octets.
+const SHORT: [Case; 1] = [(
+    "ETHER 45000031 00004000 4011B6B8 C0000201 C0000202 CA0712B5 001D0000 08000000 00138800 ALL M1 08",
+    Some((Some(10), Reason::InnerRunt)),
+)];
 
 #[test]
 fn an_inner_frame_has_14_octets(rt: HostRuntime) -> Result<(), Fail> {
-    let alloc = rt.alloc();
-    let under = endpoint(alloc, &RULES)?;
-    let data = joined(alloc, &[&VXLAN_5000, &BROADCAST[..13]])?;
-    let packet = carrying(alloc, [0x31, 0xB8, 0x1D], [0x12, 0xB5], &[&data])?;
-    assert_eq!(rt;
-        refusal(&under, &packet),
-        Some((Some(10), Reason::InnerRunt)),
-        "13 octets"
-    );
-    Ok(())
+    check(&rt, rt.alloc(), &RULES, &SHORT)
 }
+
+/// A frame with a tag of VID 100.
+const TAGGED: &str =
+    "ETHER 45000064 00004000 4011B685 C0000201 C0000202 CA0712B5 00500000 08000000 00138800 ALL M1 81000064 0806 00*46";
 
 #[test]
 fn a_tag_in_a_tunnel_is_dropped_or_passed(rt: HostRuntime) -> Result<(), Fail> {
-    let alloc = rt.alloc();
-    let tag = [0x81, 0x00, 0x00, 0x64];
-    let tunnel = joined(
-        alloc,
-        &[&VXLAN_5000, &BROADCAST[..12], &tag, &[8, 6], &[0; 46]],
-    )?;
-    let packet = carrying(alloc, [0x64, 0x85, 0x50], [0x12, 0xB5], &[&tunnel])?;
-    for (tags, wanted) in [
-        (TagRule::Drop, Some((Some(10), Reason::InnerTag))),
-        (TagRule::Pass, None),
-    ] {
-        let under = endpoint(alloc, &Rules { tags, ..RULES })?;
-        assert_eq!(rt; refusal(&under, &packet), wanted, "the rule {tags:?}");
-    }
-    Ok(())
+    let dropped = (TAGGED, Some((Some(10), Reason::InnerTag)));
+    check(&rt, rt.alloc(), &RULES, &[dropped])?;
+    let rules = Rules {
+        tags: TagRule::Pass,
+        ..RULES
+    };
+    check(&rt, rt.alloc(), &rules, &[(TAGGED, None)])
 }
+
+/// Packets with a checksum, and three octets behind the datagram; the octet behind the inner type is another in each.
+const SUMS: [Case; 2] = [
+    (
+        "ETHER 45000063 00004000 4011B686 C0000201 C0000202 CA0712B5 004C047B 08000000 00138800 ALL M1 0806 00 00*45 AABBCC",
+        None,
+    ),
+    (
+        "ETHER 45000063 00004000 4011B686 C0000201 C0000202 CA0712B5 004C047B 08000000 00138800 ALL M1 0806 01 00*45 AABBCC",
+        Some((None, Reason::BadUdpSum)),
+    ),
+];
 
 #[test]
 fn a_checksum_covers_the_datagram_alone(rt: HostRuntime) -> Result<(), Fail> {
-    let alloc = rt.alloc();
-    let under = endpoint(alloc, &RULES)?;
-    let ip = header4(0x63, 0x40, 17, [0xB6, 0x86], PEER, OWN);
-    for (octet, wanted) in [(0, None), (1, Some((None, Reason::BadUdpSum)))] {
-        let head = joined(alloc, &[&ETHER4, &ip, &UDP[..6], &[0x04, 0x7B]])?;
-        let frame = joined(alloc, &[&BROADCAST, &[octet], &[0; 45]])?;
-        let packet = joined(alloc, &[&head, &VXLAN_5000, &frame, &[0xAA, 0xBB, 0xCC]])?;
-        assert_eq!(rt;
-            refusal(&under, &packet),
-            wanted,
-            "octet {octet} behind the inner type"
-        );
-    }
-    Ok(())
+    check(&rt, rt.alloc(), &RULES, &SUMS)
 }
+
+/// Packets of 130 octets over IPv6 from 2001:db8::1, where a checksum of 0 is taken.
+const SUMS6_OR_0: [Case; 2] = [
+    (
+        "ETHER6 60000000 004C1140 20010DB8 00*11 01 20010DB8 00*11 02 CA0712B5 004C2D0B 08000000 00138800 ALL M1 0806 00*46",
+        Some((None, Reason::BadUdpSum)),
+    ),
+    (
+        "ETHER6 60000000 004C1140 20010DB8 00*11 01 20010DB8 00*11 02 CA0712B5 004C0000 08000000 00138800 ALL M1 0806 00*46",
+        None,
+    ),
+];
+
+/// The same, where it isn't.
+const SUMS6: [Case; 2] = [
+    (
+        "ETHER6 60000000 004C1140 20010DB8 00*11 01 20010DB8 00*11 02 CA0712B5 004C2D0A 08000000 00138800 ALL M1 0806 00*46",
+        None,
+    ),
+    (
+        "ETHER6 60000000 004C1140 20010DB8 00*11 01 20010DB8 00*11 02 CA0712B5 004C0000 08000000 00138800 ALL M1 0806 00*46",
+        Some((None, Reason::ZeroSum)),
+    ),
+];
 
 #[test]
 fn over_ipv6_a_checksum_of_0_is_taken_by_the_settings(rt: HostRuntime) -> Result<(), Fail> {
-    let alloc = rt.alloc();
-    for (zero6, sum, wanted) in [
-        (false, [0x2D, 0x0A], None),
-        (true, [0x2D, 0x0B], Some((None, Reason::BadUdpSum))),
-        (true, [0x00, 0x00], None),
-        (false, [0x00, 0x00], Some((None, Reason::ZeroSum))),
-    ] {
-        let under = endpoint(alloc, &Rules { zero6, ..RULES })?;
-        let frame = joined(alloc, &[&BROADCAST, &[0; 46]])?;
-        let packet = joined(alloc, &[&FRONT6, &UDP[..6], &sum, &VXLAN_5000, &frame])?;
-        assert_eq!(rt; packet.len(), 130, "its length");
-        assert_eq!(rt;
-            refusal(&under, &packet),
-            wanted,
-            "checksum {sum:?}, 0 taken: {zero6}"
-        );
-    }
-    Ok(())
+    let (words, _) = &SUMS6[0];
+    assert!(rt; octets_of(rt.alloc(), words)?.len() == 130, "the length");
+    check(&rt, rt.alloc(), &RULES, &SUMS6_OR_0)?;
+    let rules = Rules {
+        zero6: false,
+        ..RULES
+    };
+    check(&rt, rt.alloc(), &rules, &SUMS6)
 }
+
+/// A packet of Geneve with the critical option of class 258 and type 128.
+const CRITICAL: &str =
+    "ETHER 45000068 00004000 4011B681 C0000201 C0000202 CA0717C1 00540000 02006558 00177000 01028001 00000000 ALL M1 0806 00*46";
+
+/// That packet, one with the option of type 0, and one whose option is longer than all options.
+const OPTIONS: [Case; 3] = [
+    (CRITICAL, Some((None, Reason::CriticalOption))),
+    (
+        "ETHER 45000068 00004000 4011B681 C0000201 C0000202 CA0717C1 00540000 02006558 00177000 01020001 00000000 ALL M1 0806 00*46",
+        None,
+    ),
+    (
+        "ETHER 45000068 00004000 4011B681 C0000201 C0000202 CA0717C1 00540000 02006558 00177000 01020002 00000000 ALL M1 0806 00*46",
+        Some((None, Reason::BadOptions)),
+    ),
+];
 
 #[test]
 fn options_of_geneve_are_looked_at(rt: HostRuntime) -> Result<(), Fail> {
-    let alloc = rt.alloc();
-    for (known, kind, length, wanted) in [
-        (false, 0x80, 1, Some((None, Reason::CriticalOption))),
-        (true, 0x80, 1, None),
-        (false, 0x00, 1, None),
-        (false, 0x00, 2, Some((None, Reason::BadOptions))),
-    ] {
-        let under = endpoint(alloc, &Rules { known, ..RULES })?;
-        let header = [2, 0, 0x65, 0x58, 0, 0x17, 0x70, 0];
-        let option = [0x01, 0x02, kind, length, 0, 0, 0, 0];
-        let data = joined(alloc, &[&header, &option, &BROADCAST, &[0; 46]])?;
-        let packet = carrying(alloc, [0x68, 0x81, 0x54], [0x17, 0xC1], &[&data])?;
-        assert_eq!(rt;
-            refusal(&under, &packet),
-            wanted,
-            "type {kind}, length {length}, known: {known}"
-        );
-    }
-    Ok(())
+    check(&rt, rt.alloc(), &RULES, &OPTIONS)?;
+    let rules = Rules {
+        known: true,
+        ..RULES
+    };
+    check(&rt, rt.alloc(), &rules, &[(CRITICAL, None)])
 }
+
+/// Geneve headers: one whose options aren't there, one of version 1 and of a control packet, one of a control packet and
+/// of another protocol than Ethernet, and one of another protocol.
+const GENEVE_HEADERS: [Case; 4] = [
+    (
+        "ETHER 45000028 00004000 4011B6C1 C0000201 C0000202 CA0717C1 00140000 02006558 00177000 00*4",
+        Some((None, Reason::ShortTunnel)),
+    ),
+    (
+        "ETHER 45000028 00004000 4011B6C1 C0000201 C0000202 CA0717C1 00140000 40806558 00177000 00*4",
+        Some((None, Reason::BadVersion)),
+    ),
+    (
+        "ETHER 45000028 00004000 4011B6C1 C0000201 C0000202 CA0717C1 00140000 00800800 00177000 00*4",
+        Some((None, Reason::Control)),
+    ),
+    (
+        "ETHER 45000028 00004000 4011B6C1 C0000201 C0000202 CA0717C1 00140000 00000800 00177000 00*4",
+        Some((None, Reason::NotEthernet)),
+    ),
+];
 
 #[test]
 fn a_geneve_header_is_refused_by_its_first_fault(rt: HostRuntime) -> Result<(), Fail> {
-    let alloc = rt.alloc();
-    let under = endpoint(alloc, &RULES)?;
-    for (header, wanted) in [
-        ([0x02, 0x00, 0x65, 0x58], Reason::ShortTunnel),
-        ([0x40, 0x80, 0x65, 0x58], Reason::BadVersion),
-        ([0x00, 0x80, 0x08, 0x00], Reason::Control),
-        ([0x00, 0x00, 0x08, 0x00], Reason::NotEthernet),
-    ] {
-        let data = joined(alloc, &[&header, &[0x00, 0x17, 0x70, 0], &[0; 4]])?;
-        let packet = carrying(alloc, [0x28, 0xC1, 0x14], [0x17, 0xC1], &[&data])?;
-        assert_eq!(rt;
-            refusal(&under, &packet),
-            Some((None, wanted)),
-            "header {header:?}"
-        );
-    }
-    Ok(())
+    check(&rt, rt.alloc(), &RULES, &GENEVE_HEADERS)
 }

@@ -40,12 +40,30 @@ fn frame_of<'a>(octets: &'a [u8]) -> Result<BridgeFrame<'a>, &'static str> {
     }
 }
 
-/// The settings of an endpoint at 192.0.2.1 and 2001:db8::1, and whether it computes checksums over IPv4 and over IPv6.
-fn settings(mtu: u16, (sum4, sum6): (bool, bool)) -> Underlay {
+/// What the endpoint's settings say.
+#[derive(Clone, Copy)]
+struct Rules {
+    mtu: u16,
+    /// Whether checksums are computed over IPv4.
+    sum4: bool,
+    /// Whether they are over IPv6.
+    sum6: bool,
+    tags: TagRule,
+}
+
+const RULES: Rules = Rules {
+    mtu: 1550,
+    sum4: false,
+    sum6: true,
+    tags: TagRule::Drop,
+};
+
+/// The settings of an endpoint at 192.0.2.1 and 2001:db8::1.
+fn settings(rules: &Rules) -> Underlay {
     Underlay {
-        mtu,
-        sum4,
-        sum6,
+        mtu: rules.mtu,
+        sum4: rules.sum4,
+        sum6: rules.sum6,
         hops: hops(),
         ..underlay(1)
     }
@@ -53,16 +71,10 @@ fn settings(mtu: u16, (sum4, sum6): (bool, bool)) -> Underlay {
 
 /// An endpoint whose one segment has the VXLAN network 5000 and the Geneve network 6000.
 #[tactic(auto, using(underlay::proofs::ToldLemmas::no_segments))]
-fn endpoint(
-    alloc: Global,
-    vid: Vid,
-    mtu: u16,
-    sums: (bool, bool),
-    tags: TagRule,
-) -> Result<Under, AllocError> {
+fn endpoint(alloc: Global, vid: Vid, rules: &Rules) -> Result<Under, AllocError> {
     let vxlan = tunnel(Tunnel::Vxlan, [0x00, 0x13, 0x88]);
     let geneve = tunnel(Tunnel::Geneve, [0x00, 0x17, 0x70]);
-    let mut under = Under::open(alloc, settings(mtu, sums), Vec::new(alloc))?;
+    let mut under = Under::open(alloc, settings(rules), Vec::new(alloc))?;
     let taken = under.taken(vxlan.kind, vxlan.vni) || under.taken(geneve.kind, geneve.vni);
     if !under.has(vid) && !taken {
         under.add_segment(TunnelRule {
@@ -70,7 +82,7 @@ fn endpoint(
             tunnels: Tunnels::two(vxlan, geneve),
             flood: FloodList::new(),
             peers: PeerRule::Any,
-            tags,
+            tags: rules.tags,
         });
     }
     Ok(under)
@@ -109,6 +121,18 @@ fn packet(
     }
 }
 
+/// The packet that the frame of these octets is sent in by an endpoint with these settings, or why it isn't.
+fn sent(
+    alloc: Global,
+    rules: &Rules,
+    way: (Tunnel, Addr),
+    octets: &[u8],
+) -> Result<Result<Vec<u8>, Reason>, Fail> {
+    let vid = Vid::new(10).ok_or("a VID")?;
+    let under = endpoint(alloc, vid, rules)?;
+    packet(alloc, &under, vid, way, octets)
+}
+
 /// The MAC addresses and the IPv4 header of a packet of 96 octets to 192.0.2.2.
 const FRONT4: [u8; 34] = [
     0x02, 0, 0, 0, 0xAA, 0xFE, 0x02, 0, 0, 0, 0xAA, 0x01, 0x08, 0x00, 0x45, 0x00, 0x00, 0x60, 0x00,
@@ -118,8 +142,7 @@ const FRONT4: [u8; 34] = [
 /// A packet that a broadcast frame of 60 octets is sent in.
 struct Expected {
     case: &'static str,
-    /// Whether checksums are computed over IPv4 and over IPv6.
-    sums: (bool, bool),
+    rules: Rules,
     tunnel: Tunnel,
     addr: Addr,
     /// The first octets of the frame, and zeros behind them.
@@ -129,10 +152,17 @@ struct Expected {
     udp_and_tunnel: &'static [u8],
 }
 
+/// Settings by which checksums are computed over IPv4 alone.
+const SUMS_OVER_IPV4: Rules = Rules {
+    sum4: true,
+    sum6: false,
+    ..RULES
+};
+
 const PACKETS: [Expected; 7] = [
     Expected {
         case: "IPv4",
-        sums: (false, true),
+        rules: RULES,
         tunnel: Tunnel::Vxlan,
         addr: HOST4,
         frame: &BROADCAST,
@@ -141,7 +171,7 @@ const PACKETS: [Expected; 7] = [
     },
     Expected {
         case: "a checksum",
-        sums: (true, false),
+        rules: SUMS_OVER_IPV4,
         tunnel: Tunnel::Vxlan,
         addr: HOST4,
         frame: &BROADCAST,
@@ -150,7 +180,7 @@ const PACKETS: [Expected; 7] = [
     },
     Expected {
         case: "Geneve",
-        sums: (false, true),
+        rules: RULES,
         tunnel: Tunnel::Geneve,
         addr: HOST4,
         frame: &BROADCAST,
@@ -159,7 +189,7 @@ const PACKETS: [Expected; 7] = [
     },
     Expected {
         case: "IPv6",
-        sums: (false, true),
+        rules: RULES,
         tunnel: Tunnel::Vxlan,
         addr: HOST6,
         frame: &BROADCAST,
@@ -168,7 +198,7 @@ const PACKETS: [Expected; 7] = [
     },
     Expected {
         case: "a computed 0",
-        sums: (false, true),
+        rules: RULES,
         tunnel: Tunnel::Vxlan,
         addr: HOST6,
         frame: b"\xFF\xFF\xFF\xFF\xFF\xFF\x02\0\0\0\0\x01\x08\x06\x2D\x0A",
@@ -177,7 +207,7 @@ const PACKETS: [Expected; 7] = [
     },
     Expected {
         case: "Geneve over IPv6",
-        sums: (false, true),
+        rules: RULES,
         tunnel: Tunnel::Geneve,
         addr: HOST6,
         frame: &BROADCAST,
@@ -186,7 +216,7 @@ const PACKETS: [Expected; 7] = [
     },
     Expected {
         case: "IPv6 without a checksum",
-        sums: (true, false),
+        rules: SUMS_OVER_IPV4,
         tunnel: Tunnel::Vxlan,
         addr: HOST6,
         frame: &BROADCAST,
@@ -194,14 +224,6 @@ const PACKETS: [Expected; 7] = [
         udp_and_tunnel: b"\xCA\x07\x12\xB5\x00\x4C\x00\x00\x08\0\0\0\x00\x13\x88\0",
     },
 ];
-
-/// The packet that is sent.
-fn sent(alloc: Global, case: &Expected) -> Result<Result<Vec<u8>, Reason>, Fail> {
-    let vid = Vid::new(10).ok_or("a VID")?;
-    let under = endpoint(alloc, vid, 1550, case.sums, TagRule::Drop)?;
-    let text = padded(alloc, case.frame, 60)?;
-    packet(alloc, &under, vid, (case.tunnel, case.addr), &text)
-}
 
 /// The packet that should be sent.
 fn wanted(alloc: Global, case: &Expected) -> Result<Vec<u8>, AllocError> {
@@ -211,11 +233,19 @@ fn wanted(alloc: Global, case: &Expected) -> Result<Vec<u8>, AllocError> {
     Ok(packet)
 }
 
+/// Whether the packet is sent that should be.
+fn is_sent(alloc: Global, case: &Expected) -> Result<bool, Fail> {
+    let text = padded(alloc, case.frame, 60)?;
+    let wanted = wanted(alloc, case)?;
+    let sent = sent(alloc, &case.rules, (case.tunnel, case.addr), &text)?;
+    Ok(sent == Ok(wanted))
+}
+
 #[test]
 fn packets_have_these_octets(rt: HostRuntime) -> Result<(), Fail> {
     for case in &PACKETS {
-        let sent = sent(rt.alloc(), case)?;
-        assert_eq!(rt; sent, Ok(wanted(rt.alloc(), case)?), "{}", case.case);
+        let is_sent = is_sent(rt.alloc(), case)?;
+        assert!(rt; is_sent, "the packet: {}", case.case);
     }
     Ok(())
 }
@@ -249,14 +279,19 @@ const FLOWS: [(&str, &[u8], usize, u16); 5] = [
     ("UDP over IPv6", &UDP6, 58, 60035),
 ];
 
-/// The UDP source port of the packet that a frame is sent in over IPv4: octets 34 and 35 of it.
-fn source_port_of(alloc: Global, octets: &[u8]) -> Result<u16, Fail> {
-    let vid = Vid::new(10).ok_or("a VID")?;
-    let under = endpoint(alloc, vid, 1550, (false, true), TagRule::Drop)?;
-    let sent = packet(alloc, &under, vid, (Tunnel::Vxlan, HOST4), octets)?;
-    match sent {
-        Ok(sent) if sent.len() >= 36 => Ok(u16::from_be_bytes([sent[34], sent[35]])),
-        _ => Err(Fail::new("a packet")),
+/// The UDP source port of a packet over IPv4: octets 34 and 35 of it.
+fn source_port_in(packet: &[u8]) -> Option<u16> {
+    if packet.len() < 36 {
+        return None;
+    }
+    Some(u16::from_be_bytes([packet[34], packet[35]]))
+}
+
+/// Whether the packet that a frame is sent in has this source port.
+fn is_sent_from(alloc: Global, octets: &[u8], port: u16) -> Result<bool, Fail> {
+    match sent(alloc, &RULES, (Tunnel::Vxlan, HOST4), octets)? {
+        Ok(packet) => Ok(source_port_in(&packet) == Some(port)),
+        Err(_) => Ok(false),
     }
 }
 
@@ -264,23 +299,23 @@ fn source_port_of(alloc: Global, octets: &[u8]) -> Result<u16, Fail> {
 fn flows_have_these_source_ports(rt: HostRuntime) -> Result<(), Fail> {
     for (case, octets, size, wanted) in &FLOWS {
         let text = octets.get(..*size).ok_or("a whole text")?;
-        let port = source_port_of(rt.alloc(), text)?;
-        assert_eq!(rt; port, *wanted, "{case}");
+        let is_wanted = is_sent_from(rt.alloc(), text, *wanted)?;
+        assert!(rt; is_wanted, "the source port of {case}");
     }
     Ok(())
 }
 
-/// The octets of the packet that a frame with this front and of this size is sent in, or why it isn't sent.
-fn size_sent(
+/// Whether the packet that a frame with this front and of this size is sent in has so many octets, or is refused so.
+fn is_of_size(
     alloc: Global,
-    (mtu, tags): (u16, TagRule),
+    rules: &Rules,
     addr: Addr,
     (front, size): (&[u8], usize),
-) -> Result<Result<usize, Reason>, Fail> {
-    let vid = Vid::new(10).ok_or("a VID")?;
-    let under = endpoint(alloc, vid, mtu, (false, true), tags)?;
+    wanted: Result<usize, Reason>,
+) -> Result<bool, Fail> {
     let text = padded(alloc, front, size)?;
-    Ok(packet(alloc, &under, vid, (Tunnel::Vxlan, addr), &text)?.map(|sent| sent.len()))
+    let sent = sent(alloc, rules, (Tunnel::Vxlan, addr), &text)?;
+    Ok(sent.map(|packet| packet.len()) == wanted)
 }
 
 /// An MTU, a remote, the size of the largest frame, and that of its headers.
@@ -291,14 +326,30 @@ const LARGEST: [(u16, Addr, usize, usize); 4] = [
     (1550, HOST6, 1494, 70),
 ];
 
+/// Whether a frame of this size is sent, and one of an octet more is too big.
+fn is_largest(
+    alloc: Global,
+    rules: &Rules,
+    addr: Addr,
+    (largest, head): (usize, usize),
+) -> Result<bool, Fail> {
+    let fits = is_of_size(
+        alloc,
+        rules,
+        addr,
+        (&BROADCAST, largest),
+        Ok(largest.saturating_add(head)),
+    )?;
+    let more = (BROADCAST.as_slice(), largest.saturating_add(1));
+    Ok(fits && is_of_size(alloc, rules, addr, more, Err(Reason::TooBig))?)
+}
+
 #[test]
 fn the_largest_frames_fill_the_mtu(rt: HostRuntime) -> Result<(), Fail> {
     for (mtu, addr, largest, head) in &LARGEST {
-        for (more, wanted) in [(0, Ok(*largest + *head)), (1, Err(Reason::TooBig))] {
-            let frame = (BROADCAST.as_slice(), *largest + more);
-            let sent = size_sent(rt.alloc(), (*mtu, TagRule::Drop), *addr, frame)?;
-            assert_eq!(rt; sent, wanted, "{more} more at an MTU of {mtu}");
-        }
+        let rules = Rules { mtu: *mtu, ..RULES };
+        let is_largest = is_largest(rt.alloc(), &rules, *addr, (*largest, *head))?;
+        assert!(rt; is_largest, "{largest} octets at an MTU of {mtu}");
     }
     Ok(())
 }
@@ -319,18 +370,20 @@ const NEXT_HOPS: [(Addr, [u8; 6]); 5] = [
     ),
 ];
 
+/// Whether a broadcast for this remote is sent to this MAC address.
+fn is_sent_to(alloc: Global, addr: Addr, mac: &[u8]) -> Result<bool, Fail> {
+    let text = padded(alloc, &BROADCAST, 60)?;
+    match sent(alloc, &RULES, (Tunnel::Vxlan, addr), &text)? {
+        Ok(packet) => Ok(packet.starts_with(mac)),
+        Err(_) => Ok(false),
+    }
+}
+
 #[test]
 fn packets_go_to_the_next_hop(rt: HostRuntime) -> Result<(), Fail> {
-    let alloc = rt.alloc();
-    let vid = Vid::new(10).ok_or("a VID")?;
-    let under = endpoint(alloc, vid, 1550, (false, true), TagRule::Drop)?;
-    let text = padded(alloc, &BROADCAST, 60)?;
-    for (addr, wanted) in &NEXT_HOPS {
-        let sent = packet(alloc, &under, vid, (Tunnel::Vxlan, *addr), &text)?;
-        assert!(rt;
-            matches!(&sent, Ok(sent) if sent.starts_with(wanted)),
-            "to {addr:?}"
-        );
+    for (addr, mac) in &NEXT_HOPS {
+        let is_sent = is_sent_to(rt.alloc(), *addr, mac)?;
+        assert!(rt; is_sent, "the packet to {addr:?}");
     }
     Ok(())
 }
@@ -350,8 +403,12 @@ const TAGS: [(&str, TagRule, usize, Result<usize, Reason>); 3] = [
 #[test]
 fn inner_tags_are_passed_or_not(rt: HostRuntime) -> Result<(), Fail> {
     for (case, tags, size, wanted) in &TAGS {
-        let sent = size_sent(rt.alloc(), (1550, *tags), HOST4, (&TAGGED, *size))?;
-        assert_eq!(rt; sent, *wanted, "{case}");
+        let rules = Rules {
+            tags: *tags,
+            ..RULES
+        };
+        let is_wanted = is_of_size(rt.alloc(), &rules, HOST4, (&TAGGED, *size), *wanted)?;
+        assert!(rt; is_wanted, "a tag: {case}");
     }
     Ok(())
 }
@@ -392,8 +449,9 @@ fn local_frames_leave_with_a_tag_or_without(rt: HostRuntime) -> Result<(), Fail>
     let vid = Vid::new(10).ok_or("a VID")?;
     let text = padded(rt.alloc(), &BROADCAST, 60)?;
     for (egress, priority, tag) in &LOCAL {
-        assert!(rt; leaves((vid, *egress), *priority, &text, tag)?, "{tag:?}");
+        let leaves = leaves((vid, *egress), *priority, &text, tag)?;
+        assert!(rt; leaves, "the tag {tag:?}");
     }
-    assert_eq!(rt; Emission::default().len(), 0, "nothing");
+    assert!(rt; Emission::default().len() == 0, "nothing");
     Ok(())
 }

@@ -5,41 +5,24 @@ ghost use Rattle.std.specs.Prelude.{◌≡◌};
 use frame_view::Mac;
 use geneve_head::Known;
 use ip_udp_view::{Addr, Tunnel};
-use std::alloc::{AllocError, Global};
 use underlay::{Hops, SegmentTunnel, Underlay};
 use vxlan_head::Vni;
 
 /// The next hop of all endpoints.
 pub(crate) const NEXT_HOP: Mac = Mac([0x02, 0, 0, 0, 0xAA, 0xFE]);
 
-/// The addresses and the type of a packet from 02-00-00-00-AA-01 to the next hop, over IPv4.
-pub(crate) const ETHER4: [u8; 14] = [
-    0x02, 0, 0, 0, 0xAA, 0xFE, 0x02, 0, 0, 0, 0xAA, 0x01, 0x08, 0x00,
-];
-
-/// The same over IPv6, and an IPv6 header from 2001:db8::1 to 2001:db8::2 before 76 octets of UDP.
+/// The addresses and the type of a packet from 02-00-00-00-AA-01 to the next hop, and an IPv6 header from 2001:db8::1 to
+/// 2001:db8::2 before 76 octets of UDP.
 pub(crate) const FRONT6: [u8; 54] = [
     0x02, 0, 0, 0, 0xAA, 0xFE, 0x02, 0, 0, 0, 0xAA, 0x01, 0x86, 0xDD, 0x60, 0, 0, 0, 0x00, 0x4C,
     0x11, 0x40, 0x20, 0x01, 0x0D, 0xB8, 0, 0, 0, 0, 0, 0, 0, 0, 0, 0, 0, 1, 0x20, 0x01, 0x0D, 0xB8,
     0, 0, 0, 0, 0, 0, 0, 0, 0, 0, 0, 2,
 ];
 
-/// A VXLAN header of VNI 5000.
-pub(crate) const VXLAN_5000: [u8; 8] = [0x08, 0, 0, 0, 0x00, 0x13, 0x88, 0];
-
 /// The addresses and the type of a broadcast frame from 02-00-00-00-00-01.
 pub(crate) const BROADCAST: [u8; 14] = [
     0xFF, 0xFF, 0xFF, 0xFF, 0xFF, 0xFF, 0x02, 0, 0, 0, 0, 0x01, 0x08, 0x06,
 ];
-
-/// Texts side by side.
-pub(crate) fn joined(alloc: Global, texts: &[&[u8]]) -> Result<Vec<u8>, AllocError> {
-    let mut all = Vec::new(alloc);
-    for text in texts {
-        all.extend_from_slice(text)?;
-    }
-    Ok(all)
-}
 
 /// 192.0.2 and this octet.
 pub(crate) fn host4(last: u8) -> Addr {

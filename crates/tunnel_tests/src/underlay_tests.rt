@@ -7,74 +7,100 @@ use flood_lists::{FloodFault, FloodList, NotThere, Own};
 use frame_view::{Mac, Vid};
 use ip_udp_view::{Addr, Tunnel};
 use std::test::Fail;
-use underlay::{PeerRule, SegmentTunnel, TagRule, TunnelRule, Tunnels, Under};
+use underlay::{Hops, PeerRule, SegmentTunnel, TagRule, TunnelRule, Tunnels, Under, Underlay};
 use vxlan_head::Vni;
+
+/// The first port of which another kind is told.
+fn wrong_kind(underlay: &Underlay, ports: &[(u16, Option<Tunnel>)]) -> Option<u16> {
+    for (port, kind) in ports {
+        if underlay.kind_at(*port) != *kind {
+            return Some(*port);
+        }
+    }
+    None
+}
+
+const PORTS: [(u16, Option<Tunnel>); 4] = [
+    (4789, Some(Tunnel::Vxlan)),
+    (6081, Some(Tunnel::Geneve)),
+    (4788, None),
+    (53, None),
+];
 
 #[test]
 fn a_port_has_the_kind_of_its_tunnels(rt: HostRuntime) {
     let underlay = underlay(1);
-    for (port, wanted) in [
-        (4789, Some(Tunnel::Vxlan)),
-        (6081, Some(Tunnel::Geneve)),
-        (4788, None),
-        (53, None),
-    ] {
-        assert_eq!(rt; underlay.kind_at(port), wanted, "port {port}");
-    }
-    assert_eq!(rt; underlay.port_of(Tunnel::Vxlan), 4789, "VXLAN's port");
-    assert_eq!(rt; underlay.port_of(Tunnel::Geneve), 6081, "Geneve's port");
+    assert_eq!(rt; wrong_kind(&underlay, &PORTS), None);
+    assert!(rt; underlay.port_of(Tunnel::Vxlan) == 4789);
+    assert!(rt; underlay.port_of(Tunnel::Geneve) == 6081);
+}
+
+/// Whether the addresses that end with 1 are own ones, and those that end with 2 aren't.
+fn has_own_addresses(underlay: &Underlay) -> bool {
+    underlay.is_own(host4(1))
+        && !underlay.is_own(host4(2))
+        && underlay.is_own(host6(1))
+        && !underlay.is_own(host6(2))
 }
 
 #[test]
 fn own_addresses_are_of_both_families(rt: HostRuntime) {
     let underlay = underlay(1);
-    for (addr, wanted) in [
-        (host4(1), true),
-        (host4(2), false),
-        (host6(1), true),
-        (host6(2), false),
-    ] {
-        assert_eq!(rt; underlay.is_own(addr), wanted, "{addr:?}");
-    }
+    assert!(rt; has_own_addresses(&underlay));
     let wanted = Own {
         ip4: Some([192, 0, 2, 1]),
         ip6: Some(octets6(1)),
     };
-    assert_eq!(rt; underlay.own(), wanted, "the own addresses");
+    assert!(rt; underlay.own() == wanted);
+}
+
+/// The MAC address 02-00-00-00-BB and this octet.
+fn exception(last: u8) -> Mac {
+    Mac([0x02, 0, 0, 0, 0xBB, last])
+}
+
+/// Puts an exception where there is none and room for it.
+fn put_hop(hops: &mut Hops, addr: Addr, last: u8) {
+    if hops.get(addr).is_none() && hops.len() < 64 {
+        hops.insert(addr, exception(last));
+    }
+}
+
+/// Puts five exceptions.
+fn put_hops(hops: &mut Hops) {
+    put_hop(hops, host6(9), 1);
+    put_hop(hops, host4(7), 2);
+    put_hop(hops, host4(3), 3);
+    put_hop(hops, host4(5), 4);
+    put_hop(hops, host6(4), 5);
+}
+
+/// Whether each of them is the next hop of its address.
+fn has_exceptions(underlay: &Underlay) -> bool {
+    underlay.hop_to(host6(9)) == exception(1)
+        && underlay.hop_to(host4(7)) == exception(2)
+        && underlay.hop_to(host4(3)) == exception(3)
+        && underlay.hop_to(host4(5)) == exception(4)
+        && underlay.hop_to(host6(4)) == exception(5)
+}
+
+/// Whether groups have the MAC addresses that are made from theirs (RFC 1112, 6.4; RFC 2464, 7).
+fn has_groups(underlay: &Underlay) -> bool {
+    let group4 = Addr::V4([239, 1, 1, 1]);
+    let group6 = Addr::V6([0xFF, 0x05, 0, 0, 0, 0, 0, 0, 0, 0, 0, 0, 0, 1, 0, 3]);
+    underlay.hop_to(group4) == Mac([0x01, 0x00, 0x5E, 0x01, 0x01, 0x01])
+        && underlay.hop_to(group6) == Mac([0x33, 0x33, 0x00, 0x01, 0x00, 0x03])
 }
 
 #[test]
 fn a_group_an_exception_and_others_have_their_next_hops(rt: HostRuntime) {
     let mut underlay = underlay(1);
-    for (addr, last) in [
-        (host6(9), 1),
-        (host4(7), 2),
-        (host4(3), 3),
-        (host4(5), 4),
-        (host6(4), 5),
-    ] {
-        if underlay.hops.get(addr).is_none() && underlay.hops.len() < 64 {
-            underlay.hops.insert(addr, Mac([0x02, 0, 0, 0, 0xBB, last]));
-        }
-    }
-    assert_eq!(rt; underlay.hops.len(), 5, "the number of exceptions");
-    let group6 = [0xFF, 0x05, 0, 0, 0, 0, 0, 0, 0, 0, 0, 0, 0, 1, 0, 3];
-    for (addr, wanted) in [
-        (host6(9), Mac([0x02, 0, 0, 0, 0xBB, 1])),
-        (host4(7), Mac([0x02, 0, 0, 0, 0xBB, 2])),
-        (host4(3), Mac([0x02, 0, 0, 0, 0xBB, 3])),
-        (host4(5), Mac([0x02, 0, 0, 0, 0xBB, 4])),
-        (host6(4), Mac([0x02, 0, 0, 0, 0xBB, 5])),
-        (host4(4), NEXT_HOP),
-        (host6(5), NEXT_HOP),
-        (
-            Addr::V4([239, 1, 1, 1]),
-            Mac([0x01, 0x00, 0x5E, 0x01, 0x01, 0x01]),
-        ),
-        (Addr::V6(group6), Mac([0x33, 0x33, 0x00, 0x01, 0x00, 0x03])),
-    ] {
-        assert_eq!(rt; underlay.hop_to(addr), wanted, "{addr:?}");
-    }
+    put_hops(&mut underlay.hops);
+    assert!(rt; underlay.hops.len() == 5);
+    assert!(rt; has_exceptions(&underlay));
+    assert!(rt; underlay.hop_to(host4(4)) == NEXT_HOP);
+    assert!(rt; underlay.hop_to(host6(5)) == NEXT_HOP);
+    assert!(rt; has_groups(&underlay));
 }
 
 fn vxlan_5000() -> SegmentTunnel {
@@ -112,115 +138,110 @@ fn add(under: &mut Under, vid: Vid, tunnel: SegmentTunnel) -> bool
     true
 }
 
+fn vid(number: u16) -> Result<Vid, Fail> {
+    Ok(Vid::new(number).ok_or("a VID")?)
+}
+
+/// Adds two segments, and what neither VID nor tunnel is free for; whether each is answered so.
+fn adds_two(under: &mut Under, ten: Vid, twenty: Vid) -> bool
+    requires { len under.old.segments < 252 }
+{
+    add(under, ten, vxlan_5000())
+        && !add(under, twenty, vxlan_5000())
+        && !add(under, ten, geneve_5000())
+        && add(under, twenty, geneve_5000())
+}
+
+/// Whether VXLAN 5000 is VID 10's, and Geneve 5000 VID 20's, and VXLAN 5001 nobody's.
+fn finds_by_tunnel(under: &Under, ten: Vid, twenty: Vid) -> bool {
+    let vni = [0x00, 0x13, 0x88];
+    is_found(under, Tunnel::Vxlan, vni, Some(ten))
+        && is_found(under, Tunnel::Geneve, vni, Some(twenty))
+        && is_found(under, Tunnel::Vxlan, [0x00, 0x13, 0x89], None)
+}
+
+/// Whether the tunnel with the VNI that these octets spell is this segment's, and taken; where there is none, not taken.
+fn is_found(under: &Under, kind: Tunnel, vni: [u8; 3], wanted: Option<Vid>) -> bool {
+    let vni = Vni::from_octets(vni);
+    let found = match under.segment_by(kind, vni) {
+        Some((vid, _)) => Some(vid),
+        None => None,
+    };
+    found == wanted && under.taken(kind, vni) == wanted.is_some()
+}
+
+/// Whether VID 10 has a tunnel over VXLAN, VID 20 one over Geneve, and no other is there.
+fn finds_by_vid(under: &Under, ten: Vid, twenty: Vid, thirty: Vid) -> bool {
+    under.tunnel_of(ten, Tunnel::Vxlan) == Some(vxlan_5000())
+        && under.tunnel_of(ten, Tunnel::Geneve).is_none()
+        && under.tunnel_of(twenty, Tunnel::Geneve) == Some(geneve_5000())
+        && under.tunnel_of(thirty, Tunnel::Vxlan).is_none()
+}
+
+/// Removes a segment, where it is there, and whether it was there before and not behind.
+fn removes(under: &mut Under, vid: Vid) -> bool {
+    if !under.has(vid) {
+        return false;
+    }
+    under.remove_segment(vid);
+    !under.has(vid)
+}
+
 #[test]
 #[tactic(auto, using(underlay::proofs::ToldLemmas::no_segments))]
 fn a_segment_is_found_by_its_vid_and_by_its_tunnel(rt: HostRuntime) -> Result<(), Fail> {
-    let ten = Vid::new(10).ok_or("10 is a VID")?;
-    let twenty = Vid::new(20).ok_or("20 is a VID")?;
-    let thirty = Vid::new(30).ok_or("30 is a VID")?;
+    let (ten, twenty, thirty) = (vid(10)?, vid(20)?, vid(30)?);
     let mut under = Under::open(rt.alloc(), underlay(1), Vec::new(rt.alloc()))?;
-    assert!(rt;
-        add(&mut under, ten, vxlan_5000()),
-        "VID 10 with VXLAN 5000"
-    );
-    assert!(rt; !add(&mut under, twenty, vxlan_5000()), "VXLAN 5000 again");
-    assert!(rt; !add(&mut under, ten, geneve_5000()), "VID 10 again");
-    assert!(rt;
-        add(&mut under, twenty, geneve_5000()),
-        "VID 20 with Geneve 5000"
-    );
-    for (vid, wanted) in [(ten, true), (twenty, true), (thirty, false)] {
-        assert_eq!(rt; under.has(vid), wanted, "{vid:?}");
-    }
-    for (kind, number, wanted) in [
-        (Tunnel::Vxlan, [0x00, 0x13, 0x88], Some(ten)),
-        (Tunnel::Geneve, [0x00, 0x13, 0x88], Some(twenty)),
-        (Tunnel::Vxlan, [0x00, 0x13, 0x89], None),
-    ] {
-        let found = match under.segment_by(kind, Vni::from_octets(number)) {
-            Some((vid, _)) => Some(vid),
-            None => None,
-        };
-        assert_eq!(rt; found, wanted, "{kind:?} {number:?}");
-        assert_eq!(rt;
-            under.taken(kind, Vni::from_octets(number)),
-            wanted.is_some(),
-            "{kind:?} {number:?} taken"
-        );
-    }
-    for (vid, kind, wanted) in [
-        (ten, Tunnel::Vxlan, Some(vxlan_5000())),
-        (ten, Tunnel::Geneve, None),
-        (twenty, Tunnel::Geneve, Some(geneve_5000())),
-        (thirty, Tunnel::Vxlan, None),
-    ] {
-        assert_eq!(rt;
-            under.tunnel_of(vid, kind),
-            wanted,
-            "the {kind:?} tunnel of {vid:?}"
-        );
-    }
-    assert!(rt; under.has(ten), "VID 10 before its removal");
-    under.remove_segment(ten);
-    assert!(rt; !under.has(ten), "VID 10 removed");
-    assert!(rt;
-        !under.taken(Tunnel::Vxlan, vxlan_5000().vni),
-        "VXLAN 5000 removed"
-    );
-    assert!(rt;
-        under.taken(Tunnel::Geneve, geneve_5000().vni),
-        "Geneve 5000 stays"
-    );
+    assert!(rt; adds_two(&mut under, ten, twenty));
+    assert!(rt; under.has(ten) && under.has(twenty) && !under.has(thirty));
+    assert!(rt; finds_by_tunnel(&under, ten, twenty));
+    assert!(rt; finds_by_vid(&under, ten, twenty, thirty));
+    assert!(rt; removes(&mut under, ten));
+    assert!(rt; !under.taken(Tunnel::Vxlan, vxlan_5000().vni));
+    assert!(rt; under.taken(Tunnel::Geneve, geneve_5000().vni));
     Ok(())
+}
+
+/// Adds two segments over VXLAN; whether both were.
+fn adds_two_over_vxlan(under: &mut Under, ten: Vid, twenty: Vid) -> bool
+    requires { len under.old.segments < 252 }
+{
+    add(under, ten, tunnel(Tunnel::Vxlan, [0, 0, 1]))
+        && add(under, twenty, tunnel(Tunnel::Vxlan, [0, 0, 2]))
+}
+
+/// Whether an address that is added to a segment's flood list is answered so.
+fn is_added(under: &mut Under, vid: Vid, addr: Addr, wanted: Result<(), FloodFault>) -> bool {
+    under.has(vid) && under.add_flood(vid, Tunnel::Vxlan, addr) == wanted
+}
+
+/// Whether an address that is removed from it is.
+fn is_removed(under: &mut Under, vid: Vid, addr: Addr, wanted: Result<(), NotThere>) -> bool {
+    under.has(vid) && under.remove_flood(vid, Tunnel::Vxlan, addr) == wanted
+}
+
+/// Whether a segment's flood list has so many targets.
+fn has_targets(under: &Under, vid: Vid, wanted: usize) -> bool {
+    under.has(vid)
+        && under.flood(vid).targets().len() == wanted
+        && under.segment(vid).flood.targets().len() == wanted
 }
 
 #[test]
 #[tactic(auto, using(underlay::proofs::ToldLemmas::no_segments))]
 fn a_flood_list_changes_alone(rt: HostRuntime) -> Result<(), Fail> {
-    let ten = Vid::new(10).ok_or("10 is a VID")?;
-    let twenty = Vid::new(20).ok_or("20 is a VID")?;
+    let (ten, twenty) = (vid(10)?, vid(20)?);
     let mut under = Under::open(rt.alloc(), underlay(1), Vec::new(rt.alloc()))?;
-    assert!(rt;
-        add(&mut under, ten, tunnel(Tunnel::Vxlan, [0, 0, 1])),
-        "VID 10"
-    );
-    assert!(rt;
-        add(&mut under, twenty, tunnel(Tunnel::Vxlan, [0, 0, 2])),
-        "VID 20"
-    );
-    for (addr, wanted) in [
-        (host4(2), Ok(())),
-        (host4(2), Err(FloodFault::AlreadyThere)),
-        (host4(1), Err(FloodFault::OwnAddress)),
-    ] {
-        assert!(rt; under.has(ten), "VID 10");
-        assert_eq!(rt;
-            under.add_flood(ten, Tunnel::Vxlan, addr),
-            wanted,
-            "{addr:?} added"
-        );
-    }
-    for (vid, wanted) in [(ten, 1), (twenty, 0)] {
-        assert!(rt; under.has(vid), "{vid:?}");
-        assert_eq!(rt;
-            under.flood(vid).targets().len(),
-            wanted,
-            "the flood list of {vid:?}"
-        );
-        assert_eq!(rt;
-            under.segment(vid).flood.targets().len(),
-            wanted,
-            "the same, by the segment"
-        );
-    }
-    for (addr, wanted) in [(host4(2), Ok(())), (host4(2), Err(NotThere))] {
-        assert!(rt; under.has(ten), "VID 10");
-        assert_eq!(rt;
-            under.remove_flood(ten, Tunnel::Vxlan, addr),
-            wanted,
-            "{addr:?} removed"
-        );
-    }
+    assert!(rt; adds_two_over_vxlan(&mut under, ten, twenty));
+    assert!(rt; is_added(&mut under, ten, host4(2), Ok(())));
+    let again = Err(FloodFault::AlreadyThere);
+    assert!(rt; is_added(&mut under, ten, host4(2), again));
+    let own = Err(FloodFault::OwnAddress);
+    assert!(rt; is_added(&mut under, ten, host4(1), own));
+    assert!(rt; has_targets(&under, ten, 1));
+    assert!(rt; has_targets(&under, twenty, 0));
+    assert!(rt; is_removed(&mut under, ten, host4(2), Ok(())));
+    assert!(rt; is_removed(&mut under, ten, host4(2), Err(NotThere)));
     Ok(())
 }
 
@@ -233,27 +254,24 @@ fn two_rules_tell_two_segments(rt: HostRuntime) -> Result<(), Fail> {
         rule(twenty, tunnel(Tunnel::Geneve, [0x00, 0x13, 0x88])),
     ]?;
     let under = Under::open(rt.alloc(), underlay(1), rules)?;
-    assert_eq!(rt;
-        under.tunnel_of(ten, Tunnel::Vxlan),
-        Some(vxlan_5000()),
-        "the VXLAN tunnel of VID 10"
-    );
-    assert_eq!(rt;
-        under.tunnel_of(twenty, Tunnel::Geneve),
-        Some(geneve_5000()),
-        "the Geneve tunnel of VID 20"
-    );
+    assert!(rt; under.tunnel_of(ten, Tunnel::Vxlan) == Some(vxlan_5000()));
+    assert!(rt; under.tunnel_of(twenty, Tunnel::Geneve) == Some(geneve_5000()));
     Ok(())
+}
+
+/// Whether what the endpoint is told is what stands in these settings.
+fn has_settings(under: &Under) -> bool {
+    under.settings().mtu == 1550
+        && under.own().ip4 == Some([192, 0, 2, 1])
+        && under.kind_at(6081) == Some(Tunnel::Geneve)
+        && under.zero6()
+        && under.known().pairs().len() == 0
 }
 
 #[test]
 fn the_settings_stay(rt: HostRuntime) -> Result<(), Fail> {
     let under = Under::open(rt.alloc(), underlay(1), Vec::new(rt.alloc()))?;
-    assert_eq!(rt; under.settings().mtu, 1550, "the MTU");
-    assert_eq!(rt; under.own().ip4, Some([192, 0, 2, 1]), "the own address");
-    assert_eq!(rt; under.kind_at(6081), Some(Tunnel::Geneve), "port 6081");
-    assert!(rt; under.zero6(), "checksum 0 over IPv6");
-    assert_eq!(rt; under.known().pairs().len(), 0, "the known options");
+    assert!(rt; has_settings(&under));
     Ok(())
 }
 
@@ -262,11 +280,9 @@ fn a_segment_has_one_or_two_tunnels(rt: HostRuntime) {
     let vxlan = tunnel(Tunnel::Vxlan, [0, 0, 1]);
     let geneve = tunnel(Tunnel::Geneve, [0, 0, 2]);
     let one = Tunnels::one(vxlan);
-    assert_eq!(rt; one.first(), vxlan, "the first of one");
-    assert!(rt; !one.are_two(), "one");
-    assert_eq!(rt; one.of(Tunnel::Geneve), None, "Geneve of one");
+    assert!(rt; one.first() == vxlan && !one.are_two());
+    assert!(rt; one.of(Tunnel::Geneve).is_none());
     let two = Tunnels::two(geneve, vxlan);
-    assert_eq!(rt; two.first(), geneve, "the first of two");
-    assert!(rt; two.are_two(), "two");
-    assert_eq!(rt; two.of(Tunnel::Vxlan), Some(vxlan), "VXLAN of two");
+    assert!(rt; two.first() == geneve && two.are_two());
+    assert!(rt; two.of(Tunnel::Vxlan) == Some(vxlan));
 }

@@ -3,7 +3,7 @@ use Rattle.std.specs.Prelude.{IsSomeAnd, Some}
 use Rattle.clap.specs.Walk.{texts}
 use Rattle.clap.specs.Words.{app_of}
 use Rattle.command_line.specs.Meaning.{input_uses, meaning_of}
-use Rattle.command_line.proofs.Simple.{meant_by, refused_by, taken_by}
+use Rattle.command_line.proofs.Simple.{explained_by, meant_by, refused_by, taken_by}
 use Rattle.command_line.proofs.line.line_of.Goals as goal
 
 pub returns : goal.returns
@@ -29,3 +29,14 @@ returns-then-input_uses-gt1-clause-fault c =
 pub returns-in-Ok-try_get_matches_from-clause-taken : goal.returns-in-Ok-try_get_matches_from-clause-taken
 returns-in-Ok-try_get_matches_from-clause-taken c =
     taken_by (app_of c.in-Ok.command) (texts c.args.words.now) c.in-Ok.ensures c.in-Ok-try_get_matches_from.ensures.kinds
+
+pub returns-in-Ok-try_get_matches_from-clause-ok : goal.returns-in-Ok-try_get_matches_from-clause-ok
+returns-in-Ok-try_get_matches_from-clause-ok c =
+    let parse = c.in-Ok-try_get_matches_from in
+    let line = c.in-Ok-line_from.line in
+    meant_by (app_of c.in-Ok.command) (texts c.args.words.now) parse.matches (Some (meaning_of line)) c.in-Ok.ensures parse.ensures.matches c.in-Ok-line_from.ensures.ok
+
+pub returns-in-Err-line_from-clause-fault : goal.returns-in-Err-line_from-clause-fault
+returns-in-Err-line_from-clause-fault c =
+    let parse = c.in-Ok-try_get_matches_from in
+    explained_by (app_of c.in-Ok.command) (texts c.args.words.now) parse.matches c.in-Err-line_from.fault c.in-Ok.ensures parse.ensures.matches parse.ensures.kinds c.in-Err-line_from.ensures.fault

@@ -11,4 +11,4 @@ returns c =
     let rising = subst (IsRising 0) c.events.ensures.events c.events.ensures.rising in
     c.in_ok-put_cuts.ensures
     ∙ ap (λ (x : List ℕ). x ++ flat_map cut_line c.cuts.result.now) c.in_ok-put_events.ensures
-    ∙ rw (c.in_ok-endpoint.ensures, c.events.ensures.events, c.cuts.ensures, c.new-text.ensures.items) (explanation_grown (settings_told c.args.settings) c.args.depth c.args.timeline.now rising c.requires.known)
+    ∙ rw (c.in_ok-endpoint.ensures, c.events.ensures.events, c.cuts.ensures, c.new-text.ensures.items) (explanation_grown (settings_told c.args.settings) c.args.depth c.args.values c.args.timeline.now rising c.requires.known)

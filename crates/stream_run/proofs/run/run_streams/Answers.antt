@@ -10,10 +10,12 @@ use Rattle.capture_run.specs.declared.fault.RunFault.TheVariants as faults
 use Rattle.stream_run.specs.Left.{Answers, Leaves, ends}
 use Rattle.stream_run.specs.Over.{IsRunOver, LeavesOver}
 use Rattle.stream_run.specs.Stage.{drains}
+use Rattle.stream_run.specs.Watched.{IsShown, IsWatchedOver, SeesOver, Shows}
 use Rattle.stream_run.specs.declared.fault.StreamFault.TheVariants as stream
 use Rattle.stream_run.proofs.Framing.{none_at, timely, writes_by}
-use Rattle.stream_run.proofs.Overall.{changes_refusal, over_refusal, settings_refusal, tells_texts}
+use Rattle.stream_run.proofs.Overall.{changes_refusal, over_refusal, seen_refusal, settings_refusal, tells_texts}
 use Rattle.stream_run.proofs.Refusing.{changes_refused, count_refused, counted, settings_refused}
+use Rattle.stream_run.proofs.Showing.{shows_counted, shows_refused}
 use Rattle.stream_run.proofs.run.run_streams.Goals as goal
 
 pub returns-in-Err-clause-run : goal.returns-in-Err-clause-run
@@ -101,3 +103,66 @@ returns-clause-over g c texts text tells =
     subst (λ m. IsRunOver m changes texts text old new c.run_with.result) (sym c.in-Ok.ensures)
     (subst (λ m. IsRunOver (Ok c.in-Ok.settings) m texts text old new c.run_with.result) (sym c.in-Ok-changes_of.ensures.value)
     (subst (λ l. LeavesOver c.in-Ok.settings l texts text old new c.run_with.result) c.as_slice.ensures.value (c.run_with.ensures.over texts text tells)))
+
+-- ---- by who looks on
+
+pub returns-in-Err-clause-shown : goal.returns-in-Err-clause-shown
+returns-in-Err-clause-shown g c =
+    let d = drains c.args.port_sinks.now c.args.underlay_sink.now (g.W.Output.written c.args.decisions.now) (g.W.Output.failures c.args.decisions.now) in
+    shows_refused c.args.ports.now d g.T.Watch.sees g.T.Watch.ends c.args.watch.now (settings_in c.args.settings.now) (changes_in c.args.changes.now) c.of_settings.result c.requires.sinks
+
+pub returns-in-Err-changes_of-clause-shown : goal.returns-in-Err-changes_of-clause-shown
+returns-in-Err-changes_of-clause-shown g c =
+    let d = drains c.args.port_sinks.now c.args.underlay_sink.now (g.W.Output.written c.args.decisions.now) (g.W.Output.failures c.args.decisions.now) in
+    shows_refused c.args.ports.now d g.T.Watch.sees g.T.Watch.ends c.args.watch.now (settings_in c.args.settings.now) (changes_in c.args.changes.now) c.of_changes.result c.requires.sinks
+
+pub returns-then-ports-clause-shown : goal.returns-then-ports-clause-shown
+returns-then-ports-clause-shown g c =
+    let d = drains c.args.port_sinks.now c.args.underlay_sink.now (g.W.Output.written c.args.decisions.now) (g.W.Output.failures c.args.decisions.now) in
+    shows_refused c.args.ports.now d g.T.Watch.sees g.T.Watch.ends c.args.watch.now (settings_in c.args.settings.now) (changes_in c.args.changes.now) faults.PortCount c.requires.sinks
+
+pub returns-clause-shown : goal.returns-clause-shown
+returns-clause-shown g c =
+    let changes = changes_in c.args.changes.now in
+    let old = drains c.args.port_sinks.now c.args.underlay_sink.now (g.W.Output.written c.args.decisions.now) (g.W.Output.failures c.args.decisions.now) in
+    let new = drains c.run_with.new.port_sinks c.run_with.new.underlay_sink (g.W.Output.written c.run_with.new.decisions) (g.W.Output.failures c.run_with.new.decisions) in
+    let same : (length c.args.ports.now == length c.in-Ok.settings.ports) ≡ true = eq-eqb _ _ (c.if-ports.false ∙ ap length c.ports.ensures.value) in
+    subst (λ m. IsShown g.T.Watch.sees g.T.Watch.ends m changes c.args.ports.now old new c.args.watch.now c.run_with.new.watch c.run_with.result) (sym c.in-Ok.ensures)
+    (subst (λ m. IsShown g.T.Watch.sees g.T.Watch.ends (Ok c.in-Ok.settings) m c.args.ports.now old new c.args.watch.now c.run_with.new.watch c.run_with.result) (sym c.in-Ok-changes_of.ensures.value)
+    (shows_counted c.args.ports.now old g.T.Watch.sees g.T.Watch.ends c.args.watch.now c.in-Ok.settings c.in-Ok-changes_of.changes.items new c.run_with.new.watch c.run_with.result same
+    (subst (λ l. Shows g.T.Watch.sees g.T.Watch.ends c.in-Ok.settings l old new c.args.watch.now c.run_with.new.watch c.run_with.result) c.as_slice.ensures.value c.run_with.ensures.shown)))
+
+pub returns-in-Err-clause-watched : goal.returns-in-Err-clause-watched
+returns-in-Err-clause-watched g c texts text tells =
+    let s = settings_in c.args.settings.now in
+    let changes = changes_in c.args.changes.now in
+    let d = drains c.args.port_sinks.now c.args.underlay_sink.now (g.W.Output.written c.args.decisions.now) (g.W.Output.failures c.args.decisions.now) in
+    subst (λ f. IsWatchedOver g.T.Watch.sees g.T.Watch.ends s changes texts text d d c.args.watch.now c.args.watch.now (Err (stream.Run f))) (sym c.of_settings.ensures)
+    (seen_refusal texts text d d g.T.Watch.sees g.T.Watch.ends c.args.watch.now s changes (of_settings c.in-Err.fault) (settings_refusal c.in-Err.fault)
+    (none_at d (length texts) (c.requires.sinks ∙ tells_texts c.args.ports.now c.args.underlay.now texts text tells)))
+
+pub returns-in-Err-changes_of-clause-watched : goal.returns-in-Err-changes_of-clause-watched
+returns-in-Err-changes_of-clause-watched g c texts text tells =
+    let s = settings_in c.args.settings.now in
+    let changes = changes_in c.args.changes.now in
+    let d = drains c.args.port_sinks.now c.args.underlay_sink.now (g.W.Output.written c.args.decisions.now) (g.W.Output.failures c.args.decisions.now) in
+    subst (λ f. IsWatchedOver g.T.Watch.sees g.T.Watch.ends s changes texts text d d c.args.watch.now c.args.watch.now (Err (stream.Run f))) (sym c.of_changes.ensures)
+    (seen_refusal texts text d d g.T.Watch.sees g.T.Watch.ends c.args.watch.now s changes (of_changes c.in-Err-changes_of.fault) (changes_refusal c.in-Err-changes_of.fault)
+    (none_at d (length texts) (c.requires.sinks ∙ tells_texts c.args.ports.now c.args.underlay.now texts text tells)))
+
+pub returns-then-ports-clause-watched : goal.returns-then-ports-clause-watched
+returns-then-ports-clause-watched g c texts text tells =
+    let s = settings_in c.args.settings.now in
+    let changes = changes_in c.args.changes.now in
+    let d = drains c.args.port_sinks.now c.args.underlay_sink.now (g.W.Output.written c.args.decisions.now) (g.W.Output.failures c.args.decisions.now) in
+    seen_refusal texts text d d g.T.Watch.sees g.T.Watch.ends c.args.watch.now s changes faults.PortCount tt
+    (none_at d (length texts) (c.requires.sinks ∙ tells_texts c.args.ports.now c.args.underlay.now texts text tells))
+
+pub returns-clause-watched : goal.returns-clause-watched
+returns-clause-watched g c texts text tells =
+    let changes = changes_in c.args.changes.now in
+    let old = drains c.args.port_sinks.now c.args.underlay_sink.now (g.W.Output.written c.args.decisions.now) (g.W.Output.failures c.args.decisions.now) in
+    let new = drains c.run_with.new.port_sinks c.run_with.new.underlay_sink (g.W.Output.written c.run_with.new.decisions) (g.W.Output.failures c.run_with.new.decisions) in
+    subst (λ m. IsWatchedOver g.T.Watch.sees g.T.Watch.ends m changes texts text old new c.args.watch.now c.run_with.new.watch c.run_with.result) (sym c.in-Ok.ensures)
+    (subst (λ m. IsWatchedOver g.T.Watch.sees g.T.Watch.ends (Ok c.in-Ok.settings) m texts text old new c.args.watch.now c.run_with.new.watch c.run_with.result) (sym c.in-Ok-changes_of.ensures.value)
+    (subst (λ l. SeesOver g.T.Watch.sees g.T.Watch.ends c.in-Ok.settings l texts text old new c.args.watch.now c.run_with.new.watch c.run_with.result) c.as_slice.ensures.value (c.run_with.ensures.watched texts text tells)))

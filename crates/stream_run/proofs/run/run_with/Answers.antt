@@ -7,11 +7,12 @@ use Rattle.stream_run.specs.Cuts.{cuts_at}
 use Rattle.stream_run.specs.Over.{texts_octets}
 use Rattle.stream_run.specs.Stage.{FailedAt, StandAt, StandBetween, drains, no_texts}
 use Rattle.stream_run.specs.Steps.{AreRead, AreReady, run_at, texts_behind}
-use Rattle.stream_run.proofs.Closing.{opened_read, over_lines, over_opening, over_run, over_whole}
+use Rattle.stream_run.proofs.Closing.{opened_read, over_lines, over_opening, over_run, over_whole, seen_lines, seen_opening, seen_run, seen_whole}
 use Rattle.stream_run.proofs.Framing.{leaves_all, leaves_begun, leaves_cuts, leaves_events, leaves_headers, leaves_nothing, lent_back, none_at, opened_all, opens_no_write, ready_begun}
 use Rattle.stream_run.proofs.Opened.{reads_behind}
-use Rattle.stream_run.proofs.Overall.{over_firsts, over_headers, over_unopened, tells_texts}
+use Rattle.stream_run.proofs.Overall.{over_firsts, over_headers, over_unopened, seen_firsts, seen_headers, seen_unopened, tells_texts}
 use Rattle.stream_run.proofs.Running.{quiet_on}
+use Rattle.stream_run.proofs.Showing.{shows_all, shows_begun, shows_cuts, shows_events, shows_headers, shows_nothing}
 use Rattle.stream_run.proofs.run.run_with.Goals as goal
 
 pub returns-in_default-clause-outputs : goal.returns-in_default-clause-outputs
@@ -75,14 +76,14 @@ returns-in-Err-put_events-clause-outputs g c =
     let begun = drains c.begin_all.new.port_sinks c.begin_all.new.underlay_sink (g.W.Output.written c.args.decisions.now) (g.W.Output.failures c.args.decisions.now) in
     let at : StandAt start begun (empty_outputs (length c.args.settings.ports)) = subst (λ n. StandAt start begun (empty_outputs n)) many (c.in_default-begin_all.ensures start (g.W.Output.written c.args.decisions.now) (g.W.Output.failures c.args.decisions.now) (none_at start (length c.args.port_sinks.now) refl)) in
     let put = drains c.put_events.new.port_sinks c.put_events.new.underlay_sink (g.W.Output.written c.put_events.new.decisions) (g.W.Output.failures c.put_events.new.decisions) in
-    let run = c.in-Err-put_events.ensures in
+    let run = c.in-Err-put_events.ensures.run in
     leaves_events c.args.settings c.args.changes.now start put (state_of c.in-Ok-open.endpoint) run.es run.more c.in-Err-put_events.fault c.in-Ok-open.ensures run.part (run.outputs start (empty_outputs (length c.args.settings.ports)) at)
 
 pub returns-in-Err-put_events-clause-reads : goal.returns-in-Err-put_events-clause-reads
 returns-in-Err-put_events-clause-reads g c =
     reads_behind {T = Unit {0}} c.args.ports.now c.fetch_all.new.ports c.put_events.new.ports c.args.underlay.now c.fetch_all.new.underlay c.put_events.new.underlay (Err c.in-Err-put_events.fault)
     (quiet_on c.args.ports.now c.open_all.new.ports c.fetch_all.new.ports c.args.underlay.now c.open_all.new.underlay c.fetch_all.new.underlay c.in_default-open_all.ensures.reads c.in_default-fetch_all.ensures.reads)
-    c.in-Err-put_events.ensures.reads
+    c.in-Err-put_events.ensures.run.reads
 
 pub returns-in-Ok-put_cuts-clause-outputs : goal.returns-in-Ok-put_cuts-clause-outputs
 returns-in-Ok-put_cuts-clause-outputs g c =
@@ -92,7 +93,7 @@ returns-in-Ok-put_cuts-clause-outputs g c =
     let at : StandAt start begun (empty_outputs (length c.args.settings.ports)) = subst (λ n. StandAt start begun (empty_outputs n)) many (c.in_default-begin_all.ensures start (g.W.Output.written c.args.decisions.now) (g.W.Output.failures c.args.decisions.now) (none_at start (length c.args.port_sinks.now) refl)) in
     let put = drains c.put_events.new.port_sinks c.put_events.new.underlay_sink (g.W.Output.written c.put_events.new.decisions) (g.W.Output.failures c.put_events.new.decisions) in
     let cut = drains c.put_events.new.port_sinks c.put_events.new.underlay_sink (g.W.Output.written c.put_cuts.new.decisions) (g.W.Output.failures c.put_cuts.new.decisions) in
-    let run = c.in_default-put_events.ensures in
+    let run = c.in_default-put_events.ensures.run in
     let o = texts_behind c.args.changes.now (state_of c.in-Ok-open.endpoint) (empty_outputs (length c.args.settings.ports)) run.es in
     leaves_all c.args.settings c.args.changes.now start cut (state_of c.in-Ok-open.endpoint) run.es (cuts_at c.put_events.new.ports c.put_events.new.underlay c.as_slice.result.now) c.in-Ok-open.ensures (c.in-Ok-put_cuts.ensures start o c.put_events.new.port_sinks c.put_events.new.underlay_sink (run.outputs start (empty_outputs (length c.args.settings.ports)) at))
 
@@ -104,7 +105,7 @@ returns-clause-outputs g c =
     let at : StandAt start begun (empty_outputs (length c.args.settings.ports)) = subst (λ n. StandAt start begun (empty_outputs n)) many (c.in_default-begin_all.ensures start (g.W.Output.written c.args.decisions.now) (g.W.Output.failures c.args.decisions.now) (none_at start (length c.args.port_sinks.now) refl)) in
     let put = drains c.put_events.new.port_sinks c.put_events.new.underlay_sink (g.W.Output.written c.put_events.new.decisions) (g.W.Output.failures c.put_events.new.decisions) in
     let cut = drains c.put_events.new.port_sinks c.put_events.new.underlay_sink (g.W.Output.written c.put_cuts.new.decisions) (g.W.Output.failures c.put_cuts.new.decisions) in
-    let run = c.in_default-put_events.ensures in
+    let run = c.in_default-put_events.ensures.run in
     let o = texts_behind c.args.changes.now (state_of c.in-Ok-open.endpoint) (empty_outputs (length c.args.settings.ports)) run.es in
     leaves_cuts c.args.settings c.args.changes.now start cut (state_of c.in-Ok-open.endpoint) run.es (cuts_at c.put_events.new.ports c.put_events.new.underlay c.as_slice.result.now) c.in-Err-put_cuts.target c.in-Ok-open.ensures (c.in-Err-put_cuts.ensures start o c.put_events.new.port_sinks c.put_events.new.underlay_sink (run.outputs start (empty_outputs (length c.args.settings.ports)) at))
 
@@ -159,7 +160,7 @@ returns-in-Err-put_events-clause-over g c texts text tells =
     (ready_begun c.args.changes.now c.open_all.new.ports c.open_all.new.underlay c.args.settings (state_of c.in-Ok-open.endpoint) begun _ c.requires.timely (omega (arith, as_many, c.requires.few)) (as_many ∙ c.requires.ports) c.in-Ok-open.ensures turns)) in
     let read = subst (λ ts. AreRead (texts_octets texts) text ts c.fetch_all.new.ports c.fetch_all.new.underlay) (sym lent) (c.in_default-fetch_all.ensures.told (texts_octets texts) text opened) in
     over_run c.args.settings c.args.changes.now texts text start c.fetch_all.new.ports c.fetch_all.new.underlay c.as_mut_slice-2.result.now (state_of c.in-Ok-open.endpoint) begun _ ready read at c.in-Ok-open.ensures
-    c.in-Err-put_events.fault c.in-Err-put_events.ensures
+    c.in-Err-put_events.fault c.in-Err-put_events.ensures.run
 
 pub returns-in-Ok-put_cuts-clause-over : goal.returns-in-Ok-put_cuts-clause-over
 returns-in-Ok-put_cuts-clause-over g c texts text tells =
@@ -177,7 +178,7 @@ returns-in-Ok-put_cuts-clause-over g c texts text tells =
     (c.in_default-fetch_all.ensures.ready (state_of c.in-Ok-open.endpoint) begun (ap (λ (s : State). s.moment) c.in-Ok-open.ensures)
     (ready_begun c.args.changes.now c.open_all.new.ports c.open_all.new.underlay c.args.settings (state_of c.in-Ok-open.endpoint) begun _ c.requires.timely (omega (arith, as_many, c.requires.few)) (as_many ∙ c.requires.ports) c.in-Ok-open.ensures turns)) in
     let read = subst (λ ts. AreRead (texts_octets texts) text ts c.fetch_all.new.ports c.fetch_all.new.underlay) (sym lent) (c.in_default-fetch_all.ensures.told (texts_octets texts) text opened) in
-    let run = c.in_default-put_events.ensures in
+    let run = c.in_default-put_events.ensures.run in
     let o = texts_behind c.args.changes.now (state_of c.in-Ok-open.endpoint) (empty_outputs (length texts)) run.es in
     let back : c.as_slice.result.now ≡ c.put_events.new.turns = c.as_slice.ensures.value ∙ lent_back c.put_events.new.turns _ c.in-Ok.turns.len (omega (arith, c.put_events.auto.turns, c.as_mut_slice-2.ensures.len)) in
     let lead = c.in-Ok-put_cuts.ensures start o c.put_events.new.port_sinks c.put_events.new.underlay_sink (run.outputs start (empty_outputs (length texts)) at) in
@@ -199,9 +200,173 @@ returns-clause-over g c texts text tells =
     (c.in_default-fetch_all.ensures.ready (state_of c.in-Ok-open.endpoint) begun (ap (λ (s : State). s.moment) c.in-Ok-open.ensures)
     (ready_begun c.args.changes.now c.open_all.new.ports c.open_all.new.underlay c.args.settings (state_of c.in-Ok-open.endpoint) begun _ c.requires.timely (omega (arith, as_many, c.requires.few)) (as_many ∙ c.requires.ports) c.in-Ok-open.ensures turns)) in
     let read = subst (λ ts. AreRead (texts_octets texts) text ts c.fetch_all.new.ports c.fetch_all.new.underlay) (sym lent) (c.in_default-fetch_all.ensures.told (texts_octets texts) text opened) in
-    let run = c.in_default-put_events.ensures in
+    let run = c.in_default-put_events.ensures.run in
     let o = texts_behind c.args.changes.now (state_of c.in-Ok-open.endpoint) (empty_outputs (length texts)) run.es in
     let back : c.as_slice.result.now ≡ c.put_events.new.turns = c.as_slice.ensures.value ∙ lent_back c.put_events.new.turns _ c.in-Ok.turns.len (omega (arith, c.put_events.auto.turns, c.as_mut_slice-2.ensures.len)) in
     let lead = c.in-Err-put_cuts.ensures start o c.put_events.new.port_sinks c.put_events.new.underlay_sink (run.outputs start (empty_outputs (length texts)) at) in
     over_lines c.args.settings c.args.changes.now texts text start c.fetch_all.new.ports c.fetch_all.new.underlay c.as_mut_slice-2.result.now (state_of c.in-Ok-open.endpoint) begun _ ready read at c.in-Ok-open.ensures
     cut c.in-Err-put_cuts.target run (subst (λ ts. StandBetween start cut o (with_cuts o (cuts_at c.put_events.new.ports c.put_events.new.underlay ts)) × FailedAt c.in-Err-put_cuts.target start cut) back lead)
+
+-- ---- by who looks on
+
+pub returns-in_default-clause-shown : goal.returns-in_default-clause-shown
+returns-in_default-clause-shown g c =
+    let start = drains c.args.port_sinks.now c.args.underlay_sink.now (g.W.Output.written c.args.decisions.now) (g.W.Output.failures c.args.decisions.now) in
+    let many : length c.args.port_sinks.now ≡ length c.args.settings.ports = c.requires.sinks ∙ c.requires.ports in
+    inl (none_at start (length c.args.settings.ports) many, refl)
+
+pub returns-in_default-open-clause-shown : goal.returns-in_default-open-clause-shown
+returns-in_default-open-clause-shown g c =
+    let start = drains c.args.port_sinks.now c.args.underlay_sink.now (g.W.Output.written c.args.decisions.now) (g.W.Output.failures c.args.decisions.now) in
+    let many : length c.args.port_sinks.now ≡ length c.args.settings.ports = c.requires.sinks ∙ c.requires.ports in
+    inl (none_at start (length c.args.settings.ports) many, refl)
+
+pub returns-in-Err-clause-shown : goal.returns-in-Err-clause-shown
+returns-in-Err-clause-shown g c =
+    let start = drains c.args.port_sinks.now c.args.underlay_sink.now (g.W.Output.written c.args.decisions.now) (g.W.Output.failures c.args.decisions.now) in
+    let many : length c.args.port_sinks.now ≡ length c.args.settings.ports = c.requires.sinks ∙ c.requires.ports in
+    shows_nothing c.args.settings c.args.changes.now start start g.T.Watch.sees g.T.Watch.ends c.args.watch.now c.in-Err.fault (opens_no_write c.args.ports.now c.args.underlay.now c.open_all.new.ports c.open_all.new.underlay c.in-Err.fault c.in-Err.ensures.opened)
+    (none_at start (length c.args.settings.ports) many)
+
+pub returns-in-Err-begin_all-clause-shown : goal.returns-in-Err-begin_all-clause-shown
+returns-in-Err-begin_all-clause-shown g c =
+    let start = drains c.args.port_sinks.now c.args.underlay_sink.now (g.W.Output.written c.args.decisions.now) (g.W.Output.failures c.args.decisions.now) in
+    let many : length c.args.port_sinks.now ≡ length c.args.settings.ports = c.requires.sinks ∙ c.requires.ports in
+    let begun = drains c.begin_all.new.port_sinks c.begin_all.new.underlay_sink (g.W.Output.written c.args.decisions.now) (g.W.Output.failures c.args.decisions.now) in
+    let lead = c.in-Err-begin_all.ensures start (g.W.Output.written c.args.decisions.now) (g.W.Output.failures c.args.decisions.now) (none_at start (length c.args.port_sinks.now) refl) in
+    shows_begun c.args.settings c.args.changes.now start begun g.T.Watch.sees g.T.Watch.ends c.args.watch.now c.in-Err-begin_all.target (subst (λ n. StandBetween start begun (no_texts n) (empty_outputs n)) many lead.0)
+
+pub returns-in-Err-fetch_all-clause-shown : goal.returns-in-Err-fetch_all-clause-shown
+returns-in-Err-fetch_all-clause-shown g c =
+    let start = drains c.args.port_sinks.now c.args.underlay_sink.now (g.W.Output.written c.args.decisions.now) (g.W.Output.failures c.args.decisions.now) in
+    let many : length c.args.port_sinks.now ≡ length c.args.settings.ports = c.requires.sinks ∙ c.requires.ports in
+    let begun = drains c.begin_all.new.port_sinks c.begin_all.new.underlay_sink (g.W.Output.written c.args.decisions.now) (g.W.Output.failures c.args.decisions.now) in
+    let at : StandAt start begun (empty_outputs (length c.args.settings.ports)) = subst (λ n. StandAt start begun (empty_outputs n)) many (c.in_default-begin_all.ensures start (g.W.Output.written c.args.decisions.now) (g.W.Output.failures c.args.decisions.now) (none_at start (length c.args.port_sinks.now) refl)) in
+    shows_headers c.args.settings c.args.changes.now start begun g.T.Watch.sees g.T.Watch.ends c.args.watch.now c.in-Err-fetch_all.fault c.in-Err-fetch_all.ensures.no_write at
+
+pub returns-in-Err-put_events-clause-shown : goal.returns-in-Err-put_events-clause-shown
+returns-in-Err-put_events-clause-shown g c =
+    let start = drains c.args.port_sinks.now c.args.underlay_sink.now (g.W.Output.written c.args.decisions.now) (g.W.Output.failures c.args.decisions.now) in
+    let many : length c.args.port_sinks.now ≡ length c.args.settings.ports = c.requires.sinks ∙ c.requires.ports in
+    let begun = drains c.begin_all.new.port_sinks c.begin_all.new.underlay_sink (g.W.Output.written c.args.decisions.now) (g.W.Output.failures c.args.decisions.now) in
+    let at : StandAt start begun (empty_outputs (length c.args.settings.ports)) = subst (λ n. StandAt start begun (empty_outputs n)) many (c.in_default-begin_all.ensures start (g.W.Output.written c.args.decisions.now) (g.W.Output.failures c.args.decisions.now) (none_at start (length c.args.port_sinks.now) refl)) in
+    shows_events c.args.settings c.args.changes.now start begun g.T.Watch.sees g.T.Watch.ends c.args.watch.now
+    (run_at c.fetch_all.new.ports c.fetch_all.new.underlay c.as_mut_slice-2.result.now (state_of c.in-Ok-open.endpoint) 0 begun) _ c.in-Ok-open.ensures at c.put_events.new.watch c.in-Err-put_events.fault c.in-Err-put_events.ensures
+
+pub returns-in-Ok-put_cuts-clause-shown : goal.returns-in-Ok-put_cuts-clause-shown
+returns-in-Ok-put_cuts-clause-shown g c =
+    let start = drains c.args.port_sinks.now c.args.underlay_sink.now (g.W.Output.written c.args.decisions.now) (g.W.Output.failures c.args.decisions.now) in
+    let many : length c.args.port_sinks.now ≡ length c.args.settings.ports = c.requires.sinks ∙ c.requires.ports in
+    let begun = drains c.begin_all.new.port_sinks c.begin_all.new.underlay_sink (g.W.Output.written c.args.decisions.now) (g.W.Output.failures c.args.decisions.now) in
+    let at : StandAt start begun (empty_outputs (length c.args.settings.ports)) = subst (λ n. StandAt start begun (empty_outputs n)) many (c.in_default-begin_all.ensures start (g.W.Output.written c.args.decisions.now) (g.W.Output.failures c.args.decisions.now) (none_at start (length c.args.port_sinks.now) refl)) in
+    let cut = drains c.put_events.new.port_sinks c.put_events.new.underlay_sink (g.W.Output.written c.put_cuts.new.decisions) (g.W.Output.failures c.put_cuts.new.decisions) in
+    let run = c.in_default-put_events.ensures.run in
+    let o = texts_behind c.args.changes.now (state_of c.in-Ok-open.endpoint) (empty_outputs (length c.args.settings.ports)) run.es in
+    shows_all c.args.settings c.args.changes.now start cut g.T.Watch.sees g.T.Watch.ends c.args.watch.now
+    (run_at c.fetch_all.new.ports c.fetch_all.new.underlay c.as_mut_slice-2.result.now (state_of c.in-Ok-open.endpoint) 0 begun) _ c.in-Ok-open.ensures at c.put_events.new.watch (cuts_at c.put_events.new.ports c.put_events.new.underlay c.as_slice.result.now) c.end.new.self c.in_default-put_events.ensures
+    (c.in-Ok-put_cuts.ensures start o c.put_events.new.port_sinks c.put_events.new.underlay_sink (run.outputs start (empty_outputs (length c.args.settings.ports)) at)) c.end.ensures
+
+pub returns-clause-shown : goal.returns-clause-shown
+returns-clause-shown g c =
+    let start = drains c.args.port_sinks.now c.args.underlay_sink.now (g.W.Output.written c.args.decisions.now) (g.W.Output.failures c.args.decisions.now) in
+    let many : length c.args.port_sinks.now ≡ length c.args.settings.ports = c.requires.sinks ∙ c.requires.ports in
+    let begun = drains c.begin_all.new.port_sinks c.begin_all.new.underlay_sink (g.W.Output.written c.args.decisions.now) (g.W.Output.failures c.args.decisions.now) in
+    let at : StandAt start begun (empty_outputs (length c.args.settings.ports)) = subst (λ n. StandAt start begun (empty_outputs n)) many (c.in_default-begin_all.ensures start (g.W.Output.written c.args.decisions.now) (g.W.Output.failures c.args.decisions.now) (none_at start (length c.args.port_sinks.now) refl)) in
+    let cut = drains c.put_events.new.port_sinks c.put_events.new.underlay_sink (g.W.Output.written c.put_cuts.new.decisions) (g.W.Output.failures c.put_cuts.new.decisions) in
+    let run = c.in_default-put_events.ensures.run in
+    let o = texts_behind c.args.changes.now (state_of c.in-Ok-open.endpoint) (empty_outputs (length c.args.settings.ports)) run.es in
+    let lead = c.in-Err-put_cuts.ensures start o c.put_events.new.port_sinks c.put_events.new.underlay_sink (run.outputs start (empty_outputs (length c.args.settings.ports)) at) in
+    shows_cuts c.args.settings c.args.changes.now start cut g.T.Watch.sees g.T.Watch.ends c.args.watch.now
+    (run_at c.fetch_all.new.ports c.fetch_all.new.underlay c.as_mut_slice-2.result.now (state_of c.in-Ok-open.endpoint) 0 begun) _ c.in-Ok-open.ensures at c.put_events.new.watch (cuts_at c.put_events.new.ports c.put_events.new.underlay c.as_slice.result.now) c.in-Err-put_cuts.target c.in_default-put_events.ensures lead.0
+
+pub returns-in_default-clause-watched : goal.returns-in_default-clause-watched
+returns-in_default-clause-watched g c texts text tells =
+    let start = drains c.args.port_sinks.now c.args.underlay_sink.now (g.W.Output.written c.args.decisions.now) (g.W.Output.failures c.args.decisions.now) in
+    seen_unopened c.args.settings c.args.changes.now texts text start start g.T.Watch.sees g.T.Watch.ends c.args.watch.now (none_at start (length texts) (c.requires.sinks ∙ tells_texts c.args.ports.now c.args.underlay.now texts text tells))
+
+pub returns-in_default-open-clause-watched : goal.returns-in_default-open-clause-watched
+returns-in_default-open-clause-watched g c texts text tells =
+    let start = drains c.args.port_sinks.now c.args.underlay_sink.now (g.W.Output.written c.args.decisions.now) (g.W.Output.failures c.args.decisions.now) in
+    seen_unopened c.args.settings c.args.changes.now texts text start start g.T.Watch.sees g.T.Watch.ends c.args.watch.now (none_at start (length texts) (c.requires.sinks ∙ tells_texts c.args.ports.now c.args.underlay.now texts text tells))
+
+pub returns-in-Err-clause-watched : goal.returns-in-Err-clause-watched
+returns-in-Err-clause-watched g c texts text tells =
+    let start = drains c.args.port_sinks.now c.args.underlay_sink.now (g.W.Output.written c.args.decisions.now) (g.W.Output.failures c.args.decisions.now) in
+    let many = tells_texts c.args.ports.now c.args.underlay.now texts text tells in
+    seen_opening c.args.settings c.args.changes.now texts text start g.T.Watch.sees g.T.Watch.ends c.args.watch.now start c.args.ports.now c.open_all.new.ports c.args.underlay.now c.open_all.new.underlay c.in-Err.fault c.in-Err.ensures.opened
+    (none_at start (length texts) (c.requires.sinks ∙ many))
+
+pub returns-in-Err-begin_all-clause-watched : goal.returns-in-Err-begin_all-clause-watched
+returns-in-Err-begin_all-clause-watched g c texts text tells =
+    let start = drains c.args.port_sinks.now c.args.underlay_sink.now (g.W.Output.written c.args.decisions.now) (g.W.Output.failures c.args.decisions.now) in
+    let many = c.requires.sinks ∙ tells_texts c.args.ports.now c.args.underlay.now texts text tells in
+    let begun = drains c.begin_all.new.port_sinks c.begin_all.new.underlay_sink (g.W.Output.written c.args.decisions.now) (g.W.Output.failures c.args.decisions.now) in
+    let lead = c.in-Err-begin_all.ensures start (g.W.Output.written c.args.decisions.now) (g.W.Output.failures c.args.decisions.now) (none_at start (length c.args.port_sinks.now) refl) in
+    seen_headers c.args.settings c.args.changes.now texts text start begun g.T.Watch.sees g.T.Watch.ends c.args.watch.now c.in-Err-begin_all.target (subst (λ n. StandBetween start begun (no_texts n) (empty_outputs n)) many lead.0)
+
+pub returns-in-Err-fetch_all-clause-watched : goal.returns-in-Err-fetch_all-clause-watched
+returns-in-Err-fetch_all-clause-watched g c texts text tells =
+    let start = drains c.args.port_sinks.now c.args.underlay_sink.now (g.W.Output.written c.args.decisions.now) (g.W.Output.failures c.args.decisions.now) in
+    let many = c.requires.sinks ∙ tells_texts c.args.ports.now c.args.underlay.now texts text tells in
+    let begun = drains c.begin_all.new.port_sinks c.begin_all.new.underlay_sink (g.W.Output.written c.args.decisions.now) (g.W.Output.failures c.args.decisions.now) in
+    let at : StandAt start begun (empty_outputs (length texts)) = subst (λ n. StandAt start begun (empty_outputs n)) many (c.in_default-begin_all.ensures start (g.W.Output.written c.args.decisions.now) (g.W.Output.failures c.args.decisions.now) (none_at start (length c.args.port_sinks.now) refl)) in
+    let read = opened_read c.args.ports.now c.open_all.new.ports c.args.underlay.now c.open_all.new.underlay texts text tells (omega (arith, c.open_all.auto.ports)) c.in_default-open_all.ensures.opened in
+    seen_firsts c.args.settings c.args.changes.now texts text start begun g.T.Watch.sees g.T.Watch.ends c.args.watch.now c.in-Err-fetch_all.fault c.fetch_all.new.turns c.fetch_all.new.ports c.fetch_all.new.underlay (c.in-Err-fetch_all.ensures.told (texts_octets texts) text read) at
+
+pub returns-in-Err-put_events-clause-watched : goal.returns-in-Err-put_events-clause-watched
+returns-in-Err-put_events-clause-watched g c texts text tells =
+    let start = drains c.args.port_sinks.now c.args.underlay_sink.now (g.W.Output.written c.args.decisions.now) (g.W.Output.failures c.args.decisions.now) in
+    let many = c.requires.sinks ∙ tells_texts c.args.ports.now c.args.underlay.now texts text tells in
+    let begun = drains c.begin_all.new.port_sinks c.begin_all.new.underlay_sink (g.W.Output.written c.args.decisions.now) (g.W.Output.failures c.args.decisions.now) in
+    let at : StandAt start begun (empty_outputs (length texts)) = subst (λ n. StandAt start begun (empty_outputs n)) many (c.in_default-begin_all.ensures start (g.W.Output.written c.args.decisions.now) (g.W.Output.failures c.args.decisions.now) (none_at start (length c.args.port_sinks.now) refl)) in
+    let as_many : length c.open_all.new.ports ≡ length c.args.ports.now = omega (arith, c.open_all.auto.ports) in
+    let opened = opened_read c.args.ports.now c.open_all.new.ports c.args.underlay.now c.open_all.new.underlay texts text tells as_many c.in_default-open_all.ensures.opened in
+    let turns : c.as_mut_slice.result.now ≡ _ = c.as_mut_slice.ensures.value ∙ c.in-Ok.ensures ∙ ap (λ n. first_turns c.args.changes.now (n + 1)) (sym as_many) in
+    let lent : c.as_mut_slice-2.result.now ≡ c.fetch_all.new.turns = c.as_mut_slice-2.ensures.value ∙ lent_back c.fetch_all.new.turns c.in-Ok.turns.items c.in-Ok.turns.len (omega (arith, c.fetch_all.auto.turns, c.as_mut_slice.ensures.len)) in
+    let ready = subst (λ ts. AreReady c.args.changes.now (run_at c.fetch_all.new.ports c.fetch_all.new.underlay ts (state_of c.in-Ok-open.endpoint) 0 begun)) (sym lent)
+    (c.in_default-fetch_all.ensures.ready (state_of c.in-Ok-open.endpoint) begun (ap (λ (s : State). s.moment) c.in-Ok-open.ensures)
+    (ready_begun c.args.changes.now c.open_all.new.ports c.open_all.new.underlay c.args.settings (state_of c.in-Ok-open.endpoint) begun _ c.requires.timely (omega (arith, as_many, c.requires.few)) (as_many ∙ c.requires.ports) c.in-Ok-open.ensures turns)) in
+    let read = subst (λ ts. AreRead (texts_octets texts) text ts c.fetch_all.new.ports c.fetch_all.new.underlay) (sym lent) (c.in_default-fetch_all.ensures.told (texts_octets texts) text opened) in
+    seen_run c.args.settings c.args.changes.now texts text start c.fetch_all.new.ports c.fetch_all.new.underlay c.as_mut_slice-2.result.now (state_of c.in-Ok-open.endpoint) begun _ ready read at c.in-Ok-open.ensures
+    g.T.Watch.sees g.T.Watch.ends c.args.watch.now c.in-Err-put_events.fault c.put_events.new.watch c.in-Err-put_events.ensures
+
+pub returns-in-Ok-put_cuts-clause-watched : goal.returns-in-Ok-put_cuts-clause-watched
+returns-in-Ok-put_cuts-clause-watched g c texts text tells =
+    let start = drains c.args.port_sinks.now c.args.underlay_sink.now (g.W.Output.written c.args.decisions.now) (g.W.Output.failures c.args.decisions.now) in
+    let told = tells_texts c.args.ports.now c.args.underlay.now texts text tells in
+    let many = c.requires.sinks ∙ told in
+    let begun = drains c.begin_all.new.port_sinks c.begin_all.new.underlay_sink (g.W.Output.written c.args.decisions.now) (g.W.Output.failures c.args.decisions.now) in
+    let cut = drains c.put_events.new.port_sinks c.put_events.new.underlay_sink (g.W.Output.written c.put_cuts.new.decisions) (g.W.Output.failures c.put_cuts.new.decisions) in
+    let at : StandAt start begun (empty_outputs (length texts)) = subst (λ n. StandAt start begun (empty_outputs n)) many (c.in_default-begin_all.ensures start (g.W.Output.written c.args.decisions.now) (g.W.Output.failures c.args.decisions.now) (none_at start (length c.args.port_sinks.now) refl)) in
+    let as_many : length c.open_all.new.ports ≡ length c.args.ports.now = omega (arith, c.open_all.auto.ports) in
+    let opened = opened_read c.args.ports.now c.open_all.new.ports c.args.underlay.now c.open_all.new.underlay texts text tells as_many c.in_default-open_all.ensures.opened in
+    let turns : c.as_mut_slice.result.now ≡ _ = c.as_mut_slice.ensures.value ∙ c.in-Ok.ensures ∙ ap (λ n. first_turns c.args.changes.now (n + 1)) (sym as_many) in
+    let lent : c.as_mut_slice-2.result.now ≡ c.fetch_all.new.turns = c.as_mut_slice-2.ensures.value ∙ lent_back c.fetch_all.new.turns c.in-Ok.turns.items c.in-Ok.turns.len (omega (arith, c.fetch_all.auto.turns, c.as_mut_slice.ensures.len)) in
+    let ready = subst (λ ts. AreReady c.args.changes.now (run_at c.fetch_all.new.ports c.fetch_all.new.underlay ts (state_of c.in-Ok-open.endpoint) 0 begun)) (sym lent)
+    (c.in_default-fetch_all.ensures.ready (state_of c.in-Ok-open.endpoint) begun (ap (λ (s : State). s.moment) c.in-Ok-open.ensures)
+    (ready_begun c.args.changes.now c.open_all.new.ports c.open_all.new.underlay c.args.settings (state_of c.in-Ok-open.endpoint) begun _ c.requires.timely (omega (arith, as_many, c.requires.few)) (as_many ∙ c.requires.ports) c.in-Ok-open.ensures turns)) in
+    let read = subst (λ ts. AreRead (texts_octets texts) text ts c.fetch_all.new.ports c.fetch_all.new.underlay) (sym lent) (c.in_default-fetch_all.ensures.told (texts_octets texts) text opened) in
+    seen_whole c.args.settings c.args.changes.now texts text start c.fetch_all.new.ports c.fetch_all.new.underlay c.as_mut_slice-2.result.now (state_of c.in-Ok-open.endpoint) begun _ ready read at c.in-Ok-open.ensures
+    g.T.Watch.sees g.T.Watch.ends c.args.watch.now cut c.put_events.new.watch c.end.new.self c.in_default-put_events.ensures c.end.ensures
+
+pub returns-clause-watched : goal.returns-clause-watched
+returns-clause-watched g c texts text tells =
+    let start = drains c.args.port_sinks.now c.args.underlay_sink.now (g.W.Output.written c.args.decisions.now) (g.W.Output.failures c.args.decisions.now) in
+    let many = c.requires.sinks ∙ tells_texts c.args.ports.now c.args.underlay.now texts text tells in
+    let begun = drains c.begin_all.new.port_sinks c.begin_all.new.underlay_sink (g.W.Output.written c.args.decisions.now) (g.W.Output.failures c.args.decisions.now) in
+    let cut = drains c.put_events.new.port_sinks c.put_events.new.underlay_sink (g.W.Output.written c.put_cuts.new.decisions) (g.W.Output.failures c.put_cuts.new.decisions) in
+    let at : StandAt start begun (empty_outputs (length texts)) = subst (λ n. StandAt start begun (empty_outputs n)) many (c.in_default-begin_all.ensures start (g.W.Output.written c.args.decisions.now) (g.W.Output.failures c.args.decisions.now) (none_at start (length c.args.port_sinks.now) refl)) in
+    let as_many : length c.open_all.new.ports ≡ length c.args.ports.now = omega (arith, c.open_all.auto.ports) in
+    let opened = opened_read c.args.ports.now c.open_all.new.ports c.args.underlay.now c.open_all.new.underlay texts text tells as_many c.in_default-open_all.ensures.opened in
+    let turns : c.as_mut_slice.result.now ≡ _ = c.as_mut_slice.ensures.value ∙ c.in-Ok.ensures ∙ ap (λ n. first_turns c.args.changes.now (n + 1)) (sym as_many) in
+    let lent : c.as_mut_slice-2.result.now ≡ c.fetch_all.new.turns = c.as_mut_slice-2.ensures.value ∙ lent_back c.fetch_all.new.turns c.in-Ok.turns.items c.in-Ok.turns.len (omega (arith, c.fetch_all.auto.turns, c.as_mut_slice.ensures.len)) in
+    let ready = subst (λ ts. AreReady c.args.changes.now (run_at c.fetch_all.new.ports c.fetch_all.new.underlay ts (state_of c.in-Ok-open.endpoint) 0 begun)) (sym lent)
+    (c.in_default-fetch_all.ensures.ready (state_of c.in-Ok-open.endpoint) begun (ap (λ (s : State). s.moment) c.in-Ok-open.ensures)
+    (ready_begun c.args.changes.now c.open_all.new.ports c.open_all.new.underlay c.args.settings (state_of c.in-Ok-open.endpoint) begun _ c.requires.timely (omega (arith, as_many, c.requires.few)) (as_many ∙ c.requires.ports) c.in-Ok-open.ensures turns)) in
+    let read = subst (λ ts. AreRead (texts_octets texts) text ts c.fetch_all.new.ports c.fetch_all.new.underlay) (sym lent) (c.in_default-fetch_all.ensures.told (texts_octets texts) text opened) in
+    let run = c.in_default-put_events.ensures.run in
+    let o = texts_behind c.args.changes.now (state_of c.in-Ok-open.endpoint) (empty_outputs (length texts)) run.es in
+    let back : c.as_slice.result.now ≡ c.put_events.new.turns = c.as_slice.ensures.value ∙ lent_back c.put_events.new.turns _ c.in-Ok.turns.len (omega (arith, c.put_events.auto.turns, c.as_mut_slice-2.ensures.len)) in
+    let lead = c.in-Err-put_cuts.ensures start o c.put_events.new.port_sinks c.put_events.new.underlay_sink (run.outputs start (empty_outputs (length texts)) at) in
+    seen_lines c.args.settings c.args.changes.now texts text start c.fetch_all.new.ports c.fetch_all.new.underlay c.as_mut_slice-2.result.now (state_of c.in-Ok-open.endpoint) begun _ ready read at c.in-Ok-open.ensures
+    g.T.Watch.sees g.T.Watch.ends c.args.watch.now cut c.in-Err-put_cuts.target c.put_events.new.watch c.in_default-put_events.ensures (subst (λ ts. StandBetween start cut o (with_cuts o (cuts_at c.put_events.new.ports c.put_events.new.underlay ts)) × FailedAt c.in-Err-put_cuts.target start cut) back lead)

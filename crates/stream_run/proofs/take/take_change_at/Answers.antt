@@ -17,9 +17,12 @@ returns-clause-taken g c ports underlay port_sinks underlay_sink =
     let state = state_of c.args.endpoint.now in
     let there = sym (change_there c.args.changes.now c.args.index c.index-changes-index.result c.requires.there) in
     record {
-      e = e;
-      next = inl (refl, refl);
-      state = c.take_change.ensures.state ∙ ap (λ (x : Change). after state (change_at c.args.moment x)) there;
-      outputs = λ start o at. subst (λ (x : Change). Lead start (drains port_sinks underlay_sink (g.W.Output.written c.take_change.new.decisions) (g.W.Output.failures c.take_change.new.decisions)) o
-          (with_input c.args.desk.now.number (named x) o e (answer state (change_at c.args.moment x))) c.take_change.result) there (c.take_change.ensures.outputs start o port_sinks underlay_sink at);
+      taken = record {
+        e = e;
+        next = inl (refl, refl);
+        state = c.take_change.ensures.state ∙ ap (λ (x : Change). after state (change_at c.args.moment x)) there;
+        outputs = λ start o at. subst (λ (x : Change). Lead start (drains port_sinks underlay_sink (g.W.Output.written c.take_change.new.decisions) (g.W.Output.failures c.take_change.new.decisions)) o
+            (with_input c.args.desk.now.number (named x) o e (answer state (change_at c.args.moment x))) c.take_change.result) there (c.take_change.ensures.outputs start o port_sinks underlay_sink at);
+      };
+      seen = c.take_change.ensures.seen;
     }

@@ -1,4 +1,4 @@
-use Rattle.std.proofs.Common.{◌≡◌, ◌∙◌, ◌+◌, ap, subst, None}
+use Rattle.std.proofs.Common.{◌≡◌, ◌∙◌, ◌+◌, ap, subst, None, ℕ}
 use Rattle.pcap_io.specs.Record.{Record}
 use Rattle.timeline.specs.declared.event.Event.{Event}
 use Rattle.timeline.specs.declared.event.Happening.TheVariants as happenings
@@ -7,6 +7,7 @@ use Rattle.endpoint_core.specs.Event.{frame_at}
 use Rattle.endpoint_core.specs.Kept.{state_of}
 use Rattle.endpoint_core.specs.Step.{Answer, after, answer}
 use Rattle.capture_run.specs.Writing.{with_input}
+use Rattle.stream_run.specs.Sights.{sight}
 use Rattle.stream_run.specs.Stage.{Lead, drains}
 use Rattle.stream_run.specs.Steps.{record_event}
 use Rattle.stream_run.proofs.take.take_frame.Goals as goal
@@ -24,3 +25,10 @@ returns-clause-outputs g c r start o told at =
     let e : Event = record { moment = c.args.moment; number = c.args.count + 1; happening = happenings.Record (Port c.args.port) (record { original = c.record.inside.original; octets = c.record.inside.octets.now }) } in
     subst (λ (r : Record). Lead {T = Unit {0}} start new o (with_input c.args.desk.now.number None o (record_event (Port c.args.port) c.args.count c.args.moment r) (answer state (frame_at c.args.moment c.args.port r.original r.octets))) c.put_course.result) (c.record.view_is ∙ same)
     (subst (λ (a : Answer). Lead {T = Unit {0}} start new o (with_input c.args.desk.now.number None o e a) c.put_course.result) c.take_frame-course.ensures.answer (c.put_course.ensures.outputs start o at))
+
+pub returns-clause-seen : goal.returns-clause-seen
+returns-clause-seen g c r told =
+    let same : c.unwrap-record.result ≡ r = cc (c.unwrap-record.ensures, c.head.ensures.record, told) in
+    let e : Event = record { moment = c.args.moment; number = c.args.count + 1; happening = happenings.Record (Port c.args.port) (record { original = c.record.inside.original; octets = c.record.inside.octets.now }) } in
+    subst (λ (r : Record). g.T.Watch.sees c.args.watch.now (sight (state_of c.args.endpoint.now) c.args.desk.now.number (record_event (Port c.args.port) c.args.count c.args.moment r)) c.see.new.self) (c.record.view_is ∙ same)
+    (subst (λ (n : ℕ). g.T.Watch.sees c.args.watch.now (sight (state_of c.args.endpoint.now) n e) c.see.new.self) c.value.ensures c.see.ensures)

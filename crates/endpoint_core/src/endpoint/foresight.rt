@@ -1,0 +1,137 @@
+//! What an endpoint would do with a frame or a packet, told without doing it.
+ghost use Rattle.std.specs.Prelude.{◌≡◌, ◌≤◌, length, IfOk, IsSome, true};
+ghost use Rattle.endpoint_state.specs.Held.{settings_of, state_at, moment_of};
+ghost use Rattle.endpoint_state.specs.Settings.{segment_at};
+ghost use Rattle.endpoint_state.specs.Sound.{is_reached};
+ghost use Rattle.endpoint_core.specs.Arrival.{came_at, came_by};
+ghost use Rattle.endpoint_core.specs.Decision.{octets_of};
+ghost use Rattle.endpoint_core.specs.Event.{frame_at, packet_at};
+ghost use Rattle.endpoint_core.specs.Step.{Decided, answer, decided, decided_in};
+
+use crate::arrival::{Came, come_at, come_by};
+use crate::{Course, Decision, Endpoint};
+use endpoint_state::EndpointState;
+use frame_view::Refused;
+use std::alloc::{AllocError, Global};
+use tunnel_learning::Verdict;
+
+impl Endpoint {
+    ghost use Rattle.endpoint_core.specs.Kept.{state_of};
+
+    /// What it holds: ports, underlay and tables, whose moment isn't behind that of the last step.
+    pub fn state(&self) -> &EndpointState
+        ensures value { result.now ≡ self.now.held }
+        ensures time { moment_of result.now ≤ (state_of self.now).moment }
+    {
+        &self.state
+    }
+
+    /// The frame that these octets at a local port would be, in its segment; or the first reason, of 1 to 11, why it would
+    /// come to none. The port is 1 to `ports()`.
+    pub fn frame_from<'a>(
+        &self,
+        port: u8,
+        original: u32,
+        octets: &'a [u8],
+    ) -> Result<Came<'a>, Refused>
+        requires low { 1 ≤ port }
+        requires high { port ≤ length (state_of self.now).bridges.settings.ports.ports }
+        ensures value { result ≡ came_at (state_of self.now).bridges.settings.ports port original octets.now }
+        ensures there { IfOk result (λ x. IsSome (segment_at (state_of self.now).bridges.settings x.vid)) }
+    {
+        come_at(self.state.ports(), port, original, octets)
+    }
+
+    /// The frame that an outer packet would bring, in its segment; or the first reason, of 1 to 3, 5, 6 and 12 to 34, why
+    /// it would bring none.
+    pub fn frame_in<'a>(&self, original: u32, octets: &'a [u8]) -> Result<Came<'a>, Refused>
+        ensures value { result ≡ came_by (state_of self.now).bridges.settings.overlay original octets.now }
+        ensures there { IfOk result (λ x. IsSome (segment_at (state_of self.now).bridges.settings x.vid)) }
+    {
+        come_by(self.state.under(), original, octets)
+    }
+
+    /// What would be decided of a frame at a local port, as [`Endpoint::frame`] decides it; the endpoint stays as it is.
+    /// `now` isn't before `self.now()`, and the port is 1 to `ports()`. `AllocError`: there was no room for lists of
+    /// entries.
+    pub fn foresee_frame<'a>(
+        &self,
+        alloc: Global,
+        now: u64,
+        port: u8,
+        original: u32,
+        octets: &'a [u8],
+    ) -> Result<Decision<'a>, AllocError>
+        requires moment { (state_of self.now).moment ≤ now }
+        requires low { 1 ≤ port }
+        requires high { port ≤ length (state_of self.now).bridges.settings.ports.ports }
+        ensures { IfOk result (λ d. Decided (octets_of d) ≡ answer (state_of self.now) (frame_at now port original octets.now)) }
+    {
+        let came = come_at(self.state.ports(), port, original, octets);
+        let decision = foreseen(&self.state, alloc, now, came)?;
+        Ok(decision)
+    }
+
+    /// What would be decided of a packet from the underlay, as [`Endpoint::packet`] decides it; the endpoint stays as it is.
+    /// `now` isn't before `self.now()`. `AllocError`: there was no room for lists of entries.
+    pub fn foresee_packet<'a>(
+        &self,
+        alloc: Global,
+        now: u64,
+        original: u32,
+        octets: &'a [u8],
+    ) -> Result<Decision<'a>, AllocError>
+        requires { (state_of self.now).moment ≤ now }
+        ensures { IfOk result (λ d. Decided (octets_of d) ≡ answer (state_of self.now) (packet_at now original octets.now)) }
+    {
+        let came = come_by(self.state.under(), original, octets);
+        let decision = foreseen(&self.state, alloc, now, came)?;
+        Ok(decision)
+    }
+}
+
+/// What would be decided of a frame or a packet that came to a segment, or to none.
+fn foreseen<'a>(
+    state: &EndpointState,
+    alloc: Global,
+    now: u64,
+    came: Result<Came<'a>, Refused>,
+) -> Result<Decision<'a>, AllocError>
+    requires time { moment_of state.now ≤ now }
+    requires there { IfOk came (λ x. IsSome (segment_at (settings_of state.now) x.vid)) }
+    requires short { IfOk came (λ x. length x.frame.body ≤ 65549) }
+    requires reached { IfOk came (λ x. is_reached (settings_of state.now).overlay x.vid x.from ≡ true) }
+    ensures { IfOk result (λ d. octets_of d ≡ decided now (state_at now state.now) came.entry) }
+{
+    match came {
+        Ok(came) => foreseen_in(state, alloc, now, came),
+        Err(refused) => Ok(Decision::of(state, &Course::Dropped(refused), &[])),
+    }
+}
+
+/// What the bridge of its segment would decide of a frame.
+fn foreseen_in<'a>(
+    state: &EndpointState,
+    alloc: Global,
+    now: u64,
+    came: Came<'a>,
+) -> Result<Decision<'a>, AllocError>
+    requires time { moment_of state.now ≤ now }
+    requires there { IsSome (segment_at (settings_of state.now) came.vid) }
+    requires short { length came.frame.body ≤ 65549 }
+    requires reached { is_reached (settings_of state.now).overlay came.vid came.from ≡ true }
+    ensures { IfOk result (λ d. octets_of d ≡ decided_in now (state_at now state.now) came.entry) }
+{
+    let verdict = state.foresee(alloc, now, came.vid, came.from, &came.frame)?;
+    match verdict {
+        Verdict::Outlets(places) => Ok(Decision::of(
+            state,
+            &Course::Leaves(came),
+            places.as_slice(),
+        )),
+        Verdict::Dropped(reason) => {
+            let refused = Refused::within(came.vid, reason);
+            Ok(Decision::of(state, &Course::Dropped(refused), &[]))
+        }
+    }
+}

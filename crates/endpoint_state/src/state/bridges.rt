@@ -1,0 +1,39 @@
+//! What the bridge of a segment goes by, for whoever looks on.
+ghost use Rattle.std.specs.Prelude.{◌≡◌, IsSome, IfSome};
+ghost use Rattle.tunnel_learning.specs.Bridge as bridge;
+ghost use Rattle.endpoint_state.specs.Held.{settings_of};
+ghost use Rattle.endpoint_state.specs.Settings.{segment_at};
+ghost use Rattle.endpoint_state.specs.Step.{config_of};
+
+use crate::EndpointState;
+use crate::step::groups_of;
+use filter_db::PoolTables;
+use frame_view::Vid;
+use tunnel_learning::Bridge;
+
+impl EndpointState {
+    /// The configuration of the bridge of a segment that is there, as a step asks it.
+    pub fn bridge(&self, vid: Vid) -> Bridge<'_>
+        requires there { IsSome (segment_at (settings_of self.now) vid) }
+        ensures segment { result.vid ≡ vid }
+        ensures config { let S = settings_of self.now in
+            IfSome (segment_at S vid) (λ s. bridge.config_of result ≡ config_of S.ports s) }
+    {
+        let segment = self.parts.under.segment(vid);
+        Bridge {
+            vid,
+            learning: self.parts.learning.get(vid),
+            groups: groups_of(&segment.tunnels),
+            ports: &self.parts.ports,
+            flood: &segment.flood,
+        }
+    }
+
+    /// The most entries that the table of a segment that is there may have.
+    pub fn limit(&self, vid: Vid) -> u32
+        requires there { IsSome (segment_at (settings_of self.now) vid) }
+        ensures { IfSome (segment_at (settings_of self.now) vid) (λ s. result ≡ s.limit) }
+    {
+        self.parts.tables.limit(vid)
+    }
+}

@@ -1,0 +1,9 @@
+-- What a tunnel header stands before.
+use Rattle.std.specs.Prelude.{ℕ, List}
+use Rattle.ip_udp_view.specs.declared.addr.Tunnel.{Tunnel}
+
+-- the kind of the tunnel, the network's number in it, and the text behind the header
+pub record Carried : Type 0 where
+  pub kind : Tunnel
+  pub vni : ℕ
+  pub inner : List ℕ

@@ -1,0 +1,9 @@
+pub mod Bridge
+pub mod Carried
+pub mod Ether
+pub mod Line
+pub mod Local
+pub mod Outlets
+pub mod Packet
+pub mod Story
+pub mod Tests

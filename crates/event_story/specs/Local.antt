@@ -1,0 +1,50 @@
+-- How a frame at a local port comes to a segment, test by test (IEEE 802.1Q, 6.9 and 8.6).
+use Rattle.std.specs.Prelude.{ℕ, not, if◌then◌else◌, List, ◌∷◌, length, Option, Some, None, Result}
+use Rattle.std.specs.Option.{option_map}
+use Rattle.frame_view.specs.declared.reason.Reason.{Reason}
+use Rattle.frame_view.specs.declared.reason.Reason.TheVariants.{TooLong, Sliced, Runt, PortDown, BadSource, Reserved, CutTag, BadVid, FrameType, NoSegment, NotMember}
+use Rattle.frame_view.specs.declared.reason.Refused.{Refused}
+use Rattle.vlan_ports.specs.Ingress.{local_reasons}
+use Rattle.vlan_ports.specs.Ports.{Ports, is_up, egress_at}
+use Rattle.endpoint_core.specs.Arrival.{came_at}
+use Rattle.endpoint_core.specs.Came.{Came}
+use Rattle.event_story.specs.Ether.{header_fact, source_fact, destination_fact, tag_fact, has_vid}
+use Rattle.event_story.specs.Tests.{refusal_of, segment_of, refuses, told}
+use Rattle.event_story.specs.declared.fact.Fact.{Fact}
+use Rattle.event_story.specs.declared.fact.Fact.TheVariants as facts
+
+-- the tests in their order
+abbrev pub local_tests : List Reason
+local_tests = TooLong ∷ Sliced ∷ local_reasons
+
+-- the segment of a frame, by the VID of its tag or of the port
+abbrev pub segment_fact : List ℕ → Option ℕ → Fact
+segment_fact b None = facts.NoSegment (has_vid b)
+segment_fact b (Some vid) = facts.Segment vid (has_vid b)
+
+-- the port among the members of that segment
+abbrev pub member_fact : Ports → ℕ → ℕ → Fact
+member_fact s port vid = facts.Member port (egress_at s vid port)
+
+-- what a test saw of octets at a port that came so to a segment, or to none
+abbrev pub local_fact : Ports → ℕ → ℕ → List ℕ → Result Came Refused → Reason → Option Fact
+local_fact s port original b came TooLong = Some (facts.Length (length b) 65535)
+local_fact s port original b came Sliced = Some (facts.Captured (length b) original)
+local_fact s port original b came Runt = Some (header_fact b)
+local_fact s port original b came PortDown = Some (facts.Port port (is_up s port))
+local_fact s port original b came BadSource = source_fact b
+local_fact s port original b came Reserved = destination_fact b
+local_fact s port original b came CutTag = tag_fact b
+local_fact s port original b came BadVid = if refuses (refusal_of came) BadVid then Some facts.ReservedVid else None
+local_fact s port original b came FrameType = Some (facts.Accepts port (has_vid b) (not (refuses (refusal_of came) FrameType)))
+local_fact s port original b came NoSegment = Some (segment_fact b (segment_of came))
+local_fact s port original b came NotMember = option_map (member_fact s port) (segment_of came)
+local_fact s port original b came _ = None
+
+-- what the tests saw of a frame that came so
+abbrev pub local_facts_of : Ports → ℕ → ℕ → List ℕ → Result Came Refused → List Fact
+local_facts_of s port original b came = told (local_fact s port original b came) (refusal_of came) local_tests
+
+-- what the tests saw of octets at a local port
+abbrev pub local_facts : Ports → ℕ → ℕ → List ℕ → List Fact
+local_facts s port original b = local_facts_of s port original b (came_at s port original b)

@@ -1,0 +1,139 @@
+//! What the bridge of a segment knows of the addresses of a frame, and what that makes of it.
+ghost use Rattle.std.specs.Prelude.{◌≡◌, ◌≤◌, ◌∷◌, ◌++◌, IsSome, OnOk};
+ghost use Rattle.std.specs.Option.{option_to_list};
+ghost use Rattle.endpoint_state.specs.Held.{settings_of, state_at, moment_of};
+ghost use Rattle.endpoint_state.specs.Settings.{segment_at};
+ghost use Rattle.event_story.specs.Bridge.{learned_fact, source_fact, known_fact, place_fact, flood_fact, aim_by, aim_fact, bridge_facts};
+
+use crate::fact::Fact;
+use crate::refusal::{put, put_one};
+use endpoint_core::Came;
+use endpoint_state::EndpointState;
+use filter_db::{Entry, Place};
+use frame_view::Reason;
+use std::alloc::{AllocError, Global};
+
+/// Puts what there is to tell of a frame that came to a segment at a moment, and that is dropped for this reason, if it
+/// is, behind some facts. The moment isn't before any earlier one. `AllocError`: there was no room for them.
+pub(crate) fn put_bridge_facts(
+    facts: &mut Vec<Fact>,
+    alloc: Global,
+    state: &EndpointState,
+    now: u64,
+    came: &Came,
+    dropped: Option<Reason>,
+) -> Result<(), AllocError>
+    requires time { moment_of state.now ≤ now }
+    requires there { IsSome (segment_at (settings_of state.now) came.now.vid) }
+    ensures { OnOk result (facts.new.items ≡ facts.old.items ++ bridge_facts now (state_at now state.now) came.now dropped) }
+{
+    let vid = came.segment();
+    let from = came.place();
+    let frame = came.frame();
+    let source = state.entry(alloc, vid, frame.src, now)?;
+    let entries = state.entry_count(alloc, vid, now)?;
+    let destination = state.destination(alloc, now, vid, from, frame)?;
+    let limit = state.limit(vid);
+    let learning = state.bridge(vid).learning;
+    let group = frame.dst.is_group();
+    put_told(
+        facts,
+        source_fact(learning, limit, entries, from, source),
+        known_fact(group, destination),
+        aim_fact(group, destination, dropped),
+    )
+}
+
+/// Puts two facts, and a third where there is one.
+fn put_told(
+    facts: &mut Vec<Fact>,
+    source: Fact,
+    destination: Fact,
+    aim: Option<Fact>,
+) -> Result<(), AllocError>
+    ensures { OnOk result (facts.new.items ≡ facts.old.items ++ source ∷ destination ∷ option_to_list aim) }
+{
+    put_one(facts, source)?;
+    put_one(facts, destination)?;
+    put(facts, aim)
+}
+
+/// What becomes of a source that came from a place, by what stood for it in a table with so many entries.
+fn source_fact(
+    learning: bool,
+    limit: u32,
+    entries: usize,
+    from: Place,
+    stood: Option<Entry>,
+) -> Fact
+    ensures { result ≡ source_fact learning limit entries from stood }
+{
+    if !learning {
+        return Fact::NotLearning;
+    }
+    match stood {
+        None if entries < limit as usize => Fact::Learned { place: from, stood },
+        None => Fact::Full { limit },
+        Some(entry) if entry.is_fixed() => Fact::Fixed { stood: entry },
+        Some(_) => Fact::Learned { place: from, stood },
+    }
+}
+
+/// Where the destination stands, if it isn't a group's.
+fn known_fact(group: bool, stood: Option<Entry>) -> Fact
+    ensures { result ≡ known_fact group stood }
+{
+    if group {
+        Fact::ToGroup
+    } else {
+        Fact::Known { stood }
+    }
+}
+
+/// Why a frame goes nowhere, if it does.
+fn aim_fact(group: bool, stood: Option<Entry>, dropped: Option<Reason>) -> Option<Fact>
+    ensures { result ≡ aim_fact group stood dropped }
+{
+    match dropped {
+        None => None,
+        Some(reason) => {
+            if group {
+                flood_fact(reason)
+            } else {
+                aim_by(stood, reason)
+            }
+        }
+    }
+}
+
+/// The same by what stands for the destination.
+fn aim_by(stood: Option<Entry>, reason: Reason) -> Option<Fact>
+    ensures { result ≡ aim_by stood reason }
+{
+    match stood {
+        None => flood_fact(reason),
+        Some(entry) => place_fact(entry.place, reason),
+    }
+}
+
+/// Why a frame doesn't go to the place where its destination stands.
+fn place_fact(place: Place, reason: Reason) -> Option<Fact>
+    ensures { result ≡ place_fact place reason }
+{
+    match reason {
+        Reason::SamePlace => Some(Fact::Same { place }),
+        Reason::Horizon => Some(Fact::Horizon { place }),
+        Reason::Unreachable => Some(Fact::Shut { place }),
+        _ => None,
+    }
+}
+
+/// Why it doesn't go everywhere.
+fn flood_fact(reason: Reason) -> Option<Fact>
+    ensures { result ≡ flood_fact reason }
+{
+    match reason {
+        Reason::NoOutlet => Some(Fact::Nobody),
+        _ => None,
+    }
+}

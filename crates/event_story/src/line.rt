@@ -1,0 +1,560 @@
+//! Facts as lines.
+ghost use Rattle.std.specs.Prelude.{◌≡◌, ◌++◌, OnOk, codes, decimal, string_bytes};
+ghost use Rattle.endpoint_core.specs.Text.{addr_text, hex_octet};
+ghost use Rattle.event_story.specs.Line.{behind_colons, mac_text, place_text, up_word, bit_word, tunnel_word, group_word, destination_word, takes_word, tagged_word, origin_word, member_word, other_word, receiver_word, sum_word, listed_word, last_text, egress_word, unsent_text, length_text, stood_text, learned_text, known_text, port_text, tunnel_port_text, words, fact_line, facts_text};
+
+use crate::fact::Fact;
+use endpoint_core::{put_addr, put_place};
+use filter_db::{Entry, Place};
+use frame_view::{Mac, Reason};
+use ip_udp_view::{Addr, SumState, Tunnel};
+use std::alloc::AllocError;
+use std::fmt::Write;
+use vlan_ports::Egress;
+
+/// Puts the lines of some facts behind a text. `AllocError`: there was no room for them.
+pub(crate) fn put_facts(text: &mut String, facts: &[Fact]) -> Result<(), AllocError>
+    ensures { OnOk result (string_bytes text.new ≡ string_bytes text.old ++ facts_text facts.now) }
+{
+    for fact in facts {
+        put_fact(text, *fact)?;
+    }
+    Ok(())
+}
+
+/// Puts the line of a fact.
+fn put_fact(text: &mut String, fact: Fact) -> Result<(), AllocError>
+    ensures { OnOk result (string_bytes text.new ≡ string_bytes text.old ++ fact_line fact) }
+{
+    text.push_str("  ")?;
+    put_words(text, fact)?;
+    text.push('\n')
+}
+
+/// Puts what a test saw.
+fn put_words(text: &mut String, fact: Fact) -> Result<(), AllocError>
+    ensures { OnOk result (string_bytes text.new ≡ string_bytes text.old ++ words fact) }
+{
+    match fact {
+        Fact::Length { octets, most } => write!(text, "length {octets}, at most {most}"),
+        Fact::Captured { octets, original } => write!(text, "captured {octets} of {original}"),
+        Fact::Short { octets } => write!(text, "octets {octets}, fewer than 14"),
+        Fact::Ether {
+            source,
+            destination,
+        } => put_ether(text, source, destination),
+        Fact::Source { group } => put_source(text, group),
+        Fact::Destination { group, reserved } => put_destination(text, group, reserved),
+        Fact::Port { port, up } => put_port(text, port, up),
+        Fact::Tag { vid, pcp, dei } => put_tag(text, vid, pcp, dei),
+        Fact::NoTag => text.push_str("no tag"),
+        Fact::CutTag => text.push_str("tag cut short"),
+        Fact::ReservedVid => text.push_str("vid 4095 reserved"),
+        Fact::Accepts {
+            port,
+            tagged,
+            taken,
+        } => put_accepts(text, port, tagged, taken),
+        Fact::Segment { vid, by_tag } => put_segment(text, vid, by_tag),
+        Fact::NoSegment { by_tag } => put_no_segment(text, by_tag),
+        Fact::Member { port, egress } => put_member(text, port, egress),
+        Fact::NotIp => text.push_str("neither ip4 nor ip6"),
+        Fact::BadIp => text.push_str("ip header cut, or a length wrong"),
+        Fact::BadIpSum => text.push_str("ip4 header checksum wrong"),
+        Fact::Ip {
+            source,
+            destination,
+        } => put_ip(text, source, destination),
+        Fact::Sender { other } => text.push_str(other_word(other)),
+        Fact::Receiver { group, own } => text.push_str(receiver_word(group, own)),
+        Fact::Fragment => text.push_str("fragment"),
+        Fact::Protocol { number } => write!(text, "protocol {number}"),
+        Fact::BadUdp => text.push_str("udp header cut, or its length wrong"),
+        Fact::Udp {
+            source,
+            destination,
+        } => write!(text, "udp {source} > {destination}"),
+        Fact::TunnelPort { kind } => put_tunnel_port(text, kind),
+        Fact::NoSum => text.push_str("no udp checksum over ip6"),
+        Fact::Sum { state } => put_sum(text, state),
+        Fact::Header { kind, reason } => put_header(text, kind, reason.name()),
+        Fact::Vni { kind, vni, segment } => put_vni(text, kind, vni, segment),
+        Fact::NoVni { kind, vni } => put_no_vni(text, kind, vni),
+        Fact::Group { listed } => put_listed(text, "group", listed),
+        Fact::Peer { listed } => put_listed(text, "sender", listed),
+        Fact::AnyPeer => text.push_str("any sender"),
+        Fact::InnerTag => text.push_str("inner tag, which the segment drops"),
+        Fact::NotLearning => text.push_str("source not learned, learning is off"),
+        Fact::Learned { place, stood } => put_learned(text, place, stood),
+        Fact::Fixed { stood } => put_fixed(text, stood),
+        Fact::Full { limit } => put_full(text, limit),
+        Fact::ToGroup => text.push_str("destination a group, flooded"),
+        Fact::Known { stood } => put_known(text, stood),
+        Fact::Same { place } => put_behind_place(text, place, " is where it came from"),
+        Fact::Horizon { place } => {
+            put_behind_place(text, place, " is of the sender's horizon group")
+        }
+        Fact::Shut { place } => put_behind_place(text, place, " down, or no member"),
+        Fact::Nobody => text.push_str("nobody to flood to"),
+        Fact::AtPort { port, egress } => put_at_port(text, port, egress),
+        Fact::InTunnel {
+            kind,
+            addr,
+            vni,
+            hop,
+            packet,
+            mtu,
+            reason,
+        } => {
+            let place = Place::Remote(kind, addr);
+            put_in_tunnel(text, place, vni, hop, packet, mtu, reason)
+        }
+    }
+}
+
+fn put_ether(text: &mut String, source: Mac, destination: Mac) -> Result<(), AllocError>
+    ensures { OnOk result (string_bytes text.new
+        ≡ string_bytes text.old ++ (codes "ether " ++ mac_text source ++ codes " > " ++ mac_text destination)) }
+{
+    text.push_str("ether ")?;
+    put_mac(text, &source.0)?;
+    text.push_str(" > ")?;
+    put_mac(text, &destination.0)
+}
+
+/// Puts the octets of an address between colons.
+fn put_mac(text: &mut String, octets: &[u8]) -> Result<(), AllocError>
+    ensures { OnOk result (string_bytes text.new ≡ string_bytes text.old ++ mac_text octets.now) }
+{
+    let [first, rest @ ..] = octets else {
+        return Ok(());
+    };
+    put_octet(text, *first)?;
+    for octet in rest {
+        text.push(':')?;
+        put_octet(text, *octet)?;
+    }
+    Ok(())
+}
+
+fn put_octet(text: &mut String, octet: u8) -> Result<(), AllocError>
+    ensures { OnOk result (string_bytes text.new ≡ string_bytes text.old ++ hex_octet octet) }
+{
+    write!(text, "{octet:02x}")
+}
+
+fn put_source(text: &mut String, group: bool) -> Result<(), AllocError>
+    ensures { OnOk result (string_bytes text.new ≡ string_bytes text.old ++ (codes "source " ++ group_word group)) }
+{
+    let word = group_word(group);
+    write!(text, "source {word}")
+}
+
+fn put_destination(text: &mut String, group: bool, reserved: bool) -> Result<(), AllocError>
+    ensures { OnOk result (string_bytes text.new ≡ string_bytes text.old ++ (codes "destination " ++ destination_word group reserved)) }
+{
+    let word = destination_word(group, reserved);
+    write!(text, "destination {word}")
+}
+
+fn put_port(text: &mut String, port: u8, up: bool) -> Result<(), AllocError>
+    ensures { OnOk result (string_bytes text.new ≡ string_bytes text.old ++ (port_text port ++ codes " " ++ up_word up)) }
+{
+    let word = up_word(up);
+    write!(text, "port p{port} {word}")
+}
+
+fn put_tag(text: &mut String, vid: u16, pcp: u8, dei: bool) -> Result<(), AllocError>
+    ensures { OnOk result (string_bytes text.new ≡ string_bytes text.old
+        ++ (codes "tag vid " ++ decimal vid ++ codes " pcp " ++ decimal pcp ++ codes " dei " ++ bit_word dei)) }
+{
+    let bit = bit_word(dei);
+    write!(text, "tag vid {vid} pcp {pcp} dei {bit}")
+}
+
+fn put_accepts(text: &mut String, port: u8, tagged: bool, taken: bool) -> Result<(), AllocError>
+    ensures { OnOk result (string_bytes text.new ≡ string_bytes text.old ++ (port_text port ++ takes_word taken ++ tagged_word tagged)) }
+{
+    let takes = takes_word(taken);
+    let frames = tagged_word(tagged);
+    write!(text, "port p{port}{takes}{frames}")
+}
+
+fn put_segment(text: &mut String, vid: u16, by_tag: bool) -> Result<(), AllocError>
+    ensures { OnOk result (string_bytes text.new ≡ string_bytes text.old
+        ++ (codes "segment " ++ decimal vid ++ codes " by the vid of " ++ origin_word by_tag)) }
+{
+    put_numbered(
+        text,
+        "segment ",
+        vid,
+        " by the vid of ",
+        origin_word(by_tag),
+    )
+}
+
+fn put_no_segment(text: &mut String, by_tag: bool) -> Result<(), AllocError>
+    ensures { OnOk result (string_bytes text.new ≡ string_bytes text.old ++ (codes "no segment by the vid of " ++ origin_word by_tag)) }
+{
+    let origin = origin_word(by_tag);
+    write!(text, "no segment by the vid of {origin}")
+}
+
+fn put_member(text: &mut String, port: u8, egress: Option<Egress>) -> Result<(), AllocError>
+    ensures { OnOk result (string_bytes text.new ≡ string_bytes text.old ++ (port_text port ++ member_word egress)) }
+{
+    let word = member_word(egress);
+    write!(text, "port p{port}{word}")
+}
+
+fn put_ip(text: &mut String, source: Addr, destination: Addr) -> Result<(), AllocError>
+    ensures { OnOk result (string_bytes text.new ≡ string_bytes text.old ++ (codes "ip " ++ addr_text source ++ codes " > " ++ addr_text destination)) }
+{
+    text.push_str("ip ")?;
+    put_addr(text, source)?;
+    text.push_str(" > ")?;
+    put_addr(text, destination)
+}
+
+fn put_tunnel_port(text: &mut String, kind: Option<Tunnel>) -> Result<(), AllocError>
+    ensures { OnOk result (string_bytes text.new ≡ string_bytes text.old ++ tunnel_port_text kind) }
+{
+    match kind {
+        None => text.push_str("port of no tunnel"),
+        Some(kind) => put_tunnel(text, "port of ", kind),
+    }
+}
+
+/// Puts the word of a kind of tunnel behind a text.
+fn put_tunnel(text: &mut String, front: &str, kind: Tunnel) -> Result<(), AllocError>
+    ensures { OnOk result (string_bytes text.new ≡ string_bytes text.old ++ (front.now ++ tunnel_word kind)) }
+{
+    text.push_str(front)?;
+    text.push_str(tunnel_word(kind))
+}
+
+fn put_sum(text: &mut String, state: SumState) -> Result<(), AllocError>
+    ensures { OnOk result (string_bytes text.new ≡ string_bytes text.old ++ (codes "udp checksum " ++ sum_word state)) }
+{
+    let word = sum_word(state);
+    write!(text, "udp checksum {word}")
+}
+
+fn put_header(text: &mut String, kind: Tunnel, name: &str) -> Result<(), AllocError>
+    ensures { OnOk result (string_bytes text.new ≡ string_bytes text.old ++ (tunnel_word kind ++ codes " header " ++ name.now)) }
+{
+    let word = tunnel_word(kind);
+    write!(text, "{word} header {name}")
+}
+
+fn put_vni(text: &mut String, kind: Tunnel, vni: u32, segment: u16) -> Result<(), AllocError>
+    ensures { OnOk result (string_bytes text.new ≡ string_bytes text.old
+        ++ (tunnel_word kind ++ codes " vni " ++ decimal vni ++ codes " of segment " ++ decimal segment)) }
+{
+    put_tunnel_numbers(
+        text,
+        tunnel_word(kind),
+        " vni ",
+        vni,
+        " of segment ",
+        segment,
+    )
+}
+
+fn put_no_vni(text: &mut String, kind: Tunnel, vni: u32) -> Result<(), AllocError>
+    ensures { OnOk result (string_bytes text.new ≡ string_bytes text.old
+        ++ (tunnel_word kind ++ codes " vni " ++ decimal vni ++ codes " of no segment")) }
+{
+    put_tunnel_number(text, tunnel_word(kind), " vni ", vni, " of no segment")
+}
+
+/// Puts a number between words.
+fn put_numbered(
+    text: &mut String,
+    front: &str,
+    number: u16,
+    behind: &str,
+    end: &str,
+) -> Result<(), AllocError>
+    ensures { OnOk result (string_bytes text.new ≡ string_bytes text.old ++ (front.now ++ decimal number ++ behind.now ++ end.now)) }
+{
+    write!(text, "{front}{number}{behind}{end}")
+}
+
+/// Puts a number of a tunnel between words.
+fn put_tunnel_number(
+    text: &mut String,
+    tunnel: &str,
+    front: &str,
+    number: u32,
+    end: &str,
+) -> Result<(), AllocError>
+    ensures { OnOk result (string_bytes text.new ≡ string_bytes text.old ++ (tunnel.now ++ front.now ++ decimal number ++ end.now)) }
+{
+    write!(text, "{tunnel}{front}{number}{end}")
+}
+
+/// Puts a number of a tunnel and one of its segment between words.
+fn put_tunnel_numbers(
+    text: &mut String,
+    tunnel: &str,
+    front: &str,
+    number: u32,
+    behind: &str,
+    segment: u16,
+) -> Result<(), AllocError>
+    ensures { OnOk result (string_bytes text.new
+        ≡ string_bytes text.old ++ (tunnel.now ++ front.now ++ decimal number ++ behind.now ++ decimal segment)) }
+{
+    write!(text, "{tunnel}{front}{number}{behind}{segment}")
+}
+
+/// Puts whether a group or a sender is on the flood list.
+fn put_listed(text: &mut String, whose: &str, listed: bool) -> Result<(), AllocError>
+    ensures { OnOk result (string_bytes text.new ≡ string_bytes text.old ++ (whose.now ++ listed_word listed)) }
+{
+    let word = listed_word(listed);
+    write!(text, "{whose}{word}")
+}
+
+fn put_learned(text: &mut String, place: Place, stood: Option<Entry>) -> Result<(), AllocError>
+    ensures { OnOk result (string_bytes text.new ≡ string_bytes text.old ++ learned_text place stood) }
+{
+    match stood {
+        None => put_at(text, "source new at ", place),
+        Some(stood) => {
+            put_at(text, "source learned at ", place)?;
+            put_stood(text, ", before at ", stood)
+        }
+    }
+}
+
+fn put_fixed(text: &mut String, stood: Entry) -> Result<(), AllocError>
+    ensures { OnOk result (string_bytes text.new ≡ string_bytes text.old ++ (codes "source not learned, it is at " ++ stood_text stood)) }
+{
+    put_stood(text, "source not learned, it is at ", stood)
+}
+
+fn put_full(text: &mut String, limit: u32) -> Result<(), AllocError>
+    ensures { OnOk result (string_bytes text.new ≡ string_bytes text.old
+        ++ (codes "source not learned, the table has its limit of " ++ decimal limit)) }
+{
+    write!(
+        text,
+        "source not learned, the table has its limit of {limit}"
+    )
+}
+
+fn put_known(text: &mut String, stood: Option<Entry>) -> Result<(), AllocError>
+    ensures { OnOk result (string_bytes text.new ≡ string_bytes text.old ++ known_text stood) }
+{
+    match stood {
+        None => text.push_str("destination unknown, flooded"),
+        Some(stood) => put_stood(text, "destination at ", stood),
+    }
+}
+
+/// Puts where an entry stands, and since when, behind a text.
+fn put_stood(text: &mut String, front: &str, stood: Entry) -> Result<(), AllocError>
+    ensures { OnOk result (string_bytes text.new ≡ string_bytes text.old ++ (front.now ++ stood_text stood)) }
+{
+    put_at(text, front, stood.place)?;
+    match stood.last {
+        None => text.push_str(" fixed"),
+        Some(last) => write!(text, " seen at {last}"),
+    }
+}
+
+/// Puts a place behind a text.
+fn put_at(text: &mut String, front: &str, place: Place) -> Result<(), AllocError>
+    ensures { OnOk result (string_bytes text.new ≡ string_bytes text.old ++ (front.now ++ place_text place)) }
+{
+    text.push_str(front)?;
+    put_place(text, true, place)
+}
+
+/// Puts a place before a text.
+fn put_behind_place(text: &mut String, place: Place, behind: &str) -> Result<(), AllocError>
+    ensures { OnOk result (string_bytes text.new ≡ string_bytes text.old ++ (place_text place ++ behind.now)) }
+{
+    put_place(text, true, place)?;
+    text.push_str(behind)
+}
+
+fn put_at_port(text: &mut String, port: u8, egress: Option<Egress>) -> Result<(), AllocError>
+    ensures { OnOk result (string_bytes text.new ≡ string_bytes text.old ++ (codes "out p" ++ decimal port ++ egress_word egress)) }
+{
+    let word = egress_word(egress);
+    write!(text, "out p{port}{word}")
+}
+
+fn put_in_tunnel(
+    text: &mut String,
+    place: Place,
+    vni: u32,
+    hop: Mac,
+    packet: usize,
+    mtu: u16,
+    reason: Option<Reason>,
+) -> Result<(), AllocError>
+    ensures { OnOk result (string_bytes text.new ≡ string_bytes text.old
+        ++ (codes "out " ++ place_text place ++ codes " vni " ++ decimal vni ++ codes " next hop " ++ mac_text hop ++ length_text packet mtu ++ unsent_text reason)) }
+{
+    put_at(text, "out ", place)?;
+    write!(text, " vni {vni}")?;
+    put_hop(text, " next hop ", hop)?;
+    put_length(text, packet, mtu)?;
+    put_unsent(text, reason)
+}
+
+/// Puts an address behind a text.
+fn put_hop(text: &mut String, front: &str, hop: Mac) -> Result<(), AllocError>
+    ensures { OnOk result (string_bytes text.new ≡ string_bytes text.old ++ (front.now ++ mac_text hop)) }
+{
+    text.push_str(front)?;
+    put_mac(text, &hop.0)
+}
+
+fn put_length(text: &mut String, packet: usize, mtu: u16) -> Result<(), AllocError>
+    ensures { OnOk result (string_bytes text.new ≡ string_bytes text.old ++ length_text packet mtu) }
+{
+    write!(text, ", packet {packet} of at most {mtu}")
+}
+
+fn put_unsent(text: &mut String, reason: Option<Reason>) -> Result<(), AllocError>
+    ensures { OnOk result (string_bytes text.new ≡ string_bytes text.old ++ unsent_text reason) }
+{
+    match reason {
+        None => Ok(()),
+        Some(reason) => put_name(text, ", not sent ", reason.name()),
+    }
+}
+
+/// Puts a name behind a text.
+fn put_name(text: &mut String, front: &str, name: &str) -> Result<(), AllocError>
+    ensures { OnOk result (string_bytes text.new ≡ string_bytes text.old ++ (front.now ++ name.now)) }
+{
+    text.push_str(front)?;
+    text.push_str(name)
+}
+
+fn egress_word(egress: Option<Egress>) -> &'static str
+    ensures { result.now ≡ egress_word egress }
+{
+    match egress {
+        None => " no member",
+        Some(Egress::Tagged) => " tagged",
+        Some(Egress::Untagged) => " untagged",
+    }
+}
+
+fn up_word(up: bool) -> &'static str
+    ensures { result.now ≡ up_word up }
+{
+    if up { "up" } else { "down" }
+}
+
+fn bit_word(bit: bool) -> &'static str
+    ensures { result.now ≡ bit_word bit }
+{
+    if bit { "1" } else { "0" }
+}
+
+fn tunnel_word(kind: Tunnel) -> &'static str
+    ensures { result.now ≡ tunnel_word kind }
+{
+    match kind {
+        Tunnel::Vxlan => "vxlan",
+        Tunnel::Geneve => "geneve",
+    }
+}
+
+fn group_word(group: bool) -> &'static str
+    ensures { result.now ≡ group_word group }
+{
+    if group { "group" } else { "individual" }
+}
+
+fn destination_word(group: bool, reserved: bool) -> &'static str
+    ensures { result.now ≡ destination_word group reserved }
+{
+    if reserved {
+        "reserved"
+    } else {
+        group_word(group)
+    }
+}
+
+fn takes_word(taken: bool) -> &'static str
+    ensures { result.now ≡ takes_word taken }
+{
+    if taken { " takes " } else { " refuses " }
+}
+
+fn tagged_word(tagged: bool) -> &'static str
+    ensures { result.now ≡ tagged_word tagged }
+{
+    if tagged {
+        "frames with a vid"
+    } else {
+        "frames without a vid"
+    }
+}
+
+fn origin_word(by_tag: bool) -> &'static str
+    ensures { result.now ≡ origin_word by_tag }
+{
+    if by_tag { "the tag" } else { "the port" }
+}
+
+fn member_word(egress: Option<Egress>) -> &'static str
+    ensures { result.now ≡ member_word egress }
+{
+    match egress {
+        None => " no member",
+        Some(Egress::Tagged) => " member, tagged",
+        Some(Egress::Untagged) => " member, untagged",
+    }
+}
+
+fn other_word(other: bool) -> &'static str
+    ensures { result.now ≡ other_word other }
+{
+    if other {
+        "sender another endpoint"
+    } else {
+        "sender no other endpoint"
+    }
+}
+
+fn receiver_word(group: bool, own: bool) -> &'static str
+    ensures { result.now ≡ receiver_word group own }
+{
+    if group {
+        "receiver a group"
+    } else if own {
+        "receiver the endpoint"
+    } else {
+        "receiver another host"
+    }
+}
+
+fn sum_word(state: SumState) -> &'static str
+    ensures { result.now ≡ sum_word state }
+{
+    match state {
+        SumState::Zero => "0",
+        SumState::Right => "right",
+        SumState::Wrong => "wrong",
+    }
+}
+
+fn listed_word(listed: bool) -> &'static str
+    ensures { result.now ≡ listed_word listed }
+{
+    if listed {
+        " on the flood list"
+    } else {
+        " not on the flood list"
+    }
+}

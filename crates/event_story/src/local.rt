@@ -1,0 +1,136 @@
+//! How a frame at a local port comes to a segment, test by test.
+ghost use Rattle.std.specs.Prelude.{◌≡◌, ◌≤◌, ◌++◌, length, OnOk};
+ghost use Rattle.event_story.specs.Local.{local_tests, segment_fact, local_fact, local_facts_of};
+ghost use Rattle.event_story.specs.Tests.{refusal_of, told};
+
+use crate::ether::{destination_fact, has_vid, header_fact, source_fact, tag_fact};
+use crate::fact::Fact;
+use crate::refusal::{put, refusal_of, refuses, segment_of};
+use endpoint_core::Came;
+use frame_view::{Reason, Refused, Vid};
+use std::alloc::AllocError;
+use vlan_ports::PortSet;
+
+/// Puts what each test saw of octets at a local port, which came so to a segment or to none, behind some facts. The port
+/// is 1 to [`PortSet::ports`]. `AllocError`: there was no room for them.
+pub(crate) fn put_local_facts(
+    facts: &mut Vec<Fact>,
+    ports: &PortSet,
+    port: u8,
+    original: u32,
+    octets: &[u8],
+    came: &Result<Came, Refused>,
+) -> Result<(), AllocError>
+    requires low { 1 ≤ port }
+    requires high { port ≤ length ports.now.ports }
+    ensures { OnOk result (facts.new.items ≡ facts.old.items ++ local_facts_of ports.now port original octets.now came.now) }
+{
+    put_tests(facts, ports, port, original, octets, came, &local_tests())
+}
+
+/// Puts what each of some tests saw, up to the one that refuses.
+fn put_tests(
+    facts: &mut Vec<Fact>,
+    ports: &PortSet,
+    port: u8,
+    original: u32,
+    octets: &[u8],
+    came: &Result<Came, Refused>,
+    tests: &[Reason],
+) -> Result<(), AllocError>
+    requires low { 1 ≤ port }
+    requires high { port ≤ length ports.now.ports }
+    ensures { OnOk result (facts.new.items
+        ≡ facts.old.items ++ told (local_fact ports.now port original octets.now came.now) (refusal_of came.now) tests.now) }
+{
+    let refusal = refusal_of(came);
+    for test in tests {
+        let saw = local_fact(ports, port, original, octets, came, *test);
+        put(facts, saw)?;
+        if refuses(refusal, *test) {
+            return Ok(());
+        }
+    }
+    Ok(())
+}
+
+/// The tests in their order.
+fn local_tests() -> [Reason; 11]
+    ensures { result ≡ local_tests }
+{
+    [
+        Reason::TooLong,
+        Reason::Sliced,
+        Reason::Runt,
+        Reason::PortDown,
+        Reason::BadSource,
+        Reason::Reserved,
+        Reason::CutTag,
+        Reason::BadVid,
+        Reason::FrameType,
+        Reason::NoSegment,
+        Reason::NotMember,
+    ]
+}
+
+/// What a test saw.
+fn local_fact(
+    ports: &PortSet,
+    port: u8,
+    original: u32,
+    octets: &[u8],
+    came: &Result<Came, Refused>,
+    test: Reason,
+) -> Option<Fact>
+    requires low { 1 ≤ port }
+    requires high { port ≤ length ports.now.ports }
+    ensures { result ≡ local_fact ports.now port original octets.now came.now test }
+{
+    match test {
+        Reason::TooLong => Some(Fact::Length {
+            octets: octets.len(),
+            most: 65_535,
+        }),
+        Reason::Sliced => Some(Fact::Captured {
+            octets: octets.len(),
+            original,
+        }),
+        Reason::Runt => Some(header_fact(octets)),
+        Reason::PortDown => Some(Fact::Port {
+            port,
+            up: ports.is_up(port),
+        }),
+        Reason::BadSource => source_fact(octets),
+        Reason::Reserved => destination_fact(octets),
+        Reason::CutTag => tag_fact(octets),
+        Reason::BadVid => refuses(refusal_of(came), test).then_some(Fact::ReservedVid),
+        Reason::FrameType => Some(Fact::Accepts {
+            port,
+            tagged: has_vid(octets),
+            taken: !refuses(refusal_of(came), test),
+        }),
+        Reason::NoSegment => Some(segment_fact(octets, segment_of(came))),
+        Reason::NotMember => match segment_of(came) {
+            None => None,
+            Some(vid) => Some(Fact::Member {
+                port,
+                egress: ports.egress(vid, port),
+            }),
+        },
+        _ => None,
+    }
+}
+
+/// The segment of a frame, by the VID of its tag or of the port.
+fn segment_fact(octets: &[u8], segment: Option<Vid>) -> Fact
+    ensures { result ≡ segment_fact octets.now segment }
+{
+    let by_tag = has_vid(octets);
+    match segment {
+        None => Fact::NoSegment { by_tag },
+        Some(vid) => Fact::Segment {
+            vid: vid.get(),
+            by_tag,
+        },
+    }
+}

@@ -1,0 +1,98 @@
+//! How a frame leaves at each of its outlets.
+ghost use Rattle.std.specs.Prelude.{◌≡◌, ◌≤◌, ◌++◌, OnOk, map};
+ghost use Rattle.std.specs.Option.{option_map};
+ghost use Rattle.underlay.specs.Overlay.{tunnel_at};
+ghost use Rattle.endpoint_state.specs.Held.{settings_of};
+ghost use Rattle.endpoint_core.specs.Decision.{sent_of};
+ghost use Rattle.event_story.specs.Outlets.{headers, port_fact, tunnel_fact, outlet_fact, outlet_facts};
+
+use crate::fact::Fact;
+use crate::refusal::put;
+use encapsulate::unsent;
+use endpoint_core::Outcome;
+use endpoint_state::EndpointState;
+use filter_db::Place;
+use frame_view::{BridgeFrame, Vid};
+use ip_udp_view::{Addr, Tunnel};
+use std::alloc::AllocError;
+use underlay::Under;
+
+/// The octets of both MAC addresses.
+const ADDRESSES: usize = 12;
+
+/// Puts how a frame of a segment leaves at each outlet behind some facts. `AllocError`: there was no room for them.
+pub(crate) fn put_outlet_facts(
+    facts: &mut Vec<Fact>,
+    state: &EndpointState,
+    vid: Vid,
+    frame: &BridgeFrame,
+    outcomes: &[Outcome],
+) -> Result<(), AllocError>
+    ensures { OnOk result (facts.new.items
+        ≡ facts.old.items ++ outlet_facts (settings_of state.now) vid frame.now (map sent_of outcomes.now)) }
+{
+    for outcome in outcomes {
+        put(facts, outlet_fact(state, vid, frame, outcome.place))?;
+    }
+    Ok(())
+}
+
+/// How a frame of a segment leaves at a place; nothing where it can't leave there.
+fn outlet_fact(state: &EndpointState, vid: Vid, frame: &BridgeFrame, place: Place) -> Option<Fact>
+    ensures { result ≡ outlet_fact (settings_of state.now) vid frame.now place }
+{
+    match place {
+        Place::Local(port) => port_fact(state, vid, port),
+        Place::Remote(kind, addr) => tunnel_fact(state.under(), vid, frame, kind, addr),
+    }
+}
+
+/// How frames of a segment leave at a local port.
+fn port_fact(state: &EndpointState, vid: Vid, port: u8) -> Option<Fact>
+    ensures { result ≡ port_fact (settings_of state.now).ports vid port }
+{
+    let ports = state.ports();
+    if port == 0 || port > ports.ports() {
+        return None;
+    }
+    Some(Fact::AtPort {
+        port,
+        egress: ports.egress(vid, port),
+    })
+}
+
+/// How a frame leaves in a tunnel of its segment.
+fn tunnel_fact(
+    under: &Under,
+    vid: Vid,
+    frame: &BridgeFrame,
+    kind: Tunnel,
+    addr: Addr,
+) -> Option<Fact>
+    ensures { result ≡ option_map (tunnel_fact under.now vid frame.now addr) (tunnel_at under.now vid kind) }
+{
+    if !under.has(vid) {
+        return None;
+    }
+    let tunnel = under.tunnel_of(vid, kind)?;
+    Some(Fact::InTunnel {
+        kind: tunnel.kind,
+        addr,
+        vni: tunnel.vni.get(),
+        hop: under.settings().hop_to(addr),
+        packet: ADDRESSES + frame.body.len() + headers(addr),
+        mtu: under.settings().mtu,
+        reason: unsent(under, vid, addr, frame),
+    })
+}
+
+/// The octets of the outer IP, UDP and tunnel headers of a packet to an address.
+fn headers(addr: Addr) -> usize
+    ensures value { result ≡ headers addr }
+    ensures few { result ≤ 56 }
+{
+    match addr {
+        Addr::V4(_) => 36,
+        Addr::V6(_) => 56,
+    }
+}

@@ -1,0 +1,252 @@
+//! The story of an event.
+ghost use Rattle.std.specs.Prelude.{◌≡◌, ◌≤◌, ◌++◌, length, IfOk, OnOk, IsSome, Ok, codes, decimal, string_bytes};
+ghost use Rattle.timeline.specs.Words.{source_word, tap_word};
+ghost use Rattle.endpoint_state.specs.Held.{settings_of, state_at, moment_of};
+ghost use Rattle.endpoint_state.specs.Settings.{segment_at};
+ghost use Rattle.endpoint_state.specs.State.{aged};
+ghost use Rattle.endpoint_core.specs.Decision.{octets_of};
+ghost use Rattle.endpoint_core.specs.Event.{frame_at, packet_at};
+ghost use Rattle.endpoint_core.specs.Kept.{state_of};
+ghost use Rattle.endpoint_core.specs.Step.{Decided, answer};
+ghost use Rattle.decision_lines.specs.Lines.{front_text, line_front, segment_text};
+ghost use Rattle.event_story.specs.Story.{came_facts, frame_facts, arrival_facts, told, is_there, can_come, story};
+
+use crate::bridge::put_bridge_facts;
+use crate::fact::Fact;
+use crate::line::put_facts;
+use crate::local::put_local_facts;
+use crate::outlets::put_outlet_facts;
+use crate::packet::put_packet_facts;
+use endpoint_core::{Came, Decision, Endpoint, result_text};
+use endpoint_state::EndpointState;
+use frame_view::{Refused, Vid};
+use std::alloc::{AllocError, Global};
+use std::fmt::Write;
+use timeline::{Event, Happening, Source, Tap};
+
+/// The story of an event of this number, in the state in which it comes to an endpoint: what each test saw, a line each,
+/// in the order of the tests up to the one that refuses, what the bridge knows of both addresses, and last the decision
+/// line. A change has none, nor has an event that can't come: before the last one, or at a port that isn't there. The
+/// endpoint stays as it is. `AllocError`: there was no room for the text, or for lists of entries.
+pub fn story_of_event(
+    alloc: Global,
+    endpoint: &Endpoint,
+    number: u64,
+    event: &Event,
+) -> Result<Vec<u8>, AllocError>
+    ensures { IfOk result (λ text. text.items ≡ story (state_of endpoint.now) number event.now) }
+{
+    if !can_come(endpoint, event) {
+        return Ok(Vec::new(alloc));
+    }
+    match &event.happening {
+        Happening::Change(_) => Ok(Vec::new(alloc)),
+        Happening::Record(Tap::Port(port), captured) => frame_story(
+            alloc,
+            endpoint,
+            number,
+            event,
+            *port,
+            captured.original,
+            captured.octets,
+        ),
+        Happening::Record(Tap::Underlay, captured) => packet_story(
+            alloc,
+            endpoint,
+            number,
+            event,
+            captured.original,
+            captured.octets,
+        ),
+    }
+}
+
+/// Whether an event can come to an endpoint.
+fn can_come(endpoint: &Endpoint, event: &Event) -> bool
+    ensures { result ≡ can_come (state_of endpoint.now) event.now }
+{
+    endpoint.now() <= event.moment && is_there(endpoint.ports(), &event.happening)
+}
+
+/// Whether there is such a port.
+fn is_there(ports: u8, happening: &Happening) -> bool
+    ensures { result ≡ is_there ports happening.now }
+{
+    match happening {
+        Happening::Record(Tap::Port(port), _) => 1 <= *port && *port <= ports,
+        _ => true,
+    }
+}
+
+/// The story of octets at a local port.
+fn frame_story(
+    alloc: Global,
+    endpoint: &Endpoint,
+    number: u64,
+    event: &Event,
+    port: u8,
+    original: u32,
+    octets: &[u8],
+) -> Result<Vec<u8>, AllocError>
+    requires time { (state_of endpoint.now).moment ≤ event.now.moment }
+    requires low { 1 ≤ port }
+    requires high { port ≤ length (state_of endpoint.now).bridges.settings.ports.ports }
+    ensures { let s = state_of endpoint.now in let t = event.now.moment in
+        IfOk result (λ text. text.items ≡ told number event.now (frame_facts t (aged t s.bridges) port original octets.now) (answer s (frame_at t port original octets.now))) }
+{
+    let now = event.moment;
+    let state = endpoint.state();
+    let came = endpoint.frame_from(port, original, octets);
+    let decision = endpoint.foresee_frame(alloc, now, port, original, octets)?;
+    let mut facts = Vec::new(alloc);
+    put_local_facts(&mut facts, state.ports(), port, original, octets, &came)?;
+    put_came_facts(&mut facts, alloc, state, now, &came, &decision)?;
+    let text = told(alloc, number, event, &facts, &decision)?;
+    Ok(text)
+}
+
+/// The story of a packet of the underlay.
+fn packet_story(
+    alloc: Global,
+    endpoint: &Endpoint,
+    number: u64,
+    event: &Event,
+    original: u32,
+    octets: &[u8],
+) -> Result<Vec<u8>, AllocError>
+    requires time { (state_of endpoint.now).moment ≤ event.now.moment }
+    ensures { let s = state_of endpoint.now in let t = event.now.moment in
+        IfOk result (λ text. text.items ≡ told number event.now (arrival_facts t (aged t s.bridges) original octets.now) (answer s (packet_at t original octets.now))) }
+{
+    let now = event.moment;
+    let state = endpoint.state();
+    let came = endpoint.frame_in(original, octets);
+    let decision = endpoint.foresee_packet(alloc, now, original, octets)?;
+    let mut facts = Vec::new(alloc);
+    put_packet_facts(&mut facts, state.under(), original, octets, &came)?;
+    put_came_facts(&mut facts, alloc, state, now, &came, &decision)?;
+    let text = told(alloc, number, event, &facts, &decision)?;
+    Ok(text)
+}
+
+/// Puts what the bridge of its segment makes of a frame that comes to one at a moment, of which this is decided, and how it
+/// leaves at each outlet.
+fn put_came_facts(
+    facts: &mut Vec<Fact>,
+    alloc: Global,
+    state: &EndpointState,
+    now: u64,
+    came: &Result<Came, Refused>,
+    decision: &Decision,
+) -> Result<(), AllocError>
+    requires time { moment_of state.now ≤ now }
+    requires there { IfOk came.now (λ x. IsSome (segment_at (settings_of state.now) x.vid)) }
+    ensures { OnOk result (facts.new.items ≡ facts.old.items ++ came_facts now (state_at now state.now) came.now (octets_of decision.now)) }
+{
+    match came {
+        Ok(came) => put_course_facts(facts, alloc, state, now, came, decision),
+        Err(_) => Ok(()),
+    }
+}
+
+/// The same of a frame that comes to a segment.
+fn put_course_facts(
+    facts: &mut Vec<Fact>,
+    alloc: Global,
+    state: &EndpointState,
+    now: u64,
+    came: &Came,
+    decision: &Decision,
+) -> Result<(), AllocError>
+    requires time { moment_of state.now ≤ now }
+    requires there { IsSome (segment_at (settings_of state.now) came.now.vid) }
+    ensures { OnOk result (facts.new.items ≡ facts.old.items ++ came_facts now (state_at now state.now) (Ok came.now) (octets_of decision.now)) }
+{
+    put_bridge_facts(facts, alloc, state, now, came, decision.dropped())?;
+    put_outlet_facts(
+        facts,
+        state,
+        came.segment(),
+        came.frame(),
+        decision.outcomes(),
+    )
+}
+
+/// The lines of facts, and the decision line.
+fn told(
+    alloc: Global,
+    number: u64,
+    event: &Event,
+    facts: &[Fact],
+    decision: &Decision,
+) -> Result<Vec<u8>, AllocError>
+    ensures { IfOk result (λ text. text.items ≡ told number event.now facts.now (Decided (octets_of decision.now))) }
+{
+    let mut text = String::new(alloc);
+    put_facts(&mut text, facts)?;
+    put_front(&mut text, number, event)?;
+    put_segment(&mut text, decision.segment())?;
+    let mut line = text.into_bytes();
+    let result = result_text(alloc, decision)?;
+    line.extend_from_slice(&result)?;
+    line.push(b'\n')?;
+    Ok(line)
+}
+
+/// Puts what stands before the segment in a decision line: the event's number, its moment, its source and its number there.
+fn put_front(text: &mut String, number: u64, event: &Event) -> Result<(), AllocError>
+    ensures { OnOk result (string_bytes text.new ≡ string_bytes text.old ++ line_front number event.now) }
+{
+    put_origin(text, number, event.moment, event.source(), event.number)
+}
+
+/// The same of an event that is told by its parts.
+fn put_origin(
+    text: &mut String,
+    number: u64,
+    moment: u64,
+    source: Source,
+    own: u64,
+) -> Result<(), AllocError>
+    ensures { OnOk result (string_bytes text.new ≡ string_bytes text.old ++ front_text number moment source own) }
+{
+    write!(text, "{number} {moment} ")?;
+    put_source(text, source)?;
+    write!(text, " {own} ")
+}
+
+/// Puts where an event comes from.
+fn put_source(text: &mut String, source: Source) -> Result<(), AllocError>
+    ensures { OnOk result (string_bytes text.new ≡ string_bytes text.old ++ source_word source) }
+{
+    match source {
+        Source::Changes => text.push('c'),
+        Source::Tap(tap) => put_tap(text, tap),
+    }
+}
+
+/// Puts where a capture is taken.
+fn put_tap(text: &mut String, tap: Tap) -> Result<(), AllocError>
+    ensures { OnOk result (string_bytes text.new ≡ string_bytes text.old ++ tap_word tap) }
+{
+    match tap {
+        Tap::Underlay => text.push('u'),
+        Tap::Port(port) => write!(text, "p{port}"),
+    }
+}
+
+/// Puts the VID of a segment, or a dash for none, and a space.
+fn put_segment(text: &mut String, segment: Option<Vid>) -> Result<(), AllocError>
+    ensures { OnOk result (string_bytes text.new ≡ string_bytes text.old ++ (segment_text segment ++ codes " ")) }
+{
+    match segment {
+        Some(vid) => put_vid(text, vid.get()),
+        None => text.push_str("- "),
+    }
+}
+
+fn put_vid(text: &mut String, number: u16) -> Result<(), AllocError>
+    ensures { OnOk result (string_bytes text.new ≡ string_bytes text.old ++ (decimal number ++ codes " ")) }
+{
+    write!(text, "{number} ")
+}

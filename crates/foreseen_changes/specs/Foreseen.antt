@@ -1,0 +1,78 @@
+-- Changes that the settings alone refuse.
+--     settings_behind      the settings behind some changes
+--     refusals      the changes that are refused, each by the settings behind those before it
+use Rattle.std.specs.Prelude.{◌≡◌, ℕ, ◌+◌, ◌==◌, Bool, true, false, if◌then◌else◌, List, ◌++◌, codes, decimal, fold, filter, length, slice_get, take, Option, Some, None}
+use Rattle.std.specs.List.{filter_map, range_with_len}
+use Rattle.std.specs.Option.{option_and_then, option_map, option_to_list}
+use Rattle.overlay_settings.specs.declared.change.Change.{Change}
+use Rattle.overlay_settings.specs.declared.change.Change.TheVariants.{AddFlood, RemoveFlood, Fix, Unfix, SetAgeing, SetLearning, SetMember, PortUp, PortDown, Flush, AddSegment, RemoveSegment, SetLimit}
+use Rattle.overlay_settings.specs.declared.change.TimedChange.{TimedChange}
+use Rattle.endpoint_state.specs.Change.{changed, refused}
+use Rattle.endpoint_state.specs.Fault.{name_of, number_of}
+use Rattle.endpoint_state.specs.Settings.{Settings}
+use Rattle.endpoint_state.specs.State.{State, fault}
+use Rattle.endpoint_state.specs.declared.fault.ChangeFault.{ChangeFault}
+use Rattle.endpoint_state.specs.declared.fault.ChangeFault.TheVariants as faults
+use Rattle.foreseen_changes.specs.declared.foreseen.Foreseen.{Foreseen}
+
+-- the settings behind some changes; those that are refused change nothing
+abbrev pub settings_behind : Settings → List TimedChange → Settings
+settings_behind S changes = fold (λ S c. changed S c.change) S changes
+
+-- the change of an index, where the settings refuse it behind those before it
+abbrev pub refusal_at : Settings → List TimedChange → ℕ → Option Foreseen
+refusal_at S changes k =
+    option_and_then (λ c. option_map (λ why. record { number = k + 1; at = c.at; fault = why }) (refused (settings_behind S (take k changes)) c.change)) (slice_get changes k)
+
+-- all that are refused, in their order
+abbrev pub refusals : Settings → List TimedChange → List Foreseen
+refusals S changes = filter_map (refusal_at S changes) (range_with_len 0 (length changes))
+
+-- its line, of which what stands behind the colon is what a decision line says
+abbrev pub foreseen_text : Foreseen → List ℕ
+foreseen_text f =
+    codes "change " ++ decimal f.number ++ codes " at " ++ decimal f.at ++ codes ": refused " ++ decimal (number_of f.fault) ++ codes " " ++ name_of f.fault
+
+-- a law: what is told of the change of a number is that it is refused, where it is, and nothing else
+abbrev pub TellsEachRefusal : Type 0
+TellsEachRefusal = (S : Settings) (changes : List TimedChange) (k : ℕ)
+    → filter (λ f. f.number == k + 1) (refusals S changes) ≡ option_to_list (refusal_at S changes k)
+
+-- ---- what a table refuses
+
+-- a change that takes a fixed entry away
+abbrev pub is_unfix : Change → Bool
+is_unfix (Unfix vid mac) = true
+is_unfix (AddFlood vid addr tunnel) = false
+is_unfix (RemoveFlood vid addr tunnel) = false
+is_unfix (Fix vid mac target) = false
+is_unfix (SetAgeing vid seconds) = false
+is_unfix (SetLearning vid on) = false
+is_unfix (SetMember vid port egress) = false
+is_unfix (PortUp port) = false
+is_unfix (PortDown port) = false
+is_unfix (Flush vid) = false
+is_unfix (AddSegment new) = false
+is_unfix (RemoveSegment vid) = false
+is_unfix (SetLimit vid limit) = false
+
+-- the fault of a change, unless it is that of a table: no room for a fixed entry, or none to take away
+abbrev pub by_settings : Change → ChangeFault → Option ChangeFault
+by_settings c faults.NoSegment = Some faults.NoSegment
+by_settings c faults.NoPort = Some faults.NoPort
+by_settings c faults.AlreadyThere = Some faults.AlreadyThere
+by_settings c faults.NotThere = if is_unfix c then None else Some faults.NotThere
+by_settings c faults.FloodFull = Some faults.FloodFull
+by_settings c faults.TableFull = None
+by_settings c faults.GroupAddress = Some faults.GroupAddress
+by_settings c faults.OutOfRange = Some faults.OutOfRange
+by_settings c faults.NoFamily = Some faults.NoFamily
+by_settings c faults.OwnAddress = Some faults.OwnAddress
+by_settings c faults.SegmentThere = Some faults.SegmentThere
+by_settings c faults.PoolFull = Some faults.PoolFull
+by_settings c faults.SegmentsFull = Some faults.SegmentsFull
+by_settings c faults.NoTunnel = Some faults.NoTunnel
+
+-- a law: whatever the tables hold, a fault that isn't theirs is the one by which the settings refuse the change
+abbrev pub TellsNothingOfTables : Type 0
+TellsNothingOfTables = (S : State) (c : Change) → option_and_then (by_settings c) (fault S c) ≡ refused S.settings c

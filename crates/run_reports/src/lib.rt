@@ -1,0 +1,11 @@
+//! What a run tells besides its outputs, to whom asks: why events came out as they did, and the tables at a moment and at the
+//! end.
+//!
+//! [`Reports`] looks on while `stream_run` runs, and keeps the text. It is shown each event before the endpoint takes it, so a
+//! story is told in the state that the event found.
+#![tactic(auto)]
+
+mod name;
+mod reports;
+
+pub use reports::Reports;

@@ -1,0 +1,17 @@
+-- The live entries of a segment, as the slots have them.
+use Rattle.std.specs.Prelude.{ℕ, ◌&&◌, List, Option, Some, None, nat_eq, if◌then◌else◌}
+use Rattle.std.specs.List.{filter_map}
+use Rattle.filter_db.specs.declared.entry.Entry.{Entry}
+use Rattle.filter_db.specs.Table.{is_live}
+use Rattle.filter_db.specs.Rows.{Rows}
+use Rattle.shared_tables.specs.Pool.{Held}
+use Rattle.shared_tables.specs.Segments.{entry_of}
+
+-- the row of what a slot holds, if it is of the segment, and live at a moment under an ageing in nanoseconds
+abbrev pub live_row : ℕ → ℕ → ℕ → Option Held → Option (List ℕ × Entry)
+live_row vid ageing now None = None
+live_row vid ageing now (Some e) = if nat_eq e.vid vid && is_live ageing now (entry_of e) then Some (e.mac, entry_of e) else None
+
+-- the rows of all slots
+abbrev pub live_rows : ℕ → ℕ → ℕ → List (Option Held) → Rows
+live_rows vid ageing now entries = filter_map (live_row vid ageing now) entries

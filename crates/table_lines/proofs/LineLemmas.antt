@@ -1,0 +1,34 @@
+-- Texts that are put one behind another, and the lines of one segment more.
+use Rattle.std.proofs.Common.{◌≡◌, ℕ, ◌+◌, List, [], ◌∷◌, ◌++◌, append_assoc, append-nil, refl, sym, ap, ◌∙◌}
+use Rattle.std.proofs.lemmas.List.{map-id}
+use Rattle.std.proofs.lemmas.List.FromFn.{map-range_with_len_more}
+use Rattle.std.proofs.lemmas.Grind.{flat_map-append}
+use Rattle.std.specs.List.{flat_map, range_with_len}
+use Rattle.endpoint_core.specs.Step.{State}
+use Rattle.table_lines.specs.Lines.{segment_lines, tables_text, vids}
+
+-- a text behind another is put behind what the other was put behind
+behind : (t u x y : List ℕ) → u ≡ t ++ x → u ++ y ≡ t ++ (x ++ y)
+behind t u x y e = ap (λ (s : List ℕ). s ++ y) e ∙ append_assoc t x y
+
+-- six texts, one behind another
+pub six_behind : (t t1 t2 t3 t4 t5 a b c d e f : List ℕ) → t1 ≡ t ++ a → t2 ≡ t1 ++ b → t3 ≡ t2 ++ c → t4 ≡ t3 ++ d → t5 ≡ t4 ++ e → t5 ++ f ≡ t ++ (a ++ (b ++ (c ++ (d ++ (e ++ f)))))
+six_behind t t1 t2 t3 t4 t5 a b c d e f first second third fourth fifth =
+    behind t4 t5 e f fifth ∙ behind t3 t4 d (e ++ f) fourth ∙ behind t2 t3 c (d ++ (e ++ f)) third ∙ behind t1 t2 b (c ++ (d ++ (e ++ f))) second ∙ behind t t1 a (b ++ (c ++ (d ++ (e ++ f)))) first
+
+range_more : (n : ℕ) → range_with_len 1 (n + 1) ≡ range_with_len 1 n ++ (1 + n) ∷ []
+range_more n =
+    sym (map-id (range_with_len 1 (n + 1))) ∙ map-range_with_len_more (λ (k : ℕ). k) 1 n (1 + n) refl ∙ ap (λ (xs : List ℕ). xs ++ (1 + n) ∷ []) (map-id (range_with_len 1 n))
+
+-- one segment more
+pub segments_more : (s : State) (n number : ℕ) → number ≡ 1 + n → flat_map (segment_lines s) (range_with_len 1 n) ++ segment_lines s number ≡ flat_map (segment_lines s) (range_with_len 1 (n + 1))
+segments_more s n number is =
+    ap (λ (k : ℕ). flat_map (segment_lines s) (range_with_len 1 n) ++ segment_lines s k) is
+    ∙ ap (λ (t : List ℕ). flat_map (segment_lines s) (range_with_len 1 n) ++ t) (sym (append-nil (segment_lines s (1 + n))))
+    ∙ sym (flat_map-append (segment_lines s) (range_with_len 1 n) ((1 + n) ∷ []))
+    ∙ sym (ap (flat_map (segment_lines s)) (range_more n))
+
+-- all of them
+pub segments_all : (s : State) (n : ℕ) → n ≡ 4094 → flat_map (segment_lines s) (range_with_len 1 n) ≡ tables_text s
+unfolding vids
+segments_all s n is = ap (λ (k : ℕ). flat_map (segment_lines s) (range_with_len 1 k)) is

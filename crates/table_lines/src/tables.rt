@@ -1,0 +1,51 @@
+//! The lines of all segments.
+ghost use Rattle.std.specs.Prelude.{◌≡◌, ◌++◌, IfOk, OnOk, string_bytes};
+ghost use Rattle.endpoint_core.specs.Kept.{state_of};
+ghost use Rattle.endpoint_core.specs.Step.{has_two_tunnels};
+ghost use Rattle.table_lines.specs.Lines.{segment_lines, tables_text};
+
+use crate::line::put_line;
+use endpoint_core::Endpoint;
+use frame_view::Vid;
+use std::alloc::{AllocError, Global};
+
+/// The live entries of all segments at the moment of the endpoint's last step, one a line, the VIDs rising and within a
+/// segment the addresses. Of each VID the endpoint's pool is gone through once, where it has a segment. `AllocError`:
+/// there was no room for the text.
+pub fn tables_text(alloc: Global, endpoint: &Endpoint) -> Result<Vec<u8>, AllocError>
+    ensures { IfOk result (λ text. text.items ≡ tables_text (state_of endpoint.now)) }
+{
+    let mut text = String::new(alloc);
+    for number in 1..4095 {
+        if let Some(vid) = Vid::new(number) {
+            put_segment(alloc, &mut text, endpoint, vid)?;
+        }
+    }
+    Ok(text.into_bytes())
+}
+
+/// Puts the lines of a segment.
+fn put_segment(
+    alloc: Global,
+    text: &mut String,
+    endpoint: &Endpoint,
+    vid: Vid,
+) -> Result<(), AllocError>
+    ensures { OnOk result (string_bytes text.new ≡ string_bytes text.old ++ segment_lines (state_of endpoint.now) vid) }
+{
+    let rows = endpoint.entries(alloc, vid)?;
+    let two_tunnels = has_two_tunnels(endpoint, vid);
+    let now = endpoint.now();
+    for (mac, entry) in &rows {
+        put_line(text, two_tunnels, now, vid, *mac, *entry)?;
+    }
+    Ok(())
+}
+
+/// Whether there is a segment of this VID, and it has two tunnels.
+fn has_two_tunnels(endpoint: &Endpoint, vid: Vid) -> bool
+    ensures { result ≡ has_two_tunnels (state_of endpoint.now).bridges.settings.overlay vid }
+{
+    let under = endpoint.under();
+    under.has(vid) && under.segment(vid).tunnels.are_two()
+}

@@ -1,0 +1,188 @@
+//! A look at what a run is to read, before it does.
+use crate::inputs::{SeenCapture, open_seen, read_file, read_if_given};
+use crate::printing::print_text;
+use capture_run::{RunFault, of_changes, of_settings};
+use capture_survey::{Report, SurveyFault, survey_capture};
+use config_text::SettingsFault;
+use dissector::{Failure, check_text};
+use file_kind::FileKind;
+use foreseen_changes::foresee;
+use overlay_config::{changes_of, settings_of};
+use pcap_io::CaptureFault;
+use std::fmt::Write;
+use std::io::{Input, Read};
+use std::rt::Files;
+use text_advice::{TextKind, advice, syntax_error_at};
+use timeline::Tap;
+
+/// A text that was read, with its file's name.
+#[derive(Clone, Copy)]
+struct Named<'t, 'a> {
+    name: &'a str,
+    text: &'t [u8],
+}
+
+/// Looks at the texts and the captures, and prints what is in them: where and why a text is refused; which changes will be
+/// refused; what each capture holds. The first fault is answered that a run would meet.
+pub fn check<'a, R: Files + Input + AllocGlobal + Print>(
+    rt: &R,
+    settings: &'a str,
+    changes: Option<&'a str>,
+    underlay: Option<&'a str>,
+    ports: &[&'a str],
+) -> Result<(), Failure<'a>> {
+    let settings_text = read_file(rt, settings)?;
+    let changes_text = read_if_given(rt, changes)?;
+    let settings = Named {
+        name: settings,
+        text: settings_text.as_slice(),
+    };
+    let changes = Named {
+        name: changes.unwrap_or(""),
+        text: changes_text.as_slice(),
+    };
+    check_texts(rt, settings, changes)?;
+    let counted = print_foreseen(rt, settings.text, changes.text, ports.len());
+    let seen = look_at_captures(rt, underlay, ports);
+    counted.and(seen)
+}
+
+/// Prints what is in the texts, or where and why the first that is refused is.
+fn check_texts<'a, R: AllocGlobal + Print>(
+    rt: &R,
+    settings: Named<'_, 'a>,
+    changes: Named<'_, 'a>,
+) -> Result<(), Failure<'a>> {
+    let fault = match check_text(rt.alloc(), settings.text, changes.text) {
+        Ok(line) => return print_text(rt, line.as_slice()),
+        Err(fault) => fault,
+    };
+    let told = match &fault {
+        RunFault::Settings(fault) => print_advice(rt, TextKind::Settings, settings, fault),
+        RunFault::Changes(fault) => print_advice(rt, TextKind::Changes, changes, fault),
+        _ => Ok(()),
+    };
+    told.and(Err(Failure::Run(fault)))
+}
+
+/// Prints where a text is refused, and why.
+fn print_advice<'a, R: AllocGlobal + Print>(
+    rt: &R,
+    kind: TextKind,
+    named: Named<'_, 'a>,
+    fault: &SettingsFault,
+) -> Result<(), Failure<'static>> {
+    let at = syntax_error_at(rt.alloc(), named.text)?;
+    let told = advice(rt.alloc(), kind, named.name, named.text, fault, at.as_ref())?;
+    print_text(rt, told.as_slice())
+}
+
+/// Prints the changes that the settings will refuse at their moments. The number of captures is that of the ports, unless no
+/// port's capture is named.
+fn print_foreseen<'a, R: AllocGlobal + Print>(
+    rt: &R,
+    settings: &[u8],
+    changes: &[u8],
+    captures: usize,
+) -> Result<(), Failure<'a>> {
+    let settings = match settings_of(rt.alloc(), settings) {
+        Ok(settings) => settings,
+        Err(fault) => return Err(Failure::Run(of_settings(fault))),
+    };
+    let changes = match changes_of(rt.alloc(), changes) {
+        Ok(changes) => changes,
+        Err(fault) => return Err(Failure::Run(of_changes(fault))),
+    };
+    let is_counted = captures == 0 || captures == settings.ports().len();
+    let mut text = String::new(rt.alloc());
+    for refusal in &foresee(rt.alloc(), settings, changes.as_slice())? {
+        writeln!(text, "{refusal}")?;
+    }
+    print_text(rt, text.as_bytes())?;
+    if is_counted {
+        Ok(())
+    } else {
+        Err(Failure::Run(RunFault::PortCount))
+    }
+}
+
+/// Prints what is in each capture that is named, ports rising and then the underlay, and answers the first fault.
+fn look_at_captures<'a, R: Files + Input + AllocGlobal + Print>(
+    rt: &R,
+    underlay: Option<&'a str>,
+    ports: &[&'a str],
+) -> Result<(), Failure<'a>> {
+    let mut seen = Ok(());
+    for (index, name) in ports.iter().enumerate() {
+        let tap = Tap::Port(u8::try_from(index + 1).unwrap_or(u8::MAX));
+        let looked = look_at_capture(rt, tap, *name);
+        seen = seen.and(looked);
+    }
+    match underlay {
+        Some(name) => seen.and(look_at_capture(rt, Tap::Underlay, name)),
+        None => seen,
+    }
+}
+
+/// Prints what is in a capture.
+fn look_at_capture<'a, R: Files + Input + AllocGlobal + Print>(
+    rt: &R,
+    tap: Tap,
+    name: &'a str,
+) -> Result<(), Failure<'a>> {
+    let (kind, mut capture) = match open_seen(rt, name) {
+        Ok(seen) => seen,
+        Err(failure) => return Err(failure),
+    };
+    match survey_capture(&mut capture, tap) {
+        Ok(survey) => print_report(
+            rt,
+            Report {
+                tap,
+                is_pcapng: kind == FileKind::Pcapng,
+                survey,
+            },
+        ),
+        Err(fault) => {
+            let told = print_kind(rt, tap, kind, fault);
+            told.and(Err(failure_of(tap, name, &capture, fault)))
+        }
+    }
+}
+
+/// Prints a report.
+fn print_report<R: AllocGlobal + Print>(rt: &R, report: Report) -> Result<(), Failure<'static>> {
+    let text = format!(in rt.alloc(); "{report}")?;
+    print_text(rt, text.as_bytes())
+}
+
+/// Prints what a file is, where it is no capture that is read.
+fn print_kind<R: AllocGlobal + Print>(
+    rt: &R,
+    tap: Tap,
+    kind: FileKind,
+    fault: SurveyFault,
+) -> Result<(), Failure<'static>> {
+    if fault != SurveyFault::Header(CaptureFault::NotPcap) {
+        return Ok(());
+    }
+    let text = format!(in rt.alloc(); "{tap}: {kind}\n")?;
+    print_text(rt, text.as_bytes())
+}
+
+/// A fault of a capture as a run would tell it.
+fn failure_of<'a, F: Read + Drop, I: Read + Drop>(
+    tap: Tap,
+    name: &'a str,
+    capture: &SeenCapture<'_, F, I>,
+    fault: SurveyFault,
+) -> Failure<'a> {
+    match fault {
+        SurveyFault::Header(fault) => Failure::Run(RunFault::Capture(tap, fault)),
+        SurveyFault::Record(number, fault) => Failure::Run(RunFault::Record(tap, number, fault)),
+        SurveyFault::Read => match capture.input().fault() {
+            Some(fault) => Failure::Pcapng(tap, fault),
+            None => Failure::Read(name),
+        },
+    }
+}

@@ -1,0 +1,3 @@
+mod Cut
+mod Tables
+mod Texts

@@ -1,0 +1,29 @@
+-- What is allowed under each key, by the sentences that src/allowed.rt has.
+use Rattle.std.specs.Prelude.{ℕ, List, [], ◌∷◌, map, ◌&&◌, Option, Some, None, if◌then◌else◌}
+use Rattle.text_advice.specs.Line.{same}
+use Rattle.text_advice.specs.Known.{fits}
+use Rattle.std.specs.Borrow.{Bor}
+use Rattle.text_advice.specs.declared.allowed.TheConstants.{SENTENCES}
+
+-- what is allowed under the keys of a path, for a fault
+pub record Row : Type 0 where
+  pub path : List ℕ
+  pub fault : List ℕ
+  pub text : List ℕ
+
+-- what the code holds of one
+abbrev pub sentence_row_of : Bor (List ℕ) × Bor (List ℕ) × Bor (List ℕ) → Row
+sentence_row_of s = record { path = s.0.now; fault = s.1.now; text = s.2.now }
+
+-- the first sentence of the path that fits the fault
+abbrev pub sentence_in : List Row → List ℕ → List ℕ → Option (List ℕ)
+sentence_in [] path fault = None
+sentence_in (r ∷ rs) path fault = if same r.path path && fits r.fault fault then Some r.text else sentence_in rs path fault
+
+-- the same of one that stands in the code as a constant
+abbrev pub constant_row : record { now : List ℕ } × record { now : List ℕ } × record { now : List ℕ } → Row
+constant_row s = record { path = s.0.now; fault = s.1.now; text = s.2.now }
+
+-- what is allowed under the key of a path, for a fault
+unfoldable pub sentence_of : List ℕ → List ℕ → Option (List ℕ)
+sentence_of path fault = sentence_in (map constant_row SENTENCES) path fault

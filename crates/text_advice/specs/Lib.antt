@@ -1,0 +1,10 @@
+pub mod Split
+pub mod Line
+pub mod Search
+pub mod Path
+pub mod Place
+pub mod Known
+pub mod Allowed
+pub mod Near
+pub mod Told
+pub mod Advice

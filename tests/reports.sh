@@ -1,0 +1,126 @@
+#!/usr/bin/env bash
+# What `tep run` and `tep explain` tell besides: stories of events, tables at a moment and at the end, values of headers. What is
+# expected was worked out by hand from the captures of examples/ and `docs/FORMATS.md`.
+set -u
+cd "$(dirname "$0")/.." || exit 1
+folder=$(mktemp -d)
+trap 'rm -rf "$folder"' EXIT
+failures=0
+
+complain() {
+    echo "tests/reports.sh: $*"
+    failures=$((failures + 1))
+}
+
+# tells STATUS FAULT WORDS..: a run on the examples with these words ends so, says this line on standard error, or nothing where
+# it is empty, and prints what stands on standard input
+tells() {
+    local status=$1 fault=$2 got
+    shift 2
+    cat >"$folder/expected"
+    ./tep run -s examples/a.toml -c examples/changes.toml -u examples/underlay.pcap -o "$folder/out" "$@" \
+        examples/port1.pcap examples/port2.pcap examples/port3.pcap >"$folder/stdout" 2>"$folder/stderr"
+    got=$?
+    [ "$got" -eq "$status" ] || complain "tep run $*: status $got in place of $status"
+    printf '%s' "${fault:+$fault
+}" | cmp -s - "$folder/stderr" || complain "tep run $*: '$(cat "$folder/stderr")' in place of '$fault'"
+    cmp -s "$folder/expected" "$folder/stdout" || complain "tep run $* prints:
+$(cat "$folder/stdout")"
+}
+
+./tep >/dev/null || {
+    echo "tests/reports.sh: there is no program"
+    exit 1
+}
+mkdir "$folder/out" "$folder/plain"
+
+# Nothing is told unasked, and what is asked for changes no output.
+tells 0 "" </dev/null
+cp "$folder"/out/* "$folder/plain"
+
+# A frame that is flooded: event 8, the third record of port 1. Port 2 went down before it.
+cat >"$folder/eighth" <<'T'
+  length 60, at most 65535
+  captured 60 of 60
+  ether 02:00:00:00:00:01 > ff:ff:ff:ff:ff:ff
+  port p1 up
+  source individual
+  destination group
+  no tag
+  port p1 takes frames without a vid
+  segment 10 by the vid of the port
+  port p1 member, untagged
+  source learned at p1, before at p1 seen at 6000000000
+  destination a group, flooded
+  out p3 tagged
+  out vxlan:192.0.2.2 vni 5000 next hop 02:00:00:00:aa:fe, packet 96 of at most 1550
+8 8000000000 p1 3 10 p3=64 192.0.2.2=110
+T
+tells 0 "" --why 8 <"$folder/eighth"
+tells 0 "" --why p1:3 <"$folder/eighth"
+tells 0 "" --why 8 --why p1:3 --why u:9 <"$folder/eighth"
+
+# A packet that is dropped: it carries no IP.
+tells 0 "" --why u:2 <<'T'
+  length 60, at most 65549
+  captured 60 of 60
+  ether 02:00:00:00:aa:02 > ff:ff:ff:ff:ff:ff
+  neither ip4 nor ip6
+9 9000000000 u 2 - drop 12 NotIp
+T
+
+# An event that isn't there, and one that is a change.
+tells 1 "why: no event u:3" --why u:3 </dev/null
+tells 0 "" --why 7 </dev/null
+cmp "$folder/out/decisions.txt" "$folder/plain/decisions.txt" || complain "what is told changed the decisions"
+cmp "$folder/out/underlay.pcap" "$folder/plain/underlay.pcap" || complain "what is told changed a capture"
+
+# The tables behind event 4, at 4 s, and behind the last one, at 9 s: what was learned at port 2 went when it went down.
+tells 0 "" --tables-at 4999999999 <<'T'
+segment 10 02:00:00:00:00:01 p1 seen 1000000000 age 3.000000000
+segment 10 02:00:00:00:00:02 p2 seen 3000000000 age 1.000000000
+segment 20 02:00:00:00:00:01 p3 seen 2000000000 age 2.000000000
+segment 20 02:00:00:00:00:02 p2 seen 4000000000 age 0.000000000
+T
+cat >"$folder/last" <<'T'
+segment 10 02:00:00:00:00:01 p1 seen 8000000000 age 1.000000000
+segment 10 02:00:00:00:00:05 192.0.2.2 seen 5000000000 age 4.000000000
+segment 20 02:00:00:00:00:01 p3 seen 2000000000 age 7.000000000
+T
+tells 0 "" --tables <"$folder/last"
+tells 0 "" --tables-at 18446744073709551615 <"$folder/last"
+tells 0 "" --tables-at 0 </dev/null
+tells 0 "" --tables --why 8 < <(cat "$folder/eighth" "$folder/last")
+
+# A run that stops at a fault tells what it saw: the second record of port 1 has a second in its fraction.
+{
+    head -c 100 examples/port1.pcap
+    printf '\006\0\0\0\100\102\017\0'
+    tail -c +109 examples/port1.pcap
+} >"$folder/fault.pcap"
+./tep run -s examples/smallest.toml -u examples/underlay.pcap -o "$folder/out" --tables-at 0 --why 1 "$folder/fault.pcap" \
+    >"$folder/stdout" 2>"$folder/stderr"
+[ $? -eq 1 ] || complain "a run that stops: another status"
+[ "$(cat "$folder/stderr")" = "p1: BadFraction 2" ] || complain "a run that stops: $(cat "$folder/stderr")"
+[ "$(tail -n 1 "$folder/stdout")" = "1 1000000000 p1 1 10 192.0.2.2=110" ] || complain "a run that stops tells: $(cat "$folder/stdout")"
+
+# The values of each header; without the option none.
+./tep explain -s examples/a.toml --values examples/underlay.pcap >"$folder/stdout" || complain "tep explain --values fails"
+cmp - "$folder/stdout" <<'T' || complain "tep explain --values prints: $(cat "$folder/stdout")"
+1 5000000000 u 1 10 p1=60 p2=60 p3=64
+  ether 0 12 02:00:00:00:aa:02 > 02:00:00:00:aa:01
+  type 12 2 0x0800
+  ip4 14 20 192.0.2.2 > 192.0.2.1 ttl 64 length 96 protocol 17
+  udp 34 8 50000 > 4789 length 76 checksum 0x0000
+  vxlan 42 8 vni 5000
+  ether 50 12 02:00:00:00:00:05 > ff:ff:ff:ff:ff:ff
+  type 62 2 0x0806
+  payload 64 46
+  stop 12 NotIp
+2 9000000000 u 2 - drop 12 NotIp
+  ether 0 12 02:00:00:00:aa:02 > ff:ff:ff:ff:ff:ff
+  type 12 2 0x0806
+  payload 14 46
+  stop 12 NotIp
+T
+[ "$failures" -eq 0 ]

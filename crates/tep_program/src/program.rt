@@ -20,6 +20,7 @@ use std::env;
 use std::io::{ErrorKind, Input};
 use std::process::ExitCode;
 use std::rt::{Env, Files};
+use stream_run::Unwatched;
 
 /// The exit status where the words are refused.
 const WORDS_REFUSED: u8 = 2;
@@ -148,6 +149,10 @@ fn run_and_tell<'a, R: Files + Input + AllocGlobal + Print>(
     tables_at: Option<u64>,
     tables: bool,
 ) -> Result<(), Failure<'a>> {
+    // Who asks for nothing pays nothing for it.
+    if why.is_empty() && tables_at.is_none() && !tables {
+        return run_on_files(rt, names, folder, &mut Unwatched);
+    }
     let mut reports = Reports::new(rt.alloc(), why, tables_at, tables);
     // What was told stands, wherever the run stopped.
     let run = run_on_files(rt, names, folder, &mut reports);

@@ -21,6 +21,11 @@ a frame of Zstandard | 28B52FFD2405 | it is compressed with zstd: editcap -F nse
 its magic number, high octet first | FD2FB528 | its first octets are of no format that is known here: editcap -F nsecpcap IN OUT converts what Wireshark reads
 snoop, version 2, Ethernet | 736E6F6F700000000000000200000004 | it is a snoop capture: editcap -F nsecpcap IN OUT converts it
 snoop, without its last zero octet | 736E6F6F700000 | its first octets are of no format that is known here: editcap -F nsecpcap IN OUT converts what Wireshark reads
+ERF of an Ethernet frame of 60 octets, padded | 0E5C7A4C2B1A4D5F0204005000000040FFFF | it begins as an ERF capture: editcap -F nsecpcap IN OUT converts it
+ERF with a color and an extension header | 0E5C7A4C2B1A4D5F8B04005800000040 | it begins as an ERF capture: editcap -F nsecpcap IN OUT converts it
+ERF of a cell of ATM | 0E5C7A4C2B1A4D5F0304004800000034 | its first octets are of no format that is known here: editcap -F nsecpcap IN OUT converts what Wireshark reads
+a record of ERF without its frame's length | 0E5C7A4C2B1A4D5F02040050000000 | its first octets are of no format that is known here: editcap -F nsecpcap IN OUT converts what Wireshark reads
+a record longer than its frame allows | 0E5C7A4C2B1A4D5F0204009200000040 | its first octets are of no format that is known here: editcap -F nsecpcap IN OUT converts what Wireshark reads
 tabs and ends of lines | 76657273696F6E203D20310D0A09 | it is a text
 space and tilde | 207E | it is a text
 delete | 20207F | its first octets are of no format that is known here: editcap -F nsecpcap IN OUT converts what Wireshark reads

@@ -1,13 +1,13 @@
 //! What a file is.
 ghost use Rattle.std.specs.Prelude.{◌≡◌, Some};
-ghost use Rattle.file_kind.specs.Kind.{is_pcap, is_printable, is_text, kind_of, kind_words};
+ghost use Rattle.file_kind.specs.Kind.{are_erf_lengths, is_erf, is_erf_type, is_pcap, is_printable, is_text, kind_of, kind_words};
 
 use std::fmt;
 
 /// What a file is, by its first octets. It prints as a sentence without its full stop, which has the command that makes
 /// a capture of it, where there is one.
 ///
-/// ERF has no mark that its files begin with, and so can't be told.
+/// ERF has no mark that its files begin with, so it is told by the fields of its first record.
 #[derive(Clone, Copy, Debug, PartialEq, Eq)]
 pub enum FileKind {
     /// It has no octets.
@@ -22,6 +22,8 @@ pub enum FileKind {
     Zstd,
     /// A snoop capture (RFC 1761).
     Snoop,
+    /// Endace's ERF: it begins as the record of an Ethernet frame does, of 16 octets or more.
+    Erf,
     /// A text: all of its first octets are printable ASCII, tabs or ends of lines.
     Text,
     /// None of these.
@@ -51,6 +53,9 @@ impl FileKind {
         if head.starts_with(b"snoop\0\0\0") {
             return FileKind::Snoop;
         }
+        if is_erf(head) {
+            return FileKind::Erf;
+        }
         if is_text(head) {
             return FileKind::Text;
         }
@@ -66,6 +71,35 @@ fn is_pcap(octets: &[u8]) -> bool
         || octets.starts_with(b"\xD4\xC3\xB2\xA1")
         || octets.starts_with(b"\xA1\xB2\x3C\x4D")
         || octets.starts_with(b"\x4D\x3C\xB2\xA1")
+}
+
+/// Whether octets begin as the record of an Ethernet frame does in ERF: 8 octets of time stamp, type, flags, the record's
+/// length (2), 2 octets of losses or color, the frame's length (2), numbers with the high octet first.
+fn is_erf(octets: &[u8]) -> bool
+    ensures { result ≡ is_erf octets.now }
+{
+    octets.len() >= 16
+        && is_erf_type(octets[8] % 128)
+        && are_erf_lengths(
+            u16::from_be_bytes([octets[10], octets[11]]),
+            u16::from_be_bytes([octets[14], octets[15]]),
+        )
+}
+
+/// Whether a record of this type, without the bit of extension headers, holds an Ethernet frame: plain, colored, with a
+/// steering color, with a hash.
+fn is_erf_type(number: u8) -> bool
+    ensures { result ≡ is_erf_type number }
+{
+    number == 2 || number == 11 || number == 16 || number == 20
+}
+
+/// Whether a record can be so long that holds a frame of this length: it has a head of 16 octets and 2 of padding, and at
+/// most the whole frame, 7 octets of alignment and seven extension headers of 8 octets more.
+fn are_erf_lengths(whole: u16, frame: u16) -> bool
+    ensures { result ≡ are_erf_lengths whole frame }
+{
+    whole >= 18 && frame >= 1 && u32::from(whole) <= u32::from(frame) + 81
 }
 
 /// Whether all octets are those of a text.
@@ -111,6 +145,12 @@ impl fmt::Display for FileKind {
                 write!(
                     f,
                     "it is a snoop capture: editcap -F nsecpcap IN OUT converts it"
+                )
+            }
+            FileKind::Erf => {
+                write!(
+                    f,
+                    "it begins as an ERF capture: editcap -F nsecpcap IN OUT converts it"
                 )
             }
             FileKind::Text => write!(f, "it is a text"),

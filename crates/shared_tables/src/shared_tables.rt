@@ -196,8 +196,8 @@ impl SharedTables {
         }
     }
 
-    /// The ageing of a segment, in nanoseconds.
-    pub(crate) fn ageing(&self, vid: Vid) -> u64
+    /// The ageing of a segment, in nanoseconds; 0 where there is no segment of this VID.
+    pub fn ageing(&self, vid: Vid) -> u64
         ensures { result ≡ span_of (rule_at self.now.rules vid) }
     {
         match share::share_at(&self.shares, vid) {

@@ -96,6 +96,16 @@ impl PortSet {
         self.rule(port).up
     }
 
+    /// The PVID of a port: the VID of its untagged and priority-tagged frames (IEEE 802.1Q 6.9). The port is 1 to
+    /// [`PortSet::ports`].
+    pub fn pvid(&self, port: u8) -> Vid
+        requires low { 1 ≤ port }
+        requires high { port ≤ length self.now.ports }
+        ensures { result ≡ (port_at self.now port).pvid }
+    {
+        self.rule(port).pvid
+    }
+
     /// Whether there is a segment of this VID.
     pub fn has(&self, vid: Vid) -> bool
         ensures { result ≡ has_segment self.now vid }

@@ -1,0 +1,4 @@
+pub mod Splits
+pub mod Fronts
+pub mod Outcomes
+pub mod Lines

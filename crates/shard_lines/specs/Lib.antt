@@ -1,0 +1,4 @@
+pub mod Words
+pub mod Sent
+pub mod Facts
+pub mod ReadBack

@@ -1,0 +1,3 @@
+pub mod Captures
+pub mod Lines
+pub mod Reading

@@ -1,0 +1,243 @@
+-- A text that is read line by line is a record's only if each line is its.
+use Rattle.std.proofs.Common.{◌≡◌, ◌≢◌, ◌∙◌, sym, refl, ap, ℕ, ◌+◌, ◌^◌, ◌<◌, ◌≤◌, List, [], ◌∷◌, ◌++◌, length, get_or, codes, All, Option, None, Some, IfSome, ◌==◌, true, false, inl, inr, arith, lit<, append_assoc, append-nil}
+use Rattle.std.specs.Prelude.{IfNone}
+use Rattle.std.proofs.lemmas.Bool.{eqb-true}
+use Rattle.std.proofs.lemmas.List.{append_cancel_left}
+use Rattle.timeline.specs.declared.source.Tap.TheVariants as taps
+use Rattle.shard_record.specs.declared.fault.ShardFault.{ShardFault}
+use Rattle.shard_record.specs.Fault.{IsFaultIn, IsNoCapture, LacksNext}
+use Rattle.shard_record.specs.Record.{Facts, IsOneLine, IsRecord, before_events, before_underlay, capture_line, capture_word, changes_line, events_line, first_line, port_lines, segments_line, settings_line, sum_line, text_of}
+use Rattle.shard_record.specs.Sum.{IsSum}
+use Rattle.shard_record.proofs.Captures.{LacksPort, port_line_parts, same_ports}
+use Rattle.shard_record.proofs.Lines.{same_events, same_lines, same_sum_lines}
+
+-- ---- what stands behind each line of a record's text
+
+abbrev pub behind_captures : Facts → List ℕ
+behind_captures f = events_line f.events
+
+abbrev pub behind_ports : Facts → List ℕ
+behind_ports f = capture_line taps.Underlay f.underlay ++ behind_captures f
+
+abbrev pub behind_changes : Facts → List ℕ
+behind_changes f = port_lines 1 f.ports ++ behind_ports f
+
+abbrev pub behind_settings : Facts → List ℕ
+behind_settings f = changes_line f.changes ++ behind_changes f
+
+abbrev pub behind_segments : Facts → List ℕ
+behind_segments f = settings_line f.settings ++ behind_settings f
+
+abbrev pub behind_first : Facts → List ℕ
+behind_first f = segments_line f.segments ++ behind_segments f
+
+parts : (a b c d e f g : List ℕ) → a ++ b ++ c ++ d ++ e ++ f ++ g ≡ a ++ (b ++ (c ++ (d ++ (e ++ (f ++ g)))))
+parts a b c d e f g = simp append_assoc
+
+pub text_parts : (f : Facts) → text_of f ≡ first_line ++ behind_first f
+text_parts f =
+    parts first_line (segments_line f.segments) (settings_line f.settings) (changes_line f.changes) (port_lines 1 f.ports) (capture_line taps.Underlay f.underlay) (events_line f.events)
+
+-- ---- line by line
+
+pub first_is : (text rest : List ℕ) (f : Facts) → text ≡ first_line ++ rest → text ≡ text_of f → rest ≡ behind_first f
+first_is text rest f e h = append_cancel_left first_line _ _ (sym e ∙ h ∙ text_parts f)
+
+pub segments_are : (f : Facts) → IsRecord f → (old segments new : List ℕ) → IsOneLine segments → old ≡ segments_line segments ++ new → old ≡ behind_first f
+    → (segments ≡ f.segments) × (new ≡ behind_segments f)
+segments_are f is old segments new one e h = same_lines (codes "segments ") segments f.segments new (behind_segments f) one is.segments (sym e ∙ h)
+
+pub settings_are : (f : Facts) → IsRecord f → (old sum new : List ℕ) → IsSum sum → old ≡ settings_line sum ++ new → old ≡ behind_segments f
+    → (sum ≡ f.settings) × (new ≡ behind_settings f)
+settings_are f is old sum new of e h = same_sum_lines (codes "settings ") sum f.settings new (behind_settings f) of is.settings (sym e ∙ h)
+
+pub underlay_is : (f : Facts) → IsRecord f → (old sum new : List ℕ) → IsSum sum → old ≡ capture_line taps.Underlay sum ++ new → old ≡ behind_ports f
+    → (sum ≡ f.underlay) × (new ≡ behind_captures f)
+underlay_is f is old sum new of e h = same_sum_lines (capture_word taps.Underlay) sum f.underlay new (behind_captures f) of is.underlay (sym e ∙ h)
+
+pub events_are : (f : Facts) → IsRecord f → (old : List ℕ) (events : ℕ) (new : List ℕ) → events < 2 ^ 64 → old ≡ events_line events ++ new → old ≡ behind_captures f
+    → (events ≡ f.events) × (new ≡ [])
+events_are f is old events new small e h = same_events events f.events new [] small is.events (sym e ∙ h ∙ sym (append-nil (events_line f.events)))
+
+-- ---- captures
+
+-- the eighth octet of `capture u ` and the ninth of `capture p`
+lacks_port : (sum rest : List ℕ) → LacksPort (capture_line taps.Underlay sum ++ rest)
+lacks_port sum rest = λ q e. let wrong : 117 ≡ 112 = ap (λ (l : List ℕ). get_or l 8 0) e in omega (arith, wrong)
+
+pub ports_are : (f : Facts) → IsRecord f → (old : List ℕ) (sums : List (List ℕ)) (new : List ℕ) → All IsSum sums → length sums ≤ 16
+    → ((sum rest : List ℕ) → IsSum sum → length sums < 16 → new ≢ capture_line (taps.Port (length sums + 1)) sum ++ rest)
+    → old ≡ port_lines 1 sums ++ new → old ≡ behind_changes f → (sums ≡ f.ports) × (new ≡ behind_ports f)
+ports_are f is old sums new of few none e h =
+    let at : 1 + length sums ≡ length sums + 1 = omega arith in
+    let most = is.few in
+    same_ports 1 sums f.ports new (behind_ports f) of is.ports (lacks_port f.underlay (behind_captures f))
+    (λ sum rest one less g. none sum rest one (omega arith) (g ∙ ap (λ (n : ℕ). capture_line (taps.Port n) sum ++ rest) at)) (sym e ∙ h)
+
+-- ---- changes
+
+-- the second octet of `capture` and of `changes`
+no_changes : (sums : List (List ℕ)) (sum rest other behind : List ℕ) → port_lines 1 sums ++ (capture_line taps.Underlay sum ++ rest) ≢ sum_line (codes "changes ") other ++ behind
+no_changes [] sum rest other behind e = let wrong : 97 ≡ 104 = ap (λ (l : List ℕ). get_or l 1 0) e in omega (arith, wrong)
+no_changes (x ∷ sums) sum rest other behind e = let wrong : 97 ≡ 104 = ap (λ (l : List ℕ). get_or l 1 0) e in omega (arith, wrong)
+
+changes_as : (f : Facts) (old new : List ℕ) (a b : Option (List ℕ)) → IfSome a IsSum → IfSome b IsSum
+    → IfNone a ((sum rest : List ℕ) → IsSum sum → old ≢ sum_line (codes "changes ") sum ++ rest)
+    → old ≡ changes_line a ++ new → old ≡ changes_line b ++ behind_changes f → (a ≡ b) × (new ≡ behind_changes f)
+changes_as f old new None None p q none e h = (refl, sym e ∙ h)
+changes_as f old new None (Some y) p q none e h = absurd (none y (behind_changes f) q h)
+changes_as f old new (Some x) None p q none e h = absurd (no_changes f.ports f.underlay (behind_captures f) x new (sym h ∙ e))
+changes_as f old new (Some x) (Some y) p q none e h =
+    let both = same_sum_lines (codes "changes ") x y new (behind_changes f) p q (sym e ∙ h) in
+    (ap Some both.0, both.1)
+
+pub changes_are : (f : Facts) → IsRecord f → (old : List ℕ) (changes : Option (List ℕ)) (new : List ℕ) → IfSome changes IsSum
+    → IfNone changes ((sum rest : List ℕ) → IsSum sum → old ≢ sum_line (codes "changes ") sum ++ rest)
+    → old ≡ changes_line changes ++ new → old ≡ behind_settings f → (changes ≡ f.changes) × (new ≡ behind_changes f)
+changes_are f is old changes new of none e h = changes_as f old new changes f.changes of is.changes none e h
+
+-- ---- a whole text
+
+abbrev pub facts : List ℕ → List ℕ → Option (List ℕ) → List (List ℕ) → List ℕ → ℕ → Facts
+facts segments settings changes ports underlay events =
+    record { segments = segments; settings = settings; changes = changes; ports = ports; underlay = underlay; events = events }
+
+same_facts : (f g : Facts) → f.segments ≡ g.segments → f.settings ≡ g.settings → f.changes ≡ g.changes → f.ports ≡ g.ports → f.underlay ≡ g.underlay → f.events ≡ g.events → f ≡ g
+same_facts f g a b c d u n =
+    ap (λ (x : List ℕ). facts x f.settings f.changes f.ports f.underlay f.events) a
+    ∙ ap (λ (x : List ℕ). facts g.segments x f.changes f.ports f.underlay f.events) b
+    ∙ ap (λ (x : Option (List ℕ)). facts g.segments g.settings x f.ports f.underlay f.events) c
+    ∙ ap (λ (x : List (List ℕ)). facts g.segments g.settings g.changes x f.underlay f.events) d
+    ∙ ap (λ (x : List ℕ). facts g.segments g.settings g.changes g.ports x f.events) u
+    ∙ ap (λ (x : ℕ). facts g.segments g.settings g.changes g.ports g.underlay x) n
+
+changes_given : (f : Facts) (old : List ℕ) → old ≡ behind_settings f → IfNone f.changes ((sum rest : List ℕ) → IsSum sum → old ≢ sum_line (codes "changes ") sum ++ rest)
+changes_given f old e = given f.changes e
+  where
+    given : (changes : Option (List ℕ)) → old ≡ changes_line changes ++ behind_changes f → IfNone changes ((sum rest : List ℕ) → IsSum sum → old ≢ sum_line (codes "changes ") sum ++ rest)
+    given None e = λ sum rest is h. no_changes f.ports f.underlay (behind_captures f) sum rest (sym e ∙ h)
+    given (Some x) e = tt
+
+pub has_one_text : (f g : Facts) → IsRecord f → IsRecord g → text_of f ≡ text_of g → f ≡ g
+has_one_text f g is are e =
+    let a = segments_are g are (behind_first f) f.segments (behind_segments f) is.segments refl (first_is (text_of f) (behind_first f) g (text_parts f) e) in
+    let b = settings_are g are (behind_segments f) f.settings (behind_settings f) is.settings refl a.1 in
+    let c = changes_are g are (behind_settings f) f.changes (behind_changes f) is.changes (changes_given f (behind_settings f) refl) refl b.1 in
+    let d = ports_are g are (behind_changes f) f.ports (behind_ports f) is.ports is.few
+    (λ sum rest one less h. lacks_port f.underlay (behind_captures f) _ (h ∙ port_line_parts (length f.ports + 1) sum rest)) refl c.1 in
+    let u = underlay_is g are (behind_ports f) f.underlay (behind_captures f) is.underlay refl d.1 in
+    let n = events_are g are (behind_captures f) f.events [] is.events (sym (append-nil (events_line f.events))) u.1 in
+    same_facts f g a.0 b.0 c.0 d.0 u.0 n.0
+
+pub segments_front : (text listed segments set : List ℕ) → text ≡ first_line ++ listed → listed ≡ segments_line segments ++ set → text ≡ first_line ++ segments_line segments ++ set
+segments_front text listed segments set e h = e ∙ ap (λ (l : List ℕ). first_line ++ l) h ∙ sym (append_assoc first_line (segments_line segments) set)
+
+-- ---- a text that was read up to the underlay's capture
+
+-- each line of the facts was read, and what was left behind it
+pub record IsReadTo (text segments settings : List ℕ) (changes : Option (List ℕ)) (ports : List (List ℕ)) (under : List ℕ) : Type 0 where
+  pub listed : List ℕ
+  pub set : List ℕ
+  pub changed : List ℕ
+  pub captured : List ℕ
+  pub first : text ≡ first_line ++ listed
+  pub one_line : IsOneLine segments
+  pub segments_read : listed ≡ segments_line segments ++ set
+  pub settings_sum : IsSum settings
+  pub settings_read : set ≡ settings_line settings ++ changed
+  pub changes_sum : IfSome changes IsSum
+  pub changes_none : IfNone changes ((sum rest : List ℕ) → IsSum sum → changed ≢ sum_line (codes "changes ") sum ++ rest)
+  pub changes_read : changed ≡ changes_line changes ++ captured
+  pub port_sums : All IsSum ports
+  pub few : length ports ≤ 16
+  pub no_more : (sum rest : List ℕ) → IsSum sum → length ports < 16 → under ≢ capture_line (taps.Port (length ports + 1)) sum ++ rest
+  pub ports_read : captured ≡ port_lines 1 ports ++ under
+
+pub under_is : (text segments settings : List ℕ) (changes : Option (List ℕ)) (ports : List (List ℕ)) (under : List ℕ) → IsReadTo text segments settings changes ports under
+    → (f : Facts) → IsRecord f → text ≡ text_of f → under ≡ behind_ports f
+under_is text segments settings changes ports under read f is e =
+    let a = segments_are f is read.listed segments read.set read.one_line read.segments_read (first_is text read.listed f read.first e) in
+    let b = settings_are f is read.set settings read.changed read.settings_sum read.settings_read a.1 in
+    let c = changes_are f is read.changed changes read.captured read.changes_sum read.changes_none read.changes_read b.1 in
+    (ports_are f is read.captured ports under read.port_sums read.few read.no_more read.ports_read c.1).1
+
+front_parts : (a b c d e f : List ℕ) → a ++ (b ++ (c ++ (d ++ (e ++ f)))) ≡ a ++ b ++ c ++ d ++ e ++ f
+front_parts a b c d e f = sym (simp append_assoc)
+
+pub front_is : (text segments settings : List ℕ) (changes : Option (List ℕ)) (ports : List (List ℕ)) (under underlay : List ℕ) (events : ℕ)
+    → IsReadTo text segments settings changes ports under → text ≡ before_underlay (facts segments settings changes ports underlay events) ++ under
+front_is text segments settings changes ports under underlay events read =
+    read.first
+    ∙ ap (λ (l : List ℕ). first_line ++ l)
+    (read.segments_read ∙ ap (λ (l : List ℕ). segments_line segments ++ l)
+    (read.settings_read ∙ ap (λ (l : List ℕ). settings_line settings ++ l) (read.changes_read ∙ ap (λ (l : List ℕ). changes_line changes ++ l) read.ports_read)))
+    ∙ front_parts first_line (segments_line segments) (settings_line settings) (changes_line changes) (port_lines 1 ports) under
+
+pub made_record : (text segments settings : List ℕ) (changes : Option (List ℕ)) (ports : List (List ℕ)) (under underlay : List ℕ) (events : ℕ)
+    → IsReadTo text segments settings changes ports under → IsSum underlay → events < 2 ^ 64 → IsRecord (facts segments settings changes ports underlay events)
+made_record text segments settings changes ports under underlay events read of small = record {
+  segments = read.one_line;
+  settings = read.settings_sum;
+  changes = read.changes_sum;
+  ports = read.port_sums;
+  few = read.few;
+  underlay = of;
+  events = small;
+}
+
+lacks_changes : (changes : Option (List ℕ)) (ports : List (List ℕ)) (changed captured under : List ℕ)
+    → IfNone changes ((sum rest : List ℕ) → IsSum sum → changed ≢ sum_line (codes "changes ") sum ++ rest)
+    → changed ≡ changes_line changes ++ captured → captured ≡ port_lines 1 ports ++ under
+    → changes ≡ None → ports ≡ [] → (sum rest : List ℕ) → IsSum sum → under ≢ sum_line (codes "changes ") sum ++ rest
+lacks_changes None [] changed captured under none e h same empty sum rest is g = none sum rest is (e ∙ h ∙ g)
+lacks_changes None (x ∷ ports) changed captured under none e h same empty sum rest is g = cc empty
+lacks_changes (Some x) ports changed captured under none e h same empty sum rest is g = cc same
+
+-- where the underlay's capture isn't there
+pub capture_fault : (text segments settings : List ℕ) (changes : Option (List ℕ)) (ports : List (List ℕ)) (under : List ℕ) (fault : ShardFault)
+    → IsReadTo text segments settings changes ports under → IsNoCapture under fault
+    → ((sum rest : List ℕ) → IsSum sum → under ≢ capture_line taps.Underlay sum ++ rest) → IsFaultIn text fault
+capture_fault text segments settings changes ports under fault read told none =
+    let f = facts segments settings changes ports settings 0 in
+    let is = made_record text segments settings changes ports under settings 0 read read.settings_sum (lit< tt) in
+    let front = front_is text segments settings changes ports under settings 0 read in
+    let lacks : LacksNext f under = record {
+      changes = lacks_changes changes ports read.changed read.captured under read.changes_none read.changes_read read.ports_read;
+      port = read.no_more;
+      underlay = none;
+    } in
+    elim told [
+      | inl out ↦ rw out.2 (f, under, out.0, is, front, lacks, out.1)
+      | inr out ↦ rw out.1 (f, under, is, front, lacks, out.0)
+    ]
+
+-- and its line
+pub events_front : (text segments settings : List ℕ) (changes : Option (List ℕ)) (ports : List (List ℕ)) (under underlay : List ℕ) (events : ℕ) (counted : List ℕ)
+    → IsReadTo text segments settings changes ports under → under ≡ capture_line taps.Underlay underlay ++ counted
+    → text ≡ before_events (facts segments settings changes ports underlay events) ++ counted
+events_front text segments settings changes ports under underlay events counted read e =
+    front_is text segments settings changes ports under underlay events read
+    ∙ ap (λ (l : List ℕ). before_underlay (facts segments settings changes ports underlay events) ++ l) e
+    ∙ sym (append_assoc (before_underlay (facts segments settings changes ports underlay events)) (capture_line taps.Underlay underlay) counted)
+
+pub counted_is : (text segments settings : List ℕ) (changes : Option (List ℕ)) (ports : List (List ℕ)) (under underlay counted : List ℕ) → IsReadTo text segments settings changes ports under
+    → IsSum underlay → under ≡ capture_line taps.Underlay underlay ++ counted → (f : Facts) → IsRecord f → text ≡ text_of f → counted ≡ behind_captures f
+counted_is text segments settings changes ports under underlay counted read of h f is e =
+    (underlay_is f is under underlay counted of h (under_is text segments settings changes ports under read f is e)).1
+
+-- and the last one
+pub whole_front : (text segments settings : List ℕ) (changes : Option (List ℕ)) (ports : List (List ℕ)) (under underlay : List ℕ) (events : ℕ) (counted rest : List ℕ)
+    → IsReadTo text segments settings changes ports under → under ≡ capture_line taps.Underlay underlay ++ counted → counted ≡ events_line events ++ rest
+    → text ≡ text_of (facts segments settings changes ports underlay events) ++ rest
+whole_front text segments settings changes ports under underlay events counted rest read e h =
+    events_front text segments settings changes ports under underlay events counted read e
+    ∙ ap (λ (l : List ℕ). before_events (facts segments settings changes ports underlay events) ++ l) h
+    ∙ sym (append_assoc (before_events (facts segments settings changes ports underlay events)) (events_line events) rest)
+
+pub nonempty : (rest : List ℕ) → (length rest == 0) ≡ false → rest ≢ []
+nonempty [] h = cc h
+nonempty (x ∷ rest) h = λ e. cc e
+
+pub empty : (rest : List ℕ) → (length rest == 0) ≡ true → rest ≡ []
+empty [] h = refl
+empty (x ∷ rest) h = let wrong = eqb-true (length (x ∷ rest)) 0 h in absurd (omega (arith, wrong))

@@ -1,0 +1,79 @@
+//! The text of a record.
+ghost use Rattle.std.specs.Prelude.{◌≡◌, ◌≤◌, ◌++◌, length, IfOk, OnOk};
+ghost use Rattle.std.specs.Option.{option_copied};
+ghost use Rattle.shard_record.specs.Record.{capture_line, changes_line, facts_of, line, port_lines, sum_line, text_of};
+ghost use Rattle.timeline.specs.declared.source.Tap.TheVariants.{Port};
+
+use crate::facts::ShardRecord;
+use crate::steps::digits_of;
+use itoa::Buffer;
+use std::alloc::{AllocError, Global};
+
+/// The text of a record, one fact a line. `Err`: a growth was refused.
+pub fn text_of(alloc: Global, shard: &ShardRecord<'_>) -> Result<Vec<u8>, AllocError>
+    ensures { IfOk result (λ text. text.items ≡ text_of (facts_of shard.now)) }
+{
+    let mut text = Vec::from_slice(alloc, b"tep shard 1\n")?;
+    put_line(&mut text, b"segments ", shard.segments.as_bytes())?;
+    put_sum(&mut text, b"settings ", &shard.settings)?;
+    put_changes(&mut text, shard.changes.as_ref())?;
+    put_ports(&mut text, shard.ports.as_slice())?;
+    put_sum(&mut text, b"capture u ", &shard.underlay)?;
+    put_line(
+        &mut text,
+        b"events ",
+        Buffer::new().format(shard.events).as_bytes(),
+    )?;
+    Ok(text)
+}
+
+/// Puts the line of a word and of what it tells behind a text.
+fn put_line(text: &mut Vec<u8>, word: &[u8], told: &[u8]) -> Result<(), AllocError>
+    ensures { OnOk result (text.new.items ≡ text.old.items ++ line word.now told.now) }
+{
+    text.extend_from_slice(word)?;
+    text.extend_from_slice(told)?;
+    text.push(b'\n')?;
+    Ok(())
+}
+
+/// Puts the line of a digest behind a text.
+fn put_sum(text: &mut Vec<u8>, word: &[u8], sum: &[u8; 32]) -> Result<(), AllocError>
+    ensures { OnOk result (text.new.items ≡ text.old.items ++ sum_line word.now sum.now) }
+{
+    let digits = digits_of(sum);
+    put_line(text, word, digits.as_slice())
+}
+
+/// Puts the line of the changes behind a text, where there are any.
+fn put_changes(text: &mut Vec<u8>, sum: Option<&[u8; 32]>) -> Result<(), AllocError>
+    ensures { OnOk result (text.new.items ≡ text.old.items ++ changes_line (option_copied sum.entry)) }
+{
+    match sum {
+        Some(sum) => put_sum(text, b"changes ", sum),
+        None => Ok(()),
+    }
+}
+
+/// Puts the line of a port's capture behind a text.
+fn put_port(text: &mut Vec<u8>, port: u8, sum: &[u8; 32]) -> Result<(), AllocError>
+    ensures { OnOk result (text.new.items ≡ text.old.items ++ capture_line (Port port) sum.now) }
+{
+    let mut word = Vec::from_slice(*text.allocator(), b"capture p")?;
+    word.extend_from_slice(Buffer::new().format(port).as_bytes())?;
+    word.push(b' ')?;
+    put_sum(text, word.as_slice(), sum)
+}
+
+/// Puts the lines of the ports' captures behind a text.
+fn put_ports(text: &mut Vec<u8>, sums: &[[u8; 32]]) -> Result<(), AllocError>
+    requires { length sums.now ≤ 16 }
+    ensures { OnOk result (text.new.items ≡ text.old.items ++ port_lines 1 sums.now) }
+{
+    let mut port = 1u8;
+    for sum in sums {
+        put_port(text, port, sum)?;
+        port += 1;
+    }
+    Ok(())
+}

@@ -52,13 +52,15 @@ cat >"$folder/eighth" <<'T'
   port p1 member, untagged
   source learned at p1, before at p1 seen at 6000000000
   destination a group, flooded
+  p1 is where it came from
+  port p2 down
   out p3 tagged
   out vxlan:192.0.2.2 vni 5000 next hop 02:00:00:00:aa:fe, packet 96 of at most 1550
 8 8000000000 p1 3 10 p3=64 192.0.2.2=110
 T
 tells 0 "" --why 8 <"$folder/eighth"
 tells 0 "" --why p1:3 <"$folder/eighth"
-tells 0 "" --why 8 --why p1:3 --why u:9 <"$folder/eighth"
+tells 0 "" --why 8 --why p1:3 <"$folder/eighth"
 
 # A packet that is dropped: it carries no IP.
 tells 0 "" --why u:2 <<'T'
@@ -69,9 +71,20 @@ tells 0 "" --why u:2 <<'T'
 9 9000000000 u 2 - drop 12 NotIp
 T
 
-# An event that isn't there, and one that is a change.
+# Events that aren't there, each told in the order of the words.
 tells 1 "why: no event u:3" --why u:3 </dev/null
-tells 0 "" --why 7 </dev/null
+tells 1 "why: no event u:9
+why: no event 10" --why u:9 --why 8 --why p1:3 --why 10 <"$folder/eighth"
+
+# A change: port 2 goes down.
+cat >"$folder/seventh" <<'T'
+  port_down port 2
+  port p2 of 3
+  port p2 up
+7 7000000000 c 1 - done
+T
+tells 0 "" --why 7 <"$folder/seventh"
+tells 0 "" --why c:1 <"$folder/seventh"
 cmp "$folder/out/decisions.txt" "$folder/plain/decisions.txt" || complain "what is told changed the decisions"
 cmp "$folder/out/underlay.pcap" "$folder/plain/underlay.pcap" || complain "what is told changed a capture"
 
@@ -91,6 +104,44 @@ tells 0 "" --tables <"$folder/last"
 tells 0 "" --tables-at 18446744073709551615 <"$folder/last"
 tells 0 "" --tables-at 0 </dev/null
 tells 0 "" --tables --why 8 < <(cat "$folder/eighth" "$folder/last")
+
+# What was counted: the outlets and drops of the decision lines, and the records of the captures.
+cat >"$folder/counts" <<'T'
+segment 10 sent 10
+segment 20 sent 3
+segment none dropped 12 NotIp 1
+place p1 in 3 180
+place p1 out 2 120
+place p2 in 2 124
+place p2 out 3 184
+place p3 in 1 64
+place p3 out 4 256
+place u in 2 170
+place u out 4 440
+T
+tells 0 "" --summary <"$folder/counts"
+tells 0 "" --summary --tables --why 8 < <(cat "$folder/eighth" "$folder/last" "$folder/counts")
+cmp "$folder/out/decisions.txt" "$folder/plain/decisions.txt" || complain "counting changed the decisions"
+cmp "$folder/out/underlay.pcap" "$folder/plain/underlay.pcap" || complain "counting changed a capture"
+
+# Each reason comes once in these captures. What was sent and dropped is counted once more, from the decision lines.
+mkdir "$folder/in" "$folder/each"
+python3 examples/reasons.py "$folder/in" || complain "reasons.py fails"
+./tep run -s examples/every_key.toml -c examples/every_change.toml -u "$folder/in/underlay.pcap" -o "$folder/each" --summary \
+    "$folder"/in/port[1-4].pcap >"$folder/stdout" || complain "tep run --summary fails on each reason"
+awk '$1 == "segment" && $3 == "sent" { print $2, "sent", $4 }
+    $1 == "segment" && $3 == "dropped" { print $2, $5, $6 }' "$folder/stdout" | sort >"$folder/summed"
+awk '$3 != "c" && $1 != "cut" {
+        segment = $5 == "-" ? "none" : $5
+        if ($6 == "drop") { n[segment " " $8]++; next }
+        for (i = 6; i <= NF; i++) {
+            if ($i ~ /=/) n[segment " sent"]++
+            else { split($i, part, "!"); n[segment " " part[2]]++ }
+        }
+    }
+    END { for (i in n) print i, n[i] }' "$folder/each/decisions.txt" | sort >"$folder/counted"
+cmp -s "$folder/counted" "$folder/summed" || complain "tep run --summary counts otherwise: $(diff "$folder/counted" "$folder/summed")"
+[ "$(awk '$2 != "sent" { print $2 }' "$folder/summed" | sort -u | wc -l)" -eq 40 ] || complain "not all reasons are counted"
 
 # A run that stops at a fault tells what it saw: the second record of port 1 has a second in its fraction.
 {

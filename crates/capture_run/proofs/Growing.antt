@@ -143,7 +143,7 @@ answer_more n moment ss text (Decided decision) = with_all-sent n moment ss text
 answer_more n moment ss text (Replied fault) = rw (append-nil ss) refl
 
 -- an event more
-event_more : (changes : List Change) (n number : ℕ) (ss : List Sending) (text : List ℕ) (e : Happens) (a : Answer)
+pub event_more : (changes : List Change) (n number : ℕ) (ss : List Sending) (text : List ℕ) (e : Happens) (a : Answer)
     → with_event changes number (holding n ss text) e a ≡ holding n (ss ++ sent_by e.moment a) (text ++ line_of changes number (e, a))
 event_more changes n number ss text e a = rw (answer_more n e.moment ss text a) refl
 
@@ -168,11 +168,11 @@ empty_captures (suc n) a = rw (empty_captures n (a + 1), append-nil written_head
 pub empty_holds : (n : ℕ) → empty_outputs n ≡ holding n [] []
 empty_holds n = rw (empty_captures n 1, append-nil written_header) refl
 
-cuts_more : (o : Outputs) (cuts : List Cut) → with_cuts o cuts ≡ record o { decisions = o.decisions ++ flat_map cut_line cuts }
+pub cuts_more : (o : Outputs) (cuts : List Cut) → with_cuts o cuts ≡ record o { decisions = o.decisions ++ flat_map cut_line cuts }
 cuts_more o [] = rw (append-nil o.decisions) refl
 cuts_more o (cut ∷ cuts) = cuts_more (with_line o (cut_line cut)) cuts ∙ rw (append_assoc o.decisions (cut_line cut) (flat_map cut_line cuts)) refl
 
-rising_events : (changes : List Change) (t : ℕ) (es : List Happens) → IsRising t es → event.IsRising t (map (event_of changes) es)
+pub rising_events : (changes : List Change) (t : ℕ) (es : List Happens) → IsRising t es → event.IsRising t (map (event_of changes) es)
 rising_events changes t [] h = tt
 rising_events changes t (e ∷ es) h = (h.0, rising_events changes e.moment es h.1)
 

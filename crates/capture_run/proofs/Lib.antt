@@ -1,3 +1,4 @@
+pub mod Among
 pub mod Changes
 pub mod Faults
 pub mod Growing

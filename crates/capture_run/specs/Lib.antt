@@ -1,3 +1,4 @@
+pub mod Among
 pub mod Sendings
 pub mod Outputs
 pub mod Fault

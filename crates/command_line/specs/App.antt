@@ -93,6 +93,32 @@ why_rule = record (new_rule (codes "why")) {
   parser = Some parser.NonEmptyString;
 }
 
+-- `--summary`
+abbrev pub summary_rule : Rule
+summary_rule = record (new_rule (codes "summary")) {
+  long = Some (codes "summary");
+  action = Some SetTrue;
+}
+
+-- `--segments LIST`
+abbrev pub segments_rule : Rule
+segments_rule = record (new_rule (codes "segments")) {
+  long = Some (codes "segments");
+  value_names = 1;
+  action = Some Set;
+  parser = Some parser.NonEmptyString;
+}
+
+-- one folder of a part or more
+abbrev pub shards_rule : Rule
+shards_rule = record (new_rule (codes "shards")) {
+  required = true;
+  action = Some Append;
+  value_names = 1;
+  range = Some (record { start_inclusive = 1; end_inclusive = usize_max });
+  parser = Some parser.NonEmptyString;
+}
+
 -- `-d N`, `--depth N`, a number of 1 to 4, by default 4
 abbrev pub depth_rule : Rule
 depth_rule = record (new_rule (codes "depth")) {
@@ -130,9 +156,13 @@ run_settings_app = with_rule (with_rule (new_app (codes "run")) settings_rule) c
 abbrev pub run_captures_app : App
 run_captures_app = with_rule (with_rule (with_rule run_settings_app underlay_rule) out_rule) ports_rule
 
--- `run` with what it tells besides
+-- `run` with the tables and the events that it tells besides
+abbrev pub run_tables_app : App
+run_tables_app = with_rule (with_rule (with_rule run_captures_app tables_rule) tables_at_rule) why_rule
+
+-- `run` with its counts, and the segments that a part of it takes
 abbrev pub run_app : App
-run_app = with_rule (with_rule (with_rule run_captures_app tables_rule) tables_at_rule) why_rule
+run_app = with_rule (with_rule run_tables_app summary_rule) segments_rule
 
 -- what `clap` keeps of `run`
 abbrev pub run_shape : Shape
@@ -170,6 +200,14 @@ migrate_app = with_rule (new_app (codes "migrate")) settings_rule
 abbrev pub migrate_shape : Shape
 migrate_shape = migrate_app.top
 
+-- `merge` with the folder that it writes into and those of the parts
+abbrev pub merge_app : App
+merge_app = with_rule (with_rule (new_app (codes "merge")) out_rule) shards_rule
+
+-- what `clap` keeps of `merge`
+abbrev pub merge_shape : Shape
+merge_shape = merge_app.top
+
 -- the program's name, and that it and its subcommands have a version to tell
 abbrev pub versioned_app : App
 versioned_app = let app = new_app (codes "tep") in record app { top = record app.top { has_version = true; propagate_version = true } }
@@ -186,6 +224,10 @@ run_and_check_app = with_subcommand with_run_app check_shape
 abbrev pub run_check_and_explain_app : App
 run_check_and_explain_app = with_subcommand run_and_check_app explain_shape
 
+-- the program with its first four subcommands
+abbrev pub run_to_migrate_app : App
+run_to_migrate_app = with_subcommand run_check_and_explain_app migrate_shape
+
 -- the program with its subcommands
 abbrev pub tep_app : App
-tep_app = with_subcommand run_check_and_explain_app migrate_shape
+tep_app = with_subcommand run_to_migrate_app merge_shape

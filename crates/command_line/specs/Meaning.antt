@@ -13,33 +13,36 @@ use Rattle.command_line.specs.declared.line.LineFault.{LineFault}
 use Rattle.command_line.specs.declared.line.LineFault.TheVariants as fault
 
 -- a command with its values: of `run` the settings, the changes, the underlay, the folder, the ports, whether the tables are
--- told, the moment at which they are, and the events that are told in full; of `check` the
--- settings, the changes, the underlay and the ports; of `explain` the settings, the depth, whether values are told, and the
--- capture; of `migrate` the settings
+-- told, the moment at which they are, the events that are told in full, whether the counts are told, and the segments that a
+-- part takes; of `check` the settings, the changes, the underlay and the ports; of `explain` the settings, the depth, whether
+-- values are told, and the capture; of `migrate` the settings; of `merge` the folder, and those of the parts
 pub data Meaning : Type 0 where
   sample : Meaning
-  run : Text → Option Text → Text → Text → List Text → Bool → Option ℕ → List Text → Meaning
+  run : Text → Option Text → Text → Text → List Text → Bool → Option ℕ → List Text → Bool → Option Text → Meaning
   check : Text → Option Text → Option Text → List Text → Meaning
   explain : Text → ℕ → Bool → Text → Meaning
   migrate : Text → Meaning
+  merge : Text → List Text → Meaning
 
 -- what a command line is as such a meaning
 abbrev pub meaning_of : Line → Meaning
 meaning_of line.Sample = sample
-meaning_of (line.Run settings changes underlay out ports tables tables_at why) =
-    run settings.now (option_map (λ t. t.now) changes) underlay.now out.now (texts ports.items) tables tables_at (texts why.items)
+meaning_of (line.Run settings changes underlay out ports tables tables_at why summary segments) =
+    run settings.now (option_map (λ t. t.now) changes) underlay.now out.now (texts ports.items) tables tables_at (texts why.items) summary (option_map (λ t. t.now) segments)
 meaning_of (line.Check settings changes underlay ports) =
     check settings.now (option_map (λ t. t.now) changes) (option_map (λ t. t.now) underlay) (texts ports.items)
 meaning_of (line.Explain settings depth values capture) = explain settings.now depth values capture.now
 meaning_of (line.Migrate settings) = migrate settings.now
+meaning_of (line.Merge out shards) = merge out.now (texts shards.items)
 
 -- a depth is 1 to 4
 abbrev pub HasDepth : Line → Type 0
 HasDepth line.Sample = ⊤
-HasDepth (line.Run settings changes underlay out ports tables tables_at why) = ⊤
+HasDepth (line.Run settings changes underlay out ports tables tables_at why summary segments) = ⊤
 HasDepth (line.Check settings changes underlay ports) = ⊤
 HasDepth (line.Explain settings depth values capture) = (1 ≤ depth) × (depth ≤ 4)
 HasDepth (line.Migrate settings) = ⊤
+HasDepth (line.Merge out shards) = ⊤
 
 -- ---- what matches mean: nothing, where a required value is missing
 
@@ -91,7 +94,7 @@ why_in rows = unwrap_or (all_of (codes "why") rows) []
 -- what `run` is asked to do
 abbrev pub run_meant : List Row → Option Meaning
 run_meant rows = option_and_then (λ s. option_and_then (λ u. option_and_then (λ o.
-    option_map (λ ps. run s (changes_in rows) u o ps (is_set (codes "tables") rows) (moment_in rows) (why_in rows)) (all_of (codes "ports") rows))
+    option_map (λ ps. run s (changes_in rows) u o ps (is_set (codes "tables") rows) (moment_in rows) (why_in rows) (is_set (codes "summary") rows) (first_of (codes "segments") rows)) (all_of (codes "ports") rows))
     (first_of (codes "out") rows)) (first_of (codes "underlay") rows)) (settings_in rows)
 
 -- what `check` is asked to do
@@ -107,13 +110,18 @@ explain_meant rows = option_and_then (λ s. option_and_then (λ c. option_map (�
 abbrev pub migrate_meant : List Row → Option Meaning
 migrate_meant rows = option_map (λ s. migrate s) (settings_in rows)
 
+-- what `merge` is asked to do
+abbrev pub merge_meant : List Row → Option Meaning
+merge_meant rows = option_and_then (λ o. option_map (λ ps. merge o ps) (all_of (codes "shards") rows)) (first_of (codes "out") rows)
+
 -- what a subcommand of this name is asked to do
 abbrev pub command_meant : Text → List Row → Option Meaning
 command_meant name rows =
     if bytes_eq name (codes "run") then run_meant rows
     else (if bytes_eq name (codes "check") then check_meant rows
     else (if bytes_eq name (codes "explain") then explain_meant rows
-    else (if bytes_eq name (codes "migrate") then migrate_meant rows else None)))
+    else (if bytes_eq name (codes "migrate") then migrate_meant rows
+    else (if bytes_eq name (codes "merge") then merge_meant rows else None))))
 
 -- what a parse means that met this subcommand with these matches, or none
 abbrev pub line_meant : Option (Text × List Row) → Option Meaning
@@ -133,11 +141,12 @@ inputs_among names = count_by (λ name. bytes_eq (file_of name) (codes "-")) nam
 -- how many captures are standard input; texts are files, whatever their names
 abbrev pub input_uses : Meaning → ℕ
 input_uses sample = 0
-input_uses (run settings changes underlay out ports tables tables_at why) = inputs_among (underlay ∷ ports)
+input_uses (run settings changes underlay out ports tables tables_at why summary segments) = inputs_among (underlay ∷ ports)
 input_uses (check settings changes None ports) = inputs_among ports
 input_uses (check settings changes (Some underlay) ports) = inputs_among (underlay ∷ ports)
 input_uses (explain settings depth values capture) = inputs_among (capture ∷ [])
 input_uses (migrate settings) = 0
+input_uses (merge out shards) = 0
 
 -- it is read once at most
 abbrev pub ReadsInputOnce : Meaning → Type 0

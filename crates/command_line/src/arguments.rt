@@ -1,7 +1,7 @@
 //! The arguments of the program's commands, as `clap` is told of them.
 ghost use Rattle.std.specs.Prelude.{◌≡◌, false};
 ghost use Rattle.clap.specs.Words.{rule_of};
-ghost use Rattle.command_line.specs.App.{settings_rule, changes_rule, underlay_rule, seen_underlay_rule, out_rule, ports_rule, seen_ports_rule, tables_rule, tables_at_rule, why_rule, depth_rule, values_rule, capture_rule};
+ghost use Rattle.command_line.specs.App.{settings_rule, changes_rule, underlay_rule, seen_underlay_rule, out_rule, ports_rule, seen_ports_rule, tables_rule, tables_at_rule, why_rule, summary_rule, segments_rule, shards_rule, depth_rule, values_rule, capture_rule};
 
 use clap::builder::ValueParser;
 use clap::{Arg, ArgAction, value_parser};
@@ -148,6 +148,46 @@ pub(crate) fn why<'a>(alloc: Global) -> Arg<'a>
         .long("why")
         .value_name("EVENT")
         .action(ArgAction::Append)
+        .value_parser(ValueParser::NonEmptyString)
+}
+
+/// Whether the counts are told.
+pub(crate) fn summary<'a>(alloc: Global) -> Arg<'a>
+    ensures rule { rule_of result ≡ summary_rule }
+    ensures local { result.global ≡ false }
+{
+    Arg::new(alloc, "summary")
+        .help("Prints what was sent and dropped, by segment, place and reason")
+        .long("summary")
+        .action(ArgAction::SetTrue)
+}
+
+/// The segments that a part of a run takes.
+pub(crate) fn segments<'a>(alloc: Global) -> Arg<'a>
+    ensures rule { rule_of result ≡ segments_rule }
+    ensures local { result.global ≡ false }
+{
+    Arg::new(alloc, "segments")
+        .help(
+            "Runs these segments alone, a part of the run: 10,20-29,none; none is what comes to no segment",
+        )
+        .long("segments")
+        .value_name("LIST")
+        .action(ArgAction::Set)
+        .value_parser(ValueParser::NonEmptyString)
+}
+
+/// The folders of the parts: one or more.
+pub(crate) fn shards<'a>(alloc: Global) -> Arg<'a>
+    ensures rule { rule_of result ≡ shards_rule }
+    ensures local { result.global ≡ false }
+{
+    Arg::new(alloc, "shards")
+        .help("The folders of the parts, in any order")
+        .value_name("SHARD")
+        .required(true)
+        .action(ArgAction::Append)
+        .num_args(1..)
         .value_parser(ValueParser::NonEmptyString)
 }
 

@@ -2,11 +2,11 @@
 ghost use Rattle.std.specs.Prelude.{◌≡◌, IfOk, false};
 ghost use Rattle.clap.specs.Words.{app_of, new_app, rule_of, shape_of, with_rule};
 ghost use Rattle.clap.specs.declared.builder.Command.TheViews.{out-Command as fields_of};
-ghost use Rattle.command_line.specs.App.{check_shape, check_texts_app, explain_depth_app, explain_shape, migrate_shape, run_and_check_app, run_check_and_explain_app, run_captures_app, run_settings_app, run_shape, tep_app, versioned_app, with_run_app};
+ghost use Rattle.command_line.specs.App.{check_shape, check_texts_app, explain_depth_app, explain_shape, merge_shape, migrate_shape, run_and_check_app, run_check_and_explain_app, run_captures_app, run_settings_app, run_shape, run_tables_app, run_to_migrate_app, tep_app, versioned_app, with_run_app};
 
 use crate::arguments::{
-    capture, changes, depth, out, ports, seen_ports, seen_underlay, settings, tables, tables_at,
-    underlay, values, why,
+    capture, changes, depth, out, ports, seen_ports, seen_underlay, segments, settings, shards,
+    summary, tables, tables_at, underlay, values, why,
 };
 use clap::{Arg, Command};
 use std::alloc::{AllocError, Global};
@@ -23,7 +23,7 @@ fn example<'a>() -> &'a str {
 
 /// What stands below the help of `run`.
 fn run_example<'a>() -> &'a str {
-    "Captures are pcap or pcapng. FILE#INTERFACE takes one interface of a pcapng capture, by number or name.\n\nExamples:\n  tep run -s settings.toml -c changes.toml -u underlay.pcap -o out port1.pcap port2.pcap\n  tep run -s settings.toml -u underlay.pcap -o out --why 7 --why p2:1 --tables port1.pcap port2.pcap\n  tep run -s settings.toml -u all.pcapng#eth0 -o out all.pcapng#eth1 all.pcapng#eth2\n  cat out/decisions.txt"
+    "Captures are pcap or pcapng. FILE#INTERFACE takes one interface of a pcapng capture, by number or name.\n\nExamples:\n  tep run -s settings.toml -c changes.toml -u underlay.pcap -o out port1.pcap port2.pcap\n  tep run -s settings.toml -u underlay.pcap -o out --why 7 --why p2:1 --tables port1.pcap port2.pcap\n  tep run -s settings.toml -u all.pcapng#eth0 -o out all.pcapng#eth1 all.pcapng#eth2\n  tep run -s settings.toml -u underlay.pcap -o part1 --segments 1-10,none port1.pcap port2.pcap\n  cat out/decisions.txt"
 }
 
 /// What stands below the help of `check`.
@@ -39,6 +39,11 @@ fn explain_example<'a>() -> &'a str {
 /// What stands below the help of `migrate`.
 fn migrate_example<'a>() -> &'a str {
     "Example:\n  tep migrate -s settings.toml >migrated.toml"
+}
+
+/// What stands below the help of `merge`.
+fn merge_example<'a>() -> &'a str {
+    "The parts are those of one run, and all of it. The folder is left what the whole run writes.\n\nExample:\n  tep merge -o whole part1 part2 part3"
 }
 
 /// A command of this name, with its line of help and what stands below it.
@@ -83,14 +88,23 @@ fn run_captures<'a>(alloc: Global) -> Result<Command<'a>, AllocError>
     taking(command, ports(alloc))
 }
 
-/// `run`, with all that it takes.
-fn run<'a>(alloc: Global) -> Result<Command<'a>, AllocError>
-    ensures shape { IfOk result (λ c. shape_of c ≡ run_shape) }
+/// `run`, with the tables and the events that it tells besides.
+fn run_tables<'a>(alloc: Global) -> Result<Command<'a>, AllocError>
+    ensures app { IfOk result (λ c. app_of c ≡ run_tables_app) }
     ensures local { IfOk result (λ c. (fields_of c).has_globals ≡ false) }
 {
     let command = taking(run_captures(alloc)?, tables(alloc))?;
     let command = taking(command, tables_at(alloc))?;
     taking(command, why(alloc))
+}
+
+/// `run`, with all that it takes.
+fn run<'a>(alloc: Global) -> Result<Command<'a>, AllocError>
+    ensures shape { IfOk result (λ c. shape_of c ≡ run_shape) }
+    ensures local { IfOk result (λ c. (fields_of c).has_globals ≡ false) }
+{
+    let command = taking(run_tables(alloc)?, summary(alloc))?;
+    taking(command, segments(alloc))
 }
 
 /// The first two options of `check`.
@@ -155,6 +169,21 @@ fn migrate<'a>(alloc: Global) -> Result<Command<'a>, AllocError>
     taking(command, settings(alloc))
 }
 
+/// `merge`.
+fn merge<'a>(alloc: Global) -> Result<Command<'a>, AllocError>
+    ensures shape { IfOk result (λ c. shape_of c ≡ merge_shape) }
+    ensures local { IfOk result (λ c. (fields_of c).has_globals ≡ false) }
+{
+    let command = named(
+        alloc,
+        "merge",
+        "Makes of the parts of a run the whole run",
+        merge_example(),
+    );
+    let command = taking(command, out(alloc))?;
+    taking(command, shards(alloc))
+}
+
 /// The program without its commands.
 fn program<'a>(alloc: Global) -> Command<'a>
     ensures app { app_of result ≡ versioned_app }
@@ -191,9 +220,17 @@ fn run_check_and_explain<'a>(alloc: Global) -> Result<Command<'a>, AllocError>
     run_and_check(alloc)?.subcommand(explain(alloc)?)
 }
 
+/// The program with its first four commands.
+fn run_to_migrate<'a>(alloc: Global) -> Result<Command<'a>, AllocError>
+    ensures app { IfOk result (λ c. app_of c ≡ run_to_migrate_app) }
+    ensures local { IfOk result (λ c. (fields_of c).has_globals ≡ false) }
+{
+    run_check_and_explain(alloc)?.subcommand(migrate(alloc)?)
+}
+
 /// The whole program.
 pub(crate) fn tep<'a>(alloc: Global) -> Result<Command<'a>, AllocError>
     ensures { IfOk result (λ c. app_of c ≡ tep_app) }
 {
-    run_check_and_explain(alloc)?.subcommand(migrate(alloc)?)
+    run_to_migrate(alloc)?.subcommand(merge(alloc)?)
 }

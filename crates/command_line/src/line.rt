@@ -36,6 +36,10 @@ pub enum Line<'a> {
         tables_at: Option<u64>,
         /// The events of which it is told why they came out as they did.
         why: Vec<&'a str>,
+        /// Whether the counts are told.
+        summary: bool,
+        /// The segments that are run, where they are a part of the run.
+        segments: Option<&'a str>,
     },
     /// A look at the texts, and at the captures that are named.
     Check {
@@ -63,6 +67,13 @@ pub enum Line<'a> {
     Migrate {
         /// The settings text's file.
         settings: &'a str,
+    },
+    /// The parts of a run made the whole run.
+    Merge {
+        /// The folder that outputs are written into.
+        out: &'a str,
+        /// The folders of the parts: one at least.
+        shards: Vec<&'a str>,
     },
 }
 
@@ -130,7 +141,7 @@ fn input_uses(line: &Line<'_>) -> usize
         } => inputs_among(&[*underlay]) + inputs_among(ports.as_slice()),
         Line::Check { ports, .. } => inputs_among(ports.as_slice()),
         Line::Explain { capture, .. } => inputs_among(&[*capture]),
-        Line::Sample | Line::Migrate { .. } => 0,
+        Line::Sample | Line::Migrate { .. } | Line::Merge { .. } => 0,
     }
 }
 

@@ -6,6 +6,9 @@ use crate::status::exit_code;
 use crate::text::TextFault;
 use capture_run::RunFault;
 use pcapng_input::PcapngFault;
+use segment_set::ListFault;
+use shard_merge::PartFault;
+use shard_record::{Difference, PartingFault, ShardFault};
 use std::alloc::AllocError;
 use std::fmt;
 use stream_run::{StreamFault, Target};
@@ -30,6 +33,38 @@ pub enum Failure<'a> {
     /// No event has one of the names that were asked for, of which this is the first.
     #[error("why: no event {0}")]
     NoEvent(&'a str),
+    /// The list of the segments of a part is refused.
+    #[error("segments: {0}")]
+    Segments(ListFault),
+    /// The capture of this name is no regular file, of which alone a part is made: it is read twice.
+    #[error("{0} is no regular file, and a part is made of no other")]
+    NotFile(&'a str),
+    /// The part in this folder is wrong.
+    #[error("part {0}: {1}")]
+    Shard(&'a str, ShardFailure),
+    /// Parts aren't a whole run.
+    #[error("{0}")]
+    Parting(PartingFault),
+}
+
+/// What is wrong with a part of a run.
+#[derive(Debug, Drop, Error)]
+pub enum ShardFailure {
+    /// Its record of what it was made from is no such text.
+    #[error("shard.txt: {0}")]
+    Record(ShardFault),
+    /// The list of its segments is none.
+    #[error("shard.txt: {0}")]
+    List(ListFault),
+    /// It is of another run than the first part.
+    #[error("{0}")]
+    Other(Difference),
+    /// It has another number of decision lines than its record says, as a part that was cut off has.
+    #[error("decisions.txt has another number of events than shard.txt says")]
+    Events,
+    /// Its lines or its captures are wrong.
+    #[error("{0}")]
+    Part(PartFault),
 }
 
 /// What is written: a file within the folder for outputs, or the text on standard output.
@@ -39,6 +74,8 @@ pub enum OutputFile {
     Port(usize),
     Underlay,
     Decisions,
+    /// What a part was made from.
+    Shard,
     Stdout,
 }
 
@@ -48,6 +85,7 @@ impl fmt::Display for OutputFile {
             OutputFile::Port(number) => write!(f, "port{number}.pcap"),
             OutputFile::Underlay => f.write_str("underlay.pcap"),
             OutputFile::Decisions => f.write_str("decisions.txt"),
+            OutputFile::Shard => f.write_str("shard.txt"),
             OutputFile::Stdout => f.write_str("stdout"),
         }
     }
@@ -83,13 +121,18 @@ impl<'a> Failure<'a> {
         }
     }
 
-    /// The exit status: 1 for a text or a capture that is refused or an event that isn't there, 3 for want of memory, a failed read or a failed write.
+    /// The exit status: 1 for a text, a capture or a part that is refused or an event that isn't there, 3 for want of memory, a failed read or a failed write.
     pub fn status(&self) -> u8
         ensures { result ≡ failure_status_of self.now }
     {
         match self {
             Failure::Run(fault) => exit_code(fault),
-            Failure::Pcapng(..) | Failure::NoEvent(_) => 1,
+            Failure::Pcapng(..)
+            | Failure::NoEvent(_)
+            | Failure::Segments(_)
+            | Failure::NotFile(_)
+            | Failure::Shard(..)
+            | Failure::Parting(_) => 1,
             Failure::Read(_) | Failure::Write(_) => 3,
         }
     }

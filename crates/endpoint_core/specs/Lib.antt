@@ -1,3 +1,4 @@
+pub mod Among
 pub mod Arrival
 pub mod Came
 pub mod Cells

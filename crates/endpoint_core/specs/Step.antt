@@ -106,6 +106,18 @@ after s e = record {
   moment = e.at;
 }
 
+-- the same of a frame or a packet that came to a segment, or to none
+abbrev pub after_coming : ℕ → Result Came Refused → State → State
+after_coming t came s = record {
+  bridges = aged t (after_came t (aged t s.bridges) came);
+  counts = counted s.counts (decided t (aged t s.bridges) came);
+  moment = t;
+}
+
+-- time passes, and nothing comes
+abbrev pub passed : ℕ → State → State
+passed t s = record { bridges = aged t s.bridges; counts = s.counts; moment = t }
+
 -- ---- many events
 
 -- the state after events, one after another

@@ -7,6 +7,7 @@ ghost use Rattle.underlay.specs.Overlay.{has_segment, flood_at};
 ghost use Rattle.endpoint_state.specs.Sound.{reaches, is_reached};
 ghost use Rattle.vlan_ports.specs.Ingress.{nowhere};
 ghost use Rattle.encapsulate.specs.Sums.{AreSums};
+ghost use Rattle.endpoint_core.specs.Among.{segment_of};
 ghost use Rattle.endpoint_core.specs.Arrival.{came_at, came_by};
 
 use decapsulate::unwrap;
@@ -97,6 +98,17 @@ impl<'a> Came<'a> {
             Some(sums) => sums,
             None => FrameSums::of(&self.frame, false),
         }
+    }
+}
+
+/// The segment of a frame that came to one, or that was refused in one.
+#[inline]
+pub fn segment_of(came: &Result<Came, Refused>) -> Option<Vid>
+    ensures { result ≡ segment_of came.now }
+{
+    match came {
+        Ok(came) => Some(came.vid),
+        Err(refused) => refused.segment,
     }
 }
 

@@ -1,17 +1,19 @@
 //! The endpoint.
-ghost use Rattle.std.specs.Prelude.{◌≡◌, ◌≤◌, IfOk, IsSome, IsTrue, length};
+ghost use Rattle.std.specs.Prelude.{◌≡◌, ◌≤◌, IfOk, IsSome, IsTrue, length, true};
 ghost use Rattle.std.specs.FinMap.{entries};
 ghost use Rattle.frame_view.specs.First.{fault_of};
 ghost use Rattle.endpoint_state.specs.Opened.{settings_told};
 ghost use Rattle.endpoint_core.specs.Decision.{octets_of};
 ghost use Rattle.endpoint_core.specs.Event.{frame_at, packet_at, change_at};
-ghost use Rattle.endpoint_core.specs.Step.{Decided, Replied, opened, answer, after};
+ghost use Rattle.endpoint_core.specs.Step.{Decided, Replied, opened, answer, after, decided, after_coming, passed};
 ghost use Rattle.endpoint_core.specs.Step.{sent_at, outcome_at, has_two_tunnels};
 ghost use Rattle.endpoint_core.specs.Arrival.{came_at, came_by};
 ghost use Rattle.endpoint_core.specs.Course.{decision_of, IsThere, IsShortFrame, CanLeave, IsEmptied};
 ghost use Rattle.endpoint_core.specs.Course.{AreInParts, IsOfWhatCame};
 ghost use Rattle.encapsulate.specs.Remote.{texts};
 ghost use Rattle.endpoint_state.specs.Settings.{segment_at};
+ghost use Rattle.endpoint_state.specs.Sound.{is_reached};
+ghost use Rattle.endpoint_state.specs.State.{aged};
 ghost use Rattle.endpoint_state.specs.Step.{can_leave};
 
 use crate::arrival::{Came, come_at, come_by};
@@ -22,7 +24,7 @@ use crate::{Course, Decision};
 use encapsulate::{Head, Leaving};
 use endpoint_state::{Change, ChangeFault, EndpointState};
 use filter_db::{Entry, Place};
-use frame_view::{Mac, Reason, Vid};
+use frame_view::{Mac, Reason, Refused, Vid};
 use overlay_settings::Settings;
 use std::alloc::{AllocError, Global};
 use std::marker::Model;
@@ -132,10 +134,7 @@ impl Endpoint {
             IsOfWhatCame (came_at S.ports port original octets.now) result }
     {
         let came = come_at(self.state.ports(), port, original, octets);
-        let course = decide(&mut self.state, now, came, places);
-        self.counts.tally(&self.state, &course, places.as_slice());
-        self.moment = now;
-        course
+        self.take(now, came, places)
     }
 
     /// A packet of this original length came in from the underlay at a moment, in nanoseconds: where its frame goes, with
@@ -158,10 +157,45 @@ impl Endpoint {
             IsOfWhatCame (came_by S.overlay original octets.now) result }
     {
         let came = come_by(self.state.under(), original, octets);
+        self.take(now, came, places)
+    }
+
+    /// A frame or a packet came at a moment, in nanoseconds, to a segment or to none, as [`Endpoint::frame_from`] or
+    /// [`Endpoint::frame_in`] tells it of this endpoint: where it goes, with the places in a list that is written over, and
+    /// empty where it is dropped. `now` isn't before `self.now()`.
+    #[inline]
+    pub fn take<'a>(
+        &mut self,
+        now: u64,
+        came: Result<Came<'a>, Refused>,
+        places: &mut Outlets,
+    ) -> Course<'a>
+        requires moment { (state_of self.old).moment ≤ now }
+        requires there { IfOk came (λ x. IsSome (segment_at (state_of self.old).bridges.settings x.vid)) }
+        requires short { IfOk came (λ x. length x.frame.body ≤ 65549) }
+        requires reached { IfOk came (λ x. is_reached (state_of self.old).bridges.settings.overlay x.vid x.from ≡ true) }
+        ensures answer { decision_of (state_of self.new).bridges.settings result places.new.items ≡ decided now (aged now (state_of self.old).bridges) came.entry }
+        ensures after { state_of self.new ≡ after_coming now came.entry (state_of self.old) }
+        ensures there { IsThere (state_of self.new).bridges.settings result }
+        ensures short { IsShortFrame result }
+        ensures leave { CanLeave (state_of self.new).bridges.settings result places.new.items }
+        ensures empty { IsEmptied result places.new.items }
+        ensures came { IsOfWhatCame came.entry result }
+    {
         let course = decide(&mut self.state, now, came, places);
         self.counts.tally(&self.state, &course, places.as_slice());
         self.moment = now;
         course
+    }
+
+    /// Time passes up to a moment, in nanoseconds: nothing is decided or learned, and nothing is counted. `now` isn't
+    /// before `self.now()`.
+    #[inline]
+    pub fn pass(&mut self, now: u64)
+        requires { (state_of self.old).moment ≤ now }
+        ensures { state_of self.new ≡ passed now (state_of self.old) }
+    {
+        self.moment = now;
     }
 
     /// Whether the segment of a frame has two tunnels, so that a remote is told with the kind of its tunnel.

@@ -18,7 +18,7 @@ mod endpoint;
 pub mod laws;
 mod text;
 
-pub use arrival::Came;
+pub use arrival::{Came, segment_of};
 pub use course::Course;
 pub use decision::{Decision, Outcome};
 pub use encapsulate::{Head, Leaving};

@@ -42,8 +42,9 @@ impl<T: Tables> Parts<T> {
     }
 }
 
-/// The kind of the tunnel that is named, or of the first one where none is.
-fn kind_of(tunnels: &Tunnels, named: Option<Tunnel>) -> Option<Tunnel>
+/// The kind of the tunnel that a change of a segment with these tunnels means: the named one's, where there is it, or the
+/// first one's, where none is named.
+pub fn kind_of(tunnels: &Tunnels, named: Option<Tunnel>) -> Option<Tunnel>
     ensures { result ≡ kind_named tunnels.now named }
 {
     match named {

@@ -19,6 +19,9 @@ mod state;
 mod step;
 mod table_changes;
 
+pub use checks::kind_of;
 pub use fault::ChangeFault;
 pub use overlay_settings::{Change, NewSegment, Target};
+pub use segment_changes::is_limit;
 pub use state::EndpointState;
+pub use table_changes::is_ageing;

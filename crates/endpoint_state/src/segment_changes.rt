@@ -28,8 +28,8 @@ const MOST_SEGMENTS: u32 = 256;
 /// The most entries that a segment's table may have.
 const MOST_ENTRIES: u32 = 8192;
 
-/// Whether a table may have this limit.
-fn is_limit(limit: u32) -> bool
+/// Whether a table may have this limit, in entries: 1 to 8,192.
+pub fn is_limit(limit: u32) -> bool
     ensures { result ≡ is_limit limit }
 {
     limit >= 1 && limit <= MOST_ENTRIES
@@ -66,7 +66,7 @@ impl<T: PoolTables> Parts<T> {
     }
 
     /// How many segments there are.
-    fn segment_count(&self) -> u32
+    pub(crate) fn segment_count(&self) -> u32
         ensures settings { result ≡ segment_count (tables_asked (settings_of T.segments T.pool self.now)) }
         ensures tables { result ≡ segment_count (T.segments self.now.tables) }
     {
@@ -74,7 +74,7 @@ impl<T: PoolTables> Parts<T> {
     }
 
     /// What is left of the pool: the most that the limit of another segment may be.
-    fn room(&self) -> u32
+    pub(crate) fn room(&self) -> u32
         ensures settings { result + sum_of_limits (tables_asked (settings_of T.segments T.pool self.now)) ≡ T.pool self.now.tables }
         ensures tables { result + sum_of_limits (T.segments self.now.tables) ≡ T.pool self.now.tables }
     {

@@ -20,8 +20,8 @@ const SHORTEST_AGEING: u32 = 10;
 /// The longest ageing, in seconds.
 const LONGEST_AGEING: u32 = 1_000_000;
 
-/// Whether learned entries may be live for so many seconds.
-pub(crate) fn is_ageing(seconds: u32) -> bool
+/// Whether learned entries may be live for so many seconds: 10 to 1,000,000 (IEEE 802.1Q, 8.8.3).
+pub fn is_ageing(seconds: u32) -> bool
     ensures { result ≡ is_ageing seconds }
 {
     seconds >= SHORTEST_AGEING && seconds <= LONGEST_AGEING

@@ -1,1 +1,2 @@
+pub mod BridgeLemmas
 pub mod StoryLemmas

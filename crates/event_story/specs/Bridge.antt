@@ -1,5 +1,6 @@
 -- What the bridge of a segment knows of the addresses of a frame, and what that makes of it (IEEE 802.1Q, 8.6 to 8.8).
-use Rattle.std.specs.Prelude.{ℕ, Bool, true, false, nat_lt, if◌then◌else◌, List, [], ◌∷◌, Option, Some, None}
+use Rattle.std.specs.Prelude.{ℕ, ◌+◌, Bool, true, false, not, ◌||◌, nat_le, nat_lt, is_none, if◌then◌else◌, List, [], ◌∷◌, ◌++◌, length, map, Option, Some, None}
+use Rattle.std.specs.List.{flat_map, range_with_len}
 use Rattle.std.specs.Option.{option_to_list, option_map_or}
 use Rattle.std.specs.FinMap.{get, len}
 use Rattle.frame_view.specs.Address.{is_group}
@@ -7,10 +8,14 @@ use Rattle.frame_view.specs.declared.reason.Reason.{Reason}
 use Rattle.frame_view.specs.declared.reason.Reason.TheVariants.{SamePlace, Horizon, Unreachable, NoOutlet}
 use Rattle.filter_db.specs.declared.entry.Entry.{Entry}
 use Rattle.filter_db.specs.declared.place.Place.{Place}
-use Rattle.filter_db.specs.Table.{Table, is_fixed}
+use Rattle.filter_db.specs.declared.place.Place.TheVariants.{Local, Remote}
+use Rattle.filter_db.specs.Place.{same_place}
+use Rattle.filter_db.specs.Table.{Table, is_fixed, nanoseconds}
+use Rattle.vlan_ports.specs.Ports.{Ports}
+use Rattle.tunnel_learning.specs.Bridge.{Config, in_one_group, is_up_at, place_of}
 use Rattle.endpoint_state.specs.Settings.{SegmentSettings, segment_at}
 use Rattle.endpoint_state.specs.State.{State}
-use Rattle.endpoint_state.specs.Step.{after_frame}
+use Rattle.endpoint_state.specs.Step.{after_frame, config_of}
 use Rattle.endpoint_core.specs.Came.{Came}
 use Rattle.event_story.specs.declared.fact.Fact.{Fact}
 use Rattle.event_story.specs.declared.fact.Fact.TheVariants as facts
@@ -28,9 +33,47 @@ source_fact learning limit entries from stood = if learning then learned_fact li
 
 -- ---- the destination, once the source is learned
 
+-- an entry that stood before is dead from the moment on that is its ageing behind that of its last sighting
+abbrev pub dead_fact : ℕ → ℕ → Entry → Option ℕ → Fact
+dead_fact t span e None = facts.Known None
+dead_fact t span e (Some last) = if nat_le (last + span) t then facts.Dead e (last + span) else facts.Known None
+
+-- what stands for it, or stood when the last event was done with
+abbrev pub stood_fact : ℕ → ℕ → Option Entry → Option Entry → Fact
+stood_fact t span before (Some e) = facts.Known (Some e)
+stood_fact t span (Some e) None = dead_fact t span e e.last
+stood_fact t span None None = facts.Known None
+
 -- a group's address goes everywhere, as one for which nothing stands does
-abbrev pub known_fact : Bool → Option Entry → Fact
-known_fact group stood = if group then facts.ToGroup else facts.Known stood
+abbrev pub known_fact : Bool → Fact → Fact
+known_fact group stood = if group then facts.ToGroup else stood
+
+-- a port where no frame of the segment leaves
+abbrev pub shut_fact : Config → Place → Option Fact
+shut_fact c (Local port) =
+    if not (is_up_at c.up port) then Some (facts.Port port false)
+    else if is_none (get c.members port) then Some (facts.Member port None)
+    else None
+shut_fact c (Remote kind addr) = None
+
+-- why a flood of a frame from a place leaves another out, if it does
+abbrev pub left_out : Config → Place → Place → Option Fact
+left_out c from to =
+    if same_place to from then Some (facts.Same to)
+    else if in_one_group c from to then Some (facts.Horizon to)
+    else shut_fact c to
+
+-- all places of a segment: the ports, rising, and the remotes of its flood list in its order
+abbrev pub places_of : Config → List Place
+places_of c = map Local (range_with_len 1 (length c.up)) ++ map place_of c.flood
+
+-- those that a flood leaves out
+abbrev pub left_facts : Config → Place → List Fact
+left_facts c from = flat_map (λ to. option_to_list (left_out c from to)) (places_of c)
+
+-- the same of a frame, if it is flooded: to a group, or to an address for which nothing stands
+abbrev pub flooded_facts : Config → Place → Bool → Option Entry → List Fact
+flooded_facts c from group stood = if group || is_none stood then left_facts c from else []
 
 -- why a frame doesn't go to the place where its destination stands
 abbrev pub place_fact : Place → Reason → Option Fact
@@ -58,18 +101,21 @@ aim_fact false stood (Some reason) = aim_by stood reason
 -- ---- both
 
 -- what there is to tell of a frame at the bridge, by what the bridge goes by and what stands for both addresses
-abbrev pub bridge_told : Bool → ℕ → ℕ → Place → Option Entry → Bool → Option Entry → Option Reason → List Fact
-bridge_told learning limit entries from source group destination dropped =
-    source_fact learning limit entries from source
-    ∷ known_fact group destination
-    ∷ option_to_list (aim_fact group destination dropped)
+abbrev pub bridge_told : Config → ℕ → ℕ → Place → Option Entry → Bool → Option Entry → Fact → Option Reason → List Fact
+bridge_told c limit entries from source group destination stood dropped =
+    source_fact c.learning limit entries from source
+    ∷ known_fact group stood
+    ∷ flooded_facts c from group destination ++ option_to_list (aim_fact group destination dropped)
 
--- the same in the state of a segment: its table before the frame, and the one behind it
-abbrev pub told_in : Table → Table → Came → Option Reason → SegmentSettings → List Fact
-told_in before behind x dropped s =
-    bridge_told s.learning s.limit (len before) x.from (get before x.frame.src) (is_group x.frame.dst) (get behind x.frame.dst) dropped
+-- the same at moment t in the state of a segment: its table as the last event left it, the one before the frame, and the one
+-- behind it
+abbrev pub told_in : ℕ → Ports → Table → Table → Table → Came → Option Reason → SegmentSettings → List Fact
+told_in t ports left before behind x dropped s =
+    bridge_told (config_of ports s) s.limit (len before) x.from (get before x.frame.src) (is_group x.frame.dst) (get behind x.frame.dst)
+    (stood_fact t (nanoseconds s.ageing) (get left x.frame.dst) (get behind x.frame.dst)) dropped
 
--- what there is to tell of a frame that came to a segment at moment t, and that is dropped for this reason, if it is
-abbrev pub bridge_facts : ℕ → State → Came → Option Reason → List Fact
-bridge_facts t B x dropped =
-    option_map_or (told_in (B.tables x.vid) ((after_frame t x.vid x.from x.frame B).tables x.vid) x dropped) (segment_at B.settings x.vid) []
+-- what there is to tell of a frame that came to a segment at moment t, and that is dropped for this reason, if it is: in
+-- the state that the last event left, and in the same at that moment
+abbrev pub bridge_facts : ℕ → State → State → Came → Option Reason → List Fact
+bridge_facts t left B x dropped =
+    option_map_or (told_in t B.settings.ports (left.tables x.vid) (B.tables x.vid) ((after_frame t x.vid x.from x.frame B).tables x.vid) x dropped) (segment_at B.settings x.vid) []

@@ -33,6 +33,16 @@ tag_told CutShort = facts.CutTag
 abbrev pub tag_fact : List ℕ → Option Fact
 tag_fact b = if_whole b (tag_told (tag_split b))
 
+-- the VID of a tag, 0 where there is none
+abbrev pub tag_vid : Split → ℕ
+tag_vid (Untagged body) = 0
+tag_vid (WithTag tci body) = vid_of tci
+tag_vid CutShort = 0
+
+-- the same of a frame
+abbrev pub vid_in : List ℕ → ℕ
+vid_in b = if nat_lt (length b) 14 then 0 else tag_vid (tag_split b)
+
 -- there is a tag with a VID
 abbrev pub tells_vid : Split → Bool
 tells_vid (Untagged body) = false

@@ -1,118 +1,21 @@
 -- How a fact is printed: one line, begun by two spaces; as
 --       ether 02:00:00:00:00:01 > 02:00:00:00:00:02
 --       port p1 up
---       source moved to p2, from p1 seen at 5000000000
-use Rattle.std.specs.Prelude.{ℕ, Bool, true, false, List, [], ◌∷◌, ◌++◌, codes, decimal, Option, Some, None}
+--       source learned at p2, before at p1 seen at 5000000000
+use Rattle.std.specs.Prelude.{ℕ, List, [], ◌∷◌, ◌++◌, codes, decimal, Option, Some, None}
 use Rattle.std.specs.List.{flat_map}
 use Rattle.frame_view.specs.Reason.{name_of}
 use Rattle.frame_view.specs.declared.reason.Reason.{Reason}
 use Rattle.ip_udp_view.specs.declared.addr.Tunnel.{Tunnel}
-use Rattle.ip_udp_view.specs.declared.addr.Tunnel.TheVariants.{Vxlan, Geneve}
-use Rattle.ip_udp_view.specs.declared.udp_view.SumState.{SumState}
-use Rattle.ip_udp_view.specs.declared.udp_view.SumState.TheVariants.{Zero, Right, Wrong}
 use Rattle.filter_db.specs.declared.entry.Entry.{Entry}
 use Rattle.filter_db.specs.declared.place.Place.{Place}
 use Rattle.filter_db.specs.declared.place.Place.TheVariants.{Remote}
-use Rattle.vlan_ports.specs.declared.member.Egress.{Egress}
-use Rattle.vlan_ports.specs.declared.member.Egress.TheVariants.{Tagged, Untagged}
-use Rattle.endpoint_core.specs.Text.{hex_octet, addr_text, place_text as decision_place}
+use Rattle.endpoint_core.specs.Text.{addr_text}
+use Rattle.story_words.specs.Words.{mac_text, place_text, up_word, bit_word, tunnel_word, group_word, destination_word, takes_word, tagged_word, origin_word, member_word, egress_word, other_word, receiver_word, sum_word, listed_word, stood_text}
 use Rattle.event_story.specs.declared.fact.Fact.{Fact}
 use Rattle.event_story.specs.declared.fact.Fact.TheVariants as facts
 
--- ---- words
-
--- octets in hexadecimal, each behind a colon
-abbrev pub behind_colons : List ℕ → List ℕ
-behind_colons [] = []
-behind_colons (a ∷ b) = 58 ∷ hex_octet a ++ behind_colons b
-
--- octets in hexadecimal between colons
-abbrev pub mac_text : List ℕ → List ℕ
-mac_text [] = []
-mac_text (a ∷ b) = hex_octet a ++ behind_colons b
-
--- a place as in a decision line, with the kind of a remote's tunnel
-abbrev pub place_text : Place → List ℕ
-place_text place = decision_place true place
-
--- a port's state
-abbrev pub up_word : Bool → List ℕ
-up_word true = codes "up"
-up_word false = codes "down"
-
--- a bit
-abbrev pub bit_word : Bool → List ℕ
-bit_word true = codes "1"
-bit_word false = codes "0"
-
--- a kind of tunnel
-abbrev pub tunnel_word : Tunnel → List ℕ
-tunnel_word Vxlan = codes "vxlan"
-tunnel_word Geneve = codes "geneve"
-
--- of an address whether it is a group's
-abbrev pub group_word : Bool → List ℕ
-group_word true = codes "group"
-group_word false = codes "individual"
-
--- the same of a destination, where a bridge forwards it
-abbrev pub destination_word : Bool → Bool → List ℕ
-destination_word group true = codes "reserved"
-destination_word group false = group_word group
-
--- whether frames are taken
-abbrev pub takes_word : Bool → List ℕ
-takes_word true = codes " takes "
-takes_word false = codes " refuses "
-
--- which frames
-abbrev pub tagged_word : Bool → List ℕ
-tagged_word true = codes "frames with a vid"
-tagged_word false = codes "frames without a vid"
-
--- where a VID comes from
-abbrev pub origin_word : Bool → List ℕ
-origin_word true = codes "the tag"
-origin_word false = codes "the port"
-
--- how frames leave at a port
-abbrev pub member_word : Option Egress → List ℕ
-member_word None = codes " no member"
-member_word (Some Tagged) = codes " member, tagged"
-member_word (Some Untagged) = codes " member, untagged"
-
--- of an outer source whether it is another endpoint's
-abbrev pub other_word : Bool → List ℕ
-other_word true = codes "sender another endpoint"
-other_word false = codes "sender no other endpoint"
-
--- whose an outer destination is
-abbrev pub receiver_word : Bool → Bool → List ℕ
-receiver_word true own = codes "receiver a group"
-receiver_word false true = codes "receiver the endpoint"
-receiver_word false false = codes "receiver another host"
-
--- what a UDP checksum says
-abbrev pub sum_word : SumState → List ℕ
-sum_word Zero = codes "0"
-sum_word Right = codes "right"
-sum_word Wrong = codes "wrong"
-
--- whether a remote is on the flood list
-abbrev pub listed_word : Bool → List ℕ
-listed_word true = codes " on the flood list"
-listed_word false = codes " not on the flood list"
-
--- ---- entries
-
--- when an entry was last seen, or that it is fixed
-abbrev pub last_text : Option ℕ → List ℕ
-last_text None = codes " fixed"
-last_text (Some last) = codes " seen at " ++ decimal last
-
--- where an entry stands, and when it was last seen there
-abbrev pub stood_text : Entry → List ℕ
-stood_text s = place_text s.place ++ last_text s.last
+-- ---- values
 
 -- where a source is learned, and what stood for it
 abbrev pub learned_text : Place → Option Entry → List ℕ
@@ -124,12 +27,6 @@ abbrev pub known_text : Option Entry → List ℕ
 known_text None = codes "destination unknown, flooded"
 known_text (Some s) = codes "destination at " ++ stood_text s
 
--- how a frame leaves at a port
-abbrev pub egress_word : Option Egress → List ℕ
-egress_word None = codes " no member"
-egress_word (Some Tagged) = codes " tagged"
-egress_word (Some Untagged) = codes " untagged"
-
 -- why a packet isn't sent
 abbrev pub unsent_text : Option Reason → List ℕ
 unsent_text None = []
@@ -139,8 +36,6 @@ unsent_text (Some reason) = codes ", not sent " ++ name_of reason
 abbrev pub length_text : ℕ → ℕ → List ℕ
 length_text packet mtu = codes ", packet " ++ decimal packet ++ codes " of at most " ++ decimal mtu
 
--- ---- lines
-
 -- the port of a number
 abbrev pub port_text : ℕ → List ℕ
 port_text port = codes "port p" ++ decimal port
@@ -149,6 +44,8 @@ port_text port = codes "port p" ++ decimal port
 abbrev pub tunnel_port_text : Option Tunnel → List ℕ
 tunnel_port_text None = codes "port of no tunnel"
 tunnel_port_text (Some kind) = codes "port of " ++ tunnel_word kind
+
+-- ---- lines
 
 -- what a test saw
 abbrev pub words : Fact → List ℕ
@@ -165,7 +62,7 @@ words facts.CutTag = codes "tag cut short"
 words facts.ReservedVid = codes "vid 4095 reserved"
 words (facts.Accepts port tagged taken) = port_text port ++ takes_word taken ++ tagged_word tagged
 words (facts.Segment vid by_tag) = codes "segment " ++ decimal vid ++ codes " by the vid of " ++ origin_word by_tag
-words (facts.NoSegment by_tag) = codes "no segment by the vid of " ++ origin_word by_tag
+words (facts.NoSegment vid by_tag) = codes "no segment " ++ decimal vid ++ codes " by the vid of " ++ origin_word by_tag
 words (facts.Member port egress) = port_text port ++ member_word egress
 words facts.NotIp = codes "neither ip4 nor ip6"
 words facts.BadIp = codes "ip header cut, or a length wrong"
@@ -193,6 +90,7 @@ words (facts.Fixed stood) = codes "source not learned, it is at " ++ stood_text 
 words (facts.Full limit) = codes "source not learned, the table has its limit of " ++ decimal limit
 words facts.ToGroup = codes "destination a group, flooded"
 words (facts.Known stood) = known_text stood
+words (facts.Dead stood since) = codes "destination dead since " ++ decimal since ++ codes ", before at " ++ stood_text stood ++ codes ", flooded"
 words (facts.Same place) = place_text place ++ codes " is where it came from"
 words (facts.Horizon place) = place_text place ++ codes " is of the sender's horizon group"
 words (facts.Shut place) = place_text place ++ codes " down, or no member"

@@ -4,11 +4,11 @@ use Rattle.std.specs.Option.{option_map}
 use Rattle.frame_view.specs.declared.reason.Reason.{Reason}
 use Rattle.frame_view.specs.declared.reason.Reason.TheVariants.{TooLong, Sliced, Runt, PortDown, BadSource, Reserved, CutTag, BadVid, FrameType, NoSegment, NotMember}
 use Rattle.frame_view.specs.declared.reason.Refused.{Refused}
-use Rattle.vlan_ports.specs.Ingress.{local_reasons}
-use Rattle.vlan_ports.specs.Ports.{Ports, is_up, egress_at}
+use Rattle.vlan_ports.specs.Ingress.{local_reasons, segment_vid}
+use Rattle.vlan_ports.specs.Ports.{Ports, port_at, is_up, egress_at}
 use Rattle.endpoint_core.specs.Arrival.{came_at}
 use Rattle.endpoint_core.specs.Came.{Came}
-use Rattle.event_story.specs.Ether.{header_fact, source_fact, destination_fact, tag_fact, has_vid}
+use Rattle.event_story.specs.Ether.{header_fact, source_fact, destination_fact, tag_fact, vid_in, has_vid}
 use Rattle.event_story.specs.Tests.{refusal_of, segment_of, refuses, told}
 use Rattle.event_story.specs.declared.fact.Fact.{Fact}
 use Rattle.event_story.specs.declared.fact.Fact.TheVariants as facts
@@ -17,10 +17,14 @@ use Rattle.event_story.specs.declared.fact.Fact.TheVariants as facts
 abbrev pub local_tests : List Reason
 local_tests = TooLong ∷ Sliced ∷ local_reasons
 
--- the segment of a frame, by the VID of its tag or of the port
-abbrev pub segment_fact : List ℕ → Option ℕ → Fact
-segment_fact b None = facts.NoSegment (has_vid b)
-segment_fact b (Some vid) = facts.Segment vid (has_vid b)
+-- the VID of a frame at a port: that of its tag, or the port's
+abbrev pub vid_at : Ports → ℕ → List ℕ → ℕ
+vid_at s port b = segment_vid (port_at s port).pvid (vid_in b)
+
+-- the segment of that VID, if there is one
+abbrev pub segment_fact : Ports → ℕ → List ℕ → Option ℕ → Fact
+segment_fact s port b None = facts.NoSegment (vid_at s port b) (has_vid b)
+segment_fact s port b (Some vid) = facts.Segment vid (has_vid b)
 
 -- the port among the members of that segment
 abbrev pub member_fact : Ports → ℕ → ℕ → Fact
@@ -37,7 +41,7 @@ local_fact s port original b came Reserved = destination_fact b
 local_fact s port original b came CutTag = tag_fact b
 local_fact s port original b came BadVid = if refuses (refusal_of came) BadVid then Some facts.ReservedVid else None
 local_fact s port original b came FrameType = Some (facts.Accepts port (has_vid b) (not (refuses (refusal_of came) FrameType)))
-local_fact s port original b came NoSegment = Some (segment_fact b (segment_of came))
+local_fact s port original b came NoSegment = Some (segment_fact s port b (segment_of came))
 local_fact s port original b came NotMember = option_map (member_fact s port) (segment_of came)
 local_fact s port original b came _ = None
 

@@ -1,61 +1,86 @@
 //! What the bridge of a segment knows of the addresses of a frame, and what that makes of it.
-ghost use Rattle.std.specs.Prelude.{◌≡◌, ◌≤◌, ◌∷◌, ◌++◌, IsSome, OnOk};
-ghost use Rattle.std.specs.Option.{option_to_list};
+ghost use Rattle.std.specs.Prelude.{◌≡◌, ◌≤◌, ◌++◌, IsSome, OnOk};
+ghost use Rattle.tunnel_learning.specs.Bridge as bridges;
 ghost use Rattle.endpoint_state.specs.Held.{settings_of, state_at, moment_of};
 ghost use Rattle.endpoint_state.specs.Settings.{segment_at};
-ghost use Rattle.event_story.specs.Bridge.{learned_fact, source_fact, known_fact, place_fact, flood_fact, aim_by, aim_fact, bridge_facts};
+ghost use Rattle.event_story.specs.Bridge.{learned_fact, source_fact, place_fact, flood_fact, aim_by, aim_fact, bridge_told, bridge_facts};
 
 use crate::fact::Fact;
+use crate::flood::put_flooded_facts;
+use crate::known::{known_fact, stood_fact};
 use crate::refusal::{put, put_one};
 use endpoint_core::Came;
 use endpoint_state::EndpointState;
 use filter_db::{Entry, Place};
 use frame_view::Reason;
 use std::alloc::{AllocError, Global};
+use tunnel_learning::Bridge;
 
 /// Puts what there is to tell of a frame that came to a segment at a moment, and that is dropped for this reason, if it
-/// is, behind some facts. The moment isn't before any earlier one. `AllocError`: there was no room for them.
+/// is, behind some facts. `left` is the moment of the last event. Neither moment is before that of the tables.
+/// `AllocError`: there was no room for the facts, or for lists of entries.
 pub(crate) fn put_bridge_facts(
     facts: &mut Vec<Fact>,
     alloc: Global,
     state: &EndpointState,
+    left: u64,
     now: u64,
     came: &Came,
     dropped: Option<Reason>,
 ) -> Result<(), AllocError>
+    requires left { moment_of state.now ≤ left }
     requires time { moment_of state.now ≤ now }
     requires there { IsSome (segment_at (settings_of state.now) came.now.vid) }
-    ensures { OnOk result (facts.new.items ≡ facts.old.items ++ bridge_facts now (state_at now state.now) came.now dropped) }
+    ensures { OnOk result (facts.new.items ≡ facts.old.items ++ bridge_facts now (state_at left state.now) (state_at now state.now) came.now dropped) }
 {
     let vid = came.segment();
     let from = came.place();
     let frame = came.frame();
     let source = state.entry(alloc, vid, frame.src, now)?;
     let entries = state.entry_count(alloc, vid, now)?;
+    let before = state.entry(alloc, vid, frame.dst, left)?;
     let destination = state.destination(alloc, now, vid, from, frame)?;
+    let stood = stood_fact(now, state.ageing(vid), before, destination);
     let limit = state.limit(vid);
-    let learning = state.bridge(vid).learning;
+    let bridge = state.bridge(vid);
     let group = frame.dst.is_group();
     put_told(
         facts,
-        source_fact(learning, limit, entries, from, source),
-        known_fact(group, destination),
-        aim_fact(group, destination, dropped),
+        &bridge,
+        limit,
+        entries,
+        from,
+        source,
+        group,
+        destination,
+        stood,
+        dropped,
     )
 }
 
-/// Puts two facts, and a third where there is one.
+/// Puts the same by what the bridge goes by and what stands for both addresses, in a table with so many entries.
 fn put_told(
     facts: &mut Vec<Fact>,
-    source: Fact,
-    destination: Fact,
-    aim: Option<Fact>,
+    bridge: &Bridge,
+    limit: u32,
+    entries: usize,
+    from: Place,
+    source: Option<Entry>,
+    group: bool,
+    destination: Option<Entry>,
+    stood: Fact,
+    dropped: Option<Reason>,
 ) -> Result<(), AllocError>
-    ensures { OnOk result (facts.new.items ≡ facts.old.items ++ source ∷ destination ∷ option_to_list aim) }
+    ensures { OnOk result (facts.new.items ≡ facts.old.items
+        ++ bridge_told (bridges.config_of bridge.now) limit entries from source group destination stood dropped) }
 {
-    put_one(facts, source)?;
-    put_one(facts, destination)?;
-    put(facts, aim)
+    put_one(
+        facts,
+        source_fact(bridge.learning, limit, entries, from, source),
+    )?;
+    put_one(facts, known_fact(group, stood))?;
+    put_flooded_facts(facts, bridge, from, group, destination)?;
+    put(facts, aim_fact(group, destination, dropped))
 }
 
 /// What becomes of a source that came from a place, by what stood for it in a table with so many entries.
@@ -76,17 +101,6 @@ fn source_fact(
         None => Fact::Full { limit },
         Some(entry) if entry.is_fixed() => Fact::Fixed { stood: entry },
         Some(_) => Fact::Learned { place: from, stood },
-    }
-}
-
-/// Where the destination stands, if it isn't a group's.
-fn known_fact(group: bool, stood: Option<Entry>) -> Fact
-    ensures { result ≡ known_fact group stood }
-{
-    if group {
-        Fact::ToGroup
-    } else {
-        Fact::Known { stood }
     }
 }
 

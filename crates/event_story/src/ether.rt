@@ -1,6 +1,6 @@
 //! What the tests of an Ethernet header saw.
 ghost use Rattle.std.specs.Prelude.{◌≡◌};
-ghost use Rattle.event_story.specs.Ether.{header_fact, source_fact, destination_fact, tag_fact, has_vid};
+ghost use Rattle.event_story.specs.Ether.{header_fact, source_fact, destination_fact, tag_fact, vid_in, has_vid};
 
 use crate::fact::Fact;
 use frame_view::{EtherView, Tagging};
@@ -60,6 +60,19 @@ pub(crate) fn tag_fact(octets: &[u8]) -> Option<Fact>
             Tagging::Cut => Some(Fact::CutTag),
         },
         Err(_) => None,
+    }
+}
+
+/// The VID in the tag of a frame, 0 where it has none.
+pub(crate) fn vid_in(octets: &[u8]) -> u16
+    ensures { result ≡ vid_in octets.now }
+{
+    match EtherView::read(octets) {
+        Ok(view) => match view.split_tag() {
+            Tagging::Tagged(tci, _) => tci.vid(),
+            _ => 0,
+        },
+        Err(_) => 0,
     }
 }
 

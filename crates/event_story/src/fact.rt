@@ -64,6 +64,7 @@ pub enum Fact {
     },
     /// No segment has that VID.
     NoSegment {
+        vid: u16,
         by_tag: bool,
     },
     /// How the segment's frames leave at a local port, where that is a member.
@@ -163,11 +164,16 @@ pub enum Fact {
     Known {
         stood: Option<Entry>,
     },
-    /// The place where the destination stands is where the frame came from.
+    /// What stood for the destination, and the moment from which on it is dead, in nanoseconds.
+    Dead {
+        stood: Entry,
+        since: u64,
+    },
+    /// The place is where the frame came from.
     Same {
         place: Place,
     },
-    /// The place where the destination stands is of the sender's horizon group.
+    /// The place is of the sender's horizon group.
     Horizon {
         place: Place,
     },

@@ -1,15 +1,21 @@
 //! Facts as lines.
 ghost use Rattle.std.specs.Prelude.{◌≡◌, ◌++◌, OnOk, codes, decimal, string_bytes};
-ghost use Rattle.endpoint_core.specs.Text.{addr_text, hex_octet};
-ghost use Rattle.event_story.specs.Line.{behind_colons, mac_text, place_text, up_word, bit_word, tunnel_word, group_word, destination_word, takes_word, tagged_word, origin_word, member_word, other_word, receiver_word, sum_word, listed_word, last_text, egress_word, unsent_text, length_text, stood_text, learned_text, known_text, port_text, tunnel_port_text, words, fact_line, facts_text};
+ghost use Rattle.endpoint_core.specs.Text.{addr_text};
+ghost use Rattle.story_words.specs.Words.{mac_text, place_text, up_word, bit_word, tunnel_word, group_word, destination_word, takes_word, tagged_word, origin_word, member_word, sum_word, listed_word, egress_word, stood_text};
+ghost use Rattle.event_story.specs.Line.{unsent_text, length_text, learned_text, known_text, port_text, tunnel_port_text, words, fact_line, facts_text};
 
 use crate::fact::Fact;
-use endpoint_core::{put_addr, put_place};
+use endpoint_core::put_addr;
 use filter_db::{Entry, Place};
 use frame_view::{Mac, Reason};
 use ip_udp_view::{Addr, SumState, Tunnel};
 use std::alloc::AllocError;
 use std::fmt::Write;
+use story_words::{
+    bit_word, destination_word, egress_word, group_word, member_word, origin_word, other_word,
+    put_at, put_behind_place, put_hop, put_listed, put_mac, put_name, put_stood, receiver_word,
+    sum_word, tagged_word, takes_word, tunnel_word, up_word,
+};
 use vlan_ports::Egress;
 
 /// Puts the lines of some facts behind a text. `AllocError`: there was no room for them.
@@ -56,7 +62,7 @@ fn put_words(text: &mut String, fact: Fact) -> Result<(), AllocError>
             taken,
         } => put_accepts(text, port, tagged, taken),
         Fact::Segment { vid, by_tag } => put_segment(text, vid, by_tag),
-        Fact::NoSegment { by_tag } => put_no_segment(text, by_tag),
+        Fact::NoSegment { vid, by_tag } => put_no_segment(text, vid, by_tag),
         Fact::Member { port, egress } => put_member(text, port, egress),
         Fact::NotIp => text.push_str("neither ip4 nor ip6"),
         Fact::BadIp => text.push_str("ip header cut, or a length wrong"),
@@ -90,6 +96,7 @@ fn put_words(text: &mut String, fact: Fact) -> Result<(), AllocError>
         Fact::Full { limit } => put_full(text, limit),
         Fact::ToGroup => text.push_str("destination a group, flooded"),
         Fact::Known { stood } => put_known(text, stood),
+        Fact::Dead { stood, since } => put_dead(text, stood, since),
         Fact::Same { place } => put_behind_place(text, place, " is where it came from"),
         Fact::Horizon { place } => {
             put_behind_place(text, place, " is of the sender's horizon group")
@@ -120,27 +127,6 @@ fn put_ether(text: &mut String, source: Mac, destination: Mac) -> Result<(), All
     put_mac(text, &source.0)?;
     text.push_str(" > ")?;
     put_mac(text, &destination.0)
-}
-
-/// Puts the octets of an address between colons.
-fn put_mac(text: &mut String, octets: &[u8]) -> Result<(), AllocError>
-    ensures { OnOk result (string_bytes text.new ≡ string_bytes text.old ++ mac_text octets.now) }
-{
-    let [first, rest @ ..] = octets else {
-        return Ok(());
-    };
-    put_octet(text, *first)?;
-    for octet in rest {
-        text.push(':')?;
-        put_octet(text, *octet)?;
-    }
-    Ok(())
-}
-
-fn put_octet(text: &mut String, octet: u8) -> Result<(), AllocError>
-    ensures { OnOk result (string_bytes text.new ≡ string_bytes text.old ++ hex_octet octet) }
-{
-    write!(text, "{octet:02x}")
 }
 
 fn put_source(text: &mut String, group: bool) -> Result<(), AllocError>
@@ -193,11 +179,17 @@ fn put_segment(text: &mut String, vid: u16, by_tag: bool) -> Result<(), AllocErr
     )
 }
 
-fn put_no_segment(text: &mut String, by_tag: bool) -> Result<(), AllocError>
-    ensures { OnOk result (string_bytes text.new ≡ string_bytes text.old ++ (codes "no segment by the vid of " ++ origin_word by_tag)) }
+fn put_no_segment(text: &mut String, vid: u16, by_tag: bool) -> Result<(), AllocError>
+    ensures { OnOk result (string_bytes text.new ≡ string_bytes text.old
+        ++ (codes "no segment " ++ decimal vid ++ codes " by the vid of " ++ origin_word by_tag)) }
 {
-    let origin = origin_word(by_tag);
-    write!(text, "no segment by the vid of {origin}")
+    put_numbered(
+        text,
+        "no segment ",
+        vid,
+        " by the vid of ",
+        origin_word(by_tag),
+    )
 }
 
 fn put_member(text: &mut String, port: u8, egress: Option<Egress>) -> Result<(), AllocError>
@@ -309,14 +301,6 @@ fn put_tunnel_numbers(
     write!(text, "{tunnel}{front}{number}{behind}{segment}")
 }
 
-/// Puts whether a group or a sender is on the flood list.
-fn put_listed(text: &mut String, whose: &str, listed: bool) -> Result<(), AllocError>
-    ensures { OnOk result (string_bytes text.new ≡ string_bytes text.old ++ (whose.now ++ listed_word listed)) }
-{
-    let word = listed_word(listed);
-    write!(text, "{whose}{word}")
-}
-
 fn put_learned(text: &mut String, place: Place, stood: Option<Entry>) -> Result<(), AllocError>
     ensures { OnOk result (string_bytes text.new ≡ string_bytes text.old ++ learned_text place stood) }
 {
@@ -354,31 +338,13 @@ fn put_known(text: &mut String, stood: Option<Entry>) -> Result<(), AllocError>
     }
 }
 
-/// Puts where an entry stands, and since when, behind a text.
-fn put_stood(text: &mut String, front: &str, stood: Entry) -> Result<(), AllocError>
-    ensures { OnOk result (string_bytes text.new ≡ string_bytes text.old ++ (front.now ++ stood_text stood)) }
+fn put_dead(text: &mut String, stood: Entry, since: u64) -> Result<(), AllocError>
+    ensures { OnOk result (string_bytes text.new ≡ string_bytes text.old
+        ++ (codes "destination dead since " ++ decimal since ++ codes ", before at " ++ stood_text stood ++ codes ", flooded")) }
 {
-    put_at(text, front, stood.place)?;
-    match stood.last {
-        None => text.push_str(" fixed"),
-        Some(last) => write!(text, " seen at {last}"),
-    }
-}
-
-/// Puts a place behind a text.
-fn put_at(text: &mut String, front: &str, place: Place) -> Result<(), AllocError>
-    ensures { OnOk result (string_bytes text.new ≡ string_bytes text.old ++ (front.now ++ place_text place)) }
-{
-    text.push_str(front)?;
-    put_place(text, true, place)
-}
-
-/// Puts a place before a text.
-fn put_behind_place(text: &mut String, place: Place, behind: &str) -> Result<(), AllocError>
-    ensures { OnOk result (string_bytes text.new ≡ string_bytes text.old ++ (place_text place ++ behind.now)) }
-{
-    put_place(text, true, place)?;
-    text.push_str(behind)
+    write!(text, "destination dead since {since}")?;
+    put_stood(text, ", before at ", stood)?;
+    text.push_str(", flooded")
 }
 
 fn put_at_port(text: &mut String, port: u8, egress: Option<Egress>) -> Result<(), AllocError>
@@ -407,14 +373,6 @@ fn put_in_tunnel(
     put_unsent(text, reason)
 }
 
-/// Puts an address behind a text.
-fn put_hop(text: &mut String, front: &str, hop: Mac) -> Result<(), AllocError>
-    ensures { OnOk result (string_bytes text.new ≡ string_bytes text.old ++ (front.now ++ mac_text hop)) }
-{
-    text.push_str(front)?;
-    put_mac(text, &hop.0)
-}
-
 fn put_length(text: &mut String, packet: usize, mtu: u16) -> Result<(), AllocError>
     ensures { OnOk result (string_bytes text.new ≡ string_bytes text.old ++ length_text packet mtu) }
 {
@@ -427,134 +385,5 @@ fn put_unsent(text: &mut String, reason: Option<Reason>) -> Result<(), AllocErro
     match reason {
         None => Ok(()),
         Some(reason) => put_name(text, ", not sent ", reason.name()),
-    }
-}
-
-/// Puts a name behind a text.
-fn put_name(text: &mut String, front: &str, name: &str) -> Result<(), AllocError>
-    ensures { OnOk result (string_bytes text.new ≡ string_bytes text.old ++ (front.now ++ name.now)) }
-{
-    text.push_str(front)?;
-    text.push_str(name)
-}
-
-fn egress_word(egress: Option<Egress>) -> &'static str
-    ensures { result.now ≡ egress_word egress }
-{
-    match egress {
-        None => " no member",
-        Some(Egress::Tagged) => " tagged",
-        Some(Egress::Untagged) => " untagged",
-    }
-}
-
-fn up_word(up: bool) -> &'static str
-    ensures { result.now ≡ up_word up }
-{
-    if up { "up" } else { "down" }
-}
-
-fn bit_word(bit: bool) -> &'static str
-    ensures { result.now ≡ bit_word bit }
-{
-    if bit { "1" } else { "0" }
-}
-
-fn tunnel_word(kind: Tunnel) -> &'static str
-    ensures { result.now ≡ tunnel_word kind }
-{
-    match kind {
-        Tunnel::Vxlan => "vxlan",
-        Tunnel::Geneve => "geneve",
-    }
-}
-
-fn group_word(group: bool) -> &'static str
-    ensures { result.now ≡ group_word group }
-{
-    if group { "group" } else { "individual" }
-}
-
-fn destination_word(group: bool, reserved: bool) -> &'static str
-    ensures { result.now ≡ destination_word group reserved }
-{
-    if reserved {
-        "reserved"
-    } else {
-        group_word(group)
-    }
-}
-
-fn takes_word(taken: bool) -> &'static str
-    ensures { result.now ≡ takes_word taken }
-{
-    if taken { " takes " } else { " refuses " }
-}
-
-fn tagged_word(tagged: bool) -> &'static str
-    ensures { result.now ≡ tagged_word tagged }
-{
-    if tagged {
-        "frames with a vid"
-    } else {
-        "frames without a vid"
-    }
-}
-
-fn origin_word(by_tag: bool) -> &'static str
-    ensures { result.now ≡ origin_word by_tag }
-{
-    if by_tag { "the tag" } else { "the port" }
-}
-
-fn member_word(egress: Option<Egress>) -> &'static str
-    ensures { result.now ≡ member_word egress }
-{
-    match egress {
-        None => " no member",
-        Some(Egress::Tagged) => " member, tagged",
-        Some(Egress::Untagged) => " member, untagged",
-    }
-}
-
-fn other_word(other: bool) -> &'static str
-    ensures { result.now ≡ other_word other }
-{
-    if other {
-        "sender another endpoint"
-    } else {
-        "sender no other endpoint"
-    }
-}
-
-fn receiver_word(group: bool, own: bool) -> &'static str
-    ensures { result.now ≡ receiver_word group own }
-{
-    if group {
-        "receiver a group"
-    } else if own {
-        "receiver the endpoint"
-    } else {
-        "receiver another host"
-    }
-}
-
-fn sum_word(state: SumState) -> &'static str
-    ensures { result.now ≡ sum_word state }
-{
-    match state {
-        SumState::Zero => "0",
-        SumState::Right => "right",
-        SumState::Wrong => "wrong",
-    }
-}
-
-fn listed_word(listed: bool) -> &'static str
-    ensures { result.now ≡ listed_word listed }
-{
-    if listed {
-        " on the flood list"
-    } else {
-        " not on the flood list"
     }
 }

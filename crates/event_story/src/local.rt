@@ -1,9 +1,9 @@
 //! How a frame at a local port comes to a segment, test by test.
 ghost use Rattle.std.specs.Prelude.{◌≡◌, ◌≤◌, ◌++◌, length, OnOk};
-ghost use Rattle.event_story.specs.Local.{local_tests, segment_fact, local_fact, local_facts_of};
+ghost use Rattle.event_story.specs.Local.{local_tests, vid_at, segment_fact, local_fact, local_facts_of};
 ghost use Rattle.event_story.specs.Tests.{refusal_of, told};
 
-use crate::ether::{destination_fact, has_vid, header_fact, source_fact, tag_fact};
+use crate::ether::{destination_fact, has_vid, header_fact, source_fact, tag_fact, vid_in};
 use crate::fact::Fact;
 use crate::refusal::{put, refusal_of, refuses, segment_of};
 use endpoint_core::Came;
@@ -109,7 +109,7 @@ fn local_fact(
             tagged: has_vid(octets),
             taken: !refuses(refusal_of(came), test),
         }),
-        Reason::NoSegment => Some(segment_fact(octets, segment_of(came))),
+        Reason::NoSegment => Some(segment_fact(ports, port, octets, segment_of(came))),
         Reason::NotMember => match segment_of(came) {
             None => None,
             Some(vid) => Some(Fact::Member {
@@ -121,16 +121,33 @@ fn local_fact(
     }
 }
 
-/// The segment of a frame, by the VID of its tag or of the port.
-fn segment_fact(octets: &[u8], segment: Option<Vid>) -> Fact
-    ensures { result ≡ segment_fact octets.now segment }
+/// The segment of a frame at a port, by the VID of its tag or of the port; or that VID, where there is no segment of it.
+fn segment_fact(ports: &PortSet, port: u8, octets: &[u8], segment: Option<Vid>) -> Fact
+    requires low { 1 ≤ port }
+    requires high { port ≤ length ports.now.ports }
+    ensures { result ≡ segment_fact ports.now port octets.now segment }
 {
     let by_tag = has_vid(octets);
     match segment {
-        None => Fact::NoSegment { by_tag },
+        None => Fact::NoSegment {
+            vid: vid_at(ports, port, octets),
+            by_tag,
+        },
         Some(vid) => Fact::Segment {
             vid: vid.get(),
             by_tag,
         },
+    }
+}
+
+/// The VID of a frame at a port: that of its tag, or the port's.
+fn vid_at(ports: &PortSet, port: u8, octets: &[u8]) -> u16
+    requires low { 1 ≤ port }
+    requires high { port ≤ length ports.now.ports }
+    ensures { result ≡ vid_at ports.now port octets.now }
+{
+    match vid_in(octets) {
+        0 => ports.pvid(port).get(),
+        vid => vid,
     }
 }

@@ -1,6 +1,5 @@
 //! The story of an event.
-ghost use Rattle.std.specs.Prelude.{◌≡◌, ◌≤◌, ◌++◌, length, IfOk, OnOk, IsSome, Ok, codes, decimal, string_bytes};
-ghost use Rattle.timeline.specs.Words.{source_word, tap_word};
+ghost use Rattle.std.specs.Prelude.{◌≡◌, ◌≤◌, ◌++◌, length, IfOk, OnOk, IsSome, Ok};
 ghost use Rattle.endpoint_state.specs.Held.{settings_of, state_at, moment_of};
 ghost use Rattle.endpoint_state.specs.Settings.{segment_at};
 ghost use Rattle.endpoint_state.specs.State.{aged};
@@ -8,8 +7,7 @@ ghost use Rattle.endpoint_core.specs.Decision.{octets_of};
 ghost use Rattle.endpoint_core.specs.Event.{frame_at, packet_at};
 ghost use Rattle.endpoint_core.specs.Kept.{state_of};
 ghost use Rattle.endpoint_core.specs.Step.{Decided, answer};
-ghost use Rattle.decision_lines.specs.Lines.{front_text, line_front, segment_text};
-ghost use Rattle.event_story.specs.Story.{came_facts, frame_facts, arrival_facts, told, is_there, can_come, story};
+ghost use Rattle.event_story.specs.Story.{came_facts, frame_facts, arrival_facts, told, is_there, can_come, story, run_story};
 
 use crate::bridge::put_bridge_facts;
 use crate::fact::Fact;
@@ -17,12 +15,14 @@ use crate::line::put_facts;
 use crate::local::put_local_facts;
 use crate::outlets::put_outlet_facts;
 use crate::packet::put_packet_facts;
+use change_story::story_of_change;
 use endpoint_core::{Came, Decision, Endpoint, result_text};
 use endpoint_state::EndpointState;
-use frame_view::{Refused, Vid};
+use frame_view::Refused;
+use overlay_settings::TimedChange;
 use std::alloc::{AllocError, Global};
-use std::fmt::Write;
-use timeline::{Event, Happening, Source, Tap};
+use story_words::put_line_front;
+use timeline::{Event, Happening, Tap};
 
 /// The story of an event of this number, in the state in which it comes to an endpoint: what each test saw, a line each,
 /// in the order of the tests up to the one that refuses, what the bridge knows of both addresses, and last the decision
@@ -61,6 +61,26 @@ pub fn story_of_event(
     }
 }
 
+/// The same of an event of a run with these changes, in their order: the story of a change is that of
+/// [`story_of_change`], and there is none of a change that isn't among them.
+pub fn story_in_run(
+    alloc: Global,
+    endpoint: &Endpoint,
+    changes: &[TimedChange],
+    number: u64,
+    event: &Event,
+) -> Result<Vec<u8>, AllocError>
+    ensures { IfOk result (λ text. text.items ≡ run_story changes.now (state_of endpoint.now) number event.now) }
+{
+    match &event.happening {
+        Happening::Change(index) => match changes.get(*index) {
+            Some(timed) => story_of_change(alloc, endpoint, number, event, timed.change),
+            None => Ok(Vec::new(alloc)),
+        },
+        Happening::Record(..) => story_of_event(alloc, endpoint, number, event),
+    }
+}
+
 /// Whether an event can come to an endpoint.
 fn can_come(endpoint: &Endpoint, event: &Event) -> bool
     ensures { result ≡ can_come (state_of endpoint.now) event.now }
@@ -92,15 +112,16 @@ fn frame_story(
     requires low { 1 ≤ port }
     requires high { port ≤ length (state_of endpoint.now).bridges.settings.ports.ports }
     ensures { let s = state_of endpoint.now in let t = event.now.moment in
-        IfOk result (λ text. text.items ≡ told number event.now (frame_facts t (aged t s.bridges) port original octets.now) (answer s (frame_at t port original octets.now))) }
+        IfOk result (λ text. text.items ≡ told number event.now (frame_facts t s.bridges (aged t s.bridges) port original octets.now) (answer s (frame_at t port original octets.now))) }
 {
     let now = event.moment;
+    let left = endpoint.now();
     let state = endpoint.state();
     let came = endpoint.frame_from(port, original, octets);
     let decision = endpoint.foresee_frame(alloc, now, port, original, octets)?;
     let mut facts = Vec::new(alloc);
     put_local_facts(&mut facts, state.ports(), port, original, octets, &came)?;
-    put_came_facts(&mut facts, alloc, state, now, &came, &decision)?;
+    put_came_facts(&mut facts, alloc, state, left, now, &came, &decision)?;
     let text = told(alloc, number, event, &facts, &decision)?;
     Ok(text)
 }
@@ -116,35 +137,38 @@ fn packet_story(
 ) -> Result<Vec<u8>, AllocError>
     requires time { (state_of endpoint.now).moment ≤ event.now.moment }
     ensures { let s = state_of endpoint.now in let t = event.now.moment in
-        IfOk result (λ text. text.items ≡ told number event.now (arrival_facts t (aged t s.bridges) original octets.now) (answer s (packet_at t original octets.now))) }
+        IfOk result (λ text. text.items ≡ told number event.now (arrival_facts t s.bridges (aged t s.bridges) original octets.now) (answer s (packet_at t original octets.now))) }
 {
     let now = event.moment;
+    let left = endpoint.now();
     let state = endpoint.state();
     let came = endpoint.frame_in(original, octets);
     let decision = endpoint.foresee_packet(alloc, now, original, octets)?;
     let mut facts = Vec::new(alloc);
     put_packet_facts(&mut facts, state.under(), original, octets, &came)?;
-    put_came_facts(&mut facts, alloc, state, now, &came, &decision)?;
+    put_came_facts(&mut facts, alloc, state, left, now, &came, &decision)?;
     let text = told(alloc, number, event, &facts, &decision)?;
     Ok(text)
 }
 
 /// Puts what the bridge of its segment makes of a frame that comes to one at a moment, of which this is decided, and how it
-/// leaves at each outlet.
+/// leaves at each outlet. `left` is the moment of the last event.
 fn put_came_facts(
     facts: &mut Vec<Fact>,
     alloc: Global,
     state: &EndpointState,
+    left: u64,
     now: u64,
     came: &Result<Came, Refused>,
     decision: &Decision,
 ) -> Result<(), AllocError>
+    requires left { moment_of state.now ≤ left }
     requires time { moment_of state.now ≤ now }
     requires there { IfOk came.now (λ x. IsSome (segment_at (settings_of state.now) x.vid)) }
-    ensures { OnOk result (facts.new.items ≡ facts.old.items ++ came_facts now (state_at now state.now) came.now (octets_of decision.now)) }
+    ensures { OnOk result (facts.new.items ≡ facts.old.items ++ came_facts now (state_at left state.now) (state_at now state.now) came.now (octets_of decision.now)) }
 {
     match came {
-        Ok(came) => put_course_facts(facts, alloc, state, now, came, decision),
+        Ok(came) => put_course_facts(facts, alloc, state, left, now, came, decision),
         Err(_) => Ok(()),
     }
 }
@@ -154,15 +178,17 @@ fn put_course_facts(
     facts: &mut Vec<Fact>,
     alloc: Global,
     state: &EndpointState,
+    left: u64,
     now: u64,
     came: &Came,
     decision: &Decision,
 ) -> Result<(), AllocError>
+    requires left { moment_of state.now ≤ left }
     requires time { moment_of state.now ≤ now }
     requires there { IsSome (segment_at (settings_of state.now) came.now.vid) }
-    ensures { OnOk result (facts.new.items ≡ facts.old.items ++ came_facts now (state_at now state.now) (Ok came.now) (octets_of decision.now)) }
+    ensures { OnOk result (facts.new.items ≡ facts.old.items ++ came_facts now (state_at left state.now) (state_at now state.now) (Ok came.now) (octets_of decision.now)) }
 {
-    put_bridge_facts(facts, alloc, state, now, came, decision.dropped())?;
+    put_bridge_facts(facts, alloc, state, left, now, came, decision.dropped())?;
     put_outlet_facts(
         facts,
         state,
@@ -184,69 +210,10 @@ fn told(
 {
     let mut text = String::new(alloc);
     put_facts(&mut text, facts)?;
-    put_front(&mut text, number, event)?;
-    put_segment(&mut text, decision.segment())?;
+    put_line_front(&mut text, number, event, decision.segment())?;
     let mut line = text.into_bytes();
     let result = result_text(alloc, decision)?;
     line.extend_from_slice(&result)?;
     line.push(b'\n')?;
     Ok(line)
-}
-
-/// Puts what stands before the segment in a decision line: the event's number, its moment, its source and its number there.
-fn put_front(text: &mut String, number: u64, event: &Event) -> Result<(), AllocError>
-    ensures { OnOk result (string_bytes text.new ≡ string_bytes text.old ++ line_front number event.now) }
-{
-    put_origin(text, number, event.moment, event.source(), event.number)
-}
-
-/// The same of an event that is told by its parts.
-fn put_origin(
-    text: &mut String,
-    number: u64,
-    moment: u64,
-    source: Source,
-    own: u64,
-) -> Result<(), AllocError>
-    ensures { OnOk result (string_bytes text.new ≡ string_bytes text.old ++ front_text number moment source own) }
-{
-    write!(text, "{number} {moment} ")?;
-    put_source(text, source)?;
-    write!(text, " {own} ")
-}
-
-/// Puts where an event comes from.
-fn put_source(text: &mut String, source: Source) -> Result<(), AllocError>
-    ensures { OnOk result (string_bytes text.new ≡ string_bytes text.old ++ source_word source) }
-{
-    match source {
-        Source::Changes => text.push('c'),
-        Source::Tap(tap) => put_tap(text, tap),
-    }
-}
-
-/// Puts where a capture is taken.
-fn put_tap(text: &mut String, tap: Tap) -> Result<(), AllocError>
-    ensures { OnOk result (string_bytes text.new ≡ string_bytes text.old ++ tap_word tap) }
-{
-    match tap {
-        Tap::Underlay => text.push('u'),
-        Tap::Port(port) => write!(text, "p{port}"),
-    }
-}
-
-/// Puts the VID of a segment, or a dash for none, and a space.
-fn put_segment(text: &mut String, segment: Option<Vid>) -> Result<(), AllocError>
-    ensures { OnOk result (string_bytes text.new ≡ string_bytes text.old ++ (segment_text segment ++ codes " ")) }
-{
-    match segment {
-        Some(vid) => put_vid(text, vid.get()),
-        None => text.push_str("- "),
-    }
-}
-
-fn put_vid(text: &mut String, number: u16) -> Result<(), AllocError>
-    ensures { OnOk result (string_bytes text.new ≡ string_bytes text.old ++ (decimal number ++ codes " ")) }
-{
-    write!(text, "{number} ")
 }

@@ -28,6 +28,7 @@ use Rattle.timeline.specs.declared.source.Tap.TheVariants as taps
 use Rattle.overlay_settings.specs.declared.change.Change.{Change}
 use Rattle.endpoint_core.specs.Event as event
 use Rattle.capture_run.specs.Outputs.{event_of, input_of}
+use Rattle.capture_run.proofs.Growing.{rising_events}
 use Rattle.noninterference.specs.Coming as coming
 use Rattle.noninterference.proofs.Lists.{all-map}
 use Rattle.noninterference.proofs.Turns.{Before, InTurn, Tie, tap_tie-itself}
@@ -153,10 +154,6 @@ turn_events : (changes : List Change) (es : List Happens) → InTurn Sooner es �
 turn_events changes [] h = tt
 turn_events changes (e ∷ es) h =
     (all-map (Sooner e) (Before (event_of changes e)) (event_of changes) (λ f. before_by changes e f) es h.0, turn_events changes es h.1)
-
-rising_events : (changes : List Change) (t : ℕ) (es : List Happens) → IsRising t es → event.IsRising t (map (event_of changes) es)
-rising_events changes t [] h = tt
-rising_events changes t (e ∷ es) h = (h.0, rising_events changes e.moment es h.1)
 
 pub coming-rises : (changes : List Change) (moments : List ℕ) (vs : List (Vec ℕ Global)) (underlay : List ℕ) (timeline : Timeline) → told moments vs underlay ≡ Ok timeline
     → event.IsRising 0 (map (event_of changes) timeline.events)

@@ -35,7 +35,7 @@ given_by s changes n true found l o is gives =
     let all : by_timeline s changes n (Ok l) ≡ Ok o = subst (λ f. by_timeline s changes n f ≡ Ok o) is gives in cc
 given_by s changes n false found l o is gives = absurd cc
 
-outputs_given : (s : Told) (x : Inputs) (l : Timeline) (o : Outputs) → IsRunOf s x l o → o ≡ outputs (settings_told s) (changes_of x) (length x.ports) l
+pub outputs_given : (s : Told) (x : Inputs) (l : Timeline) (o : Outputs) → IsRunOf s x l o → o ≡ outputs (settings_told s) (changes_of x) (length x.ports) l
 outputs_given s x l o is = given_by s x.changes (length x.ports) (length x.ports == length s.ports) (told (map (λ c. c.at) x.changes) x.ports x.underlay) l o is.read is.outputs
 
 -- each event with its answer, as a run has them

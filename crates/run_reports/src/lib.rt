@@ -2,10 +2,12 @@
 //! end.
 //!
 //! [`Reports`] looks on while `stream_run` runs, and keeps the text. It is shown each event before the endpoint takes it, so a
-//! story is told in the state that the event found.
+//! story is told in the state that the event found. An [`Onlooker`] is that and, where it is wanted, one who counts.
 #![tactic(auto)]
 
 mod name;
+mod onlooker;
 mod reports;
 
+pub use onlooker::Onlooker;
 pub use reports::Reports;

@@ -1,14 +1,16 @@
 //! What a run tells.
-ghost use Rattle.std.specs.Prelude.{◌≡◌, ◌++◌, [], false, IfOk, OnOk, map};
+ghost use Rattle.std.specs.Prelude.{◌≡◌, ◌++◌, [], false, IfOk, OnOk, length, map};
 ghost use Rattle.endpoint_core.specs.Kept.{state_of};
-ghost use Rattle.stream_run.specs.Sights.{sight};
-ghost use Rattle.event_story.specs.Story.{story};
+ghost use Rattle.stream_run.specs.Sights.{due};
+ghost use Rattle.event_story.specs.Story.{run_story};
 ghost use Rattle.table_lines.specs.Lines.{tables_text};
-ghost use Rattle.run_reports.specs.Report.{asked, ended_by, is_asked, is_before, seen_by};
+ghost use Rattle.run_reports.specs.Report.{asked, ended_by, found_behind, is_asked, is_before, seen_by};
 
 use crate::name::is_named;
-use endpoint_core::Endpoint;
-use event_story::story_of_event;
+use endpoint_core::{ChangeFault, Course, Endpoint};
+use event_story::story_in_run;
+use filter_db::Place;
+use overlay_settings::TimedChange;
 use std::alloc::{AllocError, Global};
 use std::marker::Model;
 use stream_run::Watch;
@@ -21,51 +23,59 @@ use timeline::Event;
 pub struct Reports<'n, 'a> {
     alloc: Global,
     names: &'n [&'a str],
+    /// The changes of the run, whose stories may be asked for.
+    changes: &'n [TimedChange],
+    /// For each of the names whether an event had it.
+    found: Vec<bool>,
     due: Option<u64>,
     tables: bool,
     text: Vec<u8>,
     room: String,
-    has_story: bool,
     is_lost: bool,
 }
 
 impl<'n, 'a> Model for Reports<'n, 'a> {
-    ghost use Rattle.std.specs.Prelude.{map};
+    ghost use Rattle.std.specs.Prelude.{◌≡◌, length, map};
     ghost use Rattle.run_reports.specs.Report.{Telling};
 
     ghost Value = { Telling };
 
-    ghost view = { λ r. record { names = map (λ name. name.now) r.names.now; due = r.due; tables = r.tables; text = r.text.items; has_story = r.has_story; is_lost = r.is_lost } };
+    ghost view = { λ r. record { names = map (λ name. name.now) r.names.now; changes = r.changes.now; due = r.due; tables = r.tables; text = r.text.items; found = r.found.items; is_lost = r.is_lost } };
+
+    ghost invariant = { λ r. length r.found.items ≡ length r.names.now };
 }
 
 impl<'n, 'a> Reports<'n, 'a> {
-    /// Asks for why the events of these names came out as they did, and for the tables: as they are behind the last event up
-    /// to a moment, in nanoseconds, and at the end.
+    /// Asks for why the events of these names came out as they did, in a run with these changes, and for the tables: as they
+    /// are behind the last event up to a moment, in nanoseconds, and at the end. `AllocError`: memory was refused.
     pub fn new(
         alloc: Global,
         names: &'n [&'a str],
+        changes: &'n [TimedChange],
         tables_at: Option<u64>,
         tables: bool,
-    ) -> Reports<'n, 'a>
-        ensures { result ≡ asked (map (λ name. name.now) names.entry.now) tables_at tables }
+    ) -> Result<Reports<'n, 'a>, AllocError>
+        ensures { IfOk result (λ reports. reports ≡ asked (map (λ name. name.now) names.entry.now) changes.entry.now tables_at tables) }
     {
-        Reports {
+        let found = vec![in alloc; false; names.len()]?;
+        Ok(Reports {
             alloc,
             names,
+            changes,
+            found,
             due: tables_at,
             tables,
             text: Vec::new(alloc),
             room: String::new(alloc),
-            has_story: false,
             is_lost: false,
-        }
+        })
     }
 
-    /// Whether an event had one of the names.
-    pub fn has_story(&self) -> bool
-        ensures { result ≡ self.now.has_story }
+    /// For each of the names, in their order, whether an event had it.
+    pub fn found(&self) -> &[bool]
+        ensures { result.now ≡ self.now.found }
     {
-        self.has_story
+        self.found.as_slice()
     }
 
     /// What was told. `AllocError`: memory was refused meanwhile.
@@ -81,9 +91,12 @@ impl<'n, 'a> Reports<'n, 'a> {
 }
 
 impl<'n, 'a> Watch for Reports<'n, 'a> {
+    ghost use Rattle.stream_run.specs.Sights.{due};
     ghost use Rattle.run_reports.specs.Report.{TellsOrLoses, ended_by, seen_by};
 
-    ghost sees = { λ old s new. TellsOrLoses (seen_by old s) new };
+    ghost sees = { λ old s new. TellsOrLoses (seen_by old (due s.state s.number s.event)) new };
+
+    ghost expects = { λ old d new. TellsOrLoses (seen_by old d) new };
 
     ghost ends = { λ old state new. TellsOrLoses (ended_by old state) new };
 
@@ -92,6 +105,10 @@ impl<'n, 'a> Watch for Reports<'n, 'a> {
             self.is_lost = true;
         }
     }
+
+    fn hear_decision(&mut self, _endpoint: &Endpoint, _course: &Course, _places: &[Place]) {}
+
+    fn hear_reply(&mut self, _reply: Result<(), ChangeFault>) {}
 
     fn end(&mut self, endpoint: &Endpoint) {
         if !self.is_lost && self.tell_end(endpoint).is_err() {
@@ -103,15 +120,28 @@ impl<'n, 'a> Watch for Reports<'n, 'a> {
 impl<'n, 'a> Reports<'n, 'a> {
     /// Tells what is asked for before an event.
     fn tell(&mut self, endpoint: &Endpoint, number: u64, event: &Event) -> Result<(), AllocError>
-        ensures { OnOk result (self.new ≡ seen_by self.old (sight (state_of endpoint.now) number event.now)) }
+        ensures { OnOk result (self.new ≡ seen_by self.old (due (state_of endpoint.now) number event.now)) }
     {
         if is_before(self.due, event.moment) {
             self.due = None;
             put_tables(self.alloc, &mut self.text, endpoint)?;
         }
-        if is_asked(self.names, &mut self.room, number, event)? {
-            self.has_story = true;
-            put_story(self.alloc, &mut self.text, endpoint, number, event)?;
+        let is_asked = mark_found(
+            self.names,
+            self.found.as_mut_slice(),
+            &mut self.room,
+            number,
+            event,
+        )?;
+        if is_asked {
+            put_story(
+                self.alloc,
+                &mut self.text,
+                endpoint,
+                self.changes,
+                number,
+                event,
+            )?;
         }
         Ok(())
     }
@@ -141,21 +171,25 @@ fn is_before(due: Option<u64>, moment: u64) -> bool
     }
 }
 
-/// Whether an event has one of these names.
-fn is_asked(
+/// Marks those of these names that an event has as found, and answers whether it has one.
+fn mark_found(
     names: &[&str],
+    found: &mut [bool],
     room: &mut String,
     number: u64,
     event: &Event,
 ) -> Result<bool, AllocError>
-    ensures { IfOk result (λ yes. yes ≡ is_asked number event.now (map (λ name. name.now) names.now)) }
+    requires { length found.old ≡ length names.now }
+    ensures asked { IfOk result (λ yes. yes ≡ is_asked number event.now (map (λ name. name.now) names.now)) }
+    ensures found { OnOk result (found.new ≡ found_behind number event.now (map (λ name. name.now) names.now) found.old) }
 {
-    for name in names {
-        if is_named(*name, room, number, event)? {
-            return Ok(true);
-        }
+    let mut is_asked = false;
+    for index in 0..names.len() {
+        let is_its = is_named(names[index], room, number, event)?;
+        found[index] |= is_its;
+        is_asked |= is_its;
     }
-    Ok(false)
+    Ok(is_asked)
 }
 
 /// Puts the tables as they are.
@@ -171,11 +205,12 @@ fn put_story(
     alloc: Global,
     text: &mut Vec<u8>,
     endpoint: &Endpoint,
+    changes: &[TimedChange],
     number: u64,
     event: &Event,
 ) -> Result<(), AllocError>
-    ensures { OnOk result (text.new.items ≡ text.old.items ++ story (state_of endpoint.now) number event.now) }
+    ensures { OnOk result (text.new.items ≡ text.old.items ++ run_story changes.now (state_of endpoint.now) number event.now) }
 {
-    let story = story_of_event(alloc, endpoint, number, event)?;
+    let story = story_in_run(alloc, endpoint, changes, number, event)?;
     text.extend_from_slice(story.as_slice())
 }

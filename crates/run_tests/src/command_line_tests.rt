@@ -26,7 +26,7 @@ const LINES: [(&[&str], &str); 9] = [
             "p1",
             "p2",
         ],
-        "Run { settings: \"s\", changes: None, underlay: \"u\", out: \"d\", ports: [\"p1\", \"p2\"], tables: false, tables_at: None, why: [] }",
+        "Run { settings: \"s\", changes: None, underlay: \"u\", out: \"d\", ports: [\"p1\", \"p2\"], tables: false, tables_at: None, why: [], summary: false }",
     ),
     (
         &["tep", "check", "--changes", "c", "--settings", "s"],
@@ -66,8 +66,9 @@ const LINES: [(&[&str], &str); 9] = [
             "--why=2",
             "--why",
             "u:1",
+            "--summary",
         ],
-        "Run { settings: \"s\", changes: Some(\"c\"), underlay: \"u\", out: \"d\", ports: [\"-\", \"p2\"], tables: true, tables_at: Some(7), why: [\"2\", \"u:1\"] }",
+        "Run { settings: \"s\", changes: Some(\"c\"), underlay: \"u\", out: \"d\", ports: [\"-\", \"p2\"], tables: true, tables_at: Some(7), why: [\"2\", \"u:1\"], summary: true }",
     ),
     (
         &["tep", "check", "-s", "-", "-c", "-", "-u", "u", "p1", "-"],

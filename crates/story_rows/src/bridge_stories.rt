@@ -53,7 +53,8 @@ fn a_bridge_knows_both_addresses(rt: HostRuntime) -> Result<(), Fail> {
 |  segment 10 by the vid of the port
 |  port p1 member, untagged
 |  source new at p1
-|  destination unknown, flooded
+|  destination dead since 303000000000, before at p2 seen at 3000000000, flooded
+|  p1 is where it came from
 |  out p2 untagged
 |  out p3 tagged
 |  out vxlan:192.0.2.2 vni 5000 next hop 02:00:00:00:aa:fe, packet 96 of at most 1550
@@ -97,6 +98,9 @@ fn a_bridge_knows_both_addresses(rt: HostRuntime) -> Result<(), Fail> {
 |  port p1 member, untagged
 |  source new at p1
 |  destination unknown, flooded
+|  p1 is where it came from
+|  port p2 no member
+|  port p3 no member
 |  nobody to flood to
 |1 1000000000 p1 1 10 drop 38 NoOutlet",
         ),
@@ -125,6 +129,7 @@ fn a_frame_leaves_or_does_not(rt: HostRuntime) -> Result<(), Fail> {
 |  port p1 member, untagged
 |  source new at p1
 |  destination unknown, flooded
+|  p1 is where it came from
 |  out p2 untagged
 |  out p3 tagged
 |  out vxlan:192.0.2.2 vni 5000 next hop 02:00:00:00:aa:fe, packet 1336 of at most 1280, not sent TooBig
@@ -147,6 +152,7 @@ fn a_frame_leaves_or_does_not(rt: HostRuntime) -> Result<(), Fail> {
 |  port p1 member, untagged
 |  source new at p1
 |  destination unknown, flooded
+|  p1 is where it came from
 |  out p2 untagged
 |  out p3 tagged
 |  out vxlan:192.0.2.2 vni 5000 next hop 02:00:00:00:aa:fe, packet 92 of at most 1550, not sent InnerTagOut
@@ -170,6 +176,7 @@ fn a_frame_leaves_or_does_not(rt: HostRuntime) -> Result<(), Fail> {
 |  port p1 member, untagged
 |  source not learned, it is at p2 fixed
 |  destination unknown, flooded
+|  p1 is where it came from
 |  out p2 untagged
 |  out p3 tagged
 |  out vxlan:192.0.2.2 vni 5000 next hop 02:00:00:00:aa:fe, packet 96 of at most 1550
@@ -223,6 +230,43 @@ learn
 |4 4000000000 p1 4 10 drop 37 Unreachable",
         ),
     ];
+    assert!(rt; tell(rt.alloc(), &rows)?);
+    Ok(())
+}
+
+#[test]
+fn a_flood_leaves_places_out(rt: HostRuntime) -> Result<(), Fail> {
+    let rows = [(
+        ENDPOINT,
+        r#"flood = ["192.0.2.2"]"#,
+        r#"flood = ["192.0.2.2", "192.0.2.3"]"#,
+        "down
+1 u 110 ETHER 45000060 00004000 4011B689 C0000202 C0000201 CA0712B5 004C0000 08000000 00138800 ALL M1 0806
+|  length 110, at most 65549
+|  captured 110 of 110
+|  ether 02:00:00:00:aa:01 > 02:00:00:00:aa:fe
+|  ip 192.0.2.2 > 192.0.2.1
+|  sender another endpoint
+|  receiver the endpoint
+|  protocol 17
+|  udp 51719 > 4789
+|  port of vxlan
+|  udp checksum 0
+|  vxlan vni 5000 of segment 10
+|  any sender
+|  ether 02:00:00:00:00:01 > ff:ff:ff:ff:ff:ff
+|  source individual
+|  destination group
+|  no tag
+|  source new at vxlan:192.0.2.2
+|  destination a group, flooded
+|  port p2 down
+|  vxlan:192.0.2.2 is where it came from
+|  vxlan:192.0.2.3 is of the sender's horizon group
+|  out p1 untagged
+|  out p3 tagged
+|1 1000000000 u 1 10 p1=60 p3=64",
+    )];
     assert!(rt; tell(rt.alloc(), &rows)?);
     Ok(())
 }

@@ -7,8 +7,12 @@
 #[cfg(test)]
 mod bridge_stories;
 #[cfg(test)]
+mod change_stories;
+#[cfg(test)]
 mod local_stories;
 #[cfg(test)]
 mod packet_stories;
 #[cfg(test)]
 mod told;
+#[cfg(test)]
+mod told_changes;

@@ -23,6 +23,7 @@ fn a_frame_comes_to_a_segment(rt: HostRuntime) -> Result<(), Fail> {
 |  port p1 member, untagged
 |  source new at p1
 |  destination a group, flooded
+|  p1 is where it came from
 |  out p2 untagged
 |  out p3 tagged
 |  out vxlan:192.0.2.2 vni 5000 next hop 02:00:00:00:aa:fe, packet 96 of at most 1550
@@ -45,6 +46,8 @@ fn a_frame_comes_to_a_segment(rt: HostRuntime) -> Result<(), Fail> {
 |  port p3 member, tagged
 |  source new at p3
 |  destination unknown, flooded
+|  port p1 no member
+|  p3 is where it came from
 |  out p2 tagged
 |  out geneve:192.0.2.2 vni 6000 next hop 02:00:00:00:aa:fe, packet 92 of at most 1550
 |1 1000000000 p3 1 20 p2=60 192.0.2.2=106",
@@ -57,6 +60,22 @@ fn a_frame_comes_to_a_segment(rt: HostRuntime) -> Result<(), Fail> {
 #[test]
 fn a_frame_comes_to_none(rt: HostRuntime) -> Result<(), Fail> {
     let rows = [
+        (
+            ENDPOINT,
+            "pvid = 10",
+            "pvid = 40",
+            "1 p1 60 M2 M1 0800
+|  length 60, at most 65535
+|  captured 60 of 60
+|  ether 02:00:00:00:00:01 > 02:00:00:00:00:02
+|  port p1 up
+|  source individual
+|  destination individual
+|  no tag
+|  port p1 takes frames without a vid
+|  no segment 40 by the vid of the port
+|1 1000000000 p1 1 - drop 10 NoSegment",
+        ),
         (
             ENDPOINT,
             "",
@@ -178,7 +197,7 @@ accept = "tagged""#,
 |  destination individual
 |  tag vid 30 pcp 0 dei 1
 |  port p1 takes frames with a vid
-|  no segment by the vid of the tag
+|  no segment 30 by the vid of the tag
 |1 1000000000 p1 1 - drop 10 NoSegment",
         ),
         (

@@ -29,6 +29,7 @@ fn a_packet_brings_a_frame(rt: HostRuntime) -> Result<(), Fail> {
 |  no tag
 |  source new at vxlan:192.0.2.1
 |  destination a group, flooded
+|  vxlan:192.0.2.1 is where it came from
 |  out p1 untagged
 |  out p2 untagged
 |  out p3 tagged

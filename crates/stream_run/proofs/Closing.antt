@@ -9,6 +9,7 @@ use Rattle.endpoint_core.specs.Step.{State, opened}
 use Rattle.endpoint_state.specs.Opened.{settings_told}
 use Rattle.timeline.specs.declared.event.Event.{Event}
 use Rattle.capture_run.specs.Outputs.{Outputs}
+use Rattle.capture_run.specs.Among.{cuts_among}
 use Rattle.capture_run.specs.Writing.{empty_outputs, with_cuts}
 use Rattle.capture_run.specs.declared.fault.RunFault.TheVariants as faults
 use Rattle.stream_run.specs.Begun.{AreAtFirst, OpensInTurn}
@@ -25,6 +26,7 @@ use Rattle.stream_run.specs.declared.fault.Target.{Target}
 use Rattle.stream_run.specs.declared.turn.Turn.{Turn}
 use Rattle.stream_run.proofs.Overall.{all_opened, one_refused, over_all, over_cuts, over_events, over_refused, over_unopened, seen_all, seen_cuts, seen_events, seen_unread, tells_many}
 use Rattle.stream_run.proofs.Wholes.{AllStandAtEnd, all_at_end, all_coming}
+use Rattle.segment_set.specs.Segments.{Segments}
 
 -- all captures were opened, and tell these octets
 pub opened_read : (ports new : List Stream) (underlay new_underlay : Stream) (texts : List (Vec ℕ Global)) (text : List ℕ) → Tells ports underlay texts text → length new ≡ length ports
@@ -34,100 +36,101 @@ opened_read ports new underlay new_underlay texts text tells many opens = record
   each = λ place index at. all_opened ports new underlay new_underlay texts text tells opens place index (subst (λ n. IsAt n index place) many at);
 }
 
-module _ (s : Settings) (changes : List TimedChange) (texts : List (Vec ℕ Global)) (text : List ℕ) (start : Drains) where
-  -- a capture can't be opened, or a read failed
-  pub over_opening : (new : Drains) (ports new_ports : List Stream) (underlay new_underlay : Stream) (fault : StreamFault) → Tells ports underlay texts text → OpensInTurn ports underlay new_ports new_underlay (Err fault)
-      → length texts ≡ length s.ports → StandAt start new (no_texts (length texts)) → LeavesOver s changes texts text start new (Err fault)
-  over_opening new ports new_ports underlay new_underlay (stream.Run (faults.Capture place f)) tells opens many at =
-      over_refused s changes texts text start new opens.0 place f many (one_refused ports new_ports underlay new_underlay texts text place f tells opens) at
-  over_opening new ports new_ports underlay new_underlay (stream.Run (faults.Record place n f)) tells opens many at = absurd opens
-  over_opening new ports new_ports underlay new_underlay (stream.Run (faults.Settings f)) tells opens many at = absurd opens
-  over_opening new ports new_ports underlay new_underlay (stream.Run (faults.Changes f)) tells opens many at = absurd opens
-  over_opening new ports new_ports underlay new_underlay (stream.Run faults.PortCount) tells opens many at = absurd opens
-  over_opening new ports new_ports underlay new_underlay (stream.Run faults.OutOfMemory) tells opens many at = absurd opens
-  over_opening new ports new_ports underlay new_underlay (stream.Read place) tells opens many at = over_unopened s changes texts text start new at
-  over_opening new ports new_ports underlay new_underlay (stream.Write target) tells opens many at = absurd opens
+module _ (segments : Segments) where
+  module _ (s : Settings) (changes : List TimedChange) (texts : List (Vec ℕ Global)) (text : List ℕ) (start : Drains) where
+    -- a capture can't be opened, or a read failed
+    pub over_opening : (new : Drains) (ports new_ports : List Stream) (underlay new_underlay : Stream) (fault : StreamFault) → Tells ports underlay texts text → OpensInTurn ports underlay new_ports new_underlay (Err fault)
+        → length texts ≡ length s.ports → StandAt start new (no_texts (length texts)) → LeavesOver segments s changes texts text start new (Err fault)
+    over_opening new ports new_ports underlay new_underlay (stream.Run (faults.Capture place f)) tells opens many at =
+        over_refused segments s changes texts text start new opens.0 place f many (one_refused ports new_ports underlay new_underlay texts text place f tells opens) at
+    over_opening new ports new_ports underlay new_underlay (stream.Run (faults.Record place n f)) tells opens many at = absurd opens
+    over_opening new ports new_ports underlay new_underlay (stream.Run (faults.Settings f)) tells opens many at = absurd opens
+    over_opening new ports new_ports underlay new_underlay (stream.Run (faults.Changes f)) tells opens many at = absurd opens
+    over_opening new ports new_ports underlay new_underlay (stream.Run faults.PortCount) tells opens many at = absurd opens
+    over_opening new ports new_ports underlay new_underlay (stream.Run faults.OutOfMemory) tells opens many at = absurd opens
+    over_opening new ports new_ports underlay new_underlay (stream.Read place) tells opens many at = over_unopened segments s changes texts text start new at
+    over_opening new ports new_ports underlay new_underlay (stream.Write target) tells opens many at = absurd opens
 
-  -- so nothing was seen
-  pub seen_opening : {T : Type 0} (sees : T → Sight → T → Type 0) (end : T → State → T → Type 0) (watch : T) (new : Drains) (ports new_ports : List Stream) (underlay new_underlay : Stream) (fault : StreamFault)
-      → OpensInTurn ports underlay new_ports new_underlay (Err fault) → StandAt start new (no_texts (length texts)) → SeesOver sees end s changes texts text start new watch watch (Err fault)
-  seen_opening sees end watch new ports new_ports underlay new_underlay (stream.Run (faults.Capture place f)) opens at = refl
-  seen_opening sees end watch new ports new_ports underlay new_underlay (stream.Run (faults.Record place n f)) opens at = absurd opens
-  seen_opening sees end watch new ports new_ports underlay new_underlay (stream.Run (faults.Settings f)) opens at = absurd opens
-  seen_opening sees end watch new ports new_ports underlay new_underlay (stream.Run (faults.Changes f)) opens at = absurd opens
-  seen_opening sees end watch new ports new_ports underlay new_underlay (stream.Run faults.PortCount) opens at = absurd opens
-  seen_opening sees end watch new ports new_ports underlay new_underlay (stream.Run faults.OutOfMemory) opens at = absurd opens
-  seen_opening sees end watch new ports new_ports underlay new_underlay (stream.Read place) opens at = seen_unread s changes texts text start new sees end watch place at
-  seen_opening sees end watch new ports new_ports underlay new_underlay (stream.Write target) opens at = absurd opens
+    -- so nothing was seen
+    pub seen_opening : {T : Type 0} (sees : T → Sight → T → Type 0) (end : T → State → T → Type 0) (watch : T) (new : Drains) (ports new_ports : List Stream) (underlay new_underlay : Stream) (fault : StreamFault)
+        → OpensInTurn ports underlay new_ports new_underlay (Err fault) → StandAt start new (no_texts (length texts)) → SeesOver segments sees end s changes texts text start new watch watch (Err fault)
+    seen_opening sees end watch new ports new_ports underlay new_underlay (stream.Run (faults.Capture place f)) opens at = refl
+    seen_opening sees end watch new ports new_ports underlay new_underlay (stream.Run (faults.Record place n f)) opens at = absurd opens
+    seen_opening sees end watch new ports new_ports underlay new_underlay (stream.Run (faults.Settings f)) opens at = absurd opens
+    seen_opening sees end watch new ports new_ports underlay new_underlay (stream.Run (faults.Changes f)) opens at = absurd opens
+    seen_opening sees end watch new ports new_ports underlay new_underlay (stream.Run faults.PortCount) opens at = absurd opens
+    seen_opening sees end watch new ports new_ports underlay new_underlay (stream.Run faults.OutOfMemory) opens at = absurd opens
+    seen_opening sees end watch new ports new_ports underlay new_underlay (stream.Read place) opens at = seen_unread segments s changes texts text start new sees end watch place at
+    seen_opening sees end watch new ports new_ports underlay new_underlay (stream.Write target) opens at = absurd opens
 
-  module _ (ports : List Stream) (underlay : Stream) (turns : List Turn) (state : State) (d : Drains) (run : Run) (ready : AreReady changes (run_at ports underlay turns state 0 d))
-      (read : AreRead (texts_octets texts) text turns ports underlay) (at : StandAt start d (empty_outputs (length texts))) (is : state ≡ opened (settings_told s)) where
-    -- at the begin of the events all are to come
-    all_are : (es more rest : List Event) → coming changes (texts_octets texts) text turns ≡ es ++ (more ++ rest) → (whole_records changes texts text).events ≡ es ++ (more ++ rest)
-    all_are es more rest first =
-        all_coming changes texts text turns (omega (arith, ready.size, read.many, length-map texts (λ (v : Vec ℕ Global). v.items))) (λ t k lt. let none = ready.done t k lt in omega (arith, none)) ∙ first
+    module _ (ports : List Stream) (underlay : Stream) (turns : List Turn) (state : State) (d : Drains) (run : Run) (ready : AreReady changes (run_at ports underlay turns state 0 d))
+        (read : AreRead (texts_octets texts) text turns ports underlay) (at : StandAt start d (empty_outputs (length texts))) (is : state ≡ opened (settings_told s)) where
+      -- at the begin of the events all are to come
+      all_are : (es more rest : List Event) → coming changes (texts_octets texts) text turns ≡ es ++ (more ++ rest) → (whole_records changes texts text).events ≡ es ++ (more ++ rest)
+      all_are es more rest first =
+          all_coming changes texts text turns (omega (arith, ready.size, read.many, length-map texts (λ (v : Vec ℕ Global). v.items))) (λ t k lt. let none = ready.done t k lt in omega (arith, none)) ∙ first
 
-    -- it stops among the events
-    pub over_run : (fault : StreamFault) → IsRunOn changes (run_at ports underlay turns state 0 d) run (Err fault) → LeavesOver s changes texts text start run.drains (Err fault)
-    over_run fault on =
-        let told = on.told (texts_octets texts) text read in
-        over_events s changes texts text start run.drains fault run on.es on.more told.rest (all_are on.es on.more told.rest told.first) told.ends on.part
-        (subst (λ st. LeadsBehind {T = Unit {0}} changes st start run.drains (empty_outputs (length texts)) on.es on.more (Err fault)) is (on.outputs start (empty_outputs (length texts)) at))
+      -- it stops among the events
+      pub over_run : (fault : StreamFault) → IsRunOn segments changes (run_at ports underlay turns state 0 d) run (Err fault) → LeavesOver segments s changes texts text start run.drains (Err fault)
+      over_run fault on =
+          let told = on.told (texts_octets texts) text read in
+          over_events segments s changes texts text start run.drains fault run on.es on.more told.rest (all_are on.es on.more told.rest told.first) told.ends on.part
+          (subst (λ st. LeadsBehind {T = Unit {0}} segments changes st start run.drains (empty_outputs (length texts)) on.es on.more (Err fault)) is (on.outputs start (empty_outputs (length texts)) at))
 
-    -- it goes through all of them
-    no_more : (on : IsRunOn changes (run_at ports underlay turns state 0 d) run (Ok tt)) → (whole_records changes texts text).events ≡ on.es
-    no_more on =
-        let told = on.told (texts_octets texts) text read in
-        all_are on.es on.more told.rest told.first ∙ ap (λ l. on.es ++ (l ++ told.rest)) on.part ∙ ap (λ l. on.es ++ l) told.ends.0 ∙ append-nil on.es
+      -- it goes through all of them
+      no_more : (on : IsRunOn segments changes (run_at ports underlay turns state 0 d) run (Ok tt)) → (whole_records changes texts text).events ≡ on.es
+      no_more on =
+          let told = on.told (texts_octets texts) text read in
+          all_are on.es on.more told.rest told.first ∙ ap (λ l. on.es ++ (l ++ told.rest)) on.part ∙ ap (λ l. on.es ++ l) told.ends.0 ∙ append-nil on.es
 
-    ends : (on : IsRunOn changes (run_at ports underlay turns state 0 d) run (Ok tt)) → AllStandAtEnd texts text run.turns run.ports run.underlay
-    ends on = all_at_end texts text run.turns run.ports run.underlay (on.told (texts_octets texts) text read).ends.1 on.ready.size on.over
+      ends : (on : IsRunOn segments changes (run_at ports underlay turns state 0 d) run (Ok tt)) → AllStandAtEnd texts text run.turns run.ports run.underlay
+      ends on = all_at_end texts text run.turns run.ports run.underlay (on.told (texts_octets texts) text read).ends.1 on.ready.size on.over
 
-    -- the texts that stand then, and with the lines of the cut captures
-    abbrev pub before_lines : IsRunOn changes (run_at ports underlay turns state 0 d) run (Ok tt) → Outputs
-    before_lines on = texts_behind changes state (empty_outputs (length texts)) on.es
+      -- the texts that stand then, and with the lines of the cut captures
+      abbrev pub before_lines : IsRunOn segments changes (run_at ports underlay turns state 0 d) run (Ok tt) → Outputs
+      before_lines on = texts_behind segments changes state (empty_outputs (length texts)) on.es
 
-    pub over_lines : (new : Drains) (target : Target) (on : IsRunOn changes (run_at ports underlay turns state 0 d) run (Ok tt))
-        → Lead {T = Unit {0}} start new (before_lines on) (with_cuts (before_lines on) (cuts_at run.ports run.underlay run.turns)) (Err target) → LeavesOver s changes texts text start new (Err (stream.Write target))
-    over_lines new target on lead =
-        over_cuts s changes texts text start new target on.es run.turns run.ports run.underlay (no_more on) (ends on)
-        (subst (λ st. StandBetween start new (texts_behind changes st (empty_outputs (length texts)) on.es) (with_cuts (texts_behind changes st (empty_outputs (length texts)) on.es) (cuts_at run.ports run.underlay run.turns))) is lead.0)
+      pub over_lines : (new : Drains) (target : Target) (on : IsRunOn segments changes (run_at ports underlay turns state 0 d) run (Ok tt))
+          → Lead {T = Unit {0}} start new (before_lines on) (with_cuts (before_lines on) (cuts_among segments (cuts_at run.ports run.underlay run.turns))) (Err target) → LeavesOver segments s changes texts text start new (Err (stream.Write target))
+      over_lines new target on lead =
+          over_cuts segments s changes texts text start new target on.es run.turns run.ports run.underlay (no_more on) (ends on)
+          (subst (λ st. StandBetween start new (texts_behind segments changes st (empty_outputs (length texts)) on.es) (with_cuts (texts_behind segments changes st (empty_outputs (length texts)) on.es) (cuts_among segments (cuts_at run.ports run.underlay run.turns)))) is lead.0)
 
-    pub over_whole : (new : Drains) (on : IsRunOn changes (run_at ports underlay turns state 0 d) run (Ok tt)) → length texts ≡ length s.ports
-        → Lead {T = Unit {0}} start new (before_lines on) (with_cuts (before_lines on) (cuts_at run.ports run.underlay run.turns)) (Ok tt) → LeavesOver s changes texts text start new (Ok tt)
-    over_whole new on many lead =
-        over_all s changes texts text start new on.es run.turns run.ports run.underlay many (no_more on) (ends on)
-        (subst (λ st. StandAt start new (with_cuts (texts_behind changes st (empty_outputs (length texts)) on.es) (cuts_at run.ports run.underlay run.turns))) is lead)
+      pub over_whole : (new : Drains) (on : IsRunOn segments changes (run_at ports underlay turns state 0 d) run (Ok tt)) → length texts ≡ length s.ports
+          → Lead {T = Unit {0}} start new (before_lines on) (with_cuts (before_lines on) (cuts_among segments (cuts_at run.ports run.underlay run.turns))) (Ok tt) → LeavesOver segments s changes texts text start new (Ok tt)
+      over_whole new on many lead =
+          over_all segments s changes texts text start new on.es run.turns run.ports run.underlay many (no_more on) (ends on)
+          (subst (λ st. StandAt start new (with_cuts (texts_behind segments changes st (empty_outputs (length texts)) on.es) (cuts_among segments (cuts_at run.ports run.underlay run.turns)))) is lead)
 
-    -- ---- what was seen
+      -- ---- what was seen
 
-    module _ {T : Type 0} (sees : T → Sight → T → Type 0) (end : T → State → T → Type 0) (old_watch : T) where
-      -- the events that came, from the settings on
-      sees_all : (es : List Event) (new_watch : T) → FoldsTo sees old_watch (sights (changes_of changes) state 0 es) new_watch → FoldsTo sees old_watch (sights (changes_of changes) (opened (settings_told s)) 0 es) new_watch
-      sees_all es new_watch h = subst (λ st. FoldsTo sees old_watch (sights (changes_of changes) st 0 es) new_watch) is h
+      module _ {T : Type 0} (sees : T → Sight → T → Type 0) (end : T → State → T → Type 0) (old_watch : T) where
+        -- the events that came, from the settings on
+        sees_all : (es : List Event) (new_watch : T) → FoldsTo sees old_watch (sights segments (changes_of changes) state 0 es) new_watch → FoldsTo sees old_watch (sights segments (changes_of changes) (opened (settings_told s)) 0 es) new_watch
+        sees_all es new_watch h = subst (λ st. FoldsTo sees old_watch (sights segments (changes_of changes) st 0 es) new_watch) is h
 
-      -- where no write failed there is no part of another event
-      sees_whole : (new_watch : T) (on : IsWatchedRun sees changes (run_at ports underlay turns state 0 d) run old_watch new_watch (Ok tt)) → on.run.es ++ on.run.more ≡ on.run.es
-      sees_whole new_watch on = ap (λ l. on.run.es ++ l) on.run.part ∙ append-nil on.run.es
+        -- where no write failed there is no part of another event
+        sees_whole : (new_watch : T) (on : IsWatchedRun segments sees changes (run_at ports underlay turns state 0 d) run old_watch new_watch (Ok tt)) → on.run.es ++ on.run.more ≡ on.run.es
+        sees_whole new_watch on = ap (λ l. on.run.es ++ l) on.run.part ∙ append-nil on.run.es
 
-      pub seen_run : (fault : StreamFault) (new_watch : T) → IsWatchedRun sees changes (run_at ports underlay turns state 0 d) run old_watch new_watch (Err fault) → SeesOver sees end s changes texts text start run.drains old_watch new_watch (Err fault)
-      seen_run fault new_watch on =
-          let told = on.run.told (texts_octets texts) text read in
-          seen_events s changes texts text start run.drains sees end old_watch fault run on.run.es on.run.more told.rest new_watch (all_are on.run.es on.run.more told.rest told.first) told.ends on.run.part
-          (subst (λ st. LeadsBehind {T = Unit {0}} changes st start run.drains (empty_outputs (length texts)) on.run.es on.run.more (Err fault)) is (on.run.outputs start (empty_outputs (length texts)) at))
-          (sees_all (on.run.es ++ on.run.more) new_watch on.seen)
+        pub seen_run : (fault : StreamFault) (new_watch : T) → IsWatchedRun segments sees changes (run_at ports underlay turns state 0 d) run old_watch new_watch (Err fault) → SeesOver segments sees end s changes texts text start run.drains old_watch new_watch (Err fault)
+        seen_run fault new_watch on =
+            let told = on.run.told (texts_octets texts) text read in
+            seen_events segments s changes texts text start run.drains sees end old_watch fault run on.run.es on.run.more told.rest new_watch (all_are on.run.es on.run.more told.rest told.first) told.ends on.run.part
+            (subst (λ st. LeadsBehind {T = Unit {0}} segments changes st start run.drains (empty_outputs (length texts)) on.run.es on.run.more (Err fault)) is (on.run.outputs start (empty_outputs (length texts)) at))
+            (sees_all (on.run.es ++ on.run.more) new_watch on.seen)
 
-      pub seen_lines : (new : Drains) (target : Target) (new_watch : T) (on : IsWatchedRun sees changes (run_at ports underlay turns state 0 d) run old_watch new_watch (Ok tt))
-          → Lead {T = Unit {0}} start new (before_lines on.run) (with_cuts (before_lines on.run) (cuts_at run.ports run.underlay run.turns)) (Err target) → SeesOver sees end s changes texts text start new old_watch new_watch (Err (stream.Write target))
-      seen_lines new target new_watch on lead =
-          seen_cuts s changes texts text start new sees end old_watch target on.run.es run.turns run.ports run.underlay new_watch (no_more on.run) (ends on.run)
-          (subst (λ st. StandBetween start new (texts_behind changes st (empty_outputs (length texts)) on.run.es) (with_cuts (texts_behind changes st (empty_outputs (length texts)) on.run.es) (cuts_at run.ports run.underlay run.turns))) is lead.0)
-          (subst (λ l. FoldsTo sees old_watch (sights (changes_of changes) (opened (settings_told s)) 0 l) new_watch) (sees_whole new_watch on) (sees_all (on.run.es ++ on.run.more) new_watch on.seen))
+        pub seen_lines : (new : Drains) (target : Target) (new_watch : T) (on : IsWatchedRun segments sees changes (run_at ports underlay turns state 0 d) run old_watch new_watch (Ok tt))
+            → Lead {T = Unit {0}} start new (before_lines on.run) (with_cuts (before_lines on.run) (cuts_among segments (cuts_at run.ports run.underlay run.turns))) (Err target) → SeesOver segments sees end s changes texts text start new old_watch new_watch (Err (stream.Write target))
+        seen_lines new target new_watch on lead =
+            seen_cuts segments s changes texts text start new sees end old_watch target on.run.es run.turns run.ports run.underlay new_watch (no_more on.run) (ends on.run)
+            (subst (λ st. StandBetween start new (texts_behind segments changes st (empty_outputs (length texts)) on.run.es) (with_cuts (texts_behind segments changes st (empty_outputs (length texts)) on.run.es) (cuts_among segments (cuts_at run.ports run.underlay run.turns)))) is lead.0)
+            (subst (λ l. FoldsTo sees old_watch (sights segments (changes_of changes) (opened (settings_told s)) 0 l) new_watch) (sees_whole new_watch on) (sees_all (on.run.es ++ on.run.more) new_watch on.seen))
 
-      pub seen_whole : (new : Drains) (last new_watch : T) (on : IsWatchedRun sees changes (run_at ports underlay turns state 0 d) run old_watch last (Ok tt)) → end last run.state new_watch → SeesOver sees end s changes texts text start new old_watch new_watch (Ok tt)
-      seen_whole new last new_watch on ended =
-          let all = sees_whole last on in
-          let from : run.state ≡ state_behind changes (opened (settings_told s)) on.run.es = on.state ∙ ap (state_behind changes state) all ∙ ap (λ st. state_behind changes st on.run.es) is in
-          seen_all s changes texts text start new sees end old_watch on.run.es last new_watch (no_more on.run)
-          (subst (λ l. FoldsTo sees old_watch (sights (changes_of changes) (opened (settings_told s)) 0 l) last) all (sees_all (on.run.es ++ on.run.more) last on.seen))
-          (subst (λ st. end last st new_watch) from ended)
+        pub seen_whole : (new : Drains) (last new_watch : T) (on : IsWatchedRun segments sees changes (run_at ports underlay turns state 0 d) run old_watch last (Ok tt)) → end last run.state new_watch → SeesOver segments sees end s changes texts text start new old_watch new_watch (Ok tt)
+        seen_whole new last new_watch on ended =
+            let all = sees_whole last on in
+            let from : run.state ≡ state_behind segments changes (opened (settings_told s)) on.run.es = on.state ∙ ap (state_behind segments changes state) all ∙ ap (λ st. state_behind segments changes st on.run.es) is in
+            seen_all segments s changes texts text start new sees end old_watch on.run.es last new_watch (no_more on.run)
+            (subst (λ l. FoldsTo sees old_watch (sights segments (changes_of changes) (opened (settings_told s)) 0 l) last) all (sees_all (on.run.es ++ on.run.more) last on.seen))
+            (subst (λ st. end last st new_watch) from ended)

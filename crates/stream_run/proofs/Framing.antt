@@ -30,6 +30,7 @@ use Rattle.stream_run.specs.declared.turn.Turn.{Turn}
 use Rattle.stream_run.proofs.Beginning.{nothing_at}
 use Rattle.stream_run.proofs.Readying.{never_change}
 use Rattle.stream_run.proofs.Standing.{stands_still_at}
+use Rattle.segment_set.specs.Segments.{Segments}
 
 -- ---- turns that were lent
 
@@ -129,43 +130,44 @@ opens_no_write ports underlay new new_underlay (stream.Write target) h = absurd 
 pub none_at : (start : Drains) (n : ℕ) → length start.ports ≡ n → StandAt start start (no_texts n)
 none_at start n many = stands_still_at start (no_texts n) (λ k lt. nothing_at n k) (length-replicate n [] ∙ sym many) refl refl
 
-module _ (s : Settings) (changes : List TimedChange) (start new : Drains) where
-  pub leaves_nothing : (fault : StreamFault) → IsNoWrite (Err fault) → StandAt start new (no_texts (length s.ports)) → Leaves s changes start new (Err fault)
-  leaves_nothing (stream.Run f) no_write at = inl at
-  leaves_nothing (stream.Read place) no_write at = inl at
-  leaves_nothing (stream.Write target) no_write at = absurd no_write
+module _ (segments : Segments) where
+  module _ (s : Settings) (changes : List TimedChange) (start new : Drains) where
+    pub leaves_nothing : (fault : StreamFault) → IsNoWrite (Err fault) → StandAt start new (no_texts (length s.ports)) → Leaves segments s changes start new (Err fault)
+    leaves_nothing (stream.Run f) no_write at = inl at
+    leaves_nothing (stream.Read place) no_write at = inl at
+    leaves_nothing (stream.Write target) no_write at = absurd no_write
 
-  pub leaves_headers : (fault : StreamFault) → IsNoWrite (Err fault) → StandAt start new (empty_outputs (length s.ports)) → Leaves s changes start new (Err fault)
-  leaves_headers (stream.Run f) no_write at = inr ([], at)
-  leaves_headers (stream.Read place) no_write at = inr ([], at)
-  leaves_headers (stream.Write target) no_write at = absurd no_write
+    pub leaves_headers : (fault : StreamFault) → IsNoWrite (Err fault) → StandAt start new (empty_outputs (length s.ports)) → Leaves segments s changes start new (Err fault)
+    leaves_headers (stream.Run f) no_write at = inr ([], at)
+    leaves_headers (stream.Read place) no_write at = inr ([], at)
+    leaves_headers (stream.Write target) no_write at = absurd no_write
 
-  pub leaves_begun : (target : Target) → StandBetween start new (no_texts (length s.ports)) (empty_outputs (length s.ports)) × FailedAt target start new → Leaves s changes start new (Err (stream.Write target))
-  leaves_begun target h = (no_texts (length s.ports), empty_outputs (length s.ports), inl (refl, refl), h.0, h.1)
+    pub leaves_begun : (target : Target) → StandBetween start new (no_texts (length s.ports)) (empty_outputs (length s.ports)) × FailedAt target start new → Leaves segments s changes start new (Err (stream.Write target))
+    leaves_begun target h = (no_texts (length s.ports), empty_outputs (length s.ports), inl (refl, refl), h.0, h.1)
 
-  pub leaves_events : (state : State) (es more : List Event) (fault : StreamFault) → state ≡ opened (settings_told s) → IsPart {T = Unit {0}} more (Err fault)
-      → LeadsBehind {T = Unit {0}} changes state start new (empty_outputs (length s.ports)) es more (Err fault) → Leaves s changes start new (Err fault)
-  leaves_events state es more fault is part h = by fault part (subst (λ state. LeadsBehind {T = Unit {0}} changes state start new (empty_outputs (length s.ports)) es more (Err fault)) is h)
-    where
-      by : (fault : StreamFault) → IsPart {T = Unit {0}} more (Err fault) → LeadsBehind {T = Unit {0}} changes (opened (settings_told s)) start new (empty_outputs (length s.ports)) es more (Err fault) → Leaves s changes start new (Err fault)
-      by (stream.Run f) part h = inr (es, h)
-      by (stream.Read place) part h = inr (es, h)
-      by (stream.Write target) part h = (texts_of s changes es [], texts_of s changes (es ++ more) [], inr (inl (es, part.0, refl, ap (λ l. texts_of s changes (es ++ l) []) part.1)), h.0, h.1)
+    pub leaves_events : (state : State) (es more : List Event) (fault : StreamFault) → state ≡ opened (settings_told s) → IsPart {T = Unit {0}} more (Err fault)
+        → LeadsBehind {T = Unit {0}} segments changes state start new (empty_outputs (length s.ports)) es more (Err fault) → Leaves segments s changes start new (Err fault)
+    leaves_events state es more fault is part h = by fault part (subst (λ state. LeadsBehind {T = Unit {0}} segments changes state start new (empty_outputs (length s.ports)) es more (Err fault)) is h)
+      where
+        by : (fault : StreamFault) → IsPart {T = Unit {0}} more (Err fault) → LeadsBehind {T = Unit {0}} segments changes (opened (settings_told s)) start new (empty_outputs (length s.ports)) es more (Err fault) → Leaves segments s changes start new (Err fault)
+        by (stream.Run f) part h = inr (es, h)
+        by (stream.Read place) part h = inr (es, h)
+        by (stream.Write target) part h = (texts_of segments s changes es [], texts_of segments s changes (es ++ more) [], inr (inl (es, part.0, refl, ap (λ l. texts_of segments s changes (es ++ l) []) part.1)), h.0, h.1)
 
-  pub leaves_cuts : (state : State) (es : List Event) (cuts : List Cut) (target : Target) → state ≡ opened (settings_told s)
-      → StandBetween start new (texts_behind changes state (empty_outputs (length s.ports)) es) (with_cuts (texts_behind changes state (empty_outputs (length s.ports)) es) cuts) × FailedAt target start new
-      → Leaves s changes start new (Err (stream.Write target))
-  leaves_cuts state es cuts target is h =
-      (texts_of s changes es [], texts_of s changes es cuts, inr (inr (es, cuts, refl, refl)), subst (λ state. StandBetween start new (texts_behind changes state (empty_outputs (length s.ports)) es) (with_cuts (texts_behind changes state (empty_outputs (length s.ports)) es) cuts)) is h.0, h.1)
+    pub leaves_cuts : (state : State) (es : List Event) (cuts : List Cut) (target : Target) → state ≡ opened (settings_told s)
+        → StandBetween start new (texts_behind segments changes state (empty_outputs (length s.ports)) es) (with_cuts (texts_behind segments changes state (empty_outputs (length s.ports)) es) cuts) × FailedAt target start new
+        → Leaves segments s changes start new (Err (stream.Write target))
+    leaves_cuts state es cuts target is h =
+        (texts_of segments s changes es [], texts_of segments s changes es cuts, inr (inr (es, cuts, refl, refl)), subst (λ state. StandBetween start new (texts_behind segments changes state (empty_outputs (length s.ports)) es) (with_cuts (texts_behind segments changes state (empty_outputs (length s.ports)) es) cuts)) is h.0, h.1)
 
-  pub leaves_all : (state : State) (es : List Event) (cuts : List Cut) → state ≡ opened (settings_told s) → StandAt start new (with_cuts (texts_behind changes state (empty_outputs (length s.ports)) es) cuts)
-      → Leaves s changes start new (Ok tt)
-  leaves_all state es cuts is at = (es, cuts, subst (λ state. StandAt start new (with_cuts (texts_behind changes state (empty_outputs (length s.ports)) es) cuts)) is at)
+    pub leaves_all : (state : State) (es : List Event) (cuts : List Cut) → state ≡ opened (settings_told s) → StandAt start new (with_cuts (texts_behind segments changes state (empty_outputs (length s.ports)) es) cuts)
+        → Leaves segments s changes start new (Ok tt)
+    leaves_all state es cuts is at = (es, cuts, subst (λ state. StandAt start new (with_cuts (texts_behind segments changes state (empty_outputs (length s.ports)) es) cuts)) is at)
 
-  pub writes_by : (result : Result (Unit {0}) StreamFault) → Leaves s changes start new result → WritesWith start new result
-  writes_by (Ok x) h = h.2.well
-  writes_by (Err (stream.Write target)) h = h.4
-  writes_by (Err (stream.Run f)) (inl h) = h.well
-  writes_by (Err (stream.Run f)) (inr h) = h.1.well
-  writes_by (Err (stream.Read place)) (inl h) = h.well
-  writes_by (Err (stream.Read place)) (inr h) = h.1.well
+    pub writes_by : (result : Result (Unit {0}) StreamFault) → Leaves segments s changes start new result → WritesWith start new result
+    writes_by (Ok x) h = h.2.well
+    writes_by (Err (stream.Write target)) h = h.4
+    writes_by (Err (stream.Run f)) (inl h) = h.well
+    writes_by (Err (stream.Run f)) (inr h) = h.1.well
+    writes_by (Err (stream.Read place)) (inl h) = h.well
+    writes_by (Err (stream.Read place)) (inr h) = h.1.well

@@ -19,3 +19,4 @@ mod Closing
 mod Framing
 mod Refusing
 mod Showing
+mod Taking

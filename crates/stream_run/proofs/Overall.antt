@@ -14,11 +14,10 @@ use Rattle.overlay_settings.specs.declared.change.TimedChange.{TimedChange}
 use Rattle.endpoint_core.specs.Step.{State, opened}
 use Rattle.endpoint_state.specs.Opened.{settings_told}
 use Rattle.endpoint_state.specs.Settings.{Settings as Bridged}
-use Rattle.timeline.proofs.Orders.{rising_merged}
 use Rattle.timeline.specs.Events.{all_events}
 use Rattle.timeline.specs.Faults.{faults_of}
 use Rattle.timeline.specs.Inputs.{inputs, opened_captures}
-use Rattle.timeline.specs.Order.{IsRising, merged}
+use Rattle.timeline.specs.Order.{merged}
 use Rattle.timeline.specs.Timeline.{Timeline, cuts_of, told, unless}
 use Rattle.timeline.specs.declared.event.Event.{Event}
 use Rattle.timeline.specs.declared.fault.TimelineFault.{TimelineFault}
@@ -26,35 +25,33 @@ use Rattle.timeline.specs.declared.fault.TimelineFault.TheVariants as timeline
 use Rattle.timeline.specs.declared.source.Tap.{Tap}
 use Rattle.timeline.specs.declared.source.Tap.TheVariants.{Port, Underlay}
 use Rattle.capture_run.proofs.Faults.{ports_counted}
-use Rattle.capture_run.proofs.Growing.{outputs_grown}
+use Rattle.capture_run.proofs.Among.{no_cuts_among, ports_counted_among}
+use Rattle.capture_run.specs.Among.{by_timeline_among, cuts_among, outputs_among, with_events_among}
 use Rattle.config_text.specs.declared.fault.SettingsFault.{SettingsFault}
 use Rattle.config_text.specs.declared.fault.SettingsFault.TheVariants as refused_
 use Rattle.capture_run.specs.Fault.{of_changes, of_settings}
-use Rattle.capture_run.specs.Outputs.{Outputs, outputs}
+use Rattle.capture_run.specs.Outputs.{Outputs}
 use Rattle.overlay_config.specs.Fault.{Meaning}
 use Rattle.capture_run.specs.Run.{Gives, by_timeline, run}
-use Rattle.capture_run.specs.Writing.{empty_outputs, with_cuts, with_events}
+use Rattle.capture_run.specs.Writing.{empty_outputs, with_cuts}
 use Rattle.capture_run.specs.declared.fault.RunFault.{RunFault}
 use Rattle.capture_run.specs.declared.fault.RunFault.TheVariants as faults
 use Rattle.stream_run.specs.Begun.{OpensInTurn}
 use Rattle.stream_run.specs.Coming.{EndBefore}
 use Rattle.stream_run.specs.Cuts.{cuts_at}
-use Rattle.stream_run.specs.Over.{BeginsIn, IsRunOver, LeavesOver, StandsSomewhere, Tells, texts_octets, texts_at, whole_records}
+use Rattle.stream_run.specs.Over.{BeginsIn, IsRunOverAmong, LeavesOver, StandsSomewhere, Tells, texts_octets, texts_at, whole_records}
 use Rattle.stream_run.specs.Sights.{Sight, sights}
 use Rattle.stream_run.specs.Stage.{Drains, StandAt, StandBetween, first_of, no_texts, stage}
 use Rattle.stream_run.specs.Steps.{EndsIn, IsAt, IsPart, LeadsBehind, Run, changes_of, octets_at, source_at, texts_behind}
-use Rattle.stream_run.specs.Watched.{IsWatchedOver, SeesOver, first_sights, state_behind}
+use Rattle.stream_run.specs.Watched.{IsWatchedOverAmong, SeesOver, first_sights, state_behind}
 use Rattle.stream_run.specs.declared.fault.StreamFault.{StreamFault}
 use Rattle.stream_run.specs.declared.fault.StreamFault.TheVariants as stream
 use Rattle.stream_run.specs.declared.fault.Target.{Target}
 use Rattle.stream_run.specs.declared.turn.Turn.{Turn}
 use Rattle.stream_run.proofs.Wholes.{AllStandAtEnd, IsFirstRefused, cuts_at_end, first_refused, no_faults, whole_at_end}
+use Rattle.segment_set.specs.Segments.{Segments}
 
 -- ---- the texts of the first events
-
-rising_part : (least : ℕ) (es rest : List Event) → IsRising least (es ++ rest) → IsRising least es
-rising_part least [] rest h = tt
-rising_part least (e ∷ es) rest h = (h.0, rising_part e.moment es rest h.1)
 
 -- so many events, and no cut capture
 uncut : (k : ℕ) (t : Timeline) → k ≤ length t.events → first_of k t ≡ record { events = take k t.events; cuts = [] }
@@ -67,14 +64,6 @@ uncut k t le = by (nat_lt (length t.events) k) refl
 first_events : (t : Timeline) (es rest : List Event) → t.events ≡ es ++ rest → take (length es) t.events ≡ es
 first_events t es rest is = ap (take (length es)) is ∙ take-append_seam es rest
 
-stage_events : (S : Bridged) (cs : List Change) (n : ℕ) (t : Timeline) (es rest : List Event) → IsRising 0 t.events → t.events ≡ es ++ rest
-    → stage S cs n t (suc (length es)) ≡ with_events cs 0 (opened S) (empty_outputs n) es
-stage_events S cs n t es rest rising is =
-    let le : length es ≤ length t.events = omega (arith, ap length is, length-append es rest) in
-    ap (outputs S cs n) (uncut (length es) t le)
-    ∙ ap (λ l. outputs S cs n (record { events = l; cuts = [] })) (first_events t es rest is)
-    ∙ sym (outputs_grown S cs n (record { events = es; cuts = [] }) (rising_part 0 es rest (subst (IsRising 0) is rising)))
-
 -- all events, and the cut captures
 all_of : (k : ℕ) (t : Timeline) → k ≡ length t.events → ◌≡◌ {A = Timeline} (first_of (suc k) t) t
 all_of k t is = by (nat_lt (length t.events) (suc k)) refl (take_all (suc k) t.events (omega (arith, is)))
@@ -82,13 +71,6 @@ all_of k t is = by (nat_lt (length t.events) (suc k)) refl (take_all (suc k) t.e
     by : (b : Bool) → nat_lt (length t.events) (suc k) ≡ b → take (suc k) t.events ≡ t.events → ◌≡◌ {A = Timeline} (record { events = take (suc k) t.events; cuts = cond b t.cuts [] }) t
     by true found all = ap (λ l. record { events = l; cuts = t.cuts }) all
     by false found all = absurd (omega (arith, ltb-false _ _ found, is))
-
-stage_end : (S : Bridged) (cs : List Change) (n : ℕ) (t : Timeline) (es : List Event) → IsRising 0 t.events → t.events ≡ es
-    → stage S cs n t (suc (suc (length es))) ≡ with_cuts (with_events cs 0 (opened S) (empty_outputs n) es) t.cuts
-stage_end S cs n t es rising is =
-    ap (outputs S cs n) (all_of (length es) t (ap length (sym is)))
-    ∙ sym (outputs_grown S cs n t rising)
-    ∙ ap (λ l. with_cuts (with_events cs 0 (opened S) (empty_outputs n) l) t.cuts) is
 
 -- ---- what the captures tell
 
@@ -144,196 +126,6 @@ one_refused ports new underlay new_underlay texts text place fault tells (index,
           (_, reading.records);
     }
 
--- ---- where a run stops
-
-module _ (s : Settings) (changes : List TimedChange) (texts : List (Vec ℕ Global)) (text : List ℕ) (start new : Drains) where
-  abbrev whole : Timeline
-  whole = whole_records changes texts text
-
-  rising : IsRising 0 whole.events
-  rising = rising_merged (all_events (map (λ (c : TimedChange). c.at) changes) (opened_captures (inputs texts text)))
-
-  -- the texts of the headers and of some events
-  abbrev behind : List Event → Outputs
-  behind es = texts_behind changes (opened (settings_told s)) (empty_outputs (length texts)) es
-
-  texts_are : (es rest : List Event) (k : ℕ) → whole.events ≡ es ++ rest → k ≡ length es + 1 → texts_at s changes texts text k ≡ behind es
-  texts_are es rest k is at =
-      let same : k ≡ suc (length es) = omega (arith, at) in
-      ap (texts_at s changes texts text) same ∙ stage_events (settings_told s) (changes_of changes) (length texts) whole es rest rising is
-
-  -- before any capture was opened, or at one of which a read failed
-  pub over_unopened : StandAt start new (no_texts (length texts)) → StandsSomewhere s changes texts text start new
-  over_unopened at = record { k = 0; most = omega arith; stands = at }
-
-  -- at a capture that can't be opened
-  pub over_refused : (index : ℕ) (place : Tap) (fault : CaptureFault) → length texts ≡ length s.ports → IsFirstRefused texts text index place fault → StandAt start new (no_texts (length texts))
-      → LeavesOver s changes texts text start new (Err (stream.Run (faults.Capture place fault)))
-  over_refused index place fault many first at =
-      let found = first_refused texts text index place fault first in (
-        ports_counted s changes texts text (eq-eqb _ _ many)
-            ∙ ap (by_timeline s changes (length texts)) (told_fault (map (λ (c : TimedChange). c.at) changes) texts text (timeline.Capture place fault) found.0 found.1),
-        at,
-      )
-
-  -- among the headers
-  pub over_headers : (target : Target) → StandBetween start new (no_texts (length texts)) (empty_outputs (length texts)) → LeavesOver s changes texts text start new (Err (stream.Write target))
-  over_headers target between = record { k = 0; most = inl (omega arith); stands = subst (StandBetween start new (no_texts (length texts))) (sym (texts_are [] whole.events 1 refl (omega arith))) between }
-
-  stands_behind : (es rest : List Event) → whole.events ≡ es ++ rest → StandAt start new (behind es) → StandsSomewhere s changes texts text start new
-  stands_behind es rest is at = record {
-    k = length es + 1;
-    most = omega (arith, ap length is, length-append es rest);
-    stands = subst (StandAt start new) (sym (texts_are es rest (length es + 1) is refl)) at;
-  }
-
-  -- at the first record of a capture
-  pub over_firsts : (fault : StreamFault) (turns : List Turn) (ports : List Stream) (underlay : Stream) → BeginsIn {T = Unit {0}} (texts_octets texts) text turns ports underlay (Err fault) → StandAt start new (empty_outputs (length texts))
-      → LeavesOver s changes texts text start new (Err fault)
-  over_firsts (stream.Run (faults.Record place n f)) turns ports underlay h at =
-      record { k = 0; faulty = h.0; before = inl (refl, h.1); stands = subst (StandAt start new) (sym (texts_are [] whole.events 1 refl (omega arith))) at }
-  over_firsts (stream.Run (faults.Settings f)) turns ports underlay h at = absurd h
-  over_firsts (stream.Run (faults.Changes f)) turns ports underlay h at = absurd h
-  over_firsts (stream.Run faults.PortCount) turns ports underlay h at = absurd h
-  over_firsts (stream.Run (faults.Capture place f)) turns ports underlay h at = absurd h
-  over_firsts (stream.Run faults.OutOfMemory) turns ports underlay h at = absurd h
-  over_firsts (stream.Read place) turns ports underlay h at = stands_behind [] whole.events refl at
-  over_firsts (stream.Write target) turns ports underlay h at = absurd h
-
-  -- among the events
-  pub over_events : (fault : StreamFault) (run : Run) (es more rest : List Event) → whole.events ≡ es ++ (more ++ rest) → EndsIn {T = Unit {0}} (texts_octets texts) text es rest run (Err fault) → IsPart {T = Unit {0}} more (Err fault)
-      → LeadsBehind {T = Unit {0}} changes (opened (settings_told s)) start new (empty_outputs (length texts)) es more (Err fault) → LeavesOver s changes texts text start new (Err fault)
-  over_events (stream.Run (faults.Record place n f)) run es more rest is h part at = record {
-    k = length es;
-    faulty = h.0;
-    before = inr (subst (EndBefore place n) (sym (first_events whole es (more ++ rest) is)) h.1);
-    stands = subst (StandAt start new) (sym (texts_are es (more ++ rest) (length es + 1) is refl)) at;
-  }
-  over_events (stream.Run (faults.Settings f)) run es more rest is h part at = absurd h
-  over_events (stream.Run (faults.Changes f)) run es more rest is h part at = absurd h
-  over_events (stream.Run faults.PortCount) run es more rest is h part at = absurd h
-  over_events (stream.Run (faults.Capture place f)) run es more rest is h part at = absurd h
-  over_events (stream.Run faults.OutOfMemory) run es more rest is h part at = stands_behind es (more ++ rest) is at
-  over_events (stream.Read place) run es more rest is h part at = stands_behind es (more ++ rest) is at
-  over_events (stream.Write target) run es more rest is h part at =
-      let one : length more ≡ 1 = ap length part.1 in
-      let all : whole.events ≡ (es ++ more) ++ rest = is ∙ sym (append_assoc es more rest) in
-      record {
-        k = length es + 1;
-        most = inl (omega (arith, one, ap length is, length-append es (more ++ rest), length-append more rest));
-        stands = subst (λ o. StandBetween start new o (texts_at s changes texts text (length es + 1 + 1))) (sym (texts_are es (more ++ rest) (length es + 1) is refl))
-            (subst (StandBetween start new (behind es)) (sym (texts_are (es ++ more) rest (length es + 1 + 1) all (omega (arith, one, length-append es more)))) at.0);
-      }
-
-  -- among the lines of the cut captures
-  pub over_cuts : (target : Target) (es : List Event) (turns : List Turn) (ports : List Stream) (underlay : Stream) → whole.events ≡ es → AllStandAtEnd texts text turns ports underlay
-      → StandBetween start new (behind es) (with_cuts (behind es) (cuts_at ports underlay turns)) → LeavesOver s changes texts text start new (Err (stream.Write target))
-  over_cuts target es turns ports underlay is ends between =
-      let same : length es + 1 + 1 ≡ suc (suc (length es)) = omega arith in
-      let all : texts_at s changes texts text (length es + 1 + 1) ≡ with_cuts (behind es) (cuts_at ports underlay turns) =
-      ap (texts_at s changes texts text) same
-      ∙ stage_end (settings_told s) (changes_of changes) (length texts) whole es rising is
-      ∙ ap (with_cuts (behind es)) (cuts_at_end texts text turns ports underlay ends) in
-      record {
-        k = length es + 1;
-        most = inr (ap (λ (l : List Event). length l + 1) (sym is), no_faults texts text (whole_at_end texts text turns ports underlay ends));
-        stands = subst (λ o. StandBetween start new o (texts_at s changes texts text (length es + 1 + 1))) (sym (texts_are es [] (length es + 1) (is ∙ sym (append-nil es)) refl))
-            (subst (StandBetween start new (behind es)) (sym all) between);
-      }
-
-  -- nowhere
-  pub over_all : (es : List Event) (turns : List Turn) (ports : List Stream) (underlay : Stream) → length texts ≡ length s.ports → whole.events ≡ es → AllStandAtEnd texts text turns ports underlay
-      → StandAt start new (with_cuts (behind es) (cuts_at ports underlay turns)) → LeavesOver s changes texts text start new (Ok tt)
-  over_all es turns ports underlay many is ends at =
-      let S = settings_told s in
-      let cs = changes_of changes in (
-        outputs S cs (length texts) whole,
-        ports_counted s changes texts text (eq-eqb _ _ many) ∙ ap (by_timeline s changes (length texts)) (told_whole changes texts text (no_faults texts text (whole_at_end texts text turns ports underlay ends))),
-        subst (StandAt start new)
-            (ap (λ l. with_cuts (behind l) (cuts_at ports underlay turns)) (sym is) ∙ ap (with_cuts (behind whole.events)) (sym (cuts_at_end texts text turns ports underlay ends)) ∙ outputs_grown S cs (length texts) whole rising) at,
-      )
-
-  -- ---- what was seen
-
-  module _ {T : Type 0} (sees : T → Sight → T → Type 0) (ends : T → State → T → Type 0) (old_watch : T) where
-    -- these events were seen
-    abbrev Sees : List Event → T → Type 0
-    Sees es new_watch = FoldsTo sees old_watch (sights (changes_of changes) (opened (settings_told s)) 0 es) new_watch
-
-    abbrev Seen : T → Result (Unit {0}) StreamFault → Type 0
-    Seen new_watch result = SeesOver sees ends s changes texts text start new old_watch new_watch result
-
-    -- they are the first ones
-    sees_first : (es rest : List Event) (k : ℕ) (new_watch : T) → whole.events ≡ es ++ rest → k ≡ length es → Sees es new_watch → FoldsTo sees old_watch (first_sights s changes texts text k) new_watch
-    sees_first es rest k new_watch is at h = subst (λ l. Sees l new_watch) (sym (ap (λ k. take k whole.events) at ∙ first_events whole es rest is)) h
-
-    -- nothing was
-    pub seen_unopened : StandAt start new (no_texts (length texts)) → Seen old_watch (Err (stream.Run faults.OutOfMemory))
-    unfolding over_unopened
-    seen_unopened at = (over_unopened at, refl)
-
-    pub seen_unread : (place : Tap) → StandAt start new (no_texts (length texts)) → Seen old_watch (Err (stream.Read place))
-    unfolding over_unopened
-    seen_unread place at = (over_unopened at, refl)
-
-    pub seen_headers : (target : Target) → StandBetween start new (no_texts (length texts)) (empty_outputs (length texts)) → Seen old_watch (Err (stream.Write target))
-    unfolding over_headers
-    seen_headers target between = (over_headers target between, refl)
-
-    pub seen_firsts : (fault : StreamFault) (turns : List Turn) (ports : List Stream) (underlay : Stream) → BeginsIn {T = Unit {0}} (texts_octets texts) text turns ports underlay (Err fault) → StandAt start new (empty_outputs (length texts))
-        → Seen old_watch (Err fault)
-    unfolding over_firsts stands_behind
-    seen_firsts (stream.Run (faults.Record place n f)) turns ports underlay h at = (over_firsts (stream.Run (faults.Record place n f)) turns ports underlay h at, refl)
-    seen_firsts (stream.Run (faults.Settings f)) turns ports underlay h at = absurd h
-    seen_firsts (stream.Run (faults.Changes f)) turns ports underlay h at = absurd h
-    seen_firsts (stream.Run faults.PortCount) turns ports underlay h at = absurd h
-    seen_firsts (stream.Run (faults.Capture place f)) turns ports underlay h at = absurd h
-    seen_firsts (stream.Run faults.OutOfMemory) turns ports underlay h at = absurd h
-    seen_firsts (stream.Read place) turns ports underlay h at = (over_firsts (stream.Read place) turns ports underlay h at, refl)
-    seen_firsts (stream.Write target) turns ports underlay h at = absurd h
-
-    -- the first events were, and where a write failed one more
-    pub seen_events : (fault : StreamFault) (run : Run) (es more rest : List Event) (new_watch : T) → whole.events ≡ es ++ (more ++ rest) → EndsIn {T = Unit {0}} (texts_octets texts) text es rest run (Err fault)
-        → IsPart {T = Unit {0}} more (Err fault) → LeadsBehind {T = Unit {0}} changes (opened (settings_told s)) start new (empty_outputs (length texts)) es more (Err fault) → Sees (es ++ more) new_watch → Seen new_watch (Err fault)
-    unfolding over_events stands_behind
-    seen_events (stream.Run (faults.Record place n f)) run es more rest new_watch is h part at seen = (
-      over_events (stream.Run (faults.Record place n f)) run es more rest is h part at,
-      sees_first (es ++ more) rest _ new_watch (is ∙ sym (append_assoc es more rest)) (omega (arith, ap length part, length-append es more)) seen,
-    )
-    seen_events (stream.Run (faults.Settings f)) run es more rest new_watch is h part at seen = absurd h
-    seen_events (stream.Run (faults.Changes f)) run es more rest new_watch is h part at seen = absurd h
-    seen_events (stream.Run faults.PortCount) run es more rest new_watch is h part at seen = absurd h
-    seen_events (stream.Run (faults.Capture place f)) run es more rest new_watch is h part at seen = absurd h
-    seen_events (stream.Run faults.OutOfMemory) run es more rest new_watch is h part at seen = (
-      over_events (stream.Run faults.OutOfMemory) run es more rest is h part at,
-      sees_first (es ++ more) rest _ new_watch (is ∙ sym (append_assoc es more rest)) (omega (arith, ap length part, length-append es more)) seen,
-    )
-    seen_events (stream.Read place) run es more rest new_watch is h part at seen = (
-      over_events (stream.Read place) run es more rest is h part at,
-      sees_first (es ++ more) rest _ new_watch (is ∙ sym (append_assoc es more rest)) (omega (arith, ap length part, length-append es more)) seen,
-    )
-    seen_events (stream.Write target) run es more rest new_watch is h part at seen = (
-      over_events (stream.Write target) run es more rest is h part at,
-      sees_first (es ++ more) rest _ new_watch (is ∙ sym (append_assoc es more rest)) (omega (arith, ap length part.1, length-append es more)) seen,
-    )
-
-    -- all events were, but not the end
-    pub seen_cuts : (target : Target) (es : List Event) (turns : List Turn) (ports : List Stream) (underlay : Stream) (new_watch : T) → whole.events ≡ es → AllStandAtEnd texts text turns ports underlay
-        → StandBetween start new (behind es) (with_cuts (behind es) (cuts_at ports underlay turns)) → Sees es new_watch → Seen new_watch (Err (stream.Write target))
-    unfolding over_cuts
-    seen_cuts target es turns ports underlay new_watch is at_end between seen = (
-      over_cuts target es turns ports underlay is at_end between,
-      subst (λ l. Sees l new_watch) (sym (take_all (length es + 1) whole.events (omega (arith, ap length is)) ∙ is)) seen,
-    )
-
-    -- all events were, and then the end
-    pub seen_all : (es : List Event) (last new_watch : T) → whole.events ≡ es → Sees es last → ends last (state_behind changes (opened (settings_told s)) es) new_watch → Seen new_watch (Ok tt)
-    seen_all es last new_watch is seen ended = (
-      last,
-      subst (λ l. Sees l last) (sym is) seen,
-      subst (λ l. ends last (state_behind changes (opened (settings_told s)) l) new_watch) (sym is) ended,
-    )
-
 -- ---- refused before
 
 -- a fault of a text or of the number of captures
@@ -359,35 +151,238 @@ changes_refusal (refused_.NotRising key) = tt
 changes_refusal (refused_.OverLimit key) = tt
 changes_refusal refused_.OutOfMemory = tt
 
-module _ (texts : List (Vec ℕ Global)) (text : List ℕ) (start new : Drains) where
-  -- the texts, or the number of captures, are refused, or memory was
-  pub over_refusal : (s : Meaning Settings) (c : Meaning (List TimedChange)) (fault : RunFault) → IsRefusal fault → Gives (Err fault) (run s c texts text) → StandAt start new (no_texts (length texts))
-      → IsRunOver s c texts text start new (Err (stream.Run fault))
-  over_refusal (Ok s) (Ok changes) (faults.Settings f) refusal gives at = (gives, at)
-  over_refusal (Ok s) (Err fault) (faults.Settings f) refusal gives at = (gives, at)
-  over_refusal (Err fault) c (faults.Settings f) refusal gives at = (gives, at)
-  over_refusal (Ok s) (Ok changes) (faults.Changes f) refusal gives at = (gives, at)
-  over_refusal (Ok s) (Err fault) (faults.Changes f) refusal gives at = (gives, at)
-  over_refusal (Err fault) c (faults.Changes f) refusal gives at = (gives, at)
-  over_refusal (Ok s) (Ok changes) faults.PortCount refusal gives at = (gives, at)
-  over_refusal (Ok s) (Err fault) faults.PortCount refusal gives at = (gives, at)
-  over_refusal (Err fault) c faults.PortCount refusal gives at = (gives, at)
-  over_refusal (Ok s) (Ok changes) (faults.Capture place f) refusal gives at = (gives, at)
-  over_refusal (Ok s) (Err fault) (faults.Capture place f) refusal gives at = (gives, at)
-  over_refusal (Err fault) c (faults.Capture place f) refusal gives at = (gives, at)
-  over_refusal s c (faults.Record place n f) refusal gives at = absurd refusal
-  over_refusal (Ok s) (Ok changes) faults.OutOfMemory refusal gives at = over_unopened s changes texts text start new at
-  over_refusal (Ok s) (Err fault) faults.OutOfMemory refusal gives at = at
-  over_refusal (Err fault) c faults.OutOfMemory refusal gives at = at
+module _ (segments : Segments) where
+  stage_events : (S : Bridged) (cs : List Change) (n : ℕ) (t : Timeline) (es rest : List Event) → t.events ≡ es ++ rest
+      → stage segments S cs n t (suc (length es)) ≡ with_events_among segments cs 0 (opened S) (empty_outputs n) es
+  stage_events S cs n t es rest is =
+      let le : length es ≤ length t.events = omega (arith, ap length is, length-append es rest) in
+      ap (outputs_among segments S cs n) (uncut (length es) t le)
+      ∙ ap (λ l. outputs_among segments S cs n (record { events = l; cuts = [] })) (first_events t es rest is)
+      ∙ ap (with_cuts (with_events_among segments cs 0 (opened S) (empty_outputs n) es)) (no_cuts_among segments)
 
-  -- and nothing was seen
-  pub seen_refusal : {T : Type 0} (sees : T → Sight → T → Type 0) (ends : T → State → T → Type 0) (watch : T) (s : Meaning Settings) (c : Meaning (List TimedChange)) (fault : RunFault) → IsRefusal fault → StandAt start new (no_texts (length texts))
-      → IsWatchedOver sees ends s c texts text start new watch watch (Err (stream.Run fault))
-  seen_refusal sees ends watch (Ok s) (Ok changes) (faults.Settings f) refusal at = refl
-  seen_refusal sees ends watch (Ok s) (Ok changes) (faults.Changes f) refusal at = refl
-  seen_refusal sees ends watch (Ok s) (Ok changes) faults.PortCount refusal at = refl
-  seen_refusal sees ends watch (Ok s) (Ok changes) (faults.Capture place f) refusal at = refl
-  seen_refusal sees ends watch (Ok s) (Ok changes) (faults.Record place n f) refusal at = absurd refusal
-  seen_refusal sees ends watch (Ok s) (Ok changes) faults.OutOfMemory refusal at = seen_unopened s changes texts text start new sees ends watch at
-  seen_refusal sees ends watch (Ok s) (Err f) fault refusal at = refl
-  seen_refusal sees ends watch (Err f) c fault refusal at = refl
+  stage_end : (S : Bridged) (cs : List Change) (n : ℕ) (t : Timeline) (es : List Event) → t.events ≡ es
+      → stage segments S cs n t (suc (suc (length es))) ≡ with_cuts (with_events_among segments cs 0 (opened S) (empty_outputs n) es) (cuts_among segments t.cuts)
+  stage_end S cs n t es is =
+      ap (outputs_among segments S cs n) (all_of (length es) t (ap length (sym is)))
+      ∙ ap (λ l. with_cuts (with_events_among segments cs 0 (opened S) (empty_outputs n) l) (cuts_among segments t.cuts)) is
+
+  -- ---- where a run stops
+
+  module _ (s : Settings) (changes : List TimedChange) (texts : List (Vec ℕ Global)) (text : List ℕ) (start new : Drains) where
+    abbrev whole : Timeline
+    whole = whole_records changes texts text
+
+    -- the texts of the headers and of some events
+    abbrev behind : List Event → Outputs
+    behind es = texts_behind segments changes (opened (settings_told s)) (empty_outputs (length texts)) es
+
+    texts_are : (es rest : List Event) (k : ℕ) → whole.events ≡ es ++ rest → k ≡ length es + 1 → texts_at segments s changes texts text k ≡ behind es
+    texts_are es rest k is at =
+        let same : k ≡ suc (length es) = omega (arith, at) in
+        ap (texts_at segments s changes texts text) same ∙ stage_events (settings_told s) (changes_of changes) (length texts) whole es rest is
+
+    -- before any capture was opened, or at one of which a read failed
+    pub over_unopened : StandAt start new (no_texts (length texts)) → StandsSomewhere segments s changes texts text start new
+    over_unopened at = record { k = 0; most = omega arith; stands = at }
+
+    -- at a capture that can't be opened
+    pub over_refused : (index : ℕ) (place : Tap) (fault : CaptureFault) → length texts ≡ length s.ports → IsFirstRefused texts text index place fault → StandAt start new (no_texts (length texts))
+        → LeavesOver segments s changes texts text start new (Err (stream.Run (faults.Capture place fault)))
+    over_refused index place fault many first at =
+        let found = first_refused texts text index place fault first in (
+          ports_counted s changes texts text (eq-eqb _ _ many)
+              ∙ ap (by_timeline s changes (length texts)) (told_fault (map (λ (c : TimedChange). c.at) changes) texts text (timeline.Capture place fault) found.0 found.1),
+          at,
+        )
+
+    -- among the headers
+    pub over_headers : (target : Target) → StandBetween start new (no_texts (length texts)) (empty_outputs (length texts)) → LeavesOver segments s changes texts text start new (Err (stream.Write target))
+    over_headers target between = record { k = 0; most = inl (omega arith); stands = subst (StandBetween start new (no_texts (length texts))) (sym (texts_are [] whole.events 1 refl (omega arith))) between }
+
+    stands_behind : (es rest : List Event) → whole.events ≡ es ++ rest → StandAt start new (behind es) → StandsSomewhere segments s changes texts text start new
+    stands_behind es rest is at = record {
+      k = length es + 1;
+      most = omega (arith, ap length is, length-append es rest);
+      stands = subst (StandAt start new) (sym (texts_are es rest (length es + 1) is refl)) at;
+    }
+
+    -- at the first record of a capture
+    pub over_firsts : (fault : StreamFault) (turns : List Turn) (ports : List Stream) (underlay : Stream) → BeginsIn {T = Unit {0}} (texts_octets texts) text turns ports underlay (Err fault) → StandAt start new (empty_outputs (length texts))
+        → LeavesOver segments s changes texts text start new (Err fault)
+    over_firsts (stream.Run (faults.Record place n f)) turns ports underlay h at =
+        record { k = 0; faulty = h.0; before = inl (refl, h.1); stands = subst (StandAt start new) (sym (texts_are [] whole.events 1 refl (omega arith))) at }
+    over_firsts (stream.Run (faults.Settings f)) turns ports underlay h at = absurd h
+    over_firsts (stream.Run (faults.Changes f)) turns ports underlay h at = absurd h
+    over_firsts (stream.Run faults.PortCount) turns ports underlay h at = absurd h
+    over_firsts (stream.Run (faults.Capture place f)) turns ports underlay h at = absurd h
+    over_firsts (stream.Run faults.OutOfMemory) turns ports underlay h at = absurd h
+    over_firsts (stream.Read place) turns ports underlay h at = stands_behind [] whole.events refl at
+    over_firsts (stream.Write target) turns ports underlay h at = absurd h
+
+    -- among the events
+    pub over_events : (fault : StreamFault) (run : Run) (es more rest : List Event) → whole.events ≡ es ++ (more ++ rest) → EndsIn {T = Unit {0}} (texts_octets texts) text es rest run (Err fault) → IsPart {T = Unit {0}} more (Err fault)
+        → LeadsBehind {T = Unit {0}} segments changes (opened (settings_told s)) start new (empty_outputs (length texts)) es more (Err fault) → LeavesOver segments s changes texts text start new (Err fault)
+    over_events (stream.Run (faults.Record place n f)) run es more rest is h part at = record {
+      k = length es;
+      faulty = h.0;
+      before = inr (subst (EndBefore place n) (sym (first_events whole es (more ++ rest) is)) h.1);
+      stands = subst (StandAt start new) (sym (texts_are es (more ++ rest) (length es + 1) is refl)) at;
+    }
+    over_events (stream.Run (faults.Settings f)) run es more rest is h part at = absurd h
+    over_events (stream.Run (faults.Changes f)) run es more rest is h part at = absurd h
+    over_events (stream.Run faults.PortCount) run es more rest is h part at = absurd h
+    over_events (stream.Run (faults.Capture place f)) run es more rest is h part at = absurd h
+    over_events (stream.Run faults.OutOfMemory) run es more rest is h part at = stands_behind es (more ++ rest) is at
+    over_events (stream.Read place) run es more rest is h part at = stands_behind es (more ++ rest) is at
+    over_events (stream.Write target) run es more rest is h part at =
+        let one : length more ≡ 1 = ap length part.1 in
+        let all : whole.events ≡ (es ++ more) ++ rest = is ∙ sym (append_assoc es more rest) in
+        record {
+          k = length es + 1;
+          most = inl (omega (arith, one, ap length is, length-append es (more ++ rest), length-append more rest));
+          stands = subst (λ o. StandBetween start new o (texts_at segments s changes texts text (length es + 1 + 1))) (sym (texts_are es (more ++ rest) (length es + 1) is refl))
+              (subst (StandBetween start new (behind es)) (sym (texts_are (es ++ more) rest (length es + 1 + 1) all (omega (arith, one, length-append es more)))) at.0);
+        }
+
+    -- among the lines of the cut captures
+    pub over_cuts : (target : Target) (es : List Event) (turns : List Turn) (ports : List Stream) (underlay : Stream) → whole.events ≡ es → AllStandAtEnd texts text turns ports underlay
+        → StandBetween start new (behind es) (with_cuts (behind es) (cuts_among segments (cuts_at ports underlay turns))) → LeavesOver segments s changes texts text start new (Err (stream.Write target))
+    over_cuts target es turns ports underlay is ends between =
+        let same : length es + 1 + 1 ≡ suc (suc (length es)) = omega arith in
+        let all : texts_at segments s changes texts text (length es + 1 + 1) ≡ with_cuts (behind es) (cuts_among segments (cuts_at ports underlay turns)) =
+        ap (texts_at segments s changes texts text) same
+        ∙ stage_end (settings_told s) (changes_of changes) (length texts) whole es is
+        ∙ ap (λ l. with_cuts (behind es) (cuts_among segments l)) (cuts_at_end texts text turns ports underlay ends) in
+        record {
+          k = length es + 1;
+          most = inr (ap (λ (l : List Event). length l + 1) (sym is), no_faults texts text (whole_at_end texts text turns ports underlay ends));
+          stands = subst (λ o. StandBetween start new o (texts_at segments s changes texts text (length es + 1 + 1))) (sym (texts_are es [] (length es + 1) (is ∙ sym (append-nil es)) refl))
+              (subst (StandBetween start new (behind es)) (sym all) between);
+        }
+
+    -- nowhere
+    pub over_all : (es : List Event) (turns : List Turn) (ports : List Stream) (underlay : Stream) → length texts ≡ length s.ports → whole.events ≡ es → AllStandAtEnd texts text turns ports underlay
+        → StandAt start new (with_cuts (behind es) (cuts_among segments (cuts_at ports underlay turns))) → LeavesOver segments s changes texts text start new (Ok tt)
+    over_all es turns ports underlay many is ends at =
+        let S = settings_told s in
+        let cs = changes_of changes in (
+          outputs_among segments S cs (length texts) whole,
+          ports_counted_among segments s changes texts text (eq-eqb _ _ many)
+              ∙ ap (by_timeline_among segments s changes (length texts)) (told_whole changes texts text (no_faults texts text (whole_at_end texts text turns ports underlay ends))),
+          subst (StandAt start new)
+              (ap (λ l. with_cuts (behind l) (cuts_among segments (cuts_at ports underlay turns))) (sym is) ∙ ap (λ l. with_cuts (behind whole.events) (cuts_among segments l)) (sym (cuts_at_end texts text turns ports underlay ends))) at,
+        )
+
+    -- ---- what was seen
+
+    module _ {T : Type 0} (sees : T → Sight → T → Type 0) (ends : T → State → T → Type 0) (old_watch : T) where
+      -- these events were seen
+      abbrev Sees : List Event → T → Type 0
+      Sees es new_watch = FoldsTo sees old_watch (sights segments (changes_of changes) (opened (settings_told s)) 0 es) new_watch
+
+      abbrev Seen : T → Result (Unit {0}) StreamFault → Type 0
+      Seen new_watch result = SeesOver segments sees ends s changes texts text start new old_watch new_watch result
+
+      -- they are the first ones
+      sees_first : (es rest : List Event) (k : ℕ) (new_watch : T) → whole.events ≡ es ++ rest → k ≡ length es → Sees es new_watch → FoldsTo sees old_watch (first_sights segments s changes texts text k) new_watch
+      sees_first es rest k new_watch is at h = subst (λ l. Sees l new_watch) (sym (ap (λ k. take k whole.events) at ∙ first_events whole es rest is)) h
+
+      -- nothing was
+      pub seen_unopened : StandAt start new (no_texts (length texts)) → Seen old_watch (Err (stream.Run faults.OutOfMemory))
+      unfolding over_unopened
+      seen_unopened at = (over_unopened at, refl)
+
+      pub seen_unread : (place : Tap) → StandAt start new (no_texts (length texts)) → Seen old_watch (Err (stream.Read place))
+      unfolding over_unopened
+      seen_unread place at = (over_unopened at, refl)
+
+      pub seen_headers : (target : Target) → StandBetween start new (no_texts (length texts)) (empty_outputs (length texts)) → Seen old_watch (Err (stream.Write target))
+      unfolding over_headers
+      seen_headers target between = (over_headers target between, refl)
+
+      pub seen_firsts : (fault : StreamFault) (turns : List Turn) (ports : List Stream) (underlay : Stream) → BeginsIn {T = Unit {0}} (texts_octets texts) text turns ports underlay (Err fault) → StandAt start new (empty_outputs (length texts))
+          → Seen old_watch (Err fault)
+      unfolding over_firsts stands_behind
+      seen_firsts (stream.Run (faults.Record place n f)) turns ports underlay h at = (over_firsts (stream.Run (faults.Record place n f)) turns ports underlay h at, refl)
+      seen_firsts (stream.Run (faults.Settings f)) turns ports underlay h at = absurd h
+      seen_firsts (stream.Run (faults.Changes f)) turns ports underlay h at = absurd h
+      seen_firsts (stream.Run faults.PortCount) turns ports underlay h at = absurd h
+      seen_firsts (stream.Run (faults.Capture place f)) turns ports underlay h at = absurd h
+      seen_firsts (stream.Run faults.OutOfMemory) turns ports underlay h at = absurd h
+      seen_firsts (stream.Read place) turns ports underlay h at = (over_firsts (stream.Read place) turns ports underlay h at, refl)
+      seen_firsts (stream.Write target) turns ports underlay h at = absurd h
+
+      -- the first events were, and where a write failed one more
+      pub seen_events : (fault : StreamFault) (run : Run) (es more rest : List Event) (new_watch : T) → whole.events ≡ es ++ (more ++ rest) → EndsIn {T = Unit {0}} (texts_octets texts) text es rest run (Err fault)
+          → IsPart {T = Unit {0}} more (Err fault) → LeadsBehind {T = Unit {0}} segments changes (opened (settings_told s)) start new (empty_outputs (length texts)) es more (Err fault) → Sees (es ++ more) new_watch → Seen new_watch (Err fault)
+      unfolding over_events stands_behind
+      seen_events (stream.Run (faults.Record place n f)) run es more rest new_watch is h part at seen = (
+        over_events (stream.Run (faults.Record place n f)) run es more rest is h part at,
+        sees_first (es ++ more) rest _ new_watch (is ∙ sym (append_assoc es more rest)) (omega (arith, ap length part, length-append es more)) seen,
+      )
+      seen_events (stream.Run (faults.Settings f)) run es more rest new_watch is h part at seen = absurd h
+      seen_events (stream.Run (faults.Changes f)) run es more rest new_watch is h part at seen = absurd h
+      seen_events (stream.Run faults.PortCount) run es more rest new_watch is h part at seen = absurd h
+      seen_events (stream.Run (faults.Capture place f)) run es more rest new_watch is h part at seen = absurd h
+      seen_events (stream.Run faults.OutOfMemory) run es more rest new_watch is h part at seen = (
+        over_events (stream.Run faults.OutOfMemory) run es more rest is h part at,
+        sees_first (es ++ more) rest _ new_watch (is ∙ sym (append_assoc es more rest)) (omega (arith, ap length part, length-append es more)) seen,
+      )
+      seen_events (stream.Read place) run es more rest new_watch is h part at seen = (
+        over_events (stream.Read place) run es more rest is h part at,
+        sees_first (es ++ more) rest _ new_watch (is ∙ sym (append_assoc es more rest)) (omega (arith, ap length part, length-append es more)) seen,
+      )
+      seen_events (stream.Write target) run es more rest new_watch is h part at seen = (
+        over_events (stream.Write target) run es more rest is h part at,
+        sees_first (es ++ more) rest _ new_watch (is ∙ sym (append_assoc es more rest)) (omega (arith, ap length part.1, length-append es more)) seen,
+      )
+
+      -- all events were, but not the end
+      pub seen_cuts : (target : Target) (es : List Event) (turns : List Turn) (ports : List Stream) (underlay : Stream) (new_watch : T) → whole.events ≡ es → AllStandAtEnd texts text turns ports underlay
+          → StandBetween start new (behind es) (with_cuts (behind es) (cuts_among segments (cuts_at ports underlay turns))) → Sees es new_watch → Seen new_watch (Err (stream.Write target))
+      unfolding over_cuts
+      seen_cuts target es turns ports underlay new_watch is at_end between seen = (
+        over_cuts target es turns ports underlay is at_end between,
+        subst (λ l. Sees l new_watch) (sym (take_all (length es + 1) whole.events (omega (arith, ap length is)) ∙ is)) seen,
+      )
+
+      -- all events were, and then the end
+      pub seen_all : (es : List Event) (last new_watch : T) → whole.events ≡ es → Sees es last → ends last (state_behind segments changes (opened (settings_told s)) es) new_watch → Seen new_watch (Ok tt)
+      seen_all es last new_watch is seen ended = (
+        last,
+        subst (λ l. Sees l last) (sym is) seen,
+        subst (λ l. ends last (state_behind segments changes (opened (settings_told s)) l) new_watch) (sym is) ended,
+      )
+
+  module _ (texts : List (Vec ℕ Global)) (text : List ℕ) (start new : Drains) where
+    -- the texts, or the number of captures, are refused, or memory was
+    pub over_refusal : (s : Meaning Settings) (c : Meaning (List TimedChange)) (fault : RunFault) → IsRefusal fault → Gives (Err fault) (run s c texts text) → StandAt start new (no_texts (length texts))
+        → IsRunOverAmong segments s c texts text start new (Err (stream.Run fault))
+    over_refusal (Ok s) (Ok changes) (faults.Settings f) refusal gives at = (gives, at)
+    over_refusal (Ok s) (Err fault) (faults.Settings f) refusal gives at = (gives, at)
+    over_refusal (Err fault) c (faults.Settings f) refusal gives at = (gives, at)
+    over_refusal (Ok s) (Ok changes) (faults.Changes f) refusal gives at = (gives, at)
+    over_refusal (Ok s) (Err fault) (faults.Changes f) refusal gives at = (gives, at)
+    over_refusal (Err fault) c (faults.Changes f) refusal gives at = (gives, at)
+    over_refusal (Ok s) (Ok changes) faults.PortCount refusal gives at = (gives, at)
+    over_refusal (Ok s) (Err fault) faults.PortCount refusal gives at = (gives, at)
+    over_refusal (Err fault) c faults.PortCount refusal gives at = (gives, at)
+    over_refusal (Ok s) (Ok changes) (faults.Capture place f) refusal gives at = (gives, at)
+    over_refusal (Ok s) (Err fault) (faults.Capture place f) refusal gives at = (gives, at)
+    over_refusal (Err fault) c (faults.Capture place f) refusal gives at = (gives, at)
+    over_refusal s c (faults.Record place n f) refusal gives at = absurd refusal
+    over_refusal (Ok s) (Ok changes) faults.OutOfMemory refusal gives at = over_unopened s changes texts text start new at
+    over_refusal (Ok s) (Err fault) faults.OutOfMemory refusal gives at = at
+    over_refusal (Err fault) c faults.OutOfMemory refusal gives at = at
+
+    -- and nothing was seen
+    pub seen_refusal : {T : Type 0} (sees : T → Sight → T → Type 0) (ends : T → State → T → Type 0) (watch : T) (s : Meaning Settings) (c : Meaning (List TimedChange)) (fault : RunFault) → IsRefusal fault → StandAt start new (no_texts (length texts))
+        → IsWatchedOverAmong segments sees ends s c texts text start new watch watch (Err (stream.Run fault))
+    seen_refusal sees ends watch (Ok s) (Ok changes) (faults.Settings f) refusal at = refl
+    seen_refusal sees ends watch (Ok s) (Ok changes) (faults.Changes f) refusal at = refl
+    seen_refusal sees ends watch (Ok s) (Ok changes) faults.PortCount refusal at = refl
+    seen_refusal sees ends watch (Ok s) (Ok changes) (faults.Capture place f) refusal at = refl
+    seen_refusal sees ends watch (Ok s) (Ok changes) (faults.Record place n f) refusal at = absurd refusal
+    seen_refusal sees ends watch (Ok s) (Ok changes) faults.OutOfMemory refusal at = seen_unopened s changes texts text start new sees ends watch at
+    seen_refusal sees ends watch (Ok s) (Err f) fault refusal at = refl
+    seen_refusal sees ends watch (Err f) c fault refusal at = refl

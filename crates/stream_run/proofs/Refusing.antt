@@ -1,5 +1,5 @@
 -- What refuses a run before anything is read or written.
-use Rattle.std.proofs.Common.{◌≡◌, ◌∙◌, refl, ◌==◌, Bool, true, false, List, length, Result, Ok, Err, inl, inr}
+use Rattle.std.proofs.Common.{◌≡◌, ◌∙◌, refl, sym, ℕ, ◌==◌, Bool, true, false, List, length, Vec, Global, Result, Ok, Err, inl, inr}
 use Rattle.std.specs.Prelude.{MatchBool}
 use Rattle.std.proofs.lemmas.Bool.{eqb-true}
 use Rattle.config_text.specs.declared.fault.SettingsFault.{SettingsFault}
@@ -9,47 +9,60 @@ use Rattle.overlay_settings.specs.Settings.{Settings}
 use Rattle.overlay_settings.specs.declared.change.TimedChange.{TimedChange}
 use Rattle.capture_run.specs.Fault.{of_changes, of_settings}
 use Rattle.capture_run.specs.declared.fault.RunFault.TheVariants as faults
-use Rattle.stream_run.specs.Left.{Answers, Ends, Leaves, Refuses}
+use Rattle.stream_run.specs.Left.{AnswersAmong, Ends, Leaves, Refuses}
 use Rattle.stream_run.specs.declared.fault.StreamFault.{StreamFault}
 use Rattle.stream_run.specs.declared.fault.StreamFault.TheVariants as stream
+use Rattle.capture_run.proofs.Among.{all_run}
+use Rattle.stream_run.specs.Over.{IsRunOver, IsWholeRun}
+use Rattle.stream_run.specs.Stage.{Drains}
 use Rattle.stream_run.proofs.Framing.{none_at}
+use Rattle.segment_set.specs.Segments.{Segments}
 
--- memory can be refused whatever the texts mean
-pub out_of_memory : (s : Meaning Settings) (c : Meaning (List TimedChange)) (e : Ends) → length e.drains.ports ≡ length e.ports → Answers s c e e (Err (stream.Run faults.OutOfMemory))
-out_of_memory (Err fault) c e many = (inr refl, refl)
-out_of_memory (Ok s) (Err fault) e many = (inr refl, refl)
-out_of_memory (Ok s) (Ok changes) e many = by (length e.ports == length s.ports) refl
-  where
-    by : (b : Bool) → (length e.ports == length s.ports) ≡ b
-        → MatchBool b (Leaves s changes e.drains e.drains (Err (stream.Run faults.OutOfMemory))) (Refuses faults.PortCount e e (Err (stream.Run faults.OutOfMemory)))
-    by true is = inl (none_at e.drains (length s.ports) (many ∙ eqb-true _ _ is))
-    by false is = (inr refl, refl)
+-- a run that has all segments is the whole run
+pub whole_run : (s : Meaning Settings) (c : Meaning (List TimedChange)) (texts : List (Vec ℕ Global)) (text : List ℕ) (old new : Drains) (result : Result (Unit {0}) StreamFault)
+    → IsRunOver s c texts text old new result → IsWholeRun s c texts text old new result
+whole_run (Ok s) (Ok changes) texts text old new (Ok x) over = (over.0, sym (all_run (Ok s) (Ok changes) texts text) ∙ over.1, over.2)
+whole_run (Ok s) (Err fault) texts text old new (Ok x) over = absurd over
+whole_run (Err fault) c texts text old new (Ok x) over = absurd over
+whole_run s c texts text old new (Err fault) over = tt
 
-pub settings_refused : {A : Type 0} (view : A → Settings) (fault : SettingsFault) (s : Meaning Settings) (c : Meaning (List TimedChange)) (e : Ends) → length e.drains.ports ≡ length e.ports
-    → GivesAs view (Err fault) s → Answers s c e e (Err (stream.Run (of_settings fault)))
-settings_refused view text.NotToml s c e many h = rw h (inl refl, refl)
-settings_refused view (text.Missing key) s c e many h = rw h (inl refl, refl)
-settings_refused view (text.BadValue key) s c e many h = rw h (inl refl, refl)
-settings_refused view (text.TwoSegments key) s c e many h = rw h (inl refl, refl)
-settings_refused view (text.NotRising key) s c e many h = rw h (inl refl, refl)
-settings_refused view (text.OverLimit key) s c e many h = rw h (inl refl, refl)
-settings_refused view text.OutOfMemory s c e many h = out_of_memory s c e many
+module _ (segments : Segments) where
+  -- memory can be refused whatever the texts mean
+  pub out_of_memory : (s : Meaning Settings) (c : Meaning (List TimedChange)) (e : Ends) → length e.drains.ports ≡ length e.ports → AnswersAmong segments s c e e (Err (stream.Run faults.OutOfMemory))
+  out_of_memory (Err fault) c e many = (inr refl, refl)
+  out_of_memory (Ok s) (Err fault) e many = (inr refl, refl)
+  out_of_memory (Ok s) (Ok changes) e many = by (length e.ports == length s.ports) refl
+    where
+      by : (b : Bool) → (length e.ports == length s.ports) ≡ b
+          → MatchBool b (Leaves segments s changes e.drains e.drains (Err (stream.Run faults.OutOfMemory))) (Refuses faults.PortCount e e (Err (stream.Run faults.OutOfMemory)))
+      by true is = inl (none_at e.drains (length s.ports) (many ∙ eqb-true _ _ is))
+      by false is = (inr refl, refl)
 
-pub changes_refused : {A : Type 0} (view : A → List TimedChange) (fault : SettingsFault) (s : Settings) (c : Meaning (List TimedChange)) (e : Ends) → length e.drains.ports ≡ length e.ports
-    → GivesAs view (Err fault) c → Answers (Ok s) c e e (Err (stream.Run (of_changes fault)))
-changes_refused view text.NotToml s c e many h = rw h (inl refl, refl)
-changes_refused view (text.Missing key) s c e many h = rw h (inl refl, refl)
-changes_refused view (text.BadValue key) s c e many h = rw h (inl refl, refl)
-changes_refused view (text.TwoSegments key) s c e many h = rw h (inl refl, refl)
-changes_refused view (text.NotRising key) s c e many h = rw h (inl refl, refl)
-changes_refused view (text.OverLimit key) s c e many h = rw h (inl refl, refl)
-changes_refused view text.OutOfMemory s c e many h = out_of_memory (Ok s) c e many
+  pub settings_refused : {A : Type 0} (view : A → Settings) (fault : SettingsFault) (s : Meaning Settings) (c : Meaning (List TimedChange)) (e : Ends) → length e.drains.ports ≡ length e.ports
+      → GivesAs view (Err fault) s → AnswersAmong segments s c e e (Err (stream.Run (of_settings fault)))
+  settings_refused view text.NotToml s c e many h = rw h (inl refl, refl)
+  settings_refused view (text.Missing key) s c e many h = rw h (inl refl, refl)
+  settings_refused view (text.BadValue key) s c e many h = rw h (inl refl, refl)
+  settings_refused view (text.TwoSegments key) s c e many h = rw h (inl refl, refl)
+  settings_refused view (text.NotRising key) s c e many h = rw h (inl refl, refl)
+  settings_refused view (text.OverLimit key) s c e many h = rw h (inl refl, refl)
+  settings_refused view text.OutOfMemory s c e many h = out_of_memory s c e many
 
--- another number of captures
-pub count_refused : (s : Settings) (changes : List TimedChange) (e : Ends) → (length e.ports == length s.ports) ≡ false → Answers (Ok s) (Ok changes) e e (Err (stream.Run faults.PortCount))
-count_refused s changes e apart = rw apart (inl refl, refl)
+  pub changes_refused : {A : Type 0} (view : A → List TimedChange) (fault : SettingsFault) (s : Settings) (c : Meaning (List TimedChange)) (e : Ends) → length e.drains.ports ≡ length e.ports
+      → GivesAs view (Err fault) c → AnswersAmong segments (Ok s) c e e (Err (stream.Run (of_changes fault)))
+  changes_refused view text.NotToml s c e many h = rw h (inl refl, refl)
+  changes_refused view (text.Missing key) s c e many h = rw h (inl refl, refl)
+  changes_refused view (text.BadValue key) s c e many h = rw h (inl refl, refl)
+  changes_refused view (text.TwoSegments key) s c e many h = rw h (inl refl, refl)
+  changes_refused view (text.NotRising key) s c e many h = rw h (inl refl, refl)
+  changes_refused view (text.OverLimit key) s c e many h = rw h (inl refl, refl)
+  changes_refused view text.OutOfMemory s c e many h = out_of_memory (Ok s) c e many
 
--- as many captures as ports
-pub counted : (s : Settings) (changes : List TimedChange) (old new : Ends) (result : Result (Unit {0}) StreamFault) → (length old.ports == length s.ports) ≡ true → Leaves s changes old.drains new.drains result
-    → Answers (Ok s) (Ok changes) old new result
-counted s changes old new result same leaves = rw same leaves
+  -- another number of captures
+  pub count_refused : (s : Settings) (changes : List TimedChange) (e : Ends) → (length e.ports == length s.ports) ≡ false → AnswersAmong segments (Ok s) (Ok changes) e e (Err (stream.Run faults.PortCount))
+  count_refused s changes e apart = rw apart (inl refl, refl)
+
+  -- as many captures as ports
+  pub counted : (s : Settings) (changes : List TimedChange) (old new : Ends) (result : Result (Unit {0}) StreamFault) → (length old.ports == length s.ports) ≡ true → Leaves segments s changes old.drains new.drains result
+      → AnswersAmong segments (Ok s) (Ok changes) old new result
+  counted s changes old new result same leaves = rw same leaves

@@ -4,15 +4,17 @@ use Rattle.overlay_settings.specs.declared.change.Change.{Change}
 use Rattle.overlay_settings.specs.declared.change.TimedChange.{TimedChange}
 use Rattle.timeline.specs.Order.{IsRising, merged}
 use Rattle.timeline.specs.declared.event.Event.{Event}
-use Rattle.endpoint_core.specs.Step.{State, after, answer, state_after}
+use Rattle.endpoint_core.specs.Among.{after_among}
+use Rattle.endpoint_core.specs.Step.{State}
 use Rattle.capture_run.specs.Outputs.{Outputs, event_of}
-use Rattle.capture_run.specs.Writing.{with_event, with_events}
+use Rattle.capture_run.proofs.Among.{moment_among}
+use Rattle.capture_run.specs.Among.{with_event_among, with_events_among}
 use Rattle.capture_run.specs.declared.fault.RunFault.{RunFault}
 use Rattle.capture_run.specs.declared.fault.RunFault.TheVariants as faults
 use Rattle.pcap_stream.specs.Source.{Stream}
 use Rattle.stream_run.specs.Coming.{coming, source_events}
 use Rattle.stream_run.specs.Read.{AreQuiet, GivesUpAt, failures_of}
-use Rattle.stream_run.specs.Sights.{Sight, sight, sights}
+use Rattle.stream_run.specs.Sights.{Sight, sight_among, sights, state_among}
 use Rattle.stream_run.specs.Stage.{Drains, StandAt, StandBetween}
 use Rattle.stream_run.specs.Steps.{AreFirst, AreRead, AreReady, EndsIn, Fetches, IsRunOn, IsStep, Run, changes_of, texts_behind}
 use Rattle.stream_run.specs.Watched.{IsWatchedRun, IsWatchedStep, state_behind}
@@ -28,19 +30,12 @@ use Rattle.std.proofs.lemmas.List.{get_or-map, length-map}
 use Rattle.std.specs.List.{FoldsTo}
 use Rattle.pcap_stream.specs.Counts.{GoesOnBy}
 use Rattle.pcap_stream.specs.Supply.{GivesUp, Supply}
+use Rattle.segment_set.specs.Segments.{Segments}
 
--- an event behind others
-events_snoc : (cs : List Change) (count number : ℕ) (s : State) (o : Outputs) (es : List Event) (e : Event) → number ≡ count + length es + 1
-    → with_events cs count s o (es ++ e ∷ []) ≡ with_event cs number (with_events cs count s o es) e (answer (state_after s (map (event_of cs) es)) (event_of cs e))
-events_snoc cs count number s o [] e is =
-    let one : count + 1 ≡ number = omega (arith, is) in
-    ap (λ n. with_event cs n o e (answer s (event_of cs e))) one
-events_snoc cs count number s o (f ∷ es) e is =
-    events_snoc cs (count + 1) number (after s (event_of cs f)) (with_event cs (count + 1) o f (answer s (event_of cs f))) es e (omega (arith, is))
-
-state_snoc : (cs : List Change) (s : State) (es : List Event) (e : Event) → state_after s (map (event_of cs) (es ++ e ∷ [])) ≡ after (state_after s (map (event_of cs) es)) (event_of cs e)
-state_snoc cs s [] e = refl
-state_snoc cs s (f ∷ es) e = state_snoc cs (after s (event_of cs f)) es e
+-- events behind events
+folds_append : {P X : Type 0} (step : P → X → P → Type 0) (xs ys : List X) (p q r : P) → FoldsTo step p xs q → FoldsTo step q ys r → FoldsTo step p (xs ++ ys) r
+folds_append step [] ys p q r h last = subst (λ a. FoldsTo step a ys r) (sym h) last
+folds_append step (x ∷ xs) ys p q r h last = (h.0, h.1, folds_append step xs ys h.0 q r h.2 last)
 
 -- the moment of the last of some events, or this one
 abbrev pub latest_of : ℕ → List Event → ℕ
@@ -60,43 +55,6 @@ pub record IsUpTo (changes : List TimedChange) (texts : List (List ℕ)) (text :
   pub read : AreRead texts text now.turns now.ports now.underlay
   pub first : coming changes texts text old.turns ≡ es ++ coming changes texts text now.turns
 
--- how far a run has come
-pub record HasRun (changes : List TimedChange) (old now : Run) : Type 0 where
-  pub es : List Event
-  pub number : now.number ≡ length es
-  pub state : now.state ≡ state_after old.state (map (event_of (changes_of changes)) es)
-  pub ready : AreReady changes now
-  pub rising : IsRising old.state.moment es
-  pub latest : now.state.moment ≡ latest_of old.state.moment es
-  pub quiet : AreQuiet old.ports old.underlay now.ports now.underlay
-  pub told : (texts : List (List ℕ)) (text : List ℕ) → AreRead texts text old.turns old.ports old.underlay → IsUpTo changes texts text old now es
-  pub outputs : (start : Drains) (o : Outputs) → StandAt start old.drains o → StandAt start now.drains (texts_behind changes old.state o es)
-
-run_begins : (changes : List TimedChange) (old : Run) → old.number ≡ 0 → AreReady changes old → HasRun changes old old
-run_begins changes old none ready = record {
-  es = [];
-  number = none;
-  state = refl;
-  ready = ready;
-  rising = tt;
-  latest = refl;
-  quiet = record { ports = refl; underlay = refl };
-  told = λ texts text read. record { read = read; first = refl };
-  outputs = λ start o at. at;
-}
-
--- the texts behind one event more
-one_more : (changes : List TimedChange) (old now : Run) (has : HasRun changes old now) (e : Event) (o : Outputs)
-    → texts_behind changes old.state o (has.es ++ e ∷ []) ≡ with_event (changes_of changes) (now.number + 1) (texts_behind changes old.state o has.es) e (answer now.state (event_of (changes_of changes) e))
-one_more changes old now has e o =
-    events_snoc (changes_of changes) 0 (now.number + 1) old.state o has.es e (omega (arith, has.number))
-    ∙ ap (λ s. with_event (changes_of changes) (now.number + 1) (texts_behind changes old.state o has.es) e (answer s (event_of (changes_of changes) e))) (sym has.state)
-
--- it comes no sooner than the others
-rises_on : (changes : List TimedChange) (old now new : Run) (first : First) (result : Result (Unit {0}) StreamFault) (has : HasRun changes old now) (step : IsStep changes now new first result)
-    → IsRising old.state.moment (has.es ++ step.e ∷ [])
-rises_on changes old now new first result has step = rising_snoc old.state.moment has.es step.e has.rising (omega (arith, has.latest, step.time))
-
 -- it is the first of those that were still to come
 comes_next : (changes : List TimedChange) (texts : List (List ℕ)) (text : List ℕ) (old now : Run) (es rest : List Event) (e : Event) → IsUpTo changes texts text old now es
     → coming changes texts text now.turns ≡ e ∷ rest → coming changes texts text old.turns ≡ (es ++ e ∷ []) ++ rest
@@ -104,22 +62,6 @@ comes_next changes texts text old now es rest e up_to is = up_to.first ∙ ap (�
 
 pub quiet_on : (a b c : List Stream) (x y z : Stream) → AreQuiet a x b y → AreQuiet b y c z → AreQuiet a x c z
 quiet_on a b c x y z p q = record { ports = q.ports ∙ p.ports; underlay = q.underlay ∙ p.underlay }
-
-run_steps : (changes : List TimedChange) (old now new : Run) (first : First) → HasRun changes old now → IsStep changes now new first (Ok tt) → HasRun changes old new
-run_steps changes old now new first has step = record {
-  es = has.es ++ step.e ∷ [];
-  number = step.number ∙ ap (λ n. n + 1) has.number ∙ sym (length-append has.es (step.e ∷ []));
-  state = step.state ∙ ap (λ s. after s (event_of (changes_of changes) step.e)) has.state ∙ sym (state_snoc (changes_of changes) old.state has.es step.e);
-  ready = step.ready;
-  rising = rises_on changes old now new first (Ok tt) has step;
-  latest = ap (λ (s : State). s.moment) step.state ∙ sym (latest_snoc old.state.moment has.es step.e);
-  quiet = quiet_on old.ports now.ports new.ports old.underlay now.underlay new.underlay has.quiet step.reads;
-  told = λ texts text read.
-      let up_to = has.told texts text read in
-      let came = step.told texts text up_to.read in
-      record { read = came.fetched.0; first = comes_next changes texts text old now has.es (coming changes texts text new.turns) step.e up_to (came.first ∙ ap (λ l. step.e ∷ l) came.fetched.1) };
-  outputs = λ start o at. subst (StandAt start new.drains) (sym (one_more changes old now has step.e o)) (step.outputs start (texts_behind changes old.state o has.es) (has.outputs start o at));
-}
 
 -- ---- where it stops
 
@@ -141,16 +83,6 @@ gives_up_on (Port p) a b c x y z quiet up = λ d.
     )
 gives_up_on Underlay a b c x y z quiet up = gives_up_from x.supply y.supply z.supply quiet.underlay up
 
--- at a fault the event stands behind the others
-stops_at : (changes : List TimedChange) (texts : List (List ℕ)) (text : List ℕ) (old now new : Run) (first : First) (fault : StreamFault) (has : HasRun changes old now) (step : IsStep changes now new first (Err fault))
-    → AreRead texts text old.turns old.ports old.underlay
-    → ((rest : List Event) → Fetches {T = Unit {0}} changes texts text rest step.e new (Err fault) → EndsIn {T = Unit {0}} texts text (has.es ++ step.e ∷ []) rest new (Err fault))
-    → AreFirst changes texts text old new (has.es ++ step.e ∷ []) [] (Err fault)
-stops_at changes texts text old now new first fault has step read ends =
-    let up_to = has.told texts text read in
-    let came = step.told texts text up_to.read in
-    record { rest = came.rest; first = comes_next changes texts text old now has.es came.rest step.e up_to came.first; ends = ends came.rest came.fetched }
-
 -- so it is with a capture that isn't read on
 stops_run : (changes : List TimedChange) (texts : List (List ℕ)) (text : List ℕ) (new : Run) (es rest : List Event) (e : Event) (f : RunFault)
     → Fetches {T = Unit {0}} changes texts text rest e new (Err (stream.Run f)) → EndsIn {T = Unit {0}} texts text (es ++ e ∷ []) rest new (Err (stream.Run f))
@@ -161,164 +93,238 @@ stops_run changes texts text new es rest e faults.PortCount h = absurd h
 stops_run changes texts text new es rest e (faults.Capture place f) h = absurd h
 stops_run changes texts text new es rest e faults.OutOfMemory h = absurd h
 
-run_stops : (changes : List TimedChange) (old now new : Run) (first : First) (fault : StreamFault) → HasRun changes old now → IsStep changes now new first (Err fault) → IsRunOn changes old new (Err fault)
-run_stops changes old now new first (stream.Write target) has step = record {
-  es = has.es;
-  more = step.e ∷ [];
-  part = (step.e, refl);
-  rising = rises_on changes old now new first (Err (stream.Write target)) has step;
-  outputs = λ start o at.
-      let lead = step.outputs start (texts_behind changes old.state o has.es) (has.outputs start o at) in
-      (subst (StandBetween start new.drains (texts_behind changes old.state o has.es)) (sym (one_more changes old now has step.e o)) lead.0, lead.1);
-  reads = quiet_on old.ports now.ports new.ports old.underlay now.underlay new.underlay has.quiet step.reads;
-  over = tt;
-  ready = tt;
-  told = λ texts text read.
+module _ (segments : Segments) where
+  -- an event behind others
+  events_snoc : (cs : List Change) (count number : ℕ) (s : State) (o : Outputs) (es : List Event) (e : Event) → number ≡ count + length es + 1
+      → with_events_among segments cs count s o (es ++ e ∷ []) ≡ with_event_among segments cs number (state_among segments cs s es) (with_events_among segments cs count s o es) e
+  events_snoc cs count number s o [] e is =
+      let one : count + 1 ≡ number = omega (arith, is) in
+      ap (λ n. with_event_among segments cs n s o e) one
+  events_snoc cs count number s o (f ∷ es) e is =
+      events_snoc cs (count + 1) number (after_among segments s (event_of cs f)) (with_event_among segments cs (count + 1) s o f) es e (omega (arith, is))
+
+  state_snoc : (cs : List Change) (s : State) (es : List Event) (e : Event) → state_among segments cs s (es ++ e ∷ []) ≡ after_among segments (state_among segments cs s es) (event_of cs e)
+  state_snoc cs s [] e = refl
+  state_snoc cs s (f ∷ es) e = state_snoc cs (after_among segments s (event_of cs f)) es e
+
+  -- how far a run has come
+  pub record HasRun (changes : List TimedChange) (old now : Run) : Type 0 where
+    pub es : List Event
+    pub number : now.number ≡ length es
+    pub state : now.state ≡ state_among segments (changes_of changes) old.state es
+    pub ready : AreReady changes now
+    pub rising : IsRising old.state.moment es
+    pub latest : now.state.moment ≡ latest_of old.state.moment es
+    pub quiet : AreQuiet old.ports old.underlay now.ports now.underlay
+    pub told : (texts : List (List ℕ)) (text : List ℕ) → AreRead texts text old.turns old.ports old.underlay → IsUpTo changes texts text old now es
+    pub outputs : (start : Drains) (o : Outputs) → StandAt start old.drains o → StandAt start now.drains (texts_behind segments changes old.state o es)
+
+  run_begins : (changes : List TimedChange) (old : Run) → old.number ≡ 0 → AreReady changes old → HasRun changes old old
+  run_begins changes old none ready = record {
+    es = [];
+    number = none;
+    state = refl;
+    ready = ready;
+    rising = tt;
+    latest = refl;
+    quiet = record { ports = refl; underlay = refl };
+    told = λ texts text read. record { read = read; first = refl };
+    outputs = λ start o at. at;
+  }
+
+  -- the texts behind one event more
+  one_more : (changes : List TimedChange) (old now : Run) (has : HasRun changes old now) (e : Event) (o : Outputs)
+      → texts_behind segments changes old.state o (has.es ++ e ∷ []) ≡ with_event_among segments (changes_of changes) (now.number + 1) now.state (texts_behind segments changes old.state o has.es) e
+  one_more changes old now has e o =
+      events_snoc (changes_of changes) 0 (now.number + 1) old.state o has.es e (omega (arith, has.number))
+      ∙ ap (λ s. with_event_among segments (changes_of changes) (now.number + 1) s (texts_behind segments changes old.state o has.es) e) (sym has.state)
+
+  -- it comes no sooner than the others
+  rises_on : (changes : List TimedChange) (old now new : Run) (first : First) (result : Result (Unit {0}) StreamFault) (has : HasRun changes old now) (step : IsStep segments changes now new first result)
+      → IsRising old.state.moment (has.es ++ step.e ∷ [])
+  rises_on changes old now new first result has step = rising_snoc old.state.moment has.es step.e has.rising (omega (arith, has.latest, step.time))
+
+  run_steps : (changes : List TimedChange) (old now new : Run) (first : First) → HasRun changes old now → IsStep segments changes now new first (Ok tt) → HasRun changes old new
+  run_steps changes old now new first has step = record {
+    es = has.es ++ step.e ∷ [];
+    number = step.number ∙ ap (λ n. n + 1) has.number ∙ sym (length-append has.es (step.e ∷ []));
+    state = step.state ∙ ap (λ s. after_among segments s (event_of (changes_of changes) step.e)) has.state ∙ sym (state_snoc (changes_of changes) old.state has.es step.e);
+    ready = step.ready;
+    rising = rises_on changes old now new first (Ok tt) has step;
+    latest = ap (λ (s : State). s.moment) step.state ∙ moment_among segments now.state (event_of (changes_of changes) step.e) ∙ sym (latest_snoc old.state.moment has.es step.e);
+    quiet = quiet_on old.ports now.ports new.ports old.underlay now.underlay new.underlay has.quiet step.reads;
+    told = λ texts text read.
+        let up_to = has.told texts text read in
+        let came = step.told texts text up_to.read in
+        record { read = came.fetched.0; first = comes_next changes texts text old now has.es (coming changes texts text new.turns) step.e up_to (came.first ∙ ap (λ l. step.e ∷ l) came.fetched.1) };
+    outputs = λ start o at. subst (StandAt start new.drains) (sym (one_more changes old now has step.e o)) (step.outputs start (texts_behind segments changes old.state o has.es) (has.outputs start o at));
+  }
+
+  -- at a fault the event stands behind the others
+  stops_at : (changes : List TimedChange) (texts : List (List ℕ)) (text : List ℕ) (old now new : Run) (first : First) (fault : StreamFault) (has : HasRun changes old now) (step : IsStep segments changes now new first (Err fault))
+      → AreRead texts text old.turns old.ports old.underlay
+      → ((rest : List Event) → Fetches {T = Unit {0}} changes texts text rest step.e new (Err fault) → EndsIn {T = Unit {0}} texts text (has.es ++ step.e ∷ []) rest new (Err fault))
+      → AreFirst changes texts text old new (has.es ++ step.e ∷ []) [] (Err fault)
+  stops_at changes texts text old now new first fault has step read ends =
       let up_to = has.told texts text read in
       let came = step.told texts text up_to.read in
-      record { rest = came.rest; first = up_to.first ∙ ap (λ l. has.es ++ l) came.first; ends = tt };
-}
-run_stops changes old now new first (stream.Run f) has step = record {
-  es = has.es ++ step.e ∷ [];
-  more = [];
-  part = refl;
-  rising = rw (append-nil (has.es ++ step.e ∷ [])) (rises_on changes old now new first (Err (stream.Run f)) has step);
-  outputs = λ start o at. subst (StandAt start new.drains) (sym (one_more changes old now has step.e o)) (step.outputs start (texts_behind changes old.state o has.es) (has.outputs start o at));
-  reads = quiet_on old.ports now.ports new.ports old.underlay now.underlay new.underlay has.quiet step.reads;
-  over = tt;
-  ready = tt;
-  told = λ texts text read. stops_at changes texts text old now new first (stream.Run f) has step read (λ rest h. stops_run changes texts text new has.es rest step.e f h);
-}
-run_stops changes old now new first (stream.Read place) has step = record {
-  es = has.es ++ step.e ∷ [];
-  more = [];
-  part = refl;
-  rising = rw (append-nil (has.es ++ step.e ∷ [])) (rises_on changes old now new first (Err (stream.Read place)) has step);
-  outputs = λ start o at. subst (StandAt start new.drains) (sym (one_more changes old now has step.e o)) (step.outputs start (texts_behind changes old.state o has.es) (has.outputs start o at));
-  reads = gives_up_on place old.ports now.ports new.ports old.underlay now.underlay new.underlay has.quiet step.reads;
-  over = tt;
-  ready = tt;
-  told = λ texts text read. stops_at changes texts text old now new first (stream.Read place) has step read (λ rest h. tt);
-}
+      record { rest = came.rest; first = comes_next changes texts text old now has.es came.rest step.e up_to came.first; ends = ends came.rest came.fetched }
 
--- ---- where it ends
-
--- nothing of its sources is left
-run_ends : (changes : List TimedChange) (old now : Run) → HasRun changes old now → ((t : Turn) (k : ℕ) → k < length now.turns → (slice_index_or now.turns k t).next ≡ None) → IsRunOn changes old now (Ok tt)
-run_ends changes old now has none = record {
-  es = has.es;
-  more = [];
-  part = refl;
-  rising = rw (append-nil has.es) has.rising;
-  outputs = has.outputs;
-  reads = has.quiet;
-  over = none;
-  ready = has.ready;
-  told = λ texts text read.
-      let up_to = has.told texts text read in
-      let ahead = are_ahead changes texts text now.turns now.ports now.underlay has.ready.size has.ready.timely has.ready.change up_to.read in
-      record {
-        rest = coming changes texts text now.turns;
-        first = up_to.first;
-        ends = (ap merged (none_left now.turns (source_events changes texts text) ahead none), up_to.read);
-      };
-}
-
--- it may be the want of numbers
-run_breaks : (changes : List TimedChange) (old now : Run) → HasRun changes old now → IsRunOn changes old now (Err (stream.Run faults.OutOfMemory))
-run_breaks changes old now has = record {
-  es = has.es;
-  more = [];
-  part = refl;
-  rising = rw (append-nil has.es) has.rising;
-  outputs = has.outputs;
-  reads = has.quiet;
-  over = tt;
-  ready = tt;
-  told = λ texts text read. record { rest = coming changes texts text now.turns; first = (has.told texts text read).first; ends = tt };
-}
-
--- ---- with what is seen
-
--- an event behind others
-sights_snoc : (cs : List Change) (count number : ℕ) (s : State) (es : List Event) (e : Event) → number ≡ count + length es + 1
-    → sights cs s count (es ++ e ∷ []) ≡ sights cs s count es ++ sight (state_after s (map (event_of cs) es)) number e ∷ []
-sights_snoc cs count number s [] e is = ap (λ n. sight s n e ∷ []) (omega (arith, is))
-sights_snoc cs count number s (f ∷ es) e is =
-    ap (λ l. sight s (count + 1) f ∷ l) (sights_snoc cs (count + 1) number (after s (event_of cs f)) es e (omega (arith, is)))
-
-folds_snoc : {P X : Type 0} (step : P → X → P → Type 0) (xs : List X) (x : X) (p q r : P) → FoldsTo step p xs q → step q x r → FoldsTo step p (xs ++ x ∷ []) r
-folds_snoc step [] x p q r h last = (r, subst (λ a. step a x r) (sym h) last, refl)
-folds_snoc step (y ∷ xs) x p q r h last = (h.0, h.1, folds_snoc step xs x h.0 q r h.2 last)
-
--- nothing behind them
-runs_out : {T : Type 0} (sees : T → Sight → T → Type 0) (changes : List TimedChange) (s : State) (es : List Event) (old_watch new_watch : T)
-    → FoldsTo sees old_watch (sights (changes_of changes) s 0 es) new_watch → FoldsTo sees old_watch (sights (changes_of changes) s 0 (es ++ [])) new_watch
-runs_out sees changes s es old_watch new_watch h = subst (λ l. FoldsTo sees old_watch (sights (changes_of changes) s 0 l) new_watch) (sym (append-nil es)) h
-
--- how far a run has come, and what was seen of it
-pub record HasShown {T : Type 0} (sees : T → Sight → T → Type 0) (changes : List TimedChange) (old now : Run) (old_watch now_watch : T) : Type 0 where
-  pub has : HasRun changes old now
-  pub seen : FoldsTo sees old_watch (sights (changes_of changes) old.state 0 has.es) now_watch
-
-module _ {T : Type 0} (sees : T → Sight → T → Type 0) (changes : List TimedChange) (old : Run) (old_watch : T) where
-  pub shown_begins : old.number ≡ 0 → AreReady changes old → HasShown sees changes old old old_watch old_watch
-  unfolding run_begins
-  shown_begins none ready = record { has = run_begins changes old none ready; seen = refl }
-
-  -- one event more is seen
-  sees_more : (now : Run) (has : HasRun changes old now) (e : Event) (now_watch new_watch : T) → FoldsTo sees old_watch (sights (changes_of changes) old.state 0 has.es) now_watch
-      → sees now_watch (sight now.state (now.number + 1) e) new_watch → FoldsTo sees old_watch (sights (changes_of changes) old.state 0 (has.es ++ e ∷ [])) new_watch
-  sees_more now has e now_watch new_watch seen more =
-      subst (λ l. FoldsTo sees old_watch l new_watch) (sym (sights_snoc (changes_of changes) 0 (now.number + 1) old.state has.es e (omega (arith, has.number))))
-      (folds_snoc sees (sights (changes_of changes) old.state 0 has.es) _ old_watch now_watch new_watch seen (subst (λ s. sees now_watch (sight s (now.number + 1) e) new_watch) has.state more))
-
-  -- the state behind it
-  state_more : (now new : Run) (first : First) (result : Result (Unit {0}) StreamFault) (has : HasRun changes old now) (step : IsStep changes now new first result)
-      → new.state ≡ state_behind changes old.state (has.es ++ step.e ∷ [])
-  state_more now new first result has step =
-      step.state ∙ ap (λ s. after s (event_of (changes_of changes) step.e)) has.state ∙ sym (state_snoc (changes_of changes) old.state has.es step.e)
-
-  pub shown_steps : (now new : Run) (first : First) (now_watch new_watch : T) → HasShown sees changes old now old_watch now_watch → IsWatchedStep sees changes now new first now_watch new_watch (Ok tt)
-      → HasShown sees changes old new old_watch new_watch
-  unfolding run_steps
-  shown_steps now new first now_watch new_watch so step = record {
-    has = run_steps changes old now new first so.has step.step;
-    seen = sees_more now so.has step.step.e now_watch new_watch so.seen step.seen;
+  run_stops : (changes : List TimedChange) (old now new : Run) (first : First) (fault : StreamFault) → HasRun changes old now → IsStep segments changes now new first (Err fault) → IsRunOn segments changes old new (Err fault)
+  run_stops changes old now new first (stream.Write target) has step = record {
+    es = has.es;
+    more = step.e ∷ [];
+    part = (step.e, refl);
+    rising = rises_on changes old now new first (Err (stream.Write target)) has step;
+    outputs = λ start o at.
+        let lead = step.outputs start (texts_behind segments changes old.state o has.es) (has.outputs start o at) in
+        (subst (StandBetween start new.drains (texts_behind segments changes old.state o has.es)) (sym (one_more changes old now has step.e o)) lead.0, lead.1);
+    reads = quiet_on old.ports now.ports new.ports old.underlay now.underlay new.underlay has.quiet step.reads;
+    over = tt;
+    ready = tt;
+    told = λ texts text read.
+        let up_to = has.told texts text read in
+        let came = step.told texts text up_to.read in
+        record { rest = came.rest; first = up_to.first ∙ ap (λ l. has.es ++ l) came.first; ends = tt };
+  }
+  run_stops changes old now new first (stream.Run f) has step = record {
+    es = has.es ++ step.e ∷ [];
+    more = [];
+    part = refl;
+    rising = rw (append-nil (has.es ++ step.e ∷ [])) (rises_on changes old now new first (Err (stream.Run f)) has step);
+    outputs = λ start o at. subst (StandAt start new.drains) (sym (one_more changes old now has step.e o)) (step.outputs start (texts_behind segments changes old.state o has.es) (has.outputs start o at));
+    reads = quiet_on old.ports now.ports new.ports old.underlay now.underlay new.underlay has.quiet step.reads;
+    over = tt;
+    ready = tt;
+    told = λ texts text read. stops_at changes texts text old now new first (stream.Run f) has step read (λ rest h. stops_run changes texts text new has.es rest step.e f h);
+  }
+  run_stops changes old now new first (stream.Read place) has step = record {
+    es = has.es ++ step.e ∷ [];
+    more = [];
+    part = refl;
+    rising = rw (append-nil (has.es ++ step.e ∷ [])) (rises_on changes old now new first (Err (stream.Read place)) has step);
+    outputs = λ start o at. subst (StandAt start new.drains) (sym (one_more changes old now has step.e o)) (step.outputs start (texts_behind segments changes old.state o has.es) (has.outputs start o at));
+    reads = gives_up_on place old.ports now.ports new.ports old.underlay now.underlay new.underlay has.quiet step.reads;
+    over = tt;
+    ready = tt;
+    told = λ texts text read. stops_at changes texts text old now new first (stream.Read place) has step read (λ rest h. tt);
   }
 
-  pub shown_stops : (now new : Run) (first : First) (now_watch new_watch : T) (fault : StreamFault) → HasShown sees changes old now old_watch now_watch → IsWatchedStep sees changes now new first now_watch new_watch (Err fault)
-      → IsWatchedRun sees changes old new old_watch new_watch (Err fault)
-  unfolding run_stops
-  shown_stops now new first now_watch new_watch (stream.Write target) so step = record {
-    run = run_stops changes old now new first (stream.Write target) so.has step.step;
-    seen = sees_more now so.has step.step.e now_watch new_watch so.seen step.seen;
-    state = state_more now new first (Err (stream.Write target)) so.has step.step;
-  }
-  shown_stops now new first now_watch new_watch (stream.Run f) so step = record {
-    run = run_stops changes old now new first (stream.Run f) so.has step.step;
-    seen = runs_out sees changes old.state (so.has.es ++ step.step.e ∷ []) old_watch new_watch (sees_more now so.has step.step.e now_watch new_watch so.seen step.seen);
-    state = state_more now new first (Err (stream.Run f)) so.has step.step ∙ ap (state_behind changes old.state) (sym (append-nil (so.has.es ++ step.step.e ∷ [])));
-  }
-  shown_stops now new first now_watch new_watch (stream.Read place) so step = record {
-    run = run_stops changes old now new first (stream.Read place) so.has step.step;
-    seen = runs_out sees changes old.state (so.has.es ++ step.step.e ∷ []) old_watch new_watch (sees_more now so.has step.step.e now_watch new_watch so.seen step.seen);
-    state = state_more now new first (Err (stream.Read place)) so.has step.step ∙ ap (state_behind changes old.state) (sym (append-nil (so.has.es ++ step.step.e ∷ [])));
+  -- ---- where it ends
+
+  -- nothing of its sources is left
+  run_ends : (changes : List TimedChange) (old now : Run) → HasRun changes old now → ((t : Turn) (k : ℕ) → k < length now.turns → (slice_index_or now.turns k t).next ≡ None) → IsRunOn segments changes old now (Ok tt)
+  run_ends changes old now has none = record {
+    es = has.es;
+    more = [];
+    part = refl;
+    rising = rw (append-nil has.es) has.rising;
+    outputs = has.outputs;
+    reads = has.quiet;
+    over = none;
+    ready = has.ready;
+    told = λ texts text read.
+        let up_to = has.told texts text read in
+        let ahead = are_ahead changes texts text now.turns now.ports now.underlay has.ready.size has.ready.timely has.ready.change up_to.read in
+        record {
+          rest = coming changes texts text now.turns;
+          first = up_to.first;
+          ends = (ap merged (none_left now.turns (source_events changes texts text) ahead none), up_to.read);
+        };
   }
 
-  pub shown_ends : (now : Run) (now_watch : T) → HasShown sees changes old now old_watch now_watch → ((t : Turn) (k : ℕ) → k < length now.turns → (slice_index_or now.turns k t).next ≡ None)
-      → IsWatchedRun sees changes old now old_watch now_watch (Ok tt)
-  unfolding run_ends
-  shown_ends now now_watch so none = record {
-    run = run_ends changes old now so.has none;
-    seen = runs_out sees changes old.state so.has.es old_watch now_watch so.seen;
-    state = so.has.state ∙ ap (state_behind changes old.state) (sym (append-nil so.has.es));
+  -- it may be the want of numbers
+  run_breaks : (changes : List TimedChange) (old now : Run) → HasRun changes old now → IsRunOn segments changes old now (Err (stream.Run faults.OutOfMemory))
+  run_breaks changes old now has = record {
+    es = has.es;
+    more = [];
+    part = refl;
+    rising = rw (append-nil has.es) has.rising;
+    outputs = has.outputs;
+    reads = has.quiet;
+    over = tt;
+    ready = tt;
+    told = λ texts text read. record { rest = coming changes texts text now.turns; first = (has.told texts text read).first; ends = tt };
   }
 
-  pub shown_breaks : (now : Run) (now_watch : T) → HasShown sees changes old now old_watch now_watch → IsWatchedRun sees changes old now old_watch now_watch (Err (stream.Run faults.OutOfMemory))
-  unfolding run_breaks
-  shown_breaks now now_watch so = record {
-    run = run_breaks changes old now so.has;
-    seen = runs_out sees changes old.state so.has.es old_watch now_watch so.seen;
-    state = so.has.state ∙ ap (state_behind changes old.state) (sym (append-nil so.has.es));
-  }
+  -- ---- with what is seen
+
+  -- an event behind others
+  sights_snoc : (cs : List Change) (count number : ℕ) (s : State) (es : List Event) (e : Event) → number ≡ count + length es + 1
+      → sights segments cs s count (es ++ e ∷ []) ≡ sights segments cs s count es ++ sight_among segments cs (state_among segments cs s es) number e
+  sights_snoc cs count number s [] e is = append-nil (sight_among segments cs s (count + 1) e) ∙ ap (λ n. sight_among segments cs s n e) (omega (arith, is))
+  sights_snoc cs count number s (f ∷ es) e is =
+      ap (λ l. sight_among segments cs s (count + 1) f ++ l) (sights_snoc cs (count + 1) number (after_among segments s (event_of cs f)) es e (omega (arith, is)))
+      ∙ sym (append_assoc (sight_among segments cs s (count + 1) f) (sights segments cs (after_among segments s (event_of cs f)) (count + 1) es) (sight_among segments cs (state_among segments cs (after_among segments s (event_of cs f)) es) number e))
+
+  -- nothing behind them
+  runs_out : {T : Type 0} (sees : T → Sight → T → Type 0) (changes : List TimedChange) (s : State) (es : List Event) (old_watch new_watch : T)
+      → FoldsTo sees old_watch (sights segments (changes_of changes) s 0 es) new_watch → FoldsTo sees old_watch (sights segments (changes_of changes) s 0 (es ++ [])) new_watch
+  runs_out sees changes s es old_watch new_watch h = subst (λ l. FoldsTo sees old_watch (sights segments (changes_of changes) s 0 l) new_watch) (sym (append-nil es)) h
+
+  -- how far a run has come, and what was seen of it
+  pub record HasShown {T : Type 0} (sees : T → Sight → T → Type 0) (changes : List TimedChange) (old now : Run) (old_watch now_watch : T) : Type 0 where
+    pub has : HasRun changes old now
+    pub seen : FoldsTo sees old_watch (sights segments (changes_of changes) old.state 0 has.es) now_watch
+
+  module _ {T : Type 0} (sees : T → Sight → T → Type 0) (changes : List TimedChange) (old : Run) (old_watch : T) where
+    pub shown_begins : old.number ≡ 0 → AreReady changes old → HasShown sees changes old old old_watch old_watch
+    unfolding run_begins
+    shown_begins none ready = record { has = run_begins changes old none ready; seen = refl }
+
+    -- one event more is seen
+    sees_more : (now : Run) (has : HasRun changes old now) (e : Event) (now_watch new_watch : T) → FoldsTo sees old_watch (sights segments (changes_of changes) old.state 0 has.es) now_watch
+        → FoldsTo sees now_watch (sight_among segments (changes_of changes) now.state (now.number + 1) e) new_watch → FoldsTo sees old_watch (sights segments (changes_of changes) old.state 0 (has.es ++ e ∷ [])) new_watch
+    sees_more now has e now_watch new_watch seen more =
+        subst (λ l. FoldsTo sees old_watch l new_watch) (sym (sights_snoc (changes_of changes) 0 (now.number + 1) old.state has.es e (omega (arith, has.number))))
+        (folds_append sees (sights segments (changes_of changes) old.state 0 has.es) _ old_watch now_watch new_watch seen (subst (λ s. FoldsTo sees now_watch (sight_among segments (changes_of changes) s (now.number + 1) e) new_watch) has.state more))
+
+    -- the state behind it
+    state_more : (now new : Run) (first : First) (result : Result (Unit {0}) StreamFault) (has : HasRun changes old now) (step : IsStep segments changes now new first result)
+        → new.state ≡ state_behind segments changes old.state (has.es ++ step.e ∷ [])
+    state_more now new first result has step =
+        step.state ∙ ap (λ s. after_among segments s (event_of (changes_of changes) step.e)) has.state ∙ sym (state_snoc (changes_of changes) old.state has.es step.e)
+
+    pub shown_steps : (now new : Run) (first : First) (now_watch new_watch : T) → HasShown sees changes old now old_watch now_watch → IsWatchedStep segments sees changes now new first now_watch new_watch (Ok tt)
+        → HasShown sees changes old new old_watch new_watch
+    unfolding run_steps
+    shown_steps now new first now_watch new_watch so step = record {
+      has = run_steps changes old now new first so.has step.step;
+      seen = sees_more now so.has step.step.e now_watch new_watch so.seen step.seen;
+    }
+
+    pub shown_stops : (now new : Run) (first : First) (now_watch new_watch : T) (fault : StreamFault) → HasShown sees changes old now old_watch now_watch → IsWatchedStep segments sees changes now new first now_watch new_watch (Err fault)
+        → IsWatchedRun segments sees changes old new old_watch new_watch (Err fault)
+    unfolding run_stops
+    shown_stops now new first now_watch new_watch (stream.Write target) so step = record {
+      run = run_stops changes old now new first (stream.Write target) so.has step.step;
+      seen = sees_more now so.has step.step.e now_watch new_watch so.seen step.seen;
+      state = state_more now new first (Err (stream.Write target)) so.has step.step;
+    }
+    shown_stops now new first now_watch new_watch (stream.Run f) so step = record {
+      run = run_stops changes old now new first (stream.Run f) so.has step.step;
+      seen = runs_out sees changes old.state (so.has.es ++ step.step.e ∷ []) old_watch new_watch (sees_more now so.has step.step.e now_watch new_watch so.seen step.seen);
+      state = state_more now new first (Err (stream.Run f)) so.has step.step ∙ ap (state_behind segments changes old.state) (sym (append-nil (so.has.es ++ step.step.e ∷ [])));
+    }
+    shown_stops now new first now_watch new_watch (stream.Read place) so step = record {
+      run = run_stops changes old now new first (stream.Read place) so.has step.step;
+      seen = runs_out sees changes old.state (so.has.es ++ step.step.e ∷ []) old_watch new_watch (sees_more now so.has step.step.e now_watch new_watch so.seen step.seen);
+      state = state_more now new first (Err (stream.Read place)) so.has step.step ∙ ap (state_behind segments changes old.state) (sym (append-nil (so.has.es ++ step.step.e ∷ [])));
+    }
+
+    pub shown_ends : (now : Run) (now_watch : T) → HasShown sees changes old now old_watch now_watch → ((t : Turn) (k : ℕ) → k < length now.turns → (slice_index_or now.turns k t).next ≡ None)
+        → IsWatchedRun segments sees changes old now old_watch now_watch (Ok tt)
+    unfolding run_ends
+    shown_ends now now_watch so none = record {
+      run = run_ends changes old now so.has none;
+      seen = runs_out sees changes old.state so.has.es old_watch now_watch so.seen;
+      state = so.has.state ∙ ap (state_behind segments changes old.state) (sym (append-nil so.has.es));
+    }
+
+    pub shown_breaks : (now : Run) (now_watch : T) → HasShown sees changes old now old_watch now_watch → IsWatchedRun segments sees changes old now old_watch now_watch (Err (stream.Run faults.OutOfMemory))
+    unfolding run_breaks
+    shown_breaks now now_watch so = record {
+      run = run_breaks changes old now so.has;
+      seen = runs_out sees changes old.state so.has.es old_watch now_watch so.seen;
+      state = so.has.state ∙ ap (state_behind segments changes old.state) (sym (append-nil so.has.es));
+    }

@@ -18,97 +18,99 @@ use Rattle.stream_run.specs.Left.{texts_of}
 use Rattle.stream_run.specs.Sights.{Sight, sights}
 use Rattle.stream_run.specs.Stage.{Drains, StandAt, StandBetween, no_texts}
 use Rattle.stream_run.specs.Steps.{Run, changes_of, texts_behind}
-use Rattle.stream_run.specs.Watched.{IsShown, IsWatchedRun, Shows, sights_of, state_behind, state_of_run}
+use Rattle.stream_run.specs.Watched.{IsShownAmong, IsWatchedRun, Shows, sights_of, state_behind, state_of_run}
 use Rattle.stream_run.specs.declared.fault.StreamFault.{StreamFault}
 use Rattle.stream_run.specs.declared.fault.StreamFault.TheVariants as stream
 use Rattle.stream_run.specs.declared.fault.Target.{Target}
 use Rattle.stream_run.proofs.Framing.{none_at}
+use Rattle.segment_set.specs.Segments.{Segments}
 
-module _ (s : Settings) (changes : List TimedChange) (start new : Drains) {T : Type 0} (sees : T → Sight → T → Type 0) (ends : T → State → T → Type 0) (old_watch : T) where
-  pub shows_nothing : (fault : StreamFault) → IsNoWrite (Err fault) → StandAt start new (no_texts (length s.ports)) → Shows sees ends s changes start new old_watch old_watch (Err fault)
-  shows_nothing (stream.Run f) no_write at = inl (at, refl)
-  shows_nothing (stream.Read place) no_write at = inl (at, refl)
-  shows_nothing (stream.Write target) no_write at = absurd no_write
+module _ (segments : Segments) where
+  module _ (s : Settings) (changes : List TimedChange) (start new : Drains) {T : Type 0} (sees : T → Sight → T → Type 0) (ends : T → State → T → Type 0) (old_watch : T) where
+    pub shows_nothing : (fault : StreamFault) → IsNoWrite (Err fault) → StandAt start new (no_texts (length s.ports)) → Shows segments sees ends s changes start new old_watch old_watch (Err fault)
+    shows_nothing (stream.Run f) no_write at = inl (at, refl)
+    shows_nothing (stream.Read place) no_write at = inl (at, refl)
+    shows_nothing (stream.Write target) no_write at = absurd no_write
 
-  pub shows_headers : (fault : StreamFault) → IsNoWrite (Err fault) → StandAt start new (empty_outputs (length s.ports)) → Shows sees ends s changes start new old_watch old_watch (Err fault)
-  shows_headers (stream.Run f) no_write at = inr ([], at, refl)
-  shows_headers (stream.Read place) no_write at = inr ([], at, refl)
-  shows_headers (stream.Write target) no_write at = absurd no_write
+    pub shows_headers : (fault : StreamFault) → IsNoWrite (Err fault) → StandAt start new (empty_outputs (length s.ports)) → Shows segments sees ends s changes start new old_watch old_watch (Err fault)
+    shows_headers (stream.Run f) no_write at = inr ([], at, refl)
+    shows_headers (stream.Read place) no_write at = inr ([], at, refl)
+    shows_headers (stream.Write target) no_write at = absurd no_write
 
-  pub shows_begun : (target : Target) → StandBetween start new (no_texts (length s.ports)) (empty_outputs (length s.ports)) → Shows sees ends s changes start new old_watch old_watch (Err (stream.Write target))
-  shows_begun target between = ([], no_texts (length s.ports), empty_outputs (length s.ports), inl (refl, refl, refl), between, refl)
+    pub shows_begun : (target : Target) → StandBetween start new (no_texts (length s.ports)) (empty_outputs (length s.ports)) → Shows segments sees ends s changes start new old_watch old_watch (Err (stream.Write target))
+    shows_begun target between = ([], no_texts (length s.ports), empty_outputs (length s.ports), inl (refl, refl, refl), between, refl)
 
-  -- the texts that stand behind the events, from the settings on
-  module _ (old run : Run) (is : old.state ≡ opened (settings_told s)) (at : StandAt start old.drains (empty_outputs (length s.ports))) (new_watch : T) where
-    texts_are : (es : List Event) → texts_behind changes old.state (empty_outputs (length s.ports)) es ≡ texts_of s changes es []
-    texts_are es = ap (λ state. texts_behind changes state (empty_outputs (length s.ports)) es) is
+    -- the texts that stand behind the events, from the settings on
+    module _ (old run : Run) (is : old.state ≡ opened (settings_told s)) (at : StandAt start old.drains (empty_outputs (length s.ports))) (new_watch : T) where
+      texts_are : (es : List Event) → texts_behind segments changes old.state (empty_outputs (length s.ports)) es ≡ texts_of segments s changes es []
+      texts_are es = ap (λ state. texts_behind segments changes state (empty_outputs (length s.ports)) es) is
 
-    -- what was seen
-    sees_from : (es : List Event) → FoldsTo sees old_watch (sights (changes_of changes) old.state 0 es) new_watch → FoldsTo sees old_watch (sights_of s changes es) new_watch
-    sees_from es h = subst (λ state. FoldsTo sees old_watch (sights (changes_of changes) state 0 es) new_watch) is h
+      -- what was seen
+      sees_from : (es : List Event) → FoldsTo sees old_watch (sights segments (changes_of changes) old.state 0 es) new_watch → FoldsTo sees old_watch (sights_of segments s changes es) new_watch
+      sees_from es h = subst (λ state. FoldsTo sees old_watch (sights segments (changes_of changes) state 0 es) new_watch) is h
 
-    -- where no write failed there is no part of another event
-    sees_whole : (es more : List Event) → more ≡ [] → FoldsTo sees old_watch (sights (changes_of changes) old.state 0 (es ++ more)) new_watch → FoldsTo sees old_watch (sights_of s changes es) new_watch
-    sees_whole es more none h = subst (λ l. FoldsTo sees old_watch (sights_of s changes l) new_watch) (ap (λ l. es ++ l) none ∙ append-nil es) (sees_from (es ++ more) h)
+      -- where no write failed there is no part of another event
+      sees_whole : (es more : List Event) → more ≡ [] → FoldsTo sees old_watch (sights segments (changes_of changes) old.state 0 (es ++ more)) new_watch → FoldsTo sees old_watch (sights_of segments s changes es) new_watch
+      sees_whole es more none h = subst (λ l. FoldsTo sees old_watch (sights_of segments s changes l) new_watch) (ap (λ l. es ++ l) none ∙ append-nil es) (sees_from (es ++ more) h)
 
-    pub shows_events : (fault : StreamFault) → IsWatchedRun sees changes old run old_watch new_watch (Err fault) → Shows sees ends s changes start run.drains old_watch new_watch (Err fault)
-    shows_events (stream.Run f) on =
-        inr (on.run.es, subst (StandAt start run.drains) (texts_are on.run.es) (on.run.outputs start (empty_outputs (length s.ports)) at), sees_whole on.run.es on.run.more on.run.part on.seen)
-    shows_events (stream.Read place) on =
-        inr (on.run.es, subst (StandAt start run.drains) (texts_are on.run.es) (on.run.outputs start (empty_outputs (length s.ports)) at), sees_whole on.run.es on.run.more on.run.part on.seen)
-    shows_events (stream.Write target) on =
-        let es = on.run.es in
-        let more = on.run.more in
-        let between = (on.run.outputs start (empty_outputs (length s.ports)) at).0 in (
-          es ++ more,
-          texts_of s changes es [],
-          texts_of s changes (es ++ more) [],
-          inr (inl (es, on.run.part.0, ap (λ l. es ++ l) on.run.part.1, refl, refl)),
-          subst (λ o. StandBetween start run.drains o (texts_of s changes (es ++ more) [])) (texts_are es)
-              (subst (StandBetween start run.drains (texts_behind changes old.state (empty_outputs (length s.ports)) es)) (texts_are (es ++ more)) between),
-          sees_from (es ++ more) on.seen,
-        )
+      pub shows_events : (fault : StreamFault) → IsWatchedRun segments sees changes old run old_watch new_watch (Err fault) → Shows segments sees ends s changes start run.drains old_watch new_watch (Err fault)
+      shows_events (stream.Run f) on =
+          inr (on.run.es, subst (StandAt start run.drains) (texts_are on.run.es) (on.run.outputs start (empty_outputs (length s.ports)) at), sees_whole on.run.es on.run.more on.run.part on.seen)
+      shows_events (stream.Read place) on =
+          inr (on.run.es, subst (StandAt start run.drains) (texts_are on.run.es) (on.run.outputs start (empty_outputs (length s.ports)) at), sees_whole on.run.es on.run.more on.run.part on.seen)
+      shows_events (stream.Write target) on =
+          let es = on.run.es in
+          let more = on.run.more in
+          let between = (on.run.outputs start (empty_outputs (length s.ports)) at).0 in (
+            es ++ more,
+            texts_of segments s changes es [],
+            texts_of segments s changes (es ++ more) [],
+            inr (inl (es, on.run.part.0, ap (λ l. es ++ l) on.run.part.1, refl, refl)),
+            subst (λ o. StandBetween start run.drains o (texts_of segments s changes (es ++ more) [])) (texts_are es)
+                (subst (StandBetween start run.drains (texts_behind segments changes old.state (empty_outputs (length s.ports)) es)) (texts_are (es ++ more)) between),
+            sees_from (es ++ more) on.seen,
+          )
 
-    pub shows_cuts : (cuts : List Cut) (target : Target) (on : IsWatchedRun sees changes old run old_watch new_watch (Ok tt))
-        → StandBetween start new (texts_behind changes old.state (empty_outputs (length s.ports)) on.run.es) (with_cuts (texts_behind changes old.state (empty_outputs (length s.ports)) on.run.es) cuts)
-        → Shows sees ends s changes start new old_watch new_watch (Err (stream.Write target))
-    shows_cuts cuts target on between = (
-      on.run.es,
-      texts_of s changes on.run.es [],
-      texts_of s changes on.run.es cuts,
-      inr (inr (cuts, refl, refl)),
-      subst (λ o. StandBetween start new o (with_cuts o cuts)) (texts_are on.run.es) between,
-      sees_whole on.run.es on.run.more on.run.part on.seen,
-    )
+      pub shows_cuts : (cuts : List Cut) (target : Target) (on : IsWatchedRun segments sees changes old run old_watch new_watch (Ok tt))
+          → StandBetween start new (texts_behind segments changes old.state (empty_outputs (length s.ports)) on.run.es) (with_cuts (texts_behind segments changes old.state (empty_outputs (length s.ports)) on.run.es) cuts)
+          → Shows segments sees ends s changes start new old_watch new_watch (Err (stream.Write target))
+      shows_cuts cuts target on between = (
+        on.run.es,
+        texts_of segments s changes on.run.es [],
+        texts_of segments s changes on.run.es cuts,
+        inr (inr (cuts, refl, refl)),
+        subst (λ o. StandBetween start new o (with_cuts o cuts)) (texts_are on.run.es) between,
+        sees_whole on.run.es on.run.more on.run.part on.seen,
+      )
 
-    pub shows_all : (cuts : List Cut) (last : T) (on : IsWatchedRun sees changes old run old_watch new_watch (Ok tt))
-        → StandAt start new (with_cuts (texts_behind changes old.state (empty_outputs (length s.ports)) on.run.es) cuts) → ends new_watch run.state last
-        → Shows sees ends s changes start new old_watch last (Ok tt)
-    shows_all cuts last on stand ended =
-        let from : run.state ≡ state_of_run s changes on.run.es =
-        on.state ∙ ap (state_behind changes old.state) (ap (λ l. on.run.es ++ l) on.run.part ∙ append-nil on.run.es) ∙ ap (λ state. state_behind changes state on.run.es) is in (
-          on.run.es,
-          cuts,
-          new_watch,
-          subst (λ o. StandAt start new (with_cuts o cuts)) (texts_are on.run.es) stand,
-          sees_whole on.run.es on.run.more on.run.part on.seen,
-          subst (λ state. ends new_watch state last) from ended,
-        )
+      pub shows_all : (cuts : List Cut) (last : T) (on : IsWatchedRun segments sees changes old run old_watch new_watch (Ok tt))
+          → StandAt start new (with_cuts (texts_behind segments changes old.state (empty_outputs (length s.ports)) on.run.es) cuts) → ends new_watch run.state last
+          → Shows segments sees ends s changes start new old_watch last (Ok tt)
+      shows_all cuts last on stand ended =
+          let from : run.state ≡ state_of_run segments s changes on.run.es =
+          on.state ∙ ap (state_behind segments changes old.state) (ap (λ l. on.run.es ++ l) on.run.part ∙ append-nil on.run.es) ∙ ap (λ state. state_behind segments changes state on.run.es) is in (
+            on.run.es,
+            cuts,
+            new_watch,
+            subst (λ o. StandAt start new (with_cuts o cuts)) (texts_are on.run.es) stand,
+            sees_whole on.run.es on.run.more on.run.part on.seen,
+            subst (λ state. ends new_watch state last) from ended,
+          )
 
--- ---- refused before
+  -- ---- refused before
 
-module _ (ports : List Stream) (start : Drains) {T : Type 0} (sees : T → Sight → T → Type 0) (ends : T → State → T → Type 0) (watch : T) where
-  -- a text or the number of captures is refused, or memory was
-  pub shows_refused : (s : Meaning Settings) (c : Meaning (List TimedChange)) (fault : RunFault) → length start.ports ≡ length ports → IsShown sees ends s c ports start start watch watch (Err (stream.Run fault))
-  shows_refused (Err f) c fault many = refl
-  shows_refused (Ok s) (Err f) fault many = refl
-  shows_refused (Ok s) (Ok changes) fault many = by (length ports == length s.ports) refl
-    where
-      by : (b : Bool) → (length ports == length s.ports) ≡ b → MatchBool b (Shows sees ends s changes start start watch watch (Err (stream.Run fault))) (watch ≡ watch)
-      by true is = inl (none_at start (length s.ports) (many ∙ eqb-true _ _ is), refl)
-      by false is = refl
+  module _ (ports : List Stream) (start : Drains) {T : Type 0} (sees : T → Sight → T → Type 0) (ends : T → State → T → Type 0) (watch : T) where
+    -- a text or the number of captures is refused, or memory was
+    pub shows_refused : (s : Meaning Settings) (c : Meaning (List TimedChange)) (fault : RunFault) → length start.ports ≡ length ports → IsShownAmong segments sees ends s c ports start start watch watch (Err (stream.Run fault))
+    shows_refused (Err f) c fault many = refl
+    shows_refused (Ok s) (Err f) fault many = refl
+    shows_refused (Ok s) (Ok changes) fault many = by (length ports == length s.ports) refl
+      where
+        by : (b : Bool) → (length ports == length s.ports) ≡ b → MatchBool b (Shows segments sees ends s changes start start watch watch (Err (stream.Run fault))) (watch ≡ watch)
+        by true is = inl (none_at start (length s.ports) (many ∙ eqb-true _ _ is), refl)
+        by false is = refl
 
-  -- as many captures as ports
-  pub shows_counted : (s : Settings) (changes : List TimedChange) (new : Drains) (new_watch : T) (result : Result (Unit {0}) StreamFault) → (length ports == length s.ports) ≡ true
-      → Shows sees ends s changes start new watch new_watch result → IsShown sees ends (Ok s) (Ok changes) ports start new watch new_watch result
-  shows_counted s changes new new_watch result same shows = rw same shows
+    -- as many captures as ports
+    pub shows_counted : (s : Settings) (changes : List TimedChange) (new : Drains) (new_watch : T) (result : Result (Unit {0}) StreamFault) → (length ports == length s.ports) ≡ true
+        → Shows segments sees ends s changes start new watch new_watch result → IsShownAmong segments sees ends (Ok s) (Ok changes) ports start new watch new_watch result
+    shows_counted s changes new new_watch result same shows = rw same shows

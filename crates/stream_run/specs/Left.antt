@@ -20,29 +20,30 @@ use Rattle.stream_run.specs.Stage.{AreWell, Drains, FailedAt, StandAt, StandBetw
 use Rattle.stream_run.specs.Steps.{texts_behind}
 use Rattle.stream_run.specs.declared.fault.StreamFault.{StreamFault}
 use Rattle.stream_run.specs.declared.fault.StreamFault.TheVariants as stream
+use Rattle.segment_set.specs.Segments.{Segments, All}
 
 -- ---- the texts
 
 -- the headers, the texts of these events one after another, and the lines of these cut captures
-abbrev pub texts_of : Settings → List TimedChange → List Event → List Cut → Outputs
-texts_of s changes es cuts = with_cuts (texts_behind changes (opened (settings_told s)) (empty_outputs (length s.ports)) es) cuts
+abbrev pub texts_of : Segments → Settings → List TimedChange → List Event → List Cut → Outputs
+texts_of segments s changes es cuts = with_cuts (texts_behind segments changes (opened (settings_told s)) (empty_outputs (length s.ports)) es) cuts
 
 -- texts, and those that come next: the headers, one event more, or the lines of the cut captures
-abbrev pub AreNext : Settings → List TimedChange → Outputs → Outputs → Type 0
-AreNext s changes texts next =
-    ((texts ≡ no_texts (length s.ports)) × (next ≡ texts_of s changes [] []))
-    ⊎ ((es : List Event) × (e : Event) × (texts ≡ texts_of s changes es []) × (next ≡ texts_of s changes (es ++ e ∷ []) []))
-    ⊎ ((es : List Event) × (cuts : List Cut) × (texts ≡ texts_of s changes es []) × (next ≡ texts_of s changes es cuts))
+abbrev pub AreNext : Segments → Settings → List TimedChange → Outputs → Outputs → Type 0
+AreNext segments s changes texts next =
+    ((texts ≡ no_texts (length s.ports)) × (next ≡ texts_of segments s changes [] []))
+    ⊎ ((es : List Event) × (e : Event) × (texts ≡ texts_of segments s changes es []) × (next ≡ texts_of segments s changes (es ++ e ∷ []) []))
+    ⊎ ((es : List Event) × (cuts : List Cut) × (texts ≡ texts_of segments s changes es []) × (next ≡ texts_of segments s changes es cuts))
 
 -- ---- the outputs
 
 -- the texts of all events and of the cut captures; where a write failed, also a part of what came next; and else the
 -- texts of whole events, with the headers or without them
-abbrev pub Leaves : Settings → List TimedChange → Drains → Drains → Result (Unit {0}) StreamFault → Type 0
-Leaves s changes old new (Ok x) = (es : List Event) × (cuts : List Cut) × StandAt old new (texts_of s changes es cuts)
-Leaves s changes old new (Err (stream.Write target)) =
-    (texts : Outputs) × (next : Outputs) × AreNext s changes texts next × StandBetween old new texts next × FailedAt target old new
-Leaves s changes old new (Err fault) = StandAt old new (no_texts (length s.ports)) ⊎ ((es : List Event) × StandAt old new (texts_of s changes es []))
+abbrev pub Leaves : Segments → Settings → List TimedChange → Drains → Drains → Result (Unit {0}) StreamFault → Type 0
+Leaves segments s changes old new (Ok x) = (es : List Event) × (cuts : List Cut) × StandAt old new (texts_of segments s changes es cuts)
+Leaves segments s changes old new (Err (stream.Write target)) =
+    (texts : Outputs) × (next : Outputs) × AreNext segments s changes texts next × StandBetween old new texts next × FailedAt target old new
+Leaves segments s changes old new (Err fault) = StandAt old new (no_texts (length s.ports)) ⊎ ((es : List Event) × StandAt old new (texts_of segments s changes es []))
 
 -- an output failed, or none
 abbrev pub WritesWith : Drains → Drains → Result (Unit {0}) StreamFault → Type 0
@@ -66,7 +67,11 @@ abbrev pub Refuses : RunFault → Ends → Ends → Result (Unit {0}) StreamFaul
 Refuses fault old new result = ((result ≡ Err (stream.Run fault)) ⊎ (result ≡ Err (stream.Run faults.OutOfMemory))) × (new ≡ old)
 
 -- by what the texts of settings and changes mean: the settings' fault first, then the changes', then the number of captures
+abbrev pub AnswersAmong : Segments → Meaning Settings → Meaning (List TimedChange) → Ends → Ends → Result (Unit {0}) StreamFault → Type 0
+AnswersAmong segments (Err fault) c old new result = Refuses (of_settings fault) old new result
+AnswersAmong segments (Ok s) (Err fault) old new result = Refuses (of_changes fault) old new result
+AnswersAmong segments (Ok s) (Ok changes) old new result = MatchBool (length old.ports == length s.ports) (Leaves segments s changes old.drains new.drains result) (Refuses faults.PortCount old new result)
+
+-- the same of the whole run
 abbrev pub Answers : Meaning Settings → Meaning (List TimedChange) → Ends → Ends → Result (Unit {0}) StreamFault → Type 0
-Answers (Err fault) c old new result = Refuses (of_settings fault) old new result
-Answers (Ok s) (Err fault) old new result = Refuses (of_changes fault) old new result
-Answers (Ok s) (Ok changes) old new result = MatchBool (length old.ports == length s.ports) (Leaves s changes old.drains new.drains result) (Refuses faults.PortCount old new result)
+Answers s c old new result = AnswersAmong All s c old new result

@@ -24,6 +24,8 @@ use Rattle.stream_run.specs.Steps.{AreRead, IsFaultyAt, changes_of}
 use Rattle.stream_run.specs.declared.fault.StreamFault.{StreamFault}
 use Rattle.stream_run.specs.declared.fault.StreamFault.TheVariants as stream
 use Rattle.stream_run.specs.declared.turn.Turn.{Turn}
+use Rattle.capture_run.specs.Among.{run_among}
+use Rattle.segment_set.specs.Segments.{Segments, All}
 
 -- ---- the captures
 
@@ -49,38 +51,38 @@ AreFaultless texts text = faults_of (inputs texts text) ≡ []
 -- ---- the texts
 
 -- none; those of the headers; of the headers and an event; and so on to all events, and with the lines of the cut captures
-abbrev pub texts_at : Settings → List TimedChange → List (Vec ℕ Global) → List ℕ → ℕ → Outputs
-texts_at s changes texts text k = stage (settings_told s) (changes_of changes) (length texts) (whole_records changes texts text) k
+abbrev pub texts_at : Segments → Settings → List TimedChange → List (Vec ℕ Global) → List ℕ → ℕ → Outputs
+texts_at segments s changes texts text k = stage segments (settings_told s) (changes_of changes) (length texts) (whole_records changes texts text) k
 
 -- the outputs hold the texts of whole events, with the headers or without them
-pub record StandsSomewhere (s : Settings) (changes : List TimedChange) (texts : List (Vec ℕ Global)) (text : List ℕ) (old new : Drains) : Type 0 where
+pub record StandsSomewhere (segments : Segments) (s : Settings) (changes : List TimedChange) (texts : List (Vec ℕ Global)) (text : List ℕ) (old new : Drains) : Type 0 where
   pub k : ℕ
   pub most : k ≤ length (whole_records changes texts text).events + 1
-  pub stands : StandAt old new (texts_at s changes texts text k)
+  pub stands : StandAt old new (texts_at segments s changes texts text k)
 
 -- or also a part of what comes next; lines of cut captures only where all captures were read to their ends
-pub record StandsAmong (s : Settings) (changes : List TimedChange) (texts : List (Vec ℕ Global)) (text : List ℕ) (old new : Drains) : Type 0 where
+pub record StandsAmong (segments : Segments) (s : Settings) (changes : List TimedChange) (texts : List (Vec ℕ Global)) (text : List ℕ) (old new : Drains) : Type 0 where
   pub k : ℕ
   pub most : (k ≤ length (whole_records changes texts text).events) ⊎ ((k ≡ length (whole_records changes texts text).events + 1) × AreFaultless texts text)
-  pub stands : StandBetween old new (texts_at s changes texts text k) (texts_at s changes texts text (k + 1))
+  pub stands : StandBetween old new (texts_at segments s changes texts text k) (texts_at segments s changes texts text (k + 1))
 
 -- a record has this fault, and the outputs hold the texts of all events up to the record before it, and no more
-pub record StandsBefore (place : Tap) (n : ℕ) (fault : RecordFault) (s : Settings) (changes : List TimedChange) (texts : List (Vec ℕ Global)) (text : List ℕ) (old new : Drains) : Type 0 where
+pub record StandsBefore (segments : Segments) (place : Tap) (n : ℕ) (fault : RecordFault) (s : Settings) (changes : List TimedChange) (texts : List (Vec ℕ Global)) (text : List ℕ) (old new : Drains) : Type 0 where
   pub k : ℕ
   pub faulty : IsFaultyAt (texts_octets texts) text place n fault
   pub before : ((k ≡ 0) × (n ≡ 1)) ⊎ EndBefore place n (take k (whole_records changes texts text).events)
-  pub stands : StandAt old new (texts_at s changes texts text (k + 1))
+  pub stands : StandAt old new (texts_at segments s changes texts text (k + 1))
 
 -- ---- the answer
 
 -- with these settings and changes
-abbrev pub LeavesOver : Settings → List TimedChange → List (Vec ℕ Global) → List ℕ → Drains → Drains → Result (Unit {0}) StreamFault → Type 0
-LeavesOver s changes texts text old new (Ok x) = (found : Outputs) × (run (Ok s) (Ok changes) texts text ≡ Ok found) × StandAt old new found
-LeavesOver s changes texts text old new (Err (stream.Run (faults.Record place n fault))) = StandsBefore place n fault s changes texts text old new
-LeavesOver s changes texts text old new (Err (stream.Run faults.OutOfMemory)) = StandsSomewhere s changes texts text old new
-LeavesOver s changes texts text old new (Err (stream.Run fault)) = (run (Ok s) (Ok changes) texts text ≡ Err fault) × StandAt old new (no_texts (length texts))
-LeavesOver s changes texts text old new (Err (stream.Read place)) = StandsSomewhere s changes texts text old new
-LeavesOver s changes texts text old new (Err (stream.Write target)) = StandsAmong s changes texts text old new
+abbrev pub LeavesOver : Segments → Settings → List TimedChange → List (Vec ℕ Global) → List ℕ → Drains → Drains → Result (Unit {0}) StreamFault → Type 0
+LeavesOver segments s changes texts text old new (Ok x) = (found : Outputs) × (run_among segments (Ok s) (Ok changes) texts text ≡ Ok found) × StandAt old new found
+LeavesOver segments s changes texts text old new (Err (stream.Run (faults.Record place n fault))) = StandsBefore segments place n fault s changes texts text old new
+LeavesOver segments s changes texts text old new (Err (stream.Run faults.OutOfMemory)) = StandsSomewhere segments s changes texts text old new
+LeavesOver segments s changes texts text old new (Err (stream.Run fault)) = (run (Ok s) (Ok changes) texts text ≡ Err fault) × StandAt old new (no_texts (length texts))
+LeavesOver segments s changes texts text old new (Err (stream.Read place)) = StandsSomewhere segments s changes texts text old new
+LeavesOver segments s changes texts text old new (Err (stream.Write target)) = StandsAmong segments s changes texts text old new
 
 -- without them: why, unless memory was refused
 abbrev pub RefusesOver : Meaning Settings → Meaning (List TimedChange) → List (Vec ℕ Global) → List ℕ → Drains → Drains → Result (Unit {0}) StreamFault → Type 0
@@ -89,10 +91,19 @@ RefusesOver s c texts text old new (Err (stream.Run fault)) = (run s c texts tex
 RefusesOver s c texts text old new result = ⊥
 
 -- by what the texts of the settings and of the changes mean
+abbrev pub IsRunOverAmong : Segments → Meaning Settings → Meaning (List TimedChange) → List (Vec ℕ Global) → List ℕ → Drains → Drains → Result (Unit {0}) StreamFault → Type 0
+IsRunOverAmong segments (Ok s) (Ok changes) texts text old new result = LeavesOver segments s changes texts text old new result
+IsRunOverAmong segments (Ok s) (Err fault) texts text old new result = RefusesOver (Ok s) (Err fault) texts text old new result
+IsRunOverAmong segments (Err fault) c texts text old new result = RefusesOver (Err fault) c texts text old new result
+
+-- the same of the whole run
 abbrev pub IsRunOver : Meaning Settings → Meaning (List TimedChange) → List (Vec ℕ Global) → List ℕ → Drains → Drains → Result (Unit {0}) StreamFault → Type 0
-IsRunOver (Ok s) (Ok changes) texts text old new result = LeavesOver s changes texts text old new result
-IsRunOver (Ok s) (Err fault) texts text old new result = RefusesOver (Ok s) (Err fault) texts text old new result
-IsRunOver (Err fault) c texts text old new result = RefusesOver (Err fault) c texts text old new result
+IsRunOver s c texts text old new result = IsRunOverAmong All s c texts text old new result
+
+-- a run that stops at no fault leaves just what comes out of the whole run
+abbrev pub IsWholeRun : Meaning Settings → Meaning (List TimedChange) → List (Vec ℕ Global) → List ℕ → Drains → Drains → Result (Unit {0}) StreamFault → Type 0
+IsWholeRun s c texts text old new (Ok x) = (found : Outputs) × (run s c texts text ≡ Ok found) × StandAt old new found
+IsWholeRun s c texts text old new (Err fault) = ⊤
 
 -- ---- the begin
 

@@ -1,14 +1,17 @@
 -- What is seen of a run by whoever looks on.
---     Sight      an event that comes, and how the endpoint stands before it
+--     Due      an event that comes, and how the endpoint stands before it
+--     Sight      the same, and what the event is answered
 --     sights      those of events one after another
-use Rattle.std.specs.Prelude.{ℕ, ◌+◌, List, [], ◌∷◌}
+use Rattle.std.specs.Prelude.{ℕ, ◌+◌, if◌then◌else◌, List, [], ◌∷◌, ◌++◌}
 use Rattle.overlay_settings.specs.declared.change.Change.{Change}
 use Rattle.timeline.specs.declared.event.Event.{Event}
-use Rattle.endpoint_core.specs.Step.{State, after}
+use Rattle.endpoint_core.specs.Step.{Answer, State, answer}
 use Rattle.capture_run.specs.Outputs.{event_of}
+use Rattle.endpoint_core.specs.Among.{after_among, is_told}
+use Rattle.segment_set.specs.Segments.{Segments}
 
 -- an event that comes to an endpoint
-pub record Sight : Type 0 where
+pub record Due : Type 0 where
   -- that of the endpoint just before the event
   pub state : State
   -- of the event in the run, from 1
@@ -16,10 +19,36 @@ pub record Sight : Type 0 where
   pub event : Event
 
 -- the same, made of what a call is lent
-abbrev pub sight : State → ℕ → Event → Sight
-sight state number event = record { state = state; number = number; event = event }
+abbrev pub due : State → ℕ → Event → Due
+due state number event = record { state = state; number = number; event = event }
 
--- of events that come one after another behind so many others: each finds the endpoint as the one before left it
-abbrev pub sights : List Change → State → ℕ → List Event → List Sight
-sights changes s count [] = []
-sights changes s count (e ∷ es) = sight s (count + 1) e ∷ sights changes (after s (event_of changes e)) (count + 1) es
+-- an event that came, and what it was answered
+pub record Sight : Type 0 where
+  pub state : State
+  pub number : ℕ
+  pub event : Event
+  pub reply : Answer
+
+-- an event with this answer
+abbrev pub answered : Due → Answer → Sight
+answered c a = record { state = c.state; number = c.number; event = c.event; reply = a }
+
+-- an event, as an endpoint in this state answers it
+abbrev pub sight : List Change → State → ℕ → Event → Sight
+sight changes s number e = answered (due s number e) (answer s (event_of changes e))
+
+-- an event, where it is told to these segments
+abbrev pub sight_among : Segments → List Change → State → ℕ → Event → List Sight
+sight_among segments changes s number e = if is_told segments s (event_of changes e) then sight changes s number e ∷ [] else []
+
+-- of events that come one after another behind so many others those that are told: each finds the endpoint as the one
+-- before left it, told or not
+abbrev pub sights : Segments → List Change → State → ℕ → List Event → List Sight
+sights segments changes s count [] = []
+sights segments changes s count (e ∷ es) =
+    sight_among segments changes s (count + 1) e ++ sights segments changes (after_among segments s (event_of changes e)) (count + 1) es
+
+-- how an endpoint stands behind events
+abbrev pub state_among : Segments → List Change → State → List Event → State
+state_among segments changes s [] = s
+state_among segments changes s (e ∷ es) = state_among segments changes (after_among segments s (event_of changes e)) es

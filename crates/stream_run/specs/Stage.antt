@@ -8,9 +8,11 @@ use Rattle.pcap_stream.specs.Sink.{Drain}
 use Rattle.timeline.specs.Timeline.{Timeline}
 use Rattle.overlay_settings.specs.declared.change.Change.{Change}
 use Rattle.endpoint_state.specs.Settings.{Settings}
-use Rattle.capture_run.specs.Outputs.{Outputs, outputs}
+use Rattle.capture_run.specs.Among.{outputs_among}
+use Rattle.capture_run.specs.Outputs.{Outputs}
 use Rattle.stream_run.specs.declared.fault.Target.{Target}
 use Rattle.stream_run.specs.declared.fault.Target.TheVariants as targets
+use Rattle.segment_set.specs.Segments.{Segments}
 
 -- ---- the texts
 
@@ -22,10 +24,11 @@ no_texts ports = record { ports = replicate ports []; underlay = []; decisions =
 abbrev pub first_of : ℕ → Timeline → Timeline
 first_of k t = record { events = take k t.events; cuts = if nat_lt (length t.events) k then t.cuts else [] }
 
--- none; those of the headers; of the headers and an event; and so on to those of the whole run
-abbrev pub stage : Settings → List Change → ℕ → Timeline → ℕ → Outputs
-stage S changes ports t zero = no_texts ports
-stage S changes ports t (suc k) = outputs S changes ports (first_of k t)
+-- none; those of the headers; of the headers and an event; and so on to those of the whole run: of what is told to these
+-- segments
+abbrev pub stage : Segments → Settings → List Change → ℕ → Timeline → ℕ → Outputs
+stage segments S changes ports t zero = no_texts ports
+stage segments S changes ports t (suc k) = outputs_among segments S changes ports (first_of k t)
 
 -- ---- the outputs
 

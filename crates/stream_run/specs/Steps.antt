@@ -4,7 +4,7 @@
 --     AreRead      the same, by the octets of the captures
 --     IsStep      one event, and the fetch behind it
 --     IsRunOn      many of them: by the octets, the first of those that were to come
-use Rattle.std.specs.Prelude.{◌≡◌, ◌<◌, ◌≤◌, ⊤, ℕ, ◌+◌, List, [], ◌∷◌, ◌++◌, length, map, slice_index_or, slice_get, Option, Some, None, option_map, Result, Ok, Err, OnOk, IsSome, slice_set, ◌-◌, ◌⊎◌}
+use Rattle.std.specs.Prelude.{◌≡◌, if◌then◌else◌, ◌<◌, ◌≤◌, ⊤, ℕ, ◌+◌, List, [], ◌∷◌, ◌++◌, length, map, slice_index_or, slice_get, Option, Some, None, option_map, Result, Ok, Err, OnOk, IsSome, slice_set, ◌-◌, ◌⊎◌}
 use Rattle.pcap_io.specs.Record.{Record, last_moment}
 use Rattle.pcap_io.specs.declared.record.RecordFault.{RecordFault}
 use Rattle.pcap_stream.specs.Source.{Stream, lent}
@@ -15,12 +15,16 @@ use Rattle.timeline.specs.declared.event.Event.{Event}
 use Rattle.timeline.specs.declared.event.Happening.TheVariants as happenings
 use Rattle.timeline.specs.declared.source.Tap.{Tap}
 use Rattle.timeline.specs.declared.source.Tap.TheVariants as taps
-use Rattle.endpoint_core.specs.Step.{State, after, answer}
+use Rattle.endpoint_core.specs.Among.{after_among, is_told}
+use Rattle.endpoint_core.specs.Event.{Event as Asked}
+use Rattle.endpoint_core.specs.Step.{State, answer}
 use Rattle.capture_run.specs.Outputs.{Outputs, event_of}
-use Rattle.capture_run.specs.Writing.{with_event, with_events}
+use Rattle.capture_run.specs.Among.{with_event_among, with_events_among}
 use Rattle.capture_run.specs.declared.fault.RunFault.TheVariants as faults
 use Rattle.stream_run.specs.Coming.{EndBefore, IsRecordBefore, coming}
 use Rattle.stream_run.specs.Fetched.{IsFetch, IsMoment}
+use Rattle.capture_run.specs.Writing.{with_input}
+use Rattle.stream_run.specs.Sights.{Sight, answered, due}
 use Rattle.stream_run.specs.Read.{IsFaulty, IsRead, ReadsWith}
 use Rattle.stream_run.specs.Stage.{Drains, FailedAt, Lead, StandAt, StandBetween}
 use Rattle.stream_run.specs.Turns.{IsNoSooner}
@@ -29,6 +33,7 @@ use Rattle.stream_run.specs.declared.fault.StreamFault.TheVariants as stream
 use Rattle.stream_run.specs.declared.fault.Target.{Target}
 use Rattle.stream_run.specs.declared.turn.First.{First}
 use Rattle.stream_run.specs.declared.turn.Turn.{Turn}
+use Rattle.segment_set.specs.Segments.{Segments}
 
 -- ---- a run
 
@@ -123,13 +128,21 @@ IsNextEvent ports underlay index done moment e =
 abbrev pub changes_of : List TimedChange → List Change
 changes_of changes = map (λ (c : TimedChange). c.change) changes
 
--- the event was taken by the endpoint, and what comes of it was put to the outputs
-pub record IsTaken (changes : List TimedChange) (ports : List Stream) (underlay : Stream) (index done moment number : ℕ) (old new : State) (before behind : Drains) (result : Result (Unit {0}) Target) : Type 0 where
+-- the event was taken by the endpoint, and what comes of it was put to the outputs, where it is told to these segments
+pub record IsTaken (segments : Segments) (changes : List TimedChange) (ports : List Stream) (underlay : Stream) (index done moment number : ℕ) (old new : State) (before behind : Drains) (result : Result (Unit {0}) Target) : Type 0 where
   pub e : Event
   pub next : IsNextEvent ports underlay index done moment e
-  pub state : new ≡ after old (event_of (changes_of changes) e)
+  pub state : new ≡ after_among segments old (event_of (changes_of changes) e)
   pub outputs : (start : Drains) (o : Outputs) → StandAt start before o
-      → Lead start behind o (with_event (changes_of changes) number o e (answer old (event_of (changes_of changes) e))) result
+      → Lead start behind o (with_event_among segments (changes_of changes) number old o e) result
+
+-- what comes of an event that names this segment, where it is told
+abbrev pub with_input_among : Segments → ℕ → Option ℕ → State → Outputs → Event → Asked → Outputs
+with_input_among segments number named s o e asked = if is_told segments s asked then with_input number named o e (answer s asked) else o
+
+-- what is seen of it
+abbrev pub seen_among : Segments → State → ℕ → Event → Asked → List Sight
+seen_among segments s number e asked = if is_told segments s asked then answered (due s number e) (answer s asked) ∷ [] else []
 
 -- ---- fetched
 
@@ -168,15 +181,15 @@ pub record ComesFirst (changes : List TimedChange) (texts : List (List ℕ)) (te
   pub fetched : Fetches changes texts text rest e new result
 
 -- an event came, and the next one of its source was asked for
-pub record IsStep (changes : List TimedChange) (old new : Run) (first : First) (result : Result (Unit {0}) StreamFault) : Type 0 where
+pub record IsStep (segments : Segments) (changes : List TimedChange) (old new : Run) (first : First) (result : Result (Unit {0}) StreamFault) : Type 0 where
   pub e : Event
   pub moment : e.moment ≡ first.moment
   pub time : old.state.moment ≤ e.moment
   pub next : (t : Turn) → IsNextEvent old.ports old.underlay first.index (slice_index_or old.turns first.index t).done first.moment e
-  pub state : new.state ≡ after old.state (event_of (changes_of changes) e)
+  pub state : new.state ≡ after_among segments old.state (event_of (changes_of changes) e)
   pub number : new.number ≡ old.number + 1
   pub outputs : (start : Drains) (o : Outputs) → StandAt start old.drains o
-      → StepsTo start new.drains o (with_event (changes_of changes) (old.number + 1) o e (answer old.state (event_of (changes_of changes) e))) result
+      → StepsTo start new.drains o (with_event_among segments (changes_of changes) (old.number + 1) old.state o e) result
   pub ready : OnOk result (AreReady changes new)
   pub reads : ReadsWith old.ports old.underlay new.ports new.underlay result
   pub told : (texts : List (List ℕ)) (text : List ℕ) → AreRead texts text old.turns old.ports old.underlay → ComesFirst changes texts text old new e result
@@ -184,16 +197,16 @@ pub record IsStep (changes : List TimedChange) (old new : Run) (first : First) (
 -- ---- many steps
 
 -- the texts that stand behind some events
-abbrev pub texts_behind : List TimedChange → State → Outputs → List Event → Outputs
-texts_behind changes s o es = with_events (changes_of changes) 0 s o es
+abbrev pub texts_behind : Segments → List TimedChange → State → Outputs → List Event → Outputs
+texts_behind segments changes s o es = with_events_among segments (changes_of changes) 0 s o es
 
 module _ {T : Type 0} where
   -- the outputs hold the texts of these events, and where a write failed a part of those of one event more, and the other
   -- outputs a part of them too
-  abbrev pub LeadsBehind : List TimedChange → State → Drains → Drains → Outputs → List Event → List Event → Result T StreamFault → Type 0
-  LeadsBehind changes s start new o es more (Err (stream.Write target)) =
-      StandBetween start new (texts_behind changes s o es) (texts_behind changes s o (es ++ more)) × FailedAt target start new
-  LeadsBehind changes s start new o es more result = StandAt start new (texts_behind changes s o es)
+  abbrev pub LeadsBehind : Segments → List TimedChange → State → Drains → Drains → Outputs → List Event → List Event → Result T StreamFault → Type 0
+  LeadsBehind segments changes s start new o es more (Err (stream.Write target)) =
+      StandBetween start new (texts_behind segments changes s o es) (texts_behind segments changes s o (es ++ more)) × FailedAt target start new
+  LeadsBehind segments changes s start new o es more result = StandAt start new (texts_behind segments changes s o es)
 
   -- the event of which a part was written: one where a write failed, and else none
   abbrev pub IsPart : List Event → Result T StreamFault → Type 0
@@ -217,12 +230,12 @@ pub record AreFirst (changes : List TimedChange) (texts : List (List ℕ)) (text
   pub ends : EndsIn texts text es rest new result
 
 -- some events came, one after another
-pub record IsRunOn (changes : List TimedChange) (old new : Run) (result : Result (Unit {0}) StreamFault) : Type 0 where
+pub record IsRunOn (segments : Segments) (changes : List TimedChange) (old new : Run) (result : Result (Unit {0}) StreamFault) : Type 0 where
   pub es : List Event
   pub more : List Event
   pub part : IsPart more result
   pub rising : IsRising old.state.moment (es ++ more)
-  pub outputs : (start : Drains) (o : Outputs) → StandAt start old.drains o → LeadsBehind changes old.state start new.drains o es more result
+  pub outputs : (start : Drains) (o : Outputs) → StandAt start old.drains o → LeadsBehind segments changes old.state start new.drains o es more result
   pub reads : ReadsWith old.ports old.underlay new.ports new.underlay result
   -- and none is left
   pub over : OnOk result ((t : Turn) (k : ℕ) → k < length new.turns → (slice_index_or new.turns k t).next ≡ None)

@@ -2,6 +2,7 @@
 ghost use Rattle.std.specs.Prelude.{◌≡◌, ◌≤◌, ◌<◌, ◌+◌, List, length};
 ghost use Rattle.std.specs.Option.{option_to_list};
 ghost use Rattle.pcap_stream.specs.Sink.{Drain};
+ghost use Rattle.capture_run.specs.Among.{cuts_among};
 ghost use Rattle.capture_run.specs.Outputs.{Outputs};
 ghost use Rattle.capture_run.specs.Writing.{with_cuts};
 ghost use Rattle.stream_run.specs.Cuts.{cut_behind, cuts_at};
@@ -12,6 +13,7 @@ use crate::put::put_line;
 use crate::turn::Turn;
 use decision_lines::Line;
 use pcap_stream::{Input, Output, Source};
+use segment_set::SegmentSet;
 use timeline::{Cut, Tap};
 
 /// Puts the line of a capture, if it is cut behind so many whole records.
@@ -33,7 +35,7 @@ fn put_cut<R: Input, W: Output>(
 }
 
 /// Puts the lines of the captures that are cut, the ports' rising and then the underlay's.
-pub fn put_cuts<R: Input, W: Output>(
+fn put_cuts<R: Input, W: Output>(
     ports: &[Source<R>],
     underlay: &Source<R>,
     turns: &[Turn],
@@ -63,4 +65,24 @@ pub fn put_cuts<R: Input, W: Output>(
         line,
         decisions,
     )
+}
+
+/// Puts these lines where what comes to no segment is asked for; they stand in no other part of a run.
+pub fn put_cuts_among<R: Input, W: Output>(
+    segments: &SegmentSet,
+    ports: &[Source<R>],
+    underlay: &Source<R>,
+    turns: &[Turn],
+    line: &mut Line,
+    decisions: &mut W,
+) -> Result<(), Target>
+    requires few { length ports.now ≤ 16 }
+    requires turns { length turns.now ≡ length ports.now + 2 }
+    ensures { (start : Drains) (o : Outputs) (port_sinks : List Drain) (underlay_sink : Drain) → StandAt start (drains port_sinks underlay_sink (W.written decisions.old) (W.failures decisions.old)) o
+        → Lead start (drains port_sinks underlay_sink (W.written decisions.new) (W.failures decisions.new)) o (with_cuts o (cuts_among segments.now (cuts_at ports.now underlay.now turns.now))) result }
+{
+    if !segments.has(None) {
+        return Ok(());
+    }
+    put_cuts(ports, underlay, turns, line, decisions)
 }

@@ -7,8 +7,11 @@
 //! come last. Wherever the inputs tell their octets, what it answers and writes is what `capture_run` tells of them, up to
 //! where a read or a write fails or memory is refused. Where it stops at a [`StreamFault`], what was written stands.
 //!
-//! Whoever looks on, a [`Watch`], is shown each event just before the endpoint takes it, and the endpoint at the end of a run
-//! that stops at no fault; with [`Unwatched`] nobody looks on.
+//! Whoever looks on, a [`Watch`], is shown each event just before the endpoint takes it, told the answer just behind, and
+//! shown the endpoint at the end of a run that stops at no fault; with [`Unwatched`] nobody looks on.
+//!
+//! [`run_segments`] is a part of a run: of what comes to some segments, a [`SegmentSet`](segment_set::SegmentSet), with the
+//! numbers and the decisions of the whole run.
 //!
 //! [`open_capture`], [`fetch_at`], [`put_events`] and [`put_line`] are its parts. A [`Turn`] says of each source how many
 //! of its events came, and when the next one does. Nothing is made or moved on the way of an event but what a
@@ -32,7 +35,7 @@ pub use fault::{StreamFault, Target};
 pub use fetch::fetch_at;
 pub use opening::open_capture;
 pub use put::put_line;
-pub use run::run_streams;
+pub use run::{run_segments, run_streams};
 pub use step::put_events;
 pub use turn::Turn;
 pub use watch::{Unwatched, Watch};

@@ -4,15 +4,15 @@ ghost use Rattle.std.specs.declared.alloc.Global.{Global as AGlobal};
 ghost use Rattle.overlay_config.specs.Change.{changes_in};
 ghost use Rattle.overlay_config.specs.Settings.{settings_in};
 ghost use Rattle.stream_run.specs.Begun.{IsUnread};
-ghost use Rattle.stream_run.specs.Left.{Answers, Leaves, WritesWith, ends};
-ghost use Rattle.stream_run.specs.Over.{IsRunOver, LeavesOver, Tells};
+ghost use Rattle.stream_run.specs.Left.{Answers, AnswersAmong, Leaves, WritesWith, ends};
+ghost use Rattle.stream_run.specs.Over.{IsRunOver, IsRunOverAmong, IsWholeRun, LeavesOver, Tells};
 ghost use Rattle.stream_run.specs.Read.{ReadsWith};
 ghost use Rattle.stream_run.specs.Stage.{drains};
 ghost use Rattle.stream_run.specs.Steps.{AreTimely};
-ghost use Rattle.stream_run.specs.Watched.{IsShown, IsWatchedOver, SeesOver, Shows};
+ghost use Rattle.stream_run.specs.Watched.{IsShown, IsShownAmong, IsWatchedOver, IsWatchedOverAmong, SeesOver, Shows};
 
 use crate::begin::{begin_all, fetch_all, first_turns};
-use crate::cuts::put_cuts;
+use crate::cuts::put_cuts_among;
 use crate::fault::StreamFault;
 use crate::opening::open_all;
 use crate::step::put_events;
@@ -22,6 +22,7 @@ use decision_lines::Desk;
 use endpoint_core::Endpoint;
 use overlay_config::{Settings, TimedChange, changes_of, settings_of};
 use pcap_stream::{Input, Output, Sink, Source};
+use segment_set::SegmentSet;
 use std::alloc::Global;
 
 /// Runs an endpoint with the settings of a text over the captures of its local ports, port 1 first, and of its underlay,
@@ -34,8 +35,9 @@ use std::alloc::Global;
 /// fault, what was written stands: the texts of the events so far, the same events for all outputs, and where a write
 /// failed at most a part of those of one event more. `OutOfMemory` comes only where memory was refused.
 ///
-/// Whoever looks on is shown each event just before the endpoint takes it, and once all lines are written the endpoint.
-/// Where the run stops at a fault, it was shown the events so far, and where a write failed the one more, but not the end.
+/// Whoever looks on is shown each event just before the endpoint takes it and told the answer just behind, and once all
+/// lines are written it is shown the endpoint. Where the run stops at a fault, that was so of the events so far, and where a
+/// write failed of the one more, but the end wasn't shown.
 pub fn run_streams<R: Input, W: Output, T: Watch>(
     alloc: Global,
     settings: &[u8],
@@ -57,11 +59,69 @@ pub fn run_streams<R: Input, W: Output, T: Watch>(
         → IsRunOver (settings_in settings.now) (changes_in changes.now) texts text
         (drains port_sinks.old underlay_sink.old (W.written decisions.old) (W.failures decisions.old))
         (drains port_sinks.new underlay_sink.new (W.written decisions.new) (W.failures decisions.new)) result }
+    ensures whole { (texts : List (AVec ℕ AGlobal)) (text : List ℕ) → Tells ports.old underlay.old texts text
+        → IsWholeRun (settings_in settings.now) (changes_in changes.now) texts text
+        (drains port_sinks.old underlay_sink.old (W.written decisions.old) (W.failures decisions.old))
+        (drains port_sinks.new underlay_sink.new (W.written decisions.new) (W.failures decisions.new)) result }
     ensures shown { IsShown T.sees T.ends (settings_in settings.now) (changes_in changes.now) ports.old
         (drains port_sinks.old underlay_sink.old (W.written decisions.old) (W.failures decisions.old))
         (drains port_sinks.new underlay_sink.new (W.written decisions.new) (W.failures decisions.new)) watch.old watch.new result }
     ensures watched { (texts : List (AVec ℕ AGlobal)) (text : List ℕ) → Tells ports.old underlay.old texts text
         → IsWatchedOver T.sees T.ends (settings_in settings.now) (changes_in changes.now) texts text
+        (drains port_sinks.old underlay_sink.old (W.written decisions.old) (W.failures decisions.old))
+        (drains port_sinks.new underlay_sink.new (W.written decisions.new) (W.failures decisions.new)) watch.old watch.new result }
+    ensures reads { ReadsWith ports.old underlay.old ports.new underlay.new result }
+    ensures writes { WritesWith
+        (drains port_sinks.old underlay_sink.old (W.written decisions.old) (W.failures decisions.old))
+        (drains port_sinks.new underlay_sink.new (W.written decisions.new) (W.failures decisions.new)) result }
+{
+    run_segments(
+        alloc,
+        settings,
+        changes,
+        ports,
+        underlay,
+        port_sinks,
+        underlay_sink,
+        decisions,
+        &SegmentSet::all(),
+        watch,
+    )
+}
+
+/// Runs a part of what [`run_streams`] runs: what is told to these segments. A frame or a packet that comes to another
+/// segment, or is refused in one, is read and numbered as ever, but not decided: nothing is written of it. A change that
+/// isn't told is made all the same, for it may be one of settings that all segments stand on; so the settings are at each
+/// event those of the whole run. The lines of cut captures stand in the part that has what comes to no segment.
+///
+/// Whoever looks on is shown what is told, and nothing else. All else is as it is with [`run_streams`].
+pub fn run_segments<R: Input, W: Output, T: Watch>(
+    alloc: Global,
+    settings: &[u8],
+    changes: &[u8],
+    ports: &mut [Source<R>],
+    underlay: &mut Source<R>,
+    port_sinks: &mut [Sink<W>],
+    underlay_sink: &mut Sink<W>,
+    decisions: &mut W,
+    segments: &SegmentSet,
+    watch: &mut T,
+) -> Result<(), StreamFault>
+    requires sinks { length port_sinks.old ≡ length ports.old }
+    requires new_ports { All IsUnread ports.old }
+    requires new_underlay { IsUnread underlay.old }
+    ensures run { AnswersAmong segments.now (settings_in settings.now) (changes_in changes.now)
+        (ends ports.old underlay.old (drains port_sinks.old underlay_sink.old (W.written decisions.old) (W.failures decisions.old)))
+        (ends ports.new underlay.new (drains port_sinks.new underlay_sink.new (W.written decisions.new) (W.failures decisions.new))) result }
+    ensures over { (texts : List (AVec ℕ AGlobal)) (text : List ℕ) → Tells ports.old underlay.old texts text
+        → IsRunOverAmong segments.now (settings_in settings.now) (changes_in changes.now) texts text
+        (drains port_sinks.old underlay_sink.old (W.written decisions.old) (W.failures decisions.old))
+        (drains port_sinks.new underlay_sink.new (W.written decisions.new) (W.failures decisions.new)) result }
+    ensures shown { IsShownAmong segments.now T.sees T.ends (settings_in settings.now) (changes_in changes.now) ports.old
+        (drains port_sinks.old underlay_sink.old (W.written decisions.old) (W.failures decisions.old))
+        (drains port_sinks.new underlay_sink.new (W.written decisions.new) (W.failures decisions.new)) watch.old watch.new result }
+    ensures watched { (texts : List (AVec ℕ AGlobal)) (text : List ℕ) → Tells ports.old underlay.old texts text
+        → IsWatchedOverAmong segments.now T.sees T.ends (settings_in settings.now) (changes_in changes.now) texts text
         (drains port_sinks.old underlay_sink.old (W.written decisions.old) (W.failures decisions.old))
         (drains port_sinks.new underlay_sink.new (W.written decisions.new) (W.failures decisions.new)) watch.old watch.new result }
     ensures reads { ReadsWith ports.old underlay.old ports.new underlay.new result }
@@ -89,11 +149,12 @@ pub fn run_streams<R: Input, W: Output, T: Watch>(
         port_sinks,
         underlay_sink,
         decisions,
+        segments,
         watch,
     )
 }
 
-/// The run with these settings and changes, on as many captures as there are ports.
+/// The run with these settings and changes, on as many captures as there are ports, of what is told to these segments.
 fn run_with<R: Input, W: Output, T: Watch>(
     alloc: Global,
     settings: Settings,
@@ -103,6 +164,7 @@ fn run_with<R: Input, W: Output, T: Watch>(
     port_sinks: &mut [Sink<W>],
     underlay_sink: &mut Sink<W>,
     decisions: &mut W,
+    segments: &SegmentSet,
     watch: &mut T,
 ) -> Result<(), StreamFault>
     requires few { length ports.old ≤ 16 }
@@ -111,16 +173,16 @@ fn run_with<R: Input, W: Output, T: Watch>(
     requires timely { AreTimely changes.now }
     requires new_ports { All IsUnread ports.old }
     requires new_underlay { IsUnread underlay.old }
-    ensures outputs { Leaves settings changes.now
+    ensures outputs { Leaves segments.now settings changes.now
         (drains port_sinks.old underlay_sink.old (W.written decisions.old) (W.failures decisions.old))
         (drains port_sinks.new underlay_sink.new (W.written decisions.new) (W.failures decisions.new)) result }
-    ensures over { (texts : List (AVec ℕ AGlobal)) (text : List ℕ) → Tells ports.old underlay.old texts text → LeavesOver settings changes.now texts text
+    ensures over { (texts : List (AVec ℕ AGlobal)) (text : List ℕ) → Tells ports.old underlay.old texts text → LeavesOver segments.now settings changes.now texts text
         (drains port_sinks.old underlay_sink.old (W.written decisions.old) (W.failures decisions.old))
         (drains port_sinks.new underlay_sink.new (W.written decisions.new) (W.failures decisions.new)) result }
-    ensures shown { Shows T.sees T.ends settings changes.now
+    ensures shown { Shows segments.now T.sees T.ends settings changes.now
         (drains port_sinks.old underlay_sink.old (W.written decisions.old) (W.failures decisions.old))
         (drains port_sinks.new underlay_sink.new (W.written decisions.new) (W.failures decisions.new)) watch.old watch.new result }
-    ensures watched { (texts : List (AVec ℕ AGlobal)) (text : List ℕ) → Tells ports.old underlay.old texts text → SeesOver T.sees T.ends settings changes.now texts text
+    ensures watched { (texts : List (AVec ℕ AGlobal)) (text : List ℕ) → Tells ports.old underlay.old texts text → SeesOver segments.now T.sees T.ends settings changes.now texts text
         (drains port_sinks.old underlay_sink.old (W.written decisions.old) (W.failures decisions.old))
         (drains port_sinks.new underlay_sink.new (W.written decisions.new) (W.failures decisions.new)) watch.old watch.new result }
     ensures reads { ReadsWith ports.old underlay.old ports.new underlay.new result }
@@ -151,11 +213,19 @@ fn run_with<R: Input, W: Output, T: Watch>(
         port_sinks,
         underlay_sink,
         decisions,
+        segments,
         watch,
     ) {
         return Err(fault);
     }
-    match put_cuts(ports, underlay, turns.as_slice(), &mut desk.line, decisions) {
+    match put_cuts_among(
+        segments,
+        ports,
+        underlay,
+        turns.as_slice(),
+        &mut desk.line,
+        decisions,
+    ) {
         Ok(()) => {
             watch.end(&endpoint);
             Ok(())

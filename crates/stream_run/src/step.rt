@@ -17,8 +17,10 @@ use decision_lines::Desk;
 use endpoint_core::Endpoint;
 use overlay_config::TimedChange;
 use pcap_stream::{Input, Output, Sink, Source};
+use segment_set::SegmentSet;
 
-/// Shows the event that comes first, puts it through the endpoint, and fetches the next one of its source.
+/// Puts the event that comes first through the endpoint, and shows it before where it is told to these segments; and fetches
+/// the next one of its source.
 fn put_first<R: Input, W: Output, T: Watch>(
     changes: &[TimedChange],
     ports: &mut [Source<R>],
@@ -30,13 +32,14 @@ fn put_first<R: Input, W: Output, T: Watch>(
     underlay_sink: &mut Sink<W>,
     decisions: &mut W,
     first: First,
+    segments: &SegmentSet,
     watch: &mut T,
 ) -> Result<(), StreamFault>
     requires few { desk.old.number + 2 < 2 ^ 64 }
     requires first { IsFirst turns.old (length turns.old) first }
     requires ready { AreReady changes.now (run_at ports.old underlay.old turns.old (state_of endpoint.old) desk.old.number
         (drains port_sinks.old underlay_sink.old (W.written decisions.old) (W.failures decisions.old))) }
-    ensures { IsWatchedStep T.sees changes.now
+    ensures { IsWatchedStep segments.now T.sees changes.now
         (run_at ports.old underlay.old turns.old (state_of endpoint.old) desk.old.number
         (drains port_sinks.old underlay_sink.old (W.written decisions.old) (W.failures decisions.old)))
         (run_at ports.new underlay.new turns.new (state_of endpoint.new) desk.new.number
@@ -56,6 +59,7 @@ fn put_first<R: Input, W: Output, T: Watch>(
         first.index,
         first.moment,
         done,
+        segments,
         watch,
     ) {
         return Err(StreamFault::Write(target));
@@ -76,7 +80,8 @@ fn put_first<R: Input, W: Output, T: Watch>(
     }
 }
 
-/// Puts the changes and the records of all captures through an endpoint, in order of moment, and shows each before.
+/// Puts the changes and the records of all captures through an endpoint, in order of moment, and shows those that are told
+/// to these segments before.
 pub fn put_events<R: Input, W: Output, T: Watch>(
     changes: &[TimedChange],
     ports: &mut [Source<R>],
@@ -87,12 +92,13 @@ pub fn put_events<R: Input, W: Output, T: Watch>(
     port_sinks: &mut [Sink<W>],
     underlay_sink: &mut Sink<W>,
     decisions: &mut W,
+    segments: &SegmentSet,
     watch: &mut T,
 ) -> Result<(), StreamFault>
     requires none { desk.old.number ≡ 0 }
     requires ready { AreReady changes.now (run_at ports.old underlay.old turns.old (state_of endpoint.old) 0
         (drains port_sinks.old underlay_sink.old (W.written decisions.old) (W.failures decisions.old))) }
-    ensures { IsWatchedRun T.sees changes.now
+    ensures { IsWatchedRun segments.now T.sees changes.now
         (run_at ports.old underlay.old turns.old (state_of endpoint.old) 0
         (drains port_sinks.old underlay_sink.old (W.written decisions.old) (W.failures decisions.old)))
         (run_at ports.new underlay.new turns.new (state_of endpoint.new) desk.new.number
@@ -114,6 +120,7 @@ pub fn put_events<R: Input, W: Output, T: Watch>(
             underlay_sink,
             decisions,
             first,
+            segments,
             watch,
         ) {
             return Err(fault);

@@ -1,17 +1,24 @@
 //! Whoever looks on while a run goes.
 ghost use Rattle.std.specs.Prelude.{◌≡◌};
+ghost use Rattle.frame_view.specs.First.{fault_of};
+ghost use Rattle.endpoint_core.specs.Course.{CanLeave, IsShortFrame, IsThere, decision_of};
 ghost use Rattle.endpoint_core.specs.Kept.{state_of};
-ghost use Rattle.endpoint_core.specs.Step.{State};
-ghost use Rattle.stream_run.specs.Sights.{Sight, sight};
+ghost use Rattle.endpoint_core.specs.Step.{Decided, Replied, State};
+ghost use Rattle.stream_run.specs.Sights.{Due, Sight, answered, due};
 
-use endpoint_core::Endpoint;
+use endpoint_core::{ChangeFault, Course, Endpoint};
+use filter_db::Place;
 use timeline::Event;
 
-/// Whoever looks on while a run goes. The run shows each event just before the endpoint takes it, and at its end the
-/// endpoint. A list of all that was seen is kept nowhere, so a contract says what one call makes of whoever looks on.
+/// Whoever looks on while a run goes. The run shows each event just before the endpoint takes it, and tells just behind what
+/// the endpoint answered; and at its end it shows the endpoint. A list of all that was seen is kept nowhere, so a contract
+/// says what one event makes of whoever looks on.
 pub trait Watch {
-    /// From the first state, seeing this leaves the second.
+    /// From the first state, seeing this event and hearing its answer leaves the second.
     ghost sees: { Self → Sight → Self → Type 0 };
+
+    /// From the first state, seeing this event leaves the second, before its answer is heard.
+    ghost expects: { Self → Due → Self → Type 0 };
 
     /// From the first state, the end, at which the endpoint stands so, leaves the second.
     ghost ends: { Self → State → Self → Type 0 };
@@ -19,7 +26,20 @@ pub trait Watch {
     /// An event comes, which is taken next: the endpoint as it stands before, and the event's number in the run, from 1,
     /// as its decision line has it.
     fn see(&mut self, endpoint: &Endpoint, number: u64, event: &Event)
-        ensures { sees self.old (sight (state_of endpoint.now) number event.now) self.new };
+        ensures { expects self.old (due (state_of endpoint.now) number event.now) self.new };
+
+    /// The frame or the packet that was seen last was taken: the endpoint as it stands behind it, and where the frame goes,
+    /// which is told by a course and the places. Nothing of that was written yet.
+    fn hear_decision(&mut self, endpoint: &Endpoint, course: &Course, places: &[Place])
+        requires there { IsThere (state_of endpoint.now).bridges.settings course.now }
+        requires short { IsShortFrame course.now }
+        requires leave { CanLeave (state_of endpoint.now).bridges.settings course.now places.now }
+        ensures { (before : Self) (c : Due) → expects before c self.old
+            → sees before (answered c (Decided (decision_of (state_of endpoint.now).bridges.settings course.now places.now))) self.new };
+
+    /// The change that was seen last was made, or refused for this.
+    fn hear_reply(&mut self, reply: Result<(), ChangeFault>)
+        ensures { (before : Self) (c : Due) → expects before c self.old → sees before (answered c (Replied (fault_of reply))) self.new };
 
     /// All events were taken and all that comes of them was written: the endpoint as it stands behind them.
     fn end(&mut self, endpoint: &Endpoint)
@@ -33,10 +53,18 @@ pub struct Unwatched;
 impl Watch for Unwatched {
     ghost sees = { λ old seen new. new ≡ old };
 
+    ghost expects = { λ old due new. new ≡ old };
+
     ghost ends = { λ old state new. new ≡ old };
 
     #[inline]
     fn see(&mut self, _endpoint: &Endpoint, _number: u64, _event: &Event) {}
+
+    #[inline]
+    fn hear_decision(&mut self, _endpoint: &Endpoint, _course: &Course, _places: &[Place]) {}
+
+    #[inline]
+    fn hear_reply(&mut self, _reply: Result<(), ChangeFault>) {}
 
     #[inline]
     fn end(&mut self, _endpoint: &Endpoint) {}

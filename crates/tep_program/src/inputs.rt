@@ -18,7 +18,7 @@ const BLOCK: usize = 65_536;
 /// How many reads are made of a file that is read whole, and of a capture, at most.
 const TEXT_READS: u64 = 4_294_967_296;
 
-const CAPTURE_READS: u64 = u64::MAX;
+pub const CAPTURE_READS: u64 = u64::MAX;
 
 /// A file that is read, or standard input.
 #[derive(Drop)]
@@ -80,7 +80,7 @@ fn open_blocks<'a, R: Files + Input + AllocGlobal>(
 }
 
 /// Opens what a capture's name stands for. Nothing of it is read yet.
-fn open_named<'a, R: Files + Input + AllocGlobal>(
+pub fn open_named<'a, R: Files + Input + AllocGlobal>(
     rt: &R,
     name: &'a str,
 ) -> Result<ClassicInput<'a, R::File, R::Reader>, Failure<'a>> {

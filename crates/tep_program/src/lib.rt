@@ -6,8 +6,10 @@
 
 mod checks;
 mod inputs;
+mod merging;
 mod names;
 mod outputs;
+mod parts;
 mod printing;
 mod program;
 mod runs;

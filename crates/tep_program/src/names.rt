@@ -33,8 +33,21 @@ impl<'a> Names<'_, 'a> {
 
     /// Whether each capture is a regular file, whose next octets are never waited for.
     pub fn are_regular_files<R: Files>(self, rt: &R) -> bool {
-        is_regular_file(rt, self.underlay)
-            && self.ports.iter().all(|name| is_regular_file(rt, *name))
+        self.first_that_flows(rt).is_none()
+    }
+
+    /// The first capture that is no regular file, the ports' rising and the underlay's last.
+    pub fn first_that_flows<R: Files>(self, rt: &R) -> Option<&'a str> {
+        for name in self.ports {
+            if !is_regular_file(rt, *name) {
+                return Some(*name);
+            }
+        }
+        if is_regular_file(rt, self.underlay) {
+            None
+        } else {
+            Some(self.underlay)
+        }
     }
 
     /// Whether what stands at a path is read under one of these names, or another name of the same file.
@@ -46,13 +59,15 @@ impl<'a> Names<'_, 'a> {
         if found.file_type().is_char_device() {
             return false;
         }
-        is_same(rt, self.settings, &found)
-            || self.changes.is_some_and(|name| is_same(rt, name, &found))
-            || is_same(rt, file_of(self.underlay), &found)
+        is_same(rt, Path::new(self.settings), &found)
+            || self
+                .changes
+                .is_some_and(|name| is_same(rt, Path::new(name), &found))
+            || is_same(rt, Path::new(file_of(self.underlay)), &found)
             || self
                 .ports
                 .iter()
-                .any(|name| is_same(rt, file_of(*name), &found))
+                .any(|name| is_same(rt, Path::new(file_of(*name)), &found))
     }
 }
 
@@ -67,7 +82,7 @@ fn file_of(name: &str) -> &str {
 }
 
 /// Whether a path leads to this file, through links or not.
-fn is_same<R: Files>(rt: &R, path: &str, found: &Metadata) -> bool {
+pub fn is_same<R: Files>(rt: &R, path: Path<'_>, found: &Metadata) -> bool {
     match fs::metadata(rt, path) {
         Ok(metadata) => metadata.ino() == found.ino() && metadata.dev() == found.dev(),
         Err(_) => false,

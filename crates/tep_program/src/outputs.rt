@@ -13,12 +13,14 @@ use std::rt::Files;
 /// A file that is written in blocks.
 pub type Written<F> = StdOutput<BufWriter<F>>;
 
-/// What a run writes: the ports' captures rising, the underlay's, and the decision lines.
+/// What a run writes: the ports' captures rising, the underlay's, and the decision lines. A part of a run also says what it
+/// was made from.
 #[derive(Drop)]
 pub struct Outputs<F: Write + Drop> {
     pub ports: Vec<Sink<Written<F>>>,
     pub underlay: Sink<Written<F>>,
     pub decisions: Written<F>,
+    shard: Option<F>,
 }
 
 /// The same files, opened, with what stood in them.
@@ -27,19 +29,25 @@ pub struct Opened<F: Drop> {
     ports: Vec<F>,
     underlay: F,
     decisions: F,
+    shard: Option<F>,
 }
 
 /// Refuses an output that is one of the files that are read: to write it would be to cut what is still to be read.
 pub fn spare_inputs<R: Files + AllocGlobal>(
     rt: &R,
     folder: &str,
+    is_part: bool,
     names: Names<'_, '_>,
 ) -> Result<(), Failure<'static>> {
     for index in 0..names.ports.len() {
         spare(rt, folder, names, OutputFile::Port(index + 1))?;
     }
     spare(rt, folder, names, OutputFile::Underlay)?;
-    spare(rt, folder, names, OutputFile::Decisions)
+    spare(rt, folder, names, OutputFile::Decisions)?;
+    if is_part {
+        spare(rt, folder, names, OutputFile::Shard)?;
+    }
+    Ok(())
 }
 
 /// Refuses this output if it is one of the files that are read.
@@ -57,15 +65,17 @@ fn spare<R: Files + AllocGlobal>(
 }
 
 /// Where an output stands.
-fn path_of(alloc: Global, folder: &str, output: OutputFile) -> Result<PathBuf, AllocError> {
+pub fn path_of(alloc: Global, folder: &str, output: OutputFile) -> Result<PathBuf, AllocError> {
     let name = format!(in alloc; "{output}")?;
     Path::new(folder).join(alloc, name.as_str())
 }
 
-/// Opens the outputs of so many ports in a folder, and makes those that aren't there. What stands in them is kept.
+/// Opens the outputs of so many ports in a folder, of a part of a run or of a whole, and makes those that aren't there. What
+/// stands in them is kept.
 pub fn open_outputs<R: Files + AllocGlobal>(
     rt: &R,
     folder: &str,
+    is_part: bool,
     count: usize,
 ) -> Result<Opened<R::File>, Failure<'static>>
     ensures { IfOk result (λ opened. length opened.ports.items ≡ count) }
@@ -84,14 +94,24 @@ pub fn open_outputs<R: Files + AllocGlobal>(
         Ok(file) => file,
         Err(failure) => return Err(failure),
     };
-    match open(rt, folder, OutputFile::Decisions) {
-        Ok(decisions) => Ok(Opened {
-            ports,
-            underlay,
-            decisions,
-        }),
-        Err(failure) => Err(failure),
-    }
+    let decisions = match open(rt, folder, OutputFile::Decisions) {
+        Ok(file) => file,
+        Err(failure) => return Err(failure),
+    };
+    let shard = if is_part {
+        match open(rt, folder, OutputFile::Shard) {
+            Ok(file) => Some(file),
+            Err(failure) => return Err(failure),
+        }
+    } else {
+        None
+    };
+    Ok(Opened {
+        ports,
+        underlay,
+        decisions,
+        shard,
+    })
 }
 
 /// Opens an output.
@@ -118,7 +138,14 @@ impl<F: Write + OpenFile + Drop> Opened<F> {
             ports: files,
             underlay,
             decisions,
+            shard,
         } = self;
+        // A part that stops says of nothing that it was made from it.
+        if let Some(file) = &shard {
+            if cut(file).is_err() {
+                return Err(Failure::Write(OutputFile::Shard));
+            }
+        }
         let mut ports = Vec::new(alloc);
         for file in files {
             let output = OutputFile::Port(ports.len() + 1);
@@ -139,6 +166,7 @@ impl<F: Write + OpenFile + Drop> Opened<F> {
                 ports,
                 underlay,
                 decisions,
+                shard,
             }),
             Err(failure) => Err(failure),
         }
@@ -171,12 +199,14 @@ fn cut<F: OpenFile>(file: &F) -> io::Result<()> {
 }
 
 impl<F: Write + Drop> Outputs<F> {
-    /// Writes what the blocks still hold, file by file, and tells the first that failed.
-    pub fn finish(self) -> Result<(), Failure<'static>> {
+    /// Writes what the blocks still hold, file by file, and tells the first that failed. It answers the file in which a part
+    /// says what it was made from.
+    pub fn finish(self) -> Result<Option<F>, Failure<'static>> {
         let Outputs {
             ports,
             underlay,
             decisions,
+            shard,
         } = self;
         let mut finished = Ok(());
         for (index, port) in ports.into_iter().enumerate() {
@@ -185,7 +215,8 @@ impl<F: Write + Drop> Outputs<F> {
         }
         finished
             .and(flush(OutputFile::Underlay, underlay.into_inner()))
-            .and(flush(OutputFile::Decisions, decisions))
+            .and(flush(OutputFile::Decisions, decisions))?;
+        Ok(shard)
     }
 }
 

@@ -7,20 +7,24 @@ ghost use Rattle.tep_program.specs.Status.{IsStatusOf};
 
 use crate::checks::check;
 use crate::inputs::{read_file, read_underlay};
+use crate::merging::merge;
 use crate::names::Names;
+use crate::parts::run_part;
 use crate::printing::{is_lost, print_text};
-use crate::runs::run_on_files;
+use crate::runs::{Scope, Texts, run_on_files};
 use capture_run::{RunFault, of_settings};
 use clap::error::ErrorKind as Refusal;
 use dissector::{Failure, Line, LineFault, OutputFile, Values, explain_bytes, line_of, sample};
 use overlay_config::migrate;
-use run_reports::Reports;
+use run_counts::RunCounts;
+use run_reports::{Onlooker, Reports};
 use std::alloc::{AllocError, Global};
 use std::env;
 use std::io::{ErrorKind, Input};
 use std::process::ExitCode;
 use std::rt::{Env, Files};
-use stream_run::Unwatched;
+use stream_run::{Unwatched, Watch};
+use timeline::Tap;
 
 /// The exit status where the words are refused.
 const WORDS_REFUSED: u8 = 2;
@@ -91,7 +95,7 @@ fn stopped(rt: &impl Eprint, failure: &Failure<'_>) -> u8
 }
 
 /// Does what a line asks for.
-fn perform<'a, R: Files + Input + AllocGlobal + Print>(
+fn perform<'a, R: Files + Input + AllocGlobal + Print + Eprint>(
     rt: &R,
     line: &Line<'a>,
 ) -> Result<(), Failure<'a>>
@@ -114,6 +118,8 @@ fn perform<'a, R: Files + Input + AllocGlobal + Print>(
             tables,
             tables_at,
             why,
+            summary,
+            segments,
         } => {
             let names = Names {
                 settings: *settings,
@@ -121,7 +127,14 @@ fn perform<'a, R: Files + Input + AllocGlobal + Print>(
                 underlay: *underlay,
                 ports: ports.as_slice(),
             };
-            run_and_tell(rt, names, *out, why.as_slice(), *tables_at, *tables)
+            let asked = Asked {
+                why: why.as_slice(),
+                tables_at: *tables_at,
+                tables: *tables,
+                summary: *summary,
+                segments: *segments,
+            };
+            run_and_tell(rt, names, *out, asked)
         }
         Line::Explain {
             settings,
@@ -130,6 +143,7 @@ fn perform<'a, R: Files + Input + AllocGlobal + Print>(
             capture,
         } => explain(rt, *settings, *depth, *values, *capture),
         Line::Migrate { settings } => print_migrated(rt, *settings),
+        Line::Merge { out, shards } => merge(rt, *out, shards.as_slice()),
     }
 }
 
@@ -139,28 +153,121 @@ fn print_sample<R: AllocGlobal + Print>(rt: &R) -> Result<(), Failure<'static>> 
     print_text(rt, lines.as_slice())
 }
 
-/// Runs on captures, and prints what is asked for besides: why the events of these names came out as they did, and the
-/// tables, at a moment and at the end.
-fn run_and_tell<'a, R: Files + Input + AllocGlobal + Print>(
+/// What is asked for of a run.
+#[derive(Clone, Copy)]
+struct Asked<'n, 'a> {
+    /// Why the events of these names came out as they did.
+    why: &'n [&'a str],
+    /// The tables at a moment.
+    tables_at: Option<u64>,
+    /// The tables at the end.
+    tables: bool,
+    /// What was counted.
+    summary: bool,
+    /// The segments of a part.
+    segments: Option<&'a str>,
+}
+
+impl Asked<'_, '_> {
+    /// Whether nothing is told besides the outputs.
+    fn is_nothing(self) -> bool {
+        self.why.is_empty() && self.tables_at.is_none() && !self.tables && !self.summary
+    }
+}
+
+/// Runs on captures, and prints what is asked for besides.
+fn run_and_tell<'a, R: Files + Input + AllocGlobal + Print + Eprint>(
     rt: &R,
     names: Names<'_, 'a>,
     folder: &str,
-    why: &[&'a str],
-    tables_at: Option<u64>,
-    tables: bool,
+    asked: Asked<'_, 'a>,
 ) -> Result<(), Failure<'a>> {
+    let texts = Texts::read(rt, names)?;
     // Who asks for nothing pays nothing for it.
-    if why.is_empty() && tables_at.is_none() && !tables {
-        return run_on_files(rt, names, folder, &mut Unwatched);
+    if asked.is_nothing() {
+        return run_asked(rt, names, &texts, folder, asked, &mut Unwatched).map(|_| ());
     }
-    let mut reports = Reports::new(rt.alloc(), why, tables_at, tables);
-    // What was told stands, wherever the run stopped.
-    let run = run_on_files(rt, names, folder, &mut reports);
-    let found = match why.first() {
-        Some(name) if !reports.has_story() => Err(Failure::NoEvent(*name)),
-        _ => Ok(()),
+    let changes = texts.changes_told(rt.alloc())?;
+    let mut onlooker = Onlooker {
+        reports: Reports::new(
+            rt.alloc(),
+            asked.why,
+            changes.as_slice(),
+            asked.tables_at,
+            asked.tables,
+        )?,
+        counts: if asked.summary {
+            Some(RunCounts::new(rt.alloc()))
+        } else {
+            None
+        },
     };
-    run.and(print_told(rt, reports)).and(found)
+    let run = run_asked(rt, names, &texts, folder, asked, &mut onlooker);
+    let Onlooker { reports, counts } = onlooker;
+    match run {
+        Ok(cut) => {
+            let found = tell_missing(rt, asked.why, reports.found());
+            print_told(rt, reports)
+                .and(print_summary(rt, counts, cut.as_slice()))
+                .and(found)
+        }
+        Err(failure) => {
+            // What was told stands, wherever the run stopped.
+            let _ = print_told(rt, reports);
+            Err(failure)
+        }
+    }
+}
+
+/// Runs on captures, all segments or a part of them. It answers the captures of which the rest is cut and is told.
+fn run_asked<'a, R: Files + Input + AllocGlobal, T: Watch>(
+    rt: &R,
+    names: Names<'_, 'a>,
+    texts: &Texts,
+    folder: &str,
+    asked: Asked<'_, 'a>,
+    watch: &mut T,
+) -> Result<Vec<Tap>, Failure<'a>> {
+    match asked.segments {
+        Some(list) => run_part(rt, names, texts, folder, list, watch),
+        None => match run_on_files(rt, names, texts, folder, Scope::Whole, watch) {
+            Ok(done) => Ok(done.cut),
+            Err(failure) => Err(failure),
+        },
+    }
+}
+
+/// Says of each name that no event had that none did, but for the last, which is the failure.
+fn tell_missing<'a>(
+    rt: &impl Eprint,
+    names: &[&'a str],
+    found: &[bool],
+) -> Result<(), Failure<'a>> {
+    let mut missing = Ok(());
+    for (name, is_found) in names.iter().zip(found) {
+        if !*is_found {
+            if let Err(failure) = &missing {
+                let _ = eprintln!(rt; "{failure}");
+            }
+            missing = Err(Failure::NoEvent(*name));
+        }
+    }
+    missing
+}
+
+/// Prints what a run counted, where that is asked for.
+fn print_summary<R: Print>(
+    rt: &R,
+    counts: Option<RunCounts>,
+    cut: &[Tap],
+) -> Result<(), Failure<'static>> {
+    let Some(counts) = counts else {
+        return Ok(());
+    };
+    let Ok(text) = counts.into_text(cut) else {
+        return Err(Failure::from(AllocError));
+    };
+    print_text(rt, text.as_slice())
 }
 
 /// Prints what a run told.

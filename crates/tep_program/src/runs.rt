@@ -4,16 +4,66 @@ use crate::names::Names;
 use crate::outputs::{open_outputs, spare_inputs};
 use capture_run::{RunFault, of_changes, of_settings};
 use dissector::Failure;
-use overlay_config::{changes_of, settings_of};
+use overlay_config::{TimedChange, changes_of, settings_of};
 use pcapng_input::PcapngFault;
-use std::alloc::Global;
+use segment_set::SegmentSet;
+use std::alloc::{AllocError, Global};
 use std::io::{Input, Read};
 use std::rt::Files;
-use stream_run::{StreamFault, Watch, run_streams};
+use stream_run::{StreamFault, Watch, run_segments};
 use timeline::Tap;
 
 /// How many octets of an output are written at once, where no capture's next octets are waited for.
 const BLOCK: usize = 65_536;
+
+/// The texts of a run.
+#[derive(Drop)]
+pub struct Texts {
+    pub settings: Vec<u8>,
+    /// Empty, where there are none.
+    pub changes: Vec<u8>,
+}
+
+impl Texts {
+    /// Reads them.
+    pub fn read<'a, R: Files + AllocGlobal>(
+        rt: &R,
+        names: Names<'_, 'a>,
+    ) -> Result<Texts, Failure<'a>> {
+        let settings = read_file(rt, names.settings)?;
+        let changes = read_if_given(rt, names.changes)?;
+        Ok(Texts { settings, changes })
+    }
+
+    /// The changes. There are none in a text that is refused: the run tells why, behind the settings' own fault.
+    pub fn changes_told(&self, alloc: Global) -> Result<Vec<TimedChange>, AllocError> {
+        match changes_of(alloc, self.changes.as_slice()) {
+            Ok(changes) => Ok(changes),
+            Err(fault) => match of_changes(fault) {
+                RunFault::OutOfMemory => Err(AllocError),
+                _ => Ok(Vec::new(alloc)),
+            },
+        }
+    }
+}
+
+/// Which segments of a run are run.
+#[derive(Clone, Copy)]
+pub enum Scope<'s> {
+    /// All.
+    Whole,
+    /// These, as a part.
+    Part(&'s SegmentSet),
+}
+
+/// What a run leaves besides its outputs.
+#[derive(Drop)]
+pub struct Done<F: Drop> {
+    /// The captures of which the rest is cut, ports rising and the underlay last.
+    pub cut: Vec<Tap>,
+    /// The empty file in which a part is to say what it was made from.
+    pub shard: Option<F>,
+}
 
 /// Runs on captures, and writes what comes out into a folder as it comes. Someone looks on.
 ///
@@ -22,11 +72,11 @@ const BLOCK: usize = 65_536;
 pub fn run_on_files<'a, R: Files + Input + AllocGlobal, T: Watch>(
     rt: &R,
     names: Names<'_, 'a>,
+    texts: &Texts,
     folder: &str,
+    scope: Scope<'_>,
     watch: &mut T,
-) -> Result<(), Failure<'a>> {
-    let settings = read_file(rt, names.settings)?;
-    let changes = read_if_given(rt, names.changes)?;
+) -> Result<Done<R::File>, Failure<'a>> {
     let mut underlay = match open_capture(rt, names.underlay) {
         Ok(underlay) => underlay,
         Err(failure) => return Err(failure),
@@ -37,39 +87,74 @@ pub fn run_on_files<'a, R: Files + Input + AllocGlobal, T: Watch>(
     };
     look_before(
         rt.alloc(),
-        settings.as_slice(),
-        changes.as_slice(),
+        texts.settings.as_slice(),
+        texts.changes.as_slice(),
         ports.len(),
     )?;
-    spare_inputs(rt, folder, names)?;
+    let all = SegmentSet::all();
+    let (is_part, segments) = match scope {
+        Scope::Whole => (false, &all),
+        Scope::Part(segments) => (true, segments),
+    };
+    spare_inputs(rt, folder, is_part, names)?;
     // A read of a pipe may wait for whoever writes into it, and what came of an event has to be out by then.
     let block = if names.are_regular_files(rt) {
         BLOCK
     } else {
         0
     };
-    let opened = open_outputs(rt, folder, ports.len())?;
+    let opened = open_outputs(rt, folder, is_part, ports.len())?;
     let mut outputs = opened.emptied(rt.alloc(), block)?;
-    let run = run_streams(
+    let run = run_segments(
         rt.alloc(),
-        settings.as_slice(),
-        changes.as_slice(),
+        texts.settings.as_slice(),
+        texts.changes.as_slice(),
         ports.as_mut_slice(),
         &mut underlay,
         outputs.ports.as_mut_slice(),
         &mut outputs.underlay,
         &mut outputs.decisions,
+        segments,
         watch,
     );
     let finished = outputs.finish();
     match run {
-        Ok(()) => finished,
+        Ok(()) => match finished {
+            Ok(shard) => {
+                let cut = cut_taps(rt.alloc(), ports.as_slice(), &underlay)?;
+                Ok(Done { cut, shard })
+            }
+            Err(failure) => Err(failure),
+        },
         Err(StreamFault::Read(tap)) => match fault_of(tap, ports.as_slice(), &underlay) {
             Some(fault) => Err(Failure::Pcapng(tap, fault)),
             None => Err(Failure::Read(names.capture(tap))),
         },
         Err(fault) => Err(Failure::running(names.underlay, fault)),
     }
+}
+
+/// The tap of the port behind so many others.
+pub fn tap_of(index: usize) -> Tap {
+    Tap::Port(u8::try_from(index.saturating_add(1)).unwrap_or(u8::MAX))
+}
+
+/// The taps of the captures that are cut.
+fn cut_taps<F: Read + Drop, I: Read + Drop>(
+    alloc: Global,
+    ports: &[Capture<'_, F, I>],
+    underlay: &Capture<'_, F, I>,
+) -> Result<Vec<Tap>, AllocError> {
+    let mut cut = Vec::new(alloc);
+    for index in 0..ports.len() {
+        if ports[index].is_cut() {
+            cut.push(tap_of(index))?;
+        }
+    }
+    if underlay.is_cut() {
+        cut.push(Tap::Underlay)?;
+    }
+    Ok(cut)
 }
 
 /// The fault of the pcapng capture at a tap, where it has met one.

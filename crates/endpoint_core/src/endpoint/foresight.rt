@@ -38,6 +38,8 @@ impl Endpoint {
         requires high { port ≤ length (state_of self.now).bridges.settings.ports.ports }
         ensures value { result ≡ came_at (state_of self.now).bridges.settings.ports port original octets.now }
         ensures there { IfOk result (λ x. IsSome (segment_at (state_of self.now).bridges.settings x.vid)) }
+        ensures short { IfOk result (λ x. length x.frame.body ≤ 65549) }
+        ensures reached { IfOk result (λ x. is_reached (state_of self.now).bridges.settings.overlay x.vid x.from ≡ true) }
     {
         come_at(self.state.ports(), port, original, octets)
     }
@@ -47,6 +49,8 @@ impl Endpoint {
     pub fn frame_in<'a>(&self, original: u32, octets: &'a [u8]) -> Result<Came<'a>, Refused>
         ensures value { result ≡ came_by (state_of self.now).bridges.settings.overlay original octets.now }
         ensures there { IfOk result (λ x. IsSome (segment_at (state_of self.now).bridges.settings x.vid)) }
+        ensures short { IfOk result (λ x. length x.frame.body ≤ 65549) }
+        ensures reached { IfOk result (λ x. is_reached (state_of self.now).bridges.settings.overlay x.vid x.from ≡ true) }
     {
         come_by(self.state.under(), original, octets)
     }

@@ -1,4 +1,5 @@
 use Rattle.std.proofs.Common.{◌≡◌, ◌∙◌, ◌+◌, arith, ap, sym, subst, refl, length, Err, inl}
+use Rattle.capture_run.specs.Among.{cuts_among}
 use Rattle.capture_run.specs.Writing.{empty_outputs, with_cuts}
 use Rattle.endpoint_core.specs.Kept.{state_of}
 use Rattle.endpoint_core.specs.Step.{State}
@@ -31,7 +32,7 @@ pub returns-in-Err-clause-outputs : goal.returns-in-Err-clause-outputs
 returns-in-Err-clause-outputs g c =
     let start = drains c.args.port_sinks.now c.args.underlay_sink.now (g.W.Output.written c.args.decisions.now) (g.W.Output.failures c.args.decisions.now) in
     let many : length c.args.port_sinks.now ≡ length c.args.settings.ports = c.requires.sinks ∙ c.requires.ports in
-    leaves_nothing c.args.settings c.args.changes.now start start c.in-Err.fault (opens_no_write c.args.ports.now c.args.underlay.now c.open_all.new.ports c.open_all.new.underlay c.in-Err.fault c.in-Err.ensures.opened)
+    leaves_nothing c.args.segments.now c.args.settings c.args.changes.now start start c.in-Err.fault (opens_no_write c.args.ports.now c.args.underlay.now c.open_all.new.ports c.open_all.new.underlay c.in-Err.fault c.in-Err.ensures.opened)
     (none_at start (length c.args.settings.ports) many)
 
 pub returns-in-Err-begin_all-clause-outputs : goal.returns-in-Err-begin_all-clause-outputs
@@ -39,7 +40,7 @@ returns-in-Err-begin_all-clause-outputs g c =
     let start = drains c.args.port_sinks.now c.args.underlay_sink.now (g.W.Output.written c.args.decisions.now) (g.W.Output.failures c.args.decisions.now) in
     let many : length c.args.port_sinks.now ≡ length c.args.settings.ports = c.requires.sinks ∙ c.requires.ports in
     let begun = drains c.begin_all.new.port_sinks c.begin_all.new.underlay_sink (g.W.Output.written c.args.decisions.now) (g.W.Output.failures c.args.decisions.now) in
-    leaves_begun c.args.settings c.args.changes.now start begun c.in-Err-begin_all.target
+    leaves_begun c.args.segments.now c.args.settings c.args.changes.now start begun c.in-Err-begin_all.target
     (subst (λ n. StandBetween start begun (no_texts n) (empty_outputs n) × FailedAt c.in-Err-begin_all.target start begun) many
     (c.in-Err-begin_all.ensures start (g.W.Output.written c.args.decisions.now) (g.W.Output.failures c.args.decisions.now) (none_at start (length c.args.port_sinks.now) refl)))
 
@@ -53,7 +54,7 @@ returns-in-Err-fetch_all-clause-outputs g c =
     let many : length c.args.port_sinks.now ≡ length c.args.settings.ports = c.requires.sinks ∙ c.requires.ports in
     let begun = drains c.begin_all.new.port_sinks c.begin_all.new.underlay_sink (g.W.Output.written c.args.decisions.now) (g.W.Output.failures c.args.decisions.now) in
     let at : StandAt start begun (empty_outputs (length c.args.settings.ports)) = subst (λ n. StandAt start begun (empty_outputs n)) many (c.in_default-begin_all.ensures start (g.W.Output.written c.args.decisions.now) (g.W.Output.failures c.args.decisions.now) (none_at start (length c.args.port_sinks.now) refl)) in
-    leaves_headers c.args.settings c.args.changes.now start begun c.in-Err-fetch_all.fault c.in-Err-fetch_all.ensures.no_write at
+    leaves_headers c.args.segments.now c.args.settings c.args.changes.now start begun c.in-Err-fetch_all.fault c.in-Err-fetch_all.ensures.no_write at
 
 pub returns-in-Err-fetch_all-clause-reads : goal.returns-in-Err-fetch_all-clause-reads
 returns-in-Err-fetch_all-clause-reads g c =
@@ -77,7 +78,7 @@ returns-in-Err-put_events-clause-outputs g c =
     let at : StandAt start begun (empty_outputs (length c.args.settings.ports)) = subst (λ n. StandAt start begun (empty_outputs n)) many (c.in_default-begin_all.ensures start (g.W.Output.written c.args.decisions.now) (g.W.Output.failures c.args.decisions.now) (none_at start (length c.args.port_sinks.now) refl)) in
     let put = drains c.put_events.new.port_sinks c.put_events.new.underlay_sink (g.W.Output.written c.put_events.new.decisions) (g.W.Output.failures c.put_events.new.decisions) in
     let run = c.in-Err-put_events.ensures.run in
-    leaves_events c.args.settings c.args.changes.now start put (state_of c.in-Ok-open.endpoint) run.es run.more c.in-Err-put_events.fault c.in-Ok-open.ensures run.part (run.outputs start (empty_outputs (length c.args.settings.ports)) at)
+    leaves_events c.args.segments.now c.args.settings c.args.changes.now start put (state_of c.in-Ok-open.endpoint) run.es run.more c.in-Err-put_events.fault c.in-Ok-open.ensures run.part (run.outputs start (empty_outputs (length c.args.settings.ports)) at)
 
 pub returns-in-Err-put_events-clause-reads : goal.returns-in-Err-put_events-clause-reads
 returns-in-Err-put_events-clause-reads g c =
@@ -85,17 +86,17 @@ returns-in-Err-put_events-clause-reads g c =
     (quiet_on c.args.ports.now c.open_all.new.ports c.fetch_all.new.ports c.args.underlay.now c.open_all.new.underlay c.fetch_all.new.underlay c.in_default-open_all.ensures.reads c.in_default-fetch_all.ensures.reads)
     c.in-Err-put_events.ensures.run.reads
 
-pub returns-in-Ok-put_cuts-clause-outputs : goal.returns-in-Ok-put_cuts-clause-outputs
-returns-in-Ok-put_cuts-clause-outputs g c =
+pub returns-in-Ok-put_cuts_among-clause-outputs : goal.returns-in-Ok-put_cuts_among-clause-outputs
+returns-in-Ok-put_cuts_among-clause-outputs g c =
     let start = drains c.args.port_sinks.now c.args.underlay_sink.now (g.W.Output.written c.args.decisions.now) (g.W.Output.failures c.args.decisions.now) in
     let many : length c.args.port_sinks.now ≡ length c.args.settings.ports = c.requires.sinks ∙ c.requires.ports in
     let begun = drains c.begin_all.new.port_sinks c.begin_all.new.underlay_sink (g.W.Output.written c.args.decisions.now) (g.W.Output.failures c.args.decisions.now) in
     let at : StandAt start begun (empty_outputs (length c.args.settings.ports)) = subst (λ n. StandAt start begun (empty_outputs n)) many (c.in_default-begin_all.ensures start (g.W.Output.written c.args.decisions.now) (g.W.Output.failures c.args.decisions.now) (none_at start (length c.args.port_sinks.now) refl)) in
     let put = drains c.put_events.new.port_sinks c.put_events.new.underlay_sink (g.W.Output.written c.put_events.new.decisions) (g.W.Output.failures c.put_events.new.decisions) in
-    let cut = drains c.put_events.new.port_sinks c.put_events.new.underlay_sink (g.W.Output.written c.put_cuts.new.decisions) (g.W.Output.failures c.put_cuts.new.decisions) in
+    let cut = drains c.put_events.new.port_sinks c.put_events.new.underlay_sink (g.W.Output.written c.put_cuts_among.new.decisions) (g.W.Output.failures c.put_cuts_among.new.decisions) in
     let run = c.in_default-put_events.ensures.run in
-    let o = texts_behind c.args.changes.now (state_of c.in-Ok-open.endpoint) (empty_outputs (length c.args.settings.ports)) run.es in
-    leaves_all c.args.settings c.args.changes.now start cut (state_of c.in-Ok-open.endpoint) run.es (cuts_at c.put_events.new.ports c.put_events.new.underlay c.as_slice.result.now) c.in-Ok-open.ensures (c.in-Ok-put_cuts.ensures start o c.put_events.new.port_sinks c.put_events.new.underlay_sink (run.outputs start (empty_outputs (length c.args.settings.ports)) at))
+    let o = texts_behind c.args.segments.now c.args.changes.now (state_of c.in-Ok-open.endpoint) (empty_outputs (length c.args.settings.ports)) run.es in
+    leaves_all c.args.segments.now c.args.settings c.args.changes.now start cut (state_of c.in-Ok-open.endpoint) run.es (cuts_among c.args.segments.now (cuts_at c.put_events.new.ports c.put_events.new.underlay c.as_slice.result.now)) c.in-Ok-open.ensures (c.in-Ok-put_cuts_among.ensures start o c.put_events.new.port_sinks c.put_events.new.underlay_sink (run.outputs start (empty_outputs (length c.args.settings.ports)) at))
 
 pub returns-clause-outputs : goal.returns-clause-outputs
 returns-clause-outputs g c =
@@ -104,28 +105,28 @@ returns-clause-outputs g c =
     let begun = drains c.begin_all.new.port_sinks c.begin_all.new.underlay_sink (g.W.Output.written c.args.decisions.now) (g.W.Output.failures c.args.decisions.now) in
     let at : StandAt start begun (empty_outputs (length c.args.settings.ports)) = subst (λ n. StandAt start begun (empty_outputs n)) many (c.in_default-begin_all.ensures start (g.W.Output.written c.args.decisions.now) (g.W.Output.failures c.args.decisions.now) (none_at start (length c.args.port_sinks.now) refl)) in
     let put = drains c.put_events.new.port_sinks c.put_events.new.underlay_sink (g.W.Output.written c.put_events.new.decisions) (g.W.Output.failures c.put_events.new.decisions) in
-    let cut = drains c.put_events.new.port_sinks c.put_events.new.underlay_sink (g.W.Output.written c.put_cuts.new.decisions) (g.W.Output.failures c.put_cuts.new.decisions) in
+    let cut = drains c.put_events.new.port_sinks c.put_events.new.underlay_sink (g.W.Output.written c.put_cuts_among.new.decisions) (g.W.Output.failures c.put_cuts_among.new.decisions) in
     let run = c.in_default-put_events.ensures.run in
-    let o = texts_behind c.args.changes.now (state_of c.in-Ok-open.endpoint) (empty_outputs (length c.args.settings.ports)) run.es in
-    leaves_cuts c.args.settings c.args.changes.now start cut (state_of c.in-Ok-open.endpoint) run.es (cuts_at c.put_events.new.ports c.put_events.new.underlay c.as_slice.result.now) c.in-Err-put_cuts.target c.in-Ok-open.ensures (c.in-Err-put_cuts.ensures start o c.put_events.new.port_sinks c.put_events.new.underlay_sink (run.outputs start (empty_outputs (length c.args.settings.ports)) at))
+    let o = texts_behind c.args.segments.now c.args.changes.now (state_of c.in-Ok-open.endpoint) (empty_outputs (length c.args.settings.ports)) run.es in
+    leaves_cuts c.args.segments.now c.args.settings c.args.changes.now start cut (state_of c.in-Ok-open.endpoint) run.es (cuts_among c.args.segments.now (cuts_at c.put_events.new.ports c.put_events.new.underlay c.as_slice.result.now)) c.in-Err-put_cuts_among.target c.in-Ok-open.ensures (c.in-Err-put_cuts_among.ensures start o c.put_events.new.port_sinks c.put_events.new.underlay_sink (run.outputs start (empty_outputs (length c.args.settings.ports)) at))
 
 -- ---- by the octets of the captures
 
 pub returns-in_default-clause-over : goal.returns-in_default-clause-over
 returns-in_default-clause-over g c texts text tells =
     let start = drains c.args.port_sinks.now c.args.underlay_sink.now (g.W.Output.written c.args.decisions.now) (g.W.Output.failures c.args.decisions.now) in
-    over_unopened c.args.settings c.args.changes.now texts text start start (none_at start (length texts) (c.requires.sinks ∙ tells_texts c.args.ports.now c.args.underlay.now texts text tells))
+    over_unopened c.args.segments.now c.args.settings c.args.changes.now texts text start start (none_at start (length texts) (c.requires.sinks ∙ tells_texts c.args.ports.now c.args.underlay.now texts text tells))
 
 pub returns-in_default-open-clause-over : goal.returns-in_default-open-clause-over
 returns-in_default-open-clause-over g c texts text tells =
     let start = drains c.args.port_sinks.now c.args.underlay_sink.now (g.W.Output.written c.args.decisions.now) (g.W.Output.failures c.args.decisions.now) in
-    over_unopened c.args.settings c.args.changes.now texts text start start (none_at start (length texts) (c.requires.sinks ∙ tells_texts c.args.ports.now c.args.underlay.now texts text tells))
+    over_unopened c.args.segments.now c.args.settings c.args.changes.now texts text start start (none_at start (length texts) (c.requires.sinks ∙ tells_texts c.args.ports.now c.args.underlay.now texts text tells))
 
 pub returns-in-Err-clause-over : goal.returns-in-Err-clause-over
 returns-in-Err-clause-over g c texts text tells =
     let start = drains c.args.port_sinks.now c.args.underlay_sink.now (g.W.Output.written c.args.decisions.now) (g.W.Output.failures c.args.decisions.now) in
     let many = tells_texts c.args.ports.now c.args.underlay.now texts text tells in
-    over_opening c.args.settings c.args.changes.now texts text start start c.args.ports.now c.open_all.new.ports c.args.underlay.now c.open_all.new.underlay c.in-Err.fault tells c.in-Err.ensures.opened
+    over_opening c.args.segments.now c.args.settings c.args.changes.now texts text start start c.args.ports.now c.open_all.new.ports c.args.underlay.now c.open_all.new.underlay c.in-Err.fault tells c.in-Err.ensures.opened
     (sym many ∙ c.requires.ports) (none_at start (length texts) (c.requires.sinks ∙ many))
 
 pub returns-in-Err-begin_all-clause-over : goal.returns-in-Err-begin_all-clause-over
@@ -134,7 +135,7 @@ returns-in-Err-begin_all-clause-over g c texts text tells =
     let many = c.requires.sinks ∙ tells_texts c.args.ports.now c.args.underlay.now texts text tells in
     let begun = drains c.begin_all.new.port_sinks c.begin_all.new.underlay_sink (g.W.Output.written c.args.decisions.now) (g.W.Output.failures c.args.decisions.now) in
     let lead = c.in-Err-begin_all.ensures start (g.W.Output.written c.args.decisions.now) (g.W.Output.failures c.args.decisions.now) (none_at start (length c.args.port_sinks.now) refl) in
-    over_headers c.args.settings c.args.changes.now texts text start begun c.in-Err-begin_all.target (subst (λ n. StandBetween start begun (no_texts n) (empty_outputs n)) many lead.0)
+    over_headers c.args.segments.now c.args.settings c.args.changes.now texts text start begun c.in-Err-begin_all.target (subst (λ n. StandBetween start begun (no_texts n) (empty_outputs n)) many lead.0)
 
 pub returns-in-Err-fetch_all-clause-over : goal.returns-in-Err-fetch_all-clause-over
 returns-in-Err-fetch_all-clause-over g c texts text tells =
@@ -143,7 +144,7 @@ returns-in-Err-fetch_all-clause-over g c texts text tells =
     let begun = drains c.begin_all.new.port_sinks c.begin_all.new.underlay_sink (g.W.Output.written c.args.decisions.now) (g.W.Output.failures c.args.decisions.now) in
     let at : StandAt start begun (empty_outputs (length texts)) = subst (λ n. StandAt start begun (empty_outputs n)) many (c.in_default-begin_all.ensures start (g.W.Output.written c.args.decisions.now) (g.W.Output.failures c.args.decisions.now) (none_at start (length c.args.port_sinks.now) refl)) in
     let read = opened_read c.args.ports.now c.open_all.new.ports c.args.underlay.now c.open_all.new.underlay texts text tells (omega (arith, c.open_all.auto.ports)) c.in_default-open_all.ensures.opened in
-    over_firsts c.args.settings c.args.changes.now texts text start begun c.in-Err-fetch_all.fault c.fetch_all.new.turns c.fetch_all.new.ports c.fetch_all.new.underlay (c.in-Err-fetch_all.ensures.told (texts_octets texts) text read) at
+    over_firsts c.args.segments.now c.args.settings c.args.changes.now texts text start begun c.in-Err-fetch_all.fault c.fetch_all.new.turns c.fetch_all.new.ports c.fetch_all.new.underlay (c.in-Err-fetch_all.ensures.told (texts_octets texts) text read) at
 
 pub returns-in-Err-put_events-clause-over : goal.returns-in-Err-put_events-clause-over
 returns-in-Err-put_events-clause-over g c texts text tells =
@@ -159,16 +160,16 @@ returns-in-Err-put_events-clause-over g c texts text tells =
     (c.in_default-fetch_all.ensures.ready (state_of c.in-Ok-open.endpoint) begun (ap (λ (s : State). s.moment) c.in-Ok-open.ensures)
     (ready_begun c.args.changes.now c.open_all.new.ports c.open_all.new.underlay c.args.settings (state_of c.in-Ok-open.endpoint) begun _ c.requires.timely (omega (arith, as_many, c.requires.few)) (as_many ∙ c.requires.ports) c.in-Ok-open.ensures turns)) in
     let read = subst (λ ts. AreRead (texts_octets texts) text ts c.fetch_all.new.ports c.fetch_all.new.underlay) (sym lent) (c.in_default-fetch_all.ensures.told (texts_octets texts) text opened) in
-    over_run c.args.settings c.args.changes.now texts text start c.fetch_all.new.ports c.fetch_all.new.underlay c.as_mut_slice-2.result.now (state_of c.in-Ok-open.endpoint) begun _ ready read at c.in-Ok-open.ensures
+    over_run c.args.segments.now c.args.settings c.args.changes.now texts text start c.fetch_all.new.ports c.fetch_all.new.underlay c.as_mut_slice-2.result.now (state_of c.in-Ok-open.endpoint) begun _ ready read at c.in-Ok-open.ensures
     c.in-Err-put_events.fault c.in-Err-put_events.ensures.run
 
-pub returns-in-Ok-put_cuts-clause-over : goal.returns-in-Ok-put_cuts-clause-over
-returns-in-Ok-put_cuts-clause-over g c texts text tells =
+pub returns-in-Ok-put_cuts_among-clause-over : goal.returns-in-Ok-put_cuts_among-clause-over
+returns-in-Ok-put_cuts_among-clause-over g c texts text tells =
     let start = drains c.args.port_sinks.now c.args.underlay_sink.now (g.W.Output.written c.args.decisions.now) (g.W.Output.failures c.args.decisions.now) in
     let told = tells_texts c.args.ports.now c.args.underlay.now texts text tells in
     let many = c.requires.sinks ∙ told in
     let begun = drains c.begin_all.new.port_sinks c.begin_all.new.underlay_sink (g.W.Output.written c.args.decisions.now) (g.W.Output.failures c.args.decisions.now) in
-    let cut = drains c.put_events.new.port_sinks c.put_events.new.underlay_sink (g.W.Output.written c.put_cuts.new.decisions) (g.W.Output.failures c.put_cuts.new.decisions) in
+    let cut = drains c.put_events.new.port_sinks c.put_events.new.underlay_sink (g.W.Output.written c.put_cuts_among.new.decisions) (g.W.Output.failures c.put_cuts_among.new.decisions) in
     let at : StandAt start begun (empty_outputs (length texts)) = subst (λ n. StandAt start begun (empty_outputs n)) many (c.in_default-begin_all.ensures start (g.W.Output.written c.args.decisions.now) (g.W.Output.failures c.args.decisions.now) (none_at start (length c.args.port_sinks.now) refl)) in
     let as_many : length c.open_all.new.ports ≡ length c.args.ports.now = omega (arith, c.open_all.auto.ports) in
     let opened = opened_read c.args.ports.now c.open_all.new.ports c.args.underlay.now c.open_all.new.underlay texts text tells as_many c.in_default-open_all.ensures.opened in
@@ -179,18 +180,18 @@ returns-in-Ok-put_cuts-clause-over g c texts text tells =
     (ready_begun c.args.changes.now c.open_all.new.ports c.open_all.new.underlay c.args.settings (state_of c.in-Ok-open.endpoint) begun _ c.requires.timely (omega (arith, as_many, c.requires.few)) (as_many ∙ c.requires.ports) c.in-Ok-open.ensures turns)) in
     let read = subst (λ ts. AreRead (texts_octets texts) text ts c.fetch_all.new.ports c.fetch_all.new.underlay) (sym lent) (c.in_default-fetch_all.ensures.told (texts_octets texts) text opened) in
     let run = c.in_default-put_events.ensures.run in
-    let o = texts_behind c.args.changes.now (state_of c.in-Ok-open.endpoint) (empty_outputs (length texts)) run.es in
+    let o = texts_behind c.args.segments.now c.args.changes.now (state_of c.in-Ok-open.endpoint) (empty_outputs (length texts)) run.es in
     let back : c.as_slice.result.now ≡ c.put_events.new.turns = c.as_slice.ensures.value ∙ lent_back c.put_events.new.turns _ c.in-Ok.turns.len (omega (arith, c.put_events.auto.turns, c.as_mut_slice-2.ensures.len)) in
-    let lead = c.in-Ok-put_cuts.ensures start o c.put_events.new.port_sinks c.put_events.new.underlay_sink (run.outputs start (empty_outputs (length texts)) at) in
-    over_whole c.args.settings c.args.changes.now texts text start c.fetch_all.new.ports c.fetch_all.new.underlay c.as_mut_slice-2.result.now (state_of c.in-Ok-open.endpoint) begun _ ready read at c.in-Ok-open.ensures
-    cut run (sym told ∙ c.requires.ports) (subst (λ ts. StandAt start cut (with_cuts o (cuts_at c.put_events.new.ports c.put_events.new.underlay ts))) back lead)
+    let lead = c.in-Ok-put_cuts_among.ensures start o c.put_events.new.port_sinks c.put_events.new.underlay_sink (run.outputs start (empty_outputs (length texts)) at) in
+    over_whole c.args.segments.now c.args.settings c.args.changes.now texts text start c.fetch_all.new.ports c.fetch_all.new.underlay c.as_mut_slice-2.result.now (state_of c.in-Ok-open.endpoint) begun _ ready read at c.in-Ok-open.ensures
+    cut run (sym told ∙ c.requires.ports) (subst (λ ts. StandAt start cut (with_cuts o (cuts_among c.args.segments.now (cuts_at c.put_events.new.ports c.put_events.new.underlay ts)))) back lead)
 
 pub returns-clause-over : goal.returns-clause-over
 returns-clause-over g c texts text tells =
     let start = drains c.args.port_sinks.now c.args.underlay_sink.now (g.W.Output.written c.args.decisions.now) (g.W.Output.failures c.args.decisions.now) in
     let many = c.requires.sinks ∙ tells_texts c.args.ports.now c.args.underlay.now texts text tells in
     let begun = drains c.begin_all.new.port_sinks c.begin_all.new.underlay_sink (g.W.Output.written c.args.decisions.now) (g.W.Output.failures c.args.decisions.now) in
-    let cut = drains c.put_events.new.port_sinks c.put_events.new.underlay_sink (g.W.Output.written c.put_cuts.new.decisions) (g.W.Output.failures c.put_cuts.new.decisions) in
+    let cut = drains c.put_events.new.port_sinks c.put_events.new.underlay_sink (g.W.Output.written c.put_cuts_among.new.decisions) (g.W.Output.failures c.put_cuts_among.new.decisions) in
     let at : StandAt start begun (empty_outputs (length texts)) = subst (λ n. StandAt start begun (empty_outputs n)) many (c.in_default-begin_all.ensures start (g.W.Output.written c.args.decisions.now) (g.W.Output.failures c.args.decisions.now) (none_at start (length c.args.port_sinks.now) refl)) in
     let as_many : length c.open_all.new.ports ≡ length c.args.ports.now = omega (arith, c.open_all.auto.ports) in
     let opened = opened_read c.args.ports.now c.open_all.new.ports c.args.underlay.now c.open_all.new.underlay texts text tells as_many c.in_default-open_all.ensures.opened in
@@ -201,11 +202,11 @@ returns-clause-over g c texts text tells =
     (ready_begun c.args.changes.now c.open_all.new.ports c.open_all.new.underlay c.args.settings (state_of c.in-Ok-open.endpoint) begun _ c.requires.timely (omega (arith, as_many, c.requires.few)) (as_many ∙ c.requires.ports) c.in-Ok-open.ensures turns)) in
     let read = subst (λ ts. AreRead (texts_octets texts) text ts c.fetch_all.new.ports c.fetch_all.new.underlay) (sym lent) (c.in_default-fetch_all.ensures.told (texts_octets texts) text opened) in
     let run = c.in_default-put_events.ensures.run in
-    let o = texts_behind c.args.changes.now (state_of c.in-Ok-open.endpoint) (empty_outputs (length texts)) run.es in
+    let o = texts_behind c.args.segments.now c.args.changes.now (state_of c.in-Ok-open.endpoint) (empty_outputs (length texts)) run.es in
     let back : c.as_slice.result.now ≡ c.put_events.new.turns = c.as_slice.ensures.value ∙ lent_back c.put_events.new.turns _ c.in-Ok.turns.len (omega (arith, c.put_events.auto.turns, c.as_mut_slice-2.ensures.len)) in
-    let lead = c.in-Err-put_cuts.ensures start o c.put_events.new.port_sinks c.put_events.new.underlay_sink (run.outputs start (empty_outputs (length texts)) at) in
-    over_lines c.args.settings c.args.changes.now texts text start c.fetch_all.new.ports c.fetch_all.new.underlay c.as_mut_slice-2.result.now (state_of c.in-Ok-open.endpoint) begun _ ready read at c.in-Ok-open.ensures
-    cut c.in-Err-put_cuts.target run (subst (λ ts. StandBetween start cut o (with_cuts o (cuts_at c.put_events.new.ports c.put_events.new.underlay ts)) × FailedAt c.in-Err-put_cuts.target start cut) back lead)
+    let lead = c.in-Err-put_cuts_among.ensures start o c.put_events.new.port_sinks c.put_events.new.underlay_sink (run.outputs start (empty_outputs (length texts)) at) in
+    over_lines c.args.segments.now c.args.settings c.args.changes.now texts text start c.fetch_all.new.ports c.fetch_all.new.underlay c.as_mut_slice-2.result.now (state_of c.in-Ok-open.endpoint) begun _ ready read at c.in-Ok-open.ensures
+    cut c.in-Err-put_cuts_among.target run (subst (λ ts. StandBetween start cut o (with_cuts o (cuts_among c.args.segments.now (cuts_at c.put_events.new.ports c.put_events.new.underlay ts))) × FailedAt c.in-Err-put_cuts_among.target start cut) back lead)
 
 -- ---- by who looks on
 
@@ -225,7 +226,7 @@ pub returns-in-Err-clause-shown : goal.returns-in-Err-clause-shown
 returns-in-Err-clause-shown g c =
     let start = drains c.args.port_sinks.now c.args.underlay_sink.now (g.W.Output.written c.args.decisions.now) (g.W.Output.failures c.args.decisions.now) in
     let many : length c.args.port_sinks.now ≡ length c.args.settings.ports = c.requires.sinks ∙ c.requires.ports in
-    shows_nothing c.args.settings c.args.changes.now start start g.T.Watch.sees g.T.Watch.ends c.args.watch.now c.in-Err.fault (opens_no_write c.args.ports.now c.args.underlay.now c.open_all.new.ports c.open_all.new.underlay c.in-Err.fault c.in-Err.ensures.opened)
+    shows_nothing c.args.segments.now c.args.settings c.args.changes.now start start g.T.Watch.sees g.T.Watch.ends c.args.watch.now c.in-Err.fault (opens_no_write c.args.ports.now c.args.underlay.now c.open_all.new.ports c.open_all.new.underlay c.in-Err.fault c.in-Err.ensures.opened)
     (none_at start (length c.args.settings.ports) many)
 
 pub returns-in-Err-begin_all-clause-shown : goal.returns-in-Err-begin_all-clause-shown
@@ -234,7 +235,7 @@ returns-in-Err-begin_all-clause-shown g c =
     let many : length c.args.port_sinks.now ≡ length c.args.settings.ports = c.requires.sinks ∙ c.requires.ports in
     let begun = drains c.begin_all.new.port_sinks c.begin_all.new.underlay_sink (g.W.Output.written c.args.decisions.now) (g.W.Output.failures c.args.decisions.now) in
     let lead = c.in-Err-begin_all.ensures start (g.W.Output.written c.args.decisions.now) (g.W.Output.failures c.args.decisions.now) (none_at start (length c.args.port_sinks.now) refl) in
-    shows_begun c.args.settings c.args.changes.now start begun g.T.Watch.sees g.T.Watch.ends c.args.watch.now c.in-Err-begin_all.target (subst (λ n. StandBetween start begun (no_texts n) (empty_outputs n)) many lead.0)
+    shows_begun c.args.segments.now c.args.settings c.args.changes.now start begun g.T.Watch.sees g.T.Watch.ends c.args.watch.now c.in-Err-begin_all.target (subst (λ n. StandBetween start begun (no_texts n) (empty_outputs n)) many lead.0)
 
 pub returns-in-Err-fetch_all-clause-shown : goal.returns-in-Err-fetch_all-clause-shown
 returns-in-Err-fetch_all-clause-shown g c =
@@ -242,7 +243,7 @@ returns-in-Err-fetch_all-clause-shown g c =
     let many : length c.args.port_sinks.now ≡ length c.args.settings.ports = c.requires.sinks ∙ c.requires.ports in
     let begun = drains c.begin_all.new.port_sinks c.begin_all.new.underlay_sink (g.W.Output.written c.args.decisions.now) (g.W.Output.failures c.args.decisions.now) in
     let at : StandAt start begun (empty_outputs (length c.args.settings.ports)) = subst (λ n. StandAt start begun (empty_outputs n)) many (c.in_default-begin_all.ensures start (g.W.Output.written c.args.decisions.now) (g.W.Output.failures c.args.decisions.now) (none_at start (length c.args.port_sinks.now) refl)) in
-    shows_headers c.args.settings c.args.changes.now start begun g.T.Watch.sees g.T.Watch.ends c.args.watch.now c.in-Err-fetch_all.fault c.in-Err-fetch_all.ensures.no_write at
+    shows_headers c.args.segments.now c.args.settings c.args.changes.now start begun g.T.Watch.sees g.T.Watch.ends c.args.watch.now c.in-Err-fetch_all.fault c.in-Err-fetch_all.ensures.no_write at
 
 pub returns-in-Err-put_events-clause-shown : goal.returns-in-Err-put_events-clause-shown
 returns-in-Err-put_events-clause-shown g c =
@@ -250,21 +251,21 @@ returns-in-Err-put_events-clause-shown g c =
     let many : length c.args.port_sinks.now ≡ length c.args.settings.ports = c.requires.sinks ∙ c.requires.ports in
     let begun = drains c.begin_all.new.port_sinks c.begin_all.new.underlay_sink (g.W.Output.written c.args.decisions.now) (g.W.Output.failures c.args.decisions.now) in
     let at : StandAt start begun (empty_outputs (length c.args.settings.ports)) = subst (λ n. StandAt start begun (empty_outputs n)) many (c.in_default-begin_all.ensures start (g.W.Output.written c.args.decisions.now) (g.W.Output.failures c.args.decisions.now) (none_at start (length c.args.port_sinks.now) refl)) in
-    shows_events c.args.settings c.args.changes.now start begun g.T.Watch.sees g.T.Watch.ends c.args.watch.now
+    shows_events c.args.segments.now c.args.settings c.args.changes.now start begun g.T.Watch.sees g.T.Watch.ends c.args.watch.now
     (run_at c.fetch_all.new.ports c.fetch_all.new.underlay c.as_mut_slice-2.result.now (state_of c.in-Ok-open.endpoint) 0 begun) _ c.in-Ok-open.ensures at c.put_events.new.watch c.in-Err-put_events.fault c.in-Err-put_events.ensures
 
-pub returns-in-Ok-put_cuts-clause-shown : goal.returns-in-Ok-put_cuts-clause-shown
-returns-in-Ok-put_cuts-clause-shown g c =
+pub returns-in-Ok-put_cuts_among-clause-shown : goal.returns-in-Ok-put_cuts_among-clause-shown
+returns-in-Ok-put_cuts_among-clause-shown g c =
     let start = drains c.args.port_sinks.now c.args.underlay_sink.now (g.W.Output.written c.args.decisions.now) (g.W.Output.failures c.args.decisions.now) in
     let many : length c.args.port_sinks.now ≡ length c.args.settings.ports = c.requires.sinks ∙ c.requires.ports in
     let begun = drains c.begin_all.new.port_sinks c.begin_all.new.underlay_sink (g.W.Output.written c.args.decisions.now) (g.W.Output.failures c.args.decisions.now) in
     let at : StandAt start begun (empty_outputs (length c.args.settings.ports)) = subst (λ n. StandAt start begun (empty_outputs n)) many (c.in_default-begin_all.ensures start (g.W.Output.written c.args.decisions.now) (g.W.Output.failures c.args.decisions.now) (none_at start (length c.args.port_sinks.now) refl)) in
-    let cut = drains c.put_events.new.port_sinks c.put_events.new.underlay_sink (g.W.Output.written c.put_cuts.new.decisions) (g.W.Output.failures c.put_cuts.new.decisions) in
+    let cut = drains c.put_events.new.port_sinks c.put_events.new.underlay_sink (g.W.Output.written c.put_cuts_among.new.decisions) (g.W.Output.failures c.put_cuts_among.new.decisions) in
     let run = c.in_default-put_events.ensures.run in
-    let o = texts_behind c.args.changes.now (state_of c.in-Ok-open.endpoint) (empty_outputs (length c.args.settings.ports)) run.es in
-    shows_all c.args.settings c.args.changes.now start cut g.T.Watch.sees g.T.Watch.ends c.args.watch.now
-    (run_at c.fetch_all.new.ports c.fetch_all.new.underlay c.as_mut_slice-2.result.now (state_of c.in-Ok-open.endpoint) 0 begun) _ c.in-Ok-open.ensures at c.put_events.new.watch (cuts_at c.put_events.new.ports c.put_events.new.underlay c.as_slice.result.now) c.end.new.self c.in_default-put_events.ensures
-    (c.in-Ok-put_cuts.ensures start o c.put_events.new.port_sinks c.put_events.new.underlay_sink (run.outputs start (empty_outputs (length c.args.settings.ports)) at)) c.end.ensures
+    let o = texts_behind c.args.segments.now c.args.changes.now (state_of c.in-Ok-open.endpoint) (empty_outputs (length c.args.settings.ports)) run.es in
+    shows_all c.args.segments.now c.args.settings c.args.changes.now start cut g.T.Watch.sees g.T.Watch.ends c.args.watch.now
+    (run_at c.fetch_all.new.ports c.fetch_all.new.underlay c.as_mut_slice-2.result.now (state_of c.in-Ok-open.endpoint) 0 begun) _ c.in-Ok-open.ensures at c.put_events.new.watch (cuts_among c.args.segments.now (cuts_at c.put_events.new.ports c.put_events.new.underlay c.as_slice.result.now)) c.end.new.self c.in_default-put_events.ensures
+    (c.in-Ok-put_cuts_among.ensures start o c.put_events.new.port_sinks c.put_events.new.underlay_sink (run.outputs start (empty_outputs (length c.args.settings.ports)) at)) c.end.ensures
 
 pub returns-clause-shown : goal.returns-clause-shown
 returns-clause-shown g c =
@@ -272,28 +273,28 @@ returns-clause-shown g c =
     let many : length c.args.port_sinks.now ≡ length c.args.settings.ports = c.requires.sinks ∙ c.requires.ports in
     let begun = drains c.begin_all.new.port_sinks c.begin_all.new.underlay_sink (g.W.Output.written c.args.decisions.now) (g.W.Output.failures c.args.decisions.now) in
     let at : StandAt start begun (empty_outputs (length c.args.settings.ports)) = subst (λ n. StandAt start begun (empty_outputs n)) many (c.in_default-begin_all.ensures start (g.W.Output.written c.args.decisions.now) (g.W.Output.failures c.args.decisions.now) (none_at start (length c.args.port_sinks.now) refl)) in
-    let cut = drains c.put_events.new.port_sinks c.put_events.new.underlay_sink (g.W.Output.written c.put_cuts.new.decisions) (g.W.Output.failures c.put_cuts.new.decisions) in
+    let cut = drains c.put_events.new.port_sinks c.put_events.new.underlay_sink (g.W.Output.written c.put_cuts_among.new.decisions) (g.W.Output.failures c.put_cuts_among.new.decisions) in
     let run = c.in_default-put_events.ensures.run in
-    let o = texts_behind c.args.changes.now (state_of c.in-Ok-open.endpoint) (empty_outputs (length c.args.settings.ports)) run.es in
-    let lead = c.in-Err-put_cuts.ensures start o c.put_events.new.port_sinks c.put_events.new.underlay_sink (run.outputs start (empty_outputs (length c.args.settings.ports)) at) in
-    shows_cuts c.args.settings c.args.changes.now start cut g.T.Watch.sees g.T.Watch.ends c.args.watch.now
-    (run_at c.fetch_all.new.ports c.fetch_all.new.underlay c.as_mut_slice-2.result.now (state_of c.in-Ok-open.endpoint) 0 begun) _ c.in-Ok-open.ensures at c.put_events.new.watch (cuts_at c.put_events.new.ports c.put_events.new.underlay c.as_slice.result.now) c.in-Err-put_cuts.target c.in_default-put_events.ensures lead.0
+    let o = texts_behind c.args.segments.now c.args.changes.now (state_of c.in-Ok-open.endpoint) (empty_outputs (length c.args.settings.ports)) run.es in
+    let lead = c.in-Err-put_cuts_among.ensures start o c.put_events.new.port_sinks c.put_events.new.underlay_sink (run.outputs start (empty_outputs (length c.args.settings.ports)) at) in
+    shows_cuts c.args.segments.now c.args.settings c.args.changes.now start cut g.T.Watch.sees g.T.Watch.ends c.args.watch.now
+    (run_at c.fetch_all.new.ports c.fetch_all.new.underlay c.as_mut_slice-2.result.now (state_of c.in-Ok-open.endpoint) 0 begun) _ c.in-Ok-open.ensures at c.put_events.new.watch (cuts_among c.args.segments.now (cuts_at c.put_events.new.ports c.put_events.new.underlay c.as_slice.result.now)) c.in-Err-put_cuts_among.target c.in_default-put_events.ensures lead.0
 
 pub returns-in_default-clause-watched : goal.returns-in_default-clause-watched
 returns-in_default-clause-watched g c texts text tells =
     let start = drains c.args.port_sinks.now c.args.underlay_sink.now (g.W.Output.written c.args.decisions.now) (g.W.Output.failures c.args.decisions.now) in
-    seen_unopened c.args.settings c.args.changes.now texts text start start g.T.Watch.sees g.T.Watch.ends c.args.watch.now (none_at start (length texts) (c.requires.sinks ∙ tells_texts c.args.ports.now c.args.underlay.now texts text tells))
+    seen_unopened c.args.segments.now c.args.settings c.args.changes.now texts text start start g.T.Watch.sees g.T.Watch.ends c.args.watch.now (none_at start (length texts) (c.requires.sinks ∙ tells_texts c.args.ports.now c.args.underlay.now texts text tells))
 
 pub returns-in_default-open-clause-watched : goal.returns-in_default-open-clause-watched
 returns-in_default-open-clause-watched g c texts text tells =
     let start = drains c.args.port_sinks.now c.args.underlay_sink.now (g.W.Output.written c.args.decisions.now) (g.W.Output.failures c.args.decisions.now) in
-    seen_unopened c.args.settings c.args.changes.now texts text start start g.T.Watch.sees g.T.Watch.ends c.args.watch.now (none_at start (length texts) (c.requires.sinks ∙ tells_texts c.args.ports.now c.args.underlay.now texts text tells))
+    seen_unopened c.args.segments.now c.args.settings c.args.changes.now texts text start start g.T.Watch.sees g.T.Watch.ends c.args.watch.now (none_at start (length texts) (c.requires.sinks ∙ tells_texts c.args.ports.now c.args.underlay.now texts text tells))
 
 pub returns-in-Err-clause-watched : goal.returns-in-Err-clause-watched
 returns-in-Err-clause-watched g c texts text tells =
     let start = drains c.args.port_sinks.now c.args.underlay_sink.now (g.W.Output.written c.args.decisions.now) (g.W.Output.failures c.args.decisions.now) in
     let many = tells_texts c.args.ports.now c.args.underlay.now texts text tells in
-    seen_opening c.args.settings c.args.changes.now texts text start g.T.Watch.sees g.T.Watch.ends c.args.watch.now start c.args.ports.now c.open_all.new.ports c.args.underlay.now c.open_all.new.underlay c.in-Err.fault c.in-Err.ensures.opened
+    seen_opening c.args.segments.now c.args.settings c.args.changes.now texts text start g.T.Watch.sees g.T.Watch.ends c.args.watch.now start c.args.ports.now c.open_all.new.ports c.args.underlay.now c.open_all.new.underlay c.in-Err.fault c.in-Err.ensures.opened
     (none_at start (length texts) (c.requires.sinks ∙ many))
 
 pub returns-in-Err-begin_all-clause-watched : goal.returns-in-Err-begin_all-clause-watched
@@ -302,7 +303,7 @@ returns-in-Err-begin_all-clause-watched g c texts text tells =
     let many = c.requires.sinks ∙ tells_texts c.args.ports.now c.args.underlay.now texts text tells in
     let begun = drains c.begin_all.new.port_sinks c.begin_all.new.underlay_sink (g.W.Output.written c.args.decisions.now) (g.W.Output.failures c.args.decisions.now) in
     let lead = c.in-Err-begin_all.ensures start (g.W.Output.written c.args.decisions.now) (g.W.Output.failures c.args.decisions.now) (none_at start (length c.args.port_sinks.now) refl) in
-    seen_headers c.args.settings c.args.changes.now texts text start begun g.T.Watch.sees g.T.Watch.ends c.args.watch.now c.in-Err-begin_all.target (subst (λ n. StandBetween start begun (no_texts n) (empty_outputs n)) many lead.0)
+    seen_headers c.args.segments.now c.args.settings c.args.changes.now texts text start begun g.T.Watch.sees g.T.Watch.ends c.args.watch.now c.in-Err-begin_all.target (subst (λ n. StandBetween start begun (no_texts n) (empty_outputs n)) many lead.0)
 
 pub returns-in-Err-fetch_all-clause-watched : goal.returns-in-Err-fetch_all-clause-watched
 returns-in-Err-fetch_all-clause-watched g c texts text tells =
@@ -311,7 +312,7 @@ returns-in-Err-fetch_all-clause-watched g c texts text tells =
     let begun = drains c.begin_all.new.port_sinks c.begin_all.new.underlay_sink (g.W.Output.written c.args.decisions.now) (g.W.Output.failures c.args.decisions.now) in
     let at : StandAt start begun (empty_outputs (length texts)) = subst (λ n. StandAt start begun (empty_outputs n)) many (c.in_default-begin_all.ensures start (g.W.Output.written c.args.decisions.now) (g.W.Output.failures c.args.decisions.now) (none_at start (length c.args.port_sinks.now) refl)) in
     let read = opened_read c.args.ports.now c.open_all.new.ports c.args.underlay.now c.open_all.new.underlay texts text tells (omega (arith, c.open_all.auto.ports)) c.in_default-open_all.ensures.opened in
-    seen_firsts c.args.settings c.args.changes.now texts text start begun g.T.Watch.sees g.T.Watch.ends c.args.watch.now c.in-Err-fetch_all.fault c.fetch_all.new.turns c.fetch_all.new.ports c.fetch_all.new.underlay (c.in-Err-fetch_all.ensures.told (texts_octets texts) text read) at
+    seen_firsts c.args.segments.now c.args.settings c.args.changes.now texts text start begun g.T.Watch.sees g.T.Watch.ends c.args.watch.now c.in-Err-fetch_all.fault c.fetch_all.new.turns c.fetch_all.new.ports c.fetch_all.new.underlay (c.in-Err-fetch_all.ensures.told (texts_octets texts) text read) at
 
 pub returns-in-Err-put_events-clause-watched : goal.returns-in-Err-put_events-clause-watched
 returns-in-Err-put_events-clause-watched g c texts text tells =
@@ -327,16 +328,16 @@ returns-in-Err-put_events-clause-watched g c texts text tells =
     (c.in_default-fetch_all.ensures.ready (state_of c.in-Ok-open.endpoint) begun (ap (λ (s : State). s.moment) c.in-Ok-open.ensures)
     (ready_begun c.args.changes.now c.open_all.new.ports c.open_all.new.underlay c.args.settings (state_of c.in-Ok-open.endpoint) begun _ c.requires.timely (omega (arith, as_many, c.requires.few)) (as_many ∙ c.requires.ports) c.in-Ok-open.ensures turns)) in
     let read = subst (λ ts. AreRead (texts_octets texts) text ts c.fetch_all.new.ports c.fetch_all.new.underlay) (sym lent) (c.in_default-fetch_all.ensures.told (texts_octets texts) text opened) in
-    seen_run c.args.settings c.args.changes.now texts text start c.fetch_all.new.ports c.fetch_all.new.underlay c.as_mut_slice-2.result.now (state_of c.in-Ok-open.endpoint) begun _ ready read at c.in-Ok-open.ensures
+    seen_run c.args.segments.now c.args.settings c.args.changes.now texts text start c.fetch_all.new.ports c.fetch_all.new.underlay c.as_mut_slice-2.result.now (state_of c.in-Ok-open.endpoint) begun _ ready read at c.in-Ok-open.ensures
     g.T.Watch.sees g.T.Watch.ends c.args.watch.now c.in-Err-put_events.fault c.put_events.new.watch c.in-Err-put_events.ensures
 
-pub returns-in-Ok-put_cuts-clause-watched : goal.returns-in-Ok-put_cuts-clause-watched
-returns-in-Ok-put_cuts-clause-watched g c texts text tells =
+pub returns-in-Ok-put_cuts_among-clause-watched : goal.returns-in-Ok-put_cuts_among-clause-watched
+returns-in-Ok-put_cuts_among-clause-watched g c texts text tells =
     let start = drains c.args.port_sinks.now c.args.underlay_sink.now (g.W.Output.written c.args.decisions.now) (g.W.Output.failures c.args.decisions.now) in
     let told = tells_texts c.args.ports.now c.args.underlay.now texts text tells in
     let many = c.requires.sinks ∙ told in
     let begun = drains c.begin_all.new.port_sinks c.begin_all.new.underlay_sink (g.W.Output.written c.args.decisions.now) (g.W.Output.failures c.args.decisions.now) in
-    let cut = drains c.put_events.new.port_sinks c.put_events.new.underlay_sink (g.W.Output.written c.put_cuts.new.decisions) (g.W.Output.failures c.put_cuts.new.decisions) in
+    let cut = drains c.put_events.new.port_sinks c.put_events.new.underlay_sink (g.W.Output.written c.put_cuts_among.new.decisions) (g.W.Output.failures c.put_cuts_among.new.decisions) in
     let at : StandAt start begun (empty_outputs (length texts)) = subst (λ n. StandAt start begun (empty_outputs n)) many (c.in_default-begin_all.ensures start (g.W.Output.written c.args.decisions.now) (g.W.Output.failures c.args.decisions.now) (none_at start (length c.args.port_sinks.now) refl)) in
     let as_many : length c.open_all.new.ports ≡ length c.args.ports.now = omega (arith, c.open_all.auto.ports) in
     let opened = opened_read c.args.ports.now c.open_all.new.ports c.args.underlay.now c.open_all.new.underlay texts text tells as_many c.in_default-open_all.ensures.opened in
@@ -346,7 +347,7 @@ returns-in-Ok-put_cuts-clause-watched g c texts text tells =
     (c.in_default-fetch_all.ensures.ready (state_of c.in-Ok-open.endpoint) begun (ap (λ (s : State). s.moment) c.in-Ok-open.ensures)
     (ready_begun c.args.changes.now c.open_all.new.ports c.open_all.new.underlay c.args.settings (state_of c.in-Ok-open.endpoint) begun _ c.requires.timely (omega (arith, as_many, c.requires.few)) (as_many ∙ c.requires.ports) c.in-Ok-open.ensures turns)) in
     let read = subst (λ ts. AreRead (texts_octets texts) text ts c.fetch_all.new.ports c.fetch_all.new.underlay) (sym lent) (c.in_default-fetch_all.ensures.told (texts_octets texts) text opened) in
-    seen_whole c.args.settings c.args.changes.now texts text start c.fetch_all.new.ports c.fetch_all.new.underlay c.as_mut_slice-2.result.now (state_of c.in-Ok-open.endpoint) begun _ ready read at c.in-Ok-open.ensures
+    seen_whole c.args.segments.now c.args.settings c.args.changes.now texts text start c.fetch_all.new.ports c.fetch_all.new.underlay c.as_mut_slice-2.result.now (state_of c.in-Ok-open.endpoint) begun _ ready read at c.in-Ok-open.ensures
     g.T.Watch.sees g.T.Watch.ends c.args.watch.now cut c.put_events.new.watch c.end.new.self c.in_default-put_events.ensures c.end.ensures
 
 pub returns-clause-watched : goal.returns-clause-watched
@@ -354,7 +355,7 @@ returns-clause-watched g c texts text tells =
     let start = drains c.args.port_sinks.now c.args.underlay_sink.now (g.W.Output.written c.args.decisions.now) (g.W.Output.failures c.args.decisions.now) in
     let many = c.requires.sinks ∙ tells_texts c.args.ports.now c.args.underlay.now texts text tells in
     let begun = drains c.begin_all.new.port_sinks c.begin_all.new.underlay_sink (g.W.Output.written c.args.decisions.now) (g.W.Output.failures c.args.decisions.now) in
-    let cut = drains c.put_events.new.port_sinks c.put_events.new.underlay_sink (g.W.Output.written c.put_cuts.new.decisions) (g.W.Output.failures c.put_cuts.new.decisions) in
+    let cut = drains c.put_events.new.port_sinks c.put_events.new.underlay_sink (g.W.Output.written c.put_cuts_among.new.decisions) (g.W.Output.failures c.put_cuts_among.new.decisions) in
     let at : StandAt start begun (empty_outputs (length texts)) = subst (λ n. StandAt start begun (empty_outputs n)) many (c.in_default-begin_all.ensures start (g.W.Output.written c.args.decisions.now) (g.W.Output.failures c.args.decisions.now) (none_at start (length c.args.port_sinks.now) refl)) in
     let as_many : length c.open_all.new.ports ≡ length c.args.ports.now = omega (arith, c.open_all.auto.ports) in
     let opened = opened_read c.args.ports.now c.open_all.new.ports c.args.underlay.now c.open_all.new.underlay texts text tells as_many c.in_default-open_all.ensures.opened in
@@ -365,8 +366,8 @@ returns-clause-watched g c texts text tells =
     (ready_begun c.args.changes.now c.open_all.new.ports c.open_all.new.underlay c.args.settings (state_of c.in-Ok-open.endpoint) begun _ c.requires.timely (omega (arith, as_many, c.requires.few)) (as_many ∙ c.requires.ports) c.in-Ok-open.ensures turns)) in
     let read = subst (λ ts. AreRead (texts_octets texts) text ts c.fetch_all.new.ports c.fetch_all.new.underlay) (sym lent) (c.in_default-fetch_all.ensures.told (texts_octets texts) text opened) in
     let run = c.in_default-put_events.ensures.run in
-    let o = texts_behind c.args.changes.now (state_of c.in-Ok-open.endpoint) (empty_outputs (length texts)) run.es in
+    let o = texts_behind c.args.segments.now c.args.changes.now (state_of c.in-Ok-open.endpoint) (empty_outputs (length texts)) run.es in
     let back : c.as_slice.result.now ≡ c.put_events.new.turns = c.as_slice.ensures.value ∙ lent_back c.put_events.new.turns _ c.in-Ok.turns.len (omega (arith, c.put_events.auto.turns, c.as_mut_slice-2.ensures.len)) in
-    let lead = c.in-Err-put_cuts.ensures start o c.put_events.new.port_sinks c.put_events.new.underlay_sink (run.outputs start (empty_outputs (length texts)) at) in
-    seen_lines c.args.settings c.args.changes.now texts text start c.fetch_all.new.ports c.fetch_all.new.underlay c.as_mut_slice-2.result.now (state_of c.in-Ok-open.endpoint) begun _ ready read at c.in-Ok-open.ensures
-    g.T.Watch.sees g.T.Watch.ends c.args.watch.now cut c.in-Err-put_cuts.target c.put_events.new.watch c.in_default-put_events.ensures (subst (λ ts. StandBetween start cut o (with_cuts o (cuts_at c.put_events.new.ports c.put_events.new.underlay ts)) × FailedAt c.in-Err-put_cuts.target start cut) back lead)
+    let lead = c.in-Err-put_cuts_among.ensures start o c.put_events.new.port_sinks c.put_events.new.underlay_sink (run.outputs start (empty_outputs (length texts)) at) in
+    seen_lines c.args.segments.now c.args.settings c.args.changes.now texts text start c.fetch_all.new.ports c.fetch_all.new.underlay c.as_mut_slice-2.result.now (state_of c.in-Ok-open.endpoint) begun _ ready read at c.in-Ok-open.ensures
+    g.T.Watch.sees g.T.Watch.ends c.args.watch.now cut c.in-Err-put_cuts_among.target c.put_events.new.watch c.in_default-put_events.ensures (subst (λ ts. StandBetween start cut o (with_cuts o (cuts_among c.args.segments.now (cuts_at c.put_events.new.ports c.put_events.new.underlay ts))) × FailedAt c.in-Err-put_cuts_among.target start cut) back lead)

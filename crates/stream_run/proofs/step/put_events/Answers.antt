@@ -3,7 +3,7 @@ use Rattle.stream_run.proofs.Running.{shown_begins, shown_breaks, shown_ends, sh
 use Rattle.stream_run.proofs.step.put_events.Goals as goal
 
 pub loop-count-init : goal.loop-count-init
-loop-count-init g c = record { count = c.requires.none; run = rw c.requires.none (shown_begins g.T.Watch.sees c.args.changes.now _ c.args.watch.now refl c.requires.ready) }
+loop-count-init g c = record { count = c.requires.none; run = rw c.requires.none (shown_begins c.args.segments.now g.T.Watch.sees c.args.changes.now _ c.args.watch.now refl c.requires.ready) }
 
 pub put_first-requires-clause-few : goal.put_first-requires-clause-few
 put_first-requires-clause-few g c = omega (arith, c.loop-count.invariant.count, c.loop-count-test.true)
@@ -16,14 +16,14 @@ loop-count-preserved g c =
     let step = c.in_default-put_first.ensures in
     record {
       count = step.step.number ∙ ap (λ n. n + 1) c.loop-count.invariant.count;
-      run = shown_steps g.T.Watch.sees c.args.changes.now _ c.args.watch.now _ _ c.in-Some.first _ _ c.loop-count.invariant.run step;
+      run = shown_steps c.args.segments.now g.T.Watch.sees c.args.changes.now _ c.args.watch.now _ _ c.in-Some.first _ _ c.loop-count.invariant.run step;
     }
 
 pub returns-in_default : goal.returns-in_default
-returns-in_default g c = shown_ends g.T.Watch.sees c.args.changes.now _ c.args.watch.now _ _ c.loop-count.invariant.run c.in_default.ensures
+returns-in_default g c = shown_ends c.args.segments.now g.T.Watch.sees c.args.changes.now _ c.args.watch.now _ _ c.loop-count.invariant.run c.in_default.ensures
 
 pub returns-in-Err : goal.returns-in-Err
-returns-in-Err g c = shown_stops g.T.Watch.sees c.args.changes.now _ c.args.watch.now _ _ _ _ _ c.in-Err.fault c.loop-count.invariant.run c.in-Err.ensures
+returns-in-Err g c = shown_stops c.args.segments.now g.T.Watch.sees c.args.changes.now _ c.args.watch.now _ _ _ _ _ c.in-Err.fault c.loop-count.invariant.run c.in-Err.ensures
 
 pub returns : goal.returns
-returns g c = shown_breaks g.T.Watch.sees c.args.changes.now _ c.args.watch.now _ _ c.loop-count.invariant.run
+returns g c = shown_breaks c.args.segments.now g.T.Watch.sees c.args.changes.now _ c.args.watch.now _ _ c.loop-count.invariant.run

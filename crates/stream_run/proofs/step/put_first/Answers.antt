@@ -15,17 +15,17 @@ take_at-requires-clause-lent g c = (next_up c.args.changes.now c.args.ports.now 
 
 pub returns-in-Err : goal.returns-in-Err
 returns-in-Err g c =
-    shown_put c.args.changes.now c.args.ports.now c.args.underlay.now c.args.turns.now (state_of c.args.endpoint.now) c.args.desk.now.number _ c.args.first _ c.add_one.new.self (state_of c.take_at.new.endpoint) _ g.T.Watch.sees c.args.watch.now c.take_at.new.watch c.take_at.new.desk.number c.in-Err.target
+    shown_put c.args.segments.now c.args.changes.now c.args.ports.now c.args.underlay.now c.args.turns.now (state_of c.args.endpoint.now) c.args.desk.now.number _ c.args.first _ c.add_one.new.self (state_of c.take_at.new.endpoint) _ g.T.Watch.sees c.args.watch.now c.take_at.new.watch c.take_at.new.desk.number c.in-Err.target
     no_turn c.requires.ready c.requires.first (λ t. ap (λ (x : Turn). x.done) (get_or_default c.args.turns.now c.args.first.index _ t c.requires.first.there)) c.add_one.ensures c.take_at.ensures.number c.in-Err.ensures.taken
 
 pub returns-in-Err-fetch_at : goal.returns-in-Err-fetch_at
 returns-in-Err-fetch_at g c =
-    shown_fault c.args.changes.now c.args.ports.now c.args.underlay.now c.args.turns.now (state_of c.args.endpoint.now) c.args.desk.now.number _ c.args.first _ c.add_one.new.self (state_of c.take_at.new.endpoint) _ g.T.Watch.sees c.args.watch.now c.take_at.new.watch c.take_at.new.desk.number
+    shown_fault c.args.segments.now c.args.changes.now c.args.ports.now c.args.underlay.now c.args.turns.now (state_of c.args.endpoint.now) c.args.desk.now.number _ c.args.first _ c.add_one.new.self (state_of c.take_at.new.endpoint) _ g.T.Watch.sees c.args.watch.now c.take_at.new.watch c.take_at.new.desk.number
     c.fetch_at.new.ports c.fetch_at.new.underlay c.in-Err-fetch_at.fault no_turn c.requires.ready c.requires.first
     (λ t. ap (λ (x : Turn). x.done) (get_or_default c.args.turns.now c.args.first.index _ t c.requires.first.there)) c.add_one.ensures c.take_at.ensures.number c.in_default.ensures.taken c.in-Err-fetch_at.ensures
 
 pub returns-in-Ok : goal.returns-in-Ok
 returns-in-Ok g c =
-    shown_turn c.args.changes.now c.args.ports.now c.args.underlay.now c.args.turns.now (state_of c.args.endpoint.now) c.args.desk.now.number _ c.args.first _ c.add_one.new.self (state_of c.take_at.new.endpoint) _ g.T.Watch.sees c.args.watch.now c.take_at.new.watch c.take_at.new.desk.number
+    shown_turn c.args.segments.now c.args.changes.now c.args.ports.now c.args.underlay.now c.args.turns.now (state_of c.args.endpoint.now) c.args.desk.now.number _ c.args.first _ c.add_one.new.self (state_of c.take_at.new.endpoint) _ g.T.Watch.sees c.args.watch.now c.take_at.new.watch c.take_at.new.desk.number
     c.fetch_at.new.ports c.fetch_at.new.underlay c.in-Ok.turn no_turn c.requires.ready c.requires.first
     (λ t. ap (λ (x : Turn). x.done) (get_or_default c.args.turns.now c.args.first.index _ t c.requires.first.there)) c.add_one.ensures c.take_at.ensures.number c.in_default.ensures.taken c.in-Ok.ensures

@@ -12,7 +12,7 @@ use Rattle.stream_run.proofs.take.take_at.Goals as goal
 
 pub returns-then-index-eq0-clause-taken : goal.returns-then-index-eq0-clause-taken
 returns-then-index-eq0-clause-taken g c =
-    subst (λ (i : ℕ). IsWatchedTake g.T.Watch.sees c.args.changes.now c.args.ports.now c.args.underlay.now i c.args.done c.args.moment c.args.desk.now.number (state_of c.args.endpoint.now) (state_of c.take_change_at.new.endpoint)
+    subst (λ (i : ℕ). IsWatchedTake c.args.segments.now g.T.Watch.sees c.args.changes.now c.args.ports.now c.args.underlay.now i c.args.done c.args.moment c.args.desk.now.number (state_of c.args.endpoint.now) (state_of c.take_change_at.new.endpoint)
     (drains c.args.port_sinks.now c.args.underlay_sink.now (g.W.Output.written c.args.decisions.now) (g.W.Output.failures c.args.decisions.now))
     (drains c.args.port_sinks.now c.args.underlay_sink.now (g.W.Output.written c.take_change_at.new.decisions) (g.W.Output.failures c.take_change_at.new.decisions)) c.args.watch.now c.take_change_at.new.watch c.take_change_at.result)
     (sym c.if-index-eq0.true) (c.take_change_at.ensures.taken c.args.ports.now c.args.underlay.now c.args.port_sinks.now c.args.underlay_sink.now)

@@ -1,28 +1,58 @@
-use Rattle.std.proofs.Common.{◌∙◌, ap, sym, subst, refl, inl, ◌+◌}
+use Rattle.std.proofs.Common.{◌≡◌, true, false, ◌∙◌, ap, sym, subst, refl, inl, ◌+◌}
 use Rattle.timeline.specs.declared.event.Event.{Event}
 use Rattle.timeline.specs.declared.event.Happening.TheVariants as happenings
 use Rattle.overlay_settings.specs.declared.change.Change.{Change}
 use Rattle.endpoint_state.specs.Change.{named}
+use Rattle.endpoint_core.specs.Among.{is_told}
 use Rattle.endpoint_core.specs.Event.{change_at}
+use Rattle.segment_set.specs.Segments.{holds}
+use Rattle.capture_run.specs.Outputs.{event_of, named_by}
+use Rattle.stream_run.specs.Steps.{changes_of}
+use Rattle.stream_run.proofs.Taking.{after_not_told, after_told, not_seen, puts_nothing, puts_told, seen_told}
 use Rattle.endpoint_core.specs.Kept.{state_of}
 use Rattle.endpoint_core.specs.Step.{after, answer}
 use Rattle.capture_run.specs.Writing.{with_input}
 use Rattle.capture_run.proofs.Changes.{change_there}
+use Rattle.stream_run.specs.Sights.{answered, due}
 use Rattle.stream_run.specs.Stage.{Lead, drains}
 use Rattle.stream_run.proofs.take.take_change_at.Goals as goal
 
-pub returns-clause-taken : goal.returns-clause-taken
-returns-clause-taken g c ports underlay port_sinks underlay_sink =
+pub returns-then-not-has-clause-taken : goal.returns-then-not-has-clause-taken
+returns-then-not-has-clause-taken g c ports underlay port_sinks underlay_sink =
     let e : Event = record { moment = c.args.moment; number = c.args.index + 1; happening = happenings.Change c.args.index } in
-    let state = state_of c.args.endpoint.now in
+    let s = state_of c.args.endpoint.now in
     let there = sym (change_there c.args.changes.now c.args.index c.index-changes-index.result c.requires.there) in
+    let asked = event_of (changes_of c.args.changes.now) e in
+    let away : is_told c.args.segments.now s asked ≡ false =
+    sym (ap (λ (x : Change). holds c.args.segments.now (named x)) there) ∙ sym (ap (holds c.args.segments.now) c.vid-named.ensures) ∙ sym c.has.ensures ∙ c.if-not-has.true in
     record {
       taken = record {
         e = e;
         next = inl (refl, refl);
-        state = c.take_change.ensures.state ∙ ap (λ (x : Change). after state (change_at c.args.moment x)) there;
-        outputs = λ start o at. subst (λ (x : Change). Lead start (drains port_sinks underlay_sink (g.W.Output.written c.take_change.new.decisions) (g.W.Output.failures c.take_change.new.decisions)) o
-            (with_input c.args.desk.now.number (named x) o e (answer state (change_at c.args.moment x))) c.take_change.result) there (c.take_change.ensures.outputs start o port_sinks underlay_sink at);
+        state = c.make_change.ensures ∙ sym (after_not_told c.args.segments.now s asked away);
+        outputs = λ start o at. puts_nothing c.args.segments.now s asked c.args.desk.now.number (named_by (changes_of c.args.changes.now) e.happening) e start _ o away at;
       };
-      seen = c.take_change.ensures.seen;
+      seen = not_seen c.args.segments.now s asked g.T.Watch.sees c.args.desk.now.number e c.args.watch.now away;
+    }
+
+pub returns-clause-taken : goal.returns-clause-taken
+returns-clause-taken g c ports underlay port_sinks underlay_sink =
+    let e : Event = record { moment = c.args.moment; number = c.args.index + 1; happening = happenings.Change c.args.index } in
+    let s = state_of c.args.endpoint.now in
+    let first = sym (change_there c.args.changes.now c.args.index c.index-changes-index.result c.requires.there) in
+    let there = sym (change_there c.args.changes.now c.args.index c.index-changes-index-2.result c.requires.there) in
+    let asked = event_of (changes_of c.args.changes.now) e in
+    let here : is_told c.args.segments.now s asked ≡ true =
+    sym (ap (λ (x : Change). holds c.args.segments.now (named x)) first) ∙ sym (ap (holds c.args.segments.now) c.vid-named.ensures) ∙ sym c.has.ensures ∙ c.if-not-has.false in
+    let new = drains port_sinks underlay_sink (g.W.Output.written c.take_change.new.decisions) (g.W.Output.failures c.take_change.new.decisions) in
+    record {
+      taken = record {
+        e = e;
+        next = inl (refl, refl);
+        state = c.take_change.ensures.state ∙ ap (λ (x : Change). after s (change_at c.args.moment x)) there ∙ sym (after_told c.args.segments.now s asked here);
+        outputs = λ start o at. puts_told c.args.segments.now s asked c.args.desk.now.number (named_by (changes_of c.args.changes.now) e.happening) e start new o c.take_change.result here
+            (subst (λ (x : Change). Lead start new o (with_input c.args.desk.now.number (named x) o e (answer s (change_at c.args.moment x))) c.take_change.result) there (c.take_change.ensures.outputs start o port_sinks underlay_sink at));
+      };
+      seen = seen_told c.args.segments.now s asked g.T.Watch.sees c.args.desk.now.number e c.args.watch.now c.take_change.new.watch here
+          (subst (λ (x : Change). g.T.Watch.sees c.args.watch.now (answered (due s c.args.desk.now.number e) (answer s (change_at c.args.moment x))) c.take_change.new.watch) there c.take_change.ensures.seen);
     }

@@ -1,34 +1,76 @@
-use Rattle.std.proofs.Common.{◌≡◌, ◌∙◌, ◌+◌, ap, subst, None, ℕ}
+use Rattle.std.proofs.Common.{◌≡◌, ◌∙◌, ◌+◌, sym, ap, subst, None, Ok, true, false}
+use Rattle.frame_view.specs.declared.reason.Refused.{Refused}
+use Rattle.std.proofs.Common.{Result}
+use Rattle.segment_set.specs.Segments.{holds}
 use Rattle.pcap_io.specs.Record.{Record}
 use Rattle.timeline.specs.declared.event.Event.{Event}
 use Rattle.timeline.specs.declared.event.Happening.TheVariants as happenings
 use Rattle.timeline.specs.declared.source.Tap.TheVariants.{Underlay}
+use Rattle.endpoint_state.specs.State.{aged}
+use Rattle.endpoint_core.specs.Among.{is_told, segment_of}
+use Rattle.endpoint_core.specs.Arrival.{came_by}
+use Rattle.endpoint_core.specs.Came.{Came}
 use Rattle.endpoint_core.specs.Event.{packet_at}
 use Rattle.endpoint_core.specs.Kept.{state_of}
-use Rattle.endpoint_core.specs.Step.{Answer, after, answer}
+use Rattle.endpoint_core.specs.Step.{Answer, Decided, after_coming, answer, decided}
 use Rattle.capture_run.specs.Writing.{with_input}
-use Rattle.stream_run.specs.Sights.{sight}
+use Rattle.stream_run.specs.Sights.{answered, due}
 use Rattle.stream_run.specs.Stage.{Lead, drains}
 use Rattle.stream_run.specs.Steps.{record_event}
+use Rattle.stream_run.proofs.Taking.{after_not_told, after_told, not_seen, puts_nothing, puts_told, seen_told}
 use Rattle.stream_run.proofs.take.take_packet.Goals as goal
+
+pub returns-then-not-has-clause-state : goal.returns-then-not-has-clause-state
+returns-then-not-has-clause-state g c r told =
+    let s = state_of c.args.endpoint.now in
+    let same : c.unwrap-record.result ≡ r = cc (c.unwrap-record.ensures, c.head.ensures.record, told) in
+    let came = c.frame_in-brought.ensures.value ∙ ap (λ (r : Record). came_by (state_of c.args.endpoint.now).bridges.settings.overlay r.original r.octets) (c.record.view_is ∙ same) in
+    let away : is_told c.args.segments.now s (packet_at c.args.moment r.original r.octets) ≡ false = sym (ap (λ (r : Result Came Refused). holds c.args.segments.now (segment_of r)) came) ∙ sym (ap (holds c.args.segments.now) c.segment_of.ensures) ∙ sym c.has.ensures ∙ c.if-not-has.true in
+    c.pass.ensures ∙ sym (after_not_told c.args.segments.now s (packet_at c.args.moment r.original r.octets) away)
+
+pub returns-then-not-has-clause-outputs : goal.returns-then-not-has-clause-outputs
+returns-then-not-has-clause-outputs g c r start o told at =
+    let s = state_of c.args.endpoint.now in
+    let same : c.unwrap-record.result ≡ r = cc (c.unwrap-record.ensures, c.head.ensures.record, told) in
+    let came = c.frame_in-brought.ensures.value ∙ ap (λ (r : Record). came_by (state_of c.args.endpoint.now).bridges.settings.overlay r.original r.octets) (c.record.view_is ∙ same) in
+    let away : is_told c.args.segments.now s (packet_at c.args.moment r.original r.octets) ≡ false = sym (ap (λ (r : Result Came Refused). holds c.args.segments.now (segment_of r)) came) ∙ sym (ap (holds c.args.segments.now) c.segment_of.ensures) ∙ sym c.has.ensures ∙ c.if-not-has.true in
+    puts_nothing c.args.segments.now s (packet_at c.args.moment r.original r.octets) c.args.desk.now.number None (record_event Underlay c.args.count c.args.moment r) start _ o away at
+
+pub returns-then-not-has-clause-seen : goal.returns-then-not-has-clause-seen
+returns-then-not-has-clause-seen g c r told =
+    let s = state_of c.args.endpoint.now in
+    let same : c.unwrap-record.result ≡ r = cc (c.unwrap-record.ensures, c.head.ensures.record, told) in
+    let came = c.frame_in-brought.ensures.value ∙ ap (λ (r : Record). came_by (state_of c.args.endpoint.now).bridges.settings.overlay r.original r.octets) (c.record.view_is ∙ same) in
+    let away : is_told c.args.segments.now s (packet_at c.args.moment r.original r.octets) ≡ false = sym (ap (λ (r : Result Came Refused). holds c.args.segments.now (segment_of r)) came) ∙ sym (ap (holds c.args.segments.now) c.segment_of.ensures) ∙ sym c.has.ensures ∙ c.if-not-has.true in
+    not_seen c.args.segments.now s (packet_at c.args.moment r.original r.octets) g.T.Watch.sees c.args.desk.now.number (record_event Underlay c.args.count c.args.moment r) c.args.watch.now away
 
 pub returns-clause-state : goal.returns-clause-state
 returns-clause-state g c r told =
+    let s = state_of c.args.endpoint.now in
     let same : c.unwrap-record.result ≡ r = cc (c.unwrap-record.ensures, c.head.ensures.record, told) in
-    c.take_packet-course.ensures.after ∙ ap (λ (r : Record). after (state_of c.args.endpoint.now) (packet_at c.args.moment r.original r.octets)) (c.record.view_is ∙ same)
+    let came = c.frame_in-brought.ensures.value ∙ ap (λ (r : Record). came_by (state_of c.args.endpoint.now).bridges.settings.overlay r.original r.octets) (c.record.view_is ∙ same) in
+    let here : is_told c.args.segments.now s (packet_at c.args.moment r.original r.octets) ≡ true = sym (ap (λ (r : Result Came Refused). holds c.args.segments.now (segment_of r)) came) ∙ sym (ap (holds c.args.segments.now) c.segment_of.ensures) ∙ sym c.has.ensures ∙ c.if-not-has.false in
+    c.take_came.ensures.state ∙ ap (λ (r : Result Came Refused). after_coming c.args.moment r s) came ∙ sym (after_told c.args.segments.now s (packet_at c.args.moment r.original r.octets) here)
 
 pub returns-clause-outputs : goal.returns-clause-outputs
 returns-clause-outputs g c r start o told at =
+    let s = state_of c.args.endpoint.now in
     let same : c.unwrap-record.result ≡ r = cc (c.unwrap-record.ensures, c.head.ensures.record, told) in
-    let state = state_of c.args.endpoint.now in
-    let new = drains c.put_course.new.port_sinks c.put_course.new.underlay_sink (g.W.Output.written c.put_course.new.decisions) (g.W.Output.failures c.put_course.new.decisions) in
-    let e : Event = record { moment = c.args.moment; number = c.args.count + 1; happening = happenings.Record (Underlay) (record { original = c.record.inside.original; octets = c.record.inside.octets.now }) } in
-    subst (λ (r : Record). Lead {T = Unit {0}} start new o (with_input c.args.desk.now.number None o (record_event (Underlay) c.args.count c.args.moment r) (answer state (packet_at c.args.moment r.original r.octets))) c.put_course.result) (c.record.view_is ∙ same)
-    (subst (λ (a : Answer). Lead {T = Unit {0}} start new o (with_input c.args.desk.now.number None o e a) c.put_course.result) c.take_packet-course.ensures.answer (c.put_course.ensures.outputs start o at))
+    let came = c.frame_in-brought.ensures.value ∙ ap (λ (r : Record). came_by (state_of c.args.endpoint.now).bridges.settings.overlay r.original r.octets) (c.record.view_is ∙ same) in
+    let here : is_told c.args.segments.now s (packet_at c.args.moment r.original r.octets) ≡ true = sym (ap (λ (r : Result Came Refused). holds c.args.segments.now (segment_of r)) came) ∙ sym (ap (holds c.args.segments.now) c.segment_of.ensures) ∙ sym c.has.ensures ∙ c.if-not-has.false in
+    let new = drains c.take_came.new.port_sinks c.take_came.new.underlay_sink (g.W.Output.written c.take_came.new.decisions) (g.W.Output.failures c.take_came.new.decisions) in
+    let e : Event = record { moment = c.args.moment; number = c.args.count + 1; happening = happenings.Record Underlay (record { original = c.record.inside.original; octets = c.record.inside.octets.now }) } in
+    puts_told c.args.segments.now s (packet_at c.args.moment r.original r.octets) c.args.desk.now.number None (record_event Underlay c.args.count c.args.moment r) start new o c.take_came.result here
+    (subst (λ (q : Record). Lead {T = Unit {0}} start new o (with_input c.args.desk.now.number None o (record_event Underlay c.args.count c.args.moment q) (answer s (packet_at c.args.moment r.original r.octets))) c.take_came.result) (c.record.view_is ∙ same)
+    (subst (λ (x : Result Came Refused). Lead {T = Unit {0}} start new o (with_input c.args.desk.now.number None o e (Decided (decided c.args.moment (aged c.args.moment s.bridges) x))) c.take_came.result) came (c.take_came.ensures.outputs start o at)))
 
 pub returns-clause-seen : goal.returns-clause-seen
 returns-clause-seen g c r told =
+    let s = state_of c.args.endpoint.now in
     let same : c.unwrap-record.result ≡ r = cc (c.unwrap-record.ensures, c.head.ensures.record, told) in
-    let e : Event = record { moment = c.args.moment; number = c.args.count + 1; happening = happenings.Record (Underlay) (record { original = c.record.inside.original; octets = c.record.inside.octets.now }) } in
-    subst (λ (r : Record). g.T.Watch.sees c.args.watch.now (sight (state_of c.args.endpoint.now) c.args.desk.now.number (record_event (Underlay) c.args.count c.args.moment r)) c.see.new.self) (c.record.view_is ∙ same)
-    (subst (λ (n : ℕ). g.T.Watch.sees c.args.watch.now (sight (state_of c.args.endpoint.now) n e) c.see.new.self) c.value.ensures c.see.ensures)
+    let came = c.frame_in-brought.ensures.value ∙ ap (λ (r : Record). came_by (state_of c.args.endpoint.now).bridges.settings.overlay r.original r.octets) (c.record.view_is ∙ same) in
+    let here : is_told c.args.segments.now s (packet_at c.args.moment r.original r.octets) ≡ true = sym (ap (λ (r : Result Came Refused). holds c.args.segments.now (segment_of r)) came) ∙ sym (ap (holds c.args.segments.now) c.segment_of.ensures) ∙ sym c.has.ensures ∙ c.if-not-has.false in
+    let e : Event = record { moment = c.args.moment; number = c.args.count + 1; happening = happenings.Record Underlay (record { original = c.record.inside.original; octets = c.record.inside.octets.now }) } in
+    seen_told c.args.segments.now s (packet_at c.args.moment r.original r.octets) g.T.Watch.sees c.args.desk.now.number (record_event Underlay c.args.count c.args.moment r) c.args.watch.now c.take_came.new.watch here
+    (subst (λ (q : Record). g.T.Watch.sees c.args.watch.now (answered (due s c.args.desk.now.number (record_event Underlay c.args.count c.args.moment q)) (answer s (packet_at c.args.moment r.original r.octets))) c.take_came.new.watch) (c.record.view_is ∙ same)
+    (subst (λ (x : Result Came Refused). g.T.Watch.sees c.args.watch.now (answered (due s c.args.desk.now.number e) (Decided (decided c.args.moment (aged c.args.moment s.bridges) x))) c.take_came.new.watch) came c.take_came.ensures.seen))

@@ -1,35 +1,14 @@
-use Rattle.std.proofs.Common.{◌≤◌, List, Result, sym, ap, ◌∙◌, subst}
+use Rattle.std.proofs.Common.{◌≡◌, Result, ap, subst, ◌∙◌}
 use Rattle.frame_view.specs.declared.reason.Refused.{Refused}
 use Rattle.underlay.specs.Overlay.{Overlay}
 use Rattle.endpoint_core.specs.Arrival.{came_by}
-use Rattle.endpoint_state.specs.Held.{settings_of}
 use Rattle.endpoint_core.specs.Came.{Came}
-use Rattle.endpoint_core.specs.Course.{decision_of, IsOfWhatCame}
-use Rattle.filter_db.specs.declared.place.Place.{Place}
-use Rattle.endpoint_core.specs.Cells.{count_in}
-use Rattle.endpoint_core.specs.Counts.{counted}
-use Rattle.endpoint_core.specs.Kept.{Kept}
-use Rattle.endpoint_core.specs.Step.{Decided}
-use Rattle.endpoint_core.proofs.StepsLemmas.{decided-then}
+use Rattle.endpoint_core.specs.Kept.{Kept, state_of}
+use Rattle.endpoint_core.specs.Step.{after_coming}
 use Rattle.endpoint_core.proofs.endpoint.Endpoint.take_packet.Goals as goal
-
-pub returns-clause-answer : goal.returns-clause-answer
-returns-clause-answer c =
-    let later = subst (λ (k : Kept). k.moment ≤ c.args.now) (sym c.self.view_is) c.requires in
-    let same = c.come_by-came.ensures.value ∙ ap (λ (overlay : Overlay). came_by overlay c.args.original c.args.octets.now) c.under.ensures.value in
-    let tallied = c.tally.ensures ∙ ap (λ (ps : List Place). counted (count_in c.self.inside.counts) (decision_of (settings_of c.decide-course.new.state) c.decide-course.result ps)) c.as_slice.ensures.value in
-    let then = decided-then c.self.inside.state c.decide-course.new.state c.self.inside.counts c.tally.new.self c.self.inside.moment c.args.now (decision_of (settings_of c.decide-course.new.state) c.decide-course.result c.decide-course.new.places.items) c.come_by-came.result _ later same c.decide-course.ensures.decision c.decide-course.ensures.after tallied in
-    rw (← c.self.view_is) (ap Decided then.0)
 
 pub returns-clause-after : goal.returns-clause-after
 returns-clause-after c =
-    let later = subst (λ (k : Kept). k.moment ≤ c.args.now) (sym c.self.view_is) c.requires in
     let same = c.come_by-came.ensures.value ∙ ap (λ (overlay : Overlay). came_by overlay c.args.original c.args.octets.now) c.under.ensures.value in
-    let tallied = c.tally.ensures ∙ ap (λ (ps : List Place). counted (count_in c.self.inside.counts) (decision_of (settings_of c.decide-course.new.state) c.decide-course.result ps)) c.as_slice.ensures.value in
-    let then = decided-then c.self.inside.state c.decide-course.new.state c.self.inside.counts c.tally.new.self c.self.inside.moment c.args.now (decision_of (settings_of c.decide-course.new.state) c.decide-course.result c.decide-course.new.places.items) c.come_by-came.result _ later same c.decide-course.ensures.decision c.decide-course.ensures.after tallied in
-    rw (← c.self.view_is) then.1
-
-pub returns-clause-came : goal.returns-clause-came
-returns-clause-came c =
-    let same = c.come_by-came.ensures.value ∙ ap (λ (overlay : Overlay). came_by overlay c.args.original c.args.octets.now) c.under.ensures.value in
-    rw (← c.self.view_is) (subst (λ (r : Result Came Refused). IsOfWhatCame r c.decide-course.result) same c.decide-course.ensures.came)
+    let told = subst (λ (k : Kept). c.come_by-came.result ≡ came_by (state_of k).bridges.settings.overlay c.args.original c.args.octets.now) c.self.view_is same in
+    c.take.ensures.after ∙ ap (λ (r : Result Came Refused). after_coming c.args.now r (state_of c.args.self.now)) told

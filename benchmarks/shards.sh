@@ -1,0 +1,59 @@
+#!/usr/bin/env bash
+# How long a run takes as one, and cut by segments into 2 and into 4 shards side by side with the merge behind them, and how
+# long a shard takes to which nothing comes: that part doesn't shrink. 256 segments of 256 addresses, or SEGMENTS of
+# ADDRESSES. It is no test: time is promised nowhere.
+#     benchmarks/shards.sh [SEGMENTS [ADDRESSES [ROUNDS]]]
+# TEP names another program than ./tep.
+set -eu
+here=$(cd "$(dirname "$0")" && pwd)
+tep=${TEP:-$here/../tep}
+segments=${1:-256}
+folder=$(mktemp -d)
+trap 'rm -rf "$folder"' EXIT
+frames=$(python3 "$here/many_tenants.py" "$folder" "$segments" "${2:-256}" "${3:-12}")
+"$tep" --version >"$folder/version"
+
+# run OUT [WORDS]: a run into this folder
+run() {
+    local out=$1
+    shift
+    mkdir -p "$out"
+    "$tep" run --settings "$folder/settings.toml" --underlay "$folder/underlay.pcap" --out "$out" "$@" \
+        "$folder/port1.pcap" "$folder/port2.pcap"
+}
+
+# took NAME SINCE: how long it took since then, in nanoseconds
+took() {
+    echo "$1: $((($(date +%s%N) - $2) / 1000000)) ms"
+}
+
+echo "$frames frames"
+begun=$(date +%s%N)
+run "$folder/whole"
+took "one run" "$begun"
+
+begun=$(date +%s%N)
+run "$folder/nothing" --segments 4094
+took "a shard to which nothing comes" "$begun"
+
+for shards in 2 4; do
+    begun=$(date +%s%N)
+    parts=()
+    waits=()
+    for ((shard = 0; shard < shards; shard++)); do
+        first=$((segments * shard / shards + 1))
+        last=$((segments * (shard + 1) / shards))
+        # the last one also takes the VIDs without a segment, and what comes to none
+        [ $((shard + 1)) -lt "$shards" ] && list=$first-$last || list=$first-4094,none
+        parts+=("$folder/$shards.$shard")
+        run "$folder/$shards.$shard" --segments "$list" &
+        waits+=($!)
+    done
+    for process in "${waits[@]}"; do wait "$process"; done
+    took "$shards shards side by side" "$begun"
+    begun=$(date +%s%N)
+    mkdir -p "$folder/merged$shards"
+    "$tep" merge --out "$folder/merged$shards" "${parts[@]}"
+    took "their merge" "$begun"
+    diff -r "$folder/whole" "$folder/merged$shards" >"$folder/differences" || { head "$folder/differences"; exit 1; }
+done

@@ -1,0 +1,5 @@
+pub mod Change
+pub mod Checks
+pub mod Segment
+pub mod Seen
+pub mod Story

@@ -1,0 +1,93 @@
+-- How what a check saw is printed: one line, begun by two spaces; as
+--       segment 10
+--       port p9 of 3
+--       mac at p2 seen at 5000000000, entries 3 of at most 1024
+use Rattle.std.specs.Prelude.{ℕ, ◌/◌, Bool, true, false, List, [], ◌∷◌, ◌++◌, codes, decimal, Option, Some, None}
+use Rattle.std.specs.List.{flat_map}
+use Rattle.ip_udp_view.specs.declared.addr.Tunnel.{Tunnel}
+use Rattle.filter_db.specs.declared.entry.Entry.{Entry}
+use Rattle.story_words.specs.Words.{group_word, listed_word, member_word, stood_text, tunnel_word, up_word}
+use Rattle.change_story.specs.declared.seen.Seen.{Seen}
+use Rattle.change_story.specs.declared.seen.Seen.TheVariants as seen
+
+-- ---- words
+
+-- that a thing isn't there
+abbrev pub no_word : Bool → List ℕ
+no_word true = []
+no_word false = codes "no "
+
+-- whether somebody can have an address
+abbrev pub usable_word : Bool → List ℕ
+usable_word true = codes "addr usable"
+usable_word false = codes "addr of nobody"
+
+-- whose an address is
+abbrev pub own_word : Bool → List ℕ
+own_word true = codes "addr the endpoint's own"
+own_word false = codes "addr another endpoint's"
+
+-- whether there is an own address of its family
+abbrev pub family_word : Bool → List ℕ
+family_word true = codes "own address of its family"
+family_word false = codes "no own address of its family"
+
+-- whether VNIs are free
+abbrev pub free_word : Bool → List ℕ
+free_word true = codes "vnis free"
+free_word false = codes "vnis taken"
+
+-- whether a segment learns
+abbrev pub learning_word : Bool → List ℕ
+learning_word true = codes "learning before on"
+learning_word false = codes "learning before off"
+
+-- the tunnel that is meant
+abbrev pub tunnel_text : Option Tunnel → Option Tunnel → List ℕ
+tunnel_text named (Some kind) = codes "tunnel " ++ tunnel_word kind
+tunnel_text (Some kind) None = codes "no tunnel " ++ tunnel_word kind
+tunnel_text None None = codes "no tunnel"
+
+-- where a MAC address stands
+abbrev pub mac_stood : Option Entry → List ℕ
+mac_stood None = codes "mac unknown"
+mac_stood (Some e) = codes "mac at " ++ stood_text e
+
+-- how many entries there are
+abbrev pub entries_text : ℕ → ℕ → List ℕ
+entries_text entries limit = codes "entries " ++ decimal entries ++ codes " of at most " ++ decimal limit
+
+-- ---- lines
+
+-- what a check saw
+abbrev pub words : Seen → List ℕ
+words (seen.Segment vid there) = no_word there ++ codes "segment " ++ decimal vid
+words (seen.Port port ports) = codes "port p" ++ decimal port ++ codes " of " ++ decimal ports
+words (seen.Tunnel named found) = tunnel_text named found
+words (seen.Usable usable) = usable_word usable
+words (seen.AddrGroup group) = codes "addr " ++ group_word group
+words (seen.Family there) = family_word there
+words (seen.Own own) = own_word own
+words (seen.Listed listed) = codes "addr" ++ listed_word listed
+words (seen.FloodRoom remotes) = codes "flood list has " ++ decimal remotes ++ codes ", at most 16"
+words (seen.MacGroup group) = codes "mac " ++ group_word group
+words (seen.Room stood entries limit) = mac_stood stood ++ codes ", " ++ entries_text entries limit
+words (seen.Stood stood) = mac_stood stood
+words (seen.Ageing seconds) = codes "ageing " ++ decimal seconds ++ codes ", 10 to 1000000"
+words (seen.Limit limit) = codes "limit " ++ decimal limit ++ codes ", 1 to 8192"
+words (seen.Vnis free) = free_word free
+words (seen.Segments segments) = codes "segments " ++ decimal segments ++ codes ", at most 256"
+words (seen.Pool room) = codes "pool has room for " ++ decimal room
+words (seen.AgeingBefore span) = codes "ageing before " ++ decimal (span / 1000000000)
+words (seen.Learning on) = learning_word on
+words (seen.Member port egress) = codes "port p" ++ decimal port ++ member_word egress
+words (seen.Up port up) = codes "port p" ++ decimal port ++ codes " " ++ up_word up
+words (seen.Entries entries limit) = entries_text entries limit
+
+-- a line of its own
+abbrev pub seen_line : Seen → List ℕ
+seen_line x = codes "  " ++ words x ++ 10 ∷ []
+
+-- all of them
+abbrev pub seen_text : List Seen → List ℕ
+seen_text xs = flat_map seen_line xs

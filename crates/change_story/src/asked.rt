@@ -1,0 +1,233 @@
+//! What a change asks for, as a line.
+ghost use Rattle.std.specs.Prelude.{◌≡◌, ◌++◌, OnOk, codes, decimal, string_bytes};
+ghost use Rattle.endpoint_core.specs.Text.{addr_text};
+ghost use Rattle.story_words.specs.Words.{mac_text, tunnel_word};
+ghost use Rattle.change_story.specs.Change.{change_line, change_text, egress_name, named_text, numbers_text, of_vid, on_word, target_text, vni_text, vnis_text};
+
+use endpoint_core::put_addr;
+use endpoint_state::{Change, NewSegment, Target};
+use frame_view::{Mac, Vid};
+use ip_udp_view::{Addr, Tunnel};
+use std::alloc::AllocError;
+use std::fmt::Write;
+use story_words::{put_hop, put_name, tunnel_word};
+use underlay::{SegmentTunnel, Tunnels};
+use vlan_ports::Egress;
+
+/// Puts the line of a change. `AllocError`: there was no room for it.
+pub(crate) fn put_change(text: &mut String, change: Change) -> Result<(), AllocError>
+    ensures { OnOk result (string_bytes text.new ≡ string_bytes text.old ++ change_line change) }
+{
+    text.push_str("  ")?;
+    put_asked(text, change)?;
+    text.push('\n')
+}
+
+/// Puts the kind of a change, and its keys with their values.
+fn put_asked(text: &mut String, change: Change) -> Result<(), AllocError>
+    ensures { OnOk result (string_bytes text.new ≡ string_bytes text.old ++ change_text change) }
+{
+    match change {
+        Change::AddFlood { vid, addr, tunnel } => {
+            put_remote(text, "add_flood", vid, " addr ", addr, tunnel)
+        }
+        Change::RemoveFlood { vid, addr, tunnel } => {
+            put_remote(text, "remove_flood", vid, " addr ", addr, tunnel)
+        }
+        Change::Fix { vid, mac, target } => put_fix(text, vid, mac, target),
+        Change::Unfix { vid, mac } => put_of_mac(text, "unfix", vid, mac),
+        Change::SetAgeing { vid, seconds } => {
+            put_number(text, "set_ageing", vid, " seconds ", seconds)
+        }
+        Change::SetLearning { vid, on } => put_word(text, "set_learning", vid, on_word(on)),
+        Change::SetMember { vid, port, egress } => put_member(text, vid, port, egress),
+        Change::PortUp { port } => write!(text, "port_up port {port}"),
+        Change::PortDown { port } => write!(text, "port_down port {port}"),
+        Change::Flush { vid } => put_of_vid(text, "flush", vid),
+        Change::AddSegment(new) => put_new(text, &new),
+        Change::RemoveSegment { vid } => put_of_vid(text, "remove_segment", vid),
+        Change::SetLimit { vid, limit } => put_number(text, "set_limit", vid, " limit ", limit),
+    }
+}
+
+/// Puts a kind and a VID.
+fn put_of_vid(text: &mut String, kind: &str, vid: Vid) -> Result<(), AllocError>
+    ensures { OnOk result (string_bytes text.new ≡ string_bytes text.old ++ of_vid kind.now vid) }
+{
+    let number = vid.get();
+    write!(text, "{kind} vid {number}")
+}
+
+/// Puts a kind, a VID and a word.
+fn put_word(text: &mut String, kind: &str, vid: Vid, word: &str) -> Result<(), AllocError>
+    ensures { OnOk result (string_bytes text.new ≡ string_bytes text.old ++ (of_vid kind.now vid ++ word.now)) }
+{
+    put_of_vid(text, kind, vid)?;
+    text.push_str(word)
+}
+
+/// Puts a kind, a VID and a number behind its key.
+fn put_number(
+    text: &mut String,
+    kind: &str,
+    vid: Vid,
+    key: &str,
+    number: u32,
+) -> Result<(), AllocError>
+    ensures { OnOk result (string_bytes text.new ≡ string_bytes text.old ++ (of_vid kind.now vid ++ key.now ++ decimal number)) }
+{
+    put_word(text, kind, vid, key)?;
+    write!(text, "{number}")
+}
+
+/// Puts a kind, a VID and a MAC address.
+fn put_of_mac(text: &mut String, kind: &str, vid: Vid, mac: Mac) -> Result<(), AllocError>
+    ensures { OnOk result (string_bytes text.new ≡ string_bytes text.old ++ (of_vid kind.now vid ++ codes " mac " ++ mac_text mac)) }
+{
+    put_of_vid(text, kind, vid)?;
+    put_hop(text, " mac ", mac)
+}
+
+/// Puts a kind, a VID and a remote endpoint behind its key.
+fn put_remote(
+    text: &mut String,
+    kind: &str,
+    vid: Vid,
+    key: &str,
+    addr: Addr,
+    tunnel: Option<Tunnel>,
+) -> Result<(), AllocError>
+    ensures { OnOk result (string_bytes text.new
+        ≡ string_bytes text.old ++ (of_vid kind.now vid ++ key.now ++ addr_text addr ++ named_text tunnel)) }
+{
+    put_word(text, kind, vid, key)?;
+    put_addr(text, addr)?;
+    put_named(text, tunnel)
+}
+
+/// Puts the tunnel that is named, if one is.
+fn put_named(text: &mut String, tunnel: Option<Tunnel>) -> Result<(), AllocError>
+    ensures { OnOk result (string_bytes text.new ≡ string_bytes text.old ++ named_text tunnel) }
+{
+    match tunnel {
+        None => Ok(()),
+        Some(kind) => put_name(text, " tunnel ", tunnel_word(kind)),
+    }
+}
+
+fn put_fix(text: &mut String, vid: Vid, mac: Mac, target: Target) -> Result<(), AllocError>
+    ensures { OnOk result (string_bytes text.new
+        ≡ string_bytes text.old ++ (of_vid (codes "fix") vid ++ codes " mac " ++ mac_text mac ++ target_text target)) }
+{
+    put_of_mac(text, "fix", vid, mac)?;
+    put_target(text, target)
+}
+
+/// Puts where a fixed entry is to stand.
+fn put_target(text: &mut String, target: Target) -> Result<(), AllocError>
+    ensures { OnOk result (string_bytes text.new ≡ string_bytes text.old ++ target_text target) }
+{
+    match target {
+        Target::Local(port) => write!(text, " port {port}"),
+        Target::Remote(addr, tunnel) => put_at_remote(text, addr, tunnel),
+    }
+}
+
+fn put_at_remote(text: &mut String, addr: Addr, tunnel: Option<Tunnel>) -> Result<(), AllocError>
+    ensures { OnOk result (string_bytes text.new ≡ string_bytes text.old ++ (codes " remote " ++ addr_text addr ++ named_text tunnel)) }
+{
+    text.push_str(" remote ")?;
+    put_addr(text, addr)?;
+    put_named(text, tunnel)
+}
+
+fn put_member(
+    text: &mut String,
+    vid: Vid,
+    port: u8,
+    egress: Option<Egress>,
+) -> Result<(), AllocError>
+    ensures { OnOk result (string_bytes text.new
+        ≡ string_bytes text.old ++ (of_vid (codes "set_member") vid ++ codes " port " ++ decimal port ++ egress_name egress)) }
+{
+    put_of_vid(text, "set_member", vid)?;
+    put_egress(text, port, egress_name(egress))
+}
+
+/// Puts a port, and how frames are to leave there.
+fn put_egress(text: &mut String, port: u8, egress: &str) -> Result<(), AllocError>
+    ensures { OnOk result (string_bytes text.new ≡ string_bytes text.old ++ (codes " port " ++ decimal port ++ egress.now)) }
+{
+    write!(text, " port {port}{egress}")
+}
+
+fn put_new(text: &mut String, new: &NewSegment) -> Result<(), AllocError>
+    ensures { OnOk result (string_bytes text.new ≡ string_bytes text.old
+        ++ (of_vid (codes "add_segment") new.now.vid ++ vnis_text new.now.tunnels ++ numbers_text new.now.limit new.now.ageing)) }
+{
+    put_segment(text, new.vid, &new.tunnels, new.limit, new.ageing)
+}
+
+/// Puts a segment that is to come.
+fn put_segment(
+    text: &mut String,
+    vid: Vid,
+    tunnels: &Tunnels,
+    limit: u32,
+    ageing: u32,
+) -> Result<(), AllocError>
+    ensures { OnOk result (string_bytes text.new ≡ string_bytes text.old
+        ++ (of_vid (codes "add_segment") vid ++ vnis_text tunnels.now ++ numbers_text limit ageing)) }
+{
+    put_of_vid(text, "add_segment", vid)?;
+    put_vnis(text, tunnels)?;
+    put_numbers(text, limit, ageing)
+}
+
+/// Puts a limit and an ageing.
+fn put_numbers(text: &mut String, limit: u32, ageing: u32) -> Result<(), AllocError>
+    ensures { OnOk result (string_bytes text.new
+        ≡ string_bytes text.old ++ numbers_text limit ageing) }
+{
+    write!(text, " limit {limit} ageing {ageing}")
+}
+
+/// Puts the VNIs of tunnels.
+fn put_vnis(text: &mut String, tunnels: &Tunnels) -> Result<(), AllocError>
+    ensures { OnOk result (string_bytes text.new ≡ string_bytes text.old ++ vnis_text tunnels.now) }
+{
+    put_vni(text, tunnels.of(Tunnel::Vxlan))?;
+    put_vni(text, tunnels.of(Tunnel::Geneve))
+}
+
+/// Puts the VNI of a tunnel, where there is one.
+fn put_vni(text: &mut String, tunnel: Option<SegmentTunnel>) -> Result<(), AllocError>
+    ensures { OnOk result (string_bytes text.new ≡ string_bytes text.old ++ vni_text tunnel) }
+{
+    match tunnel {
+        None => Ok(()),
+        Some(tunnel) => put_vni_of(text, tunnel_word(tunnel.kind), tunnel.vni.get()),
+    }
+}
+
+fn put_vni_of(text: &mut String, kind: &str, vni: u32) -> Result<(), AllocError>
+    ensures { OnOk result (string_bytes text.new ≡ string_bytes text.old ++ (codes " " ++ kind.now ++ codes " vni " ++ decimal vni)) }
+{
+    write!(text, " {kind} vni {vni}")
+}
+
+fn on_word(on: bool) -> &'static str
+    ensures { result.now ≡ on_word on }
+{
+    if on { " on true" } else { " on false" }
+}
+
+fn egress_name(egress: Option<Egress>) -> &'static str
+    ensures { result.now ≡ egress_name egress }
+{
+    match egress {
+        None => " egress none",
+        Some(Egress::Tagged) => " egress tagged",
+        Some(Egress::Untagged) => " egress untagged",
+    }
+}

@@ -1,0 +1,260 @@
+//! Checks: why each refuses, whether it does, and what it saw.
+ghost use Rattle.std.specs.Prelude.{◌≡◌, ◌++◌, ◌∷◌, [], OnOk, nat_lt};
+ghost use Rattle.std.specs.FinMap.{get, len};
+ghost use Rattle.filter_db.specs.Table.{Table};
+ghost use Rattle.change_story.specs.Checks as checks;
+
+use crate::seen::Seen;
+use endpoint_state::{ChangeFault, is_ageing, is_limit};
+use filter_db::Entry;
+use flood_lists::Own;
+use frame_view::{Mac, Vid};
+use ip_udp_view::{Addr, Tunnel};
+use std::alloc::AllocError;
+
+/// A check of a change.
+#[derive(Clone, Copy, Debug)]
+pub struct Check {
+    /// Why it refuses.
+    pub fault: ChangeFault,
+    /// Whether it does.
+    pub fails: bool,
+    /// What it saw.
+    pub saw: Seen,
+}
+
+/// Puts a check behind the others.
+pub(crate) fn put(checks: &mut Vec<Check>, check: Check) -> Result<(), AllocError>
+    ensures { OnOk result (checks.new.items ≡ checks.old.items ++ check ∷ []) }
+{
+    checks.push(check)?;
+    Ok(())
+}
+
+/// There is a segment of this VID.
+pub(crate) fn segment_check(vid: Vid, there: bool) -> Check
+    ensures { result ≡ checks.segment_check vid there }
+{
+    Check {
+        fault: ChangeFault::NoSegment,
+        fails: !there,
+        saw: Seen::Segment {
+            vid: vid.get(),
+            there,
+        },
+    }
+}
+
+/// No segment has this VID.
+pub(crate) fn vid_check(vid: Vid, there: bool) -> Check
+    ensures { result ≡ checks.vid_check vid there }
+{
+    Check {
+        fault: ChangeFault::SegmentThere,
+        fails: there,
+        saw: Seen::Segment {
+            vid: vid.get(),
+            there,
+        },
+    }
+}
+
+/// There is a port of this number, among so many.
+pub(crate) fn port_check(ports: u8, port: u8) -> Check
+    ensures { result ≡ checks.port_check ports port }
+{
+    Check {
+        fault: ChangeFault::NoPort,
+        fails: !(1 <= port && port <= ports),
+        saw: Seen::Port { port, ports },
+    }
+}
+
+/// The segment has the tunnel that is named, or has a first one where none is.
+pub(crate) fn tunnel_check(named: Option<Tunnel>, found: Option<Tunnel>) -> Check
+    ensures { result ≡ checks.tunnel_check named found }
+{
+    Check {
+        fault: ChangeFault::NoTunnel,
+        fails: found.is_none(),
+        saw: Seen::Tunnel { named, found },
+    }
+}
+
+/// Somebody can have this address.
+pub(crate) fn usable_check(addr: Addr) -> Check
+    ensures { result ≡ checks.usable_check addr }
+{
+    let usable = addr.is_usable();
+    Check {
+        fault: ChangeFault::OutOfRange,
+        fails: !usable,
+        saw: Seen::Usable { usable },
+    }
+}
+
+/// It is no group's.
+pub(crate) fn group_check(addr: Addr) -> Check
+    ensures { result ≡ checks.group_check addr }
+{
+    let group = addr.is_group();
+    Check {
+        fault: ChangeFault::GroupAddress,
+        fails: group,
+        saw: Seen::AddrGroup { group },
+    }
+}
+
+/// The endpoint has an own address of its family.
+pub(crate) fn family_check(own: &Own, addr: Addr) -> Check
+    ensures { result ≡ checks.family_check own.now addr }
+{
+    let there = own.has_family(addr);
+    Check {
+        fault: ChangeFault::NoFamily,
+        fails: !there,
+        saw: Seen::Family { there },
+    }
+}
+
+/// It isn't the endpoint's own.
+pub(crate) fn own_check(own: &Own, addr: Addr) -> Check
+    ensures { result ≡ checks.own_check own.now addr }
+{
+    let own = own.is_own(addr);
+    Check {
+        fault: ChangeFault::OwnAddress,
+        fails: own,
+        saw: Seen::Own { own },
+    }
+}
+
+/// It isn't on the flood list yet.
+pub(crate) fn absent_check(listed: bool) -> Check
+    ensures { result ≡ checks.absent_check listed }
+{
+    Check {
+        fault: ChangeFault::AlreadyThere,
+        fails: listed,
+        saw: Seen::Listed { listed },
+    }
+}
+
+/// It is on the flood list.
+pub(crate) fn listed_check(listed: bool) -> Check
+    ensures { result ≡ checks.listed_check listed }
+{
+    Check {
+        fault: ChangeFault::NotThere,
+        fails: !listed,
+        saw: Seen::Listed { listed },
+    }
+}
+
+/// The flood list has room.
+pub(crate) fn flood_check(remotes: usize) -> Check
+    ensures { result ≡ checks.flood_check remotes }
+{
+    Check {
+        fault: ChangeFault::FloodFull,
+        fails: remotes >= 16,
+        saw: Seen::FloodRoom { remotes },
+    }
+}
+
+/// A MAC address is no group's.
+pub(crate) fn mac_check(mac: Mac) -> Check
+    ensures { result ≡ checks.mac_check mac }
+{
+    let group = mac.is_group();
+    Check {
+        fault: ChangeFault::GroupAddress,
+        fails: group,
+        saw: Seen::MacGroup { group },
+    }
+}
+
+/// A table with this limit and so many entries has room for a fixed entry of an address for which this stands.
+pub(crate) fn room_check(limit: u32, stood: Option<Entry>, entries: usize) -> Check
+    ensures { (mac : _) (m : Table) → get m mac ≡ stood → len m ≡ entries → result ≡ checks.room_check limit mac m }
+{
+    Check {
+        fault: ChangeFault::TableFull,
+        fails: stood.is_none() && entries >= limit as usize,
+        saw: Seen::Room {
+            stood,
+            entries,
+            limit,
+        },
+    }
+}
+
+/// An address for which this stands has a fixed entry.
+pub(crate) fn fixed_check(stood: Option<Entry>) -> Check
+    ensures { (mac : _) (m : Table) → get m mac ≡ stood → result ≡ checks.fixed_check mac m }
+{
+    let fixed = match stood {
+        Some(entry) => entry.is_fixed(),
+        None => false,
+    };
+    Check {
+        fault: ChangeFault::NotThere,
+        fails: !fixed,
+        saw: Seen::Stood { stood },
+    }
+}
+
+/// Ageings have 10 to 1,000,000 seconds.
+pub(crate) fn ageing_check(seconds: u32) -> Check
+    ensures { result ≡ checks.ageing_check seconds }
+{
+    Check {
+        fault: ChangeFault::OutOfRange,
+        fails: !is_ageing(seconds),
+        saw: Seen::Ageing { seconds },
+    }
+}
+
+/// Limits are 1 to 8,192.
+pub(crate) fn limit_check(limit: u32) -> Check
+    ensures { result ≡ checks.limit_check limit }
+{
+    Check {
+        fault: ChangeFault::OutOfRange,
+        fails: !is_limit(limit),
+        saw: Seen::Limit { limit },
+    }
+}
+
+/// No segment has a tunnel of the kind and VNI of one of the new one's.
+pub(crate) fn vnis_check(free: bool) -> Check
+    ensures { result ≡ checks.vnis_check free }
+{
+    Check {
+        fault: ChangeFault::SegmentThere,
+        fails: !free,
+        saw: Seen::Vnis { free },
+    }
+}
+
+/// There are fewer than 256 segments.
+pub(crate) fn count_check(segments: u32) -> Check
+    ensures { result ≡ checks.count_check segments }
+{
+    Check {
+        fault: ChangeFault::SegmentsFull,
+        fails: !(segments < 256),
+        saw: Seen::Segments { segments },
+    }
+}
+
+/// A limit is no more than what is left of the pool for it.
+pub(crate) fn pool_check(limit: u32, room: u64) -> Check
+    ensures { result ≡ checks.pool_check (nat_lt room limit) room }
+{
+    Check {
+        fault: ChangeFault::PoolFull,
+        fails: u64::from(limit) > room,
+        saw: Seen::Pool { room },
+    }
+}

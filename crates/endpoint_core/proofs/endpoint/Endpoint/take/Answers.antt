@@ -1,0 +1,23 @@
+use Rattle.std.proofs.Common.{◌≤◌, List, sym, ap, ◌∙◌, subst, refl}
+use Rattle.endpoint_state.specs.Held.{settings_of}
+use Rattle.filter_db.specs.declared.place.Place.{Place}
+use Rattle.endpoint_core.specs.Cells.{count_in}
+use Rattle.endpoint_core.specs.Counts.{counted}
+use Rattle.endpoint_core.specs.Course.{decision_of}
+use Rattle.endpoint_core.specs.Kept.{Kept}
+use Rattle.endpoint_core.proofs.StepsLemmas.{decided-then}
+use Rattle.endpoint_core.proofs.endpoint.Endpoint.take.Goals as goal
+
+pub returns-clause-answer : goal.returns-clause-answer
+returns-clause-answer c =
+    let later = subst (λ (k : Kept). k.moment ≤ c.args.now) (sym c.self.view_is) c.requires.moment in
+    let tallied = c.tally.ensures ∙ ap (λ (ps : List Place). counted (count_in c.self.inside.counts) (decision_of (settings_of c.decide-course.new.state) c.decide-course.result ps)) c.as_slice.ensures.value in
+    let then = decided-then c.self.inside.state c.decide-course.new.state c.self.inside.counts c.tally.new.self c.self.inside.moment c.args.now (decision_of (settings_of c.decide-course.new.state) c.decide-course.result c.decide-course.new.places.items) c.args.came _ later refl c.decide-course.ensures.decision c.decide-course.ensures.after tallied in
+    rw (← c.self.view_is) then.0
+
+pub returns-clause-after : goal.returns-clause-after
+returns-clause-after c =
+    let later = subst (λ (k : Kept). k.moment ≤ c.args.now) (sym c.self.view_is) c.requires.moment in
+    let tallied = c.tally.ensures ∙ ap (λ (ps : List Place). counted (count_in c.self.inside.counts) (decision_of (settings_of c.decide-course.new.state) c.decide-course.result ps)) c.as_slice.ensures.value in
+    let then = decided-then c.self.inside.state c.decide-course.new.state c.self.inside.counts c.tally.new.self c.self.inside.moment c.args.now (decision_of (settings_of c.decide-course.new.state) c.decide-course.result c.decide-course.new.places.items) c.args.came _ later refl c.decide-course.ensures.decision c.decide-course.ensures.after tallied in
+    rw (← c.self.view_is) then.1

@@ -1,0 +1,133 @@
+//! Where a flood doesn't go.
+ghost use Rattle.std.specs.Prelude.{◌≡◌, ◌≤◌, ◌++◌, length, map, IsTrue, OnOk};
+ghost use Rattle.std.specs.List.{flat_map, range_with_len};
+ghost use Rattle.std.specs.Option.{option_to_list};
+ghost use Rattle.filter_db.specs.declared.place.Place.TheVariants.{Local};
+ghost use Rattle.tunnel_learning.specs.Bridge.{config_of, group_of, in_one_group, is_up_at, place_of};
+ghost use Rattle.event_story.specs.Bridge.{flooded_facts, left_facts, left_out, shut_fact};
+
+use crate::fact::Fact;
+use crate::refusal::put;
+use filter_db::{Entry, Place};
+use ip_udp_view::Tunnel;
+use std::alloc::AllocError;
+use tunnel_learning::Bridge;
+
+/// Puts where a flood of a frame from a place doesn't go, and why, behind some facts, if the frame is flooded: to a group, or
+/// to an address for which nothing stands. `AllocError`: there was no room for them.
+pub(crate) fn put_flooded_facts(
+    facts: &mut Vec<Fact>,
+    bridge: &Bridge,
+    from: Place,
+    group: bool,
+    stood: Option<Entry>,
+) -> Result<(), AllocError>
+    ensures { OnOk result (facts.new.items ≡ facts.old.items ++ flooded_facts (config_of bridge.now) from group stood) }
+{
+    if group || stood.is_none() {
+        return put_left_facts(facts, bridge, from);
+    }
+    Ok(())
+}
+
+/// Puts where a flood doesn't go: ports, rising, and then remotes in the order of the flood list.
+fn put_left_facts(facts: &mut Vec<Fact>, bridge: &Bridge, from: Place) -> Result<(), AllocError>
+    ensures { OnOk result (facts.new.items ≡ facts.old.items ++ left_facts (config_of bridge.now) from) }
+{
+    put_left_ports(facts, bridge, from)?;
+    put_left_remotes(facts, bridge, from)
+}
+
+/// Puts the ports where it doesn't go.
+fn put_left_ports(facts: &mut Vec<Fact>, bridge: &Bridge, from: Place) -> Result<(), AllocError>
+    ensures { let c = config_of bridge.now in
+        OnOk result (facts.new.items
+        ≡ facts.old.items ++ flat_map (λ to. option_to_list (left_out c from to)) (map Local (range_with_len 1 (length c.up)))) }
+{
+    for number in 0..bridge.ports.ports() {
+        put(facts, left_out(bridge, from, Place::Local(number + 1)))?;
+    }
+    Ok(())
+}
+
+/// Puts the remotes where it doesn't go.
+fn put_left_remotes(facts: &mut Vec<Fact>, bridge: &Bridge, from: Place) -> Result<(), AllocError>
+    ensures { let c = config_of bridge.now in
+        OnOk result (facts.new.items
+        ≡ facts.old.items ++ flat_map (λ to. option_to_list (left_out c from to)) (map place_of c.flood)) }
+{
+    for target in bridge.flood.targets() {
+        let to = Place::Remote(target.tunnel, target.addr);
+        put(facts, left_out(bridge, from, to))?;
+    }
+    Ok(())
+}
+
+/// Why a flood of a frame from a place leaves another out, if it does.
+fn left_out(bridge: &Bridge, from: Place, to: Place) -> Option<Fact>
+    ensures { result ≡ left_out (config_of bridge.now) from to }
+{
+    if to.is_same(from) {
+        return Some(Fact::Same { place: to });
+    }
+    if in_one_group(bridge, from, to) {
+        return Some(Fact::Horizon { place: to });
+    }
+    shut_fact(bridge, to)
+}
+
+/// Whether both places are remotes of one horizon group.
+fn in_one_group(bridge: &Bridge, from: Place, to: Place) -> bool
+    ensures { result ≡ in_one_group (config_of bridge.now) from to }
+{
+    match (from, to) {
+        (Place::Remote(one, _), Place::Remote(other, _)) => {
+            group_of(bridge, one) == group_of(bridge, other)
+        }
+        _ => false,
+    }
+}
+
+/// The horizon group of the segment's tunnel of a kind.
+fn group_of(bridge: &Bridge, kind: Tunnel) -> u8
+    ensures { result ≡ group_of (config_of bridge.now) kind }
+{
+    match kind {
+        Tunnel::Vxlan => bridge.groups[0],
+        Tunnel::Geneve => bridge.groups[1],
+    }
+}
+
+/// That a place is a port where no frame of the segment leaves.
+fn shut_fact(bridge: &Bridge, to: Place) -> Option<Fact>
+    ensures { result ≡ shut_fact (config_of bridge.now) to }
+{
+    match to {
+        Place::Local(port) => shut_port(bridge, port),
+        Place::Remote(..) => None,
+    }
+}
+
+/// The same of a port: it is down, or no member.
+fn shut_port(bridge: &Bridge, port: u8) -> Option<Fact>
+    ensures { result ≡ shut_fact (config_of bridge.now) (Local port) }
+{
+    if !is_up(bridge, port) {
+        return Some(Fact::Port { port, up: false });
+    }
+    match bridge.ports.egress(bridge.vid, port) {
+        Some(_) => None,
+        None => Some(Fact::Member { port, egress: None }),
+    }
+}
+
+/// Whether there is a port of this number, and it is up.
+fn is_up(bridge: &Bridge, port: u8) -> bool
+    ensures value { result ≡ is_up_at (config_of bridge.now).up port }
+    ensures there { IsTrue result → (1 ≤ port) × (port ≤ length bridge.now.ports.now.ports) }
+{
+    if port == 0 || port > bridge.ports.ports() {
+        return false;
+    }
+    bridge.ports.is_up(port)
+}

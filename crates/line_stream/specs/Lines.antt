@@ -1,0 +1,36 @@
+-- Lines of a text, each with its line feed, and what a call that fetches the next one makes of a text.
+use Rattle.std.specs.Prelude.{◌≡◌, ◌≢◌, ◌<◌, ◌≤◌, ℕ, ◌==◌, if◌then◌else◌, List, [], ◌∷◌, length, slice_index, Option, Some, IfSome, Result, Ok, Err}
+use Rattle.pcap_stream.specs.Counts.{GoesOnBy}
+use Rattle.line_stream.specs.declared.fault.LinesFault.{LinesFault}
+use Rattle.line_stream.specs.declared.fault.LinesFault.TheVariants.{Read, TooLong}
+
+-- the first line, up to and with its line feed; all of a text that has none
+abbrev pub first_line : List ℕ → List ℕ
+first_line [] = []
+first_line (c ∷ cs) = if c == 10 then c ∷ [] else c ∷ first_line cs
+
+-- what stands behind it
+abbrev pub behind_line : List ℕ → List ℕ
+behind_line [] = []
+behind_line (c ∷ cs) = if c == 10 then cs else behind_line cs
+
+-- the octets of a line at most
+abbrev pub longest_line : ℕ
+longest_line = 4096
+
+-- no line feed stands in the octets that a line has at most
+pub record IsLong (text : List ℕ) : Type 0 where
+  pub long : longest_line ≤ length text
+  pub none : (k : ℕ) → k < longest_line → slice_index text k ≢ 10
+
+-- the line that is lent, what stands behind it where the input tells its octets, and how often the input failed
+pub record Reader : Type 0 where
+  pub line : List ℕ
+  pub rest : Option (List ℕ)
+  pub failures : ℕ
+
+-- the next line is lent, or at the end nothing; or it is too long, or a read failed
+abbrev pub IsFetched : Reader → Reader → Result (Unit {0}) LinesFault → Type 0
+IsFetched old new (Ok x) = (new.failures ≡ old.failures) × IfSome old.rest (λ text. (new.line ≡ first_line text) × (new.rest ≡ Some (behind_line text)))
+IsFetched old new (Err TooLong) = (new.failures ≡ old.failures) × IfSome old.rest IsLong
+IsFetched old new (Err Read) = GoesOnBy 1 old.failures new.failures

@@ -1,0 +1,81 @@
+//! Lines, one after another.
+ghost use Rattle.std.specs.Prelude.{◌≡◌, ◌≤◌, IfOk, Some, [], length};
+ghost use Rattle.line_stream.specs.Lines.{IsFetched, longest_line};
+
+use crate::fault::LinesFault;
+use crate::fill::{Ends, next_line};
+use pcap_stream::Input;
+use std::alloc::{AllocError, Global};
+use std::marker::Model;
+
+/// The octets of a line at most.
+pub const LONGEST_LINE: usize = 4096;
+
+/// The lines of an input, one at a time, in room for one of 4,096 octets.
+///
+/// `fetch` reads the next line, which `line` lends until the next `fetch`. Contracts see the line that is lent, what stands
+/// behind it, and how often the input failed.
+#[derive(Drop)]
+pub struct Lines<R: Input> {
+    input: R,
+    /// The line, and behind it what was read of the next ones.
+    room: Vec<u8>,
+    /// Where they end.
+    ends: Ends,
+}
+
+impl<R: Input> Model for Lines<R> {
+    ghost use Rattle.std.specs.Prelude.{◌≡◌, ◌≤◌, take, drop, length};
+    ghost use Rattle.std.specs.Io.KnownBytes.{prepend_known};
+    ghost use Rattle.line_stream.specs.Lines.{Reader, longest_line};
+
+    ghost Value = { Reader };
+
+    ghost view = { λ s. record {
+      line = take s.ends.line s.room.items;
+      rest = prepend_known (drop s.ends.line (take s.ends.read s.room.items)) (R.remaining s.input);
+      failures = R.failures s.input;
+    } };
+
+    ghost invariant = { λ s. (length s.room.items ≡ longest_line) × (s.ends.line ≤ s.ends.read) × (s.ends.read ≤ longest_line) };
+}
+
+impl<R: Input> Lines<R> {
+    /// Reserves room for a line, 4,096 octets, and reads nothing. No line is lent yet.
+    pub fn new(alloc: Global, input: R) -> Result<Lines<R>, AllocError>
+    where
+        R: Drop,
+        ensures { IfOk result (λ lines. lines ≡ record { line = []; rest = R.remaining input; failures = R.failures input }) }
+    {
+        let room = vec![in alloc; 0u8; LONGEST_LINE]?;
+        Ok(Lines {
+            input,
+            room,
+            ends: Ends { line: 0, read: 0 },
+        })
+    }
+
+    /// Reads the next line: up to and with its line feed, or what is left of the input. At the end it is empty.
+    ///
+    /// `TooLong`: the next 4,096 octets have no line feed. `Read`: a read failed. After a fault what is lent, and what comes
+    /// then, isn't told.
+    pub fn fetch(&mut self) -> Result<(), LinesFault>
+        ensures { IsFetched self.old self.new result }
+    {
+        match next_line(&mut self.input, self.room.as_mut_slice(), self.ends) {
+            Ok(ends) => {
+                self.ends = ends;
+                Ok(())
+            }
+            Err(fault) => Err(fault),
+        }
+    }
+
+    /// The line that was fetched last: empty before the first `fetch` and at the end.
+    pub fn line(&self) -> &[u8]
+        ensures line { result.now ≡ self.now.line }
+        ensures short { length self.now.line ≤ longest_line }
+    {
+        &self.room[..self.ends.line]
+    }
+}

@@ -1,0 +1,4 @@
+pub mod Totals
+pub mod Summary
+pub mod Keeping
+pub mod Run

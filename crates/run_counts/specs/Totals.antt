@@ -1,0 +1,101 @@
+-- What is counted of a run, by the events that came and by what they were answered. A count ends at the greatest number of
+-- 64 bits.
+--     flow_of      frames or packets, and their octets together
+--     sizes_from, sizes_to      those that came from a place, and those that left there
+--     refusals      the changes that were refused for a cause
+--     Totals, totals_of      all of it
+use Rattle.std.specs.Prelude.{ℕ, ◌==◌, Bool, true, false, if◌then◌else◌, min, List, [], ◌∷◌, length, count_by, Option, Some, None, Ok, Err}
+use Rattle.std.specs.List.{filter_map, flat_map, sum}
+use Rattle.filter_db.specs.declared.place.Place.{Place}
+use Rattle.filter_db.specs.declared.place.Place.TheVariants.{Local, Remote}
+use Rattle.timeline.specs.declared.event.Event.{Event}
+use Rattle.timeline.specs.declared.event.Happening.{Happening}
+use Rattle.timeline.specs.declared.event.Happening.TheVariants as happenings
+use Rattle.timeline.specs.declared.source.Tap.{Tap}
+use Rattle.timeline.specs.declared.source.Tap.TheVariants.{Port, Underlay}
+use Rattle.endpoint_state.specs.declared.fault.ChangeFault.{ChangeFault}
+use Rattle.endpoint_state.specs.Fault.{number_of}
+use Rattle.endpoint_core.specs.Counts.{most}
+use Rattle.endpoint_core.specs.Decision.{Sent}
+use Rattle.endpoint_core.specs.Step.{Answer, Decided, Replied}
+use Rattle.run_counts.specs.declared.flow.Flow.{Flow}
+
+-- ---- frames and octets
+
+-- frames or packets of these sizes
+abbrev pub flow_of : List ℕ → Flow
+flow_of sizes = record { frames = min most (length sizes); octets = min most (sum sizes) }
+
+-- equality as a test
+abbrev pub same_tap : Tap → Tap → Bool
+same_tap (Port p) (Port q) = p == q
+same_tap (Port p) Underlay = false
+same_tap Underlay (Port q) = false
+same_tap Underlay Underlay = true
+
+-- a size, where it is that of what passed here
+abbrev pub at_tap : Tap → Tap → ℕ → Option ℕ
+at_tap tap here size = if same_tap tap here then Some size else None
+
+-- ---- what came
+
+-- the octets that were captured of a frame or a packet, where it came from this place
+abbrev pub size_from : Tap → Happening → Option ℕ
+size_from tap (happenings.Change index) = None
+size_from tap (happenings.Record here captured) = at_tap tap here (length captured.octets)
+
+-- of all that came from a place, in order
+abbrev pub sizes_from : Tap → List Event → List ℕ
+sizes_from tap es = filter_map (λ (e : Event). size_from tap e.happening) es
+
+-- ---- what left
+
+-- where what is sent leaves: all remote endpoints are reached by the underlay
+abbrev pub tap_of : Place → Tap
+tap_of (Local port) = Port port
+tap_of (Remote kind addr) = Underlay
+
+-- the octets of an outcome, where it was sent and left here
+abbrev pub size_to : Tap → Sent → Option ℕ
+size_to tap o = elim o.sent [ Ok octets ↦ at_tap tap (tap_of o.place) (length octets) | Err reason ↦ None ]
+
+-- the outcomes of an answer
+abbrev pub outcomes_in : Answer → List Sent
+outcomes_in (Decided decision) = decision.outcomes
+outcomes_in (Replied fault) = []
+
+-- of all that left at a place, in order
+abbrev pub sizes_to : Tap → List Answer → List ℕ
+sizes_to tap given = filter_map (size_to tap) (flat_map outcomes_in given)
+
+-- ---- refused changes
+
+-- why a change was refused, where it was
+abbrev pub faults_in : Answer → List ChangeFault
+faults_in (Replied (Some fault)) = fault ∷ []
+faults_in (Replied None) = []
+faults_in (Decided decision) = []
+
+-- equality as a test
+abbrev pub same_fault : ChangeFault → ChangeFault → Bool
+same_fault f g = number_of f == number_of g
+
+-- how often a change was refused for a cause
+abbrev pub refusals : ChangeFault → List Answer → ℕ
+refusals fault given = min most (count_by (same_fault fault) (flat_map faults_in given))
+
+-- ---- all of it
+
+-- what came from each place, what left there, and the refused changes by their causes
+pub record Totals : Type 0 where
+  pub came : Tap → Flow
+  pub left : Tap → Flow
+  pub refused : ChangeFault → ℕ
+
+-- of these events and answers
+abbrev pub totals_of : List Event → List Answer → Totals
+totals_of es given = record {
+  came = λ tap. flow_of (sizes_from tap es);
+  left = λ tap. flow_of (sizes_to tap given);
+  refused = λ fault. refusals fault given;
+}

@@ -1,0 +1,214 @@
+//! The lines of a summary.
+ghost use Rattle.std.specs.Prelude.{◌≡◌, ◌++◌, OnOk, codes, string_bytes};
+ghost use Rattle.std.specs.List.{flat_map};
+ghost use Rattle.endpoint_core.specs.Kept.{state_of};
+ghost use Rattle.run_counts.specs.Keeping.{refusals_in};
+ghost use Rattle.run_counts.specs.Summary.{changes_text, dropped_line, flow_line, refused_line, segment_lines, segment_word, segments_text, sent_line};
+
+use crate::flow::Flow;
+use crate::refusals::{Refusals, refused_for};
+use endpoint_core::{ChangeFault, Endpoint};
+use frame_view::{Reason, Vid};
+use std::alloc::AllocError;
+use std::fmt::Write;
+use timeline::Tap;
+
+/// The reasons of drops, their numbers rising.
+const REASONS: [Reason; 40] = [
+    Reason::TooLong,
+    Reason::Sliced,
+    Reason::Runt,
+    Reason::PortDown,
+    Reason::BadSource,
+    Reason::Reserved,
+    Reason::CutTag,
+    Reason::BadVid,
+    Reason::FrameType,
+    Reason::NoSegment,
+    Reason::NotMember,
+    Reason::NotIp,
+    Reason::BadIp,
+    Reason::BadIpSum,
+    Reason::BadOuterSource,
+    Reason::NotForUs,
+    Reason::Fragment,
+    Reason::NotUdp,
+    Reason::BadUdp,
+    Reason::NotTunnel,
+    Reason::ZeroSum,
+    Reason::BadUdpSum,
+    Reason::ShortTunnel,
+    Reason::NoVniFlag,
+    Reason::BadVersion,
+    Reason::Control,
+    Reason::NotEthernet,
+    Reason::BadOptions,
+    Reason::CriticalOption,
+    Reason::UnknownVni,
+    Reason::WrongGroup,
+    Reason::UnknownPeer,
+    Reason::InnerRunt,
+    Reason::InnerTag,
+    Reason::SamePlace,
+    Reason::Horizon,
+    Reason::Unreachable,
+    Reason::NoOutlet,
+    Reason::TooBig,
+    Reason::InnerTagOut,
+];
+
+/// The causes for which changes are refused, their numbers rising.
+const CAUSES: [ChangeFault; 14] = [
+    ChangeFault::NoSegment,
+    ChangeFault::NoPort,
+    ChangeFault::AlreadyThere,
+    ChangeFault::NotThere,
+    ChangeFault::FloodFull,
+    ChangeFault::TableFull,
+    ChangeFault::GroupAddress,
+    ChangeFault::OutOfRange,
+    ChangeFault::NoFamily,
+    ChangeFault::OwnAddress,
+    ChangeFault::SegmentThere,
+    ChangeFault::PoolFull,
+    ChangeFault::SegmentsFull,
+    ChangeFault::NoTunnel,
+];
+
+/// Puts the lines of all segments, their VIDs rising, and then those of none.
+pub fn put_segments(text: &mut String, endpoint: &Endpoint) -> Result<(), AllocError>
+    ensures { OnOk result (string_bytes text.new ≡ string_bytes text.old ++ segments_text (state_of endpoint.now).counts) }
+{
+    for number in 1..4095 {
+        if let Some(vid) = Vid::new(number) {
+            put_segment(text, endpoint, &Some(vid))?;
+        }
+    }
+    put_segment(text, endpoint, &None)
+}
+
+/// Puts the lines of a segment, or of none.
+fn put_segment(
+    text: &mut String,
+    endpoint: &Endpoint,
+    segment: &Option<Vid>,
+) -> Result<(), AllocError>
+    ensures { OnOk result (string_bytes text.new ≡ string_bytes text.old ++ segment_lines (state_of endpoint.now).counts segment.now) }
+{
+    put_sent(text, endpoint, segment)?;
+    put_drops(text, endpoint, segment, &REASONS)
+}
+
+/// Puts what was dropped there, reason by reason.
+fn put_drops(
+    text: &mut String,
+    endpoint: &Endpoint,
+    segment: &Option<Vid>,
+    reasons: &[Reason],
+) -> Result<(), AllocError>
+    ensures { OnOk result (string_bytes text.new ≡ string_bytes text.old ++ flat_map (dropped_line (state_of endpoint.now).counts segment.now) reasons.now) }
+{
+    for reason in reasons {
+        put_dropped(text, endpoint, segment, *reason)?;
+    }
+    Ok(())
+}
+
+/// Puts what was sent in a segment, or in none.
+#[tactic(auto, unfolding(crate::specs::Summary::sent_line, crate::specs::Summary::count_line))]
+fn put_sent(text: &mut String, endpoint: &Endpoint, segment: &Option<Vid>) -> Result<(), AllocError>
+    ensures { OnOk result (string_bytes text.new ≡ string_bytes text.old ++ sent_line (state_of endpoint.now).counts segment.now) }
+{
+    let count = endpoint.count(*segment, 0);
+    if count == 0 {
+        return Ok(());
+    }
+    put_front(text, segment)?;
+    writeln!(text, "sent {count}")
+}
+
+/// Puts what was dropped there for a reason, or not sent for it.
+#[tactic(auto, unfolding(crate::specs::Summary::dropped_line, crate::specs::Summary::count_line))]
+fn put_dropped(
+    text: &mut String,
+    endpoint: &Endpoint,
+    segment: &Option<Vid>,
+    reason: Reason,
+) -> Result<(), AllocError>
+    ensures { OnOk result (string_bytes text.new ≡ string_bytes text.old ++ dropped_line (state_of endpoint.now).counts segment.now reason) }
+{
+    let number = reason.number();
+    let count = endpoint.count(*segment, number);
+    if count == 0 {
+        return Ok(());
+    }
+    let name = reason.name();
+    put_front(text, segment)?;
+    writeln!(text, "dropped {number} {name} {count}")
+}
+
+/// Puts the words in front of a segment's count.
+fn put_front(text: &mut String, segment: &Option<Vid>) -> Result<(), AllocError>
+    ensures { OnOk result (string_bytes text.new ≡ string_bytes text.old ++ (codes "segment " ++ segment_word segment.now ++ codes " ")) }
+{
+    match segment {
+        None => text.push_str("segment none "),
+        Some(vid) => {
+            let number = vid.get();
+            write!(text, "segment {number} ")
+        }
+    }
+}
+
+/// Puts the lines of the refused changes, by their causes.
+pub fn put_changes(text: &mut String, refusals: &Refusals) -> Result<(), AllocError>
+    ensures { OnOk result (string_bytes text.new ≡ string_bytes text.old ++ changes_text (refusals_in refusals.now)) }
+{
+    put_causes(text, refusals, &CAUSES)
+}
+
+/// Puts how often changes were refused, cause by cause.
+fn put_causes(
+    text: &mut String,
+    refusals: &Refusals,
+    causes: &[ChangeFault],
+) -> Result<(), AllocError>
+    ensures { OnOk result (string_bytes text.new ≡ string_bytes text.old ++ flat_map (refused_line (refusals_in refusals.now)) causes.now) }
+{
+    for cause in causes {
+        put_refused(text, refusals, *cause)?;
+    }
+    Ok(())
+}
+
+/// Puts how often changes were refused for a cause.
+#[tactic(auto, unfolding(crate::specs::Summary::refused_line, crate::specs::Summary::count_line))]
+fn put_refused(text: &mut String, refusals: &Refusals, cause: ChangeFault) -> Result<(), AllocError>
+    ensures { OnOk result (string_bytes text.new ≡ string_bytes text.old ++ refused_line (refusals_in refusals.now) cause) }
+{
+    let count = refused_for(refusals, cause);
+    if count == 0 {
+        return Ok(());
+    }
+    let number = cause.number();
+    let name = cause.name();
+    writeln!(text, "change refused {number} {name} {count}")
+}
+
+/// Puts the lines of a place: what came from there, and what left.
+pub fn put_place(text: &mut String, tap: Tap, came: Flow, left: Flow) -> Result<(), AllocError>
+    ensures { OnOk result (string_bytes text.new ≡ string_bytes text.old ++ (flow_line tap (codes "in") came ++ flow_line tap (codes "out") left)) }
+{
+    put_flow(text, tap, "in", came)?;
+    put_flow(text, tap, "out", left)
+}
+
+/// Puts what passed at a place in one direction.
+#[tactic(auto, unfolding(crate::specs::Summary::flow_line))]
+fn put_flow(text: &mut String, tap: Tap, direction: &str, flow: Flow) -> Result<(), AllocError>
+    ensures { OnOk result (string_bytes text.new ≡ string_bytes text.old ++ flow_line tap direction.now flow) }
+{
+    let frames = flow.frames;
+    let octets = flow.octets;
+    writeln!(text, "place {tap} {direction} {frames} {octets}")
+}

@@ -1,0 +1,216 @@
+//! What a run counts.
+ghost use Rattle.std.specs.Prelude.{◌≡◌, ◌++◌, [], IfOk, IsSome, IsTrue, List, ℕ, OnOk, false, length, map, string_bytes};
+ghost use Rattle.std.specs.List.{filter_map, list_all};
+ghost use Rattle.timeline.specs.declared.source.Tap.{Tap as ATap};
+ghost use Rattle.frame_view.specs.First.{fault_of};
+ghost use Rattle.endpoint_core.specs.Course.{CanLeave, IsThere, decision_of};
+ghost use Rattle.endpoint_core.specs.Kept.{state_of};
+ghost use Rattle.endpoint_core.specs.Step.{Decided, Replied, sent_at};
+ghost use Rattle.endpoint_state.specs.Settings.{segment_at};
+ghost use Rattle.endpoint_state.specs.Step.{can_leave};
+ghost use Rattle.run_counts.specs.Keeping.{Hears, flow_in, totals_in};
+ghost use Rattle.run_counts.specs.Summary.{counts_text, cuts_text, places_text};
+ghost use Rattle.decision_lines.specs.Lines.{cut_line};
+ghost use Rattle.run_counts.specs.Totals.{flow_of, size_to, tap_of, totals_of};
+
+use crate::flow::{Flow, Flows};
+use crate::lines::{put_changes, put_place, put_segments};
+use crate::refusals::{Refusals, add_refusal, none_refused};
+use encapsulate::Head;
+use endpoint_core::{Came, ChangeFault, Course, Endpoint};
+use filter_db::Place;
+use std::alloc::{AllocError, Global};
+use std::fmt::Write;
+use std::marker::Model;
+use stream_run::Watch;
+use timeline::{Event, Happening, Tap};
+
+/// What a run counts, seen by contracts as its counters and its text. It looks on while the run goes, and asks for no memory
+/// before the run's end. Each count ends at 2^64 - 1.
+#[derive(Drop)]
+pub struct RunCounts {
+    alloc: Global,
+    came: Flows,
+    left: Flows,
+    refused: Refusals,
+    /// What is lent to each emission, which is only measured.
+    head: Head,
+    text: String,
+    is_lost: bool,
+}
+
+impl Model for RunCounts {
+    ghost use Rattle.std.specs.Prelude.{string_bytes};
+    ghost use Rattle.run_counts.specs.Keeping.{Keeping};
+
+    ghost Value = { Keeping };
+
+    ghost view = { λ c. record { came = c.came; left = c.left; refused = c.refused; text = string_bytes c.text; is_lost = c.is_lost } };
+}
+
+impl RunCounts {
+    /// Nothing is counted yet.
+    pub fn new(alloc: Global) -> RunCounts
+        ensures counts { totals_in result ≡ totals_of [] [] }
+        ensures text { result.text ≡ [] }
+        ensures kept { result.is_lost ≡ false }
+    {
+        RunCounts {
+            alloc,
+            came: Flows::none(),
+            left: Flows::none(),
+            refused: none_refused(),
+            head: Head::new(),
+            text: String::new(alloc),
+            is_lost: false,
+        }
+    }
+
+    /// The frames or packets that came from a place.
+    pub fn came(&self, tap: Tap) -> Flow
+        ensures { result ≡ (totals_in self.now).came tap }
+    {
+        self.came.at(tap)
+    }
+
+    /// The frames or packets that left at a place.
+    pub fn left(&self, tap: Tap) -> Flow
+        ensures { result ≡ (totals_in self.now).left tap }
+    {
+        self.left.at(tap)
+    }
+
+    /// The summary of a run that is over, where the captures of these places are cut: what its end left, and a line for each
+    /// cut capture. Before the end there are only the latter. `AllocError`: memory is refused, or was at the end.
+    pub fn into_text(self, cut: &[Tap]) -> Result<Vec<u8>, AllocError>
+        ensures text { IfOk result (λ text. text.items ≡ self.text ++ cuts_text (totals_in self) cut.now) }
+        ensures whole { OnOk result (self.is_lost ≡ false) }
+    {
+        if self.is_lost {
+            return Err(AllocError);
+        }
+        let RunCounts { came, mut text, .. } = self;
+        for tap in cut {
+            put_cut(&mut text, *tap, came.at(*tap).frames)?;
+        }
+        Ok(text.into_bytes())
+    }
+}
+
+impl Watch for RunCounts {
+    ghost use Rattle.run_counts.specs.Keeping.{Ends, Expects, Sees};
+
+    ghost sees = { Sees };
+
+    ghost expects = { Expects };
+
+    ghost ends = { Ends };
+
+    fn see(&mut self, _endpoint: &Endpoint, _number: u64, event: &Event) {
+        if let Happening::Record(tap, captured) = &event.happening {
+            self.came.add(*tap, captured.octets.len());
+        }
+    }
+
+    fn hear_decision(&mut self, endpoint: &Endpoint, course: &Course, places: &[Place]) {
+        self.count_decision(endpoint, course, places);
+    }
+
+    fn hear_reply(&mut self, reply: Result<(), ChangeFault>) {
+        self.count_reply(reply);
+    }
+
+    fn end(&mut self, endpoint: &Endpoint) {
+        match self.told(endpoint) {
+            Ok(text) => self.text = text,
+            Err(_) => self.is_lost = true,
+        }
+    }
+}
+
+impl RunCounts {
+    /// Counts what leaves of a frame or a packet.
+    fn count_decision(&mut self, endpoint: &Endpoint, course: &Course, places: &[Place])
+        requires there { IsThere (state_of endpoint.now).bridges.settings course.now }
+        requires leave { CanLeave (state_of endpoint.now).bridges.settings course.now places.now }
+        ensures { Hears self.old (Decided (decision_of (state_of endpoint.now).bridges.settings course.now places.now)) self.new }
+    {
+        if let Course::Leaves(came) = course {
+            add_leaving(&mut self.left, &mut self.head, endpoint, came, places);
+        }
+    }
+
+    /// Counts a change, where it was refused.
+    fn count_reply(&mut self, reply: Result<(), ChangeFault>)
+        ensures { Hears self.old (Replied (fault_of reply)) self.new }
+    {
+        if let Err(fault) = reply {
+            add_refusal(&mut self.refused, fault);
+        }
+    }
+
+    /// The text of the counts, but for cut captures, as the endpoint stands.
+    fn told(&self, endpoint: &Endpoint) -> Result<String, AllocError>
+        ensures { IfOk result (λ text. string_bytes text ≡ counts_text (state_of endpoint.now).counts (length (state_of endpoint.now).bridges.settings.ports.ports) (totals_in self.now)) }
+    {
+        let mut text = String::new(self.alloc);
+        put_segments(&mut text, endpoint)?;
+        put_changes(&mut text, &self.refused)?;
+        self.put_places(&mut text, endpoint.ports())?;
+        Ok(text)
+    }
+
+    /// Puts the lines of the places: so many ports, rising, and the underlay.
+    fn put_places(&self, text: &mut String, ports: u8) -> Result<(), AllocError>
+        ensures { OnOk result (string_bytes text.new ≡ string_bytes text.old ++ places_text (totals_in self.now) ports) }
+    {
+        for index in 0..ports {
+            let tap = Tap::Port(index + 1);
+            put_place(text, tap, self.came(tap), self.left(tap))?;
+        }
+        put_place(
+            text,
+            Tap::Underlay,
+            self.came(Tap::Underlay),
+            self.left(Tap::Underlay),
+        )
+    }
+}
+
+/// Counts what leaves of a frame at each of these places.
+fn add_leaving(
+    flows: &mut Flows,
+    head: &mut Head,
+    endpoint: &Endpoint,
+    came: &Came,
+    places: &[Place],
+)
+    requires there { IsSome (segment_at (state_of endpoint.now).bridges.settings came.now.vid) }
+    requires leave { IsTrue (list_all (can_leave (state_of endpoint.now).bridges.settings came.now.vid) places.now) }
+    ensures { let S = (state_of endpoint.now).bridges.settings in
+        (tap : ATap) (sizes : List ℕ) → flow_in flows.old tap ≡ flow_of sizes
+        → flow_in flows.new tap ≡ flow_of (sizes ++ filter_map (size_to tap) (map (sent_at S came.now.vid came.now.frame) places.now)) }
+{
+    for place in places {
+        if let Ok(leaving) = endpoint.emit(came, *place, head) {
+            flows.add(tap_of(*place), leaving.len());
+        }
+    }
+}
+
+/// Where what is sent to a place leaves.
+fn tap_of(place: Place) -> Tap
+    ensures { result ≡ tap_of place }
+{
+    match place {
+        Place::Local(port) => Tap::Port(port),
+        Place::Remote(..) => Tap::Underlay,
+    }
+}
+
+/// Puts the line of a capture that is cut behind so many whole records.
+fn put_cut(text: &mut String, tap: Tap, whole: u64) -> Result<(), AllocError>
+    ensures { OnOk result (string_bytes text.new ≡ string_bytes text.old ++ cut_line (record { tap = tap; whole = whole })) }
+{
+    writeln!(text, "cut {tap} {whole}")
+}

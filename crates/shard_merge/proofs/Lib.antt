@@ -1,0 +1,9 @@
+mod Sorting
+mod Copying
+mod Moving
+mod CopiedRecords
+mod Lining
+mod Ending
+mod Finishing
+mod Merging
+mod WholeTexts

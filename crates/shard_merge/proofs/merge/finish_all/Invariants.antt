@@ -1,0 +1,13 @@
+use Rattle.std.proofs.Common.{◌≡◌, ◌≤◌, ℕ, List, length, slice_index_or}
+use Rattle.shard_merge.specs.Coming.{Shard}
+use Rattle.shard_merge.specs.Whole.{OnlyCuts}
+use Rattle.shard_merge.proofs.Finishing.{CutsBefore}
+use Rattle.shard_merge.proofs.merge.finish_all.Given as goal
+
+-- those in front are finished, and the others are as before
+abbrev pub invariant-loop-index : goal.invariant-loop-index
+invariant-loop-index g l = record {
+  others : (s : Shard) (k : ℕ) → l.index ≤ k → slice_index_or l.parts k s ≡ slice_index_or l.initial.parts k s;
+  same : length l.parts ≡ length l.initial.parts;
+  added : (cuts : List (List (List ℕ))) → OnlyCuts l.count cuts l.initial.parts → CutsBefore cuts l.index (g.W.Output.written l.initial.decisions) (g.W.Output.written l.decisions);
+}

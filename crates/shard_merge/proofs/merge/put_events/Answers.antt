@@ -1,0 +1,74 @@
+use Rattle.std.proofs.Common.{◌∙◌, List, [], None, refl, sym, subst, length, slice_index_or, arith}
+use Rattle.pcap_stream.specs.Source.{New, Stream}
+use Rattle.shard_merge.specs.Coming.{Shard}
+use Rattle.shard_merge.specs.Merged.{merged}
+use Rattle.shard_merge.specs.Whole.{HaveAll}
+use Rattle.shard_merge.specs.declared.part.Coming.TheVariants as coming
+use Rattle.shard_merge.proofs.Merging.{MergedSoFar, above_last, all_merged, counts_set, next_piece, none_merged_yet, one_merged}
+use Rattle.shard_merge.proofs.merge.put_events.Goals as goal
+
+-- a part of nothing, for places where there is none
+fresh : Shard
+fresh = record { reader = record { line = []; rest = None; failures = 0 }; ports = []; underlay = nothing; coming = coming.Nothing }
+  where
+    nothing : Stream
+    nothing = record { standing = New; supply = record { rest = None; calls = 0; failures = 0; ends = 0; reads = 0 } }
+
+pub loop-first-init : goal.loop-first-init
+loop-first-init g c = record {
+  counts = c.requires;
+  sinks = refl;
+  fits = omega arith;
+  events = λ pieces cuts holds rise above. none_merged_yet (length c.args.port_sinks.now) pieces cuts c.args.parts.now c.args.port_sinks.now c.args.underlay_sink.now (g.W.Output.written c.args.decisions.now) holds rise above;
+}
+
+pub returns-then-first-last-clause-events : goal.returns-then-first-last-clause-events
+returns-then-first-last-clause-events g c = λ pieces cuts holds rise above.
+    let so_far = c.loop-first.invariant.events pieces cuts holds rise above in
+    let next = next_piece (length c.args.port_sinks.now) so_far.left cuts c.loop-first.parts c.in-Some.first fresh so_far.holds so_far.rise c.in-Some.ensures in
+    absurd (omega (arith, c.if-first-last.true, (above_last (length c.args.port_sinks.now) so_far.left cuts c.loop-first.parts c.in-Some.first c.loop-first.last next so_far.above).0))
+
+pub put_at-requires-clause-there : goal.put_at-requires-clause-there
+put_at-requires-clause-there g c = c.in-Some.ensures.there
+
+pub put_at-requires-clause-count : goal.put_at-requires-clause-count
+put_at-requires-clause-count g c = λ s. c.loop-first.invariant.sinks ∙ sym (c.loop-first.invariant.counts s c.in-Some.first.index c.in-Some.ensures.there)
+
+pub returns-in-Err-clause-counts : goal.returns-in-Err-clause-counts
+returns-in-Err-clause-counts g c =
+    let put = c.in-Err.ensures fresh in
+    subst (HaveAll (length c.args.port_sinks.now)) (sym put.changed)
+    (counts_set (length c.args.port_sinks.now) c.loop-first.parts c.in-Some.first.index put.behind_it c.in-Some.ensures.there c.loop-first.invariant.counts
+    (put.count ∙ c.loop-first.invariant.counts fresh c.in-Some.first.index c.in-Some.ensures.there))
+
+pub returns-in-Err-clause-events : goal.returns-in-Err-clause-events
+returns-in-Err-clause-events g c = λ pieces cuts holds rise above.
+    let so_far = c.loop-first.invariant.events pieces cuts holds rise above in
+    let next = next_piece (length c.args.port_sinks.now) so_far.left cuts c.loop-first.parts c.in-Some.first fresh so_far.holds so_far.rise c.in-Some.ensures in
+    let put = c.in-Err.ensures fresh in
+    put.event (length c.args.port_sinks.now) next.p next.behind (slice_index_or cuts c.in-Some.first.index []) (next.holds fresh)
+
+pub loop-first-preserved : goal.loop-first-preserved
+loop-first-preserved g c =
+    let put = c.in_default-put_at.ensures fresh in
+    record {
+      counts = subst (HaveAll (length c.args.port_sinks.now)) (sym put.changed)
+          (counts_set (length c.args.port_sinks.now) c.loop-first.parts c.in-Some.first.index put.behind_it c.in-Some.ensures.there c.loop-first.invariant.counts
+          (put.count ∙ c.loop-first.invariant.counts fresh c.in-Some.first.index c.in-Some.ensures.there));
+      sinks = omega (arith, c.loop-first.invariant.sinks, c.put_at.auto.port_sinks);
+      fits = omega arith;
+      events = λ pieces cuts holds rise above.
+          let so_far = c.loop-first.invariant.events pieces cuts holds rise above in
+          let next = next_piece (length c.args.port_sinks.now) so_far.left cuts c.loop-first.parts c.in-Some.first fresh so_far.holds so_far.rise c.in-Some.ensures in
+          let done = put.event (length c.args.port_sinks.now) next.p next.behind (slice_index_or cuts c.in-Some.first.index []) (next.holds fresh) in
+          subst (λ (l : List Shard). MergedSoFar (length c.args.port_sinks.now) (merged pieces) cuts c.in-Some.first.number l c.args.port_sinks.now c.args.underlay_sink.now (g.W.Output.written c.args.decisions.now) c.put_at.new.port_sinks c.put_at.new.underlay_sink (g.W.Output.written c.put_at.new.decisions)) (sym put.changed)
+          (one_merged (length c.args.port_sinks.now) (merged pieces) cuts c.loop-first.last c.loop-first.parts c.in-Some.first put.behind_it c.args.port_sinks.now c.args.underlay_sink.now (g.W.Output.written c.args.decisions.now)
+          c.loop-first.port_sinks c.loop-first.underlay_sink (g.W.Output.written c.loop-first.decisions) c.put_at.new.port_sinks c.put_at.new.underlay_sink (g.W.Output.written c.put_at.new.decisions)
+          so_far next c.in-Some.ensures.there c.loop-first.invariant.sinks done.0 done.1 done.2);
+    }
+
+pub returns-clause-events : goal.returns-clause-events
+returns-clause-events g c = λ pieces cuts holds rise above.
+    let so_far = c.loop-first.invariant.events pieces cuts holds rise above in
+    all_merged (length c.args.port_sinks.now) (merged pieces) cuts c.loop-first.last c.loop-first.parts fresh c.args.port_sinks.now c.args.underlay_sink.now (g.W.Output.written c.args.decisions.now) c.loop-first.port_sinks c.loop-first.underlay_sink (g.W.Output.written c.loop-first.decisions)
+    so_far c.in_default.ensures

@@ -1,0 +1,21 @@
+use Rattle.std.proofs.Common.{◌≡◌, ◌∙◌, ◌++◌, rules, sym, ap, subst, ℕ, List, length, Ok}
+use Rattle.std.proofs.lemmas.List.{with_items_is, places}
+use Rattle.pcap_stream.specs.Source.{Stream}
+use Rattle.shard_lines.specs.Facts.{facts_of}
+use Rattle.shard_lines.specs.declared.facts.LineFacts.TheVariants.{Event}
+use Rattle.shard_merge.specs.Coming.{Shard}
+use Rattle.shard_merge.specs.Left.{AreLeft}
+use Rattle.shard_merge.specs.Merged.{records_at}
+use Rattle.shard_merge.specs.Moved.{AreRecords, taps}
+use Rattle.shard_merge.proofs.part.Part.copy_records.Goals as goal
+
+pub returns-clause-copied : goal.returns-clause-copied
+returns-clause-copied g c = λ number records rest told sound left.
+    let line = c.line.ensures.line ∙ ap (λ (s : Shard). s.reader.line) c.self.view_is in
+    let ports = c.as_mut_slice.ensures.value ∙ ap (λ (s : Shard). s.ports) c.self.view_is in
+    let underlay = ap (λ (s : Shard). s.underlay) c.self.view_is in
+    let told_here = subst (λ (l : List ℕ). facts_of l ≡ Ok (Event number (taps records))) (sym line) told in
+    let sound_here = subst (λ (l : List Stream). AreRecords (length l) records) (sym ports) sound in
+    let left_here = subst (λ (l : List Stream). AreLeft (λ t. records_at t records ++ rest t) l c.self.inside.underlay) (sym ports)
+    (subst (λ (u : Stream). AreLeft (λ t. records_at t records ++ rest t) c.args.self.now.ports u) (sym underlay) left) in
+    rw (with_items_is c.self.inside.ports c.copy_event.new.ports (search (rules, places))) (c.copy_event.ensures number records rest told_here sound_here left_here)

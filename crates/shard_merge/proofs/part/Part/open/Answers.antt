@@ -1,0 +1,22 @@
+use Rattle.shard_merge.specs.Coming.{HoldsAll, Shard, StandBehind}
+use Rattle.std.proofs.Common.{ℕ, List}
+use Rattle.line_stream.specs.Lines.{Reader}
+use Rattle.pcap_stream.specs.Source.{Stream}
+use Rattle.shard_merge.specs.Merged.{Piece}
+use Rattle.shard_merge.specs.declared.part.Coming.TheVariants as coming
+use Rattle.shard_merge.proofs.Lining.{holds_on}
+use Rattle.shard_merge.proofs.part.Part.open.Goals as goal
+
+stands : (count : ℕ) (pieces : List Piece) (cuts : List (List ℕ)) (lines : Reader) (ports : List Stream) (underlay : Stream) → HoldsAll count pieces cuts lines ports underlay
+    → StandBehind count pieces cuts (record { reader = lines; ports = ports; underlay = underlay; coming = coming.Nothing })
+stands count pieces cuts lines ports underlay all = record { texts = all.texts; rest = all.rest; late = λ e. absurd cc }
+
+pub returns-in-Ok : goal.returns-in-Ok
+returns-in-Ok g c = λ count pieces cuts all.
+    let s : Shard = record { reader = c.args.lines; ports = c.args.ports.items; underlay = c.args.underlay; coming = coming.Nothing } in
+    holds_on count pieces cuts s c.next.new.self all.texts all.few all.many all.left c.in-Ok.ensures.ports c.in-Ok.ensures.underlay
+    (c.in-Ok.ensures.next count pieces cuts (stands count pieces cuts c.args.lines c.args.ports.items c.args.underlay all))
+
+pub returns-in-Err : goal.returns-in-Err
+returns-in-Err g c = λ count pieces cuts all.
+    c.in-Err.ensures.next count pieces cuts (stands count pieces cuts c.args.lines c.args.ports.items c.args.underlay all)

@@ -1,0 +1,38 @@
+use Rattle.std.proofs.Common.{◌≡◌, ◌∙◌, [], true, false, length, ap, sym, refl, arith}
+use Rattle.shard_merge.specs.Coming.{is_over}
+use Rattle.shard_merge.proofs.Ending.{all_put, another, never_too_many, none_put, one_put}
+use Rattle.shard_merge.proofs.Lining.{over_cut, over_none}
+use Rattle.shard_merge.proofs.part.Part.put_cuts.Goals as goal
+
+pub loop-count-init : goal.loop-count-init
+loop-count-init g c = record { ports = refl; cuts = λ count cuts holds. none_put count cuts c.args.self.now (g.W.Output.written c.args.decisions.now) holds }
+
+pub returns-then-is_over-clause-cuts : goal.returns-then-is_over-clause-cuts
+returns-then-is_over-clause-cuts g c = λ count cuts holds.
+    let so_far = c.loop-count.invariant.cuts count cuts holds in
+    let over : is_over c.loop-count.self.coming ≡ true = ap is_over (sym c.coming.ensures) ∙ sym c.is_over.ensures ∙ c.if-is_over.true in
+    all_put count cuts c.loop-count._count c.loop-count.self (g.W.Output.written c.args.decisions.now) (g.W.Output.written c.loop-count.decisions) so_far (over_none c.loop-count.self.coming over)
+
+pub returns-in-Err-clause-cuts : goal.returns-in-Err-clause-cuts
+returns-in-Err-clause-cuts g c = λ count cuts holds.
+    let so_far = c.loop-count.invariant.cuts count cuts holds in
+    let over : is_over c.loop-count.self.coming ≡ false = ap is_over (sym c.coming.ensures) ∙ sym c.is_over.ensures ∙ c.if-is_over.false in
+    let more = another count so_far.others c.loop-count.self so_far.holds (over_cut c.loop-count.self.coming over) in
+    c.in-Err.ensures.line count [] more.behind more.stand
+
+pub loop-count-preserved : goal.loop-count-preserved
+loop-count-preserved g c = record {
+  ports = ap length c.in_default.ensures.ports ∙ c.loop-count.invariant.ports;
+  cuts = λ count cuts holds.
+      let so_far = c.loop-count.invariant.cuts count cuts holds in
+      let over : is_over c.loop-count.self.coming ≡ false = ap is_over (sym c.coming.ensures) ∙ sym c.is_over.ensures ∙ c.if-is_over.false in
+      let more = another count so_far.others c.loop-count.self so_far.holds (over_cut c.loop-count.self.coming over) in
+      let next = c.in_default.ensures.line count [] more.behind more.stand in
+      one_put count cuts c.loop-count._count c.loop-count.self c.put_next_line.new.self (g.W.Output.written c.args.decisions.now) (g.W.Output.written c.loop-count.decisions) (g.W.Output.written c.put_next_line.new.decisions)
+      so_far more c.in_default.ensures.ports c.in_default.ensures.underlay next.0 next.1;
+}
+
+pub returns-clause-cuts : goal.returns-clause-cuts
+returns-clause-cuts g c = λ count cuts holds.
+    let so_far = c.loop-count.invariant.cuts count cuts holds in
+    never_too_many count cuts c.loop-count._count c.loop-count.self (g.W.Output.written c.args.decisions.now) (g.W.Output.written c.loop-count.decisions) so_far holds.few (omega (arith, c.loop-count-test.false, c.loop-count.auto._count-end))

@@ -1,0 +1,11 @@
+use Rattle.std.proofs.Common.{◌≡◌, ℕ, List, [], length}
+use Rattle.shard_merge.specs.Coming.{Holds}
+use Rattle.shard_merge.proofs.Ending.{CutsSoFar}
+use Rattle.shard_merge.proofs.part.Part.put_cuts.Given as goal
+
+-- some lines were put, and the others are left
+abbrev pub invariant-loop-count : goal.invariant-loop-count
+invariant-loop-count g l = record {
+  ports : length l.self.ports ≡ length l.initial.self.ports;
+  cuts : (count : ℕ) (cuts : List (List ℕ)) → Holds count [] cuts l.initial.self → CutsSoFar count cuts l._count l.self (g.W.Output.written l.initial.decisions) (g.W.Output.written l.decisions);
+}

@@ -1,0 +1,30 @@
+use Rattle.std.proofs.Common.{◌∙◌, sym, ap, subst, ℕ}
+use Rattle.std.specs.Io.KnownBytes.{Appends}
+use Rattle.line_stream.specs.Lines.{Reader}
+use Rattle.shard_lines.specs.Facts.{facts_of}
+use Rattle.shard_merge.specs.Coming.{ComesNext}
+use Rattle.shard_merge.specs.Merged.{capture_at}
+use Rattle.shard_merge.specs.Moved.{AreRecords}
+use Rattle.shard_merge.proofs.Lining.{behind_event, holds_on, unless}
+use Rattle.shard_merge.proofs.part.Part.put_event.Goals as goal
+
+pub returns-in-Err-clause-event : goal.returns-in-Err-clause-event
+returns-in-Err-clause-event g c = λ count p ps cuts holds.
+    c.in-Err.ensures.copied p.number p.records (λ t. capture_at t ps) (ap facts_of holds.next.line ∙ holds.texts.of_events.0.told)
+    (subst (λ (n : ℕ). AreRecords n p.records) (sym holds.many) holds.texts.of_events.0.records) holds.left
+
+pub returns-clause-event : goal.returns-clause-event
+returns-clause-event g c = λ count p ps cuts holds.
+    let moved = c.in_default.ensures.copied p.number p.records (λ t. capture_at t ps) (ap facts_of holds.next.line ∙ holds.texts.of_events.0.told)
+    (subst (λ (n : ℕ). AreRecords n p.records) (sym holds.many) holds.texts.of_events.0.records) holds.left in
+    let old = c.args.self.now in
+    let mid = c.copy_records.new.self in
+    let stand = behind_event count p ps cuts old mid holds c.in_default.ensures.reader c.in_default.ensures.coming in
+    let line = ap (λ (r : Reader). r.line) c.in_default.ensures.reader ∙ holds.next.line in
+    unless (ComesNext ps cuts c.put_next_line.new.self × Appends (g.W.Output.written c.args.decisions.now) (g.W.Output.written c.put_next_line.new.decisions) mid.reader.line) _ c.put_next_line.result
+    (λ h. (
+      holds_on count ps cuts mid c.put_next_line.new.self stand.texts holds.few (c.in_default.ensures.ports ∙ holds.many) moved.0 c.put_next_line.ensures.ports c.put_next_line.ensures.underlay h.0,
+      moved.1,
+      subst (Appends (g.W.Output.written c.args.decisions.now) (g.W.Output.written c.put_next_line.new.decisions)) line h.1,
+    ))
+    (c.put_next_line.ensures.line count ps cuts stand)

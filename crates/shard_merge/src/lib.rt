@@ -1,0 +1,24 @@
+//! The outputs of a run's parts put together: files in, files out, over streams.
+//!
+//! A run can be cut into parts, each of which decides the events of some segments and writes their decision lines and
+//! records alone. [`merge_streams`] makes of the parts' outputs those of the whole run: decision lines in order of event
+//! numbers, and of each capture the records in the order that the lines tell. A [`Part`] lends the lines of a part one by
+//! one and holds its [`Capture`]s; a record is copied as it stands there, and nothing is decided again. Each capture of
+//! each part has room for one record, 262,144 octets, and each part's lines have room for one, 4,096 octets: 64 parts of 17
+//! captures take 272 MiB.
+//!
+//! A record of a part is written as a run writes it, little-endian and in nanoseconds, also where its capture is of another
+//! style; one that holds only a front of its frame is a fault.
+#![tactic(auto)]
+
+mod capture;
+mod fault;
+mod first;
+mod merge;
+mod part;
+mod records;
+
+pub use capture::Capture;
+pub use fault::{MergeFault, PartFault, RecordsFault, Target};
+pub use merge::merge_streams;
+pub use part::Part;

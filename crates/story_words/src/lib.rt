@@ -1,0 +1,15 @@
+//! What stories are made of: words, the values among them, and the front of the decision line with which each ends.
+//!
+//! Each function puts its text behind what stands in a `String` already, or answers a word. `AllocError` says that there was
+//! no room for it.
+#![tactic(auto)]
+
+mod front;
+mod words;
+
+pub use front::put_line_front;
+pub use words::{
+    bit_word, destination_word, egress_word, group_word, listed_word, member_word, origin_word,
+    other_word, put_at, put_behind_place, put_hop, put_listed, put_mac, put_name, put_stood,
+    receiver_word, sum_word, tagged_word, takes_word, tunnel_word, up_word,
+};

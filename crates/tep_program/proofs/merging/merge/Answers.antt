@@ -1,0 +1,7 @@
+use Rattle.std.proofs.Common.{arith, ap, length}
+use Rattle.tep_program.proofs.merging.merge.Goals as goal
+
+pub merge_streams-merged-requires : goal.merge_streams-merged-requires
+merge_streams-merged-requires g c = record {
+  few = omega (arith, ap length c.as_mut_slice-2.ensures.value, c.in_ok-outputs.ensures, c.in_ok-opened.ensures, c.at_most_ports-count.ensures);
+}

@@ -1,0 +1,207 @@
+//! Parts of a run: some of its segments, and what they were made from.
+use crate::inputs::{CAPTURE_READS, open_named};
+use crate::names::Names;
+use crate::outputs::path_of;
+use crate::runs::{Done, Scope, Texts, run_on_files, tap_of};
+use arrayvec::ArrayVec;
+use dissector::{Failure, OutputFile, ShardFailure};
+use line_stream::{Lines, LinesFault};
+use pcap_stream::StdInput;
+use segment_set::SegmentSet;
+use sha2::{Digest, Sha256};
+use shard_lines::{LineFacts, read_line};
+use shard_merge::PartFault;
+use shard_record::{DigestInput, MOST_PORTS, ShardRecord, text_of};
+use std::alloc::{AllocError, Global};
+use std::fs;
+use std::io::{BufReader, Input, Write};
+use std::rt::Files;
+use stream_run::Watch;
+use timeline::Tap;
+
+/// How many octets of a part's file are read at once.
+const PART_BLOCK: usize = 16_384;
+
+/// The octets of a part's file, read in blocks.
+pub type PartInput<F> = StdInput<BufReader<F>>;
+
+/// Runs the segments of a list on captures, and writes what comes out of them into a folder, and last what they were made
+/// from. It answers the captures of which the rest is cut and is told, which stand in the part that has what comes to no
+/// segment.
+///
+/// The captures are read a second time for their digests, so that each has to be a regular file.
+pub fn run_part<'a, R: Files + Input + AllocGlobal, T: Watch>(
+    rt: &R,
+    names: Names<'_, 'a>,
+    texts: &Texts,
+    folder: &str,
+    list: &'a str,
+    watch: &mut T,
+) -> Result<Vec<Tap>, Failure<'a>> {
+    let segments = match SegmentSet::parse(list) {
+        Ok(segments) => segments,
+        Err(fault) => return Err(Failure::Segments(fault)),
+    };
+    if let Some(name) = names.first_that_flows(rt) {
+        return Err(Failure::NotFile(name));
+    }
+    let Done { cut, shard } = match run_on_files(
+        rt,
+        names,
+        texts,
+        folder,
+        Scope::Part(&segments),
+        watch,
+    ) {
+        Ok(done) => done,
+        Err(failure) => return Err(failure),
+    };
+    let events = match count_events(rt, folder) {
+        Ok(events) => events,
+        Err(Failure::Run(fault)) => return Err(Failure::Run(fault)),
+        Err(_) => return Err(Failure::Write(OutputFile::Decisions)),
+    };
+    let made = match record_of_part(rt, names, texts, list, events) {
+        Ok(made) => made,
+        Err(failure) => return Err(failure),
+    };
+    let text = text_of(rt.alloc(), &made)?;
+    if let Some(file) = shard {
+        write_shard(file, text.as_slice())?;
+    }
+    Ok(if segments.has(None) {
+        cut
+    } else {
+        Vec::new(rt.alloc())
+    })
+}
+
+/// Writes what a part was made from.
+fn write_shard<F: Write + Drop>(file: F, text: &[u8]) -> Result<(), Failure<'static>> {
+    let mut file = file;
+    match file.write_all(text) {
+        Ok(()) => Ok(()),
+        Err(_) => Err(Failure::Write(OutputFile::Shard)),
+    }
+}
+
+/// What a part with so many events was made from.
+fn record_of_part<'a, R: Files + Input + AllocGlobal>(
+    rt: &R,
+    names: Names<'_, 'a>,
+    texts: &Texts,
+    segments: &'a str,
+    events: u64,
+) -> Result<ShardRecord<'a>, Failure<'a>> {
+    let mut ports = ArrayVec::<[u8; 32], MOST_PORTS>::new();
+    for (index, name) in names.ports.iter().enumerate() {
+        let sum = digest_of_capture(rt, tap_of(index), *name)?;
+        // A run has no more ports than there is room for.
+        let _ = ports.try_push(sum);
+    }
+    let underlay = digest_of_capture(rt, Tap::Underlay, names.underlay)?;
+    Ok(ShardRecord {
+        segments,
+        settings: digest_of_text(texts.settings.as_slice()),
+        changes: if names.changes.is_some() {
+            Some(digest_of_text(texts.changes.as_slice()))
+        } else {
+            None
+        },
+        ports,
+        underlay,
+        events,
+    })
+}
+
+/// The digest of a text.
+fn digest_of_text(text: &[u8]) -> [u8; 32] {
+    let mut hasher = Sha256::new();
+    hasher.update(text);
+    hasher.finalize()
+}
+
+/// The digest of what a capture tells as classic pcap.
+fn digest_of_capture<'a, R: Files + Input + AllocGlobal>(
+    rt: &R,
+    tap: Tap,
+    name: &'a str,
+) -> Result<[u8; 32], Failure<'a>> {
+    let input = match open_named(rt, name) {
+        Ok(input) => input,
+        Err(failure) => return Err(failure),
+    };
+    let mut digested = DigestInput::new(input);
+    match digested.finish(CAPTURE_READS) {
+        Ok(sum) => Ok(sum),
+        Err(_) => match digested.input().fault() {
+            Some(fault) => Err(Failure::Pcapng(tap, fault)),
+            None => Err(Failure::Read(name)),
+        },
+    }
+}
+
+/// Opens a file of the part in this folder. Nothing of it is read yet.
+pub fn open_part_file<'a, R: Files + AllocGlobal>(
+    rt: &R,
+    folder: &'a str,
+    output: OutputFile,
+) -> Result<PartInput<R::File>, Failure<'a>> {
+    let path = path_of(rt.alloc(), folder, output)?;
+    let Ok(file) = fs::open(rt, path.as_path()) else {
+        return Err(Failure::Read(folder));
+    };
+    match BufReader::with_capacity(rt.alloc(), PART_BLOCK, file) {
+        Ok(reader) => Ok(StdInput::new(reader)),
+        Err(_) => Err(Failure::from(AllocError)),
+    }
+}
+
+/// Opens the decision lines of the part in this folder. Nothing of them is read yet.
+pub fn open_lines<'a, R: Files + AllocGlobal>(
+    rt: &R,
+    folder: &'a str,
+) -> Result<Lines<PartInput<R::File>>, Failure<'a>> {
+    let input = match open_part_file(rt, folder, OutputFile::Decisions) {
+        Ok(input) => input,
+        Err(failure) => return Err(failure),
+    };
+    match Lines::new(rt.alloc(), input) {
+        Ok(lines) => Ok(lines),
+        Err(error) => Err(Failure::from(error)),
+    }
+}
+
+/// How many events the decision lines of the part in this folder tell.
+pub fn count_events<'a, R: Files + AllocGlobal>(
+    rt: &R,
+    folder: &'a str,
+) -> Result<u64, Failure<'a>> {
+    let mut lines = match open_lines(rt, folder) {
+        Ok(lines) => lines,
+        Err(failure) => return Err(failure),
+    };
+    let mut events = 0_u64;
+    for _ in 0..u64::MAX {
+        match lines.fetch() {
+            Ok(()) => {}
+            Err(LinesFault::Read) => return Err(Failure::Read(folder)),
+            Err(LinesFault::TooLong) => return Err(of_part(folder, PartFault::LongLine)),
+        }
+        let line = lines.line();
+        if line.is_empty() {
+            return Ok(events);
+        }
+        match read_line(line) {
+            Ok(LineFacts::Event(..)) => events = events.saturating_add(1),
+            Ok(LineFacts::Cut) => {}
+            Err(fault) => return Err(of_part(folder, PartFault::Line(fault))),
+        }
+    }
+    Err(Failure::Read(folder))
+}
+
+/// That the part in this folder is wrong.
+pub fn of_part<'a>(folder: &'a str, fault: PartFault) -> Failure<'a> {
+    Failure::Shard(folder, ShardFailure::Part(fault))
+}

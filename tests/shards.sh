@@ -1,0 +1,173 @@
+#!/usr/bin/env bash
+# Runs of examples/ cut into parts by segments and put together again are the whole run, octet for octet: cut into each pair of
+# parts that has each segment in one of them, and one of them into each segment by itself. What isn't a whole run is refused,
+# and said in one line.
+set -u
+cd "$(dirname "$0")/.." || exit 1
+folder=$(mktemp -d)
+trap 'rm -rf "$folder"' EXIT
+failures=0
+
+complain() {
+    echo "tests/shards.sh: $*"
+    failures=$((failures + 1))
+}
+
+./tep >/dev/null || {
+    echo "tests/shards.sh: there is no program"
+    exit 1
+}
+
+# runs OUT LIST WORDS..: a run into a folder, of these segments or, where the list is empty, of all
+runs() {
+    local out=$folder/$1 list=$2
+    shift 2
+    mkdir -p "$out"
+    ./tep run --out "$out" ${list:+--segments "$list"} "$@" >"$folder/stdout" 2>"$folder/stderr" ||
+        complain "tep run --segments '$list' $*: status $? and '$(cat "$folder/stderr")'"
+}
+
+# is_whole PARTS..: the merge of these parts, in any order, has what the whole run has, and nothing else
+is_whole() {
+    rm -rf "$folder/merged"
+    mkdir "$folder/merged"
+    ./tep merge --out "$folder/merged" "${@/#/$folder/}" >"$folder/stdout" 2>"$folder/stderr" ||
+        complain "tep merge of $*: status $? and '$(cat "$folder/stderr")'"
+    [ ! -s "$folder/stdout" ] || complain "tep merge of $* prints something"
+    diff -r "$folder/whole" "$folder/merged" >"$folder/differences" || complain "the merge of $* isn't the run: $(head -n 3 "$folder/differences")"
+}
+
+# in_pairs WORDS..: a run cut into each pair of parts of the segments 10, 20, 30, the other VIDs, and what comes to no segment
+in_pairs() {
+    local pair one other item names=(10 20 30 1-9,11-19,21-29,31-4094 none)
+    rm -rf "$folder"/{whole,one,other,merged}
+    runs whole "" "$@"
+    for ((pair = 1; pair < 31; pair++)); do
+        one=
+        other=
+        for item in 0 1 2 3 4; do
+            if ((pair >> item & 1)); then one=${one:+$one,}${names[item]}; else other=${other:+$other,}${names[item]}; fi
+        done
+        runs one "$one" "$@"
+        runs other "$other" "$@"
+        is_whole one other
+        is_whole other one
+    done
+}
+
+a=(--settings examples/a.toml --underlay examples/underlay.pcap)
+ports=(examples/port1.pcap examples/port2.pcap examples/port3.pcap)
+in_pairs "${a[@]}" --changes examples/changes.toml "${ports[@]}"
+in_pairs "${a[@]}" --changes examples/segments.toml "${ports[@]}"
+in_pairs --settings examples/two_tunnels.toml --changes examples/two_tunnels_changes.toml --underlay examples/underlay.pcap "${ports[@]}"
+in_pairs --settings examples/linux/settings.toml --underlay examples/linux/underlay.pcap \
+    examples/linux/port1.pcap examples/linux/port2.pcap examples/linux/port3.pcap
+
+# A run in which a frame is dropped for each of the forty reasons, also before it comes to a segment.
+mkdir "$folder/reasons"
+python3 examples/reasons.py "$folder/reasons" >/dev/null || complain "examples/reasons.py: status $?"
+in_pairs --settings examples/every_key.toml --changes examples/every_change.toml --underlay "$folder/reasons/underlay.pcap" \
+    "$folder"/reasons/port1.pcap "$folder"/reasons/port2.pcap "$folder"/reasons/port3.pcap "$folder"/reasons/port4.pcap
+
+# ---- 256 segments in four parts
+
+python3 benchmarks/many_tenants.py "$folder" 256 4 4 >/dev/null || complain "benchmarks/many_tenants.py: status $?"
+many=(--settings "$folder/settings.toml" --underlay "$folder/underlay.pcap" "$folder/port1.pcap" "$folder/port2.pcap")
+rm -rf "$folder/whole"
+runs whole "" "${many[@]}"
+runs first 1-64 "${many[@]}"
+runs second 65-128 "${many[@]}"
+runs third 129-192 "${many[@]}"
+runs fourth 193-4094,none "${many[@]}"
+is_whole third first fourth second
+
+# ---- captures that end with a cut rest: their lines stand once, and last
+
+head -c -3 examples/port2.pcap >"$folder/cut.pcap"
+cut=("${a[@]}" examples/port1.pcap "$folder/cut.pcap" examples/port3.pcap)
+rm -rf "$folder/whole"
+runs whole "" "${cut[@]}"
+grep -qx "cut p2 1" "$folder/whole/decisions.txt" || complain "the cut capture has no line"
+runs one 1-4094 "${cut[@]}"
+runs other none "${cut[@]}"
+is_whole one other
+
+# ---- what isn't a whole run, or no part at all
+
+rm -rf "$folder"/{whole,one,other,merged,out}
+mkdir "$folder/out"
+whole=("${a[@]}" --changes examples/changes.toml "${ports[@]}")
+runs one 1-15 "${whole[@]}"
+runs other 16-4094,none "${whole[@]}"
+runs above 15-4094,none "${whole[@]}"
+runs vids 16-4094 "${whole[@]}"
+runs unchanged 16-4094,none "${a[@]}" "${ports[@]}"
+runs second 16-4094,none --settings examples/b.toml --changes examples/changes.toml --underlay examples/underlay.pcap "${ports[@]}"
+runs captured 16-4094,none "${a[@]}" --changes examples/changes.toml examples/port1.pcap examples/port3.pcap examples/port3.pcap
+runs under 16-4094,none --settings examples/a.toml --changes examples/changes.toml --underlay examples/port1.pcap "${ports[@]}"
+
+# refused STATUS FAULT WORDS..: the program ends so, and says this in a line; where a part is named by its folder, it is told so
+refused() {
+    local status=$1 fault=$2 got
+    shift 2
+    (cd "$folder" && "$tep" "$@") >"$folder/stdout" 2>"$folder/stderr"
+    got=$?
+    [ "$got" -eq "$status" ] || complain "tep $*: status $got in place of $status"
+    [ "$(cat "$folder/stderr")" = "$fault" ] || complain "tep $*: '$(cat "$folder/stderr")' in place of '$fault'"
+    [ ! -s "$folder/stdout" ] || complain "tep $* prints something"
+}
+tep=$PWD/tep
+
+refused 1 "no part has segment 16" merge --out out one
+refused 1 "no part has segment 1" merge --out out other
+refused 1 "more than one part has segment 1" merge --out out one other one
+refused 1 "more than one part has segment 15" merge --out out one above
+refused 1 "no part has what comes to no segment ('none')" merge --out out one vids
+refused 1 "part unchanged: it was made with other changes than the first part" merge --out out one unchanged
+refused 1 "part second: it was made with other settings than the first part" merge --out out one second
+refused 1 "part captured: it was made from another capture p2 than the first part" merge --out out one captured
+refused 1 "part under: it was made from another capture u than the first part" merge --out out one under
+refused 3 "read nowhere" merge --out out one nowhere
+refused 3 "write decisions.txt" merge --out one one other
+[ -z "$(ls "$folder/out")" ] || complain "a merge that was refused left something"
+
+# broken FILE FAULT: where what stands on standard input stands in a file of the second part, merging says this
+broken() {
+    rm -rf "$folder/broken"
+    cp -r "$folder/other" "$folder/broken"
+    cat >"$folder/text"
+    cp "$folder/text" "$folder/broken/$1"
+    refused 1 "part broken: $2" merge --out out one broken
+}
+
+broken shard.txt "shard.txt: the first line is not 'tep shard 1'" </dev/null
+sed 's/^segments .*/segments 16-4094,nothing/' "$folder/other/shard.txt" |
+    broken shard.txt "shard.txt: an item of the list is no VID of 1 to 4094, no range of them and not 'none'"
+sed 's/^events .*/events 07/' "$folder/other/shard.txt" | broken shard.txt "shard.txt: behind the captures there is no line 'events' with a number"
+head -n 1 "$folder/other/decisions.txt" | broken decisions.txt "decisions.txt has another number of events than shard.txt says"
+head -c -1 "$folder/other/decisions.txt" | broken decisions.txt "line NoEnd"
+sed '1s/^/x/' "$folder/other/decisions.txt" | broken decisions.txt "line Number"
+tac "$folder/other/decisions.txt" | broken decisions.txt "event 7 behind a later one"
+sed '2s/^[0-9]* /2 /' "$folder/other/decisions.txt" | broken decisions.txt "event 2 doubled"
+sed '1s/p2=/p9=/' "$folder/other/decisions.txt" | broken decisions.txt "p9 isn't there"
+{ printf '%05000d ' 0; cat "$folder/other/decisions.txt"; } | broken decisions.txt "long line"
+head -c 24 "$folder/other/port2.pcap" | broken port2.pcap "p2 Missing"
+head -c -1 "$folder/other/port2.pcap" | broken port2.pcap "p2 Missing"
+cat "$folder/other/port2.pcap" <(tail -c +25 "$folder/other/port2.pcap") | broken port2.pcap "p2 LeftOver"
+head -c 20 "$folder/other/underlay.pcap" | broken underlay.pcap "u NotPcap"
+
+# ---- lists of segments that are none, and captures that aren't files
+
+for list in "1,,2|an item of the list is empty" "0|an item of the list is no VID of 1 to 4094, no range of them and not 'none'" \
+    "9-3|a range of the list ends below its begin" "1-3,2|two items of the list ask for the same"; do
+    (
+        ./tep run --out "$folder/out" --segments "${list%|*}" "${whole[@]}" >/dev/null 2>"$folder/stderr"
+        [ $? -eq 1 ] && [ "$(cat "$folder/stderr")" = "segments: ${list#*|}" ]
+    ) || complain "segments ${list%|*}: '$(cat "$folder/stderr")'"
+done
+mkfifo "$folder/pipe"
+./tep run --out "$folder/out" --segments 10 "${a[@]}" "$folder/pipe" examples/port2.pcap examples/port3.pcap 2>"$folder/stderr"
+[ $? -eq 1 ] || complain "a part is made of a pipe"
+[ "$(cat "$folder/stderr")" = "$folder/pipe is no regular file, and a part is made of no other" ] || complain "$(cat "$folder/stderr")"
+
+[ "$failures" -eq 0 ]

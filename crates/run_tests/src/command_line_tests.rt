@@ -12,7 +12,7 @@ fn told<'a>(alloc: Global, words: &'a [&'a str]) -> Result<String, Fail> {
 }
 
 /// Words, and the line that they ask for.
-const LINES: [(&[&str], &str); 9] = [
+const LINES: [(&[&str], &str); 10] = [
     (&["tep"], "Sample"),
     (
         &[
@@ -26,7 +26,7 @@ const LINES: [(&[&str], &str); 9] = [
             "p1",
             "p2",
         ],
-        "Run { settings: \"s\", changes: None, underlay: \"u\", out: \"d\", ports: [\"p1\", \"p2\"], tables: false, tables_at: None, why: [], summary: false }",
+        "Run { settings: \"s\", changes: None, underlay: \"u\", out: \"d\", ports: [\"p1\", \"p2\"], tables: false, tables_at: None, why: [], summary: false, segments: None }",
     ),
     (
         &["tep", "check", "--changes", "c", "--settings", "s"],
@@ -67,8 +67,9 @@ const LINES: [(&[&str], &str); 9] = [
             "--why",
             "u:1",
             "--summary",
+            "--segments=1-9,none",
         ],
-        "Run { settings: \"s\", changes: Some(\"c\"), underlay: \"u\", out: \"d\", ports: [\"-\", \"p2\"], tables: true, tables_at: Some(7), why: [\"2\", \"u:1\"], summary: true }",
+        "Run { settings: \"s\", changes: Some(\"c\"), underlay: \"u\", out: \"d\", ports: [\"-\", \"p2\"], tables: true, tables_at: Some(7), why: [\"2\", \"u:1\"], summary: true, segments: Some(\"1-9,none\") }",
     ),
     (
         &["tep", "check", "-s", "-", "-c", "-", "-u", "u", "p1", "-"],
@@ -81,6 +82,10 @@ const LINES: [(&[&str], &str); 9] = [
     (
         &["tep", "migrate", "-s", "s"],
         "Migrate { settings: \"s\" }",
+    ),
+    (
+        &["tep", "merge", "a", "-o", "d", "b"],
+        "Merge { out: \"d\", shards: [\"a\", \"b\"] }",
     ),
 ];
 
@@ -107,7 +112,7 @@ fn kind<'a>(alloc: Global, words: &'a [&'a str]) -> Option<ErrorKind> {
 }
 
 /// Words, and why they are refused.
-const OTHER_WORDS: [(&[&str], ErrorKind); 13] = [
+const OTHER_WORDS: [(&[&str], ErrorKind); 14] = [
     (&["tep", "nothing"], ErrorKind::InvalidSubcommand),
     (&["tep", "run"], ErrorKind::MissingRequiredArgument),
     (
@@ -116,6 +121,10 @@ const OTHER_WORDS: [(&[&str], ErrorKind); 13] = [
     ),
     (&["tep", "check", "--depth"], ErrorKind::UnknownArgument),
     (&["tep", "migrate"], ErrorKind::MissingRequiredArgument),
+    (
+        &["tep", "merge", "-o=d"],
+        ErrorKind::MissingRequiredArgument,
+    ),
     (&["tep", "--help"], ErrorKind::DisplayHelp),
     (&["tep", "help", "run"], ErrorKind::DisplayHelp),
     (&["tep", "--version"], ErrorKind::DisplayVersion),
@@ -135,13 +144,15 @@ fn other_words_are_refused_for_their_kind(rt: HostRuntime) {
 }
 
 /// Words with an empty name.
-const EMPTY_NAMES: [&[&str]; 6] = [
+const EMPTY_NAMES: [&[&str]; 8] = [
     &["tep", "check", "--settings", ""],
     &["tep", "check", "--settings=s", "--changes="],
     &["tep", "run", "-s=s", "-u=", "-o=d", "p1"],
     &["tep", "run", "-s=s", "-u=u", "-o=", "p1"],
     &["tep", "run", "-s=s", "-u=u", "-o=d", "p1", ""],
     &["tep", "explain", "-s=s", ""],
+    &["tep", "run", "-s=s", "-u=u", "-o=d", "--segments=", "p1"],
+    &["tep", "merge", "-o=d", "a", ""],
 ];
 
 #[test]

@@ -5,11 +5,15 @@
 #![tactic(auto)]
 
 #[cfg(test)]
+mod block_tests;
+#[cfg(test)]
 mod device_tests;
 #[cfg(test)]
 mod reading_tests;
 #[cfg(test)]
 mod sink_tests;
+#[cfg(test)]
+mod slow;
 #[cfg(test)]
 mod source_tests;
 #[cfg(test)]

@@ -2,3 +2,4 @@ pub mod Bounds
 pub mod Fetching
 pub mod Parts
 pub mod Runs
+mod Blocks

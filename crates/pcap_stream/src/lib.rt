@@ -6,6 +6,7 @@
 //! [`StdOutput`] are std's readers and writers as such devices; no file is opened here.
 #![tactic(auto)]
 
+mod block_output;
 mod device;
 mod fault;
 mod fetch;
@@ -17,6 +18,7 @@ mod source;
 mod supply;
 mod write;
 
+pub use block_output::BlockOutput;
 pub use device::DeviceFault;
 pub use fault::{SourceFault, WriteFault};
 pub use input::{Input, StdInput};

@@ -3,15 +3,15 @@ ghost use Rattle.std.specs.Prelude.{◌≡◌, IfOk, length};
 
 use crate::names::Names;
 use dissector::{Failure, OutputFile};
-use pcap_stream::{Sink, StdOutput};
+use pcap_stream::{BlockOutput, Sink, StdOutput};
 use std::alloc::{AllocError, Global};
 use std::fs::{OpenFile, OpenOptions};
-use std::io::{self, BufWriter, Write};
+use std::io::{self, Write};
 use std::path::{Path, PathBuf};
 use std::rt::Files;
 
 /// A file that is written in blocks.
-pub type Written<F> = StdOutput<BufWriter<F>>;
+pub type Written<F> = BlockOutput<StdOutput<F>>;
 
 /// What a run writes: the ports' captures rising, the underlay's, and the decision lines. A part of a run also says what it
 /// was made from.
@@ -183,9 +183,9 @@ fn empty<F: Write + OpenFile + Drop>(
     if cut(&file).is_err() {
         return Err(Failure::Write(output));
     }
-    match BufWriter::with_capacity(alloc, block, file) {
-        Ok(writer) => Ok(StdOutput::new(writer)),
-        Err(_) => Err(Failure::from(AllocError)),
+    match BlockOutput::new(alloc, StdOutput::new(file), block) {
+        Ok(written) => Ok(written),
+        Err(error) => Err(Failure::from(error)),
     }
 }
 
@@ -221,8 +221,14 @@ impl<F: Write + Drop> Outputs<F> {
 }
 
 /// Writes what a file's block still holds.
-fn flush<F: Write + Drop>(output: OutputFile, written: Written<F>) -> Result<(), Failure<'static>> {
-    match written.into_inner().flush() {
+fn flush<F: Write + Drop>(
+    output: OutputFile,
+    mut written: Written<F>,
+) -> Result<(), Failure<'static>> {
+    if written.finish().is_err() {
+        return Err(Failure::Write(output));
+    }
+    match written.into_inner().into_inner().flush() {
         Ok(()) => Ok(()),
         Err(_) => Err(Failure::Write(output)),
     }

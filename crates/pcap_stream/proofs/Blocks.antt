@@ -1,0 +1,24 @@
+-- A block whose first octets are handed on.
+use Rattle.std.proofs.Common.{◌≡◌, ◌∙◌, refl, sym, ap, ℕ, ◌+◌, ◌-◌, ◌≤◌, List, ◌++◌, take, drop, length, append_assoc, arith, length-drop, Option, None, Some}
+use lib.Seq.{paste}
+use Rattle.std.proofs.lemmas.List.{drop-take, take-append-drop}
+use Rattle.std.proofs.lemmas.List.Edits.{take-paste}
+use Rattle.std.specs.List.{copy_within}
+use Rattle.std.specs.Io.KnownBytes.{Appends, Keeps, append_known}
+
+-- what is kept of a block, moved to its front
+pub shifted : (octets : List ℕ) (count held : ℕ) → count ≤ held → held ≤ length octets → take (held - count) (copy_within octets count held 0) ≡ drop count (take held octets)
+shifted octets count held order fits =
+    let left = held - count in
+    let same : left ≡ 0 + left = omega arith in
+    let whole : count + left ≡ held = omega (arith, order) in
+    ap (λ k. take k (paste octets 0 (drop count octets) left)) same
+    ∙ take-paste octets 0 (drop count octets) left (omega arith) (omega (arith, length-drop count octets, order, fits))
+    ∙ sym (drop-take count left octets) ∙ ap (λ k. drop count (take k octets)) whole
+
+-- all that was written stays, where the front of the block went on to the output
+pub handed_on : (old new : Option (List ℕ)) (held : List ℕ) (count : ℕ) → Appends old new (take count held) → Keeps (append_known old held) (append_known new (drop count held))
+handed_on None new held count h = tt
+handed_on (Some text) None held count h = absurd h
+handed_on (Some text) (Some more) held count h =
+    ap (λ l. l ++ drop count held) h ∙ append_assoc text (take count held) (drop count held) ∙ ap (λ l. text ++ l) (take-append-drop count held)

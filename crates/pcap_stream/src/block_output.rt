@@ -1,0 +1,174 @@
+//! An output in blocks.
+ghost use Rattle.std.specs.Prelude.{◌≡◌, ◌≤◌, ◌+◌, ◌-◌, [], ◌++◌, IfOk, OnErr, OnOk, drop, length, take};
+ghost use Rattle.std.specs.Io.{WritesAtMost};
+ghost use Rattle.std.specs.Io.KnownBytes.{Appends, Keeps, WriteAppends};
+ghost use Rattle.pcap_stream.specs.Block.{told};
+ghost use Rattle.pcap_stream.specs.Counts.{CountsRefusals, GoesOnBy};
+
+use crate::device::DeviceFault;
+use crate::fault::WriteFault;
+use crate::output::Output;
+use std::alloc::{AllocError, Global};
+use std::marker::Model;
+
+/// An output with a block in front of it: octets that were written go on once the block is full.
+///
+/// What was written is what the output has, and then the block. `finish` hands the rest on; what is let go before is lost.
+/// Contracts see the output and the octets in the block.
+#[derive(Drop)]
+pub struct BlockOutput<W: Output> {
+    output: W,
+    block: Vec<u8>,
+    /// How many octets the block holds.
+    held: usize,
+}
+
+impl<W: Output> Model for BlockOutput<W> {
+    ghost use Rattle.std.specs.Prelude.{◌≤◌, length, take};
+    ghost use Rattle.pcap_stream.specs.Block.{Block};
+
+    ghost Value = { Block };
+
+    ghost view = { λ b. record {
+      written = W.written b.output;
+      failures = W.failures b.output;
+      held = take b.held b.block.items;
+      size = length b.block.items;
+    } };
+
+    ghost invariant = { λ b. b.held ≤ length b.block.items };
+}
+
+impl<W: Output> BlockOutput<W> {
+    /// An output that goes on where another stands, in blocks of so many octets. With blocks of none each write goes on at
+    /// once. `AllocError`: there was no room for the block.
+    pub fn new(alloc: Global, output: W, size: usize) -> Result<BlockOutput<W>, AllocError>
+    where
+        W: Drop,
+        ensures { IfOk result (λ made. made ≡ record {
+          written = W.written output;
+          failures = W.failures output;
+          held = [];
+          size = size;
+        }) }
+    {
+        let block = vec![in alloc; 0u8; size]?;
+        Ok(BlockOutput {
+            output,
+            block,
+            held: 0,
+        })
+    }
+
+    /// Hands on what the block holds. After a fault it holds what was not handed on.
+    pub fn finish(&mut self) -> Result<(), WriteFault>
+        ensures told { Keeps (told self.old) (told self.new) }
+        ensures all { OnOk result (self.new.held ≡ []) }
+        ensures size { self.new.size ≡ self.old.size }
+        ensures quiet { OnOk result (self.new.failures ≡ self.old.failures) }
+        ensures cause { OnErr result (GoesOnBy 1 self.old.failures self.new.failures) }
+    {
+        let (handed, result) = hand_on(&mut self.output, &self.block[..self.held]);
+        self.forget(handed);
+        result
+    }
+
+    /// The output behind the block. What the block still holds is let go.
+    pub fn into_inner(self) -> W
+        ensures written { W.written result ≡ self.written }
+        ensures failures { W.failures result ≡ self.failures }
+    {
+        let BlockOutput {
+            output,
+            block: _,
+            held: _,
+        } = self;
+        output
+    }
+
+    /// Takes the first octets out of the block.
+    fn forget(&mut self, count: usize)
+        requires { count ≤ length self.old.held }
+        ensures { self.new ≡ record self.old { held = drop count self.old.held } }
+    {
+        shift(self.block.as_mut_slice(), count, self.held);
+        self.held -= count;
+    }
+
+    /// Puts octets into the block, behind what it holds.
+    #[inline]
+    fn put(&mut self, octets: &[u8])
+        requires { length self.old.held + length octets.now ≤ self.old.size }
+        ensures { self.new ≡ record self.old { held = self.old.held ++ octets.now } }
+    {
+        let end = self.held + octets.len();
+        self.block[self.held..end].copy_from_slice(octets);
+        self.held = end;
+    }
+
+    /// A write that the block has no room for: the block goes on first, and then what is longer than it.
+    #[cold]
+    #[inline(never)]
+    fn write_on(&mut self, octets: &[u8]) -> Result<usize, DeviceFault>
+        ensures bound { WritesAtMost result octets.now }
+        ensures appended { WriteAppends (told self.old) (told self.new) result octets.now }
+        ensures failures { CountsRefusals self.old.failures self.new.failures result (length octets.now) }
+    {
+        if self.finish().is_err() {
+            return Err(DeviceFault);
+        }
+        if octets.len() > self.block.len() {
+            return self.output.write(octets);
+        }
+        self.put(octets);
+        Ok(octets.len())
+    }
+}
+
+impl<W: Output> Output for BlockOutput<W> {
+    ghost use Rattle.pcap_stream.specs.Block.{told};
+
+    ghost written = { told };
+
+    ghost failures = { λ b. b.failures };
+
+    #[inline]
+    fn write(&mut self, octets: &[u8]) -> Result<usize, DeviceFault> {
+        if octets.len() > self.block.len() - self.held {
+            return self.write_on(octets);
+        }
+        self.put(octets);
+        Ok(octets.len())
+    }
+}
+
+/// Moves the octets from `count` to `held` to the front.
+fn shift(octets: &mut [u8], count: usize, held: usize)
+    requires order { count ≤ held }
+    requires fits { held ≤ length octets.old }
+    ensures front { take (held - count) octets.new ≡ drop count (take held octets.old) }
+    ensures size { length octets.new ≡ length octets.old }
+{
+    octets.copy_within(count..held, 0);
+}
+
+/// Writes octets to an output as far as it takes them, and says how many it took.
+fn hand_on<W: Output>(output: &mut W, octets: &[u8]) -> (usize, Result<(), WriteFault>)
+    ensures bound { result.0 ≤ length octets.now }
+    ensures all { OnOk result.1 (result.0 ≡ length octets.now) }
+    ensures taken { Appends (W.written output.old) (W.written output.new) (take result.0 octets.now) }
+    ensures quiet { OnOk result.1 (W.failures output.new ≡ W.failures output.old) }
+    ensures cause { OnErr result.1 (GoesOnBy 1 (W.failures output.old) (W.failures output.new)) }
+{
+    let mut at = 0;
+    while at < octets.len() {
+        let Ok(n) = output.write(&octets[at..]) else {
+            return (at, Err(WriteFault));
+        };
+        if n == 0 {
+            return (at, Err(WriteFault));
+        }
+        at += n;
+    }
+    (at, Ok(()))
+}

@@ -1,4 +1,4 @@
--- What comes out of a part of a run: of a run of which some segments are asked for.
+-- What comes out of a part of a run: of a run of which some segments are asked for. It states no standard.
 --     with_events_among      the outputs as they grow, event by event: what isn't told to these segments leaves no text
 --     outputs_among      the captures and the decision lines of a part
 --     run_among      what a part of a run answers: what comes out of it, or the first fault

@@ -1,4 +1,4 @@
--- The faults of a run.
+-- The faults of a run. It states no standard.
 use Rattle.config_text.specs.declared.fault.SettingsFault.{SettingsFault}
 use Rattle.config_text.specs.declared.fault.SettingsFault.TheVariants as text
 use Rattle.timeline.specs.declared.fault.TimelineFault.{TimelineFault}

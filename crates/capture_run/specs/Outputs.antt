@@ -1,4 +1,4 @@
--- What comes out of a whole run.
+-- What comes out of a whole run. It states no standard.
 --     event_of      an event of the timeline as the endpoint takes it
 --     outputs_of      the captures and the decision lines, by what each event is answered
 --     outputs      the same by the separate bridges of the segments

@@ -1,4 +1,4 @@
--- What a whole run answers: what comes out of it, or the first fault.
+-- What a whole run answers: what comes out of it, or the first fault. It states no standard.
 use Rattle.std.specs.Prelude.{◌≡◌, ◌==◌, ℕ, if◌then◌else◌, List, length, map, Vec, Result, Ok, Err}
 use Rattle.std.specs.declared.alloc.Global.{Global}
 use Rattle.overlay_config.specs.Fault.{Meaning}

@@ -1,4 +1,4 @@
--- What an endpoint sends in a run, and the captures of it.
+-- What an endpoint sends in a run, and the captures of it. It states no standard.
 --     Sending, sent_by      what leaves at a place, by an answer
 --     capture_of      the capture of what leaves at some places
 use Rattle.std.specs.Prelude.{ℕ, ◌==◌, Bool, true, false, List, [], map, filter, Option, Some, None, Ok, Err}

@@ -1,4 +1,4 @@
--- How outputs grow, event by event. A law says that they become those of the whole run.
+-- How outputs grow, event by event. It states no standard. A law says that they become those of the whole run.
 use Rattle.std.specs.Prelude.{ℕ, ◌+◌, ◌-◌, ◌==◌, if◌then◌else◌, List, [], ◌∷◌, ◌++◌, map, replicate, slice_set, slice_index_or, Option}
 use Rattle.std.specs.Option.{option_map_or}
 use Rattle.filter_db.specs.declared.place.Place.{Place}

@@ -1,4 +1,4 @@
--- The lines that tell what is in a capture.
+-- The lines that tell what is in a capture. It states no standard.
 use Rattle.std.specs.Prelude.{ℕ, ◌==◌, ◌^◌, ◌-◌, ◌/◌, ◌%◌, if◌then◌else◌, Bool, true, false, List, [], ◌++◌, codes, decimal, Option, Some, None}
 use Rattle.std.specs.Fmt.{format_spec, padded_integral}
 use Rattle.pcap_io.specs.Style.{second}

@@ -1,4 +1,4 @@
--- What is in a capture, by its octets.
+-- What is in a capture, by its octets. It states no standard.
 --     surveyed      what is in a capture, or why it isn't read
 --     Gives      an answer is that, unless a read failed
 --     ReadsWith      no read failed, or the source gave up

@@ -1,4 +1,4 @@
--- How a change is printed: its kind, and its keys with their values, as a changes file has them.
+-- How a change is printed: its kind, and its keys with their values, as a changes file has them. It states no standard.
 use Rattle.std.specs.Prelude.{ℕ, Bool, true, false, List, [], ◌∷◌, ◌++◌, codes, decimal, Option, Some, None}
 use Rattle.ip_udp_view.specs.declared.addr.Tunnel.{Tunnel}
 use Rattle.ip_udp_view.specs.declared.addr.Tunnel.TheVariants.{Vxlan, Geneve}

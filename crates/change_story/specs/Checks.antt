@@ -1,4 +1,5 @@
 -- The checks of a change, in their order, each with what it saw; and what the change finds where none refuses it.
+-- It states no standard.
 use Rattle.std.specs.Prelude.{◌≡◌, ℕ, ◌+◌, ◌-◌, Bool, true, not, nat_lt, nat_le, is_some, is_none, if◌then◌else◌, List, [], ◌∷◌, ◌++◌, length, map, Option, Some, None}
 use Rattle.std.specs.Option.{option_map, option_map_or, option_to_list}
 use Rattle.std.specs.FinMap.{get, len}

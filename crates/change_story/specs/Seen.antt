@@ -1,4 +1,4 @@
--- How what a check saw is printed: one line, begun by two spaces; as
+-- How what a check saw is printed. It states no standard. One line, begun by two spaces; as
 --       segment 10
 --       port p9 of 3
 --       mac at p2 seen at 5000000000, entries 3 of at most 1024

@@ -1,4 +1,4 @@
--- What the checks of a change ask of the segment that it names.
+-- What the checks of a change ask of the segment that it names. It states no standard.
 use Rattle.std.specs.Prelude.{ℕ, Bool, List, Option}
 use Rattle.std.specs.Option.{option_map}
 use Rattle.filter_db.specs.Table.{nanoseconds}

@@ -1,4 +1,4 @@
--- The story of a change: what it asks for, what each check saw, and then the decision line.
+-- The story of a change: what it asks for, what each check saw, and then the decision line. It states no standard.
 use Rattle.std.specs.Prelude.{ℕ, nat_le, if◌then◌else◌, List, [], ◌++◌}
 use Rattle.timeline.specs.declared.event.Event.{Event as Happens}
 use Rattle.overlay_settings.specs.declared.change.Change.{Change}

@@ -1,4 +1,5 @@
 -- The name of a capture on a command line: a file, and the interface whose packets are taken, as `FILE#INTERFACE`.
+-- It states no standard.
 use Rattle.std.specs.Prelude.{ℕ, ◌==◌, if◌then◌else◌, length, Option, Some, None}
 use Rattle.std.specs.Path.{rsplit_once}
 use Rattle.clap.specs.Words.{Text}

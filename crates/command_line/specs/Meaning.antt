@@ -1,4 +1,4 @@
--- What a command line means: the program's own words, after clap's definition of simple commands.
+-- What a command line means: the program's own words, after clap's definition of simple commands. It states no standard.
 use Rattle.std.specs.Prelude.{◌≡◌, ◌≤◌, ℕ, ◌&&◌, nat_le, ◌^◌, ◌-◌, Bool, List, Option, Some, None, IsSomeAnd, codes, count_by, option_and_then, option_map, unwrap_or, if◌then◌else◌, ⊤, false, [], ◌∷◌}
 use Rattle.std.specs.Str.{bytes_eq}
 use Rattle.std.specs.Str.Parse.{digits_value, without_leading_plus}

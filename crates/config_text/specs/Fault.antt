@@ -1,4 +1,4 @@
--- The first fault of a text, and steps that stop at one.
+-- The first fault of a text, and steps that stop at one. It states no standard.
 use Rattle.std.specs.Prelude.{◌≡◌, Result, Ok, Err}
 use Rattle.config_text.specs.declared.fault.SettingsFault.{SettingsFault}
 use Rattle.config_text.specs.declared.fault.SettingsFault.TheVariants as faults

@@ -1,4 +1,4 @@
--- What a reader reads.
+-- What a reader reads. It states no standard.
 use Rattle.std.specs.Prelude.{Option, Some, None, String}
 use Rattle.std.specs.Borrow.{Bor}
 use Rattle.std.specs.BTreeMap.{BTreeMap}

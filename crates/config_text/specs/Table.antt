@@ -1,4 +1,4 @@
--- The keys of a table, each with its column, and lists of tables.
+-- The keys of a table, each with its column, and lists of tables. It states no standard.
 use Rattle.std.specs.Prelude.{ℕ, ◌≤◌, List, [], ◌∷◌, ◌++◌, length, nat_eq, nat_lt, Bool, true, ◌&&◌, Option, Some, None, is_some, option_map, Ok, Err, codes, decimal, ◌+◌, if◌then◌else◌}
 use Rattle.std.specs.List.{list_any}
 use Rattle.std.specs.Cmp.Lexicographic.{pointwise}

@@ -1,4 +1,4 @@
--- Decision lines: one for each event, and one for each capture that ends with a cut rest.
+-- Decision lines: one for each event, and one for each capture that ends with a cut rest. It states no standard.
 use Rattle.std.specs.Prelude.{ℕ, List, [], ◌∷◌, ◌++◌, codes, decimal, Option, Some, None}
 use Rattle.timeline.specs.declared.event.Event.{Event}
 use Rattle.timeline.specs.declared.source.Source.{Source}

@@ -1,4 +1,4 @@
--- Outcomes in a line, one by one.
+-- Outcomes in a line, one by one. It states no standard.
 use Rattle.std.specs.Prelude.{ℕ, Bool, if◌then◌else◌, List, [], ◌++◌, codes, decimal, Result, Ok, Err}
 use Rattle.frame_view.specs.Reason.{name_of}
 use Rattle.frame_view.specs.declared.reason.Reason.{Reason}

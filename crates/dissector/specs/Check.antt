@@ -1,4 +1,4 @@
--- What a look at a settings text and a changes text tells.
+-- What a look at a settings text and a changes text tells. It states no standard.
 use Rattle.std.specs.Prelude.{ℕ, List, ◌++◌, codes, decimal, length, Result, Ok, Err}
 use Rattle.overlay_config.specs.Fault.{Meaning}
 use Rattle.overlay_config.specs.Settings.{Settings}

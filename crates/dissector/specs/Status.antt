@@ -1,4 +1,4 @@
--- The exit statuses of the faults of runs and of the program.
+-- The exit statuses of the faults of runs and of the program. It states no standard.
 use Rattle.std.specs.Prelude.{ℕ}
 use Rattle.capture_run.specs.declared.fault.RunFault.{RunFault}
 use Rattle.capture_run.specs.declared.fault.RunFault.TheVariants as faults

@@ -1,4 +1,4 @@
--- A text that is read from an input, in so many reads at most.
+-- A text that is read from an input, in so many reads at most. It states no standard.
 use Rattle.std.specs.Prelude.{◌≡◌, ◌≤◌, ◌⊎◌, ℕ, List, length, Option, IfSome, Result, Ok, Err}
 use Rattle.pcap_stream.specs.Counts.{GoesOnBy}
 use Rattle.dissector.specs.declared.text.TextFault.{TextFault}

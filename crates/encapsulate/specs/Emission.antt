@@ -1,4 +1,4 @@
--- What is sent: a text in four parts.
+-- What is sent: a text in four parts. It states no standard.
 use Rattle.std.specs.Prelude.{ℕ, List, [], ◌++◌}
 use Rattle.frame_view.specs.Frame.{Frame, plain, tagged}
 use Rattle.frame_view.specs.Tag.{tag_text, tci_of}

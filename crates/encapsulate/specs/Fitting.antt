@@ -1,4 +1,4 @@
--- The rule on sizes, as one on whole packets.
+-- The rule on sizes, as one on whole packets. It states no standard.
 use Rattle.std.specs.Prelude.{◌≡◌, ◌<◌, ◌↔◌, ℕ, ◌+◌, length, Some}
 use Rattle.frame_view.specs.Frame.{Frame, IsFrame}
 use Rattle.frame_view.specs.declared.reason.Reason.TheVariants.{TooBig}

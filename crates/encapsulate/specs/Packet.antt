@@ -1,4 +1,4 @@
--- An outer packet as it is sent by the settings of an endpoint.
+-- An outer packet as it is sent by the settings of an endpoint. It states no standard.
 use Rattle.std.specs.Prelude.{ℕ, List}
 use Rattle.ip_udp_view.specs.declared.addr.Addr.{Addr}
 use Rattle.ip_udp_view.specs.declared.addr.Addr.TheVariants.{V4, V6}

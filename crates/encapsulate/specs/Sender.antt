@@ -1,4 +1,4 @@
--- What holds of an endpoint's own settings.
+-- What holds of an endpoint's own settings. It states no standard.
 use Rattle.std.specs.Prelude.{◌≡◌, ◌≢◌, ◌<◌, ℕ, ◌^◌, true, false, List, length, Option, IfSome}
 use Rattle.std.specs.Option.{option_map}
 use Rattle.std.specs.FinMap.{get}

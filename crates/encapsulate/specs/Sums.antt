@@ -1,4 +1,4 @@
--- What all packets with one frame share.
+-- What all packets with one frame share. It states no standard.
 use Rattle.std.specs.Prelude.{◌≡◌, IfSome}
 use Rattle.frame_view.specs.Frame.{Frame}
 use Rattle.encapsulate.specs.declared.sums.FrameSums.{FrameSums}

@@ -1,4 +1,4 @@
--- How a frame comes to the bridge of a segment: by a local port or by a tunnel.
+-- How a frame comes to the bridge of a segment: by a local port or by a tunnel. It states no standard.
 use Rattle.std.specs.Prelude.{ℕ, nat_lt, Bool, List, [], ◌∷◌, length, Option, Some, None, Result, Ok, Err}
 use Rattle.std.specs.Option.{option_map_or}
 use Rattle.frame_view.specs.First.{first}

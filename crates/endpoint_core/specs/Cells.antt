@@ -1,4 +1,4 @@
--- The counts as rows of numbers.
+-- The counts as rows of numbers. It states no standard.
 use Rattle.std.specs.Prelude.{ℕ, ◌+◌, min, List, [], slice_index_or, slice_set, Option, Some, None}
 use Rattle.endpoint_core.specs.Counts.{most}
 

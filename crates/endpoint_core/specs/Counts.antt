@@ -1,5 +1,5 @@
 -- How often each thing was decided, by segment or for none: the outcomes sent, and the drops and the unsent outcomes by
--- their reasons. A count ends at the greatest number of 64 bits.
+-- their reasons. It states no standard. A count ends at the greatest number of 64 bits.
 --     Mark, marks_of      what is counted of a decision
 --     counted      the counts after a decision
 --     tally      how often each came, of many decisions

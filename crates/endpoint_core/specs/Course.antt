@@ -1,4 +1,4 @@
--- Where a frame or a packet goes, with the places in a list beside it.
+-- Where a frame or a packet goes, with the places in a list beside it. It states no standard.
 use Rattle.std.specs.Prelude.{◌≡◌, ◌≤◌, All, List, [], length, map, IsSome, IsTrue, Result, Ok, Err}
 use Rattle.std.specs.List.{list_all}
 use Rattle.frame_view.specs.declared.reason.Refused.{Refused}

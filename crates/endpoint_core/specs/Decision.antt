@@ -1,4 +1,4 @@
--- What is decided of a frame or a packet.
+-- What is decided of a frame or a packet. It states no standard.
 --     Sent      what came of one outlet
 --     Decision      the outcomes, octet for octet, or why there are none
 --     Decided      the same with each emission in its parts

@@ -1,4 +1,5 @@
 -- What comes to an endpoint: frames at its local ports, packets from its underlay, and changes of its settings.
+-- It states no standard.
 use Rattle.std.specs.Prelude.{◌≤◌, ℕ, List, [], ◌∷◌}
 use Rattle.overlay_settings.specs.declared.change.Change.{Change}
 

@@ -1,4 +1,4 @@
--- What an endpoint keeps, and the state that this is.
+-- What an endpoint keeps, and the state that this is. It states no standard.
 use Rattle.std.specs.Prelude.{refl, ℕ, List}
 use Rattle.std.specs.Coded.{Coded, code_by, coded×, coded_ℕ, coded_list}
 use Rattle.endpoint_state.specs.Held.{Held, state_at}

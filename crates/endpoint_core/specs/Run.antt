@@ -1,4 +1,5 @@
 -- A run of an endpoint as one learning bridge for each segment, each asked by the events of its own segment alone.
+-- It states no standard.
 --     settings_after      the settings in force after events
 --     events_of      the events of one segment
 --     entries_of      the table of the bridge of one segment, put through these

@@ -1,4 +1,4 @@
--- An endpoint as a machine over events.
+-- An endpoint as a machine over events. It states no standard.
 --     State, opened      its state, and the one that it begins with
 --     decided      what is decided of a frame or a packet
 --     answer, after      what it answers to an event, and its state then

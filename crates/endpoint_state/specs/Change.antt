@@ -1,5 +1,5 @@
 -- Changes of the settings while an endpoint runs: why one is refused, what it makes of the settings, and what it does to
--- the table of a segment.
+-- the table of a segment. It states no standard.
 --     refused      why the settings refuse it
 --     accepted, changed      the settings after it
 --     table_fault, entries_changed      why a table refuses it, and the table after it

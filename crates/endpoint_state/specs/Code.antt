@@ -1,4 +1,4 @@
--- How what an endpoint holds is stored as a value.
+-- How what an endpoint holds is stored as a value. It states no standard.
 use Rattle.std.specs.Prelude.{refl, Bool, List}
 use Rattle.std.specs.Coded.{Coded, code_by, coded×, coded_bool, coded_list}
 use Rattle.shared_tables.specs.Shared.{Shared}

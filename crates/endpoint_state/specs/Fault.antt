@@ -1,4 +1,4 @@
--- The faults of changes.
+-- The faults of changes. It states no standard.
 use Rattle.std.specs.Prelude.{ℕ, List, codes}
 use Rattle.flood_lists.specs.declared.fault.FloodFault.{FloodFault}
 use Rattle.flood_lists.specs.declared.fault.FloodFault.TheVariants as flood

@@ -1,4 +1,4 @@
--- What an endpoint holds, with its tables in one pool.
+-- What an endpoint holds, with its tables in one pool. It states no standard.
 use Rattle.std.specs.Prelude.{ℕ, length}
 use Rattle.shared_tables.specs.Segments.{segments_of}
 use Rattle.shared_tables.specs.Shared.{Shared}

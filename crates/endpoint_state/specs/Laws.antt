@@ -1,4 +1,4 @@
--- Laws of the state and of changes.
+-- Laws of the state and of changes. It states no standard.
 use Rattle.std.specs.Prelude.{◌≡◌, ℕ, ◌≤◌, IsSome}
 use Rattle.overlay_settings.specs.declared.change.Change.{Change}
 use Rattle.endpoint_state.specs.Change.{changed}

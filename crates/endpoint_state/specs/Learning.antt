@@ -1,4 +1,4 @@
--- Which segments learn.
+-- Which segments learn. It states no standard.
 use Rattle.std.specs.Prelude.{ℕ, ◌==◌, Bool, false, ◌&&◌, List, slice_index_or}
 use Rattle.std.specs.List.{list_any}
 use Rattle.overlay_settings.specs.declared.segment.SegmentRule.{SegmentRule}

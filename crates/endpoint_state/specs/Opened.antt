@@ -1,4 +1,4 @@
--- What an endpoint begins with.
+-- What an endpoint begins with. It states no standard.
 use Rattle.std.specs.Prelude.{◌==◌, find, map}
 use Rattle.std.specs.Option.{option_map}
 use Rattle.std.specs.FinMap.{empty}

@@ -1,4 +1,4 @@
--- The settings in force of an endpoint: those that it was opened with, as changed since.
+-- The settings in force of an endpoint: those that it was opened with, as changed since. It states no standard.
 --     Settings      all of them
 --     tables_asked      the tables that they ask for
 --     SegmentSettings, segment_at      those of one segment

@@ -1,4 +1,4 @@
--- What always holds of an endpoint's parts.
+-- What always holds of an endpoint's parts. It states no standard.
 use Rattle.std.specs.Prelude.{◌≡◌, ℕ, ◌≤◌, Bool, true, ◌&&◌, is_some, Option, Some, None}
 use Rattle.std.specs.List.{list_all}
 use Rattle.ip_udp_view.specs.declared.addr.Addr.{Addr}

@@ -1,4 +1,4 @@
--- The state of an endpoint's bridges: the settings in force, and the tables.
+-- The state of an endpoint's bridges: the settings in force, and the tables. It states no standard.
 --     state_of      what an endpoint holds, as it is at a moment
 --     aged      the state at a later moment
 --     fault      why a change is refused

@@ -1,4 +1,4 @@
--- A frame at the bridge of a segment.
+-- A frame at the bridge of a segment. It states no standard.
 --     config_of      the configuration of the bridge, by the settings in force
 --     after_frame, verdict      what it learns, and where the frame goes
 --     can_leave      the places where it can go

@@ -1,4 +1,4 @@
--- The tunnel that a change means.
+-- The tunnel that a change means. It serves proofs.
 use Rattle.std.specs.Prelude.{Option, Some, None, Result, Ok, Err}
 use Rattle.ip_udp_view.specs.declared.addr.Tunnel.{Tunnel}
 use Rattle.endpoint_state.specs.declared.fault.ChangeFault.{ChangeFault}

@@ -1,4 +1,4 @@
--- What a tunnel header stands before.
+-- What a tunnel header stands before. It states no standard.
 use Rattle.std.specs.Prelude.{ℕ, List}
 use Rattle.ip_udp_view.specs.declared.addr.Tunnel.{Tunnel}
 

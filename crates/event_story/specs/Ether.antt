@@ -1,4 +1,4 @@
--- What the tests of an Ethernet header saw.
+-- What the tests of an Ethernet header saw. It states no standard.
 use Rattle.std.specs.Prelude.{ℕ, ◌==◌, nat_lt, not, Bool, false, if◌then◌else◌, List, length, take, Option, Some, None}
 use Rattle.header_sums.specs.Octets.{part}
 use Rattle.frame_view.specs.Address.{is_group, is_reserved}

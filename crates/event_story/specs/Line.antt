@@ -1,4 +1,4 @@
--- How a fact is printed: one line, begun by two spaces; as
+-- How a fact is printed. It states no standard. One line, begun by two spaces; as
 --       ether 02:00:00:00:00:01 > 02:00:00:00:00:02
 --       port p1 up
 --       source learned at p2, before at p1 seen at 5000000000

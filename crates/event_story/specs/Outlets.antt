@@ -1,4 +1,4 @@
--- How a frame leaves at each of its outlets.
+-- How a frame leaves at each of its outlets. It states no standard.
 use Rattle.std.specs.Prelude.{ℕ, ◌+◌, if◌then◌else◌, List, length, Option, Some, None}
 use Rattle.std.specs.List.{flat_map}
 use Rattle.std.specs.Option.{option_map, option_to_list}

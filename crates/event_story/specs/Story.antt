@@ -1,4 +1,4 @@
--- The story of an event: what each test saw, and then the decision line.
+-- The story of an event: what each test saw, and then the decision line. It states no standard.
 use Rattle.std.specs.Prelude.{ℕ, nat_le, ◌&&◌, Bool, true, if◌then◌else◌, List, [], ◌++◌, length, slice_get, None, Result, Ok, Err}
 use Rattle.std.specs.Option.{option_map_or}
 use Rattle.frame_view.specs.declared.reason.Refused.{Refused}

@@ -1,4 +1,4 @@
--- Which tests are told: all up to the one that refuses.
+-- Which tests are told: all up to the one that refuses. It states no standard.
 use Rattle.std.specs.Prelude.{ℕ, ◌==◌, ◌++◌, Bool, false, if◌then◌else◌, List, [], ◌∷◌, Option, Some, None, Result, Ok, Err}
 use Rattle.std.specs.Option.{option_to_list}
 use Rattle.frame_view.specs.Reason.{number_of}

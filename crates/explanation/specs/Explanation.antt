@@ -1,4 +1,5 @@
 -- What a capture of packets from the underlay brings to a fresh endpoint, packet by packet, each with its layers.
+-- It states no standard.
 use Rattle.std.specs.Prelude.{◌≡◌, ℕ, ◌+◌, List, [], ◌∷◌, ◌++◌, map, Vec, None, Result, Ok, Err}
 use Rattle.std.specs.List.{flat_map, zip}
 use Rattle.std.specs.declared.alloc.Global.{Global}

@@ -1,4 +1,4 @@
--- The same text as it grows, packet by packet. A law says that it becomes that of the whole capture.
+-- The same text as it grows, packet by packet. It serves proofs. A law says that it becomes that of the whole capture.
 use Rattle.std.specs.Prelude.{ℕ, ◌+◌, List, [], ◌∷◌, ◌++◌}
 use Rattle.timeline.specs.declared.event.Event.{Event as Happens}
 use Rattle.endpoint_core.specs.Step.{State, answer, after}

@@ -1,5 +1,5 @@
--- How the layers of a packet are printed: a line for each part, with its place and its length in octets, and one for the
--- stop; as
+-- How the layers of a packet are printed. It states no standard. A line for each part, with its place and its length in
+-- octets, and one for the stop; as
 --       ip4 14 20
 --       payload 34 76
 --       stop 20 NotTunnel

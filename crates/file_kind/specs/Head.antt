@@ -1,4 +1,4 @@
--- The first octets of an input.
+-- The first octets of an input. It states no standard.
 use Rattle.std.specs.Prelude.{◌≡◌, ℕ, List, take, drop, Option, IfSome}
 use Rattle.std.specs.Io.KnownBytes.{prepend_known}
 use Rattle.file_kind.specs.declared.head.Head.{Head}

@@ -1,4 +1,4 @@
--- What ageing leaves of tables: to forget early what is dead changes nothing later.
+-- What ageing leaves of tables: to forget early what is dead changes nothing later. It serves proofs.
 use Rattle.std.proofs.Common.{◌≡◌, ℕ, ◌-◌, ◌≤◌, Bool, true, false, cond, refl, sym, ap, ◌∙◌, List, Option, Some, None, arith, ltb}
 use Rattle.std.specs.Option.{option_map}
 use Rattle.std.specs.Cmp.{IsTotalOrder}

@@ -1,4 +1,4 @@
--- How tables are stored as values.
+-- How tables are stored as values. It states no standard.
 use Rattle.std.specs.Prelude.{refl, ℕ}
 use Rattle.std.specs.Coded.{Coded, code_by, coded×, coded_ℕ, coded_list}
 use Rattle.std.specs.FinMap.{code}

@@ -1,4 +1,4 @@
--- The tables of all segments as one value.
+-- The tables of all segments as one value. It states no standard.
 use Rattle.std.specs.Prelude.{refl, ℕ, List, map, Option, None, slice_get}
 use Rattle.std.specs.Option.{option_map, unwrap_or}
 use Rattle.std.specs.Coded.{Coded, code_by, coded×, coded_ℕ, coded_list, coded_option}

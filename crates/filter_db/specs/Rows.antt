@@ -1,4 +1,4 @@
--- A table as a list of rows, each an address and its entry.
+-- A table as a list of rows, each an address and its entry. It states no standard.
 use Rattle.std.specs.Prelude.{◌≡◌, ℕ, ◌<◌, ◌≤◌, List, [], ◌∷◌, length, None}
 use Rattle.std.specs.FinMap.{find, from_entries}
 use Rattle.filter_db.specs.declared.entry.Entry.{Entry}

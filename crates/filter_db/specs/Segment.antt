@@ -1,4 +1,4 @@
--- The tables of all segments, and what becomes of them. Each VLAN learns by itself (IEEE 802.1Q, 8.8.8, independent
+-- The tables of all segments, and what becomes of them. It states no standard. Each VLAN learns by itself (IEEE 802.1Q, 8.8.8, independent
 -- VLAN learning).
 --     Segment      one table, with its limit and its ageing
 --     aged, aged_all      what is left at a moment

@@ -1,5 +1,5 @@
 -- Which segments stand, in tables whose segments share a pool of entries, and what becomes of them when one comes, goes
--- or gets another limit.
+-- or gets another limit. It states no standard.
 --     sum_of_limits      what the segments together may keep
 --     segment_count      how many there are
 --     added, removed      one comes, or goes

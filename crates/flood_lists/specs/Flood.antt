@@ -1,4 +1,4 @@
--- Flood lists, and the endpoint's own addresses.
+-- Flood lists, and the endpoint's own addresses. It states no standard.
 use Rattle.std.specs.Prelude.{◌≢◌, ℕ, Bool, false, not, ◌&&◌, nat_le, is_some, List, [], ◌∷◌, length, filter, replicate, Option, None, Some}
 use Rattle.std.specs.List.{AllPairs, list_any}
 use Rattle.header_sums.specs.Octets.{is_same}

@@ -1,4 +1,4 @@
--- Changes that the settings alone refuse.
+-- Changes that the settings alone refuse. It states no standard.
 --     settings_behind      the settings behind some changes
 --     refusals      the changes that are refused, each by the settings behind those before it
 use Rattle.std.specs.Prelude.{◌≡◌, ℕ, ◌+◌, ◌==◌, Bool, true, false, if◌then◌else◌, List, ◌++◌, codes, decimal, fold, filter, length, slice_get, take, Option, Some, None}

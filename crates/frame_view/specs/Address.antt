@@ -1,4 +1,4 @@
--- MAC addresses, as their six octets.
+-- MAC addresses, as their six octets (IEEE 802, 8.2.2; IEEE 802.1Q, 8.6.3).
 use Rattle.std.specs.Prelude.{ℕ, Bool, ◌%◌, ◌==◌, ◌&&◌, nat_lt, List, [], ◌∷◌}
 use Rattle.header_sums.specs.Octets.{octet, begins}
 

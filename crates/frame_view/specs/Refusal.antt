@@ -1,4 +1,4 @@
--- Refusals: why a frame or packet is dropped, and in which segment where it came to one.
+-- Refusals: why a frame or packet is dropped, and in which segment where it came to one. It states no standard.
 use Rattle.std.specs.Prelude.{ℕ, Some, None}
 use Rattle.frame_view.specs.declared.reason.Reason.{Reason}
 use Rattle.frame_view.specs.declared.reason.Refused.{Refused}

@@ -1,4 +1,4 @@
--- What contracts see of an option that was read, without where it lies in memory.
+-- What contracts see of an option that was read, without where it lies in memory. It states no standard.
 use Rattle.std.specs.Prelude.{ℕ, List}
 use Rattle.std.specs.Borrow.{Bor}
 use Rattle.geneve_head.specs.Options.{TunnelOption}

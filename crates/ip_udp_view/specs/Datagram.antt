@@ -1,4 +1,5 @@
--- A UDP datagram in an IP packet in an Ethernet frame, as one text of parts side by side.
+-- A UDP datagram in an IP packet in an Ethernet frame, as one text of parts side by side
+-- (RFC 768; RFC 791, 3.1; RFC 8200, 3; over Ethernet RFC 894 and RFC 2464, 3).
 use Rattle.std.specs.Prelude.{◌≡◌, ◌<◌, ◌≤◌, ℕ, ◌+◌, ◌-◌, ◌^◌, ◌==◌, ◌||◌, nat_lt, Bool, false, not, if◌then◌else◌, List, [], ◌∷◌, ◌++◌, length, take, drop}
 use Rattle.std.specs.List.{concat, AllByRecursion}
 use Rattle.header_sums.specs.Octets.{begins}

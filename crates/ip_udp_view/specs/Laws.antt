@@ -1,4 +1,5 @@
 -- Each grammar and its tests by place: a text has a split exactly where no test holds, and then one.
+-- It states no standard.
 use Rattle.std.specs.Prelude.{◌≡◌, ◌↔◌, ℕ, true, false, List, None}
 use Rattle.std.specs.List.{concat}
 use Rattle.header_sums.specs.Octets.{IsText}

@@ -1,4 +1,4 @@
--- A text as three parts side by side.
+-- A text as three parts side by side. It states no standard.
 use Rattle.std.specs.Prelude.{ℕ, List, ◌++◌, take, drop}
 
 -- a header, what it carries, and what stands behind that and is no part of it

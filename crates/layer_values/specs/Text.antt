@@ -1,4 +1,4 @@
--- How the values of headers are spelt: addresses, and numbers that one knows in hexadecimal.
+-- How the values of headers are spelt: addresses, and numbers that one knows in hexadecimal. It states no standard.
 use Rattle.std.specs.Prelude.{ℕ, ◌/◌, ◌%◌, List, [], ◌∷◌, ◌++◌, codes}
 use Rattle.std.specs.List.{flat_map}
 use Rattle.std.specs.Char.{digit_char}

@@ -1,4 +1,4 @@
--- Words of a line, with one space between two.
+-- Words of a line, with one space between two. It states no standard.
 use Rattle.std.specs.Prelude.{ℕ, ◌==◌, List, [], ◌∷◌, if◌then◌else◌}
 
 -- what stands before the first space, or all of it

@@ -1,4 +1,4 @@
--- What the frames that leave in a full mesh owe to the frame that came in.
+-- What the frames that leave in a full mesh owe to the frame that came in. It states no standard.
 use Rattle.std.specs.Prelude.{◌≡◌, ℕ, ◌==◌, ◌&&◌, Bool, false, Option, Some, None}
 use Rattle.std.specs.Option.{option_map}
 use Rattle.frame_view.specs.Frame.{Frame}

@@ -1,4 +1,4 @@
--- What comes to a run, and what of it concerns a segment.
+-- What comes to a run, and what of it concerns a segment. It states no standard.
 --     Inputs, IsRunOf      changes and captures, and a run over them
 --     coming      what comes to the endpoint, in order
 --     coming_to      of a source what concerns a segment in that run

@@ -1,4 +1,5 @@
 -- What leaves an endpoint, and what is told of each event, with the segment in which it was decided.
+-- It states no standard.
 --     Row, rows      events with what each is answered
 --     Departure, departures, departures_in      what leaves, and of that what leaves in a segment
 --     Line, lines, lines_in      decision lines without their numbers, and those of a segment

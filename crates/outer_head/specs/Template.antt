@@ -1,4 +1,5 @@
 -- What is fixed in the heads of one tunnel's packets: the head of a packet in which all that differs is 0.
+-- It states no standard.
 use Rattle.std.specs.Prelude.{ℕ, ◌+◌, List, [], ◌∷◌, ◌++◌, replicate}
 use Rattle.header_sums.specs.Octets.{octet, octets, field, part}
 use Rattle.header_sums.specs.Sum.{total}

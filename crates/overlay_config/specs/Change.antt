@@ -1,4 +1,4 @@
--- What a changes text means.
+-- What a changes text means. It states no standard.
 use Rattle.std.specs.Prelude.{ℕ, ◌+◌, ◌-◌, nat_lt, List, [], ◌∷◌, length, slice_get, Option, Some, None, Ok, Err, codes}
 use Rattle.std.specs.Option.{option_map_or}
 use Rattle.toml.specs.Data.{Data, Members}

@@ -1,4 +1,4 @@
--- The keys `limit` to `tags`, of a segment of settings and of one that comes later.
+-- The keys `limit` to `tags`, of a segment of settings and of one that comes later. It states no standard.
 use Rattle.std.specs.Prelude.{ℕ, List, [], ◌∷◌, true, Option, Ok, codes}
 use Rattle.toml.specs.Data.{Data}
 use Rattle.underlay.specs.declared.segment.PeerRule.{PeerRule}

@@ -1,4 +1,4 @@
--- The items of `segment.k.flood`.
+-- The items of `segment.k.flood`. It states no standard.
 use Rattle.std.specs.Prelude.{[], ◌∷◌, ◌++◌, is_none, if◌then◌else◌, Option, Some, None, option_and_then}
 use Rattle.toml.specs.Data.{Data}
 use Rattle.ip_udp_view.specs.declared.addr.Addr.{Addr}

@@ -1,4 +1,4 @@
--- The keys of `segment.k` that say nothing of its tunnels, `limit` to `tagged`.
+-- The keys of `segment.k` that say nothing of its tunnels, `limit` to `tagged`. It states no standard.
 use Rattle.std.specs.Prelude.{ℕ, List, [], Ok, codes}
 use Rattle.flood_lists.specs.Flood.{Entries}
 use Rattle.underlay.specs.declared.tunnels.SegmentTunnel.{SegmentTunnel}

@@ -1,4 +1,4 @@
--- The items of `segment.k.untagged` and `segment.k.tagged`.
+-- The items of `segment.k.untagged` and `segment.k.tagged`. It states no standard.
 use Rattle.std.specs.Prelude.{◌≤◌, ℕ, List, [], ◌∷◌, ◌++◌, ◌||◌, nat_eq, IsTrue, if◌then◌else◌, Option, Some, None, option_and_then}
 use Rattle.std.specs.List.{IsDistinct}
 use Rattle.toml.specs.Data.{Data}

@@ -1,4 +1,4 @@
--- Settings of version 1 as settings of version 2.
+-- Settings of version 1 as settings of version 2. It states no standard.
 use Rattle.std.specs.Prelude.{ℕ, pos, List, Bool, true, false, if◌then◌else◌, Option, Some, None, option_map, Ok, codes}
 use Rattle.std.specs.Ordering.{nat_cmp, match_ordering}
 use Rattle.std.specs.Cmp.Lexicographic.{slice_cmp}

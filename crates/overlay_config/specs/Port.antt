@@ -1,4 +1,4 @@
--- The keys of `port.k`.
+-- The keys of `port.k`. It states no standard.
 use Rattle.std.specs.Prelude.{ℕ, List, [], ◌∷◌, true, Ok, codes}
 use Rattle.vlan_ports.specs.declared.port.Accept.{Accept}
 use Rattle.vlan_ports.specs.declared.port.Accept.TheVariants.{All, Tagged, Untagged}

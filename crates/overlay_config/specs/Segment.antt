@@ -1,4 +1,4 @@
--- The keys of `segment.k`.
+-- The keys of `segment.k`. It states no standard.
 use Rattle.std.specs.Prelude.{ℕ, List, [], ◌∷◌, ◌++◌, ◌+◌, length, Bool, ◌||◌, ◌==◌, Ok, codes}
 use Rattle.std.specs.List.{list_any}
 use Rattle.flood_lists.specs.declared.own.Own.{Own}

@@ -1,4 +1,4 @@
--- What a settings text means.
+-- What a settings text means. It states no standard.
 pub use Rattle.overlay_settings.specs.Settings.{Settings}
 use Rattle.std.specs.Prelude.{ℕ, nat_lt, List, [], ◌∷◌, length, ◌==◌, if◌then◌else◌, Option, Some, None, Ok, codes}
 use Rattle.toml.specs.Data.{Members}

@@ -1,4 +1,4 @@
--- The keys of `underlay` and of `underlay.hop.k`.
+-- The keys of `underlay` and of `underlay.hop.k`. It states no standard.
 use Rattle.std.specs.Prelude.{ℕ, List, [], ◌∷◌, ◌++◌, length, true, false, ◌==◌, ◌&&◌, nat_lt, if◌then◌else◌, Option, Some, None, is_none, option_map, option_and_then, Ok, codes}
 use Rattle.std.specs.List.{list_any}
 use Rattle.std.specs.FinMap.{empty, get, insert}

@@ -1,4 +1,4 @@
--- The segments that a change is about.
+-- The segments that a change is about. It states no standard.
 use Rattle.std.specs.Prelude.{ℕ, ◌==◌, Bool, true, Option, Some, None}
 use Rattle.std.specs.Option.{option_map_or}
 use Rattle.overlay_settings.specs.declared.change.Change.{Change}

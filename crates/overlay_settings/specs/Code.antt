@@ -1,4 +1,4 @@
--- How the value that contracts see of settings is stored.
+-- How the value that contracts see of settings is stored. It states no standard.
 use Rattle.std.specs.Prelude.{refl, ℕ, List}
 use Rattle.std.specs.Coded.{Coded, code_by, coded×, coded_ℕ, coded_list}
 use Rattle.vlan_ports.specs.contracts.port.PortRule as port

@@ -1,4 +1,4 @@
--- What settings keep to.
+-- What settings keep to. It states no standard.
 use Rattle.std.specs.Prelude.{◌≡◌, ℕ, ◌≤◌, ◌==◌, ◌||◌, IsTrue, IsFalse, List, [], ◌∷◌, ◌++◌, length, is_some, is_none, IfSome, Some}
 use Rattle.std.specs.List.{list_any}
 use Rattle.std.specs.FinMap.{get, len}

@@ -1,4 +1,4 @@
--- The settings of an endpoint, as they are told.
+-- The settings of an endpoint, as they are told. It states no standard.
 --     Settings      all of them
 --     tunnel_rule, member_rule, table_rule      what the rule of a segment tells each layer
 use Rattle.std.specs.Prelude.{ℕ, List, Bool, nat_eq, sum, map}

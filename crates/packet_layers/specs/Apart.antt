@@ -1,5 +1,5 @@
 -- A text that is taken apart from both ends: heads come off its front and tails off its end, and the payload is what is
--- left between them.
+-- left between them. It states no standard.
 use Rattle.std.specs.Prelude.{ℕ, ◌+◌, nat_lt, if◌then◌else◌, List, [], ◌∷◌, ◌++◌, length, map, take, drop}
 use Rattle.std.specs.List.{concat}
 use Rattle.ip_udp_view.specs.Parts.{Parts}

@@ -1,4 +1,5 @@
 -- The reasons of the layers, said of the text that stands behind the tags of a frame, and of an IP packet.
+-- It serves proofs.
 use Rattle.std.specs.Prelude.{◌==◌, ◌&&◌, Bool, not, List, [], ◌∷◌}
 use Rattle.frame_view.specs.declared.reason.Reason.{Reason}
 use Rattle.frame_view.specs.declared.reason.Reason.TheVariants.{Fragment, NotUdp, BadUdp, ZeroSum, BadUdpSum}

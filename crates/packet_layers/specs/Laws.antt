@@ -1,4 +1,5 @@
 -- What the layers of a packet are together, and what they have to do with what an endpoint answers.
+-- It states no standard.
 use Rattle.std.specs.Prelude.{◌≡◌, ℕ, ◌||◌, Bool, true, false, IsTrue, List, length, All, Option, Err}
 use Rattle.header_sums.specs.Octets.{part}
 use Rattle.frame_view.specs.declared.reason.Reason.{Reason}

@@ -1,4 +1,4 @@
--- What `next` and `is_cut` answer, by what is left of a capture.
+-- What `next` and `is_cut` answer, by what is left of a capture. It states no standard.
 use Rattle.std.specs.Prelude.{◌≡◌, Bool, true, false, List, [], ◌∷◌, ◌++◌, map, Option, Some, None, Result, Ok, Err, IfOk, IfSome}
 use Rattle.std.specs.Iterator.{YieldsFirst, YieldsThen}
 use Rattle.pcap_io.specs.Next.{End, Whole, Cut, Faulty}

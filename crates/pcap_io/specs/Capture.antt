@@ -1,4 +1,4 @@
--- A capture: a global header, records, and a rest.
+-- A capture (pcap-savefile(5)): a global header, records, and a rest.
 use Rattle.std.specs.Prelude.{◌≡◌, ℕ, List, ◌++◌, length, drop, Result, Ok, Err}
 use Rattle.header_sums.specs.Octets.{IsText}
 use Rattle.pcap_io.specs.Header.{ethernet, header_text, style_of}

@@ -1,4 +1,4 @@
--- The records of a text, and how they end.
+-- The records of a text, and how they end (pcap-savefile(5)).
 use Rattle.std.specs.Prelude.{◌≡◌, ℕ, zero, suc, List, [], ◌∷◌, ◌++◌, length, Some}
 use Rattle.pcap_io.specs.Next.{End, Whole, Next, Another, Ends, ending, next_of}
 use Rattle.pcap_io.specs.Record.{Record}

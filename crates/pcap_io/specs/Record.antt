@@ -1,4 +1,4 @@
--- What a record of a capture tells.
+-- What a record of a capture tells (pcap-savefile(5)).
 use Rattle.std.specs.Prelude.{◌<◌, ◌≤◌, ◌^◌, ℕ, List, length}
 
 -- a moment in nanoseconds, the length of the frame, and the octets of it that were captured

@@ -1,4 +1,4 @@
--- What the code finds next, without where it lies in memory.
+-- What the code finds next, without where it lies in memory. It serves proofs.
 use Rattle.std.specs.Prelude.{⊤}
 use Rattle.pcap_io.specs.Next.{Next, Another, Ends, Whole, Cut, Faulty}
 use Rattle.pcap_io.specs.Record.{IsWithinLimits}

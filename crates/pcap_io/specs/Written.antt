@@ -1,4 +1,4 @@
--- What is written: little-endian, in nanoseconds, link type Ethernet.
+-- What is written (pcap-savefile(5)): little-endian, in nanoseconds, link type Ethernet.
 use Rattle.std.specs.Prelude.{◌≡◌, ℕ, ◌/◌, ◌%◌, List, ◌++◌, length, Ok}
 use Rattle.std.specs.List.{AllByRecursion, flat_map}
 use Rattle.pcap_io.specs.Capture.{opened}

@@ -1,4 +1,4 @@
--- Counts that go round at 2^64, so that one more is always another number.
+-- Counts that go round at 2^64, so that one more is always another number. It states no standard.
 use Rattle.std.specs.Prelude.{◌≡◌, ℕ, ◌+◌, ◌%◌, ◌^◌, ◌==◌, ◌&&◌, nat_lt, Result, MatchBool, MatchResult}
 
 -- the count went on by n

@@ -1,4 +1,4 @@
--- The faults of a capture as those of a source.
+-- The faults of a capture as those of a source. It states no standard.
 use Rattle.pcap_io.specs.declared.header.CaptureFault.{CaptureFault}
 use Rattle.pcap_io.specs.declared.header.CaptureFault.TheVariants as capture
 use Rattle.pcap_io.specs.declared.record.RecordFault.{RecordFault}

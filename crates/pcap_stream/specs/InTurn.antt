@@ -1,4 +1,4 @@
--- Whole runs: all records of a capture in turn, and all texts that were put.
+-- Whole runs: all records of a capture in turn, and all texts that were put. It states no standard.
 use Rattle.std.specs.Prelude.{◌≡◌, ◌≢◌, ℕ, false, List, [], ◌∷◌, ◌++◌, MatchBool, Option, Some, None, Result, Ok, Err}
 use Rattle.std.specs.Io.KnownBytes.{Appends}
 use Rattle.std.specs.List.{concat}

@@ -1,4 +1,4 @@
--- A sink of octets, and what its calls make of it.
+-- A sink of octets, and what its calls make of it. It states no standard.
 use Rattle.std.specs.Prelude.{◌≡◌, ◌<◌, ℕ, Bool, true, false, List, length, take, Option, Result, Ok, Err, IsErr, MatchBool, flat_map}
 use Rattle.std.specs.Borrow.{Bor}
 use Rattle.std.specs.Io.KnownBytes.{Appends}

@@ -1,4 +1,4 @@
--- A source of records, and what its calls make of it.
+-- A source of records, and what its calls make of it. It states no standard.
 use Rattle.std.specs.Prelude.{◌≡◌, ◌<◌, ℕ, Bool, true, false, List, [], length, drop, Option, Some, None, Result, Ok, Err, IfSome, ⊤}
 use Rattle.pcap_io.specs.Header.{style_of}
 use Rattle.pcap_io.specs.Next.{End, Whole, Cut, Faulty, Next, Another, Ends, next_of}

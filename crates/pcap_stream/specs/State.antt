@@ -1,4 +1,4 @@
--- What the fields of a source mean.
+-- What the fields of a source mean. It states no standard.
 use Rattle.std.specs.Prelude.{◌≡◌, ◌<◌, ◌≤◌, ◌^◌, ℕ, List, length, take, Option, Some, None, ⊤}
 use Rattle.pcap_io.specs.Record.{Record, last_moment, longest}
 use Rattle.pcap_stream.specs.Source.{Standing, New, Open, Ended, Failed}

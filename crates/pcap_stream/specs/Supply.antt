@@ -1,4 +1,4 @@
--- An input of which only so many reads may still be made.
+-- An input of which only so many reads may still be made. It states no standard.
 use Rattle.std.specs.Prelude.{◌≡◌, ◌⊎◌, ◌≤◌, ℕ, ◌+◌, ◌-◌, List, length, Option, IfSome}
 use Rattle.std.specs.Io.KnownBytes.{Consumes}
 use Rattle.pcap_stream.specs.Counts.{GoesOnBy}

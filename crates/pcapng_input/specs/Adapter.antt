@@ -1,4 +1,4 @@
--- An input of a capture: what it has ready, where it stands, and what the input below it has left.
+-- An input of a capture: what it has ready, where it stands, and what the input below it has left. It states no standard.
 use Rattle.std.specs.Prelude.{◌≡◌, ◌≤◌, ℕ, Bool, false, List, [], ◌++◌, length, Option, Some, None, option_map, ⊤}
 use Rattle.std.specs.Io.KnownBytes.{Consumes, IsAtEnd}
 use Rattle.pcap_stream.specs.Supply.{Supply}

@@ -1,4 +1,4 @@
--- What is kept while a run goes, and what each step makes of it.
+-- What is kept while a run goes, and what each step makes of it. It states no standard.
 --     Keeping      the counters, and the text once the run is at its end
 --     totals_in      what the counters say
 --     Expects, Hears, Sees      an event more, an answer more, both

@@ -1,4 +1,4 @@
--- What is counted of a whole run, by the decisions of one learning bridge for each segment.
+-- What is counted of a whole run, by the decisions of one learning bridge for each segment. It states no standard.
 --     IsCounted      whoever counts looked on from the begin of a run to its end
 --     run_summary      what is told then
 use Rattle.std.specs.Prelude.{◌≡◌, ℕ, List, [], length, map}

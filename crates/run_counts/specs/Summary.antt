@@ -1,5 +1,6 @@
 -- The summary of a run: one fact a line, its words with one space between them, as `segment 10 sent 812`,
 -- `segment none dropped 10 NoSegment 1`, `change refused 2 NoPort 1`, `place p1 in 400 25600` and `cut p2 7`.
+-- It states no standard.
 use Rattle.std.specs.Prelude.{ℕ, ◌==◌, if◌then◌else◌, List, [], ◌∷◌, ◌++◌, codes, decimal, Option, Some, None}
 use Rattle.std.specs.List.{flat_map, range_with_len}
 use Rattle.frame_view.specs.Reason.{name_of, number_of}

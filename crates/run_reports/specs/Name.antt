@@ -1,4 +1,4 @@
--- The names of the events of a run, as a user gives them.
+-- The names of the events of a run, as a user gives them. It states no standard.
 use Rattle.std.specs.Prelude.{ℕ, ◌||◌, Bool, List, ◌++◌, codes, decimal}
 use Rattle.std.specs.Str.{bytes_eq}
 use Rattle.timeline.specs.Words.{source_of, source_word}

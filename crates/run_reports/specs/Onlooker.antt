@@ -1,4 +1,4 @@
--- Who looks on at a run for whom asks.
+-- Who looks on at a run for whom asks. It states no standard.
 --     Counting      whoever counts, where someone does
 --     Expected, Seen, Ended      an event more, an event with its answer, the end
 use Rattle.std.specs.Prelude.{◌≡◌, Option, Some, None}

@@ -1,4 +1,4 @@
--- What a run tells besides its outputs, to whom asks.
+-- What a run tells besides its outputs, to whom asks. It states no standard.
 use Rattle.std.specs.Prelude.{◌≡◌, ◌⊎◌, ℕ, ◌||◌, Bool, true, false, List, [], ◌++◌, length, map, replicate, nat_lt, Option, Some, None, if◌then◌else◌}
 use Rattle.std.specs.List.{list_any, zip}
 use Rattle.endpoint_core.specs.Step.{State}

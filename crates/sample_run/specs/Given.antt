@@ -1,4 +1,4 @@
--- What a run answers, of which the sample tells the decision lines.
+-- What a run answers, of which the sample tells the decision lines. It states no standard.
 use Rattle.std.specs.Prelude.{ℕ, List, Result, Ok, Err}
 use Rattle.capture_run.specs.Outputs.{Outputs}
 use Rattle.capture_run.specs.declared.fault.RunFault.{RunFault}

@@ -1,4 +1,4 @@
--- The built-in sample: a learning bridge of three ports, and four frames of 60 octets.
+-- The built-in sample: a learning bridge of three ports, and four frames of 60 octets. It states no standard.
 use Rattle.std.specs.Prelude.{ℕ, ◌*◌, List, [], ◌∷◌, ◌++◌, codes, map, replicate}
 use Rattle.std.specs.List.{flat_map}
 use Rattle.pcap_io.specs.Record.{Record}

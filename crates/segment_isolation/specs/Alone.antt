@@ -1,4 +1,4 @@
--- One segment of an endpoint among others, and alone.
+-- One segment of an endpoint among others, and alone. It states no standard.
 --     concerns, only      the events of a run that concern a segment
 --     told, told_in      what all events are answered, and what those are, each with its moment
 --     Agree      for a segment two states are one

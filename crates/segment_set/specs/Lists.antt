@@ -1,4 +1,4 @@
--- What a list of segments means, such as `10,20-29,none`.
+-- What a list of segments means, such as `10,20-29,none`. It states no standard.
 --     item_in      what stands between two commas
 --     meaning      the segments of a whole list, or its first fault
 use Rattle.std.specs.Prelude.{◌≡◌, ◌≤◌, ℕ, ◌+◌, ◌-◌, ◌*◌, ◌==◌, nat_eq, nat_lt, nat_le, ◌&&◌, if◌then◌else◌, Bool, true, false, List, [], ◌∷◌, ◌++◌, codes, drop, length, replicate, slice_range, take, Option, Some, None, Result, Ok, Err}

@@ -1,4 +1,4 @@
--- Which segments a part of a run asks for.
+-- Which segments a part of a run asks for. It states no standard.
 use Rattle.std.specs.Prelude.{◌≡◌, refl, ℕ, Bool, true, false, List, slice_index_or, Option, Some, None}
 use Rattle.std.specs.Coded.{Coded, code_by, coded×, coded_bool, coded_list, coded_option}
 use Rattle.segment_set.specs.declared.set.Picked.{Picked}

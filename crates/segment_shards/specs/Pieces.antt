@@ -1,4 +1,4 @@
--- A run in parts: which segments each part is asked for, and which pieces of the run it writes.
+-- A run in parts: which segments each part is asked for, and which pieces of the run it writes. It states no standard.
 --     Told, pieces_of      the pieces of a run, each with the segment that stands in its line
 --     pieces_in, all_pieces      those of a part, and all
 --     IsAsked, PartAll      what can be asked for, and sets of segments that part it

@@ -1,4 +1,4 @@
--- What a decision line tells a merge: which event it is of, and where that was sent.
+-- What a decision line tells a merge: which event it is of, and where that was sent. It states no standard.
 use Rattle.std.specs.Prelude.{ℕ, ◌-◌, ◌==◌, nat_le, Bool, List, length, take, slice_index, codes, count_by, if◌then◌else◌, Option, Some, None, Result, Ok, Err}
 use Rattle.header_sums.specs.Octets.{is_same}
 use Rattle.line_words.specs.Words.{word, behind}

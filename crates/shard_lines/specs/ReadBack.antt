@@ -1,4 +1,4 @@
--- The law of reading: what is written in a decision line is what is read from it.
+-- The law of reading: what is written in a decision line is what is read from it. It states no standard.
 use Rattle.std.specs.Prelude.{◌≡◌, ◌<◌, ℕ, ◌^◌, List, [], length, IfOk, Option, Some, None, Result, Ok, Err}
 use Rattle.std.specs.List.{AllByRecursion, filter_map}
 use Rattle.frame_view.specs.declared.reason.Reason.{Reason}

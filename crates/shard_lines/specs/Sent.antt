@@ -1,4 +1,4 @@
--- The places that a result in a decision line says something was sent at.
+-- The places that a result in a decision line says something was sent at. It states no standard.
 use Rattle.std.specs.Prelude.{ℕ, ◌==◌, nat_lt, Bool, true, List, [], ◌∷◌, if◌then◌else◌, Option, Some, None, is_some}
 use Rattle.std.specs.List.{filter_map, list_all}
 use Rattle.std.specs.Option.{option_and_then, option_map_or}

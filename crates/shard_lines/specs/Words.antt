@@ -1,4 +1,4 @@
--- The words of a decision line, and the sign between a place and what was sent there.
+-- The words of a decision line, and the sign between a place and what was sent there. It states no standard.
 use Rattle.std.specs.Prelude.{ℕ, ◌==◌, List, [], ◌∷◌, if◌then◌else◌, Option, Some, None, option_map}
 
 -- a character put in front of the first word

@@ -1,4 +1,4 @@
--- A part of a run: what its next line is of, and what it holds.
+-- A part of a run: what its next line is of, and what it holds. It states no standard.
 --     Shard      a part as it stands between two lines
 --     Holds      it holds the texts of some pieces and the lines of some cut captures
 use Rattle.std.specs.Prelude.{◌≡◌, ◌≢◌, ◌<◌, ◌≤◌, ℕ, Bool, false, true, if◌then◌else◌, List, [], ◌∷◌, ◌++◌, length, slice_index, Some, Result, Ok, Err}

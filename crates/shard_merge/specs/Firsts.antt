@@ -1,4 +1,4 @@
--- The part whose event comes next.
+-- The part whose event comes next. It serves proofs.
 use Rattle.std.specs.Prelude.{◌≡◌, ◌<◌, ◌≤◌, ⊤, ℕ, List, slice_index_or, Option, Some, None}
 use Rattle.shard_merge.specs.Coming.{Shard}
 use Rattle.shard_merge.specs.declared.first.First.{First}

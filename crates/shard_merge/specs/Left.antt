@@ -1,4 +1,5 @@
 -- What the captures of a part have left, and what a merge added to its outputs, capture by capture.
+-- It states no standard.
 --     IsWritten      the text of a record that a run wrote
 --     AreLeft      each capture of a part has this text left
 --     AreAdded      each capture of the outputs holds this text more

@@ -1,4 +1,4 @@
--- The texts of a run's outputs, event by event, and those of several parts of a run put together.
+-- The texts of a run's outputs, event by event, and those of several parts of a run put together. It states no standard.
 --     Piece      the texts of one event
 --     texts_of_pieces      the outputs that hold some pieces
 --     merged      the pieces of several parts, in order of their numbers

@@ -1,4 +1,4 @@
--- Parts of a run, and the outputs that are made of them.
+-- Parts of a run, and the outputs that are made of them. It states no standard.
 --     AreParts      the parts hold the pieces of a run, each in one of them
 --     Adds      outputs hold these texts more than before
 use Rattle.std.specs.Prelude.{◌≡◌, ◌<◌, ◌==◌, ◌&&◌, nat_lt, if◌then◌else◌, ℕ, List, [], ◌∷◌, length, map, slice_index_or, slice_set, Option, Result}

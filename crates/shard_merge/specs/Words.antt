@@ -1,4 +1,4 @@
--- The words for the outputs of a merge.
+-- The words for the outputs of a merge. It states no standard.
 use Rattle.std.specs.Prelude.{ℕ, List, codes}
 use Rattle.timeline.specs.Words.{tap_word}
 use Rattle.shard_merge.specs.declared.fault.Target.{Target}

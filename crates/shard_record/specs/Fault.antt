@@ -1,4 +1,4 @@
--- What stands where a fault says that a text is none of a record's.
+-- What stands where a fault says that a text is none of a record's. It states no standard.
 use Rattle.std.specs.Prelude.{◌≡◌, ◌≢◌, ◌<◌, ◌⊎◌, ℕ, ◌+◌, ◌^◌, List, [], ◌++◌, length, codes, None, Some}
 use Rattle.timeline.specs.declared.source.Tap.TheVariants as taps
 use Rattle.shard_record.specs.Record.{Facts, IsOneLine, IsRecord, before_events, before_underlay, capture_line, changes_line, events_line, first_line, segments_line, settings_line, text_of}

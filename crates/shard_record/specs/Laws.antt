@@ -1,4 +1,4 @@
--- Laws of records and their texts.
+-- Laws of records and their texts. It states no standard.
 use Rattle.std.specs.Prelude.{◌≡◌}
 use Rattle.shard_record.specs.Record.{Facts, IsRecord, text_of}
 

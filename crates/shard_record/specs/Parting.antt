@@ -1,4 +1,4 @@
--- Whether the parts of a run are all of it.
+-- Whether the parts of a run are all of it. It states no standard.
 use Rattle.std.specs.Prelude.{◌≡◌, ◌<◌, ℕ, List, Option, None, Some, count_by}
 use Rattle.frame_view.specs.Tag.{IsVid}
 use Rattle.segment_set.specs.Segments.{Segments, holds}

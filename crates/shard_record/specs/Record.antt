@@ -1,4 +1,4 @@
--- The text that says what a part of a run was made from.
+-- The text that says what a part of a run was made from. It states no standard.
 use Rattle.std.specs.Prelude.{◌≢◌, ◌<◌, ◌≤◌, ℕ, ◌+◌, ◌^◌, List, [], ◌∷◌, ◌++◌, length, slice_index, codes, decimal, All, Option, Some, None, IfSome}
 use Rattle.hex.specs.Hex.{encode_lower}
 use Rattle.timeline.specs.Words.{tap_word}

@@ -1,4 +1,4 @@
--- Whether two parts are of one run.
+-- Whether two parts are of one run. It states no standard.
 use Rattle.std.specs.Prelude.{◌≡◌, ℕ, zero, suc, ◌+◌, List, Option, None, Some, nat_lt, Bool, slice_get}
 use Rattle.timeline.specs.declared.source.Tap.{Tap}
 use Rattle.timeline.specs.declared.source.Tap.TheVariants as taps

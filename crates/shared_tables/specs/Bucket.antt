@@ -1,4 +1,4 @@
--- The bucket of an address in a segment, and its chain: each bucket has sixteen.
+-- The bucket of an address in a segment, and its chain: each bucket has sixteen. It states no standard.
 use Rattle.std.specs.Prelude.{ℕ, ◌+◌, ◌*◌, ◌/◌, ◌%◌, ◌^◌, List, ◌++◌, take, drop}
 use Rattle.std.specs.Int.{from_be_bytes, to_be_bytes, w16, w64}
 use Rattle.header_sums.specs.Octets.{octets}

@@ -1,4 +1,4 @@
--- A list of slots, linked both ways.
+-- A list of slots, linked both ways. It states no standard.
 use Rattle.std.specs.Prelude.{◌≡◌, ℕ, Bool, false, ◌||◌, List, [], ◌∷◌, length, Option, Some, None, nat_eq, if◌then◌else◌}
 use Rattle.std.specs.List.{sum_by}
 use Rattle.shared_tables.specs.declared.slots.Links.{Links}

@@ -1,4 +1,4 @@
--- The live entries of a segment, as the slots have them.
+-- The live entries of a segment, as the slots have them. It serves proofs.
 use Rattle.std.specs.Prelude.{ℕ, ◌&&◌, List, Option, Some, None, nat_eq, if◌then◌else◌}
 use Rattle.std.specs.List.{filter_map}
 use Rattle.filter_db.specs.declared.entry.Entry.{Entry}

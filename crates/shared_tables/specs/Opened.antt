@@ -1,4 +1,4 @@
--- The shares of new tables.
+-- The shares of new tables. It serves proofs.
 use Rattle.std.specs.Prelude.{◌≡◌, ℕ, ◌<◌, ◌≤◌, List, length, map, Option, Some, None}
 use Rattle.std.specs.Option.{option_map}
 use Rattle.std.specs.List.{sum_by}

@@ -1,4 +1,4 @@
--- What contracts see of the slots of a pool.
+-- What contracts see of the slots of a pool. It states no standard.
 use Rattle.std.specs.Prelude.{◌≡◌, ℕ, Bool, false, List, Option, Some, None, slice_index_or, slice_set, not, is_none, replicate}
 use Rattle.std.specs.List.{sum_by}
 use Rattle.shared_tables.specs.declared.slots.Links.{Links}

@@ -1,4 +1,4 @@
--- The tables that the slots stand for.
+-- The tables that the slots stand for. It states no standard.
 use Rattle.std.specs.Prelude.{◌≡◌, ℕ, List, [], ◌∷◌, Option, Some, None, nat_eq, if◌then◌else◌}
 use Rattle.std.specs.Option.{option_map}
 use Rattle.std.specs.FinMap.{from_entries}

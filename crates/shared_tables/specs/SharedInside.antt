@@ -1,4 +1,4 @@
--- What the fields of `SharedTables` stand for.
+-- What the fields of `SharedTables` stand for. It states no standard.
 use Rattle.std.specs.Prelude.{map}
 use Rattle.std.specs.Option.{option_map}
 use Rattle.shared_tables.specs.declared.shared_tables.SharedTables.TheInside.{Inside}

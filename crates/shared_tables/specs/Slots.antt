@@ -1,4 +1,4 @@
--- What the slots stand for, and their free list.
+-- What the slots stand for, and their free list. It serves proofs.
 use Rattle.std.specs.Prelude.{◌≡◌, ◌≢◌, ℕ, ◌<◌, ◌≤◌, List, [], ◌∷◌, length, map, Option, Some, None, slice_index_or, is_some, nat_eq, if◌then◌else◌}
 use Rattle.filter_db.specs.declared.place.Place.{Place}
 use Rattle.filter_db.specs.Place.{no_place}

@@ -1,4 +1,4 @@
--- What holds of the slots, the chains' heads and the segments together.
+-- What holds of the slots, the chains' heads and the segments together. It states no standard.
 use Rattle.std.specs.Prelude.{◌≡◌, ℕ, ◌+◌, ◌-◌, ◌<◌, ◌≤◌, Bool, true, false, List, [], ◌∷◌, length, Option, Some, None, slice_index_or, slice_set}
 use Rattle.std.specs.Option.{option_map}
 use Rattle.std.specs.List.{sum_by}

@@ -1,4 +1,4 @@
--- Segments that come, go and get other limits, as the pool keeps them. Serves the proofs.
+-- Segments that come, go and get other limits, as the pool keeps them. It serves proofs.
 use Rattle.std.specs.Prelude.{◌≡◌, ℕ, true, false, List, Option, Some, None}
 use Rattle.filter_db.specs.Segment.{Segment}
 use Rattle.shared_tables.specs.declared.share.Share.{Share}

@@ -1,4 +1,4 @@
--- What the steps on a thread do to the slots' links.
+-- What the steps on a thread do to the slots' links. It serves proofs.
 use Rattle.std.specs.Prelude.{ℕ, ◌<◌, List, length, Option, Some, None, IsSome, IfSome, slice_set, is_none, if◌then◌else◌}
 use Rattle.shared_tables.specs.declared.slots.Links.{Links}
 use Rattle.shared_tables.specs.Pool.{Held}

@@ -1,4 +1,4 @@
--- The work that calls do, as counts without an upper end.
+-- The work that calls do, as counts without an upper end. It states no standard.
 use Rattle.std.specs.Prelude.{◌≡◌, ℕ, ◌+◌, ◌*◌, ◌≤◌, Bool, false, List, [], ◌∷◌, Option, Some, None}
 use Rattle.std.specs.List.{sum_by, AllByRecursion}
 use Rattle.shared_tables.specs.Pool.{Held}

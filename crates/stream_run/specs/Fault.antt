@@ -1,4 +1,4 @@
--- The faults of a source as those of a run.
+-- The faults of a source as those of a run. It serves proofs.
 use Rattle.std.specs.Prelude.{ℕ}
 use Rattle.pcap_io.specs.declared.header.CaptureFault.TheVariants as capture
 use Rattle.pcap_io.specs.declared.record.RecordFault.TheVariants as record_

@@ -1,4 +1,4 @@
--- One fetch of a source.
+-- One fetch of a source. It states no standard.
 use Rattle.std.specs.Prelude.{◌≡◌, ◌≤◌, ⊤, ℕ, ◌+◌, max, List, length, Option, Some, None, option_map, IfOk, Result, Ok, Err}
 use Rattle.pcap_io.specs.Record.{Record, last_moment}
 use Rattle.pcap_stream.specs.InTurn.{IsReading}

@@ -1,4 +1,4 @@
--- A line that is made piece by piece.
+-- A line that is made piece by piece. It serves proofs.
 use Rattle.std.specs.Prelude.{◌≡◌, ◌≤◌, ⊤, ℕ, ◌+◌, List, ◌++◌, length, Result, Ok, Err}
 
 module _ {T E : Type 0} where

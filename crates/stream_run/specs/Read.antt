@@ -1,4 +1,4 @@
--- How far the captures of a run are read.
+-- How far the captures of a run are read. It states no standard.
 --     StandsBehind      so many records of a source were events, and the next one is lent
 --     IsRead      the same, as a turn counts them
 --     ReadsWith      no read failed, or just one, where a source gave up

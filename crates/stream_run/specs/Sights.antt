@@ -1,4 +1,4 @@
--- What is seen of a run by whoever looks on.
+-- What is seen of a run by whoever looks on. It states no standard.
 --     Due      an event that comes, and how the endpoint stands before it
 --     Sight      the same, and what the event is answered
 --     sights      those of events one after another

@@ -1,4 +1,4 @@
--- How far the outputs of a run have come.
+-- How far the outputs of a run have come. It states no standard.
 --     stage      the texts after so many steps: the headers, each event, the lines of the cut captures
 --     StandBetween      what the outputs hold more than before: at least the one texts, and at most the others
 use Rattle.std.specs.Prelude.{◌≡◌, ◌<◌, ◌≤◌, ℕ, zero, suc, ◌-◌, nat_lt, if◌then◌else◌, Bool, false, List, [], length, replicate, take, slice_index_or, map, Option, Result, Ok, Err}

@@ -1,4 +1,4 @@
--- The steps of a run.
+-- The steps of a run. It states no standard.
 --     Run      what a run reads, writes and keeps
 --     AreReady      the next event of each source is known
 --     AreRead      the same, by the octets of the captures

@@ -1,4 +1,4 @@
--- Whose event comes next.
+-- Whose event comes next. It states no standard.
 --     Turn      where a source of events stands: how many of its events came, and the moment of the next one
 use Rattle.std.specs.Prelude.{◌≡◌, ◌<◌, ◌≤◌, ⊤, ℕ, List, slice_index_or, Option, Some, None}
 use Rattle.stream_run.specs.declared.turn.First.{First}

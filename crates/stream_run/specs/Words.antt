@@ -1,4 +1,4 @@
--- The words for outputs.
+-- The words for outputs. It states no standard.
 use Rattle.std.specs.Prelude.{ℕ, List, ◌++◌, codes, decimal}
 use Rattle.stream_run.specs.declared.fault.Target.{Target}
 use Rattle.stream_run.specs.declared.fault.Target.TheVariants as targets

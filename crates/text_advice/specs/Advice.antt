@@ -1,5 +1,5 @@
 -- Why a text was refused, as it is told: a line with the file, the place and the fault, and below it what was found, the key
--- that was meant, the keys of the table, and what is allowed.
+-- that was meant, the keys of the table, and what is allowed. It states no standard.
 use Rattle.std.specs.Prelude.{ℕ, ◌-◌, string_bytes, get_or, length, List, [], ◌∷◌, ◌++◌, map, take, nat_le, ◌&&◌, ◌||◌, ◌==◌, Option, Some, None, codes, decimal, if◌then◌else◌}
 use Rattle.config_text.specs.declared.fault.SettingsFault.{SettingsFault}
 use Rattle.config_text.specs.declared.fault.SettingsFault.TheVariants.{NotToml, Missing, BadValue, TwoSegments, NotRising, OverLimit, OutOfMemory}

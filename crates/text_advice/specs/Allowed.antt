@@ -1,4 +1,4 @@
--- What is allowed under each key, by the sentences that src/allowed.rt has.
+-- What is allowed under each key, by the sentences that src/allowed.rt has. It states no standard.
 use Rattle.std.specs.Prelude.{ℕ, List, [], ◌∷◌, map, ◌&&◌, Option, Some, None, if◌then◌else◌}
 use Rattle.text_advice.specs.Line.{same}
 use Rattle.text_advice.specs.Known.{fits}

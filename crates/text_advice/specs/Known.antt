@@ -1,4 +1,4 @@
--- The keys of each table, by the rows that src/known.rt has.
+-- The keys of each table, by the rows that src/known.rt has. It states no standard.
 use Rattle.std.specs.Prelude.{ℕ, List, [], ◌∷◌, map, Bool, true, ◌&&◌, if◌then◌else◌}
 use Rattle.text_advice.specs.Line.{same}
 use Rattle.text_advice.specs.declared.known.TextKind.{TextKind}

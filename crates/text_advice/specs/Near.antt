@@ -1,4 +1,4 @@
--- The known key that is nearest to a word.
+-- The known key that is nearest to a word. It states no standard.
 use Rattle.std.specs.Prelude.{ℕ, List, [], ◌∷◌, length, nat_eq, nat_le, Option, Some, None, if◌then◌else◌}
 use Rattle.strsim.specs.Edits.{levenshtein_row}
 

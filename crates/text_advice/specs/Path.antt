@@ -1,4 +1,5 @@
 -- The path of a key: names, and the numbers of the tables of lists, joined by dots; as segment.2.tunnel.1.vni.
+-- It states no standard.
 use Rattle.std.specs.Prelude.{ℕ, List, [], ◌∷◌, ◌++◌, nat_le, Bool, false, ◌&&◌, Option, Some, option_and_then, codes, if◌then◌else◌}
 use Rattle.text_advice.specs.Search.{Block, block_of, table_in}
 use Rattle.text_advice.specs.declared.path.Spot as code

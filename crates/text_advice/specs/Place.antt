@@ -1,4 +1,4 @@
--- Lines and columns, both from 1.
+-- Lines and columns, both from 1. It states no standard.
 use Rattle.std.specs.Prelude.{ℕ, ◌+◌, ◌-◌, List, [], ◌∷◌, length, ◌==◌, if◌then◌else◌}
 use Rattle.text_advice.specs.Line.{past_blanks}
 use Rattle.text_advice.specs.Search.{Line}

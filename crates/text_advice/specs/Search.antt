@@ -1,4 +1,4 @@
--- Where a table and its keys stand in the lines of a text.
+-- Where a table and its keys stand in the lines of a text. It states no standard.
 use Rattle.std.specs.Prelude.{ℕ, ◌+◌, List, [], ◌∷◌, map, Bool, false, true, not, ◌&&◌, Option, Some, None, decimal, if◌then◌else◌}
 use Rattle.text_advice.specs.Line.{same, word, is_text, header_name, opens, is_header, child_on, is_key_line}
 use Rattle.text_advice.specs.declared.block.Line as code_line

@@ -1,4 +1,4 @@
--- Texts of parts with a separator between them.
+-- Texts of parts with a separator between them. It states no standard.
 use Rattle.std.specs.Prelude.{ℕ, List, [], ◌∷◌, ◌==◌, Option, Some, None, option_map, if◌then◌else◌}
 
 -- what stands before the first separator, and what behind it

@@ -1,4 +1,4 @@
--- What is told of the key of a fault.
+-- What is told of the key of a fault. It states no standard.
 use Rattle.std.specs.Prelude.{ℕ, List, [], ◌∷◌, map, ◌||◌, ◌==◌, Option, Some, None, option_map, option_and_then, codes, if◌then◌else◌}
 use Rattle.text_advice.specs.Line.{word, bare, past_blanks, is_header, child_on, value}
 use Rattle.text_advice.specs.Search.{Line, Block, top, key_line, unknown_line, table_name, unknown_table, table_line}

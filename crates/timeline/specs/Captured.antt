@@ -1,4 +1,4 @@
--- What a record of a capture tells of a frame.
+-- What a record of a capture tells of a frame. It states no standard.
 use Rattle.std.specs.Prelude.{ℕ, List}
 
 -- the length of the frame, and the octets of it that were captured

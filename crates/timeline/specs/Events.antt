@@ -1,4 +1,4 @@
--- The events of each source.
+-- The events of each source. It states no standard.
 use Rattle.std.specs.Prelude.{◌≡◌, ◌<◌, ◌≤◌, ℕ, ◌+◌, ◌^◌, max, List, [], ◌∷◌, ◌++◌, length, slice_get, take, option_map}
 use Rattle.std.specs.List.{flat_map}
 use Rattle.pcap_io.specs.Record.{Record, last_moment, longest}

@@ -1,4 +1,4 @@
--- What is wrong with captures, in order.
+-- What is wrong with captures, in order. It states no standard.
 use Rattle.std.specs.Prelude.{◌≡◌, ℕ, ◌+◌, List, ◌++◌, length, Option, Some, None, Result, Ok, Err}
 use Rattle.std.specs.List.{filter_map}
 use Rattle.pcap_io.specs.Capture.{opened}

@@ -1,4 +1,4 @@
--- The captures that come in, and what is opened of them.
+-- The captures that come in, and what is opened of them. It states no standard.
 use Rattle.std.specs.Prelude.{◌<◌, ℕ, ◌+◌, ◌^◌, List, [], ◌∷◌, length, Vec, Option, Some, None, Result, Ok, Err}
 use Rattle.std.specs.List.{AllByRecursion, filter_map}
 use Rattle.std.specs.declared.alloc.Global.{Global}

@@ -1,4 +1,4 @@
--- The order of events.
+-- The order of events. It states no standard.
 use Rattle.std.specs.Prelude.{◌≡◌, ◌≤◌, ℕ, Bool, ◌==◌, nat_lt, if◌then◌else◌, List, [], ◌∷◌, filter}
 use Rattle.timeline.specs.Events.{events_of}
 use Rattle.timeline.specs.declared.capture.Opened.{Opened}

@@ -1,4 +1,4 @@
--- What the texts of a run tell: its events in order, or the first fault.
+-- What the texts of a run tell: its events in order, or the first fault. It states no standard.
 use Rattle.std.specs.Prelude.{◌≡◌, ℕ, List, [], ◌∷◌, length, Vec, Option, Some, None, Result, Ok, Err}
 use Rattle.std.specs.List.{filter_map}
 use Rattle.std.specs.declared.alloc.Global.{Global}

@@ -1,4 +1,4 @@
--- No frame leaves twice at one place.
+-- No frame leaves twice at one place. It states no standard.
 use Rattle.std.specs.Prelude.{◌≢◌, List, IfOk}
 use Rattle.std.specs.List.{AllPairs}
 use Rattle.frame_view.specs.Frame.{Frame}

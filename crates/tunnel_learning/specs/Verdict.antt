@@ -1,4 +1,4 @@
--- A verdict as the list of places, or the reason.
+-- A verdict as the list of places, or the reason. It states no standard.
 use Rattle.std.specs.Prelude.{List, Result, Ok, Err}
 use Rattle.frame_view.specs.declared.reason.Reason.{Reason}
 use Rattle.filter_db.specs.declared.place.Place.{Place}

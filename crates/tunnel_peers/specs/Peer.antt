@@ -1,4 +1,4 @@
--- What one endpoint sends to another arrives there.
+-- What one endpoint sends to another arrives there. It states no standard.
 use Rattle.std.specs.Prelude.{◌≡◌, ◌⊎◌, ℕ, true, false, length, Some, None, Ok}
 use Rattle.frame_view.specs.Address.{is_group as is_group_mac, is_reserved}
 use Rattle.frame_view.specs.Frame.{Frame, IsFrame}

@@ -1,4 +1,4 @@
--- How the values that contracts see of the segments are stored.
+-- How the values that contracts see of the segments are stored. It states no standard.
 use Rattle.std.specs.Prelude.{refl}
 use Rattle.std.specs.Coded.{Coded, code_by, coded×, coded_ℕ}
 use Rattle.std.specs.FinMap.{code}

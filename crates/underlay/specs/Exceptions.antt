@@ -1,4 +1,4 @@
--- Exceptions from the next hop.
+-- Exceptions from the next hop. It states no standard.
 use Rattle.std.specs.Prelude.{ℕ, List}
 use Rattle.ip_udp_view.specs.Addr.{address}
 use Rattle.underlay.specs.declared.hops.Hop.{Hop}

@@ -1,4 +1,4 @@
--- The heads of the packets in the segments' tunnels.
+-- The heads of the packets in the segments' tunnels. It states no standard.
 use Rattle.std.specs.Prelude.{◌≡◌, ℕ, List, Option}
 use Rattle.std.specs.Option.{option_map, option_and_then}
 use Rattle.std.specs.FinMap.{get}

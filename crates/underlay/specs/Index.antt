@@ -1,4 +1,4 @@
--- What an index of the segments by their VNIs holds.
+-- What an index of the segments by their VNIs holds. It serves proofs.
 use Rattle.std.specs.Prelude.{◌≡◌, ℕ, ◌+◌, ◌==◌, Bool, false, is_some, if◌then◌else◌, List, [], ◌∷◌, Option}
 use Rattle.std.specs.Option.{option_map_or}
 use Rattle.std.specs.Ordering.{nat_cmp}

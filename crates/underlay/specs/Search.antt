@@ -1,4 +1,4 @@
--- Where an entry of a finite map stands, in the order of the keys.
+-- Where an entry of a finite map stands, in the order of the keys. It serves proofs.
 use Rattle.std.specs.Prelude.{◌≡◌, ℕ, ◌<◌, ◌≤◌, length}
 use Rattle.std.specs.List.{HoldsAt, AllWithin}
 use Rattle.std.specs.declared.cmp.Ordering.{Ordering}

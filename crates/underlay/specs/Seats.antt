@@ -1,4 +1,4 @@
--- The segments in rows that stand densely, behind an index of VIDs.
+-- The segments in rows that stand densely, behind an index of VIDs. It serves proofs.
 use Rattle.std.specs.Prelude.{◌≡◌, ℕ, ◌+◌, List, [], ◌∷◌, Option, None, Some, get_or, map}
 use Rattle.std.specs.Option.{option_map, option_and_then}
 use Rattle.std.specs.Ordering.{nat_cmp}

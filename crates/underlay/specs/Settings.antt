@@ -1,4 +1,4 @@
--- The settings of the underlay.
+-- The settings of the underlay. It states no standard.
 use Rattle.std.specs.Prelude.{ℕ, ◌==◌, Bool, List, Option, Some, None, unwrap_or, if◌then◌else◌}
 use Rattle.std.specs.FinMap.{get}
 use Rattle.flood_lists.specs.declared.own.Own.{Own}

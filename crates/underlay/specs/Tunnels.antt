@@ -1,4 +1,4 @@
--- The tunnels of a segment.
+-- The tunnels of a segment. It states no standard.
 use Rattle.std.specs.Prelude.{◌≡◌, refl, List, ◌∷◌, Option, Some, None, slice_get}
 use Rattle.std.specs.List.{find}
 use Rattle.std.specs.Option.{option_to_list}

@@ -1,4 +1,4 @@
--- How the values that contracts see of the ports are stored.
+-- How the values that contracts see of the ports are stored. It states no standard.
 use Rattle.std.specs.Prelude.{refl, List}
 use Rattle.std.specs.Coded.{Coded, code_by, coded×, coded_ℕ, coded_list}
 use Rattle.std.specs.FinMap.{code}

@@ -1,4 +1,4 @@
--- A row of places, of which each may hold something, as a finite map from their numbers.
+-- A row of places, of which each may hold something, as a finite map from their numbers. It states no standard.
 use Rattle.std.specs.Prelude.{ℕ, suc, List, [], ◌∷◌, Option, None, Some}
 use Rattle.std.specs.Ordering.{nat_cmp}
 use Rattle.std.specs.FinMap.{FinMap, empty, insert}

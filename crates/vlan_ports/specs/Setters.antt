@@ -1,4 +1,4 @@
--- What the look-ups answer after a setter: what it set, and everything else as before.
+-- What the look-ups answer after a setter: what it set, and everything else as before. It states no standard.
 use Rattle.std.specs.Prelude.{◌≡◌, ◌≤◌, ℕ, Bool, ◌==◌, ◌&&◌, ◌||◌, if◌then◌else◌, length, Option, Some, None}
 use Rattle.std.specs.FinMap.{empty}
 use Rattle.vlan_ports.specs.declared.member.Egress.{Egress}

@@ -1,4 +1,4 @@
--- What stands at the places of a VXLAN packet, and why a text is none.
+-- What stands at the places of a VXLAN packet, and why a text is none (RFC 7348, 5).
 use Rattle.std.specs.Prelude.{◌≡◌, ℕ, Bool, not, nat_lt, List, [], ◌∷◌, ◌++◌, length, drop, None}
 use Rattle.frame_view.specs.First.{first}
 use Rattle.frame_view.specs.declared.reason.Reason.{Reason}

@@ -1,5 +1,5 @@
 -- The records of a source, one after another.
-use Rattle.std.proofs.Common.{◌≡◌, ◌≢◌, ◌⊎◌, ◌∙◌, refl, sym, ap, subst, ℕ, ◌+◌, ◌≤◌, ◌<◌, ◌^◌, List, [], ◌∷◌, ◌++◌, length, length-append, arith, Some, None, Result, Ok, Err}
+use Rattle.std.proofs.Common.{◌≡◌, ◌≢◌, ◌⊎◌, ◌∙◌, refl, sym, ap, subst, ℕ, ◌+◌, ◌*◌, ◌≤◌, ◌<◌, ◌^◌, List, [], ◌∷◌, ◌++◌, length, length-append, arith, Some, None, Result, Ok, Err}
 use Rattle.pcap_io.specs.Capture.{opened}
 use Rattle.pcap_io.specs.Next.{End, Whole, Cut, Faulty}
 use Rattle.pcap_io.specs.Record.{Record}
@@ -8,7 +8,7 @@ use Rattle.pcap_io.specs.declared.record.RecordFault.TheVariants.{BadFraction, T
 use Rattle.pcap_stream.specs.Counts.{GoesOnBy}
 use Rattle.pcap_stream.specs.Fault.{record_fault}
 use Rattle.pcap_stream.specs.InTurn.{IsReading}
-use Rattle.pcap_stream.specs.Source.{Standing, Stream, New, Open, Ended, Failed, IsFilled, IsFilledFrom, MatchRead, ReadsNext, after_end, answer, lent}
+use Rattle.pcap_stream.specs.Source.{Standing, Stream, New, Open, Ended, Failed, IsFilled, IsFilledFrom, MatchRead, ReadsNext, after_end, answer, lent, most_left}
 use Rattle.pcap_stream.specs.Supply.{GivesUp, Supply}
 use Rattle.pcap_stream.specs.declared.fault.SourceFault.{SourceFault}
 use Rattle.pcap_stream.specs.declared.fault.SourceFault.TheVariants as source
@@ -53,29 +53,29 @@ pub record HasRead (bound : ℕ) (start now : Stream) (tally : Tally) : Type 0 w
   pub reading : (text : List ℕ) → IsReading text [] start → IsReading text rs now
   pub is_open : IsOpen now.standing
   pub quiet : now.supply.failures ≡ start.supply.failures
-  pub spent : length rs + now.supply.reads ≤ start.supply.reads
+  pub spent : 16 * length rs + most_left now ≤ most_left start
 
 pub has_begun : (bound : ℕ) (start : Stream) (t : Tally) → IsOpen start.standing → t ≡ tally_of bound [] → HasRead bound start start t
 has_begun bound start t is_open is = record { rs = []; tally_is = is; reading = λ text h. h; is_open = is_open; quiet = refl; spent = omega arith }
 
 pub has_more : (bound : ℕ) (start old new : Stream) (t u : Tally) (r : Record) → HasRead bound start old t → IsFilled {T = Unit {0}} old new (Ok tt) → lent new.standing ≡ Some r
-    → new.supply.reads < old.supply.reads → ((rs : List Record) → t ≡ tally_of bound rs → u ≡ tally_of bound (rs ++ r ∷ [])) → HasRead bound start new u
-has_more bound start old new t u r so_far filled lends fewer counts = record {
+    → 16 + most_left new ≤ most_left old → ((rs : List Record) → t ≡ tally_of bound rs → u ≡ tally_of bound (rs ++ r ∷ [])) → HasRead bound start new u
+has_more bound start old new t u r so_far filled lends less counts = record {
   rs = so_far.rs ++ r ∷ [];
   tally_is = counts so_far.rs so_far.tally_is;
   reading = λ text h. one_more text so_far.rs r old new (so_far.reading text h) filled lends;
   is_open = lends_open new.standing r lends;
   quiet = read_on old new (Ok tt) old.standing so_far.is_open filled ∙ so_far.quiet;
-  spent = let spent = so_far.spent in let more = length-append so_far.rs (r ∷ []) in omega (arith, more, spent, fewer);
+  spent = let spent = so_far.spent in let more = length-append so_far.rs (r ∷ []) in omega (arith, more, spent, less);
 }
 
 -- another record can be counted
-pub may_count : (bound : ℕ) (start old new : Stream) (t : Tally) → HasRead bound start old t → new.supply.reads < old.supply.reads → start.supply.reads + 1 < 2 ^ 64 → HasRoom t
-may_count bound start old new t so_far fewer few =
-    let spent = so_far.spent in has_room bound so_far.rs t so_far.tally_is (omega (arith, spent, fewer, few))
+pub may_count : (bound : ℕ) (start old new : Stream) (t : Tally) → HasRead bound start old t → 16 + most_left new ≤ most_left old → most_left start < 2 ^ 64 → HasRoom t
+may_count bound start old new t so_far less few =
+    let spent = so_far.spent in has_room bound so_far.rs t so_far.tally_is (omega (arith, spent, less, few))
 
 -- and its number fits
-pub may_number : (bound : ℕ) (start old : Stream) (t : Tally) → HasRead bound start old t → start.supply.reads + 1 < 2 ^ 64 → t.records + 1 < 2 ^ 64
+pub may_number : (bound : ℕ) (start old : Stream) (t : Tally) → HasRead bound start old t → most_left start < 2 ^ 64 → t.records + 1 < 2 ^ 64
 may_number bound start old t so_far few =
     let spent = so_far.spent in let count = ap (λ (t : Tally). t.records) so_far.tally_is in omega (arith, spent, count, few)
 

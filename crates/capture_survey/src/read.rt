@@ -1,6 +1,7 @@
 //! The records of a capture, counted one after another.
-ghost use Rattle.std.specs.Prelude.{◌≡◌, ◌<◌, ◌+◌, ◌^◌, ℕ, List, []};
+ghost use Rattle.std.specs.Prelude.{◌≡◌, ◌<◌, ◌^◌, ℕ, List, []};
 ghost use Rattle.pcap_stream.specs.InTurn.{IsReading};
+ghost use Rattle.pcap_stream.specs.Source.{most_left};
 ghost use Rattle.capture_survey.specs.Survey.{IsOpen, ReadsAll, ReadsWith};
 
 use crate::fault::{SurveyFault, source_fault};
@@ -13,7 +14,7 @@ pub(crate) fn read_records<R: Input>(
     bound: usize,
 ) -> Result<Tally, SurveyFault>
     requires open { IsOpen source.old.standing }
-    requires reads { source.old.supply.reads + 1 < 2 ^ 64 }
+    requires most { most_left source.old < 2 ^ 64 }
     ensures told { (text : List ℕ) → IsReading text [] source.old → ReadsAll bound text source.new.standing result }
     ensures reads { ReadsWith source.old.supply source.new.supply result }
 {

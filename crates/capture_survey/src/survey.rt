@@ -1,6 +1,6 @@
 //! What is in a capture.
-ghost use Rattle.std.specs.Prelude.{◌≡◌, ◌≤◌, ◌<◌, ◌+◌, ◌^◌, ℕ, List, Some, IfOk};
-ghost use Rattle.pcap_stream.specs.Source.{New};
+ghost use Rattle.std.specs.Prelude.{◌≡◌, ◌≤◌, ◌<◌, ◌^◌, ℕ, List, Some, IfOk};
+ghost use Rattle.pcap_stream.specs.Source.{New, most_left};
 ghost use Rattle.capture_survey.specs.Survey.{Begins, Gives, IsOpen, ReadsWith, surveyed};
 ghost use Rattle.capture_survey.specs.Tally.{longest_at};
 
@@ -24,11 +24,13 @@ pub struct Survey {
 
 /// What is in the capture of a tap. It reads the capture to its end, record by record.
 ///
+/// At most 2^64 - 1 octets may come, counted as 262,144 by each read that the source may make: so all counts fit.
+///
 /// The faults are those that a run stops at. `Read` comes only where a read failed, or one more was needed than the source
 /// may make.
 pub fn survey_capture<R: Input>(source: &mut Source<R>, tap: Tap) -> Result<Survey, SurveyFault>
     requires new { source.old.standing ≡ New }
-    requires reads { source.old.supply.reads + 1 < 2 ^ 64 }
+    requires most { most_left source.old < 2 ^ 64 }
     ensures told { (text : List ℕ) → source.old.supply.rest ≡ Some text → Gives result (surveyed (longest_at tap) text) }
     ensures reads { ReadsWith source.old.supply source.new.supply result }
 {
@@ -52,7 +54,7 @@ fn begin<R: Input>(source: &mut Source<R>) -> Result<Style, SurveyFault>
     ensures told { (text : List ℕ) → source.old.supply.rest ≡ Some text → Begins text source.new result }
     ensures open { IfOk result (λ _. IsOpen source.new.standing) }
     ensures reads { ReadsWith source.old.supply source.new.supply result }
-    ensures fewer { source.new.supply.reads ≤ source.old.supply.reads }
+    ensures most { most_left source.new ≤ most_left source.old }
 {
     if let Err(fault) = source.open() {
         return Err(source_fault(1, fault));

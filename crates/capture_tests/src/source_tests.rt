@@ -151,26 +151,27 @@ fn lends_the_records_in_any_pieces(rt: HostRuntime) -> Result<(), Fail> {
 const ONE_AND_CUT: &[u8] = b"\xA1\xB2\xC3\xD4\0\x02\0\x04\0\0\0\0\0\0\0\0\0\0\xFF\xFF\0\0\0\x01\
 \0\0\0\x01\0\0\0\0\0\0\0\x01\0\0\0\x01\x06\0\0\0";
 
-/// What is told of each capture where the n-th read fails, each read of at most seven octets, for the last such n. A
-/// header takes four reads, what stands before a record's octets three, those octets one, and the end one; the rest of
-/// three octets takes one, and the end behind it one.
+/// What is told of each capture where the n-th read fails, each read of seven octets, for the last such n. A read is made
+/// only for what wasn't read yet. The header ends at octet 24, which the fourth read brings; the two records at octets 43
+/// and 60, which the seventh and the ninth bring; the record before the rest at octet 41, which the sixth brings, and the
+/// rest at octet 44, which the seventh brings. One more read finds the end.
 const FAILING: [(&[u8], u64, &str); 8] = [
     (TWO_RECORDS, 4, "Read"),
-    (TWO_RECORDS, 8, "Read"),
-    (TWO_RECORDS, 12, "1000000005 [7, 8, 9] of 3, Read"),
+    (TWO_RECORDS, 7, "Read"),
+    (TWO_RECORDS, 9, "1000000005 [7, 8, 9] of 3, Read"),
     (
         TWO_RECORDS,
-        13,
+        10,
         "1000000005 [7, 8, 9] of 3, 2000000000 [4] of 1, Read",
     ),
     (
         TWO_RECORDS,
-        14,
+        11,
         "1000000005 [7, 8, 9] of 3, 2000000000 [4] of 1, end",
     ),
-    (ONE_AND_CUT, 8, "Read"),
-    (ONE_AND_CUT, 10, "1000000000 [6] of 1, Read"),
-    (ONE_AND_CUT, 11, "1000000000 [6] of 1, cut"),
+    (ONE_AND_CUT, 6, "Read"),
+    (ONE_AND_CUT, 8, "1000000000 [6] of 1, Read"),
+    (ONE_AND_CUT, 9, "1000000000 [6] of 1, cut"),
 ];
 
 /// The first read of these that is told in other words where it fails.
@@ -289,14 +290,14 @@ fn is_refused(alloc: Global, reads: u64, fault: SourceFault) -> Result<bool, All
 }
 
 /// Where the last read finds the end, the end is told; with one read fewer, one more was needed. Ten octets take two
-/// reads of five, and the end one more; two records take twelve of at most seven, and the end one more.
+/// reads of five, and the end one more; two records, 60 octets, take nine of seven, and the end one more.
 #[test]
 fn finds_the_end_with_its_last_read(rt: HostRuntime) -> Result<(), Fail> {
     assert!(rt; is_refused(rt.alloc(), 2, SourceFault::Read)?);
     assert!(rt; is_refused(rt.alloc(), 3, SourceFault::NotPcap)?);
     for (reads, expected) in [
-        (12, "1000000005 [7, 8, 9] of 3, 2000000000 [4] of 1, Read"),
-        (13, "1000000005 [7, 8, 9] of 3, 2000000000 [4] of 1, end"),
+        (9, "1000000005 [7, 8, 9] of 3, 2000000000 [4] of 1, Read"),
+        (10, "1000000005 [7, 8, 9] of 3, 2000000000 [4] of 1, end"),
     ] {
         let pieces = in_pieces(TWO_RECORDS, 7, 0);
         let is_told = is_told(rt.alloc(), pieces, reads, expected)?;

@@ -1,8 +1,7 @@
 -- Where a source gives up at the bound on its reads.
-use Rattle.std.proofs.Common.{◌≡◌, ◌∙◌, sym, ap, subst, ℕ, zero, suc, ◌+◌, ◌<◌, ◌≤◌, List, ◌++◌, length, take, arith, length-append, Result, Ok, Err, inl, inr}
+use Rattle.std.proofs.Common.{◌≡◌, ◌∙◌, sym, ap, subst, ℕ, zero, suc, ◌+◌, ◌<◌, ◌≤◌, List, ◌++◌, length, arith, length-append, Result, Ok, Err, inl, inr}
 use Rattle.std.proofs.KnownBytes.{Consumes-trans}
 use Rattle.std.proofs.lemmas.Bool.{ne_eqb}
-use Rattle.std.proofs.lemmas.List.{take_all}
 use Rattle.std.specs.Io.KnownBytes.{Consumes}
 use Rattle.std.specs.Prelude.{◌==◌, if◌then◌else◌, ⊤}
 use Rattle.pcap_io.specs.Next.{Whole, Cut, Faulty, Next, Another, Ends, readable}
@@ -26,17 +25,16 @@ unfinished_header style taken short = subst IsUnfinished (sym (next_of-short sty
     by_size zero = tt
     by_size (suc k) = rw (ne_eqb (suc k) 0 (λ e. omega arith)) tt
 
-pub short_header : (style : Style) (old new : Supply) (octets : List ℕ) → length octets ≡ 16 → StopsShort (λ taken. length taken < length octets) old new
-    → StopsShort (IsShortRecord style) old new
-short_header style old new octets long (inl failed) = inl failed
-short_header style old new octets long (inr out) = inr (record {
+pub short_header : (style : Style) (ahead : ℕ) (old new : Supply) → StopsShort (λ taken. length taken < 16) ahead old new → StopsShort (IsShortRecord style) ahead old new
+short_header style ahead old new (inl failed) = inl failed
+short_header style ahead old new (inr out) = inr (record {
   quiet = out.quiet;
   no_end = out.no_end;
   none_left = out.none_left;
   taken = out.taken;
   consumed = out.consumed;
   one_each = out.one_each;
-  short = unfinished_header style out.taken (omega (arith, out.short));
+  short = unfinished_header style out.taken out.short;
 })
 
 -- a whole header, and fewer octets than it claims
@@ -46,18 +44,18 @@ unfinished_octets style octets taken header long is short =
     let size : length (octets ++ taken) ≡ 16 + length taken = omega (arith, length-append octets taken) in
     subst IsUnfinished (sym (next_of-cut style (octets ++ taken) header (omega arith) (ap (readable style) (record_header_in-front style.order octets taken long) ∙ is) (omega arith))) tt
 
-pub short_octets : (style : Style) (old mid new : Supply) (octets part : List ℕ) (n : ℕ) (header : RecordHeader) → length octets ≡ 16 → 16 ≤ n
-    → Consumes old.rest mid.rest (take n octets) → old.reads ≤ mid.reads + 16 → mid.failures ≡ old.failures → mid.ends ≡ old.ends → Ok header ≡ readable style (record_header_in style.order octets)
-    → length part ≡ header.captured → StopsShort (λ taken. length taken < length part) mid new → StopsShort (IsShortRecord style) old new
-short_octets style old mid new octets part n header long full taken few quiet no_end is size (inl failed) = inl (omega (arith, failed, quiet))
-short_octets style old mid new octets part n header long full taken few quiet no_end is size (inr out) = inr (record {
+pub short_octets : (style : Style) (before behind : ℕ) (old mid new : Supply) (octets : List ℕ) (header : RecordHeader) → length octets ≡ 16
+    → Consumes old.rest mid.rest octets → old.reads + before ≤ mid.reads + behind + 16 → mid.failures ≡ old.failures → mid.ends ≡ old.ends → Ok header ≡ readable style (record_header_in style.order octets)
+    → StopsShort (λ taken. length taken < header.captured) behind mid new → StopsShort (IsShortRecord style) before old new
+short_octets style before behind old mid new octets header long taken few quiet no_end is (inl failed) = inl (omega (arith, failed, quiet))
+short_octets style before behind old mid new octets header long taken few quiet no_end is (inr out) = inr (record {
   quiet = out.quiet ∙ quiet;
   no_end = out.no_end ∙ no_end;
   none_left = out.none_left;
   taken = octets ++ out.taken;
-  consumed = Consumes-trans old.rest mid.rest new.rest octets out.taken (subst (Consumes old.rest mid.rest) (take_all n octets (omega arith)) taken) out.consumed;
-  one_each = omega (arith, out.one_each, length-append octets out.taken);
-  short = unfinished_octets style octets out.taken header long (sym is) (omega (arith, out.short));
+  consumed = Consumes-trans old.rest mid.rest new.rest octets out.taken taken out.consumed;
+  one_each = omega (arith, out.one_each, few, long, length-append octets out.taken);
+  short = unfinished_octets style octets out.taken header long (sym is) out.short;
 })
 
 -- ---- what was read isn't answered by `Read`

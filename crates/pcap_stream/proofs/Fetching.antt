@@ -1,5 +1,5 @@
 -- What reads of a header, and then of a record's octets, say of the text.
-use Rattle.std.proofs.Common.{◌≡◌, ◌∙◌, true, refl, sym, ap, subst, ℕ, zero, suc, ◌+◌, ◌<◌, ◌≤◌, List, [], ◌++◌, length, take, drop, arith, append_assoc, append-nil, length-append, length-take-le, Option, None, Some, IfSome, Result, Ok, Err, inl, inr}
+use Rattle.std.proofs.Common.{◌≡◌, ◌∙◌, true, refl, sym, ap, ℕ, zero, suc, ◌+◌, ◌<◌, ◌≤◌, List, [], ◌++◌, length, take, drop, arith, append_assoc, append-nil, length-append, Option, None, Some, IfSome, Result, Ok, Err, inl, inr}
 use Rattle.std.specs.Prelude.{◌==◌, nat_lt, if◌then◌else◌, unwrap_or}
 use Rattle.std.proofs.Math.ListN.{drop_of_length-le}
 use Rattle.std.proofs.lemmas.Bool.{cases_lt, lt-ltb, ne_eqb}
@@ -15,43 +15,39 @@ use Rattle.pcap_io.specs.declared.record.RecordHeader.{RecordHeader}
 use Rattle.pcap_io.specs.declared.style.Style.{Style}
 use Rattle.pcap_io.proofs.Nexts.{next_of-cut, next_of-faulty, next_of-found, next_of-short}
 use Rattle.pcap_stream.specs.Source.{Ended, Open, ReadsHeader, ReadsNext, Standing, after_header, after_next, left_by_next}
-use Rattle.pcap_stream.specs.State.{record_in}
+use Rattle.pcap_stream.specs.State.{record_of}
 use Rattle.pcap_stream.specs.Supply.{Supply}
 use Rattle.pcap_stream.specs.declared.fetch.Fetched.{Fetched}
 use Rattle.pcap_io.proofs.Fronts.{record_header_in-front, style_of-front}
 
--- a read that filled its part took all of it
-whole : {A : Type 0} (P : List A → Type 0) (n : ℕ) (part : List A) → length part ≤ n → P (take n part) → P part
-whole P n part full h = subst P (take_all n part full) h
-
 -- ---- the global header
 
-header_octets : (a b : Option (List ℕ)) (octets : List ℕ) (n : ℕ) → length octets ≡ 24 → n ≤ 24 → Consumes a b (take n octets) → (n < 24 → IsAtEnd b)
-    → IfSome a (λ text. (style_of (take n octets) ≡ style_of text) × (b ≡ Some (drop 24 text)))
-header_octets None b octets n long fits taken end = tt
-header_octets (Some text) None octets n long fits taken end = absurd taken
-header_octets (Some text) (Some rest) octets n long fits taken end =
-    elim (cases_lt n 24) [
+header_octets : (a b : Option (List ℕ)) (octets : List ℕ) → length octets ≤ 24 → Consumes a b octets → (length octets < 24 → IsAtEnd b)
+    → IfSome a (λ text. (style_of octets ≡ style_of text) × (b ≡ Some (drop 24 text)))
+header_octets None b octets fits taken end = tt
+header_octets (Some text) None octets fits taken end = absurd taken
+header_octets (Some text) (Some rest) octets fits taken end =
+    elim (cases_lt (length octets) 24) [
       | inl short ↦
-          let all : text ≡ take n octets = taken ∙ ap (λ l. take n octets ++ l) (end short) ∙ append-nil (take n octets) in
-          let size : length text ≤ 24 = omega (arith, ap length all, length-take-le n octets (omega arith)) in
+          let all : text ≡ octets = taken ∙ ap (λ l. octets ++ l) (end short) ∙ append-nil octets in
+          let size : length text ≤ 24 = omega (arith, ap length all, fits) in
           (ap style_of (sym all), ap Some (end short ∙ sym (drop_of_length-le text size)))
       | inr full ↦
-          let size : length (take n octets) ≡ 24 = omega (arith, length-take-le n octets (omega arith)) in
-          (sym (ap style_of taken ∙ style_of-front (take n octets) rest size), ap Some (sym (ap (drop 24) taken ∙ drop_at (take n octets) rest 24 size)))
+          let size : length octets ≡ 24 = omega (arith, fits, full) in
+          (sym (ap style_of taken ∙ style_of-front octets rest size), ap Some (sym (ap (drop 24) taken ∙ drop_at octets rest 24 size)))
     ]
 
-pub reads_header : (old new : Supply) (octets : List ℕ) (n : ℕ) (header : Result Style CaptureFault) (standing : Standing) → length octets ≡ 24 → n ≤ 24
-    → Consumes old.rest new.rest (take n octets) → (n < 24 → IsAtEnd new.rest) → header ≡ style_of (take n octets) → standing ≡ after_header header
+pub reads_header : (old new : Supply) (octets : List ℕ) (header : Result Style CaptureFault) (standing : Standing) → length octets ≤ 24
+    → Consumes old.rest new.rest octets → (length octets < 24 → IsAtEnd new.rest) → header ≡ style_of octets → standing ≡ after_header header
     → new.failures ≡ old.failures → ReadsHeader old new standing
-reads_header old new octets n header standing long fits taken end is standing_is quiet = record {
+reads_header old new octets header standing fits taken end is standing_is quiet = record {
   header = header;
   standing_is = standing_is;
-  octets = by_text old.rest new.rest (header_octets old.rest new.rest octets n long fits taken end);
+  octets = by_text old.rest new.rest (header_octets old.rest new.rest octets fits taken end);
   quiet = quiet;
 }
   where
-    by_text : (a b : Option (List ℕ)) → IfSome a (λ text. (style_of (take n octets) ≡ style_of text) × (b ≡ Some (drop 24 text)))
+    by_text : (a b : Option (List ℕ)) → IfSome a (λ text. (style_of octets ≡ style_of text) × (b ≡ Some (drop 24 text)))
         → IfSome a (λ text. (header ≡ style_of text) × (b ≡ Some (drop 24 text)))
     by_text None b h = tt
     by_text (Some text) b h = (is ∙ h.0, h.1)
@@ -73,13 +69,13 @@ short_standing : (style : Style) (n : ℕ) → Ended (nat_lt 0 n) ≡ after_next
 short_standing style zero = refl
 short_standing style (suc k) = rw (lt-ltb 0 (suc k) (omega arith), ne_eqb (suc k) 0 (λ e. omega arith)) refl
 
-short_octets : (style : Style) (a b : Option (List ℕ)) (octets : List ℕ) (n : ℕ) → length octets ≡ 16 → n < 16 → Consumes a b (take n octets) → IsAtEnd b
+short_octets : (style : Style) (a b : Option (List ℕ)) (octets : List ℕ) (n : ℕ) → n ≡ length octets → n < 16 → Consumes a b octets → IsAtEnd b
     → Finds style a b (Ends (short_end n))
-short_octets style None b octets n long short taken end = tt
-short_octets style (Some text) None octets n long short taken end = absurd taken
-short_octets style (Some text) (Some rest) octets n long short taken end =
+short_octets style None b octets n is short taken end = tt
+short_octets style (Some text) None octets n is short taken end = absurd taken
+short_octets style (Some text) (Some rest) octets n is short taken end =
     let size : length text ≡ n =
-    ap length taken ∙ length-append (take n octets) rest ∙ omega (arith, ap length end, length-take-le n octets (omega arith)) in
+    ap length taken ∙ length-append octets rest ∙ omega (arith, ap length end, is) in
     let next : next_of style text ≡ Ends (short_end n) = next_of-short style text (omega arith) ∙ ap (λ k. Ends (short_end k)) size in
     (sym next, ap Some end ∙ ap Some (left n))
   where
@@ -87,10 +83,10 @@ short_octets style (Some text) (Some rest) octets n long short taken end =
     left zero = refl
     left (suc k) = rw (ne_eqb (suc k) 0 (λ e. omega arith)) refl
 
-pub reads_short : (style : Style) (old new : Supply) (octets : List ℕ) (n : ℕ) → length octets ≡ 16 → n < 16 → Consumes old.rest new.rest (take n octets) → IsAtEnd new.rest
+pub reads_short : (style : Style) (old new : Supply) (octets : List ℕ) (n : ℕ) → n ≡ length octets → n < 16 → Consumes old.rest new.rest octets → IsAtEnd new.rest
     → new.failures ≡ old.failures → ReadsNext style old new (Ended (nat_lt 0 n))
-reads_short style old new octets n long short taken end quiet =
-    reads_next style old new _ (Ends (short_end n)) (short_standing style n) (short_octets style old.rest new.rest octets n long short taken end) quiet
+reads_short style old new octets n is short taken end quiet =
+    reads_next style old new _ (Ends (short_end n)) (short_standing style n) (short_octets style old.rest new.rest octets n is short taken end) quiet
 
 -- the header has a fault
 fault_octets : (style : Style) (a b : Option (List ℕ)) (octets : List ℕ) (fault : RecordFault) → length octets ≡ 16 → Consumes a b octets
@@ -104,34 +100,33 @@ fault_octets style (Some text) (Some rest) octets fault long taken is =
     let next : next_of style text ≡ Ends (Faulty fault) = next_of-faulty style text fault size (ap (readable style) same ∙ is) in
     (sym next, ap Some (sym (ap (drop 16) taken ∙ drop_at octets rest 16 long)))
 
-pub reads_fault : (style : Style) (old new : Supply) (octets : List ℕ) (n : ℕ) (fault : RecordFault) (standing : Standing) → length octets ≡ 16 → 16 ≤ n
-    → Consumes old.rest new.rest (take n octets) → Err fault ≡ readable style (record_header_in style.order octets) → standing ≡ after_next style (Ends (Faulty fault))
+pub reads_fault : (style : Style) (old new : Supply) (octets : List ℕ) (fault : RecordFault) (standing : Standing) → length octets ≡ 16
+    → Consumes old.rest new.rest octets → Err fault ≡ readable style (record_header_in style.order octets) → standing ≡ after_next style (Ends (Faulty fault))
     → new.failures ≡ old.failures → ReadsNext style old new standing
-reads_fault style old new octets n fault standing long full taken is standing_is quiet =
-    reads_next style old new standing (Ends (Faulty fault)) standing_is
-    (fault_octets style old.rest new.rest octets fault long (whole (Consumes old.rest new.rest) n octets (omega arith) taken) (sym is)) quiet
+reads_fault style old new octets fault standing long taken is standing_is quiet =
+    reads_next style old new standing (Ends (Faulty fault)) standing_is (fault_octets style old.rest new.rest octets fault long taken (sym is)) quiet
 
 -- the input ended within a record's octets
-cut_octets : (style : Style) (a b c : Option (List ℕ)) (octets part : List ℕ) (n : ℕ) (header : RecordHeader) → length octets ≡ 16 → Consumes a b octets
-    → readable style (record_header_in style.order octets) ≡ Ok header → Consumes b c (take n part) → n < header.captured → length part ≡ header.captured → IsAtEnd c
+cut_octets : (style : Style) (a b c : Option (List ℕ)) (octets part : List ℕ) (header : RecordHeader) → length octets ≡ 16 → Consumes a b octets
+    → readable style (record_header_in style.order octets) ≡ Ok header → Consumes b c part → length part < header.captured → IsAtEnd c
     → Finds style a c (Ends Cut)
-cut_octets style None b c octets part n header long taken is more short size end = tt
-cut_octets style (Some text) None c octets part n header long taken is more short size end = absurd taken
-cut_octets style (Some text) (Some rest) None octets part n header long taken is more short size end = absurd more
-cut_octets style (Some text) (Some rest) (Some left) octets part n header long taken is more short size end =
+cut_octets style None b c octets part header long taken is more short end = tt
+cut_octets style (Some text) None c octets part header long taken is more short end = absurd taken
+cut_octets style (Some text) (Some rest) None octets part header long taken is more short end = absurd more
+cut_octets style (Some text) (Some rest) (Some left) octets part header long taken is more short end =
     let same : record_header_in style.order text ≡ record_header_in style.order octets =
     ap (record_header_in style.order) taken ∙ record_header_in-front style.order octets rest long in
-    let behind : length rest ≡ n = ap length more ∙ length-append (take n part) left ∙ omega (arith, ap length end, length-take-le n part (omega arith)) in
-    let all : length text ≡ 16 + n = omega (arith, ap length taken, length-append octets rest) in
+    let behind : length rest ≡ length part = ap length more ∙ length-append part left ∙ omega (arith, ap length end) in
+    let all : length text ≡ 16 + length part = omega (arith, ap length taken, length-append octets rest, behind, long) in
     let next : next_of style text ≡ Ends Cut = next_of-cut style text header (omega arith) (ap (readable style) same ∙ is) (omega arith) in
     (sym next, ap Some end)
 
-pub reads_cut : (style : Style) (old mid new : Supply) (octets part : List ℕ) (n k : ℕ) (header : RecordHeader) → length octets ≡ 16 → 16 ≤ n
-    → Consumes old.rest mid.rest (take n octets) → Ok header ≡ readable style (record_header_in style.order octets) → Consumes mid.rest new.rest (take k part)
-    → k < header.captured → length part ≡ header.captured → IsAtEnd new.rest → new.failures ≡ old.failures → ReadsNext style old new (Ended true)
-reads_cut style old mid new octets part n k header long full taken is more short size end quiet =
+pub reads_cut : (style : Style) (old mid new : Supply) (octets part : List ℕ) (header : RecordHeader) → length octets ≡ 16
+    → Consumes old.rest mid.rest octets → Ok header ≡ readable style (record_header_in style.order octets) → Consumes mid.rest new.rest part
+    → length part < header.captured → IsAtEnd new.rest → new.failures ≡ old.failures → ReadsNext style old new (Ended true)
+reads_cut style old mid new octets part header long taken is more short end quiet =
     reads_next style old new (Ended true) (Ends Cut) refl
-    (cut_octets style old.rest mid.rest new.rest octets part k header long (whole (Consumes old.rest mid.rest) n octets (omega arith) taken) (sym is) more short size end) quiet
+    (cut_octets style old.rest mid.rest new.rest octets part header long taken (sym is) more short end) quiet
 
 -- a whole record
 record_octets : (style : Style) (a b c : Option (List ℕ)) (octets part : List ℕ) (header : RecordHeader) (r : Record) → length octets ≡ 16 → Consumes a b octets
@@ -152,11 +147,10 @@ record_octets style (Some text) (Some rest) (Some left) octets part header r lon
     let last : drop (16 + header.captured) text ≡ left = ap (drop (16 + header.captured)) all ∙ drop_at (octets ++ part) left (16 + header.captured) front in
     (next_of-found style text header r.moment r.original r.octets left (omega arith) (ap (readable style) same ∙ is) long_enough m o (s ∙ sym own) (sym last), refl)
 
-pub reads_record : (style : Style) (old mid new : Supply) (octets part room : List ℕ) (n k : ℕ) (header : RecordHeader) (fetched : Fetched) → length octets ≡ 16 → 16 ≤ n
-    → Consumes old.rest mid.rest (take n octets) → Ok header ≡ readable style (record_header_in style.order octets) → Consumes mid.rest new.rest (take k part)
-    → header.captured ≤ k → length part ≡ header.captured → fetched.moment ≡ moment_of style.precision header → fetched.original ≡ header.original
-    → take fetched.captured room ≡ part → new.failures ≡ old.failures → ReadsNext style old new (Open style (Some (record_in room fetched)))
-reads_record style old mid new octets part room n k header fetched long full taken is more filled size m o here quiet =
-    reads_next style old new _ (Another (record_in room fetched) (unwrap_or new.rest [])) refl
-    (record_octets style old.rest mid.rest new.rest octets part header (record_in room fetched) long (whole (Consumes old.rest mid.rest) n octets (omega arith) taken) (sym is)
-    (whole (Consumes mid.rest new.rest) k part (omega arith) more) size m o here) quiet
+pub reads_record : (style : Style) (old mid new : Supply) (octets part : List ℕ) (header : RecordHeader) (fetched : Fetched) → length octets ≡ 16
+    → Consumes old.rest mid.rest octets → Ok header ≡ readable style (record_header_in style.order octets) → Consumes mid.rest new.rest part
+    → length part ≡ header.captured → fetched.moment ≡ moment_of style.precision header → fetched.original ≡ header.original
+    → new.failures ≡ old.failures → ReadsNext style old new (Open style (Some (record_of part fetched)))
+reads_record style old mid new octets part header fetched long taken is more size m o quiet =
+    reads_next style old new _ (Another (record_of part fetched) (unwrap_or new.rest [])) refl
+    (record_octets style old.rest mid.rest new.rest octets part header (record_of part fetched) long taken (sym is) more size m o refl) quiet

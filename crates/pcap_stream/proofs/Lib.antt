@@ -1,3 +1,4 @@
+pub mod Aheads
 pub mod Bounds
 pub mod Fetching
 pub mod Parts

@@ -1,3 +1,4 @@
+pub mod Ahead
 pub mod Block
 pub mod Counts
 pub mod Fault

@@ -1,12 +1,12 @@
 -- A source of records, and what its calls make of it. It states no standard.
-use Rattle.std.specs.Prelude.{◌≡◌, ◌<◌, ℕ, Bool, true, false, List, [], length, drop, Option, Some, None, Result, Ok, Err, IfSome, ⊤}
+use Rattle.std.specs.Prelude.{◌≡◌, ◌<◌, ◌≤◌, ◌+◌, ℕ, max, Bool, true, false, List, [], length, drop, Option, Some, None, Result, Ok, Err, IfSome, option_map, ⊤}
 use Rattle.pcap_io.specs.Header.{style_of}
 use Rattle.pcap_io.specs.Next.{End, Whole, Cut, Faulty, Next, Another, Ends, next_of}
 use Rattle.pcap_io.specs.Record.{Record}
 use Rattle.pcap_io.specs.declared.header.CaptureFault.{CaptureFault}
 use Rattle.pcap_io.specs.declared.style.Style.{Style}
 use Rattle.pcap_stream.specs.Fault.{capture_fault, record_fault}
-use Rattle.pcap_stream.specs.Supply.{GivesUp, StopsShort, Supply}
+use Rattle.pcap_stream.specs.Supply.{GivesUp, StopsShort, Supply, most_of}
 use Rattle.pcap_stream.specs.declared.fault.SourceFault.{SourceFault}
 use Rattle.pcap_stream.specs.declared.fault.SourceFault.TheVariants as fault
 
@@ -18,10 +18,20 @@ pub data Standing : Type 0 where
   Ended : (is_cut : Bool) → Standing
   Failed : (fault : SourceFault) → Standing
 
--- a source: where it stands, and its input
+-- a source: where it stands, its input with what was read ahead in front of what it has left, and the octets that were
+-- read ahead
 pub record Stream : Type 0 where
   pub standing : Standing
   pub supply : Supply
+  pub ahead : List ℕ
+
+-- the input alone, without what was read ahead
+abbrev pub below : Stream → Supply
+below s = record s.supply { rest = option_map (drop (length s.ahead)) s.supply.rest }
+
+-- how many octets may still come
+abbrev pub most_left : Stream → ℕ
+most_left s = most_of s.ahead s.supply.reads
 
 -- the record that is lent
 abbrev pub lent : Standing → Option Record
@@ -29,6 +39,15 @@ lent New = None
 lent (Open style last) = last
 lent (Ended is_cut) = None
 lent (Failed fault) = None
+
+-- what a record takes of its capture: 16 octets and its own
+abbrev pub taken_by : Record → ℕ
+taken_by r = 16 + length r.octets
+
+-- for a record that is lent no more reads were made than it lacked octets of those that were read ahead
+abbrev pub ReadsWhatLacks : List ℕ → Supply → Supply → Standing → Type 0
+ReadsWhatLacks ahead old new standing =
+    IfSome (lent standing) (λ r. old.reads + length ahead ≤ new.reads + max (taken_by r) (length ahead))
 
 -- how the capture writes its numbers, while it is open
 abbrev pub style_at : Standing → Option Style
@@ -134,12 +153,12 @@ module _ {T : Type 0} where
 
   -- `Read` comes only where a read failed, or where the octets of all reads that were left don't settle what comes next
   abbrev pub OpensToTheBound : Stream → Stream → Result T SourceFault → Type 0
-  OpensToTheBound old new result = MatchRead result (StopsShort IsShortHeader old.supply new.supply) ⊤
+  OpensToTheBound old new result = MatchRead result (StopsShort IsShortHeader (length old.ahead) old.supply new.supply) ⊤
 
   -- the same of `fill`, by where the source stood
   abbrev pub FillsToTheBoundFrom : Standing → Stream → Stream → Result T SourceFault → Type 0
   FillsToTheBoundFrom New old new result = ⊤
-  FillsToTheBoundFrom (Open style last) old new result = MatchRead result (StopsShort (IsShortRecord style) old.supply new.supply) ⊤
+  FillsToTheBoundFrom (Open style last) old new result = MatchRead result (StopsShort (IsShortRecord style) (length old.ahead) old.supply new.supply) ⊤
   FillsToTheBoundFrom (Ended is_cut) old new result = ⊤
   FillsToTheBoundFrom (Failed fault) old new result = ⊤
 

@@ -1,22 +1,21 @@
 //! The global header and the records of a capture, from an input.
-ghost use Rattle.std.specs.Prelude.{◌≡◌, ◌<◌, ℕ, List, IfOk, OnErr, OnOk, length};
-ghost use Rattle.pcap_io.specs.Record.{longest};
-ghost use Rattle.pcap_stream.specs.Source.{IsShortHeader, IsShortRecord, ReadsHeader, ReadsNext};
+ghost use Rattle.std.specs.Prelude.{◌≡◌, ◌≤◌, ◌+◌, ℕ, List, IfOk, IsSome, OnErr, length};
+ghost use Rattle.pcap_stream.specs.Ahead.{left_of, most_in};
+ghost use Rattle.pcap_stream.specs.Source.{IsShortHeader, IsShortRecord, ReadsHeader, ReadsNext, ReadsWhatLacks, lent};
 ghost use Rattle.pcap_stream.specs.State.{IsSound, standing_of};
 ghost use Rattle.pcap_stream.specs.Supply.{GivesUp, IsThrifty, Spends, StopsShort};
 
+use crate::ahead::ReadAhead;
 use crate::device::DeviceFault;
 use crate::fault::SourceFault;
 use crate::input::Input;
-use crate::supply::Supply;
 use pcap_io::{HEADER_LENGTH, RECORD_HEADER_LENGTH, Style, open_header, open_record};
 
-/// A record whose octets stand in front of the room.
+/// A record whose octets were taken last.
 #[derive(Clone, Copy)]
 pub struct Fetched {
     pub moment: u64,
     pub original: u32,
-    pub captured: usize,
 }
 
 /// Where a source stands.
@@ -29,55 +28,51 @@ pub enum State {
 }
 
 /// Reads the global header.
-pub fn fetch_header<R: Input>(supply: &mut Supply<R>) -> Result<State, DeviceFault>
-    ensures header { IfOk result (λ state. (room : List ℕ) → ReadsHeader supply.old supply.new (standing_of state room)) }
-    ensures sound { IfOk result IsSound }
-    ensures spent { Spends supply.old supply.new }
-    ensures thrift { IsThrifty supply.old supply.new }
-    ensures gives_up { OnErr result (GivesUp supply.old supply.new) }
-    ensures short { OnErr result (StopsShort IsShortHeader supply.old supply.new) }
+pub fn fetch_header<R: Input>(ahead: &mut ReadAhead<R>) -> Result<State, DeviceFault>
+    ensures header { IfOk result (λ state. (octets : List ℕ) → ReadsHeader (left_of ahead.old) (left_of ahead.new) (standing_of state octets)) }
+    ensures sound { IfOk result (λ state. (octets : List ℕ) → IsSound state octets) }
+    ensures most { most_in ahead.new ≤ most_in ahead.old }
+    ensures spent { Spends (left_of ahead.old) (left_of ahead.new) }
+    ensures thrift { IsThrifty (left_of ahead.old) (left_of ahead.new) }
+    ensures below { IsThrifty ahead.old.input ahead.new.input }
+    ensures gives_up { OnErr result (GivesUp (left_of ahead.old) (left_of ahead.new)) }
+    ensures short { OnErr result (StopsShort IsShortHeader (length ahead.old.ahead) (left_of ahead.old) (left_of ahead.new)) }
 {
-    let mut header = [0; HEADER_LENGTH];
-    let got = supply.fill(&mut header)?;
-    match open_header(&header[..got]) {
+    ahead.pass(HEADER_LENGTH)?;
+    match open_header(ahead.taken()) {
         Ok(style) => Ok(State::Open(style, None)),
         Err(fault) => Ok(State::Failed(SourceFault::from(fault))),
     }
 }
 
-/// Reads what comes next, a record's octets into the front of the room.
-pub fn fetch<R: Input>(
-    style: Style,
-    supply: &mut Supply<R>,
-    room: &mut [u8],
-) -> Result<State, DeviceFault>
-    requires { length room.old ≡ longest }
-    ensures next { IfOk result (λ state. ReadsNext style supply.old supply.new (standing_of state room.new)) }
-    ensures sound { IfOk result IsSound }
-    ensures spent { Spends supply.old supply.new }
-    ensures thrift { IsThrifty supply.old supply.new }
-    ensures fewer { OnOk result (supply.new.reads < supply.old.reads) }
-    ensures gives_up { OnErr result (GivesUp supply.old supply.new) }
-    ensures short { OnErr result (StopsShort (IsShortRecord style) supply.old supply.new) }
+/// Reads what comes next. A record's octets are those that were taken last.
+pub fn fetch<R: Input>(style: Style, ahead: &mut ReadAhead<R>) -> Result<State, DeviceFault>
+    ensures next { IfOk result (λ state. ReadsNext style (left_of ahead.old) (left_of ahead.new) (standing_of state ahead.new.taken)) }
+    ensures sound { IfOk result (λ state. IsSound state ahead.new.taken) }
+    ensures spent { Spends (left_of ahead.old) (left_of ahead.new) }
+    ensures thrift { IsThrifty (left_of ahead.old) (left_of ahead.new) }
+    ensures below { IsThrifty ahead.old.input ahead.new.input }
+    ensures lends { IfOk result (λ state. IsSome (lent (standing_of state ahead.new.taken)) → 16 + most_in ahead.new ≤ most_in ahead.old) }
+    ensures lacks { IfOk result (λ state. ReadsWhatLacks ahead.old.ahead (left_of ahead.old) (left_of ahead.new) (standing_of state ahead.new.taken)) }
+    ensures gives_up { OnErr result (GivesUp (left_of ahead.old) (left_of ahead.new)) }
+    ensures short { OnErr result (StopsShort (IsShortRecord style) (length ahead.old.ahead) (left_of ahead.old) (left_of ahead.new)) }
 {
-    let mut head = [0; RECORD_HEADER_LENGTH];
-    let got = supply.fill(&mut head)?;
+    let got = ahead.pass(RECORD_HEADER_LENGTH)?;
     if got < RECORD_HEADER_LENGTH {
         return Ok(State::Ended { is_cut: got > 0 });
     }
-    let header = match open_record(style, &head) {
+    let header = match open_record(style, ahead.taken()) {
         Ok(header) => header,
         Err(fault) => return Ok(State::Failed(SourceFault::from(fault))),
     };
     let captured = header.captured as usize;
-    let got = supply.fill(&mut room[..captured])?;
+    let got = ahead.pass(captured)?;
     if got < captured {
         return Ok(State::Ended { is_cut: true });
     }
     let fetched = Fetched {
         moment: header.moment(style.precision),
         original: header.original,
-        captured,
     };
     Ok(State::Open(style, Some(fetched)))
 }

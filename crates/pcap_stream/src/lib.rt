@@ -6,6 +6,7 @@
 //! [`StdOutput`] are std's readers and writers as such devices; no file is opened here.
 #![tactic(auto)]
 
+mod ahead;
 mod block_output;
 mod device;
 mod fault;

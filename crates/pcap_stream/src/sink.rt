@@ -71,6 +71,7 @@ impl<W: Output> Sink<W> {
     ///
     /// `moment` is in nanoseconds, at most 4,294,967,295,999,999,999; the slices together have at most 262,144 octets,
     /// and any of them may be empty.
+    #[inline(always)]
     pub fn put(
         &mut self,
         moment: u64,

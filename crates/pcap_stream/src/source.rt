@@ -1,26 +1,27 @@
 //! The records of a capture, one after another.
-ghost use Rattle.std.specs.Prelude.{◌≡◌, ◌≢◌, ◌<◌, ℕ, List, IfOk, IfSome, IsSome};
+ghost use Rattle.std.specs.Prelude.{◌≡◌, ◌≢◌, ◌≤◌, ◌+◌, ℕ, List, [], IfOk, IfSome, IsSome};
+ghost use Rattle.std.specs.Io.KnownBytes.{prepend_known};
 ghost use Rattle.pcap_io.specs.Record.{IsWithinLimits};
-ghost use Rattle.pcap_stream.specs.Source.{FillsToTheBound, IsFilled, IsOpened, New, OpensToTheBound, answer, ends_cut, lent, style_at};
+ghost use Rattle.pcap_stream.specs.Source.{FillsToTheBound, IsFilled, IsOpened, New, OpensToTheBound, ReadsWhatLacks, answer, below, ends_cut, lent, most_left, style_at};
 ghost use Rattle.pcap_stream.specs.State.{standing_of};
 ghost use Rattle.pcap_stream.specs.Supply.{IsThrifty, Spends};
 
+use crate::ahead::ReadAhead;
 use crate::fault::SourceFault;
 use crate::fetch::{State, fetch, fetch_header};
 use crate::input::Input;
-use crate::supply::Supply;
-use pcap_io::{LONGEST, Record, Style};
+use pcap_io::{Record, Style};
 use std::alloc::{AllocError, Global};
 use std::marker::Model;
 
-/// The records of a capture, one at a time, in room for one.
+/// The records of a capture, one at a time, out of the room that they are read into.
 ///
 /// `open` comes first, and then `fill` fetches each record, which `head` lends until the next `fill`. All that it does
-/// takes at most as many reads of its input as it was given. Contracts see where it stands, and its input.
+/// takes at most as many reads of its input as it was given. Contracts see where it stands, its input, and what was read
+/// ahead.
 #[derive(Drop)]
 pub struct Source<R: Input> {
-    supply: Supply<R>,
-    room: Vec<u8>,
+    ahead: ReadAhead<R>,
     state: State,
 }
 
@@ -29,16 +30,21 @@ impl<R: Input> Model for Source<R> {
 
     ghost Value = { Stream };
 
-    ghost use Rattle.pcap_stream.specs.State.{IsKept, standing_of};
+    ghost use Rattle.pcap_stream.specs.Ahead.{left_of};
+    ghost use Rattle.pcap_stream.specs.State.{IsSound, standing_of};
 
-    ghost view = { λ s. record { standing = standing_of s.state s.room.items; supply = s.supply } };
+    ghost view = { λ s. record {
+      standing = standing_of s.state s.ahead.taken;
+      supply = left_of s.ahead;
+      ahead = s.ahead.ahead;
+    } };
 
-    ghost invariant = { λ s. IsKept s.state s.room.items };
+    ghost invariant = { λ s. IsSound s.state s.ahead.taken };
 }
 
 impl<R: Input> Source<R> {
     /// Reserves room for the octets of one record, 262,144, and reads nothing. `reads` is how many reads of the input it
-    /// may make over its life.
+    /// may make over its life. It reads up to 65,536 octets at once.
     pub fn new(alloc: Global, input: R, reads: u64) -> Result<Source<R>, AllocError>
     where
         R: Drop,
@@ -51,12 +57,12 @@ impl<R: Input> Source<R> {
             ends = 0;
             reads = reads;
           };
+          ahead = [];
         }) }
     {
-        let room = vec![in alloc; 0u8; LONGEST]?;
+        let ahead = ReadAhead::new(alloc, input, reads)?;
         Ok(Source {
-            supply: Supply::new(input, reads),
-            room,
+            ahead,
             state: State::New,
         })
     }
@@ -72,8 +78,10 @@ impl<R: Input> Source<R> {
         ensures begun { self.new.standing ≢ New }
         ensures spent { Spends self.old.supply self.new.supply }
         ensures thrift { IsThrifty self.old.supply self.new.supply }
+        ensures below { IsThrifty (below self.old) (below self.new) }
+        ensures most { most_left self.new ≤ most_left self.old }
     {
-        match fetch_header(&mut self.supply) {
+        match fetch_header(&mut self.ahead) {
             Ok(state) => {
                 self.state = state;
                 answer_of(state)
@@ -94,7 +102,9 @@ impl<R: Input> Source<R> {
         ensures begun { self.new.standing ≢ New }
         ensures spent { Spends self.old.supply self.new.supply }
         ensures thrift { IsThrifty self.old.supply self.new.supply }
-        ensures fewer { IsSome (lent self.new.standing) → self.new.supply.reads < self.old.supply.reads }
+        ensures below { IsThrifty (below self.old) (below self.new) }
+        ensures lacks { ReadsWhatLacks self.old.ahead self.old.supply self.new.supply self.new.standing }
+        ensures lends { IsSome (lent self.new.standing) → 16 + most_left self.new ≤ most_left self.old }
     {
         let style = match self.state {
             State::Open(style, _) => style,
@@ -102,7 +112,7 @@ impl<R: Input> Source<R> {
             State::Ended { .. } => return Ok(()),
             State::Failed(fault) => return Err(fault),
         };
-        match fetch(style, &mut self.supply, self.room.as_mut_slice()) {
+        match fetch(style, &mut self.ahead) {
             Ok(state) => {
                 self.state = state;
                 answer_of(state)
@@ -123,7 +133,7 @@ impl<R: Input> Source<R> {
             State::Open(_, Some(fetched)) => Some(Record {
                 moment: fetched.moment,
                 original: fetched.original,
-                octets: &self.room[..fetched.captured],
+                octets: self.ahead.taken(),
             }),
             _ => None,
         }
@@ -139,13 +149,13 @@ impl<R: Input> Source<R> {
         }
     }
 
-    /// The input, as the reads so far left it.
+    /// The input, as the reads so far left it: what was read ahead is taken from it.
     pub fn input(&self) -> &R
-        ensures rest { R.remaining result.now ≡ self.now.supply.rest }
+        ensures rest { self.now.supply.rest ≡ prepend_known self.now.ahead (R.remaining result.now) }
         ensures calls { R.calls result.now ≡ self.now.supply.calls }
         ensures failures { R.failures result.now ≡ self.now.supply.failures }
     {
-        self.supply.input()
+        self.ahead.input()
     }
 
     /// Whether the end came with a rest before it that is no whole record, which is left out.
@@ -161,7 +171,7 @@ impl<R: Input> Source<R> {
 
 /// The fault that a source stands at, if any.
 fn answer_of(state: State) -> Result<(), SourceFault>
-    ensures { (room : List ℕ) → result ≡ answer (standing_of state room) }
+    ensures { (octets : List ℕ) → result ≡ answer (standing_of state octets) }
 {
     match state {
         State::Failed(fault) => Err(fault),

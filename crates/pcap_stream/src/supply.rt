@@ -1,9 +1,9 @@
 //! An input of which only so many reads may be made.
-ghost use Rattle.std.specs.Prelude.{◌≡◌, ◌≢◌, ◌<◌, ◌≤◌, ◌⊎◌, ◌+◌, drop, take, length, IfOk, OnErr, OnOk};
-ghost use Rattle.std.specs.Io.{ReadsAtMost};
-ghost use Rattle.std.specs.Io.KnownBytes.{Consumes, IsAtEnd, Keeps};
+ghost use Rattle.std.specs.Prelude.{◌≡◌, ◌≢◌, ◌<◌, ◌≤◌, ◌⊎◌, ◌+◌, ◌*◌, drop, take, length, IfOk, OnErr, OnOk};
+ghost use Rattle.std.specs.Io.KnownBytes.{Consumes, IsAtEnd, Keeps, prepend_known};
+ghost use Rattle.pcap_io.specs.Record.{longest};
 ghost use Rattle.pcap_stream.specs.Counts.{GoesOnBy};
-ghost use Rattle.pcap_stream.specs.Supply.{GivesUp, IsThrifty, Spends, StopsShort};
+ghost use Rattle.pcap_stream.specs.Supply.{GivesUp, IsThrifty, Spends, StopsShort, with_ahead};
 
 use crate::device::DeviceFault;
 use crate::input::Input;
@@ -61,11 +61,16 @@ impl<R: Input> Supply<R> {
         &self.input
     }
 
-    /// One read, into what is behind the first `at` octets. Here alone the number of reads goes down and the end is met.
-    fn read_behind(&mut self, octets: &mut [u8], at: usize) -> Result<usize, DeviceFault>
-        requires { at < length octets.old }
+    /// One read, into the octets from `at` to `end`. Here alone the number of reads goes down and the end is met.
+    fn read_between(
+        &mut self,
+        octets: &mut [u8],
+        at: usize,
+        end: usize,
+    ) -> Result<usize, DeviceFault>
+        requires { (at < end) × (end ≤ length octets.old) }
         ensures front { take at octets.new ≡ take at octets.old }
-        ensures fits { IfOk result (λ n. at + n ≤ length octets.new) }
+        ensures fits { IfOk result (λ n. at + n ≤ end) }
         ensures taken { IfOk result (λ n. Consumes self.old.rest self.new.rest (take n (drop at octets.new))) }
         ensures end { IfOk result (λ n. n ≡ 0 → IsAtEnd self.new.rest) }
         ensures ends { IfOk result (λ n. n ≡ 0 → self.new.ends ≡ self.old.ends + 1) }
@@ -83,31 +88,40 @@ impl<R: Input> Supply<R> {
             return Err(DeviceFault);
         }
         self.reads -= 1;
-        let n = self.input.read(&mut octets[at..])?;
+        let n = self.input.read(&mut octets[at..end])?;
         if n == 0 {
             self.ends.tick();
         }
         Ok(n)
     }
 
-    /// Fills `octets` from the front as far as the input goes, and says how far.
-    pub fn fill(&mut self, octets: &mut [u8]) -> Result<usize, DeviceFault>
-        ensures bound { ReadsAtMost result octets.new }
-        ensures taken { IfOk result (λ n. Consumes self.old.rest self.new.rest (take n octets.new)) }
-        ensures end { IfOk result (λ n. n < length octets.new → IsAtEnd self.new.rest) }
+    /// Reads behind the first `held` of some octets, which came before, and up to `end`, until `wanted` are there or the
+    /// input ends. It says how many are there.
+    pub fn fill(
+        &mut self,
+        octets: &mut [u8],
+        held: usize,
+        wanted: usize,
+        end: usize,
+    ) -> Result<usize, DeviceFault>
+        requires order { (held ≤ wanted) × (wanted ≤ end) }
+        requires room { (end ≤ length octets.old) × (length octets.old ≤ longest) }
+        ensures bound { IfOk result (λ n. (held ≤ n) × (n ≤ end)) }
+        ensures taken { IfOk result (λ n. Consumes (prepend_known (take held octets.old) self.old.rest) self.new.rest (take n octets.new)) }
+        ensures end { IfOk result (λ n. n < wanted → IsAtEnd self.new.rest) }
         ensures spent { Spends self.old self.new }
-        ensures fewer { OnOk result (0 < length octets.new → self.new.reads < self.old.reads) }
-        ensures part { IfOk result (λ n. self.old.reads ≤ self.new.reads + n + 1) }
-        ensures whole { IfOk result (λ n. length octets.new ≤ n → self.old.reads ≤ self.new.reads + n) }
-        ensures no_end { IfOk result (λ n. length octets.new ≤ n → self.new.ends ≡ self.old.ends) }
+        ensures part { IfOk result (λ n. self.old.reads + held ≤ self.new.reads + n + 1) }
+        ensures whole { IfOk result (λ n. wanted ≤ n → self.old.reads + held ≤ self.new.reads + wanted) }
+        ensures brings { IfOk result (λ n. n + self.new.reads * longest ≤ held + self.old.reads * longest) }
+        ensures no_end { IfOk result (λ n. wanted ≤ n → self.new.ends ≡ self.old.ends) }
         ensures thrift { OnErr result (IsThrifty self.old self.new) }
         ensures quiet { OnOk result (self.new.failures ≡ self.old.failures) }
         ensures gives_up { OnErr result (GivesUp self.old self.new) }
-        ensures short { OnErr result (StopsShort (λ taken. length taken < length octets.new) self.old self.new) }
+        ensures short { OnErr result (StopsShort (λ taken. length taken < wanted) held (with_ahead (take held octets.old) self.old) self.new) }
     {
-        let mut at = 0;
-        while at < octets.len() {
-            let n = self.read_behind(octets, at)?;
+        let mut at = held;
+        while at < wanted {
+            let n = self.read_between(octets, at, end)?;
             if n == 0 {
                 return Ok(at);
             }

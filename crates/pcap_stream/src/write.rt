@@ -11,6 +11,7 @@ use crate::output::Output;
 use pcap_io::record_header;
 
 /// Writes a text whole.
+#[inline(always)]
 pub fn write_full<W: Output>(output: &mut W, text: &[u8]) -> Result<(), WriteFault>
     ensures ok { OnOk result (Appends (W.written output.old) (W.written output.new) text.now) }
     ensures err { OnErr result (AppendsPart (W.written output.old) (W.written output.new) text.now) }

@@ -140,9 +140,9 @@ fn failed_in_turn(
     Err(Fail::new("a run that always fails"))
 }
 
-/// How many reads of seven octets each capture takes: four for its header, three for what stands before a record's octets
-/// and nine for these, and one that finds the end.
-const READS: [u64; 4] = [29, 17, 5, 5];
+/// How many reads of seven octets each capture takes: its header has 24 octets and each record 76, which are read one
+/// behind the other, and one read finds the end. The first has two records and the second one.
+const READS: [u64; 4] = [27, 16, 5, 5];
 
 #[test]
 fn each_read_fails_in_turn(rt: HostRuntime) -> Result<(), Fail> {

@@ -1,6 +1,6 @@
 //! What the program reads: files, and standard input.
-ghost use Rattle.std.specs.Prelude.{◌≡◌, ◌<◌, ◌+◌, ◌^◌, All, IfOk, length};
-ghost use Rattle.pcap_stream.specs.Source.{New, Stream};
+ghost use Rattle.std.specs.Prelude.{◌≡◌, ◌<◌, ◌^◌, All, IfOk, length};
+ghost use Rattle.pcap_stream.specs.Source.{New, Stream, most_left};
 
 use dissector::{Failure, STANDARD_INPUT, capture_name, read_text};
 use file_kind::{FileKind, Peeked, peek};
@@ -12,13 +12,17 @@ use std::io::{self, BufReader, Input, Read};
 use std::rt::Files;
 use timeline::Tap;
 
-/// How many octets of a capture are read at once.
-const BLOCK: usize = 65_536;
+/// How many octets of a capture are read at once where fewer are asked for, as for a block of pcapng.
+const BLOCK: usize = 32_768;
 
 /// How many reads are made of a file that is read whole, and of a capture, at most.
 const TEXT_READS: u64 = 4_294_967_296;
 
 pub const CAPTURE_READS: u64 = u64::MAX;
+
+/// How many reads are made of a capture that is surveyed at most: as many as [`CaptureInput`] makes, so that its octets can
+/// be counted.
+const SURVEY_READS: u64 = 35_184_372_088_832;
 
 /// A file that is read, or standard input.
 #[derive(Drop)]
@@ -106,7 +110,7 @@ pub fn open_seen<'a, R: Files + Input + AllocGlobal>(
     name: &'a str,
 ) -> Result<(FileKind, SeenCapture<'a, R::File, R::Reader>), Failure<'a>>
     ensures new { IfOk result (λ seen. seen.1.standing ≡ New) }
-    ensures reads { IfOk result (λ seen. seen.1.supply.reads + 1 < 2 ^ 64) }
+    ensures most { IfOk result (λ seen. most_left seen.1 < 2 ^ 64) }
 {
     let asked = capture_name(name);
     let blocks = match open_blocks(rt, name, asked.file) {
@@ -126,7 +130,7 @@ pub fn open_seen<'a, R: Files + Input + AllocGlobal>(
         Ok(input) => input,
         Err(error) => return Err(Failure::from(error)),
     };
-    match Source::new(rt.alloc(), input, CAPTURE_READS - 1) {
+    match Source::new(rt.alloc(), input, SURVEY_READS) {
         Ok(capture) => Ok((kind, capture)),
         Err(error) => Err(Failure::from(error)),
     }

@@ -20,9 +20,9 @@ returns-in_default-head-clause-told g c =
 
 pub add-requires : goal.add-requires
 add-requires g c =
-    may_count c.args.bound c.args.source.now c.records.source c.fill.new.self c.records.tally c.records.invariant (c.in_default.ensures.fewer (search rules)) c.requires.reads
+    may_count c.args.bound c.args.source.now c.records.source c.fill.new.self c.records.tally c.records.invariant (c.in_default.ensures.lends (search rules)) c.requires.most
 
 pub records-preserved : goal.records-preserved
 records-preserved g c =
     has_more c.args.bound c.args.source.now c.records.source c.fill.new.self c.records.tally c.add.new.self _ c.records.invariant c.in_default.ensures.filled
-    (sym c.in-Some.ensures.record) (c.in_default.ensures.fewer (search rules)) c.add.ensures
+    (sym c.in-Some.ensures.record) (c.in_default.ensures.lends (search rules)) c.add.ensures

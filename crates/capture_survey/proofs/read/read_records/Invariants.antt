@@ -1,3 +1,4 @@
+use Rattle.pcap_stream.specs.Source.{most_left}
 use Rattle.capture_survey.proofs.Running.{HasRead}
 use Rattle.capture_survey.proofs.read.read_records.Given as goal
 
@@ -5,4 +6,4 @@ abbrev pub invariant-records : goal.invariant-records
 invariant-records g l = HasRead l.bound l.initial.source l.source l.tally
 
 abbrev pub decreases-records : goal.decreases-records
-decreases-records g l = l.source.supply.reads
+decreases-records g l = most_left l.source

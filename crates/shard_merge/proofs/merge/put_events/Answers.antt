@@ -12,7 +12,7 @@ fresh : Shard
 fresh = record { reader = record { line = []; rest = None; failures = 0 }; ports = []; underlay = nothing; coming = coming.Nothing }
   where
     nothing : Stream
-    nothing = record { standing = New; supply = record { rest = None; calls = 0; failures = 0; ends = 0; reads = 0 } }
+    nothing = record { standing = New; supply = record { rest = None; calls = 0; failures = 0; ends = 0; reads = 0 }; ahead = [] }
 
 pub loop-first-init : goal.loop-first-init
 loop-first-init g c = record {

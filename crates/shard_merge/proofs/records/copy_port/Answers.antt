@@ -1,9 +1,13 @@
-use Rattle.std.proofs.Common.{◌≡◌, ◌∙◌, ◌++◌, ◌-◌, ◌<◌, sym, ap, subst, length, slice_index_or, arith}
+use Rattle.std.proofs.Common.{rules, ◌≡◌, ◌∙◌, ◌++◌, ◌-◌, ◌<◌, sym, ap, subst, length, slice_index_or, arith}
 use Rattle.std.proofs.lemmas.List.{get_or_default}
 use Rattle.timeline.specs.declared.source.Tap.TheVariants.{Port}
 use Rattle.shard_merge.specs.Left.{IsAdded, IsLeft, UnlessDevice}
 use Rattle.shard_merge.proofs.Moving.{left_here, port_moved}
 use Rattle.shard_merge.proofs.records.copy_port.Goals as goal
+
+pub offset_bounds-port_sinks-index : goal.offset_bounds-port_sinks-index
+offset_bounds-port_sinks-index g c =
+    let there : c.from-index.result - 1 < length c.args.port_sinks.now = omega (arith, c.if-index-eq0.false, c.if-index-ports.false, c.requires) in search rules
 
 pub returns : goal.returns
 returns g c = λ text rest underlay underlay_sink at written left.

@@ -1,4 +1,4 @@
-use Rattle.std.proofs.Common.{ap, None}
+use Rattle.std.proofs.Common.{ap, arith, None}
 use Rattle.std.proofs.lemmas.List.{get_or_default}
 use Rattle.endpoint_core.specs.Kept.{state_of}
 use Rattle.stream_run.specs.declared.turn.Turn.{Turn}
@@ -12,6 +12,14 @@ no_turn = record { done = 0; next = None }
 
 pub take_at-requires-clause-lent : goal.take_at-requires-clause-lent
 take_at-requires-clause-lent g c = (next_up c.args.changes.now c.args.ports.now c.args.underlay.now c.args.turns.now (state_of c.args.endpoint.now) c.args.desk.now.number _ c.args.first no_turn c.requires.ready c.requires.first).lends
+
+pub fetch_at-requires-clause-open : goal.fetch_at-requires-clause-open
+fetch_at-requires-clause-open g c = (next_up c.args.changes.now c.args.ports.now c.args.underlay.now c.args.turns.now (state_of c.args.endpoint.now) c.args.desk.now.number _ c.args.first no_turn c.requires.ready c.requires.first).open_
+
+pub fetch_at-requires-clause-count : goal.fetch_at-requires-clause-count
+fetch_at-requires-clause-count g c =
+    let done = c.requires.ready.done (record { done = 0; next = None }) c.args.first.index c.requires.first.there in
+    omega (arith, done, c.requires.few)
 
 pub returns-in-Err : goal.returns-in-Err
 returns-in-Err g c =

@@ -2,7 +2,7 @@
 ghost use Rattle.std.specs.Prelude.{◌≡◌, ℕ, ◌<◌, Some, None, Option, IfSome, IsSome, vec_len, is_none, slice_set};
 ghost use Rattle.shared_tables.specs.Pool.{Pool, links_at, entry_at, is_fixed_in, chain_in, renewed};
 ghost use Rattle.shared_tables.specs.Threads.{IsHeld, HoldsAny, heads_without, dropped, moved};
-ghost use Rattle.shared_tables.specs.Sound.{share_at, CountsSome, shares_without, shares_moved, last_left};
+ghost use Rattle.shared_tables.specs.Sound.{share_at, share_moved, CountsSome, shares_without, shares_moved, last_left};
 
 use crate::share::{self, Share};
 use crate::slots::{SlotId, Slots};
@@ -32,19 +32,31 @@ pub fn renew_entry(
     ensures shares { let was = is_fixed_in (entry_at slots.old.entries slot) in
         shares.new.items ≡ shares_moved shares.old.items vid was (is_none last) (links_at slots.old.lines slot) slot }
 {
-    if let Some(share) = share::share_at(shares, vid) {
-        let was_fixed = slots.is_fixed(slot);
-        let fixed = last.is_none();
-        let ends = threads::leave(slots, share::line_of(&share, was_fixed), slot);
-        let left = share::with_line_of(&share, was_fixed, ends, share.count);
-        slots.renew(slot, place, last);
-        let ends = threads::push_back(slots, share::line_of(&left, fixed), slot);
-        share::set_share(
-            shares,
-            vid,
-            share::with_line_of(&left, fixed, ends, share.count),
-        );
+    if let Some(share) = &mut shares[usize::from(vid.get())] {
+        renew_in(slots, share, slot, place, last);
     }
+}
+
+/// The same in the segment's share.
+#[inline(always)]
+fn renew_in(slots: &mut Slots, share: &mut Share, slot: SlotId, place: Place, last: Option<u64>)
+    requires held { IsHeld slots.old.entries slot }
+    requires previous { HoldsAny slots.old.entries (links_at slots.old.lines slot).previous }
+    requires next { HoldsAny slots.old.entries (links_at slots.old.lines slot).next }
+    requires last { let e = entry_at slots.old.entries slot in
+        HoldsAny (slice_set slots.old.entries slot (renewed e place last)) (last_left (Some share.old) (is_fixed_in e) (is_none last) (links_at slots.old.lines slot)) }
+    ensures pool { let was = is_fixed_in (entry_at slots.old.entries slot) in
+        slots.new ≡ moved slots.old slot place last (last_left (Some share.old) was (is_none last) (links_at slots.old.lines slot)) }
+    ensures share { let was = is_fixed_in (entry_at slots.old.entries slot) in
+        share.new ≡ share_moved was (is_none last) (links_at slots.old.lines slot) slot share.old }
+{
+    let was_fixed = slots.is_fixed(slot);
+    let fixed = last.is_none();
+    let ends = threads::leave(slots, share::line_of(share, was_fixed), slot);
+    share::set_line(share, was_fixed, ends);
+    slots.renew(slot, place, last);
+    let ends = threads::push_back(slots, share::line_of(share, fixed), slot);
+    share::set_line(share, fixed, ends);
 }
 
 /// Takes an entry of a segment off its chain and its line, and frees its slot.

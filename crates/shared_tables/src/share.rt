@@ -31,6 +31,17 @@ pub fn line_of(share: &Share, fixed: bool) -> Ends
     if fixed { share.fixed } else { share.queue }
 }
 
+/// Gives a share another line.
+pub fn set_line(share: &mut Share, fixed: bool, ends: Ends)
+    ensures { share.new ≡ with_line share.old fixed ends }
+{
+    if fixed {
+        share.fixed = ends;
+    } else {
+        share.queue = ends;
+    }
+}
+
 /// The share with another line and another count.
 pub fn with_line_of(share: &Share, fixed: bool, ends: Ends, count: u32) -> Share
     ensures { result ≡ record (with_line share.now fixed ends) { count = count } }

@@ -251,6 +251,7 @@ impl SharedTables {
     }
 
     /// Whether a slot's entry stands at a place.
+    #[inline(always)]
     pub(crate) fn stands_at(&self, slot: SlotId, place: Place) -> bool
         requires { IsHeld self.now.entries slot }
         ensures { result ≡ stands_at place (entry_at self.now.entries slot) }

@@ -1,6 +1,7 @@
 //! The slots of a pool. An address is compared, and an entry's age is told, by this module alone.
 ghost use Rattle.std.specs.Prelude.{◌≡◌, ℕ, ◌+◌, ◌<◌, ◌≤◌, ◌↔◌, IsTrue, IfOk, IfSome, IsSome, Some, None, Option, length, replicate, slice_set};
 ghost use Rattle.shared_tables.specs.Pool.{Pool, Held, entry_at, links_at, column, with_column, free_count, chain_in, is_fixed_in, is_dead_in, alone, IfHeld, taken, freed, renewed, free_pool};
+ghost use Rattle.shared_tables.specs.Threads.{next_set, previous_set};
 ghost use Rattle.shared_tables.specs.Slots.{id_of, number_of, links_in, near_of, entry_in, kind_of, moment_of, slot_with, near_on};
 
 use crate::bucket::{chain_by_key, is_key_of, key};
@@ -260,6 +261,26 @@ fn set_near(slot: &mut Slot, thread: Thread, near: Near)
     }
 }
 
+/// Gives it another next one on a thread.
+fn set_next(slot: &mut Slot, thread: Thread, next: u32)
+    ensures { slot.new ≡ slot_with thread slot.old (record (near_on thread slot.old) { next = next }) }
+{
+    match thread {
+        Thread::Chain => slot.chain.next = next,
+        Thread::Line => slot.line.next = next,
+    }
+}
+
+/// Gives it another previous one on a thread.
+fn set_previous(slot: &mut Slot, thread: Thread, previous: u32)
+    ensures { slot.new ≡ slot_with thread slot.old (record (near_on thread slot.old) { previous = previous }) }
+{
+    match thread {
+        Thread::Chain => slot.chain.previous = previous,
+        Thread::Line => slot.line.previous = previous,
+    }
+}
+
 /// Its neighbours on a thread.
 fn near_on(slot: &Slot, thread: Thread) -> Near
     ensures { result ≡ near_on thread slot.now }
@@ -365,6 +386,28 @@ impl Slots {
             &mut self.slots[slot.number as usize],
             thread,
             by_numbers(links),
+        );
+    }
+
+    /// Gives the slot another next one on a thread.
+    pub fn set_next(&mut self, thread: Thread, slot: SlotId, next: Option<SlotId>)
+        requires in_pool { slot < length self.old.entries }
+        requires held { IsSome (entry_at self.old.entries slot) }
+        ensures { self.new ≡ with_column thread self.old (next_set (column thread self.old) (Some slot) next) }
+    {
+        set_next(&mut self.slots[slot.number as usize], thread, number(next));
+    }
+
+    /// Gives the slot another previous one on a thread.
+    pub fn set_previous(&mut self, thread: Thread, slot: SlotId, previous: Option<SlotId>)
+        requires in_pool { slot < length self.old.entries }
+        requires held { IsSome (entry_at self.old.entries slot) }
+        ensures { self.new ≡ with_column thread self.old (previous_set (column thread self.old) (Some slot) previous) }
+    {
+        set_previous(
+            &mut self.slots[slot.number as usize],
+            thread,
+            number(previous),
         );
     }
 

@@ -23,15 +23,7 @@ fn set_next(slots: &mut Slots, thread: Thread, slot: Option<SlotId>, next: Optio
     ensures { slots.new ≡ with_column thread slots.old (next_set (column thread slots.old) slot next) }
 {
     if let Some(slot) = slot {
-        let links = slots.links(thread, slot);
-        slots.set_links(
-            thread,
-            slot,
-            Links {
-                previous: links.previous,
-                next,
-            },
-        );
+        slots.set_next(thread, slot, next);
     }
 }
 
@@ -40,19 +32,12 @@ fn set_previous(slots: &mut Slots, thread: Thread, slot: Option<SlotId>, previou
     ensures { slots.new ≡ with_column thread slots.old (previous_set (column thread slots.old) slot previous) }
 {
     if let Some(slot) = slot {
-        let links = slots.links(thread, slot);
-        slots.set_links(
-            thread,
-            slot,
-            Links {
-                previous,
-                next: links.next,
-            },
-        );
+        slots.set_previous(thread, slot, previous);
     }
 }
 
 /// Takes a slot out of its thread, and answers what its neighbours were.
+#[inline(always)]
 pub fn unlink(slots: &mut Slots, thread: Thread, slot: SlotId) -> Links
     requires held { IsHeld slots.old.entries slot }
     requires previous { HoldsAny slots.old.entries (links_at (column thread slots.old) slot).previous }
@@ -67,6 +52,7 @@ pub fn unlink(slots: &mut Slots, thread: Thread, slot: SlotId) -> Links
 }
 
 /// Takes a slot out of a line.
+#[inline(always)]
 pub fn leave(slots: &mut Slots, ends: Ends, slot: SlotId) -> Ends
     requires held { IsHeld slots.old.entries slot }
     requires previous { HoldsAny slots.old.entries (links_at slots.old.lines slot).previous }

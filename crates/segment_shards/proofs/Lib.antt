@@ -6,3 +6,4 @@ pub mod Running
 pub mod Parting
 pub mod Vids
 pub mod Merging
+pub mod ChangeTexts

@@ -6,6 +6,9 @@ ghost use Rattle.timeline.specs.Timeline.{Timeline};
 ghost use Rattle.overlay_settings.specs.Rules.{MeetsRules};
 ghost use Rattle.overlay_settings.specs.Settings.{Settings as Rules};
 ghost use Rattle.overlay_settings.specs.declared.change.Change.{Change};
+ghost use Rattle.overlay_settings.specs.declared.change.TimedChange.{TimedChange};
+ghost use Rattle.overlay_config.specs.Change.{changes_in};
+ghost use Rattle.overlay_config.specs.Settings.{settings_in};
 ghost use Rattle.endpoint_state.specs.Opened.{settings_told};
 ghost use Rattle.endpoint_state.specs.Settings.{Settings};
 ghost use Rattle.endpoint_core.specs.Event.{Event};
@@ -63,6 +66,18 @@ pub fn runs()
         (cuts_among segments timeline.cuts)) }
     ensures together { (parts : List Segments) (s : Rules) (x : Inputs) (timeline : Timeline) (o : Outputs) →
         IsRunOf s x timeline o → PartAll parts → MeetsRules s → AllByRecursion NamesVid (changes_of x) →
+        texts_of_pieces (length x.ports)
+        (merged (map (λ (part : Segments). pieces_in part (pieces_of (settings_told s) (changes_of x) timeline)) parts))
+        (side_by_side (map (λ (part : Segments). cuts_among part timeline.cuts) parts))
+        ≡ o }
+{}
+
+/// The same of a run by texts. What a text of settings means meets the rules, and each change of a text names a segment by a
+/// VID of 1 to 4094, or none: so of parts of such a run nothing more is asked than that they part all segments.
+pub fn texts()
+    ensures changes { (text : List ℕ) (cs : List TimedChange) → changes_in text ≡ Ok cs → AllByRecursion NamesVid (map (λ (c : TimedChange). c.change) cs) }
+    ensures together { (parts : List Segments) (settings changes : List ℕ) (s : Rules) (x : Inputs) (timeline : Timeline) (o : Outputs) →
+        settings_in settings ≡ Ok s → changes_in changes ≡ Ok x.changes → IsRunOf s x timeline o → PartAll parts →
         texts_of_pieces (length x.ports)
         (merged (map (λ (part : Segments). pieces_in part (pieces_of (settings_told s) (changes_of x) timeline)) parts))
         (side_by_side (map (λ (part : Segments). cuts_among part timeline.cuts) parts))

@@ -144,6 +144,7 @@ fn computes_sum(addr: Addr, underlay: &Underlay) -> bool {
 
 /// The frame that these octets at a local port are, in its segment; or the first reason, of 1 to 11, why it comes to none.
 #[tactic(auto, unfolding(crate::specs::Arrival::came_at))]
+#[inline(always)]
 pub(crate) fn come_at<'a>(
     ports: &PortSet,
     port: u8,

@@ -24,6 +24,7 @@ impl Default for Place {
 
 impl Place {
     /// Whether the two are one place.
+    #[inline(always)]
     pub fn is_same(self, other: Place) -> bool
         ensures { result ≡ same_place self other }
     {

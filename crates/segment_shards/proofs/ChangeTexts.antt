@@ -1,6 +1,6 @@
 -- A text of changes names segments by their VIDs alone.
-use Rattle.std.proofs.Common.{◌≡◌, ℕ, ◌+◌, Bool, true, false, cond, ◌&&◌, nat_le, nat_lt, List, [], ◌∷◌, ◌++◌, length, map, Option, Some, None, option_and_then, Result, Ok, Err, IfOk, ℤ, pos, negsuc, refl, subst, codes, arith}
-use Rattle.std.specs.Prelude.{IfSome, nat_eq}
+use Rattle.std.proofs.Common.{◌≡◌, ℕ, ◌+◌, Bool, true, false, cond, ◌&&◌, nat_le, nat_lt, List, [], ◌∷◌, ◌++◌, length, map, Option, Some, None, Ok, Err, IfOk, ℤ, pos, negsuc, refl, subst, codes, arith}
+use Rattle.std.specs.Prelude.{nat_eq}
 use Rattle.std.specs.Cmp.Lexicographic.{pointwise}
 use Rattle.std.specs.List.{AllByRecursion}
 use Rattle.std.proofs.lemmas.Bool.{leb-true, and_parts}
@@ -8,25 +8,18 @@ use Rattle.timeline.proofs.KnownEvents.{all-append}
 use Rattle.toml.specs.Data.{Data, Members, get_member, as_integer, as_str}
 use Rattle.ip_udp_view.specs.declared.addr.Addr.{Addr}
 use Rattle.ip_udp_view.specs.declared.addr.Tunnel.{Tunnel}
-use Rattle.ip_udp_view.specs.Addr.{IsAddr}
 use Rattle.frame_view.specs.Tag.{IsVid}
-use Rattle.config_text.specs.declared.fault.SettingsFault.{SettingsFault}
 use Rattle.config_text.specs.declared.fault.SettingsFault.TheVariants.{NotRising}
 use Rattle.config_text.specs.Fault.{Meaning, ◌>>=◌}
-use Rattle.config_text.specs.Address.{addr_of}
-use Rattle.config_text.specs.Column.{in_range, range, any_addr, word_in, one_of, truth}
-use Rattle.config_text.specs.Table.{Place, top, path, fits, refuse_if, absent, only, required_value, required, optional_value, optional, limited_items, row_place, each, numbered}
-use Rattle.config_text.proofs.Addresses.{then_some, addr_is}
-use Rattle.overlay_settings.specs.declared.change.Target.{Target}
-use Rattle.overlay_settings.specs.declared.change.Target.TheVariants as target
+use Rattle.config_text.specs.Column.{in_range, range, word_in, one_of, truth}
+use Rattle.config_text.specs.Table.{Place, top, path, fits, refuse_if, only, required_value, required, limited_items, row_place, each, numbered}
+use Rattle.config_text.proofs.Addresses.{then_some}
 use Rattle.overlay_settings.specs.declared.change.Change.{Change}
-use Rattle.overlay_settings.specs.declared.change.Change.TheVariants as changes
 use Rattle.overlay_settings.specs.declared.change.NewSegment.{NewSegment}
 use Rattle.overlay_settings.specs.declared.change.TimedChange.{TimedChange}
-use Rattle.overlay_settings.specs.Change.{named}
 use Rattle.overlay_config.specs.Document.{document}
 use Rattle.overlay_config.specs.CommonRules.{common_of}
-use Rattle.overlay_config.specs.Change.{kind_words, egress_words, keys_of, vid_at, addr_at, mac_at, port_at, tunnel_at, any_number, target_in, target_of, remote_of, new_tunnels_of, new_segment_of, change_in, change_of, changes_of, changes_in, moment_before}
+use Rattle.overlay_config.specs.Change.{kind_words, egress_words, keys_of, vid_at, addr_at, mac_at, port_at, tunnel_at, any_number, target_of, remote_of, new_tunnels_of, new_segment_of, change_in, change_of, changes_of, changes_in, moment_before}
 use Rattle.segment_shards.specs.Pieces.{NamesVid}
 
 -- ---- steps

@@ -15,11 +15,16 @@ use Rattle.stream_run.specs.Cuts.{cut_behind, cuts_from}
 use Rattle.stream_run.specs.Stage.{Drains, Lead, StandAt, StandBetween}
 use Rattle.stream_run.specs.declared.fault.Target.{Target}
 use Rattle.stream_run.specs.declared.turn.Turn.{Turn}
-use Rattle.stream_run.proofs.Standing.{AreFronts, front_line, fronts_self, fronts_trans, lead_behind, wider}
+use Rattle.stream_run.proofs.Standing.{AreFronts, AreSameCaptures, front_line, fronts_self, fronts_trans, lead_behind, lines_alone, wider}
 
 pub front_cuts : (o : Outputs) (cuts : List Cut) → AreFronts o (with_cuts o cuts)
 front_cuts o [] = fronts_self o
 front_cuts o (cut ∷ cuts) = fronts_trans o (with_line o (cut_line cut)) _ (front_line o (cut_line cut)) (front_cuts (with_line o (cut_line cut)) cuts)
+
+-- a line leaves the captures as they are
+captures_stay : (o : Outputs) (cuts : List Cut) → AreSameCaptures o (with_cuts o cuts)
+captures_stay o [] = record { ports = refl; underlay = refl }
+captures_stay o (cut ∷ cuts) = let rest = captures_stay (with_line o (cut_line cut)) cuts in record { ports = rest.ports; underlay = rest.underlay }
 
 -- one of them and the others
 one_and_others : (o : Outputs) (c : Option Cut) (rest : List Cut) → with_cuts o (cons_option c rest) ≡ with_cuts (with_cuts o (option_to_list c)) rest
@@ -49,12 +54,16 @@ pub cut_failed : (start now new : Drains) (o : Outputs) (c : Option Cut) (rest a
     → StandBetween start new so_far.mid (with_cuts so_far.mid (option_to_list c)) → StandBetween start new o (with_cuts o all)
 cut_failed start now new o c rest all so_far between =
     let next = with_cuts so_far.mid (option_to_list c) in
-    subst (StandBetween start new o) (sym (one_and_others so_far.mid c rest) ∙ so_far.same) (wider start new o so_far.mid next (with_cuts next rest) between so_far.behind (front_cuts next rest))
+    let first = captures_stay so_far.mid (option_to_list c) in
+    let last = captures_stay next rest in
+    subst (StandBetween start new o) (sym (one_and_others so_far.mid c rest) ∙ so_far.same)
+    (wider start new o so_far.mid next (with_cuts next rest) between so_far.behind (front_cuts next rest)
+    (lines_alone start new o so_far.mid next (with_cuts next rest) between (record { ports = first.ports ∙ last.ports; underlay = first.underlay ∙ last.underlay }) last))
 
 pub last_cut : {T : Type 0} (start now new : Drains) (o : Outputs) (left all : List Cut) (result : Result T Target) (so_far : CutSoFar start now o left all)
     → Lead start new so_far.mid (with_cuts so_far.mid left) result → Lead start new o (with_cuts o all) result
 last_cut start now new o left all result so_far lead =
-    subst (λ next. Lead start new o next result) so_far.same (lead_behind start new o so_far.mid (with_cuts so_far.mid left) result so_far.behind lead)
+    subst (λ next. Lead start new o next result) so_far.same (lead_behind start new o so_far.mid (with_cuts so_far.mid left) result so_far.behind (captures_stay so_far.mid left) lead)
 
 -- what is left at a port, and at the end
 pub left_at : (ports : List Stream) (underlay : Stream) (turns : List Turn) (i : ℕ) (s : Stream) → i < length ports

@@ -1,5 +1,5 @@
 -- How the texts that stand in outputs grow.
-use Rattle.std.proofs.Common.{◌≡◌, ◌≢◌, ◌∙◌, refl, sym, ap, subst, ℕ, ◌+◌, ◌-◌, ◌<◌, ◌==◌, Bool, true, false, cond, List, [], ◌∷◌, ◌++◌, length, take, take_all, map, get_or, slice_set, slice_index_or, arith, append_assoc, append-nil, length-append, Option, Some, None, Result, Ok, Err, IsErr, MatchBool}
+use Rattle.std.proofs.Common.{◌≡◌, ◌≢◌, ◌∙◌, refl, sym, ap, subst, ℕ, ◌+◌, ◌-◌, ◌<◌, ◌==◌, Bool, true, false, cond, List, [], ◌∷◌, ◌++◌, length, take, take_all, map, get_or, slice_set, slice_index_or, arith, append_assoc, append-nil, length-append, Option, Some, None, Result, Ok, Err, IsErr, MatchBool, inl, inr}
 use Rattle.std.proofs.KnownBytes.{Appends-nil, Appends-trans}
 use Rattle.std.proofs.Math.Seq.{take-append-add}
 use Rattle.std.proofs.lemmas.Bool.{eqb-true, eqb-false}
@@ -16,7 +16,7 @@ use Rattle.capture_run.specs.Outputs.{Outputs}
 use Rattle.capture_run.specs.Sendings.{Sending, sending_of, record_of}
 use Rattle.capture_run.specs.Writing.{with_all_sent, with_line, with_record, with_sent}
 use Rattle.stream_run.specs.declared.fault.Target.{Target}
-use Rattle.stream_run.specs.Stage.{Drains, Failed, Lead, PortsBetween, StandAt, StandBetween, StandsBetween, health}
+use Rattle.stream_run.specs.Stage.{Drains, Failed, Lead, LinesComeLast, PortsBetween, StandAt, StandBetween, StandsBetween, health}
 
 -- ---- one output
 
@@ -169,6 +169,11 @@ fronts_trans a b c p q = record {
   decisions = front_trans _ _ _ p.decisions q.decisions;
 }
 
+-- the captures are the same, whatever the lines are
+pub record AreSameCaptures (a b : Outputs) : Type 0 where
+  pub ports : a.ports ≡ b.ports
+  pub underlay : a.underlay ≡ b.underlay
+
 stands_wider : (start new : Drain) (a b c d : List ℕ) → StandsBetween start new b c → IsFront a b → IsFront c d → StandsBetween start new a d
 stands_wider start new a b c d at p q = record {
   size = at.size;
@@ -177,8 +182,20 @@ stands_wider start new a b c d at p q = record {
   text = subst (Appends start.written new.written) (sym (ap (take at.size) q.1 ∙ take-append-le at.size c q.0 at.no_more)) at.text;
 }
 
-pub wider : (start new : Drains) (a b c d : Outputs) → StandBetween start new b c → AreFronts a b → AreFronts c d → StandBetween start new a d
-wider start new a b c d at p q = record {
+-- records alone were put: no line has more
+pub no_line : (start new : Drains) (a b c d : Outputs) → StandBetween start new b c → b.decisions ≡ a.decisions → c.decisions ≡ a.decisions → LinesComeLast start new a d
+no_line start new a b c d at first last =
+    inl (subst (StandsBetween start.decisions new.decisions a.decisions) last (subst (λ l. StandsBetween start.decisions new.decisions l c.decisions) first at.decisions))
+
+-- lines alone were put: the captures hold all
+pub lines_alone : (start new : Drains) (a b c d : Outputs) → StandBetween start new b c → AreSameCaptures b d → AreSameCaptures c d → LinesComeLast start new a d
+lines_alone start new a b c d at first last = inr (record {
+  ports = subst (PortsBetween start.ports new.ports d.ports) last.ports (subst (λ l. PortsBetween start.ports new.ports l c.ports) first.ports at.ports);
+  underlay = subst (StandsBetween start.underlay new.underlay d.underlay) last.underlay (subst (λ l. StandsBetween start.underlay new.underlay l c.underlay) first.underlay at.underlay);
+})
+
+pub wider : (start new : Drains) (a b c d : Outputs) → StandBetween start new b c → AreFronts a b → AreFronts c d → LinesComeLast start new a d → StandBetween start new a d
+wider start new a b c d at p q order = record {
   ports = record {
     many = at.ports.many;
     many_least = sym p.many ∙ at.ports.many_least;
@@ -187,6 +204,7 @@ wider start new a b c d at p q = record {
   };
   underlay = stands_wider _ _ _ _ _ _ at.underlay p.underlay q.underlay;
   decisions = stands_wider _ _ _ _ _ _ at.decisions p.decisions q.decisions;
+  order = order;
 }
 
 front_set : (texts : List (List ℕ)) (i : ℕ) (text : List ℕ) (k : ℕ) → k < length texts
@@ -230,6 +248,22 @@ front_all moment o (x ∷ xs) = fronts_trans o (with_sent moment o x) _ (front_s
 pub front_line : (o : Outputs) (text : List ℕ) → AreFronts o (with_line o text)
 front_line o text = record { many = refl; ports = λ k lt. front_self (slice_index_or o.ports k []); underlay = front_self o.underlay; decisions = (text, refl) }
 
+-- a record leaves the lines as they are
+lines_stay_sending : (o : Outputs) (s : Option Sending) → (option_map_or (λ (s : Sending). with_record o s.place (written_record (record_of s))) s o).decisions ≡ o.decisions
+lines_stay_sending o None = refl
+lines_stay_sending o (Some s) = at s.place
+  where
+    at : (p : Place) → (with_record o p (written_record (record_of s))).decisions ≡ o.decisions
+    at (Local port) = refl
+    at (Remote kind addr) = refl
+
+lines_stay_sent : (moment : ℕ) (o : Outputs) (x : Sent) → (with_sent moment o x).decisions ≡ o.decisions
+lines_stay_sent moment o x = lines_stay_sending o (sending_of moment x)
+
+pub lines_stay : (moment : ℕ) (o : Outputs) (xs : List Sent) → (with_all_sent moment o xs).decisions ≡ o.decisions
+lines_stay moment o [] = refl
+lines_stay moment o (x ∷ xs) = lines_stay moment (with_sent moment o x) xs ∙ lines_stay_sent moment o x
+
 -- ---- the outlets of an event
 
 -- some of them are put: with those that are left put too, it is all
@@ -252,16 +286,21 @@ pub put_failed : (moment : ℕ) (start now new : Drains) (o : Outputs) (x : Sent
     → StandBetween start new so_far.mid (with_sent moment so_far.mid x) → StandBetween start new o (with_all_sent moment o all)
 put_failed moment start now new o x rest all so_far between =
     let next = with_sent moment so_far.mid x in
-    subst (StandBetween start new o) so_far.same (wider start new o so_far.mid next (with_all_sent moment next rest) between so_far.behind (front_all moment next rest))
+    let before : so_far.mid.decisions ≡ o.decisions =
+    sym (lines_stay moment so_far.mid (x ∷ rest)) ∙ ap (λ (o : Outputs). o.decisions) so_far.same ∙ lines_stay moment o all in
+    let all_put = with_all_sent moment next rest in
+    subst (StandBetween start new o) so_far.same
+    (wider start new o so_far.mid next all_put between so_far.behind (front_all moment next rest) (no_line start new o so_far.mid next all_put between before (lines_stay_sent moment so_far.mid x ∙ before)))
 
 pub put_end : (moment : ℕ) (start now : Drains) (o : Outputs) (all : List Sent) → PutSoFar moment start now o [] all → StandAt start now (with_all_sent moment o all)
 put_end moment start now o all so_far = subst (StandAt start now) so_far.same so_far.at
 
 module _ {T : Type 0} where
-  -- a step behind others
-  pub lead_behind : (start new : Drains) (o mid next : Outputs) (result : Result T Target) → AreFronts o mid → Lead start new mid next result → Lead start new o next result
-  lead_behind start new o mid next (Ok x) front h = h
-  lead_behind start new o mid next (Err target) front h = (wider start new o mid next next h.0 front (fronts_self next), h.1)
+  -- a line behind other steps
+  pub lead_behind : (start new : Drains) (o mid next : Outputs) (result : Result T Target) → AreFronts o mid → AreSameCaptures mid next → Lead start new mid next result → Lead start new o next result
+  lead_behind start new o mid next (Ok x) front same h = h
+  lead_behind start new o mid next (Err target) front same h =
+      (wider start new o mid next next h.0 front (fronts_self next) (lines_alone start new o mid next next h.0 same (record { ports = refl; underlay = refl })), h.1)
 
 -- nothing more than before
 pub stands_still_at : (start : Drains) (o : Outputs) → ((k : ℕ) → k < length o.ports → slice_index_or o.ports k [] ≡ []) → length o.ports ≡ length start.ports → o.underlay ≡ [] → o.decisions ≡ [] → StandAt start start o
@@ -270,6 +309,7 @@ stands_still_at start o ports many underlay decisions = record {
     ports = record { many = refl; many_least = many; many_most = many; each = λ d k lt. nothing (slice_index_or start.ports k d) (slice_index_or o.ports k []) (ports k (omega (arith, lt, many))) };
     underlay = nothing start.underlay o.underlay underlay;
     decisions = nothing start.decisions o.decisions decisions;
+    order = inl (nothing start.decisions o.decisions decisions);
   };
   well = record { ports = refl; underlay = refl; decisions = refl };
 }

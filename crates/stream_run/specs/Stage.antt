@@ -1,7 +1,8 @@
 -- How far the outputs of a run have come. It states no standard.
 --     stage      the texts after so many steps: the headers, each event, the lines of the cut captures
 --     StandBetween      what the outputs hold more than before: at least the one texts, and at most the others
-use Rattle.std.specs.Prelude.{◌≡◌, ◌<◌, ◌≤◌, ℕ, zero, suc, ◌-◌, nat_lt, if◌then◌else◌, Bool, false, List, [], length, replicate, take, slice_index_or, map, Option, Result, Ok, Err}
+--     LinesComeLast      no line stands there before all that leaves does
+use Rattle.std.specs.Prelude.{◌≡◌, ◌⊎◌, ◌<◌, ◌≤◌, ℕ, zero, suc, ◌-◌, nat_lt, if◌then◌else◌, Bool, false, List, [], length, replicate, take, slice_index_or, map, Option, Result, Ok, Err}
 use Rattle.std.specs.Io.KnownBytes.{Appends}
 use Rattle.pcap_stream.specs.Counts.{GoesOnBy}
 use Rattle.pcap_stream.specs.Sink.{Drain}
@@ -60,11 +61,22 @@ pub record PortsBetween (old new : List Drain) (least most : List (List ℕ)) : 
   pub many_most : length most ≡ length old
   pub each : (d : Drain) (k : ℕ) → k < length old → StandsBetween (slice_index_or old k d) (slice_index_or new k d) (slice_index_or least k []) (slice_index_or most k [])
 
--- each output of a run does
+-- the captures hold just these texts more than before
+pub record CapturesHold (old new : Drains) (texts : Outputs) : Type 0 where
+  pub ports : PortsBetween old.ports new.ports texts.ports texts.ports
+  pub underlay : StandsBetween old.underlay new.underlay texts.underlay texts.underlay
+
+-- the lines come last: of those that the most texts have more than the least no octet stands there, or the captures
+-- hold all their records already
+abbrev pub LinesComeLast : Drains → Drains → Outputs → Outputs → Type 0
+LinesComeLast old new least most = StandsBetween old.decisions new.decisions least.decisions least.decisions ⊎ CapturesHold old new most
+
+-- each output of a run does, and the lines come last
 pub record StandBetween (old new : Drains) (least most : Outputs) : Type 0 where
   pub ports : PortsBetween old.ports new.ports least.ports most.ports
   pub underlay : StandsBetween old.underlay new.underlay least.underlay most.underlay
   pub decisions : StandsBetween old.decisions new.decisions least.decisions most.decisions
+  pub order : LinesComeLast old new least most
 
 -- how often an output failed, and whether its sink gave up
 abbrev pub health : Drain → ℕ × Bool

@@ -1,4 +1,4 @@
-use Rattle.std.proofs.Common.{◌≡◌, ◌<◌, ◌-◌, ◌==◌, ap, false, arith, length, Ok, Err}
+use Rattle.std.proofs.Common.{◌≡◌, ◌<◌, ◌-◌, ◌==◌, ap, false, arith, length, Ok, Err, inl}
 use Rattle.std.proofs.lemmas.Bool.{ne_eqb}
 use Rattle.pcap_io.specs.Written.{whole_frame, written_record}
 use Rattle.encapsulate.specs.Emission.{text}
@@ -14,7 +14,7 @@ returns-in-Ok g c start o underlay written failures at =
     let put = ports_put {E = WriteFault} start.ports c.args.sinks.now (c.from-2.result - 1) c.index-sinks-from.result c.put_leaving.new.sink o.ports (written_record (whole_frame c.args.moment (text c.args.leaving.now)))
     (Ok c.in-Ok.field-0) there c.in-Ok.ensures at.between.ports at.well.ports in
     rw (apart, ← index) (record {
-      between = record { ports = put.0; underlay = at.between.underlay; decisions = at.between.decisions };
+      between = record { ports = put.0; underlay = at.between.underlay; decisions = at.between.decisions; order = inl at.between.decisions };
       well = record { ports = put.1; underlay = at.well.underlay; decisions = at.well.decisions };
     })
 
@@ -26,6 +26,6 @@ returns-in-Err g c start o underlay written failures at =
     let put = ports_put {T = Unit {0}} start.ports c.args.sinks.now (c.from-2.result - 1) c.index-sinks-from.result c.put_leaving.new.sink o.ports (written_record (whole_frame c.args.moment (text c.args.leaving.now)))
     (Err c.in-Err.field-0) there c.in-Err.ensures at.between.ports at.well.ports in
     rw (apart, ← index) (
-      record { ports = put.0; underlay = at.between.underlay; decisions = at.between.decisions },
+      record { ports = put.0; underlay = at.between.underlay; decisions = at.between.decisions; order = inl at.between.decisions },
       λ d. (omega (arith, c.if-port-eq0.false), omega (arith, there, c.from-2.ensures, at.between.ports.many), put.1 d),
     )

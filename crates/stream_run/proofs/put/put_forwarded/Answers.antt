@@ -1,4 +1,4 @@
-use Rattle.std.proofs.Common.{◌≡◌, ◌∙◌, ◌++◌, ◌∷◌, [], ap, subst, map, List, Some}
+use Rattle.std.proofs.Common.{◌≡◌, ◌∙◌, ◌++◌, ◌∷◌, [], refl, ap, subst, map, List, Some}
 use Rattle.std.specs.Prelude.{codes}
 use Rattle.filter_db.specs.declared.place.Place.{Place}
 use Rattle.endpoint_core.specs.Kept.{state_of}
@@ -8,7 +8,7 @@ use Rattle.decision_lines.specs.Lines.{line_front, segment_text}
 use Rattle.capture_run.specs.Writing.{with_all_sent, with_line}
 use Rattle.stream_run.specs.Stage.{Lead, StandAt, drains}
 use Rattle.stream_run.proofs.Lining.{pieces}
-use Rattle.stream_run.proofs.Standing.{front_all, front_line, fronts_self, lead_behind, wider}
+use Rattle.stream_run.proofs.Standing.{front_all, front_line, fronts_self, lead_behind, lines_stay, no_line, wider}
 use Rattle.stream_run.proofs.put.put_forwarded.Goals as goal
 
 pub returns-in-Err-clause-outputs : goal.returns-in-Err-clause-outputs
@@ -18,8 +18,11 @@ returns-in-Err-clause-outputs g c start o at =
     let new = drains c.put_places.new.port_sinks c.put_places.new.underlay_sink (g.W.Output.written c.args.decisions.now) (g.W.Output.failures c.args.decisions.now) in
     let lead = subst (λ (ps : List Place). Lead start new o (with_all_sent c.args.event.now.moment o (map f ps)) c.put_places.result) c.as_slice.ensures.value
     (c.put_places.ensures.sent start o (g.W.Output.written c.args.decisions.now) (g.W.Output.failures c.args.decisions.now) at) in
-    let failed = rw c.in-Err.is at lead in
-    (wider start new o o sent (with_line sent _) failed.0 (fronts_self o) (front_line sent _), failed.1)
+    let failed = rw c.in-Err.is at lead in (
+      wider start new o o sent (with_line sent _) failed.0 (fronts_self o) (front_line sent _)
+          (no_line start new o o sent (with_line sent _) failed.0 refl (lines_stay c.args.event.now.moment o (map f c.args.desk.now.places.items))),
+      failed.1,
+    )
 
 pub returns-clause-outputs : goal.returns-clause-outputs
 returns-clause-outputs g c start o at =
@@ -41,5 +44,5 @@ returns-clause-outputs g c start o at =
     let new = drains c.put_places.new.port_sinks c.put_places.new.underlay_sink (g.W.Output.written c.put_line.new.decisions) (g.W.Output.failures c.put_line.new.decisions) in
     let lead : Lead {T = Unit {0}} start new sent (with_line sent c.text.result.now) c.put_line.result = c.put_line.ensures start sent c.put_places.new.port_sinks c.put_places.new.underlay_sink stood in
     let text = front ++ ((seg ++ codes " " ++ outcomes_text two outcomes) ++ 10 ∷ []) in
-    lead_behind {T = Unit {0}} start new o sent (with_line sent text) c.put_line.result (front_all c.args.event.now.moment o outcomes)
+    lead_behind {T = Unit {0}} start new o sent (with_line sent text) c.put_line.result (front_all c.args.event.now.moment o outcomes) (record { ports = refl; underlay = refl })
     (subst (λ l. Lead {T = Unit {0}} start new sent (with_line sent l) c.put_line.result) whole lead)

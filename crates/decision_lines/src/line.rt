@@ -1,5 +1,5 @@
 //! A line of text in one buffer.
-ghost use Rattle.std.specs.Prelude.{◌≡◌, ℕ, ◌≤◌, ◌<◌, ◌+◌, List, [], ◌∷◌, ◌++◌, length, take, decimal};
+ghost use Rattle.std.specs.Prelude.{◌≡◌, ℕ, ◌≤◌, ◌<◌, ◌+◌, ◌/◌, ◌%◌, List, [], ◌∷◌, ◌++◌, length, take, decimal};
 ghost use Rattle.endpoint_core.specs.Text.{hex_digit, hex_octet};
 
 use itoa::write_digits;
@@ -82,6 +82,9 @@ impl Line {
         ensures text { self.new ≡ self.old ++ decimal number }
         ensures len { length self.new ≤ length self.old + 20 }
     {
+        if number < 10_000 {
+            return self.put_short(number as u16);
+        }
         self.put_digits(number, digits(number));
     }
 
@@ -92,6 +95,13 @@ impl Line {
         ensures text { self.new ≡ self.old ++ decimal number }
         ensures len { length self.new ≤ length self.old + 5 }
     {
+        if number < 100 {
+            return self.put_small(number as u8);
+        }
+        if number < 10_000 {
+            self.put_small((number / 100) as u8);
+            return self.put_pair((number % 100) as u8);
+        }
         let number = u64::from(number);
         self.put_digits(number, digits(number));
     }
@@ -102,9 +112,28 @@ impl Line {
         requires room { length self.old + 3 ≤ 4096 }
         ensures text { self.new ≡ self.old ++ decimal number }
         ensures len { length self.new ≤ length self.old + 3 }
+        ensures two { number < 100 → length self.new ≤ length self.old + 2 }
     {
-        let number = u64::from(number);
-        self.put_digits(number, digits(number));
+        if number < 10 {
+            return self.put_octet(b'0' + number);
+        }
+        if number < 100 {
+            return self.put_pair(number);
+        }
+        self.put_octet(b'0' + number / 100);
+        self.put_pair(number % 100);
+    }
+
+    /// Puts a number below 100 in two decimal digits at the end.
+    #[inline]
+    fn put_pair(&mut self, number: u8)
+        requires two { number < 100 }
+        requires room { length self.old + 2 ≤ 4096 }
+        ensures text { self.new ≡ self.old ++ (48 + number / 10) ∷ (48 + number % 10) ∷ [] }
+        ensures len { length self.new ≡ length self.old + 2 }
+    {
+        self.put_octet(b'0' + number / 10);
+        self.put_octet(b'0' + number % 10);
     }
 
     /// Puts a number that has this many decimal digits.

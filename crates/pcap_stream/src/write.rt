@@ -10,9 +10,33 @@ use crate::fault::WriteFault;
 use crate::output::Output;
 use pcap_io::record_header;
 
-/// Writes a text whole.
+/// Writes a text whole: mostly the output takes it at once.
 #[inline(always)]
 pub fn write_full<W: Output>(output: &mut W, text: &[u8]) -> Result<(), WriteFault>
+    ensures ok { OnOk result (Appends (W.written output.old) (W.written output.new) text.now) }
+    ensures err { OnErr result (AppendsPart (W.written output.old) (W.written output.new) text.now) }
+    ensures quiet { OnOk result (W.failures output.new ≡ W.failures output.old) }
+    ensures cause { OnErr result (GoesOnBy 1 (W.failures output.old) (W.failures output.new)) }
+{
+    if text.is_empty() {
+        return Ok(());
+    }
+    let Ok(n) = output.write(text) else {
+        return Err(WriteFault);
+    };
+    if n == text.len() {
+        return Ok(());
+    }
+    if n == 0 {
+        return Err(WriteFault);
+    }
+    write_rest(output, &text[n..])
+}
+
+/// Writes a text in as many writes as it takes.
+#[cold]
+#[inline(never)]
+fn write_rest<W: Output>(output: &mut W, text: &[u8]) -> Result<(), WriteFault>
     ensures ok { OnOk result (Appends (W.written output.old) (W.written output.new) text.now) }
     ensures err { OnErr result (AppendsPart (W.written output.old) (W.written output.new) text.now) }
     ensures quiet { OnOk result (W.failures output.new ≡ W.failures output.old) }
@@ -70,6 +94,7 @@ fn write_five<'p, W: Output>(
 const FRONT: usize = 102;
 
 /// Puts a text behind the first `at` octets of a room, and says where it ends.
+#[inline(always)]
 fn put_behind(room: &mut [u8], at: usize, text: &[u8]) -> usize
     requires { at + length text.now ≤ length room.old }
     ensures end { result ≡ at + length text.now }
@@ -80,16 +105,59 @@ fn put_behind(room: &mut [u8], at: usize, text: &[u8]) -> usize
     end
 }
 
+/// The same of a text that mostly is empty.
+#[inline(always)]
+fn put_head(room: &mut [u8], at: usize, text: &[u8]) -> usize
+    requires { at + length text.now ≤ length room.old }
+    ensures end { result ≡ at + length text.now }
+    ensures text { take result room.new ≡ take at room.old ++ text.now }
+{
+    if text.is_empty() {
+        return at;
+    }
+    put_behind(room, at, text)
+}
+
+/// The same of a text that mostly has twelve octets, as two addresses have.
+#[inline(always)]
+fn put_addresses(room: &mut [u8], at: usize, text: &[u8]) -> usize
+    requires { at + length text.now ≤ length room.old }
+    ensures end { result ≡ at + length text.now }
+    ensures text { take result room.new ≡ take at room.old ++ text.now }
+{
+    if text.len() == 12 {
+        return put_behind(room, at, &text[..12]);
+    }
+    put_behind(room, at, text)
+}
+
+/// The same of a text that mostly is empty or has four octets, as a tag has.
+#[inline(always)]
+fn put_tag(room: &mut [u8], at: usize, text: &[u8]) -> usize
+    requires { at + length text.now ≤ length room.old }
+    ensures end { result ≡ at + length text.now }
+    ensures text { take result room.new ≡ take at room.old ++ text.now }
+{
+    if text.is_empty() {
+        return at;
+    }
+    if text.len() == 4 {
+        return put_behind(room, at, &text[..4]);
+    }
+    put_behind(room, at, text)
+}
+
 /// Puts four texts into the front of a room, one behind another, and says where they end.
+#[inline(always)]
 fn put_four(room: &mut [u8], before: &[u8], head: &[u8], addresses: &[u8], tag: &[u8]) -> usize
     requires { length before.now + length head.now + length addresses.now + length tag.now ≤ length room.old }
     ensures end { result ≤ length room.new }
     ensures texts { take result room.new ≡ before.now ++ (head.now ++ (addresses.now ++ tag.now)) }
 {
     let before_end = put_behind(room, 0, before);
-    let head_end = put_behind(room, before_end, head);
-    let addresses_end = put_behind(room, head_end, addresses);
-    put_behind(room, addresses_end, tag)
+    let head_end = put_head(room, before_end, head);
+    let addresses_end = put_addresses(room, head_end, addresses);
+    put_tag(room, addresses_end, tag)
 }
 
 /// Writes two texts, one behind the other.

@@ -70,7 +70,7 @@ impl Tables for SharedTables {
     {
         self.begin(now);
         match self.find(vid, mac) {
-            Some(slot) => learning::relearn(self, vid, slot, place),
+            Some(slot) => learning::relearn(self, vid, slot, &place),
             None => {
                 if learning::admit(self, vid, mac, place, Some(now)) {
                     Learned::New
@@ -101,7 +101,7 @@ impl Tables for SharedTables {
         self.begin(now);
         match self.find(vid, mac) {
             Some(slot) => {
-                self.refresh(vid, slot, place, None);
+                self.refresh(vid, slot, &place, None);
                 Ok(())
             }
             None => {

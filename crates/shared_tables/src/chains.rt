@@ -6,7 +6,7 @@ ghost use Rattle.shared_tables.specs.Shared.{Lacks, bucket_count};
 ghost use Rattle.shared_tables.specs.Sound.{IsChain};
 ghost use Rattle.shared_tables.specs.Bucket.{bucket_of, chain_of};
 
-use crate::slots::{SlotId, Slots, Thread};
+use crate::slots::{SlotId, Slots};
 use frame_view::{Mac, Vid};
 
 /// The slot of an address, from the first slot of its chain on.
@@ -24,7 +24,7 @@ pub fn find_in(slots: &mut Slots, first: Option<SlotId>, vid: Vid, mac: Mac) -> 
         if slots.same(slot, vid, mac) {
             return Some(slot);
         }
-        cursor = slots.links(Thread::Chain, slot).next;
+        cursor = slots.next_on_chain(slot);
     }
     None
 }

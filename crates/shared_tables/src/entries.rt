@@ -1,5 +1,5 @@
 //! Entries that are renewed, and entries that go.
-ghost use Rattle.std.specs.Prelude.{◌≡◌, ℕ, ◌<◌, Some, None, Option, IfSome, IsSome, vec_len, is_none, slice_set};
+ghost use Rattle.std.specs.Prelude.{◌≡◌, ℕ, ◌<◌, Some, None, Option, IfSome, IsSome, vec_len, is_none, false, slice_set};
 ghost use Rattle.shared_tables.specs.Pool.{Pool, links_at, entry_at, is_fixed_in, chain_in, renewed};
 ghost use Rattle.shared_tables.specs.Threads.{IsHeld, HoldsAny, heads_without, dropped, moved};
 ghost use Rattle.shared_tables.specs.Sound.{share_at, share_moved, CountsSome, shares_without, shares_moved, last_left};
@@ -17,7 +17,7 @@ pub fn renew_entry(
     shares: &mut Vec<Option<Share>>,
     vid: Vid,
     slot: SlotId,
-    place: Place,
+    place: &Place,
     last: Option<u64>,
 )
     requires held { IsHeld slots.old.entries slot }
@@ -26,27 +26,45 @@ pub fn renew_entry(
     requires shares { vec_len shares.old ≡ 4096 }
     requires there { IsSome (share_at shares.old.items vid) }
     requires last { let e = entry_at slots.old.entries slot in
-        HoldsAny (slice_set slots.old.entries slot (renewed e place last)) (last_left (share_at shares.old.items vid) (is_fixed_in e) (is_none last) (links_at slots.old.lines slot)) }
+        HoldsAny (slice_set slots.old.entries slot (renewed e place.now last)) (last_left (share_at shares.old.items vid) (is_fixed_in e) (is_none last) (links_at slots.old.lines slot)) }
     ensures pool { let was = is_fixed_in (entry_at slots.old.entries slot) in
-        slots.new ≡ moved slots.old slot place last (last_left (share_at shares.old.items vid) was (is_none last) (links_at slots.old.lines slot)) }
+        slots.new ≡ moved slots.old slot place.now last (last_left (share_at shares.old.items vid) was (is_none last) (links_at slots.old.lines slot)) }
     ensures shares { let was = is_fixed_in (entry_at slots.old.entries slot) in
         shares.new.items ≡ shares_moved shares.old.items vid was (is_none last) (links_at slots.old.lines slot) slot }
 {
     if let Some(share) = &mut shares[usize::from(vid.get())] {
-        renew_in(slots, share, slot, place, last);
+        match last {
+            Some(now) if !slots.is_fixed(slot) => see_in(slots, share, slot, place, now),
+            _ => renew_in(slots, share, slot, place, last),
+        }
     }
 }
 
-/// The same in the segment's share.
+/// The same in the segment's share, of a learned entry that is seen at a moment.
 #[inline(always)]
-fn renew_in(slots: &mut Slots, share: &mut Share, slot: SlotId, place: Place, last: Option<u64>)
+fn see_in(slots: &mut Slots, share: &mut Share, slot: SlotId, place: &Place, now: u64)
     requires held { IsHeld slots.old.entries slot }
     requires previous { HoldsAny slots.old.entries (links_at slots.old.lines slot).previous }
     requires next { HoldsAny slots.old.entries (links_at slots.old.lines slot).next }
     requires last { let e = entry_at slots.old.entries slot in
-        HoldsAny (slice_set slots.old.entries slot (renewed e place last)) (last_left (Some share.old) (is_fixed_in e) (is_none last) (links_at slots.old.lines slot)) }
+        HoldsAny (slice_set slots.old.entries slot (renewed e place.now (Some now))) (last_left (Some share.old) false false (links_at slots.old.lines slot)) }
+    ensures pool { slots.new ≡ moved slots.old slot place.now (Some now) (last_left (Some share.old) false false (links_at slots.old.lines slot)) }
+    ensures share { share.new ≡ share_moved false false (links_at slots.old.lines slot) slot share.old }
+{
+    let ends = threads::leave(slots, share.queue, slot);
+    slots.renew(slot, place, Some(now));
+    share.queue = threads::push_back(slots, ends, slot);
+}
+
+/// The same in the segment's share.
+fn renew_in(slots: &mut Slots, share: &mut Share, slot: SlotId, place: &Place, last: Option<u64>)
+    requires held { IsHeld slots.old.entries slot }
+    requires previous { HoldsAny slots.old.entries (links_at slots.old.lines slot).previous }
+    requires next { HoldsAny slots.old.entries (links_at slots.old.lines slot).next }
+    requires last { let e = entry_at slots.old.entries slot in
+        HoldsAny (slice_set slots.old.entries slot (renewed e place.now last)) (last_left (Some share.old) (is_fixed_in e) (is_none last) (links_at slots.old.lines slot)) }
     ensures pool { let was = is_fixed_in (entry_at slots.old.entries slot) in
-        slots.new ≡ moved slots.old slot place last (last_left (Some share.old) was (is_none last) (links_at slots.old.lines slot)) }
+        slots.new ≡ moved slots.old slot place.now last (last_left (Some share.old) was (is_none last) (links_at slots.old.lines slot)) }
     ensures share { let was = is_fixed_in (entry_at slots.old.entries slot) in
         share.new ≡ share_moved was (is_none last) (links_at slots.old.lines slot) slot share.old }
 {

@@ -72,11 +72,11 @@ pub fn admit(tables: &mut SharedTables, vid: Vid, mac: Mac, place: Place, last: 
 }
 
 /// Learns an address that a slot holds.
-pub fn relearn(tables: &mut SharedTables, vid: Vid, slot: SlotId, place: Place) -> Learned
+pub fn relearn(tables: &mut SharedTables, vid: Vid, slot: SlotId, place: &Place) -> Learned
     requires held { IsOf (entry_at tables.old.entries slot) vid }
     requires in_pool { IsHeld tables.old.entries slot }
     requires rule { IsSome (rule_at tables.old.rules vid) }
-    ensures { Relearns tables.old tables.new slot (span_of (rule_at tables.old.rules vid)) place result }
+    ensures { Relearns tables.old tables.new slot (span_of (rule_at tables.old.rules vid)) place.now result }
 {
     if tables.is_fixed(slot) {
         return Learned::Fixed;

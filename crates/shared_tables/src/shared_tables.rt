@@ -148,11 +148,11 @@ impl SharedTables {
 
     /// Gives an entry another place and another last moment, in its slot: it keeps its place on its chain, and goes to
     /// the end of its line.
-    pub(crate) fn refresh(&mut self, vid: Vid, slot: SlotId, place: Place, last: Option<u64>)
+    pub(crate) fn refresh(&mut self, vid: Vid, slot: SlotId, place: &Place, last: Option<u64>)
         requires held { IsOf (entry_at self.old.entries slot) vid }
         requires rule { IsSome (rule_at self.old.rules vid) }
         requires now { IsNow last self.old.moment }
-        ensures { Refreshes self.old self.new slot place last }
+        ensures { Refreshes self.old self.new slot place.now last }
     {
         renew_entry(&mut self.slots, &mut self.shares, vid, slot, place, last);
     }
@@ -252,11 +252,11 @@ impl SharedTables {
 
     /// Whether a slot's entry stands at a place.
     #[inline(always)]
-    pub(crate) fn stands_at(&self, slot: SlotId, place: Place) -> bool
+    pub(crate) fn stands_at(&self, slot: SlotId, place: &Place) -> bool
         requires { IsHeld self.now.entries slot }
-        ensures { result ≡ stands_at place (entry_at self.now.entries slot) }
+        ensures { result ≡ stands_at place.now (entry_at self.now.entries slot) }
     {
-        self.slots.place(slot).is_same(place)
+        self.slots.stands_at(slot, place)
     }
 
     /// The entry of a segment's age queue that was seen first.

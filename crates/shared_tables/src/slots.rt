@@ -1,6 +1,7 @@
 //! The slots of a pool. An address is compared, and an entry's age is told, by this module alone.
 ghost use Rattle.std.specs.Prelude.{◌≡◌, ℕ, ◌+◌, ◌<◌, ◌≤◌, ◌↔◌, IsTrue, IfOk, IfSome, IsSome, Some, None, Option, length, replicate, slice_set};
 ghost use Rattle.shared_tables.specs.Pool.{Pool, Held, entry_at, links_at, column, with_column, free_count, chain_in, is_fixed_in, is_dead_in, alone, IfHeld, taken, freed, renewed, free_pool};
+ghost use Rattle.filter_db.specs.Place.{same_place};
 ghost use Rattle.shared_tables.specs.Threads.{next_set, previous_set};
 ghost use Rattle.shared_tables.specs.Slots.{id_of, number_of, links_in, near_of, entry_in, kind_of, moment_of, slot_with, near_on};
 
@@ -148,8 +149,8 @@ fn by_numbers(links: Links) -> Near
 }
 
 /// The neighbours of these numbers.
-fn links_of(near: Near) -> Links
-    ensures { result ≡ links_in near }
+fn links_of(near: &Near) -> Links
+    ensures { result ≡ links_in near.now }
 {
     Links {
         previous: slot_id(near.previous),
@@ -240,13 +241,13 @@ fn chain_of(slot: &Slot) -> usize
 }
 
 /// Gives its entry another place and another last moment.
-fn renew(slot: &mut Slot, place: Place, last: Option<u64>)
+fn renew(slot: &mut Slot, place: &Place, last: Option<u64>)
     requires { IsSome (entry_in slot.old) }
-    ensures entry { entry_in slot.new ≡ renewed (entry_in slot.old) place last }
+    ensures entry { entry_in slot.new ≡ renewed (entry_in slot.old) place.now last }
     ensures chain { slot.new.chain ≡ slot.old.chain }
     ensures line { slot.new.line ≡ slot.old.line }
 {
-    slot.place = place;
+    slot.place = *place;
     slot.last = last.unwrap_or(0);
     slot.kind = kind_of(last);
 }
@@ -282,12 +283,12 @@ fn set_previous(slot: &mut Slot, thread: Thread, previous: u32)
 }
 
 /// Its neighbours on a thread.
-fn near_on(slot: &Slot, thread: Thread) -> Near
-    ensures { result ≡ near_on thread slot.now }
+fn links_on(slot: &Slot, thread: Thread) -> Links
+    ensures { result ≡ links_in (near_on thread slot.now) }
 {
     match thread {
-        Thread::Chain => slot.chain,
-        Thread::Line => slot.line,
+        Thread::Chain => links_of(&slot.chain),
+        Thread::Line => links_of(&slot.line),
     }
 }
 
@@ -365,7 +366,16 @@ impl Slots {
         requires held { IsSome (entry_at self.now.entries slot) }
         ensures { result ≡ links_at (column thread self.now) slot }
     {
-        links_of(near_on(&self.slots[slot.number as usize], thread))
+        links_on(&self.slots[slot.number as usize], thread)
+    }
+
+    /// The next one on the slot's chain.
+    pub fn next_on_chain(&self, slot: SlotId) -> Option<SlotId>
+        requires in_pool { slot < length self.now.entries }
+        requires held { IsSome (entry_at self.now.entries slot) }
+        ensures { result ≡ (links_at self.now.chains slot).next }
+    {
+        slot_id(self.slots[slot.number as usize].chain.next)
     }
 
     /// Where the slot's entry stands.
@@ -374,6 +384,15 @@ impl Slots {
         ensures { IfSome (entry_at self.now.entries slot) (λ e. result ≡ e.place) }
     {
         self.slots[slot.number as usize].place
+    }
+
+    /// Whether the slot's entry stands at a place.
+    #[inline(always)]
+    pub fn stands_at(&self, slot: SlotId, place: &Place) -> bool
+        requires in_pool { slot < length self.now.entries }
+        ensures { IfSome (entry_at self.now.entries slot) (λ e. result ≡ same_place e.place place.now) }
+    {
+        self.slots[slot.number as usize].place == *place
     }
 
     /// Gives the slot other neighbours on a thread.
@@ -428,10 +447,10 @@ impl Slots {
     }
 
     /// Gives the slot's entry another place and another last moment.
-    pub fn renew(&mut self, slot: SlotId, place: Place, last: Option<u64>)
+    pub fn renew(&mut self, slot: SlotId, place: &Place, last: Option<u64>)
         requires in_pool { slot < length self.old.entries }
         requires held { IsSome (entry_at self.old.entries slot) }
-        ensures { self.new ≡ record self.old { entries = slice_set self.old.entries slot (renewed (entry_at self.old.entries slot) place last) } }
+        ensures { self.new ≡ record self.old { entries = slice_set self.old.entries slot (renewed (entry_at self.old.entries slot) place.now last) } }
     {
         renew(&mut self.slots[slot.number as usize], place, last);
     }

@@ -1,5 +1,5 @@
 //! Which segment a frame enters at a port (IEEE 802.1Q, 6.9 and 8.6.2).
-ghost use Rattle.std.specs.Prelude.{◌≡◌, ◌≤◌, ◌<◌, length, take, if◌then◌else◌, IfSome};
+ghost use Rattle.std.specs.Prelude.{◌≡◌, ◌≤◌, ◌<◌, length, take, is_none, IfSome};
 ghost use Rattle.vlan_ports.specs.Octets.{part};
 ghost use Rattle.vlan_ports.specs.Frame.{first};
 ghost use Rattle.vlan_ports.specs.Ingress.{enters, unless, vid_reasons, segment_vid, is_cut, tag_vid, frame_in};
@@ -37,23 +37,45 @@ pub fn classify<'a>(
     if view.dst().is_reserved() {
         return Err(Refused::nowhere(Reason::Reserved));
     }
-    let Some((tag_vid, frame)) = without_tag(&view) else {
+    let Some(rest) = behind_tag(&view) else {
         return Err(Refused::nowhere(Reason::CutTag));
     };
-    let vid = segment_of(ports, port, tag_vid)?;
-    Ok((vid, frame))
+    let vid = segment_of(ports, port, rest.vid)?;
+    Ok((vid, frame_of(&view, rest.pcp, rest.dei, rest.body)))
 }
 
-/// The VID in the tag of a frame, 0 where it has none, and the frame without the tag. None: the tag is cut.
-fn without_tag<'a>(view: &EtherView<'a>) -> Option<(u16, BridgeFrame<'a>)>
-    ensures value { result ≡ (if is_cut view.now then None else Some (tag_vid view.now, frame_in view.now)) }
-    ensures bits { IfSome result (λ parts. parts.0 < 4096) }
+/// What the tag of a frame says, all 0 where it has none, and what stands behind it.
+#[derive(Clone, Copy)]
+struct Rest<'a> {
+    vid: u16,
+    pcp: u8,
+    dei: bool,
+    body: &'a [u8],
+}
+
+/// What stands behind the addresses of a frame, its tag taken off. None: the tag is cut.
+fn behind_tag<'a>(view: &EtherView<'a>) -> Option<Rest<'a>>
+    ensures cut { is_none result ≡ is_cut view.now }
+    ensures vid { IfSome result (λ rest. rest.vid ≡ tag_vid view.now) }
+    ensures bits { IfSome result (λ rest. rest.vid < 4096) }
+    ensures frame { let src = part 6 6 view.now in
+        IfSome result (λ rest. record { dst = take 6 view.now; src = src; pcp = rest.pcp; dei = rest.dei; body = rest.body.now } ≡ frame_in view.now) }
+    ensures pcp { IfSome result (λ rest. rest.pcp < 8) }
+    ensures long { IfSome result (λ rest. 2 ≤ length rest.body.now) }
 {
     match view.split_tag() {
-        Tagging::Plain(body) => Some((0, frame_of(view, 0, false, body))),
-        Tagging::Tagged(tci, body) => {
-            Some((tci.vid(), frame_of(view, tci.pcp(), tci.dei(), body)))
-        }
+        Tagging::Plain(body) => Some(Rest {
+            vid: 0,
+            pcp: 0,
+            dei: false,
+            body,
+        }),
+        Tagging::Tagged(tci, body) => Some(Rest {
+            vid: tci.vid(),
+            pcp: tci.pcp(),
+            dei: tci.dei(),
+            body,
+        }),
         Tagging::Cut => None,
     }
 }

@@ -1,19 +1,16 @@
-use Rattle.std.proofs.Common.{◌≡◌, ◌-◌, ◌∙◌, ℕ, List, rules, arith, drop, length, length-drop, subst, take}
-use Rattle.std.proofs.lemmas.List.{take_all}
-use Rattle.std.specs.Io.KnownBytes.{Appends}
-use Rattle.pcap_stream.proofs.Parts.{took_some, written_more}
+use Rattle.std.proofs.Common.{◌≡◌, ◌-◌, ◌++◌, ℕ, List, OnErr, arith, drop, length, length-drop, subst, take}
+use Rattle.std.proofs.lemmas.List.{take-append-drop, take_all}
+use Rattle.pcap_stream.specs.Sink.{AppendsPart}
+use Rattle.pcap_stream.proofs.Parts.{part_behind_on}
 use Rattle.pcap_stream.proofs.write.write_full.Goals as goal
 
-pub loop-at-preserved : goal.loop-at-preserved
-loop-at-preserved g c =
-    let more = c.in-Ok.ensures in
-    let before = c.loop-at.invariant in
+pub returns-clause-err : goal.returns-clause-err
+returns-clause-err g c =
     let text = c.args.text.now in
-    let part : take (length text - c.loop-at.at) (drop c.loop-at.at text) ≡ drop c.loop-at.at text =
-    take_all _ _ (omega (arith, length-drop c.loop-at.at text)) in
-    record {
-      fits = search rules;
-      appended = written_more _ _ _ text c.loop-at.at c.in-Ok.n before.appended
-          (subst (λ (l : List ℕ). Appends (g.W.Output.written c.loop-at.output) (g.W.Output.written c.write.new.self) (take c.in-Ok.n l)) part more.appended);
-      quiet = took_some _ _ c.in-Ok.n _ c.if-n-eq0.false more.failures ∙ before.quiet;
-    }
+    let n = c.in-Ok.n in
+    let part : take (length text - n) (drop n text) ≡ drop n text = take_all _ _ (omega (arith, length-drop n text)) in
+    let new = g.W.Output.written c.write_rest.new.output in
+    let rest : OnErr c.write_rest.result (AppendsPart (g.W.Output.written c.write.new.self) new (drop n text)) =
+    subst (λ (l : List ℕ). OnErr c.write_rest.result (AppendsPart (g.W.Output.written c.write.new.self) new l)) part c.write_rest.ensures.err in
+    subst (λ (l : List ℕ). OnErr c.write_rest.result (AppendsPart (g.W.Output.written c.args.output.now) new l)) (take-append-drop n text)
+    (part_behind_on _ _ _ (take n text) (drop n text) c.write_rest.result c.in-Ok.ensures.appended rest)

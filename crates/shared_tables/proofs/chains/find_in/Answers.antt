@@ -11,20 +11,20 @@ same-requires c =
     let at = subst (λ (o : Option ℕ). Walks c.args.slots.now c.loop-cursor.slots c.args.vid c.args.mac o) c.in-Some.is c.loop-cursor.invariant in
     record { in_pool = stands_in c.args.slots.now c.loop-cursor.slots c.args.vid c.args.mac c.in-Some.slot at; held = stands_held c.args.slots.now c.loop-cursor.slots c.args.vid c.args.mac c.in-Some.slot at }
 
-pub links-cursor-requires-clause-in_pool : goal.links-cursor-requires-clause-in_pool
-links-cursor-requires-clause-in_pool c =
+pub next_on_chain-cursor-requires-clause-in_pool : goal.next_on_chain-cursor-requires-clause-in_pool
+next_on_chain-cursor-requires-clause-in_pool c =
     let at = subst (λ (o : Option ℕ). Walks c.args.slots.now c.loop-cursor.slots c.args.vid c.args.mac o) c.in-Some.is c.loop-cursor.invariant in
     subst (λ (p : Pool). c.in-Some.slot < length p.entries) (sym c.same.ensures.pool) (stands_in c.args.slots.now c.loop-cursor.slots c.args.vid c.args.mac c.in-Some.slot at)
 
-pub links-cursor-requires-clause-held : goal.links-cursor-requires-clause-held
-links-cursor-requires-clause-held c =
+pub next_on_chain-cursor-requires-clause-held : goal.next_on_chain-cursor-requires-clause-held
+next_on_chain-cursor-requires-clause-held c =
     let at = subst (λ (o : Option ℕ). Walks c.args.slots.now c.loop-cursor.slots c.args.vid c.args.mac o) c.in-Some.is c.loop-cursor.invariant in
     subst (λ (p : Pool). IsSome (entry_at p.entries c.in-Some.slot)) (sym c.same.ensures.pool) (stands_held c.args.slots.now c.loop-cursor.slots c.args.vid c.args.mac c.in-Some.slot at)
 
 pub loop-cursor-preserved : goal.loop-cursor-preserved
 loop-cursor-preserved c =
     let at = subst (λ (o : Option ℕ). Walks c.args.slots.now c.loop-cursor.slots c.args.vid c.args.mac o) c.in-Some.is c.loop-cursor.invariant in
-    subst (λ (o : Option ℕ). Walks c.args.slots.now c.same.new.self c.args.vid c.args.mac o) (sym (ap (λ l. l.next) c.links-cursor.ensures))
+    subst (λ (o : Option ℕ). Walks c.args.slots.now c.same.new.self c.args.vid c.args.mac o) (sym c.next_on_chain-cursor.ensures)
     (walk_on c.args.slots.now c.loop-cursor.slots c.args.vid c.args.mac c.in-Some.slot at c.same.new.self c.same.ensures.pool (λ h. let yes : c.same.result ≡ true = c.same.ensures.same.1 h in let bad : true ≡ false = sym yes ∙ c.if-same.false in cc))
 
 pub returns-clause-none : goal.returns-clause-none

@@ -5,7 +5,7 @@ use Rattle.frame_view.proofs.FirstLemmas.{first-nothing}
 use Rattle.vlan_ports.specs.Frame.{first, is_group, is_reserved}
 use Rattle.vlan_ports.specs.Ingress.{text_reasons, vid_reasons, unless, tag_vid, vid_at, is_cut, frame_in, source, destination, segment_vid}
 use Rattle.vlan_ports.specs.Ports.{port_at}
-use Rattle.vlan_ports.proofs.IngressLemmas.{enters-behind, unless-err, some-behind}
+use Rattle.vlan_ports.proofs.IngressLemmas.{enters-behind, unless-err}
 use Rattle.vlan_ports.proofs.ingress.classify.Goals as goal
 
 pub returns-in_err-vid : goal.returns-in_err-vid
@@ -14,8 +14,7 @@ returns-in_err-vid c =
     let port = c.args.port in
     let b = c.args.octets.now in
     let view : c.in-Ok.view ≡ b = c.in-Ok.ensures.whole in
-    let parts = some-behind (is_cut c.in-Ok.view) (c.in-Some.tag_vid, c.in-Some.frame) (tag_vid c.in-Ok.view, frame_in c.in-Ok.view) c.in-Some.ensures.value in
-    let tag : c.in-Some.tag_vid ≡ tag_vid b = ap (λ p. p.0) parts.1 ∙ ap tag_vid view in
+    let tag : c.in-Some.rest.vid ≡ tag_vid b = c.in-Some.ensures.vid ∙ ap tag_vid view in
     let long : 14 ≤ length b = omega (arith, c.in-Ok.ensures.long) in
     let nothing = first-nothing (text_reasons s port b) (
       le-ltb (length b) 14 long,
@@ -25,7 +24,7 @@ returns-in_err-vid c =
           ap is_group (ap source (sym view) ∙ sym c.src.ensures) ∙ sym c.is_group.ensures ∙ c.if-is_group.false,
           (
             ap is_reserved (ap destination (sym view) ∙ sym c.dst.ensures) ∙ sym c.is_reserved.ensures ∙ c.if-is_reserved.false,
-            (ap is_cut (sym view) ∙ parts.0, tt),
+            (ap is_cut (sym view) ∙ sym c.in-Some.ensures.cut, tt),
           ),
         ),
       ),

@@ -40,7 +40,7 @@ renew_entry-requires-clause-last c =
     let of : IsOf (entry_at i.slots.entries s) v = subst (λ (w : Shared). IsOf (entry_at w.entries s) v) (sym c.self.view_is) c.requires.held in
     let some = has_share i.shares.items v (subst (λ (w : Shared). IsSome (rule_at w.rules v)) (sym c.self.view_is) c.requires.rule) in
     let now = subst (λ (w : Shared). IsNow c.args.last w.moment) (sym c.self.view_is) c.requires.now in
-    renew_last i.slots.entries i.slots.chains i.slots.lines i.heads.items i.shares.items i.moment c.self.invariant v s (stays i.slots.entries i.shares.items v s of some) c.args.place c.args.last now
+    renew_last i.slots.entries i.slots.chains i.slots.lines i.heads.items i.shares.items i.moment c.self.invariant v s (stays i.slots.entries i.shares.items v s of some) c.args.place.now c.args.last now
 
 pub invariant_of-self : goal.invariant_of-self
 invariant_of-self c =
@@ -50,7 +50,7 @@ invariant_of-self c =
     let now = subst (λ (w : Shared). IsNow c.args.last w.moment) (sym c.self.view_is) c.requires.now in
     let pool = c.renew_entry.ensures.pool in
     sound_at i.moment (ap (λ (p : Pool). p.entries) pool) (ap (λ (p : Pool). p.chains) pool) (ap (λ (p : Pool). p.lines) pool) refl c.renew_entry.ensures.shares
-    (renew_sound i.slots.entries i.slots.chains i.slots.lines i.heads.items i.shares.items i.moment c.self.invariant v s (stays i.slots.entries i.shares.items v s of some) c.args.place c.args.last now)
+    (renew_sound i.slots.entries i.slots.chains i.slots.lines i.heads.items i.shares.items i.moment c.self.invariant v s (stays i.slots.entries i.shares.items v s of some) c.args.place.now c.args.last now)
 
 pub returns : goal.returns
 returns c =
@@ -60,8 +60,8 @@ returns c =
     let now = subst (λ (w : Shared). IsNow c.args.last w.moment) (sym c.self.view_is) c.requires.now in
     let k = stays i.slots.entries i.shares.items v s of some in
     let pool = c.renew_entry.ensures.pool in
-    let after : Shared → Shared = λ w. record w { entries = set w.entries s (renewed (entry_at w.entries s) c.args.place c.args.last) } in
+    let after : Shared → Shared = λ w. record w { entries = set w.entries s (renewed (entry_at w.entries s) c.args.place.now c.args.last) } in
     same_shared i.moment i.calls.total (ap (λ (p : Pool). p.entries) pool)
-    (ap (map (option_map rule_of)) c.renew_entry.ensures.shares ∙ renew_rules i.slots.entries i.slots.chains i.slots.lines i.heads.items i.shares.items i.moment c.self.invariant v s k c.args.place c.args.last now)
+    (ap (map (option_map rule_of)) c.renew_entry.ensures.shares ∙ renew_rules i.slots.entries i.slots.chains i.slots.lines i.heads.items i.shares.items i.moment c.self.invariant v s k c.args.place.now c.args.last now)
     (ap (λ (p : Pool). p.compared) pool) (ap (λ (p : Pool). p.visited) pool)
     ∙ ap after c.self.view_is

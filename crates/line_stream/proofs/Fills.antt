@@ -1,8 +1,8 @@
 -- What a room and an input hold together.
-use Rattle.std.proofs.Common.{◌≡◌, ◌∙◌, sym, ap, subst, ℕ, List, [], ◌++◌, length, length-append, take, drop, append_assoc, append-nil, arith, Option, Some, None, IfSome, Err}
-use Rattle.std.proofs.lemmas.List.{get_or_append_left}
+use Rattle.std.proofs.Common.{◌≡◌, ◌≤◌, ◌+◌, ◌-◌, ◌∙◌, sym, ap, subst, ℕ, List, [], ◌++◌, length, length-append, length-drop, take, drop, append_assoc, append-nil, arith, Option, Some, None, IfSome, Err}
+use Rattle.std.proofs.lemmas.List.{drop-drop, drop-take, get_or_append_left, length-take-le, take-take}
 use Rattle.std.specs.Io.KnownBytes.{Consumes, IsAtEnd, Keeps, prepend_known}
-use Rattle.line_stream.specs.Filled.{EndsAt, HasNoEnd, IsFilled}
+use Rattle.line_stream.specs.Filled.{EndsAt, HasNoEnd, IsLent, IsNext}
 use Rattle.line_stream.specs.Lines.{IsFetched, IsLong, Reader, behind_line, first_line}
 use Rattle.line_stream.specs.declared.fault.LinesFault.{LinesFault}
 use Rattle.line_stream.specs.declared.fault.LinesFault.TheVariants.{Read, TooLong}
@@ -44,8 +44,25 @@ too_long (Some x) None room size keeps none = absurd keeps
 too_long (Some x) (Some ys) room size keeps none =
     subst IsLong keeps (record { long = omega (arith, size, length-append room ys); none = λ k lt zero_there. none.none k (omega (arith, lt, size)) (sym (get_or_append_left room ys 0 k (omega (arith, lt, size))) ∙ zero_there) })
 
+-- the next line lies whole in what was read
+next_line_of : (left : Option (List ℕ)) (room : List ℕ) (end read n : ℕ) → end ≤ read → read ≤ length room → EndsAt (drop end (take read room)) n
+    → IsNext (prepend_known (drop end (take read room)) left) left room (record { begin = end; end = end + n; read = read })
+next_line_of None room end read n order inside ends = tt
+next_line_of (Some ys) room end read n order inside ends =
+    let few : end + n ≤ read = omega (arith, ends.inside, length-drop end (take read room), length-take-le read room inside, order) in (
+      ap (drop end) (sym (take-take (end + n) read room few)) ∙ drop-take end n (take read room) ∙ sym (ends.first ys),
+      ap Some (ap (λ l. l ++ ys) (sym (drop-drop n end (take read room))) ∙ sym (ends.behind ys)),
+    )
+
+pub next_found : (left : Option (List ℕ)) (room : List ℕ) (end read n : ℕ) → end ≤ read → read ≤ length room → EndsAt (take (read - end) (drop end room)) n
+    → IsNext (prepend_known (drop end (take read room)) left) left room (record { begin = end; end = end + n; read = read })
+next_found left room end read n order inside ends =
+    let whole : end + (read - end) ≡ read = omega (arith, order) in
+    let same : take (read - end) (drop end room) ≡ drop end (take read room) = sym (drop-take end (read - end) room) ∙ ap (λ k. drop end (take k room)) whole in
+    next_line_of left room end read n order inside (subst (λ (l : List ℕ). EndsAt l n) same ends)
+
 -- a fault is told as it was
-pub not_fetched : (old : Reader) (failures : ℕ) (left : Option (List ℕ)) (room : List ℕ) (fault : LinesFault) → IsFilled old.rest old.failures left failures room (Err fault)
+pub not_fetched : (old : Reader) (failures : ℕ) (left : Option (List ℕ)) (room : List ℕ) (fault : LinesFault) → IsLent old.rest old.failures left failures room (Err fault)
     → IsFetched old (record { line = []; rest = None; failures = failures }) (Err fault)
 not_fetched old failures left room TooLong h = h
 not_fetched old failures left room Read h = h

@@ -6,6 +6,7 @@ use Rattle.line_stream.specs.Lines.{IsLong, behind_line, first_line}
 use Rattle.line_stream.specs.declared.fault.LinesFault.{LinesFault}
 use Rattle.line_stream.specs.declared.fault.LinesFault.TheVariants.{Read, TooLong}
 use Rattle.line_stream.specs.declared.fill.Ends.{Ends}
+use Rattle.line_stream.specs.declared.fill.Lent.{Lent}
 
 -- no line feed stands in it
 pub record HasNoEnd (text : List ℕ) : Type 0 where
@@ -24,3 +25,13 @@ IsFilled old failed left failures room (Ok ends) =
     (failures ≡ failed) × IfSome old (λ text. (take ends.line room ≡ first_line text) × (prepend_known (drop ends.line (take ends.read room)) left ≡ Some (behind_line text)))
 IsFilled old failed left failures room (Err TooLong) = (failures ≡ failed) × IfSome old IsLong
 IsFilled old failed left failures room (Err Read) = GoesOnBy 1 failed failures
+
+-- a line that is lent in the room is the first of a text, and behind it stands the rest, with what the input has left
+abbrev pub IsNext : Option (List ℕ) → Option (List ℕ) → List ℕ → Lent → Type 0
+IsNext old left room lent = IfSome old (λ text. (drop lent.begin (take lent.end room) ≡ first_line text) × (prepend_known (drop lent.end (take lent.read room)) left ≡ Some (behind_line text)))
+
+-- the next line is lent; what was there and what the input had left, and how often it failed, are told first
+abbrev pub IsLent : Option (List ℕ) → ℕ → Option (List ℕ) → ℕ → List ℕ → Result Lent LinesFault → Type 0
+IsLent old failed left failures room (Ok lent) = (failures ≡ failed) × IsNext old left room lent
+IsLent old failed left failures room (Err TooLong) = (failures ≡ failed) × IfSome old IsLong
+IsLent old failed left failures room (Err Read) = GoesOnBy 1 failed failures

@@ -1,8 +1,8 @@
 //! Octets of an input, as far as the end of a line.
-ghost use Rattle.std.specs.Prelude.{◌≡◌, ◌≢◌, ◌≤◌, ◌<◌, ◌+◌, ◌-◌, ℕ, length, take, drop, IfOk, OnOk, OnErr, Some, IfSome};
+ghost use Rattle.std.specs.Prelude.{◌≡◌, ◌≢◌, ◌≤◌, ◌<◌, ◌+◌, ◌-◌, ℕ, List, Option, length, take, drop, IfOk, OnOk, OnErr, Some, IfSome};
 ghost use Rattle.std.specs.Io.KnownBytes.{Consumes, IsAtEnd, prepend_known};
 ghost use Rattle.pcap_stream.specs.Counts.{GoesOnBy};
-ghost use Rattle.line_stream.specs.Filled.{IsFilled};
+ghost use Rattle.line_stream.specs.Filled.{IsFilled, IsLent, IsNext};
 ghost use Rattle.line_stream.specs.Lines.{longest_line};
 
 use crate::fault::LinesFault;
@@ -13,6 +13,14 @@ use pcap_stream::{DeviceFault, Input};
 #[derive(Clone, Copy)]
 pub(crate) struct Ends {
     pub line: usize,
+    pub read: usize,
+}
+
+/// Where a line that is lent begins and ends, and where what was read behind it ends.
+#[derive(Clone, Copy)]
+pub(crate) struct Lent {
+    pub begin: usize,
+    pub end: usize,
     pub read: usize,
 }
 
@@ -67,20 +75,50 @@ fn fill_line<R: Input>(input: &mut R, room: &mut [u8], filled: usize) -> Result<
     }
 }
 
-/// Reads the next line behind that which ends there: moves what was read behind it to the front of the room, and reads on
-/// until that has a line feed or the input ends.
+/// The next line where it lies, if all of it was read.
+fn line_behind(room: &[u8], lent: Lent) -> Option<Lent>
+    requires line { lent.end ≤ lent.read }
+    requires read { lent.read ≤ length room.now }
+    ensures size { IfSome result (λ found. (found.begin ≤ found.end) × (found.end ≤ found.read) × (found.read ≤ length room.now)) }
+    ensures found { IfSome result (λ found. (left : Option (List ℕ)) → IsNext (prepend_known (drop lent.end (take lent.read room.now)) left) left room.now found) }
+{
+    let length = end_of_line(&room[lent.end..lent.read])?;
+    Some(Lent {
+        begin: lent.end,
+        end: lent.end + length,
+        read: lent.read,
+    })
+}
+
+/// Reads the next line behind that which is lent. Where all of it was read it stays where it lies; else what was read of it
+/// moves to the front of the room, and is read on until it has a line feed or the input ends.
 pub(crate) fn next_line<R: Input>(
     input: &mut R,
     room: &mut [u8],
-    ends: Ends,
-) -> Result<Ends, LinesFault>
+    lent: Lent,
+) -> Result<Lent, LinesFault>
     requires room { length room.old ≡ longest_line }
-    requires line { ends.line ≤ ends.read }
-    requires read { ends.read ≤ longest_line }
-    ensures line { IfOk result (λ found. found.line ≤ found.read) }
+    requires line { lent.end ≤ lent.read }
+    requires read { lent.read ≤ longest_line }
+    ensures begin { IfOk result (λ found. found.begin ≤ found.end) }
+    ensures line { IfOk result (λ found. found.end ≤ found.read) }
     ensures size { IfOk result (λ found. found.read ≤ longest_line) }
-    ensures filled { IsFilled (prepend_known (drop ends.line (take ends.read room.old)) (R.remaining input.old)) (R.failures input.old) (R.remaining input.new) (R.failures input.new) room.new result }
+    ensures lent { IsLent (prepend_known (drop lent.end (take lent.read room.old)) (R.remaining input.old)) (R.failures input.old) (R.remaining input.new) (R.failures input.new) room.new result }
 {
+    if let Some(found) = line_behind(room, lent) {
+        return Ok(found);
+    }
+    let ends = Ends {
+        line: lent.end,
+        read: lent.read,
+    };
     let filled = move_front(room, ends);
-    fill_line(input, room, filled)
+    match fill_line(input, room, filled) {
+        Ok(ends) => Ok(Lent {
+            begin: 0,
+            end: ends.line,
+            read: ends.read,
+        }),
+        Err(fault) => Err(fault),
+    }
 }

@@ -3,7 +3,7 @@ ghost use Rattle.std.specs.Prelude.{◌≡◌, ◌≤◌, IfOk, Some, [], length
 ghost use Rattle.line_stream.specs.Lines.{IsFetched, longest_line};
 
 use crate::fault::LinesFault;
-use crate::fill::{Ends, next_line};
+use crate::fill::{Lent, next_line};
 use pcap_stream::Input;
 use std::alloc::{AllocError, Global};
 use std::marker::Model;
@@ -18,10 +18,10 @@ pub const LONGEST_LINE: usize = 4096;
 #[derive(Drop)]
 pub struct Lines<R: Input> {
     input: R,
-    /// The line, and behind it what was read of the next ones.
+    /// Lines that were lent before, the line, and behind it what was read of the next ones.
     room: Vec<u8>,
-    /// Where they end.
-    ends: Ends,
+    /// Where the line begins and ends, and where what was read ends.
+    lent: Lent,
 }
 
 impl<R: Input> Model for Lines<R> {
@@ -32,12 +32,12 @@ impl<R: Input> Model for Lines<R> {
     ghost Value = { Reader };
 
     ghost view = { λ s. record {
-      line = take s.ends.line s.room.items;
-      rest = prepend_known (drop s.ends.line (take s.ends.read s.room.items)) (R.remaining s.input);
+      line = drop s.lent.begin (take s.lent.end s.room.items);
+      rest = prepend_known (drop s.lent.end (take s.lent.read s.room.items)) (R.remaining s.input);
       failures = R.failures s.input;
     } };
 
-    ghost invariant = { λ s. (length s.room.items ≡ longest_line) × (s.ends.line ≤ s.ends.read) × (s.ends.read ≤ longest_line) };
+    ghost invariant = { λ s. (length s.room.items ≡ longest_line) × (s.lent.begin ≤ s.lent.end) × (s.lent.end ≤ s.lent.read) × (s.lent.read ≤ longest_line) };
 }
 
 impl<R: Input> Lines<R> {
@@ -51,7 +51,11 @@ impl<R: Input> Lines<R> {
         Ok(Lines {
             input,
             room,
-            ends: Ends { line: 0, read: 0 },
+            lent: Lent {
+                begin: 0,
+                end: 0,
+                read: 0,
+            },
         })
     }
 
@@ -62,9 +66,9 @@ impl<R: Input> Lines<R> {
     pub fn fetch(&mut self) -> Result<(), LinesFault>
         ensures { IsFetched self.old self.new result }
     {
-        match next_line(&mut self.input, self.room.as_mut_slice(), self.ends) {
-            Ok(ends) => {
-                self.ends = ends;
+        match next_line(&mut self.input, self.room.as_mut_slice(), self.lent) {
+            Ok(lent) => {
+                self.lent = lent;
                 Ok(())
             }
             Err(fault) => Err(fault),
@@ -76,6 +80,6 @@ impl<R: Input> Lines<R> {
         ensures line { result.now ≡ self.now.line }
         ensures short { length self.now.line ≤ longest_line }
     {
-        &self.room[..self.ends.line]
+        &self.room[self.lent.begin..self.lent.end]
     }
 }

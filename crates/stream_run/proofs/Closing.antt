@@ -18,7 +18,7 @@ use Rattle.stream_run.specs.Cuts.{cuts_at}
 use Rattle.stream_run.specs.Over.{LeavesOver, Tells, texts_octets, whole_records}
 use Rattle.stream_run.specs.Sights.{Sight, sights}
 use Rattle.stream_run.specs.Stage.{Drains, Lead, StandAt, StandBetween, no_texts}
-use Rattle.stream_run.specs.Steps.{AreRead, AreReady, IsAt, IsRunOn, LeadsBehind, Run, changes_of, run_at, texts_behind}
+use Rattle.stream_run.specs.Steps.{AreRead, AreReady, EndsInOrder, IsAt, IsRunOn, LeadsBehind, Run, changes_of, run_at, texts_behind}
 use Rattle.stream_run.specs.Watched.{IsWatchedRun, SeesOver, state_behind}
 use Rattle.stream_run.specs.declared.fault.StreamFault.{StreamFault}
 use Rattle.stream_run.specs.declared.fault.StreamFault.TheVariants as stream
@@ -76,6 +76,7 @@ module _ (segments : Segments) where
           let told = on.told (texts_octets texts) text read in
           over_events segments s changes texts text start run.drains fault run on.es on.more told.rest (all_are on.es on.more told.rest told.first) told.ends on.part
           (subst (λ st. LeadsBehind {T = Unit {0}} segments changes st start run.drains (empty_outputs (length texts)) on.es on.more (Err fault)) is (on.outputs start (empty_outputs (length texts)) at))
+          (subst (λ st. EndsInOrder {T = Unit {0}} segments changes st start run.drains (empty_outputs (length texts)) on.es on.more (Err fault)) is (on.order start (empty_outputs (length texts)) at))
 
       -- it goes through all of them
       no_more : (on : IsRunOn segments changes (run_at ports underlay turns state 0 d) run (Ok tt)) → (whole_records changes texts text).events ≡ on.es
@@ -118,6 +119,7 @@ module _ (segments : Segments) where
             let told = on.run.told (texts_octets texts) text read in
             seen_events segments s changes texts text start run.drains sees end old_watch fault run on.run.es on.run.more told.rest new_watch (all_are on.run.es on.run.more told.rest told.first) told.ends on.run.part
             (subst (λ st. LeadsBehind {T = Unit {0}} segments changes st start run.drains (empty_outputs (length texts)) on.run.es on.run.more (Err fault)) is (on.run.outputs start (empty_outputs (length texts)) at))
+            (subst (λ st. EndsInOrder {T = Unit {0}} segments changes st start run.drains (empty_outputs (length texts)) on.run.es on.run.more (Err fault)) is (on.run.order start (empty_outputs (length texts)) at))
             (sees_all (on.run.es ++ on.run.more) new_watch on.seen)
 
         pub seen_lines : (new : Drains) (target : Target) (new_watch : T) (on : IsWatchedRun segments sees changes (run_at ports underlay turns state 0 d) run old_watch new_watch (Ok tt))

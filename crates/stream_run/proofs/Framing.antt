@@ -21,7 +21,7 @@ use Rattle.stream_run.specs.Begun.{AreBegun, IsNoWrite, OpensInTurn, first_turns
 use Rattle.stream_run.specs.Fetched.{IsMoment, IsOpen}
 use Rattle.stream_run.specs.Left.{Leaves, WritesWith, texts_of}
 use Rattle.stream_run.specs.Stage.{Drains, FailedAt, StandAt, StandBetween, no_texts}
-use Rattle.stream_run.specs.Steps.{AreReady, AreTimely, IsAt, IsPart, LeadsBehind, LendsWhere, moment_at, run_at, source_at, texts_behind}
+use Rattle.stream_run.specs.Steps.{AreReady, AreTimely, EndsInOrder, IsAt, IsPart, LeadsBehind, LendsWhere, moment_at, run_at, source_at, texts_behind}
 use Rattle.stream_run.specs.Turns.{IsNoSooner}
 use Rattle.stream_run.specs.declared.fault.StreamFault.{StreamFault}
 use Rattle.stream_run.specs.declared.fault.StreamFault.TheVariants as stream
@@ -146,13 +146,23 @@ module _ (segments : Segments) where
     leaves_begun target h = (no_texts (length s.ports), empty_outputs (length s.ports), inl (refl, refl), h.0, h.1)
 
     pub leaves_events : (state : State) (es more : List Event) (fault : StreamFault) → state ≡ opened (settings_told s) → IsPart {T = Unit {0}} more (Err fault)
-        → LeadsBehind {T = Unit {0}} segments changes state start new (empty_outputs (length s.ports)) es more (Err fault) → Leaves segments s changes start new (Err fault)
-    leaves_events state es more fault is part h = by fault part (subst (λ state. LeadsBehind {T = Unit {0}} segments changes state start new (empty_outputs (length s.ports)) es more (Err fault)) is h)
+        → LeadsBehind {T = Unit {0}} segments changes state start new (empty_outputs (length s.ports)) es more (Err fault) → EndsInOrder {T = Unit {0}} segments changes state start new (empty_outputs (length s.ports)) es more (Err fault)
+        → Leaves segments s changes start new (Err fault)
+    leaves_events state es more fault is part h order =
+        by fault part (subst (λ state. LeadsBehind {T = Unit {0}} segments changes state start new (empty_outputs (length s.ports)) es more (Err fault)) is h)
+        (subst (λ state. EndsInOrder {T = Unit {0}} segments changes state start new (empty_outputs (length s.ports)) es more (Err fault)) is order)
       where
-        by : (fault : StreamFault) → IsPart {T = Unit {0}} more (Err fault) → LeadsBehind {T = Unit {0}} segments changes (opened (settings_told s)) start new (empty_outputs (length s.ports)) es more (Err fault) → Leaves segments s changes start new (Err fault)
-        by (stream.Run f) part h = inr (es, h)
-        by (stream.Read place) part h = inr (es, h)
-        by (stream.Write target) part h = (texts_of segments s changes es [], texts_of segments s changes (es ++ more) [], inr (inl (es, part.0, refl, ap (λ l. texts_of segments s changes (es ++ l) []) part.1)), h.0, h.1)
+        by : (fault : StreamFault) → IsPart {T = Unit {0}} more (Err fault) → LeadsBehind {T = Unit {0}} segments changes (opened (settings_told s)) start new (empty_outputs (length s.ports)) es more (Err fault)
+            → EndsInOrder {T = Unit {0}} segments changes (opened (settings_told s)) start new (empty_outputs (length s.ports)) es more (Err fault) → Leaves segments s changes start new (Err fault)
+        by (stream.Run f) part h order = inr (es, h)
+        by (stream.Read place) part h order = inr (es, h)
+        by (stream.Write target) part h order = (
+          texts_of segments s changes es [],
+          texts_of segments s changes (es ++ more) [],
+          inr (inl (es, part.0, refl, ap (λ l. texts_of segments s changes (es ++ l) []) part.1, order part.0 part.1)),
+          h.0,
+          h.1,
+        )
 
     pub leaves_cuts : (state : State) (es : List Event) (cuts : List Cut) (target : Target) → state ≡ opened (settings_told s)
         → StandBetween start new (texts_behind segments changes state (empty_outputs (length s.ports)) es) (with_cuts (texts_behind segments changes state (empty_outputs (length s.ports)) es) cuts) × FailedAt target start new

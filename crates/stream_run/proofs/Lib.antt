@@ -1,4 +1,5 @@
 mod Standing
+mod Amidst
 mod Lining
 mod Fetching
 mod Merging

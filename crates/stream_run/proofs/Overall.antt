@@ -40,9 +40,10 @@ use Rattle.stream_run.specs.Begun.{OpensInTurn}
 use Rattle.stream_run.specs.Coming.{EndBefore}
 use Rattle.stream_run.specs.Cuts.{cuts_at}
 use Rattle.stream_run.specs.Over.{BeginsIn, IsRunOverAmong, LeavesOver, StandsSomewhere, Tells, texts_octets, texts_at, whole_records}
-use Rattle.stream_run.specs.Sights.{Sight, sights}
+use Rattle.stream_run.specs.Amidst.{StandsInEvent}
+use Rattle.stream_run.specs.Sights.{Sight, sights, state_among}
 use Rattle.stream_run.specs.Stage.{Drains, StandAt, StandBetween, first_of, no_texts, stage}
-use Rattle.stream_run.specs.Steps.{EndsIn, IsAt, IsPart, LeadsBehind, Run, changes_of, octets_at, source_at, texts_behind}
+use Rattle.stream_run.specs.Steps.{EndsIn, EndsInOrder, IsAt, IsPart, LeadsBehind, Run, changes_of, octets_at, source_at, texts_behind}
 use Rattle.stream_run.specs.Watched.{IsWatchedOverAmong, SeesOver, first_sights, state_behind}
 use Rattle.stream_run.specs.declared.fault.StreamFault.{StreamFault}
 use Rattle.stream_run.specs.declared.fault.StreamFault.TheVariants as stream
@@ -60,6 +61,11 @@ uncut k t le = by (nat_lt (length t.events) k) refl
     by : (b : Bool) → nat_lt (length t.events) k ≡ b → ◌≡◌ {A = Timeline} (record { events = take k t.events; cuts = cond b t.cuts [] }) (record { events = take k t.events; cuts = [] })
     by true is = absurd (omega (arith, ltb-true _ _ is, le))
     by false is = refl
+
+-- behind the same, the same is left
+append_left : {A : Type 0} (xs ys zs : List A) → xs ++ ys ≡ xs ++ zs → ys ≡ zs
+append_left [] ys zs is = is
+append_left (x ∷ xs) ys zs is = append_left xs ys zs (let left : xs ++ ys ≡ xs ++ zs = cc in left)
 
 first_events : (t : Timeline) (es rest : List Event) → t.events ≡ es ++ rest → take (length es) t.events ≡ es
 first_events t es rest is = ap (take (length es)) is ∙ take-append_seam es rest
@@ -197,7 +203,7 @@ module _ (segments : Segments) where
 
     -- among the headers
     pub over_headers : (target : Target) → StandBetween start new (no_texts (length texts)) (empty_outputs (length texts)) → LeavesOver segments s changes texts text start new (Err (stream.Write target))
-    over_headers target between = record { k = 0; most = inl (omega arith); stands = subst (StandBetween start new (no_texts (length texts))) (sym (texts_are [] whole.events 1 refl (omega arith))) between }
+    over_headers target between = record { k = 0; most = inl (omega arith); order = λ es rest e is at. absurd (omega (arith, at)); stands = subst (StandBetween start new (no_texts (length texts))) (sym (texts_are [] whole.events 1 refl (omega arith))) between }
 
     stands_behind : (es rest : List Event) → whole.events ≡ es ++ rest → StandAt start new (behind es) → StandsSomewhere segments s changes texts text start new
     stands_behind es rest is at = record {
@@ -219,27 +225,46 @@ module _ (segments : Segments) where
     over_firsts (stream.Read place) turns ports underlay h at = stands_behind [] whole.events refl at
     over_firsts (stream.Write target) turns ports underlay h at = absurd h
 
+    -- the texts of the event behind some others stand in order
+    abbrev pub Ordered : List Event → List Event → Result (Unit {0}) StreamFault → Type 0
+    Ordered es more result = EndsInOrder segments changes (opened (settings_told s)) start new (empty_outputs (length texts)) es more result
+
+    in_order : (target : Target) (k : ℕ) (es more rest fs left : List Event) (e f : Event) → whole.events ≡ es ++ (more ++ rest) → more ≡ e ∷ [] → Ordered es more (Err (stream.Write target)) → k ≡ length es + 1
+        → whole.events ≡ fs ++ f ∷ left → k ≡ length fs + 1
+        → StandsInEvent (changes_of changes) start new k (state_among segments (changes_of changes) (opened (settings_told s)) fs) (texts_at segments s changes texts text k) f
+    in_order target k es more rest fs left e f is one ordered at also there =
+        let size : length es ≡ length fs = omega (arith, at, there) in
+        let same : es ≡ fs = sym (first_events whole es (more ++ rest) is) ∙ ap (λ n. take n whole.events) size ∙ first_events whole fs (f ∷ left) also in
+        let behind_es : es ++ (e ∷ rest) ≡ es ++ (f ∷ left) = ap (λ l. es ++ (l ++ rest)) (sym one) ∙ sym is ∙ also ∙ ap (λ l. l ++ f ∷ left) (sym same) in
+        let same_left : e ∷ rest ≡ f ∷ left = append_left es (e ∷ rest) (f ∷ left) behind_es in
+        let event : e ≡ f = cc in
+        let stands = ordered f (one ∙ ap (λ x. x ∷ []) event) in
+        subst (λ l. StandsInEvent (changes_of changes) start new k (state_among segments (changes_of changes) (opened (settings_told s)) l) (texts_at segments s changes texts text k) f) same
+        (subst (λ o. StandsInEvent (changes_of changes) start new k (state_among segments (changes_of changes) (opened (settings_told s)) es) o f) (sym (texts_are es (more ++ rest) k is at))
+        (subst (λ n. StandsInEvent (changes_of changes) start new n (state_among segments (changes_of changes) (opened (settings_told s)) es) (behind es) f) (sym at) stands))
+
     -- among the events
     pub over_events : (fault : StreamFault) (run : Run) (es more rest : List Event) → whole.events ≡ es ++ (more ++ rest) → EndsIn {T = Unit {0}} (texts_octets texts) text es rest run (Err fault) → IsPart {T = Unit {0}} more (Err fault)
-        → LeadsBehind {T = Unit {0}} segments changes (opened (settings_told s)) start new (empty_outputs (length texts)) es more (Err fault) → LeavesOver segments s changes texts text start new (Err fault)
-    over_events (stream.Run (faults.Record place n f)) run es more rest is h part at = record {
+        → LeadsBehind {T = Unit {0}} segments changes (opened (settings_told s)) start new (empty_outputs (length texts)) es more (Err fault) → Ordered es more (Err fault) → LeavesOver segments s changes texts text start new (Err fault)
+    over_events (stream.Run (faults.Record place n f)) run es more rest is h part at ordered = record {
       k = length es;
       faulty = h.0;
       before = inr (subst (EndBefore place n) (sym (first_events whole es (more ++ rest) is)) h.1);
       stands = subst (StandAt start new) (sym (texts_are es (more ++ rest) (length es + 1) is refl)) at;
     }
-    over_events (stream.Run (faults.Settings f)) run es more rest is h part at = absurd h
-    over_events (stream.Run (faults.Changes f)) run es more rest is h part at = absurd h
-    over_events (stream.Run faults.PortCount) run es more rest is h part at = absurd h
-    over_events (stream.Run (faults.Capture place f)) run es more rest is h part at = absurd h
-    over_events (stream.Run faults.OutOfMemory) run es more rest is h part at = stands_behind es (more ++ rest) is at
-    over_events (stream.Read place) run es more rest is h part at = stands_behind es (more ++ rest) is at
-    over_events (stream.Write target) run es more rest is h part at =
+    over_events (stream.Run (faults.Settings f)) run es more rest is h part at ordered = absurd h
+    over_events (stream.Run (faults.Changes f)) run es more rest is h part at ordered = absurd h
+    over_events (stream.Run faults.PortCount) run es more rest is h part at ordered = absurd h
+    over_events (stream.Run (faults.Capture place f)) run es more rest is h part at ordered = absurd h
+    over_events (stream.Run faults.OutOfMemory) run es more rest is h part at ordered = stands_behind es (more ++ rest) is at
+    over_events (stream.Read place) run es more rest is h part at ordered = stands_behind es (more ++ rest) is at
+    over_events (stream.Write target) run es more rest is h part at ordered =
         let one : length more ≡ 1 = ap length part.1 in
         let all : whole.events ≡ (es ++ more) ++ rest = is ∙ sym (append_assoc es more rest) in
         record {
           k = length es + 1;
           most = inl (omega (arith, one, ap length is, length-append es (more ++ rest), length-append more rest));
+          order = λ fs left f also there. in_order target (length es + 1) es more rest fs left part.0 f is part.1 ordered refl also there;
           stands = subst (λ o. StandBetween start new o (texts_at segments s changes texts text (length es + 1 + 1))) (sym (texts_are es (more ++ rest) (length es + 1) is refl))
               (subst (StandBetween start new (behind es)) (sym (texts_are (es ++ more) rest (length es + 1 + 1) all (omega (arith, one, length-append es more)))) at.0);
         }
@@ -255,6 +280,7 @@ module _ (segments : Segments) where
         ∙ ap (λ l. with_cuts (behind es) (cuts_among segments l)) (cuts_at_end texts text turns ports underlay ends) in
         record {
           k = length es + 1;
+          order = λ fs left f also there. absurd (omega (arith, there, ap length (sym is ∙ also), length-append fs (f ∷ left)));
           most = inr (ap (λ (l : List Event). length l + 1) (sym is), no_faults texts text (whole_at_end texts text turns ports underlay ends));
           stands = subst (λ o. StandBetween start new o (texts_at segments s changes texts text (length es + 1 + 1))) (sym (texts_are es [] (length es + 1) (is ∙ sym (append-nil es)) refl))
               (subst (StandBetween start new (behind es)) (sym all) between);
@@ -314,26 +340,26 @@ module _ (segments : Segments) where
 
       -- the first events were, and where a write failed one more
       pub seen_events : (fault : StreamFault) (run : Run) (es more rest : List Event) (new_watch : T) → whole.events ≡ es ++ (more ++ rest) → EndsIn {T = Unit {0}} (texts_octets texts) text es rest run (Err fault)
-          → IsPart {T = Unit {0}} more (Err fault) → LeadsBehind {T = Unit {0}} segments changes (opened (settings_told s)) start new (empty_outputs (length texts)) es more (Err fault) → Sees (es ++ more) new_watch → Seen new_watch (Err fault)
+          → IsPart {T = Unit {0}} more (Err fault) → LeadsBehind {T = Unit {0}} segments changes (opened (settings_told s)) start new (empty_outputs (length texts)) es more (Err fault) → Ordered es more (Err fault) → Sees (es ++ more) new_watch → Seen new_watch (Err fault)
       unfolding over_events stands_behind
-      seen_events (stream.Run (faults.Record place n f)) run es more rest new_watch is h part at seen = (
-        over_events (stream.Run (faults.Record place n f)) run es more rest is h part at,
+      seen_events (stream.Run (faults.Record place n f)) run es more rest new_watch is h part at ordered seen = (
+        over_events (stream.Run (faults.Record place n f)) run es more rest is h part at ordered,
         sees_first (es ++ more) rest _ new_watch (is ∙ sym (append_assoc es more rest)) (omega (arith, ap length part, length-append es more)) seen,
       )
-      seen_events (stream.Run (faults.Settings f)) run es more rest new_watch is h part at seen = absurd h
-      seen_events (stream.Run (faults.Changes f)) run es more rest new_watch is h part at seen = absurd h
-      seen_events (stream.Run faults.PortCount) run es more rest new_watch is h part at seen = absurd h
-      seen_events (stream.Run (faults.Capture place f)) run es more rest new_watch is h part at seen = absurd h
-      seen_events (stream.Run faults.OutOfMemory) run es more rest new_watch is h part at seen = (
-        over_events (stream.Run faults.OutOfMemory) run es more rest is h part at,
+      seen_events (stream.Run (faults.Settings f)) run es more rest new_watch is h part at ordered seen = absurd h
+      seen_events (stream.Run (faults.Changes f)) run es more rest new_watch is h part at ordered seen = absurd h
+      seen_events (stream.Run faults.PortCount) run es more rest new_watch is h part at ordered seen = absurd h
+      seen_events (stream.Run (faults.Capture place f)) run es more rest new_watch is h part at ordered seen = absurd h
+      seen_events (stream.Run faults.OutOfMemory) run es more rest new_watch is h part at ordered seen = (
+        over_events (stream.Run faults.OutOfMemory) run es more rest is h part at ordered,
         sees_first (es ++ more) rest _ new_watch (is ∙ sym (append_assoc es more rest)) (omega (arith, ap length part, length-append es more)) seen,
       )
-      seen_events (stream.Read place) run es more rest new_watch is h part at seen = (
-        over_events (stream.Read place) run es more rest is h part at,
+      seen_events (stream.Read place) run es more rest new_watch is h part at ordered seen = (
+        over_events (stream.Read place) run es more rest is h part at ordered,
         sees_first (es ++ more) rest _ new_watch (is ∙ sym (append_assoc es more rest)) (omega (arith, ap length part, length-append es more)) seen,
       )
-      seen_events (stream.Write target) run es more rest new_watch is h part at seen = (
-        over_events (stream.Write target) run es more rest is h part at,
+      seen_events (stream.Write target) run es more rest new_watch is h part at ordered seen = (
+        over_events (stream.Write target) run es more rest is h part at ordered,
         sees_first (es ++ more) rest _ new_watch (is ∙ sym (append_assoc es more rest)) (omega (arith, ap length part.1, length-append es more)) seen,
       )
 

@@ -10,8 +10,10 @@ use Rattle.pcap_stream.specs.Supply.{GivesUp}
 use Rattle.timeline.specs.declared.event.Event.{Event}
 use Rattle.timeline.specs.declared.source.Tap.{Tap}
 use Rattle.timeline.specs.declared.source.Tap.TheVariants.{Port, Underlay}
+use Rattle.overlay_settings.specs.declared.change.Change.{Change}
 use Rattle.overlay_settings.specs.declared.change.TimedChange.{TimedChange}
 use Rattle.endpoint_core.specs.Step.{State}
+use Rattle.stream_run.specs.Amidst.{StepsInOrder}
 use Rattle.stream_run.specs.Fetched.{IsMoment, IsOpen}
 use Rattle.capture_run.specs.Outputs.{Outputs}
 use Rattle.stream_run.specs.Read.{AreQuiet, GivesUpAt, ReadsWith, failures_of}
@@ -243,6 +245,13 @@ reads_turn changes index done latest ports underlay new new_underlay turn (inl h
 reads_turn changes index done latest ports underlay new new_underlay turn (inr h) = quiet_at h.0 index ports new underlay new_underlay h.1 h.2 h.3 h.4.reads
 
 -- a fetch writes nothing
+pub no_write_fails : (changes : List TimedChange) (index done latest : ℕ) (ports : List Stream) (underlay : Stream) (new : List Stream) (new_underlay : Stream) (fault : StreamFault) (cs : List Change) (start now : Drains) (number : ℕ) (s : State)
+    (o : Outputs) (e : Event) → FetchesAt changes index done latest ports underlay new new_underlay (Err fault) → StepsInOrder {T = Unit {0}} cs start now number s o e (Err fault)
+no_write_fails changes index done latest ports underlay new new_underlay fault cs start now number s o e (inl h) = let never = h.3 in absurd cc
+no_write_fails changes index done latest ports underlay new new_underlay (stream.Run f) cs start now number s o e (inr h) = tt
+no_write_fails changes index done latest ports underlay new new_underlay (stream.Read place) cs start now number s o e (inr h) = tt
+no_write_fails changes index done latest ports underlay new new_underlay (stream.Write target) cs start now number s o e (inr h) = absurd h.4.reads
+
 pub stands_at_fault : (changes : List TimedChange) (index done latest : ℕ) (ports : List Stream) (underlay : Stream) (new : List Stream) (new_underlay : Stream) (fault : StreamFault) (start now : Drains) (o next : Outputs)
     → FetchesAt changes index done latest ports underlay new new_underlay (Err fault) → StandAt start now next → StepsTo {T = Unit {0}} start now o next (Err fault)
 stands_at_fault changes index done latest ports underlay new new_underlay fault start now o next (inl h) at = let never = h.3 in absurd cc

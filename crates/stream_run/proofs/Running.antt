@@ -12,6 +12,7 @@ use Rattle.capture_run.specs.Among.{with_event_among, with_events_among}
 use Rattle.capture_run.specs.declared.fault.RunFault.{RunFault}
 use Rattle.capture_run.specs.declared.fault.RunFault.TheVariants as faults
 use Rattle.pcap_stream.specs.Source.{Stream}
+use Rattle.stream_run.specs.Amidst.{StandsInEvent}
 use Rattle.stream_run.specs.Coming.{coming, source_events}
 use Rattle.stream_run.specs.Read.{AreQuiet, GivesUpAt, failures_of}
 use Rattle.stream_run.specs.Sights.{Sight, sight_among, sights, state_among}
@@ -170,6 +171,17 @@ module _ (segments : Segments) where
       let came = step.told texts text up_to.read in
       record { rest = came.rest; first = comes_next changes texts text old now has.es came.rest step.e up_to came.first; ends = ends came.rest came.fetched }
 
+  -- amidst the event behind the others
+  stops_amidst : (changes : List TimedChange) (old now : Run) (start new : Drains) (o : Outputs) (has : HasRun changes old now) (e f : Event) → ◌≡◌ {A = List Event} (e ∷ []) (f ∷ [])
+      → StandsInEvent (changes_of changes) start new (now.number + 1) now.state (texts_behind segments changes old.state o has.es) e
+      → StandsInEvent (changes_of changes) start new (length has.es + 1) (state_among segments (changes_of changes) old.state has.es) (texts_behind segments changes old.state o has.es) f
+  stops_amidst changes old now start new o has e f is stands =
+      let same : e ≡ f = cc in
+      let texts = texts_behind segments changes old.state o has.es in
+      subst (StandsInEvent (changes_of changes) start new (length has.es + 1) (state_among segments (changes_of changes) old.state has.es) texts) same
+      (subst (λ s. StandsInEvent (changes_of changes) start new (length has.es + 1) s texts e) has.state
+      (subst (λ n. StandsInEvent (changes_of changes) start new (n + 1) now.state texts e) has.number stands))
+
   run_stops : (changes : List TimedChange) (old now new : Run) (first : First) (fault : StreamFault) → HasRun changes old now → IsStep segments changes now new first (Err fault) → IsRunOn segments changes old new (Err fault)
   run_stops changes old now new first (stream.Write target) has step = record {
     es = has.es;
@@ -179,6 +191,7 @@ module _ (segments : Segments) where
     outputs = λ start o at.
         let lead = step.outputs start (texts_behind segments changes old.state o has.es) (has.outputs start o at) in
         (subst (StandBetween start new.drains (texts_behind segments changes old.state o has.es)) (sym (one_more changes old now has step.e o)) lead.0, lead.1);
+    order = λ start o at e is. stops_amidst changes old now start new.drains o has step.e e is (step.order start (texts_behind segments changes old.state o has.es) (has.outputs start o at));
     reads = quiet_on old.ports now.ports new.ports old.underlay now.underlay new.underlay has.quiet step.reads;
     over = tt;
     ready = tt;
@@ -188,6 +201,7 @@ module _ (segments : Segments) where
         record { rest = came.rest; first = up_to.first ∙ ap (λ l. has.es ++ l) came.first; ends = tt };
   }
   run_stops changes old now new first (stream.Run f) has step = record {
+    order = λ start o at. tt;
     es = has.es ++ step.e ∷ [];
     more = [];
     part = refl;
@@ -199,6 +213,7 @@ module _ (segments : Segments) where
     told = λ texts text read. stops_at changes texts text old now new first (stream.Run f) has step read (λ rest h. stops_run changes texts text new has.es rest step.e f h);
   }
   run_stops changes old now new first (stream.Read place) has step = record {
+    order = λ start o at. tt;
     es = has.es ++ step.e ∷ [];
     more = [];
     part = refl;
@@ -215,6 +230,7 @@ module _ (segments : Segments) where
   -- nothing of its sources is left
   run_ends : (changes : List TimedChange) (old now : Run) → HasRun changes old now → ((t : Turn) (k : ℕ) → k < length now.turns → (slice_index_or now.turns k t).next ≡ None) → IsRunOn segments changes old now (Ok tt)
   run_ends changes old now has none = record {
+    order = λ start o at. tt;
     es = has.es;
     more = [];
     part = refl;
@@ -236,6 +252,7 @@ module _ (segments : Segments) where
   -- it may be the want of numbers
   run_breaks : (changes : List TimedChange) (old now : Run) → HasRun changes old now → IsRunOn segments changes old now (Err (stream.Run faults.OutOfMemory))
   run_breaks changes old now has = record {
+    order = λ start o at. tt;
     es = has.es;
     more = [];
     part = refl;

@@ -266,12 +266,29 @@ lines_stay moment o (x ∷ xs) = lines_stay moment (with_sent moment o x) xs ∙
 
 -- ---- the outlets of an event
 
+-- one outcome more
+pub sent_snoc : (moment : ℕ) (o : Outputs) (xs : List Sent) (x : Sent) → with_all_sent moment o (xs ++ x ∷ []) ≡ with_sent moment (with_all_sent moment o xs) x
+sent_snoc moment o [] x = refl
+sent_snoc moment o (y ∷ xs) x = sent_snoc moment (with_sent moment o y) xs x
+
 -- some of them are put: with those that are left put too, it is all
 pub record PutSoFar (moment : ℕ) (start now : Drains) (o : Outputs) (left all : List Sent) : Type 0 where
   pub mid : Outputs
   pub at : StandAt start now mid
   pub behind : AreFronts o mid
   pub same : with_all_sent moment mid left ≡ with_all_sent moment o all
+  -- those that are put
+  pub front : List Sent
+  pub put : mid ≡ with_all_sent moment o front
+  pub is : all ≡ front ++ left
+
+pub put_none : (moment : ℕ) (start now : Drains) (o : Outputs) (all : List Sent) → StandAt start now o → PutSoFar moment start now o all all
+put_none moment start now o all at = record { mid = o; at = at; behind = fronts_self o; same = refl; front = []; put = refl; is = refl }
+
+-- those that are put, and one more
+pub put_next : (moment : ℕ) (start now : Drains) (o : Outputs) (x : Sent) (rest all : List Sent) (so_far : PutSoFar moment start now o (x ∷ rest) all)
+    → with_sent moment so_far.mid x ≡ with_all_sent moment o (so_far.front ++ x ∷ [])
+put_next moment start now o x rest all so_far = ap (λ (o : Outputs). with_sent moment o x) so_far.put ∙ sym (sent_snoc moment o so_far.front x)
 
 pub put_more : (moment : ℕ) (start now new : Drains) (o : Outputs) (x : Sent) (rest all : List Sent) (so_far : PutSoFar moment start now o (x ∷ rest) all) → StandAt start new (with_sent moment so_far.mid x)
     → PutSoFar moment start new o rest all
@@ -280,6 +297,9 @@ put_more moment start now new o x rest all so_far at = record {
   at = at;
   behind = fronts_trans o so_far.mid _ so_far.behind (front_sent moment so_far.mid x);
   same = so_far.same;
+  front = so_far.front ++ x ∷ [];
+  put = put_next moment start now o x rest all so_far;
+  is = so_far.is ∙ sym (append_assoc so_far.front (x ∷ []) rest);
 }
 
 pub put_failed : (moment : ℕ) (start now new : Drains) (o : Outputs) (x : Sent) (rest all : List Sent) (so_far : PutSoFar moment start now o (x ∷ rest) all)

@@ -3,10 +3,11 @@ use Rattle.std.proofs.Common.{◌≡◌, ◌≤◌, ◌∙◌, refl, sym, ap, su
 use Rattle.pcap_stream.specs.Source.{Stream}
 use Rattle.overlay_settings.specs.declared.change.TimedChange.{TimedChange}
 use Rattle.std.specs.List.{FoldsTo}
-use Rattle.endpoint_core.specs.Step.{State}
-use Rattle.capture_run.specs.Outputs.{Outputs, event_of}
+use Rattle.endpoint_core.specs.Step.{State, answer}
+use Rattle.capture_run.specs.Outputs.{Outputs, event_of, named_by}
 use Rattle.capture_run.specs.Among.{with_event_among}
 use Rattle.capture_run.proofs.Among.{moment_among, ports_stay_among}
+use Rattle.stream_run.specs.Amidst.{PutsInOrder}
 use Rattle.stream_run.specs.Coming.{coming}
 use Rattle.stream_run.specs.Sights.{Sight, sight_among}
 use Rattle.stream_run.specs.Stage.{Drains, Lead, StandAt}
@@ -19,7 +20,7 @@ use Rattle.stream_run.specs.declared.fault.Target.{Target}
 use Rattle.stream_run.specs.declared.turn.First.{First}
 use Rattle.stream_run.specs.declared.turn.Turn.{Turn}
 use Rattle.stream_run.proofs.Reading.{fault_fetched, read_again, takes_first}
-use Rattle.stream_run.proofs.Readying.{asked, event_moment, next_up, reads_fault, reads_turn, ready_again, stands_at_fault}
+use Rattle.stream_run.proofs.Readying.{asked, event_moment, next_up, no_write_fails, reads_fault, reads_turn, ready_again, stands_at_fault}
 use Rattle.segment_set.specs.Segments.{Segments}
 
 module _ (segments : Segments) where
@@ -34,6 +35,11 @@ module _ (segments : Segments) where
     leads : (result : Result (Unit {0}) Target) (taken : Taken result) → n ≡ number + 1 → Leads result taken
     leads result taken is start o at =
         subst (λ k. Lead start behind o (with_event_among segments (changes_of changes) k state o taken.e) result) is (taken.outputs start o at)
+
+    orders : (result : Result (Unit {0}) Target) (taken : Taken result) → n ≡ number + 1 → (start : Drains) (o : Outputs) → StandAt start before o
+        → PutsInOrder start behind (number + 1) (named_by (changes_of changes) taken.e.happening) o taken.e (answer state (event_of (changes_of changes) taken.e)) result
+    orders result taken is start o at =
+        subst (λ k. PutsInOrder start behind k (named_by (changes_of changes) taken.e.happening) o taken.e (answer state (event_of (changes_of changes) taken.e)) result) is (taken.order start o at)
 
     nexts : (result : Result (Unit {0}) Target) (taken : Taken result) → ((t : Turn) → done ≡ (slice_index_or turns first.index t).done) → (t : Turn)
         → IsNextEvent ports underlay first.index (slice_index_or turns first.index t).done first.moment taken.e
@@ -63,6 +69,7 @@ module _ (segments : Segments) where
       state = taken.state;
       number = also ∙ one;
       outputs = leads (Err target) taken one;
+      order = orders (Err target) taken one;
       ready = tt;
       reads = record { ports = refl; underlay = refl };
       told = λ texts text read.
@@ -82,6 +89,7 @@ module _ (segments : Segments) where
       state = taken.state;
       number = also ∙ one;
       outputs = λ start o at. stands_at_fault changes first.index (done + 1) first.moment ports underlay new new_underlay fault start behind o _ fetched (leads (Ok tt) taken one start o at);
+      order = λ start o at. no_write_fails changes first.index (done + 1) first.moment ports underlay new new_underlay fault (changes_of changes) start behind (number + 1) state o taken.e fetched;
       ready = tt;
       reads = reads_fault changes first.index (done + 1) first.moment ports underlay new new_underlay fault fetched;
       told = λ texts text read.
@@ -113,6 +121,7 @@ module _ (segments : Segments) where
           state = taken.state;
           number = also ∙ one;
           outputs = leads (Ok tt) taken one;
+          order = λ start o at. tt;
           ready = subst (λ k. AreReady changes (run_at new new_underlay (slice_set turns first.index turn) new_state k behind)) (sym (also ∙ one))
               (ready_again changes ports underlay turns state number before new new_underlay new_state behind first turn done ready is_first few
               (ap (λ (s : State). s.moment) taken.state ∙ moment_among segments state (event_of (changes_of changes) taken.e) ∙ event)

@@ -1,14 +1,11 @@
 -- An event that is told to some segments, and one that isn't.
-use Rattle.std.proofs.Common.{◌≡◌, ◌∙◌, refl, sym, ap, subst, ℕ, ◌+◌, Bool, true, false, List, [], ◌∷◌, Option, None, Result, Ok}
+use Rattle.std.proofs.Common.{◌≡◌, refl, ℕ, true, false, Option, Result, Ok}
 use Rattle.std.specs.List.{FoldsTo}
-use Rattle.segment_set.specs.Segments.{Segments, holds}
-use Rattle.frame_view.specs.declared.reason.Refused.{Refused}
+use Rattle.segment_set.specs.Segments.{Segments}
 use Rattle.timeline.specs.declared.event.Event.{Event}
-use Rattle.endpoint_state.specs.State.{aged}
-use Rattle.endpoint_core.specs.Among.{after_among, after_untold, is_told, segment_in, segment_of}
-use Rattle.endpoint_core.specs.Came.{Came}
+use Rattle.endpoint_core.specs.Among.{after_among, after_untold, is_told}
 use Rattle.endpoint_core.specs.Event.{Event as Asked}
-use Rattle.endpoint_core.specs.Step.{Answer, Decided, State, after, after_coming, answer, decided}
+use Rattle.endpoint_core.specs.Step.{State, after, answer}
 use Rattle.capture_run.specs.Outputs.{Outputs}
 use Rattle.capture_run.specs.Writing.{with_input}
 use Rattle.stream_run.specs.Sights.{Sight, answered, due}

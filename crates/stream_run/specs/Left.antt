@@ -2,7 +2,7 @@
 --     texts_of      the headers, the texts of some events, and the lines of cut captures
 --     Leaves      what stands in the outputs, by the answer
 --     Answers      a whole run, by what its texts of settings and changes mean
-use Rattle.std.specs.Prelude.{◌≡◌, ◌⊎◌, ◌==◌, List, [], ◌∷◌, ◌++◌, length, MatchBool, Result, Ok, Err}
+use Rattle.std.specs.Prelude.{◌≡◌, ◌⊎◌, ◌==◌, ◌+◌, List, [], ◌∷◌, ◌++◌, length, MatchBool, Result, Ok, Err}
 use Rattle.pcap_stream.specs.Source.{Stream}
 use Rattle.timeline.specs.declared.event.Event.{Event}
 use Rattle.timeline.specs.declared.timeline.Cut.{Cut}
@@ -16,8 +16,10 @@ use Rattle.capture_run.specs.Outputs.{Outputs}
 use Rattle.capture_run.specs.Writing.{empty_outputs, with_cuts}
 use Rattle.capture_run.specs.declared.fault.RunFault.{RunFault}
 use Rattle.capture_run.specs.declared.fault.RunFault.TheVariants as faults
+use Rattle.stream_run.specs.Amidst.{StandsInEvent}
+use Rattle.stream_run.specs.Sights.{state_among}
 use Rattle.stream_run.specs.Stage.{AreWell, Drains, FailedAt, StandAt, StandBetween, no_texts}
-use Rattle.stream_run.specs.Steps.{texts_behind}
+use Rattle.stream_run.specs.Steps.{changes_of, texts_behind}
 use Rattle.stream_run.specs.declared.fault.StreamFault.{StreamFault}
 use Rattle.stream_run.specs.declared.fault.StreamFault.TheVariants as stream
 use Rattle.segment_set.specs.Segments.{Segments, All}
@@ -28,11 +30,13 @@ use Rattle.segment_set.specs.Segments.{Segments, All}
 abbrev pub texts_of : Segments → Settings → List TimedChange → List Event → List Cut → Outputs
 texts_of segments s changes es cuts = with_cuts (texts_behind segments changes (opened (settings_told s)) (empty_outputs (length s.ports)) es) cuts
 
--- texts, and those that come next: the headers, one event more, or the lines of the cut captures
-abbrev pub AreNext : Segments → Settings → List TimedChange → Outputs → Outputs → Type 0
-AreNext segments s changes texts next =
+-- texts that stand, and those that come next: the headers; those of one event more, which stand in their order; or the
+-- lines of the cut captures
+abbrev pub AreNext : Segments → Settings → List TimedChange → Drains → Drains → Outputs → Outputs → Type 0
+AreNext segments s changes old new texts next =
     ((texts ≡ no_texts (length s.ports)) × (next ≡ texts_of segments s changes [] []))
-    ⊎ ((es : List Event) × (e : Event) × (texts ≡ texts_of segments s changes es []) × (next ≡ texts_of segments s changes (es ++ e ∷ []) []))
+    ⊎ ((es : List Event) × (e : Event) × (texts ≡ texts_of segments s changes es []) × (next ≡ texts_of segments s changes (es ++ e ∷ []) [])
+    × StandsInEvent (changes_of changes) old new (length es + 1) (state_among segments (changes_of changes) (opened (settings_told s)) es) texts e)
     ⊎ ((es : List Event) × (cuts : List Cut) × (texts ≡ texts_of segments s changes es []) × (next ≡ texts_of segments s changes es cuts))
 
 -- ---- the outputs
@@ -42,7 +46,7 @@ AreNext segments s changes texts next =
 abbrev pub Leaves : Segments → Settings → List TimedChange → Drains → Drains → Result (Unit {0}) StreamFault → Type 0
 Leaves segments s changes old new (Ok x) = (es : List Event) × (cuts : List Cut) × StandAt old new (texts_of segments s changes es cuts)
 Leaves segments s changes old new (Err (stream.Write target)) =
-    (texts : Outputs) × (next : Outputs) × AreNext segments s changes texts next × StandBetween old new texts next × FailedAt target old new
+    (texts : Outputs) × (next : Outputs) × AreNext segments s changes old new texts next × StandBetween old new texts next × FailedAt target old new
 Leaves segments s changes old new (Err fault) = StandAt old new (no_texts (length s.ports)) ⊎ ((es : List Event) × StandAt old new (texts_of segments s changes es []))
 
 -- an output failed, or none

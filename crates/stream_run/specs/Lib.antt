@@ -2,6 +2,7 @@ pub mod Words
 pub mod Sights
 pub mod Lines
 pub mod Stage
+pub mod Amidst
 pub mod Turns
 pub mod Fault
 pub mod Read

@@ -1,7 +1,7 @@
 -- What a run over streams answers, and what it leaves in its outputs, by the octets of its captures; it serves the contract of the run.
 --     whole_records      the events of all whole records, in order, and the captures that are cut
 --     IsRunOver      the answer of a run, and the texts that its outputs hold then
-use Rattle.std.specs.Prelude.{◌≡◌, ◌⊎◌, ◌≤◌, ⊤, ℕ, ◌+◌, List, [], length, map, take, Vec, Some, Result, Ok, Err}
+use Rattle.std.specs.Prelude.{◌≡◌, ◌⊎◌, ◌≤◌, ⊤, ℕ, ◌+◌, List, [], ◌∷◌, ◌++◌, length, map, take, Vec, Some, Result, Ok, Err}
 use Rattle.std.specs.declared.alloc.Global.{Global}
 use Rattle.pcap_io.specs.declared.record.RecordFault.{RecordFault}
 use Rattle.pcap_stream.specs.Source.{Stream}
@@ -9,16 +9,20 @@ use Rattle.overlay_config.specs.Fault.{Meaning}
 use Rattle.overlay_config.specs.Settings.{Settings}
 use Rattle.overlay_settings.specs.declared.change.TimedChange.{TimedChange}
 use Rattle.endpoint_state.specs.Opened.{settings_told}
+use Rattle.endpoint_core.specs.Step.{opened}
 use Rattle.timeline.specs.Events.{all_events}
 use Rattle.timeline.specs.Faults.{faults_of}
 use Rattle.timeline.specs.Inputs.{inputs, opened_captures}
 use Rattle.timeline.specs.Order.{merged}
 use Rattle.timeline.specs.Timeline.{Timeline, cuts_of}
+use Rattle.timeline.specs.declared.event.Event.{Event}
 use Rattle.timeline.specs.declared.source.Tap.{Tap}
 use Rattle.capture_run.specs.Outputs.{Outputs}
 use Rattle.capture_run.specs.Run.{run}
 use Rattle.capture_run.specs.declared.fault.RunFault.TheVariants as faults
+use Rattle.stream_run.specs.Amidst.{StandsInEvent}
 use Rattle.stream_run.specs.Coming.{EndBefore}
+use Rattle.stream_run.specs.Sights.{state_among}
 use Rattle.stream_run.specs.Stage.{Drains, StandAt, StandBetween, no_texts, stage}
 use Rattle.stream_run.specs.Steps.{AreRead, IsFaultyAt, changes_of}
 use Rattle.stream_run.specs.declared.fault.StreamFault.{StreamFault}
@@ -65,6 +69,9 @@ pub record StandsAmong (segments : Segments) (s : Settings) (changes : List Time
   pub k : ℕ
   pub most : (k ≤ length (whole_records changes texts text).events) ⊎ ((k ≡ length (whole_records changes texts text).events + 1) × AreFaultless texts text)
   pub stands : StandBetween old new (texts_at segments s changes texts text k) (texts_at segments s changes texts text (k + 1))
+  -- where an event comes next, the records of its first outlets, and the line behind them all
+  pub order : (es rest : List Event) (e : Event) → (whole_records changes texts text).events ≡ es ++ e ∷ rest → k ≡ length es + 1
+      → StandsInEvent (changes_of changes) old new k (state_among segments (changes_of changes) (opened (settings_told s)) es) (texts_at segments s changes texts text k) e
 
 -- a record has this fault, and the outputs hold the texts of all events up to the record before it, and no more
 pub record StandsBefore (segments : Segments) (place : Tap) (n : ℕ) (fault : RecordFault) (s : Settings) (changes : List TimedChange) (texts : List (Vec ℕ Global)) (text : List ℕ) (old new : Drains) : Type 0 where

@@ -18,13 +18,14 @@ use Rattle.timeline.specs.declared.source.Tap.TheVariants as taps
 use Rattle.endpoint_core.specs.Among.{after_among, is_told}
 use Rattle.endpoint_core.specs.Event.{Event as Asked}
 use Rattle.endpoint_core.specs.Step.{State, answer}
-use Rattle.capture_run.specs.Outputs.{Outputs, event_of}
+use Rattle.capture_run.specs.Outputs.{Outputs, event_of, named_by}
 use Rattle.capture_run.specs.Among.{with_event_among, with_events_among}
 use Rattle.capture_run.specs.declared.fault.RunFault.TheVariants as faults
+use Rattle.stream_run.specs.Amidst.{PutsInOrder, StandsInEvent, StepsInOrder}
 use Rattle.stream_run.specs.Coming.{EndBefore, IsRecordBefore, coming}
 use Rattle.stream_run.specs.Fetched.{IsFetch, IsMoment}
 use Rattle.capture_run.specs.Writing.{with_input}
-use Rattle.stream_run.specs.Sights.{Sight, answered, due}
+use Rattle.stream_run.specs.Sights.{Sight, answered, due, state_among}
 use Rattle.stream_run.specs.Read.{IsFaulty, IsRead, ReadsWith}
 use Rattle.stream_run.specs.Stage.{Drains, FailedAt, Lead, StandAt, StandBetween}
 use Rattle.stream_run.specs.Turns.{IsNoSooner}
@@ -135,6 +136,8 @@ pub record IsTaken (segments : Segments) (changes : List TimedChange) (ports : L
   pub state : new ≡ after_among segments old (event_of (changes_of changes) e)
   pub outputs : (start : Drains) (o : Outputs) → StandAt start before o
       → Lead start behind o (with_event_among segments (changes_of changes) number old o e) result
+  pub order : (start : Drains) (o : Outputs) → StandAt start before o
+      → PutsInOrder start behind number (named_by (changes_of changes) e.happening) o e (answer old (event_of (changes_of changes) e)) result
 
 -- what comes of an event that names this segment, where it is told
 abbrev pub with_input_among : Segments → ℕ → Option ℕ → State → Outputs → Event → Asked → Outputs
@@ -190,6 +193,7 @@ pub record IsStep (segments : Segments) (changes : List TimedChange) (old new : 
   pub number : new.number ≡ old.number + 1
   pub outputs : (start : Drains) (o : Outputs) → StandAt start old.drains o
       → StepsTo start new.drains o (with_event_among segments (changes_of changes) (old.number + 1) old.state o e) result
+  pub order : (start : Drains) (o : Outputs) → StandAt start old.drains o → StepsInOrder (changes_of changes) start new.drains (old.number + 1) old.state o e result
   pub ready : OnOk result (AreReady changes new)
   pub reads : ReadsWith old.ports old.underlay new.ports new.underlay result
   pub told : (texts : List (List ℕ)) (text : List ℕ) → AreRead texts text old.turns old.ports old.underlay → ComesFirst changes texts text old new e result
@@ -207,6 +211,13 @@ module _ {T : Type 0} where
   LeadsBehind segments changes s start new o es more (Err (stream.Write target)) =
       StandBetween start new (texts_behind segments changes s o es) (texts_behind segments changes s o (es ++ more)) × FailedAt target start new
   LeadsBehind segments changes s start new o es more result = StandAt start new (texts_behind segments changes s o es)
+
+  -- of the event of which a part was written, its texts stand in order
+  abbrev pub EndsInOrder : Segments → List TimedChange → State → Drains → Drains → Outputs → List Event → List Event → Result T StreamFault → Type 0
+  EndsInOrder segments changes s start new o es more (Err (stream.Write target)) =
+      (e : Event) → more ≡ e ∷ []
+      → StandsInEvent (changes_of changes) start new (length es + 1) (state_among segments (changes_of changes) s es) (texts_behind segments changes s o es) e
+  EndsInOrder segments changes s start new o es more result = ⊤
 
   -- the event of which a part was written: one where a write failed, and else none
   abbrev pub IsPart : List Event → Result T StreamFault → Type 0
@@ -236,6 +247,7 @@ pub record IsRunOn (segments : Segments) (changes : List TimedChange) (old new :
   pub part : IsPart more result
   pub rising : IsRising old.state.moment (es ++ more)
   pub outputs : (start : Drains) (o : Outputs) → StandAt start old.drains o → LeadsBehind segments changes old.state start new.drains o es more result
+  pub order : (start : Drains) (o : Outputs) → StandAt start old.drains o → EndsInOrder segments changes old.state start new.drains o es more result
   pub reads : ReadsWith old.ports old.underlay new.ports new.underlay result
   -- and none is left
   pub over : OnOk result ((t : Turn) (k : ℕ) → k < length new.turns → (slice_index_or new.turns k t).next ≡ None)

@@ -2,7 +2,7 @@
 --     IsWatchedTake, IsWatchedStep, IsWatchedRun      each event is seen, taken, and its answer heard
 --     IsShown      a whole run: the events of which the outputs hold texts, and the end
 --     IsWatchedOver      the same by the octets of its captures: all events and the end, or the first events
-use Rattle.std.specs.Prelude.{◌≡◌, ◌⊎◌, ◌==◌, ℕ, ◌+◌, ◌-◌, List, [], ◌∷◌, ◌++◌, length, map, take, MatchBool, Vec, Result, Ok, Err}
+use Rattle.std.specs.Prelude.{◌≡◌, ◌⊎◌, ◌==◌, ℕ, ◌+◌, ◌-◌, List, [], ◌∷◌, ◌++◌, length, take, MatchBool, Vec, Result, Ok, Err}
 use Rattle.std.specs.List.{FoldsTo}
 use Rattle.std.specs.declared.alloc.Global.{Global}
 use Rattle.pcap_stream.specs.Source.{Stream}

@@ -15,6 +15,7 @@ ghost use Rattle.endpoint_core.specs.Step.{Decided, has_two_tunnels, sent_at};
 ghost use Rattle.endpoint_core.specs.Text.{outcomes_text};
 ghost use Rattle.capture_run.specs.Outputs.{Outputs};
 ghost use Rattle.capture_run.specs.Writing.{put_at, with_all_sent, with_input, with_line, with_sent};
+ghost use Rattle.stream_run.specs.Amidst.{PutsInOrder, SendsInOrder};
 ghost use Rattle.stream_run.specs.Lines.{LineLeads};
 ghost use Rattle.stream_run.specs.Stage.{Drains, Lead, StandAt, drains};
 
@@ -117,6 +118,9 @@ fn put_places<W: Output>(
     ensures sent { let S = (state_of endpoint.now).bridges.settings in
         (start : Drains) (o : Outputs) (written : Option (List ℕ)) (failures : ℕ) → StandAt start (drains port_sinks.old underlay_sink.old written failures) o
         → Lead start (drains port_sinks.new underlay_sink.new written failures) o (with_all_sent moment o (map (sent_at S came.now.vid came.now.frame) places.now)) result }
+    ensures order { let S = (state_of endpoint.now).bridges.settings in
+        (start : Drains) (o : Outputs) (written : Option (List ℕ)) (failures : ℕ) → StandAt start (drains port_sinks.old underlay_sink.old written failures) o
+        → SendsInOrder start (drains port_sinks.new underlay_sink.new written failures) moment o (map (sent_at S came.now.vid came.now.frame) places.now) result }
     ensures line { let S = (state_of endpoint.now).bridges.settings in
         LineLeads line.old line.new (outcomes_text (has_two_tunnels S.overlay came.now.vid) (map (sent_at S came.now.vid came.now.frame) places.now)) result }
 {
@@ -162,6 +166,10 @@ fn put_forwarded<W: Output>(
         (start : Drains) (o : Outputs) → StandAt start (drains port_sinks.old underlay_sink.old (W.written decisions.old) (W.failures decisions.old)) o
         → Lead start (drains port_sinks.new underlay_sink.new (W.written decisions.new) (W.failures decisions.new)) o
         (with_input desk.old.number None o event.now (Decided (Rattle.endpoint_core.specs.Step.by_verdict S came.now (Rattle.std.specs.Prelude.Ok desk.old.places.items)))) result }
+    ensures order { let S = (state_of endpoint.now).bridges.settings in
+        (start : Drains) (o : Outputs) → StandAt start (drains port_sinks.old underlay_sink.old (W.written decisions.old) (W.failures decisions.old)) o
+        → PutsInOrder start (drains port_sinks.new underlay_sink.new (W.written decisions.new) (W.failures decisions.new)) desk.old.number None o event.now
+        (Decided (Rattle.endpoint_core.specs.Step.by_verdict S came.now (Rattle.std.specs.Prelude.Ok desk.old.places.items))) result }
     ensures number { desk.new.number ≡ desk.old.number }
 {
     desk.line.begin(&desk.number, event, Some(came.segment()));
@@ -199,6 +207,9 @@ pub fn put_course<W: Output>(
     ensures outputs { (start : Drains) (o : Outputs) → StandAt start (drains port_sinks.old underlay_sink.old (W.written decisions.old) (W.failures decisions.old)) o
         → Lead start (drains port_sinks.new underlay_sink.new (W.written decisions.new) (W.failures decisions.new)) o
         (with_input desk.old.number None o event.now (Decided (decision_of (state_of endpoint.now).bridges.settings course.now desk.old.places.items))) result }
+    ensures order { (start : Drains) (o : Outputs) → StandAt start (drains port_sinks.old underlay_sink.old (W.written decisions.old) (W.failures decisions.old)) o
+        → PutsInOrder start (drains port_sinks.new underlay_sink.new (W.written decisions.new) (W.failures decisions.new)) desk.old.number None o event.now
+        (Decided (decision_of (state_of endpoint.now).bridges.settings course.now desk.old.places.items)) result }
     ensures number { desk.new.number ≡ desk.old.number }
 {
     match course {

@@ -16,6 +16,7 @@ ghost use Rattle.endpoint_state.specs.Sound.{is_reached};
 ghost use Rattle.endpoint_state.specs.State.{aged};
 ghost use Rattle.capture_run.specs.Outputs.{Outputs, change_at as change_told};
 ghost use Rattle.capture_run.specs.Writing.{with_input};
+ghost use Rattle.stream_run.specs.Amidst.{PutsInOrder};
 ghost use Rattle.stream_run.specs.Sights.{answered, due};
 ghost use Rattle.stream_run.specs.Stage.{Drains, Lead, StandAt, drains};
 ghost use Rattle.stream_run.specs.Steps.{IsAt, changes_of, moment_at, seen_among, with_input_among, record_event, source_at};
@@ -80,6 +81,10 @@ fn take_came<'a, W: Output, T: Watch>(
         → StandAt start (drains port_sinks.old underlay_sink.old (W.written decisions.old) (W.failures decisions.old)) o
         → Lead start (drains port_sinks.new underlay_sink.new (W.written decisions.new) (W.failures decisions.new)) o
         (with_input desk.old.number None o event.now (Decided (decided event.now.moment (aged event.now.moment (state_of endpoint.old).bridges) came.entry))) result }
+    ensures order { (start : Drains) (o : Outputs)
+        → StandAt start (drains port_sinks.old underlay_sink.old (W.written decisions.old) (W.failures decisions.old)) o
+        → PutsInOrder start (drains port_sinks.new underlay_sink.new (W.written decisions.new) (W.failures decisions.new)) desk.old.number None o event.now
+        (Decided (decided event.now.moment (aged event.now.moment (state_of endpoint.old).bridges) came.entry)) result }
     ensures number { desk.new.number ≡ desk.old.number }
     ensures seen { T.sees watch.old (answered (due (state_of endpoint.old) desk.old.number event.now)
         (Decided (decided event.now.moment (aged event.now.moment (state_of endpoint.old).bridges) came.entry))) watch.new }
@@ -125,6 +130,10 @@ pub fn take_frame<R: Input, W: Output, T: Watch>(
         → StandAt start (drains port_sinks.old underlay_sink.old (W.written decisions.old) (W.failures decisions.old)) o
         → Lead start (drains port_sinks.new underlay_sink.new (W.written decisions.new) (W.failures decisions.new)) o
         (with_input_among segments.now desk.old.number None (state_of endpoint.old) o (record_event (Port port) count moment r) (frame_at moment port r.original r.octets)) result }
+    ensures order { (r : ARecord) (start : Drains) (o : Outputs) → lent source.now.standing ≡ Some r
+        → StandAt start (drains port_sinks.old underlay_sink.old (W.written decisions.old) (W.failures decisions.old)) o
+        → PutsInOrder start (drains port_sinks.new underlay_sink.new (W.written decisions.new) (W.failures decisions.new)) desk.old.number None o
+        (record_event (Port port) count moment r) (answer (state_of endpoint.old) (frame_at moment port r.original r.octets)) result }
     ensures number { desk.new.number ≡ desk.old.number }
     ensures seen { (r : ARecord) → lent source.now.standing ≡ Some r
         → FoldsTo T.sees watch.old (seen_among segments.now (state_of endpoint.old) desk.old.number (record_event (Port port) count moment r) (frame_at moment port r.original r.octets)) watch.new }
@@ -181,6 +190,10 @@ pub fn take_packet<R: Input, W: Output, T: Watch>(
         → StandAt start (drains port_sinks.old underlay_sink.old (W.written decisions.old) (W.failures decisions.old)) o
         → Lead start (drains port_sinks.new underlay_sink.new (W.written decisions.new) (W.failures decisions.new)) o
         (with_input_among segments.now desk.old.number None (state_of endpoint.old) o (record_event Underlay count moment r) (packet_at moment r.original r.octets)) result }
+    ensures order { (r : ARecord) (start : Drains) (o : Outputs) → lent source.now.standing ≡ Some r
+        → StandAt start (drains port_sinks.old underlay_sink.old (W.written decisions.old) (W.failures decisions.old)) o
+        → PutsInOrder start (drains port_sinks.new underlay_sink.new (W.written decisions.new) (W.failures decisions.new)) desk.old.number None o
+        (record_event Underlay count moment r) (answer (state_of endpoint.old) (packet_at moment r.original r.octets)) result }
     ensures number { desk.new.number ≡ desk.old.number }
     ensures seen { (r : ARecord) → lent source.now.standing ≡ Some r
         → FoldsTo T.sees watch.old (seen_among segments.now (state_of endpoint.old) desk.old.number (record_event Underlay count moment r) (packet_at moment r.original r.octets)) watch.new }

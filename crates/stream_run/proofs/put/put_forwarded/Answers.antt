@@ -1,12 +1,14 @@
-use Rattle.std.proofs.Common.{◌≡◌, ◌∙◌, ◌++◌, ◌∷◌, [], refl, ap, subst, map, List, Some}
+use Rattle.std.proofs.Common.{◌≡◌, ◌∙◌, ◌++◌, ◌∷◌, [], refl, ap, subst, map, List, None, Some, Ok}
 use Rattle.std.specs.Prelude.{codes}
 use Rattle.filter_db.specs.declared.place.Place.{Place}
 use Rattle.endpoint_core.specs.Kept.{state_of}
-use Rattle.endpoint_core.specs.Step.{has_two_tunnels, sent_at}
+use Rattle.endpoint_core.specs.Step.{Decided, by_verdict, has_two_tunnels, sent_at}
 use Rattle.endpoint_core.specs.Text.{outcomes_text}
 use Rattle.decision_lines.specs.Lines.{line_front, segment_text}
 use Rattle.capture_run.specs.Writing.{with_all_sent, with_line}
 use Rattle.stream_run.specs.Stage.{Lead, StandAt, drains}
+use Rattle.stream_run.specs.Amidst.{SendsInOrder}
+use Rattle.stream_run.proofs.Amidst.{at_outlet, put_at_line}
 use Rattle.stream_run.proofs.Lining.{pieces}
 use Rattle.stream_run.proofs.Standing.{front_all, front_line, fronts_self, lead_behind, lines_stay, no_line, wider}
 use Rattle.stream_run.proofs.put.put_forwarded.Goals as goal
@@ -23,6 +25,39 @@ returns-in-Err-clause-outputs g c start o at =
           (no_line start new o o sent (with_line sent _) failed.0 refl (lines_stay c.args.event.now.moment o (map f c.args.desk.now.places.items))),
       failed.1,
     )
+
+pub returns-in-Err-clause-order : goal.returns-in-Err-clause-order
+returns-in-Err-clause-order g c start o at =
+    let S = (state_of c.args.endpoint.now).bridges.settings in
+    let f = sent_at S c.args.came.now.vid c.args.came.now.frame in
+    let new = drains c.put_places.new.port_sinks c.put_places.new.underlay_sink (g.W.Output.written c.args.decisions.now) (g.W.Output.failures c.args.decisions.now) in
+    let answer = Decided (by_verdict S c.args.came.now (Ok c.args.desk.now.places.items)) in
+    let sends = subst (λ (ps : List Place). SendsInOrder start new c.args.event.now.moment o (map f ps) c.put_places.result) c.as_slice.ensures.value
+    (c.put_places.ensures.order start o (g.W.Output.written c.args.decisions.now) (g.W.Output.failures c.args.decisions.now) at) in
+    let failed = rw c.in-Err.is at sends in
+    at_outlet c.args.desk.now.number None o c.args.event.now answer start new failed.0 failed.2 failed.1 failed.3 failed.4
+
+pub returns-clause-order : goal.returns-clause-order
+returns-clause-order g c start o at =
+    let S = (state_of c.args.endpoint.now).bridges.settings in
+    let f = sent_at S c.args.came.now.vid c.args.came.now.frame in
+    let outcomes = map f c.args.desk.now.places.items in
+    let sent = with_all_sent c.args.event.now.moment o outcomes in
+    let before = drains c.put_places.new.port_sinks c.put_places.new.underlay_sink (g.W.Output.written c.args.decisions.now) (g.W.Output.failures c.args.decisions.now) in
+    let stood = subst (λ (ps : List Place). StandAt start before (with_all_sent c.args.event.now.moment o (map f ps))) c.as_slice.ensures.value
+    (c.in_default.ensures.sent start o (g.W.Output.written c.args.decisions.now) (g.W.Output.failures c.args.decisions.now) at) in
+    let front = line_front c.args.desk.now.number c.args.event.now in
+    let seg = segment_text (Some c.args.came.now.vid) in
+    let two = has_two_tunnels S.overlay c.args.came.now.vid in
+    let whole : c.text.result.now ≡ front ++ ((seg ++ codes " " ++ outcomes_text two outcomes) ++ 10 ∷ []) =
+    c.text.ensures.value ∙ c.end.ensures
+    ∙ ap (λ l. l ++ 10 ∷ []) (c.in_default.ensures.line.0 ∙ ap (λ (ps : List Place). c.begin.new.self ++ outcomes_text two (map f ps)) c.as_slice.ensures.value)
+    ∙ ap (λ l. (l ++ outcomes_text two outcomes) ++ 10 ∷ []) (c.begin.ensures.text ∙ ap (λ s. front ++ (segment_text (Some s) ++ codes " ")) c.segment.ensures)
+    ∙ pieces front seg (codes " ") (outcomes_text two outcomes) (10 ∷ []) in
+    let new = drains c.put_places.new.port_sinks c.put_places.new.underlay_sink (g.W.Output.written c.put_line.new.decisions) (g.W.Output.failures c.put_line.new.decisions) in
+    let lead : Lead {T = Unit {0}} start new sent (with_line sent c.text.result.now) c.put_line.result = c.put_line.ensures start sent c.put_places.new.port_sinks c.put_places.new.underlay_sink stood in
+    put_at_line c.args.desk.now.number None o c.args.event.now (Decided (by_verdict S c.args.came.now (Ok c.args.desk.now.places.items))) start new c.put_line.result
+    (subst (λ l. Lead {T = Unit {0}} start new sent (with_line sent l) c.put_line.result) whole lead)
 
 pub returns-clause-outputs : goal.returns-clause-outputs
 returns-clause-outputs g c start o at =

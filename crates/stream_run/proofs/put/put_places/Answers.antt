@@ -1,4 +1,4 @@
-use Rattle.std.proofs.Common.{◌≡◌, ◌∙◌, ◌+◌, ◌++◌, ap, subst, arith, drop, cond, map, slice_index_or, List, Result}
+use Rattle.std.proofs.Common.{◌≡◌, ◌∙◌, ◌+◌, ◌++◌, ◌∷◌, [], refl, ap, subst, arith, drop, cond, map, slice_index_or, List, Result}
 use Rattle.std.proofs.lemmas.List.{drop_all}
 use Rattle.frame_view.specs.declared.reason.Reason.{Reason}
 use Rattle.filter_db.specs.declared.place.Place.TheVariants.{Local}
@@ -7,11 +7,11 @@ use Rattle.endpoint_core.specs.Kept.{state_of}
 use Rattle.endpoint_core.specs.Step.{has_two_tunnels, sent_at}
 use Rattle.endpoint_core.specs.Text.{further_text, outcome_text, outcomes_text}
 use Rattle.decision_lines.specs.Outcomes.{gap}
-use Rattle.capture_run.specs.Writing.{with_sent}
+use Rattle.capture_run.specs.Writing.{with_all_sent, with_sent}
 use Rattle.capture_run.proofs.Changes.{left_is}
 use Rattle.stream_run.specs.Stage.{StandAt, StandBetween, drains}
 use Rattle.stream_run.proofs.Lining.{text_more}
-use Rattle.stream_run.proofs.Standing.{PutSoFar, put_end, put_failed, put_more}
+use Rattle.stream_run.proofs.Standing.{PutSoFar, put_end, put_failed, put_more, put_next, put_none}
 use Rattle.stream_run.proofs.put.put_places.Goals as goal
 
 pub returns-in-Err-clause-sent : goal.returns-in-Err-clause-sent
@@ -27,6 +27,37 @@ returns-in-Err-clause-sent g c start o written failures at =
       put_failed c.args.moment start (drains c.loop-place.port_sinks c.loop-place.underlay_sink written failures) (drains c.put_sent.new.port_sinks c.put_sent.new.underlay_sink written failures) o (f p) (map f (drop (i + 1) c.args.places.now)) (map f c.args.places.now) here
           (subst (StandBetween start (drains c.put_sent.new.port_sinks c.put_sent.new.underlay_sink written failures) here.mid) same lead.0),
       lead.1,
+    )
+
+pub loop-place-init : goal.loop-place-init
+loop-place-init g c =
+    let f = sent_at (state_of c.args.endpoint.now).bridges.settings c.args.came.now.vid c.args.came.now.frame in
+    record {
+      sent = λ start o written failures at. put_none c.args.moment start (drains c.args.port_sinks.now c.args.underlay_sink.now written failures) o (map f c.args.places.now) at;
+      text = refl;
+      room = omega arith;
+    }
+
+pub returns-in-Err-clause-order : goal.returns-in-Err-clause-order
+returns-in-Err-clause-order g c start o written failures at =
+    let f = sent_at (state_of c.args.endpoint.now).bridges.settings c.args.came.now.vid c.args.came.now.frame in
+    let i = c.loop-place.place-index in
+    let p = slice_index_or c.args.places.now i (Local 0) in
+    let rest = map f (drop (i + 1) c.args.places.now) in
+    let all = map f c.args.places.now in
+    let now = drains c.loop-place.port_sinks c.loop-place.underlay_sink written failures in
+    let new = drains c.put_sent.new.port_sinks c.put_sent.new.underlay_sink written failures in
+    let left = left_is c.args.places.now i (Local 0) c.loop-place-test.true in
+    let so_far = c.loop-place.invariant.sent start o written failures at in
+    let here = subst (λ l. PutSoFar c.args.moment start now o (map f l) all) left so_far in
+    let same = ap (λ (s : Result (List _) Reason). with_sent c.args.moment here.mid (record { place = p; sent = s })) c.emit-sent.ensures.sent in
+    let lead = c.in-Err.ensures start here.mid written failures here.at in (
+      here.front,
+      f p,
+      rest,
+      here.is,
+      subst (λ m. StandBetween start new m (with_all_sent c.args.moment o (here.front ++ f p ∷ []))) here.put
+          (subst (StandBetween start new here.mid) (same ∙ put_next c.args.moment start now o (f p) rest all here) lead.0),
     )
 
 pub loop-place-preserved : goal.loop-place-preserved

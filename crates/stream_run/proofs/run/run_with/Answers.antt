@@ -79,6 +79,7 @@ returns-in-Err-put_events-clause-outputs g c =
     let put = drains c.put_events.new.port_sinks c.put_events.new.underlay_sink (g.W.Output.written c.put_events.new.decisions) (g.W.Output.failures c.put_events.new.decisions) in
     let run = c.in-Err-put_events.ensures.run in
     leaves_events c.args.segments.now c.args.settings c.args.changes.now start put (state_of c.in-Ok-open.endpoint) run.es run.more c.in-Err-put_events.fault c.in-Ok-open.ensures run.part (run.outputs start (empty_outputs (length c.args.settings.ports)) at)
+    (run.order start (empty_outputs (length c.args.settings.ports)) at)
 
 pub returns-in-Err-put_events-clause-reads : goal.returns-in-Err-put_events-clause-reads
 returns-in-Err-put_events-clause-reads g c =

@@ -34,6 +34,7 @@ returns-then-index-ports-clause-taken g c =
         next = inr (Port c.args.index, found.0, (refl, omega arith, omega arith), found.1, refl);
         state = c.take_frame.ensures.state found.0 told;
         outputs = λ start o at. c.take_frame.ensures.outputs found.0 start o told at;
+        order = λ start o at. c.take_frame.ensures.order found.0 start o told at;
       };
       seen = c.take_frame.ensures.seen found.0 told;
     }
@@ -50,6 +51,7 @@ returns-clause-taken g c =
         next = inr (Underlay, found.0, omega arith, found.1, refl);
         state = c.take_packet.ensures.state found.0 found.1;
         outputs = λ start o at. c.take_packet.ensures.outputs found.0 start o found.1 at;
+        order = λ start o at. c.take_packet.ensures.order found.0 start o found.1 at;
       };
       seen = c.take_packet.ensures.seen found.0 found.1;
     }

@@ -8,6 +8,7 @@ use Rattle.endpoint_core.specs.Event.{change_at}
 use Rattle.segment_set.specs.Segments.{holds}
 use Rattle.capture_run.specs.Outputs.{event_of, named_by}
 use Rattle.stream_run.specs.Steps.{changes_of}
+use Rattle.stream_run.proofs.Amidst.{put_at_line}
 use Rattle.stream_run.proofs.Taking.{after_not_told, after_told, not_seen, puts_nothing, puts_told, seen_told}
 use Rattle.endpoint_core.specs.Kept.{state_of}
 use Rattle.endpoint_core.specs.Step.{after, answer}
@@ -31,6 +32,7 @@ returns-then-not-has-clause-taken g c ports underlay port_sinks underlay_sink =
         next = inl (refl, refl);
         state = c.make_change.ensures ∙ sym (after_not_told c.args.segments.now s asked away);
         outputs = λ start o at. puts_nothing c.args.segments.now s asked c.args.desk.now.number (named_by (changes_of c.args.changes.now) e.happening) e start _ o away at;
+        order = λ start o at. tt;
       };
       seen = not_seen c.args.segments.now s asked g.T.Watch.sees c.args.desk.now.number e c.args.watch.now away;
     }
@@ -51,6 +53,8 @@ returns-clause-taken g c ports underlay port_sinks underlay_sink =
         next = inl (refl, refl);
         state = c.take_change.ensures.state ∙ ap (λ (x : Change). after s (change_at c.args.moment x)) there ∙ sym (after_told c.args.segments.now s asked here);
         outputs = λ start o at. puts_told c.args.segments.now s asked c.args.desk.now.number (named_by (changes_of c.args.changes.now) e.happening) e start new o c.take_change.result here
+            (subst (λ (x : Change). Lead start new o (with_input c.args.desk.now.number (named x) o e (answer s (change_at c.args.moment x))) c.take_change.result) there (c.take_change.ensures.outputs start o port_sinks underlay_sink at));
+        order = λ start o at. put_at_line c.args.desk.now.number (named_by (changes_of c.args.changes.now) e.happening) o e (answer s asked) start new c.take_change.result
             (subst (λ (x : Change). Lead start new o (with_input c.args.desk.now.number (named x) o e (answer s (change_at c.args.moment x))) c.take_change.result) there (c.take_change.ensures.outputs start o port_sinks underlay_sink at));
       };
       seen = seen_told c.args.segments.now s asked g.T.Watch.sees c.args.desk.now.number e c.args.watch.now c.take_change.new.watch here

@@ -1,4 +1,4 @@
-use Rattle.std.proofs.Common.{◌≡◌, ◌∙◌, ◌+◌, sym, ap, subst, None, Ok, true, false}
+use Rattle.std.proofs.Common.{◌≡◌, ◌∙◌, ◌+◌, sym, ap, subst, None, true, false}
 use Rattle.frame_view.specs.declared.reason.Refused.{Refused}
 use Rattle.std.proofs.Common.{Result}
 use Rattle.segment_set.specs.Segments.{holds}
@@ -12,8 +12,9 @@ use Rattle.endpoint_core.specs.Arrival.{came_by}
 use Rattle.endpoint_core.specs.Came.{Came}
 use Rattle.endpoint_core.specs.Event.{packet_at}
 use Rattle.endpoint_core.specs.Kept.{state_of}
-use Rattle.endpoint_core.specs.Step.{Answer, Decided, after_coming, answer, decided}
+use Rattle.endpoint_core.specs.Step.{Decided, after_coming, answer, decided}
 use Rattle.capture_run.specs.Writing.{with_input}
+use Rattle.stream_run.specs.Amidst.{PutsInOrder}
 use Rattle.stream_run.specs.Sights.{answered, due}
 use Rattle.stream_run.specs.Stage.{Lead, drains}
 use Rattle.stream_run.specs.Steps.{record_event}
@@ -63,6 +64,16 @@ returns-clause-outputs g c r start o told at =
     puts_told c.args.segments.now s (packet_at c.args.moment r.original r.octets) c.args.desk.now.number None (record_event Underlay c.args.count c.args.moment r) start new o c.take_came.result here
     (subst (λ (q : Record). Lead {T = Unit {0}} start new o (with_input c.args.desk.now.number None o (record_event Underlay c.args.count c.args.moment q) (answer s (packet_at c.args.moment r.original r.octets))) c.take_came.result) (c.record.view_is ∙ same)
     (subst (λ (x : Result Came Refused). Lead {T = Unit {0}} start new o (with_input c.args.desk.now.number None o e (Decided (decided c.args.moment (aged c.args.moment s.bridges) x))) c.take_came.result) came (c.take_came.ensures.outputs start o at)))
+
+pub returns-clause-order : goal.returns-clause-order
+returns-clause-order g c r start o told at =
+    let s = state_of c.args.endpoint.now in
+    let same : c.unwrap-record.result ≡ r = cc (c.unwrap-record.ensures, c.head.ensures.record, told) in
+    let came = c.frame_in-brought.ensures.value ∙ ap (λ (r : Record). came_by (state_of c.args.endpoint.now).bridges.settings.overlay r.original r.octets) (c.record.view_is ∙ same) in
+    let new = drains c.take_came.new.port_sinks c.take_came.new.underlay_sink (g.W.Output.written c.take_came.new.decisions) (g.W.Output.failures c.take_came.new.decisions) in
+    let e : Event = record { moment = c.args.moment; number = c.args.count + 1; happening = happenings.Record Underlay (record { original = c.record.inside.original; octets = c.record.inside.octets.now }) } in
+    (subst (λ (q : Record). PutsInOrder {T = Unit {0}} start new c.args.desk.now.number None o (record_event Underlay c.args.count c.args.moment q) (answer s (packet_at c.args.moment r.original r.octets)) c.take_came.result) (c.record.view_is ∙ same)
+    (subst (λ (x : Result Came Refused). PutsInOrder {T = Unit {0}} start new c.args.desk.now.number None o e (Decided (decided c.args.moment (aged c.args.moment s.bridges) x)) c.take_came.result) came (c.take_came.ensures.order start o at)))
 
 pub returns-clause-seen : goal.returns-clause-seen
 returns-clause-seen g c r told =

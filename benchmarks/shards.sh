@@ -1,7 +1,8 @@
 #!/usr/bin/env bash
 # How long a run takes as one, and cut by segments into 2 and into 4 shards side by side with the merge behind them, and how
-# long a shard takes to which nothing comes: that part doesn't shrink. 256 segments of 256 addresses, or SEGMENTS of
-# ADDRESSES. It is no test: time is promised nowhere.
+# long a shard takes to which nothing comes: that part doesn't shrink. The shards take the digests of their captures each by
+# itself, and once more all are lent the same. 256 segments of 256 addresses, or SEGMENTS of ADDRESSES. It is no test: time is
+# promised nowhere.
 #     benchmarks/shards.sh [SEGMENTS [ADDRESSES [ROUNDS]]]
 # TEP names another program than ./tep.
 set -eu
@@ -33,27 +34,38 @@ run "$folder/whole"
 took "one run" "$begun"
 
 begun=$(date +%s%N)
-run "$folder/nothing" --segments 4094
-took "a shard to which nothing comes" "$begun"
+"$tep" digest --underlay "$folder/underlay.pcap" "$folder/port1.pcap" "$folder/port2.pcap" >"$folder/digests.txt"
+took "the digests" "$begun"
 
-for shards in 2 4; do
+# shards [WORDS]: runs in shards with these words, and merges
+shards() {
     begun=$(date +%s%N)
-    parts=()
-    waits=()
-    for ((shard = 0; shard < shards; shard++)); do
-        first=$((segments * shard / shards + 1))
-        last=$((segments * (shard + 1) / shards))
-        # the last one also takes the VIDs without a segment, and what comes to none
-        [ $((shard + 1)) -lt "$shards" ] && list=$first-$last || list=$first-4094,none
-        parts+=("$folder/$shards.$shard")
-        run "$folder/$shards.$shard" --segments "$list" &
-        waits+=($!)
+    run "$folder/nothing" --segments 4094 "$@"
+    took "a shard to which nothing comes" "$begun"
+    for shards in 2 4; do
+        begun=$(date +%s%N)
+        parts=()
+        waits=()
+        for ((shard = 0; shard < shards; shard++)); do
+            first=$((segments * shard / shards + 1))
+            last=$((segments * (shard + 1) / shards))
+            # the last one also takes the VIDs without a segment, and what comes to none
+            [ $((shard + 1)) -lt "$shards" ] && list=$first-$last || list=$first-4094,none
+            parts+=("$folder/$shards.$shard")
+            run "$folder/$shards.$shard" --segments "$list" "$@" &
+            waits+=($!)
+        done
+        for process in "${waits[@]}"; do wait "$process"; done
+        took "$shards shards side by side" "$begun"
+        begun=$(date +%s%N)
+        mkdir -p "$folder/merged$shards"
+        "$tep" merge --out "$folder/merged$shards" "${parts[@]}"
+        took "their merge" "$begun"
+        diff -r "$folder/whole" "$folder/merged$shards" >"$folder/differences" || { head "$folder/differences"; exit 1; }
     done
-    for process in "${waits[@]}"; do wait "$process"; done
-    took "$shards shards side by side" "$begun"
-    begun=$(date +%s%N)
-    mkdir -p "$folder/merged$shards"
-    "$tep" merge --out "$folder/merged$shards" "${parts[@]}"
-    took "their merge" "$begun"
-    diff -r "$folder/whole" "$folder/merged$shards" >"$folder/differences" || { head "$folder/differences"; exit 1; }
-done
+}
+
+echo "digests of their own"
+shards
+echo "digests that are lent"
+shards --digests "$folder/digests.txt"

@@ -1,7 +1,7 @@
 #!/usr/bin/env bash
 # Runs of examples/ cut into parts by segments and put together again are the whole run, octet for octet: cut into each pair of
 # parts that has each segment in one of them, and one of them into each segment by itself. What isn't a whole run is refused,
-# and said in one line.
+# and said in one line. A part to which digests are lent is the part that takes them itself.
 set -u
 cd "$(dirname "$0")/.." || exit 1
 folder=$(mktemp -d)
@@ -156,7 +156,113 @@ head -c -1 "$folder/other/port2.pcap" | broken port2.pcap "p2 Missing"
 cat "$folder/other/port2.pcap" <(tail -c +25 "$folder/other/port2.pcap") | broken port2.pcap "p2 LeftOver"
 head -c 20 "$folder/other/underlay.pcap" | broken underlay.pcap "u NotPcap"
 
-# ---- lists of segments that are none, and captures that aren't files
+# ---- digests that are lent
+
+# digest_line NAME CAPTURE: the line of a capture by other programs
+digest_line() {
+    echo "capture $1 $(stat -c %s "$2") $(sha256sum <"$2" | cut -d ' ' -f 1)"
+}
+
+# digests FILE WORDS..: the digests of captures, into a file
+digests() {
+    local file=$folder/$1
+    shift
+    ./tep digest "$@" >"$file" 2>"$folder/stderr" || complain "tep digest $*: status $? and '$(cat "$folder/stderr")'"
+}
+
+# is_other: a part by lent digests has what the part by its own digests has, and nothing else
+is_other() {
+    diff -r "$folder/other" "$folder/lent" >"$folder/differences" || complain "$1: $(head -n 3 "$folder/differences")"
+    rm -rf "$folder/lent"
+}
+
+digests digests --underlay examples/underlay.pcap "${ports[@]}"
+{
+    echo "tep digests 1"
+    digest_line p1 examples/port1.pcap
+    digest_line p2 examples/port2.pcap
+    digest_line p3 examples/port3.pcap
+    digest_line u examples/underlay.pcap
+} | cmp -s - "$folder/digests" || complain "tep digest prints $(cat "$folder/digests")"
+digests again -u - "${ports[@]}" <examples/underlay.pcap
+cmp -s "$folder/digests" "$folder/again" || complain "tep digest of standard input prints $(cat "$folder/again")"
+lent=(--digests "$folder/digests")
+runs lent 16-4094,none "${lent[@]}" "${whole[@]}"
+is_other "a part by lent digests"
+
+# A pipe and standard input are read once, and so they are captures of a part to which digests are lent, and of no other.
+with_changes=(--settings examples/a.toml --changes examples/changes.toml)
+runs lent 16-4094,none "${lent[@]}" "${with_changes[@]}" --underlay - "${ports[@]}" <examples/underlay.pcap
+is_other "a part of standard input by lent digests"
+runs lent 16-4094,none "${lent[@]}" "${with_changes[@]}" --underlay examples/underlay.pcap <(cat examples/port1.pcap) "${ports[@]:1}"
+is_other "a part of a pipe by lent digests"
+runs lent 16-4094,none "${with_changes[@]}" --underlay /dev/stdin "${ports[@]}" <examples/underlay.pcap
+is_other "a part of /dev/stdin, which is opened anew"
+
+# Interfaces of a pcapng capture: parts by digests of their own and by lent ones are of one run, and the same.
+tests/pcapng.py "$folder/all.pcapng" eth0=examples/underlay.pcap eth1="${ports[0]}" eth2="${ports[1]}" eth3="${ports[2]}" || complain "no pcapng capture"
+all=$folder/all.pcapng
+interfaces=("$all#eth1" "$all#eth2" "$all#3")
+digests interfaces -u "$all#eth0" "${interfaces[@]}"
+rm -rf "$folder"/{whole,first,second}
+runs whole "" "${with_changes[@]}" -u "$all#eth0" "${interfaces[@]}"
+runs first 1-15 "${with_changes[@]}" -u "$all#eth0" "${interfaces[@]}"
+runs second 16-4094,none --digests "$folder/interfaces" "${with_changes[@]}" -u "$all#eth0" "${interfaces[@]}"
+is_whole first second
+runs lent 1-15 --digests "$folder/interfaces" "${with_changes[@]}" -u "$all#eth0" "${interfaces[@]}"
+diff -r "$folder/first" "$folder/lent" || complain "a part of interfaces by lent digests"
+
+# lends TEXT FAULT WORDS..: a part to which this text is lent is refused for this, and its shard.txt tells nothing
+lends() {
+    local text=$1 fault=$2 got
+    shift 2
+    rm -rf "$folder/lent"
+    cp -r "$folder/other" "$folder/lent"
+    (cd "$folder" && "$tep" run --out lent --segments 16-4094,none --digests "$text" "$@") >"$folder/stdout" 2>"$folder/stderr"
+    got=$?
+    [ "$got" -eq 1 ] || complain "$text is lent: status $got"
+    [ "$(cat "$folder/stderr")" = "$text: $fault" ] || complain "$text is lent: '$(cat "$folder/stderr")'"
+}
+
+# Words with whole paths, since a part that is refused runs in another folder.
+here=(--settings "$PWD/examples/a.toml" --changes "$PWD/examples/changes.toml")
+captures=(--underlay "$PWD/examples/underlay.pcap" "$PWD/examples/port1.pcap" "$PWD/examples/port2.pcap" "$PWD/examples/port3.pcap")
+
+# untouched: what stood in the folder of the part that was refused is still there
+untouched() {
+    diff -r "$folder/other" "$folder/lent" >"$folder/differences" || complain "$1: $(head -n 3 "$folder/differences")"
+}
+
+sed 1d "$folder/digests" >"$folder/headless"
+lends headless "the first line is not 'tep digests 1'" "${here[@]}" "${captures[@]}"
+untouched "a text without its first line"
+sed 's/^capture p2 [0-9]* /capture p2 /' "$folder/digests" >"$folder/unnumbered"
+lends unnumbered "the line of a capture is missing, out of place or has no number and digest" "${here[@]}" "${captures[@]}"
+untouched "a text without a number"
+{ cat "$folder/digests" && echo; } >"$folder/longer"
+lends longer "something stands behind the line of 'capture u'" "${here[@]}" "${captures[@]}"
+printf '\377' >"$folder/nothing"
+lends nothing "the first line is not 'tep digests 1'" "${here[@]}" "${captures[@]}"
+sed '/^capture p3/d' "$folder/digests" >"$folder/fewer"
+lends fewer "it has the digests of more or fewer ports" "${here[@]}" "${captures[@]}"
+untouched "digests of two ports"
+refused 3 "read nowhere" run --out out --segments 16-4094,none --digests nowhere "${here[@]}" "${captures[@]}"
+refused 2 "error: --digests lends digests to a part of a run, and there is no --segments" run --out out --digests digests "${here[@]}" "${captures[@]}"
+
+# A capture with an octet more than when its digest was taken.
+{ cat examples/port2.pcap && printf x; } >"$folder/more.pcap"
+longer=("${captures[@]}")
+longer[3]=$folder/more.pcap
+lends digests "it tells another number of octets of capture p2" "${here[@]}" "${longer[@]}"
+[ -e "$folder/lent/shard.txt" ] && [ ! -s "$folder/lent/shard.txt" ] || complain "the shard.txt of a part that was refused tells $(cat "$folder/lent/shard.txt")"
+rm -rf "$folder/lent"
+
+# The digest of another capture with as many octets isn't noticed by the run, but by the merge with a part that took its own.
+sed "s/^\(capture p2 [0-9]*\) .*/\1 $(sha256sum </dev/null | cut -d ' ' -f 1)/" "$folder/digests" >"$folder/others"
+runs lent 16-4094,none --digests "$folder/others" "${whole[@]}"
+refused 1 "part lent: it was made from another capture p2 than the first part" merge --out out one lent
+
+# ---- lists of segments that are none, and captures that can be read only once
 
 for list in "1,,2|an item of the list is empty" "0|an item of the list is no VID of 1 to 4094, no range of them and not 'none'" \
     "9-3|a range of the list ends below its begin" "1-3,2|two items of the list ask for the same"; do
@@ -168,6 +274,9 @@ done
 mkfifo "$folder/pipe"
 ./tep run --out "$folder/out" --segments 10 "${a[@]}" "$folder/pipe" examples/port2.pcap examples/port3.pcap 2>"$folder/stderr"
 [ $? -eq 1 ] || complain "a part is made of a pipe"
-[ "$(cat "$folder/stderr")" = "$folder/pipe is no regular file, and a part is made of no other" ] || complain "$(cat "$folder/stderr")"
+[ "$(cat "$folder/stderr")" = "$folder/pipe can be read only once, and without --digests a part reads its captures twice" ] || complain "$(cat "$folder/stderr")"
+./tep run --out "$folder/out" --segments 10 --settings examples/a.toml --underlay - "${ports[@]}" <examples/underlay.pcap 2>"$folder/stderr"
+[ $? -eq 1 ] || complain "a part without digests is made of standard input"
+[ "$(cat "$folder/stderr")" = "- can be read only once, and without --digests a part reads its captures twice" ] || complain "$(cat "$folder/stderr")"
 
 [ "$failures" -eq 0 ]

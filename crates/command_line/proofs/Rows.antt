@@ -3,7 +3,7 @@ use Rattle.std.proofs.Common.{◌≡◌, refl, codes, [], ◌∷◌, Some, None,
 use Rattle.clap.specs.Words.{takes}
 use Rattle.clap.proofs.OnLiterals.{clap_on_literals}
 use Rattle.command_line.specs.App.{tep_app}
-use Rattle.command_line.specs.Meaning.{sample, check, run, explain, migrate, merge, words_meant}
+use Rattle.command_line.specs.Meaning.{sample, check, run, explain, migrate, digest, merge, words_meant}
 
 no_words : words_meant (codes "tep" ∷ []) ≡ Some sample
 unfolding clap_on_literals
@@ -20,24 +20,29 @@ unfolding clap_on_literals
 a_check_of_captures = refl
 
 a_run : words_meant (codes "tep" ∷ codes "run" ∷ codes "--settings" ∷ codes "s" ∷ codes "--underlay" ∷ codes "u" ∷ codes "--out" ∷ codes "d" ∷ codes "p1" ∷ codes "p2" ∷ [])
-    ≡ Some (run (codes "s") None (codes "u") (codes "d") (codes "p1" ∷ codes "p2" ∷ []) false None [] false None)
+    ≡ Some (run (codes "s") None (codes "u") (codes "d") (codes "p1" ∷ codes "p2" ∷ []) false None [] false None None)
 unfolding clap_on_literals
 a_run = refl
 
 a_run_that_tells : words_meant (codes "tep" ∷ codes "run" ∷ codes "-ss" ∷ codes "-uu" ∷ codes "-od" ∷ codes "p1" ∷ codes "--tables" ∷ codes "--tables-at=70" ∷ codes "--why" ∷ codes "7" ∷ codes "--why" ∷ codes "u:1" ∷ [])
-    ≡ Some (run (codes "s") None (codes "u") (codes "d") (codes "p1" ∷ []) true (Some 70) (codes "7" ∷ codes "u:1" ∷ []) false None)
+    ≡ Some (run (codes "s") None (codes "u") (codes "d") (codes "p1" ∷ []) true (Some 70) (codes "7" ∷ codes "u:1" ∷ []) false None None)
 unfolding clap_on_literals
 a_run_that_tells = refl
 
 a_run_that_counts : words_meant (codes "tep" ∷ codes "run" ∷ codes "-ss" ∷ codes "-uu" ∷ codes "-od" ∷ codes "--summary" ∷ codes "p1" ∷ [])
-    ≡ Some (run (codes "s") None (codes "u") (codes "d") (codes "p1" ∷ []) false None [] true None)
+    ≡ Some (run (codes "s") None (codes "u") (codes "d") (codes "p1" ∷ []) false None [] true None None)
 unfolding clap_on_literals
 a_run_that_counts = refl
 
 a_part_of_a_run : words_meant (codes "tep" ∷ codes "run" ∷ codes "-ss" ∷ codes "-uu" ∷ codes "-od" ∷ codes "--segments" ∷ codes "1-3,none" ∷ codes "p1" ∷ [])
-    ≡ Some (run (codes "s") None (codes "u") (codes "d") (codes "p1" ∷ []) false None [] false (Some (codes "1-3,none")))
+    ≡ Some (run (codes "s") None (codes "u") (codes "d") (codes "p1" ∷ []) false None [] false (Some (codes "1-3,none")) None)
 unfolding clap_on_literals
 a_part_of_a_run = refl
+
+a_part_with_digests : words_meant (codes "tep" ∷ codes "run" ∷ codes "-ss" ∷ codes "-uu" ∷ codes "-od" ∷ codes "--digests=f" ∷ codes "--segments" ∷ codes "7" ∷ codes "p1" ∷ [])
+    ≡ Some (run (codes "s") None (codes "u") (codes "d") (codes "p1" ∷ []) false None [] false (Some (codes "7")) (Some (codes "f")))
+unfolding clap_on_literals
+a_part_with_digests = refl
 
 a_run_without_ports_is_refused : takes tep_app (codes "tep" ∷ codes "run" ∷ codes "--settings" ∷ codes "s" ∷ codes "--underlay" ∷ codes "u" ∷ codes "--out" ∷ codes "d" ∷ []) ≡ false
 unfolding clap_on_literals
@@ -58,6 +63,10 @@ a_depth_of_five_is_refused = refl
 a_migration : words_meant (codes "tep" ∷ codes "migrate" ∷ codes "-s" ∷ codes "s" ∷ []) ≡ Some (migrate (codes "s"))
 unfolding clap_on_literals
 a_migration = refl
+
+some_digests : words_meant (codes "tep" ∷ codes "digest" ∷ codes "-u" ∷ codes "u" ∷ codes "p1" ∷ codes "p2" ∷ []) ≡ Some (digest (codes "u") (codes "p1" ∷ codes "p2" ∷ []))
+unfolding clap_on_literals
+some_digests = refl
 
 a_merge : words_meant (codes "tep" ∷ codes "merge" ∷ codes "-o" ∷ codes "d" ∷ codes "s1" ∷ codes "s2" ∷ []) ≡ Some (merge (codes "d") (codes "s1" ∷ codes "s2" ∷ []))
 unfolding clap_on_literals

@@ -51,3 +51,4 @@ explained_by a words m fault.OutOfMemory is has none lacks = tt
 explained_by a words m (fault.Refused e) is has none lacks = absurd lacks
 explained_by a words m fault.NoValue is has none lacks = (taken_by a words is none, meant_by a words m None is has lacks)
 explained_by a words m fault.InputTwice is has none lacks = absurd lacks
+explained_by a words m fault.NoSegments is has none lacks = absurd lacks

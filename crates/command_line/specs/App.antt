@@ -109,6 +109,15 @@ segments_rule = record (new_rule (codes "segments")) {
   parser = Some parser.NonEmptyString;
 }
 
+-- `--digests FILE`
+abbrev pub digests_rule : Rule
+digests_rule = record (new_rule (codes "digests")) {
+  long = Some (codes "digests");
+  value_names = 1;
+  action = Some Set;
+  parser = Some parser.NonEmptyString;
+}
+
 -- one folder of a part or more
 abbrev pub shards_rule : Rule
 shards_rule = record (new_rule (codes "shards")) {
@@ -160,9 +169,9 @@ run_captures_app = with_rule (with_rule (with_rule run_settings_app underlay_rul
 abbrev pub run_tables_app : App
 run_tables_app = with_rule (with_rule (with_rule run_captures_app tables_rule) tables_at_rule) why_rule
 
--- `run` with its counts, and the segments that a part of it takes
+-- `run` with its counts, and the segments and the digests that a part of it takes
 abbrev pub run_app : App
-run_app = with_rule (with_rule run_tables_app summary_rule) segments_rule
+run_app = with_rule (with_rule (with_rule run_tables_app summary_rule) segments_rule) digests_rule
 
 -- what `clap` keeps of `run`
 abbrev pub run_shape : Shape
@@ -200,6 +209,14 @@ migrate_app = with_rule (new_app (codes "migrate")) settings_rule
 abbrev pub migrate_shape : Shape
 migrate_shape = migrate_app.top
 
+-- `digest` with the captures that it reads
+abbrev pub digest_app : App
+digest_app = with_rule (with_rule (new_app (codes "digest")) underlay_rule) ports_rule
+
+-- what `clap` keeps of `digest`
+abbrev pub digest_shape : Shape
+digest_shape = digest_app.top
+
 -- `merge` with the folder that it writes into and those of the parts
 abbrev pub merge_app : App
 merge_app = with_rule (with_rule (new_app (codes "merge")) out_rule) shards_rule
@@ -228,6 +245,10 @@ run_check_and_explain_app = with_subcommand run_and_check_app explain_shape
 abbrev pub run_to_migrate_app : App
 run_to_migrate_app = with_subcommand run_check_and_explain_app migrate_shape
 
+-- the program with its first five subcommands
+abbrev pub run_to_digest_app : App
+run_to_digest_app = with_subcommand run_to_migrate_app digest_shape
+
 -- the program with its subcommands
 abbrev pub tep_app : App
-tep_app = with_subcommand run_to_migrate_app merge_shape
+tep_app = with_subcommand run_to_digest_app merge_shape

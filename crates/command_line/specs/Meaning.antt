@@ -1,5 +1,5 @@
 -- What a command line means: the program's own words, after clap's definition of simple commands. It states no standard.
-use Rattle.std.specs.Prelude.{◌≡◌, ◌≤◌, ℕ, ◌&&◌, nat_le, ◌^◌, ◌-◌, Bool, List, Option, Some, None, IsSomeAnd, codes, count_by, option_and_then, option_map, unwrap_or, if◌then◌else◌, ⊤, false, [], ◌∷◌}
+use Rattle.std.specs.Prelude.{◌≡◌, ◌≤◌, ℕ, ◌&&◌, not, is_some, nat_le, ◌^◌, ◌-◌, Bool, List, Option, Some, None, IsSomeAnd, codes, count_by, option_and_then, option_map, unwrap_or, if◌then◌else◌, ⊤, true, false, [], ◌∷◌}
 use Rattle.std.specs.Str.{bytes_eq}
 use Rattle.std.specs.Str.Parse.{digits_value, without_leading_plus}
 use Rattle.clap.specs.ValueTests.{is_unsigned_in}
@@ -13,35 +13,38 @@ use Rattle.command_line.specs.declared.line.LineFault.{LineFault}
 use Rattle.command_line.specs.declared.line.LineFault.TheVariants as fault
 
 -- a command with its values: of `run` the settings, the changes, the underlay, the folder, the ports, whether the tables are
--- told, the moment at which they are, the events that are told in full, whether the counts are told, and the segments that a
--- part takes; of `check` the settings, the changes, the underlay and the ports; of `explain` the settings, the depth, whether
--- values are told, and the capture; of `migrate` the settings; of `merge` the folder, and those of the parts
+-- told, the moment at which they are, the events that are told in full, whether the counts are told, the segments that a
+-- part takes, and the file of the digests that are lent to it; of `check` the settings, the changes, the underlay and the ports; of `explain` the settings, the depth, whether
+-- values are told, and the capture; of `migrate` the settings; of `digest` the underlay and the ports; of `merge` the folder, and those of the parts
 pub data Meaning : Type 0 where
   sample : Meaning
-  run : Text → Option Text → Text → Text → List Text → Bool → Option ℕ → List Text → Bool → Option Text → Meaning
+  run : Text → Option Text → Text → Text → List Text → Bool → Option ℕ → List Text → Bool → Option Text → Option Text → Meaning
   check : Text → Option Text → Option Text → List Text → Meaning
   explain : Text → ℕ → Bool → Text → Meaning
   migrate : Text → Meaning
+  digest : Text → List Text → Meaning
   merge : Text → List Text → Meaning
 
 -- what a command line is as such a meaning
 abbrev pub meaning_of : Line → Meaning
 meaning_of line.Sample = sample
-meaning_of (line.Run settings changes underlay out ports tables tables_at why summary segments) =
-    run settings.now (option_map (λ t. t.now) changes) underlay.now out.now (texts ports.items) tables tables_at (texts why.items) summary (option_map (λ t. t.now) segments)
+meaning_of (line.Run settings changes underlay out ports tables tables_at why summary segments digests) =
+    run settings.now (option_map (λ t. t.now) changes) underlay.now out.now (texts ports.items) tables tables_at (texts why.items) summary (option_map (λ t. t.now) segments) (option_map (λ t. t.now) digests)
 meaning_of (line.Check settings changes underlay ports) =
     check settings.now (option_map (λ t. t.now) changes) (option_map (λ t. t.now) underlay) (texts ports.items)
 meaning_of (line.Explain settings depth values capture) = explain settings.now depth values capture.now
 meaning_of (line.Migrate settings) = migrate settings.now
+meaning_of (line.Digest underlay ports) = digest underlay.now (texts ports.items)
 meaning_of (line.Merge out shards) = merge out.now (texts shards.items)
 
 -- a depth is 1 to 4
 abbrev pub HasDepth : Line → Type 0
 HasDepth line.Sample = ⊤
-HasDepth (line.Run settings changes underlay out ports tables tables_at why summary segments) = ⊤
+HasDepth (line.Run settings changes underlay out ports tables tables_at why summary segments digests) = ⊤
 HasDepth (line.Check settings changes underlay ports) = ⊤
 HasDepth (line.Explain settings depth values capture) = (1 ≤ depth) × (depth ≤ 4)
 HasDepth (line.Migrate settings) = ⊤
+HasDepth (line.Digest underlay ports) = ⊤
 HasDepth (line.Merge out shards) = ⊤
 
 -- ---- what matches mean: nothing, where a required value is missing
@@ -94,7 +97,7 @@ why_in rows = unwrap_or (all_of (codes "why") rows) []
 -- what `run` is asked to do
 abbrev pub run_meant : List Row → Option Meaning
 run_meant rows = option_and_then (λ s. option_and_then (λ u. option_and_then (λ o.
-    option_map (λ ps. run s (changes_in rows) u o ps (is_set (codes "tables") rows) (moment_in rows) (why_in rows) (is_set (codes "summary") rows) (first_of (codes "segments") rows)) (all_of (codes "ports") rows))
+    option_map (λ ps. run s (changes_in rows) u o ps (is_set (codes "tables") rows) (moment_in rows) (why_in rows) (is_set (codes "summary") rows) (first_of (codes "segments") rows) (first_of (codes "digests") rows)) (all_of (codes "ports") rows))
     (first_of (codes "out") rows)) (first_of (codes "underlay") rows)) (settings_in rows)
 
 -- what `check` is asked to do
@@ -110,6 +113,10 @@ explain_meant rows = option_and_then (λ s. option_and_then (λ c. option_map (�
 abbrev pub migrate_meant : List Row → Option Meaning
 migrate_meant rows = option_map (λ s. migrate s) (settings_in rows)
 
+-- what `digest` is asked to do
+abbrev pub digest_meant : List Row → Option Meaning
+digest_meant rows = option_and_then (λ u. option_map (λ ps. digest u ps) (all_of (codes "ports") rows)) (first_of (codes "underlay") rows)
+
 -- what `merge` is asked to do
 abbrev pub merge_meant : List Row → Option Meaning
 merge_meant rows = option_and_then (λ o. option_map (λ ps. merge o ps) (all_of (codes "shards") rows)) (first_of (codes "out") rows)
@@ -121,7 +128,8 @@ command_meant name rows =
     else (if bytes_eq name (codes "check") then check_meant rows
     else (if bytes_eq name (codes "explain") then explain_meant rows
     else (if bytes_eq name (codes "migrate") then migrate_meant rows
-    else (if bytes_eq name (codes "merge") then merge_meant rows else None))))
+    else (if bytes_eq name (codes "digest") then digest_meant rows
+    else (if bytes_eq name (codes "merge") then merge_meant rows else None)))))
 
 -- what a parse means that met this subcommand with these matches, or none
 abbrev pub line_meant : Option (Text × List Row) → Option Meaning
@@ -141,26 +149,40 @@ inputs_among names = count_by (λ name. bytes_eq (file_of name) (codes "-")) nam
 -- how many captures are standard input; texts are files, whatever their names
 abbrev pub input_uses : Meaning → ℕ
 input_uses sample = 0
-input_uses (run settings changes underlay out ports tables tables_at why summary segments) = inputs_among (underlay ∷ ports)
+input_uses (run settings changes underlay out ports tables tables_at why summary segments digests) = inputs_among (underlay ∷ ports)
 input_uses (check settings changes None ports) = inputs_among ports
 input_uses (check settings changes (Some underlay) ports) = inputs_among (underlay ∷ ports)
 input_uses (explain settings depth values capture) = inputs_among (capture ∷ [])
 input_uses (migrate settings) = 0
+input_uses (digest underlay ports) = inputs_among (underlay ∷ ports)
 input_uses (merge out shards) = 0
 
 -- it is read once at most
 abbrev pub ReadsInputOnce : Meaning → Type 0
 ReadsInputOnce meaning = input_uses meaning ≤ 1
 
+-- ---- digests that are lent
+
+-- digests are lent to a run that is no part
+abbrev pub lends_to_a_whole : Meaning → Bool
+lends_to_a_whole (run settings changes underlay out ports tables tables_at why summary segments digests) = is_some digests && not (is_some segments)
+lends_to_a_whole _ = false
+
+-- digests are lent to nothing but a part
+abbrev pub LendsToParts : Meaning → Type 0
+LendsToParts meaning = lends_to_a_whole meaning ≡ false
+
 -- ---- when each fault is answered
 
 -- Refused where that definition doesn't take the words, NoValue where it takes them and its matches lack a required
--- value, InputTwice where it takes them and they ask for standard input more than once
+-- value, InputTwice where it takes them and they ask for standard input more than once, NoSegments where it takes them and they
+-- lend digests to a run that is no part
 abbrev pub Explains : List Text → LineFault → Type 0
 Explains words fault.OutOfMemory = ⊤
 Explains words (fault.Refused e) = (takes tep_app words ≡ false) × IsAmong (kind_of e) (fault_of tep_app words)
 Explains words fault.NoValue = (fault_of tep_app words ≡ []) × (words_meant words ≡ None)
 Explains words fault.InputTwice = (fault_of tep_app words ≡ []) × IsSomeAnd (words_meant words) (λ meaning. 2 ≤ input_uses meaning)
+Explains words fault.NoSegments = (fault_of tep_app words ≡ []) × IsSomeAnd (words_meant words) (λ meaning. lends_to_a_whole meaning ≡ true)
 
 -- the same of the part behind the parse, which refuses nothing
 abbrev pub LacksValue : Option Meaning → LineFault → Type 0
@@ -168,3 +190,4 @@ LacksValue meant fault.OutOfMemory = ⊤
 LacksValue meant (fault.Refused e) = ⊥
 LacksValue meant fault.NoValue = meant ≡ None
 LacksValue meant fault.InputTwice = ⊥
+LacksValue meant fault.NoSegments = ⊥

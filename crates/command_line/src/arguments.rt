@@ -1,7 +1,7 @@
 //! The arguments of the program's commands, as `clap` is told of them.
 ghost use Rattle.std.specs.Prelude.{◌≡◌, false};
 ghost use Rattle.clap.specs.Words.{rule_of};
-ghost use Rattle.command_line.specs.App.{settings_rule, changes_rule, underlay_rule, seen_underlay_rule, out_rule, ports_rule, seen_ports_rule, tables_rule, tables_at_rule, why_rule, summary_rule, segments_rule, shards_rule, depth_rule, values_rule, capture_rule};
+ghost use Rattle.command_line.specs.App.{settings_rule, changes_rule, underlay_rule, seen_underlay_rule, out_rule, ports_rule, seen_ports_rule, tables_rule, tables_at_rule, why_rule, summary_rule, segments_rule, digests_rule, shards_rule, depth_rule, values_rule, capture_rule};
 
 use clap::builder::ValueParser;
 use clap::{Arg, ArgAction, value_parser};
@@ -173,6 +173,19 @@ pub(crate) fn segments<'a>(alloc: Global) -> Arg<'a>
         )
         .long("segments")
         .value_name("LIST")
+        .action(ArgAction::Set)
+        .value_parser(ValueParser::NonEmptyString)
+}
+
+/// The digests that are lent to a part of a run.
+pub(crate) fn digests<'a>(alloc: Global) -> Arg<'a>
+    ensures rule { rule_of result ≡ digests_rule }
+    ensures local { result.global ≡ false }
+{
+    Arg::new(alloc, "digests")
+        .help("The digests of the captures, as 'tep digest' prints them, for a part of a run")
+        .long("digests")
+        .value_name(FILE)
         .action(ArgAction::Set)
         .value_parser(ValueParser::NonEmptyString)
 }

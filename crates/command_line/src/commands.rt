@@ -2,11 +2,11 @@
 ghost use Rattle.std.specs.Prelude.{◌≡◌, IfOk, false};
 ghost use Rattle.clap.specs.Words.{app_of, new_app, rule_of, shape_of, with_rule};
 ghost use Rattle.clap.specs.declared.builder.Command.TheViews.{out-Command as fields_of};
-ghost use Rattle.command_line.specs.App.{check_shape, check_texts_app, explain_depth_app, explain_shape, merge_shape, migrate_shape, run_and_check_app, run_check_and_explain_app, run_captures_app, run_settings_app, run_shape, run_tables_app, run_to_migrate_app, tep_app, versioned_app, with_run_app};
+ghost use Rattle.command_line.specs.App.{check_shape, check_texts_app, digest_shape, explain_depth_app, explain_shape, merge_shape, migrate_shape, run_and_check_app, run_check_and_explain_app, run_captures_app, run_settings_app, run_shape, run_tables_app, run_to_digest_app, run_to_migrate_app, tep_app, versioned_app, with_run_app};
 
 use crate::arguments::{
-    capture, changes, depth, out, ports, seen_ports, seen_underlay, segments, settings, shards,
-    summary, tables, tables_at, underlay, values, why,
+    capture, changes, depth, digests, out, ports, seen_ports, seen_underlay, segments, settings,
+    shards, summary, tables, tables_at, underlay, values, why,
 };
 use clap::{Arg, Command};
 use std::alloc::{AllocError, Global};
@@ -39,6 +39,11 @@ fn explain_example<'a>() -> &'a str {
 /// What stands below the help of `migrate`.
 fn migrate_example<'a>() -> &'a str {
     "Example:\n  tep migrate -s settings.toml >migrated.toml"
+}
+
+/// What stands below the help of `digest`.
+fn digest_example<'a>() -> &'a str {
+    "Captures are pcap or pcapng. FILE#INTERFACE takes one interface of a pcapng capture, by number or name.\n\nExample:\n  tep digest -u underlay.pcap port1.pcap port2.pcap >digests.txt\n  tep run -s settings.toml -u underlay.pcap -o part1 --segments 1-10,none --digests digests.txt port1.pcap port2.pcap"
 }
 
 /// What stands below the help of `merge`.
@@ -104,7 +109,8 @@ fn run<'a>(alloc: Global) -> Result<Command<'a>, AllocError>
     ensures local { IfOk result (λ c. (fields_of c).has_globals ≡ false) }
 {
     let command = taking(run_tables(alloc)?, summary(alloc))?;
-    taking(command, segments(alloc))
+    let command = taking(command, segments(alloc))?;
+    taking(command, digests(alloc))
 }
 
 /// The first two options of `check`.
@@ -169,6 +175,21 @@ fn migrate<'a>(alloc: Global) -> Result<Command<'a>, AllocError>
     taking(command, settings(alloc))
 }
 
+/// `digest`.
+fn digest<'a>(alloc: Global) -> Result<Command<'a>, AllocError>
+    ensures shape { IfOk result (λ c. shape_of c ≡ digest_shape) }
+    ensures local { IfOk result (λ c. (fields_of c).has_globals ≡ false) }
+{
+    let command = named(
+        alloc,
+        "digest",
+        "Prints the digests of captures, to lend them to the parts of a run",
+        digest_example(),
+    );
+    let command = taking(command, underlay(alloc))?;
+    taking(command, ports(alloc))
+}
+
 /// `merge`.
 fn merge<'a>(alloc: Global) -> Result<Command<'a>, AllocError>
     ensures shape { IfOk result (λ c. shape_of c ≡ merge_shape) }
@@ -228,9 +249,17 @@ fn run_to_migrate<'a>(alloc: Global) -> Result<Command<'a>, AllocError>
     run_check_and_explain(alloc)?.subcommand(migrate(alloc)?)
 }
 
+/// The program with its first five commands.
+fn run_to_digest<'a>(alloc: Global) -> Result<Command<'a>, AllocError>
+    ensures app { IfOk result (λ c. app_of c ≡ run_to_digest_app) }
+    ensures local { IfOk result (λ c. (fields_of c).has_globals ≡ false) }
+{
+    run_to_migrate(alloc)?.subcommand(digest(alloc)?)
+}
+
 /// The whole program.
 pub(crate) fn tep<'a>(alloc: Global) -> Result<Command<'a>, AllocError>
     ensures { IfOk result (λ c. app_of c ≡ tep_app) }
 {
-    run_to_migrate(alloc)?.subcommand(merge(alloc)?)
+    run_to_digest(alloc)?.subcommand(merge(alloc)?)
 }

@@ -3,7 +3,7 @@ ghost use Rattle.std.specs.Prelude.{◌≡◌, ◌≤◌, IfOk, IfErr, OnOk, Som
 ghost use Rattle.clap.specs.Walk.{texts};
 ghost use Rattle.clap.specs.Words.{fault_of};
 ghost use Rattle.command_line.specs.App.{tep_app};
-ghost use Rattle.command_line.specs.Meaning.{Explains, HasDepth, ReadsInputOnce, input_uses, inputs_among, meaning_of, words_meant};
+ghost use Rattle.command_line.specs.Meaning.{Explains, HasDepth, LendsToParts, ReadsInputOnce, input_uses, inputs_among, lends_to_a_whole, meaning_of, words_meant};
 
 use crate::capture::{STANDARD_INPUT, capture_name};
 use crate::commands;
@@ -40,6 +40,8 @@ pub enum Line<'a> {
         summary: bool,
         /// The segments that are run, where they are a part of the run.
         segments: Option<&'a str>,
+        /// The file of the digests that are lent to the part, where they are; there are segments then.
+        digests: Option<&'a str>,
     },
     /// A look at the texts, and at the captures that are named.
     Check {
@@ -68,6 +70,13 @@ pub enum Line<'a> {
         /// The settings text's file.
         settings: &'a str,
     },
+    /// The digests of captures.
+    Digest {
+        /// The capture of the underlay.
+        underlay: &'a str,
+        /// The captures of port 1, port 2 and so on: one at least.
+        ports: Vec<&'a str>,
+    },
     /// The parts of a run made the whole run.
     Merge {
         /// The folder that outputs are written into.
@@ -92,6 +101,9 @@ pub enum LineFault {
     /// More captures than one are standard input.
     #[error("error: standard input '-' can be one capture only")]
     InputTwice,
+    /// Digests are lent to a run that is no part.
+    #[error("error: --digests lends digests to a part of a run, and there is no --segments")]
+    NoSegments,
 }
 
 /// Reads all words, the program's name first.
@@ -99,6 +111,7 @@ pub fn line_of<'a>(alloc: Global, words: &'a [&'a str]) -> Result<Line<'a>, Line
     ensures ok { IfOk result (λ line. words_meant (texts words.entry.now) ≡ Some (meaning_of line)) }
     ensures depth { IfOk result HasDepth }
     ensures once { IfOk result (λ line. ReadsInputOnce (meaning_of line)) }
+    ensures lends { IfOk result (λ line. LendsToParts (meaning_of line)) }
     ensures taken { OnOk result (fault_of tep_app (texts words.entry.now) ≡ []) }
     ensures fault { IfErr result (Explains (texts words.entry.now)) }
 {
@@ -113,6 +126,9 @@ pub fn line_of<'a>(alloc: Global, words: &'a [&'a str]) -> Result<Line<'a>, Line
             };
             if input_uses(&line) > 1 {
                 return Err(LineFault::InputTwice);
+            }
+            if lends_to_a_whole(&line) {
+                return Err(LineFault::NoSegments);
             }
             return Ok(line);
         }
@@ -133,7 +149,10 @@ fn input_uses(line: &Line<'_>) -> usize
             underlay,
             ports,
             ..
-        } => inputs_among(&[*underlay]) + inputs_among(ports.as_slice()),
+        }
+        | Line::Digest { underlay, ports } => {
+            inputs_among(&[*underlay]) + inputs_among(ports.as_slice())
+        }
         Line::Check {
             underlay: Some(underlay),
             ports,
@@ -142,6 +161,20 @@ fn input_uses(line: &Line<'_>) -> usize
         Line::Check { ports, .. } => inputs_among(ports.as_slice()),
         Line::Explain { capture, .. } => inputs_among(&[*capture]),
         Line::Sample | Line::Migrate { .. } | Line::Merge { .. } => 0,
+    }
+}
+
+/// Whether a line lends digests to a run that is no part.
+fn lends_to_a_whole(line: &Line<'_>) -> bool
+    ensures { result ≡ lends_to_a_whole (meaning_of line.now) }
+{
+    match line {
+        Line::Run {
+            segments,
+            digests,
+            ..
+        } => digests.is_some() && segments.is_none(),
+        _ => false,
     }
 }
 

@@ -2,7 +2,7 @@
 ghost use Rattle.std.specs.Prelude.{◌≡◌, ◌≤◌, IfOk, IfErr, IfSome, Some, option_and_then, option_map};
 ghost use Rattle.clap.specs.Words.{all_of, first_of, found_of, rows_of, subcommand_rows_of};
 ghost use Rattle.clap.specs.Walk.{texts};
-ghost use Rattle.command_line.specs.Meaning.{HasDepth, LacksValue, check_meant, depth_in, explain_meant, is_set, line_meant, meaning_of, merge_meant, migrate_meant, moment_in, run_meant, small_depth};
+ghost use Rattle.command_line.specs.Meaning.{HasDepth, LacksValue, check_meant, depth_in, digest_meant, explain_meant, is_set, line_meant, meaning_of, merge_meant, migrate_meant, moment_in, run_meant, small_depth};
 
 use crate::line::{Line, LineFault};
 use clap::ArgMatches;
@@ -22,6 +22,7 @@ pub(crate) fn line_from<'a>(alloc: Global, matches: &ArgMatches<'a>) -> Result<L
         "check" => check_from(alloc, inner),
         "explain" => explain_from(inner),
         "migrate" => migrate_from(inner),
+        "digest" => digest_from(alloc, inner),
         "merge" => merge_from(alloc, inner),
         _ => Err(LineFault::NoValue),
     }
@@ -102,6 +103,7 @@ fn run_from<'a>(alloc: Global, inner: &ArgMatches<'a>) -> Result<Line<'a>, LineF
         why,
         summary: is_set(inner, "summary"),
         segments: text(inner, "segments"),
+        digests: text(inner, "digests"),
     })
 }
 
@@ -151,6 +153,20 @@ fn migrate_from<'a>(inner: &ArgMatches<'a>) -> Result<Line<'a>, LineFault>
 {
     let settings = text(inner, "settings").ok_or(LineFault::NoValue)?;
     Ok(Line::Migrate { settings })
+}
+
+/// The line that asks for digests of captures.
+fn digest_from<'a>(alloc: Global, inner: &ArgMatches<'a>) -> Result<Line<'a>, LineFault>
+    ensures ok { IfOk result (λ line. digest_meant (rows_of (found_of inner.now)) ≡ Some (meaning_of line)) }
+    ensures depth { IfOk result HasDepth }
+    ensures fault { IfErr result (LacksValue (digest_meant (rows_of (found_of inner.now)))) }
+{
+    let underlay = text(inner, "underlay").ok_or(LineFault::NoValue)?;
+    let given = values(inner, "ports").ok_or(LineFault::NoValue)?;
+    let Ok(ports) = Vec::from_slice(alloc, given) else {
+        return Err(LineFault::OutOfMemory);
+    };
+    Ok(Line::Digest { underlay, ports })
 }
 
 /// The line that asks for parts made whole.

@@ -22,7 +22,8 @@ stream_status_of (streams.Run fault) = status_of fault
 stream_status_of (streams.Read tap) = 3
 stream_status_of (streams.Write target) = 3
 
--- of what the program gives up for: 1 for a text, a capture or a part that is refused or an event that isn't there, 3 for want of memory, a failed read or a failed write
+-- of what the program gives up for: 1 for a text, a capture, a part or digests that are refused or an event that isn't there,
+-- 3 for want of memory, a failed read or a failed write
 abbrev pub failure_status_of : Failure → ℕ
 failure_status_of (failures.Run fault) = status_of fault
 failure_status_of (failures.Pcapng tap fault) = 1
@@ -30,6 +31,7 @@ failure_status_of (failures.Read name) = 3
 failure_status_of (failures.Write output) = 3
 failure_status_of (failures.NoEvent name) = 1
 failure_status_of (failures.Segments fault) = 1
-failure_status_of (failures.NotFile name) = 1
+failure_status_of (failures.ReadOnce name) = 1
+failure_status_of (failures.Digests name fault) = 1
 failure_status_of (failures.Shard folder fault) = 1
 failure_status_of (failures.Parting fault) = 1

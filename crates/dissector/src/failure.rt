@@ -8,7 +8,7 @@ use capture_run::RunFault;
 use pcapng_input::PcapngFault;
 use segment_set::ListFault;
 use shard_merge::PartFault;
-use shard_record::{Difference, PartingFault, ShardFault};
+use shard_record::{Difference, DigestsFault, LentFault, PartingFault, ShardFault};
 use std::alloc::AllocError;
 use std::fmt;
 use stream_run::{StreamFault, Target};
@@ -36,15 +36,30 @@ pub enum Failure<'a> {
     /// The list of the segments of a part is refused.
     #[error("segments: {0}")]
     Segments(ListFault),
-    /// The capture of this name is no regular file, of which alone a part is made: it is read twice.
-    #[error("{0} is no regular file, and a part is made of no other")]
-    NotFile(&'a str),
+    /// The capture of this name is standard input or no regular file, and a part that no digests are lent to reads its captures
+    /// twice.
+    #[error("{0} can be read only once, and without --digests a part reads its captures twice")]
+    ReadOnce(&'a str),
+    /// The text of this file doesn't lend a part its digests.
+    #[error("{0}: {1}")]
+    Digests(&'a str, DigestsFailure),
     /// The part in this folder is wrong.
     #[error("part {0}: {1}")]
     Shard(&'a str, ShardFailure),
     /// Parts aren't a whole run.
     #[error("{0}")]
     Parting(PartingFault),
+}
+
+/// Why a text doesn't lend a part its digests.
+#[derive(Debug, Drop, Error)]
+pub enum DigestsFailure {
+    /// It is no text of digests.
+    #[error("{0}")]
+    Text(DigestsFault),
+    /// They are of other captures.
+    #[error("{0}")]
+    Other(LentFault),
 }
 
 /// What is wrong with a part of a run.
@@ -121,7 +136,8 @@ impl<'a> Failure<'a> {
         }
     }
 
-    /// The exit status: 1 for a text, a capture or a part that is refused or an event that isn't there, 3 for want of memory, a failed read or a failed write.
+    /// The exit status: 1 for a text, a capture, a part or digests that are refused or an event that isn't there, 3 for want of
+    /// memory, a failed read or a failed write.
     pub fn status(&self) -> u8
         ensures { result ≡ failure_status_of self.now }
     {
@@ -130,7 +146,8 @@ impl<'a> Failure<'a> {
             Failure::Pcapng(..)
             | Failure::NoEvent(_)
             | Failure::Segments(_)
-            | Failure::NotFile(_)
+            | Failure::ReadOnce(_)
+            | Failure::Digests(..)
             | Failure::Shard(..)
             | Failure::Parting(_) => 1,
             Failure::Read(_) | Failure::Write(_) => 3,

@@ -16,7 +16,7 @@ mod text;
 pub use check::check_text;
 pub use command_line::{CaptureName, Line, LineFault, STANDARD_INPUT, capture_name, line_of};
 pub use explanation::{Values, explain, explain_bytes};
-pub use failure::{Failure, OutputFile, ShardFailure};
+pub use failure::{DigestsFailure, Failure, OutputFile, ShardFailure};
 pub use packet_layers::{Head, HeadKind, Layers, Span, Stop, dissect};
 pub use sample_run::sample;
 pub use status::{exit_code, stream_code};

@@ -12,7 +12,7 @@ fn told<'a>(alloc: Global, words: &'a [&'a str]) -> Result<String, Fail> {
 }
 
 /// Words, and the line that they ask for.
-const LINES: [(&[&str], &str); 10] = [
+const LINES: [(&[&str], &str); 11] = [
     (&["tep"], "Sample"),
     (
         &[
@@ -26,7 +26,7 @@ const LINES: [(&[&str], &str); 10] = [
             "p1",
             "p2",
         ],
-        "Run { settings: \"s\", changes: None, underlay: \"u\", out: \"d\", ports: [\"p1\", \"p2\"], tables: false, tables_at: None, why: [], summary: false, segments: None }",
+        "Run { settings: \"s\", changes: None, underlay: \"u\", out: \"d\", ports: [\"p1\", \"p2\"], tables: false, tables_at: None, why: [], summary: false, segments: None, digests: None }",
     ),
     (
         &["tep", "check", "--changes", "c", "--settings", "s"],
@@ -68,8 +68,9 @@ const LINES: [(&[&str], &str); 10] = [
             "u:1",
             "--summary",
             "--segments=1-9,none",
+            "--digests=d",
         ],
-        "Run { settings: \"s\", changes: Some(\"c\"), underlay: \"u\", out: \"d\", ports: [\"-\", \"p2\"], tables: true, tables_at: Some(7), why: [\"2\", \"u:1\"], summary: true, segments: Some(\"1-9,none\") }",
+        "Run { settings: \"s\", changes: Some(\"c\"), underlay: \"u\", out: \"d\", ports: [\"-\", \"p2\"], tables: true, tables_at: Some(7), why: [\"2\", \"u:1\"], summary: true, segments: Some(\"1-9,none\"), digests: Some(\"d\") }",
     ),
     (
         &["tep", "check", "-s", "-", "-c", "-", "-u", "u", "p1", "-"],
@@ -86,6 +87,10 @@ const LINES: [(&[&str], &str); 10] = [
     (
         &["tep", "merge", "a", "-o", "d", "b"],
         "Merge { out: \"d\", shards: [\"a\", \"b\"] }",
+    ),
+    (
+        &["tep", "digest", "-uu", "p1", "-"],
+        "Digest { underlay: \"u\", ports: [\"p1\", \"-\"] }",
     ),
 ];
 
@@ -144,7 +149,7 @@ fn other_words_are_refused_for_their_kind(rt: HostRuntime) {
 }
 
 /// Words with an empty name.
-const EMPTY_NAMES: [&[&str]; 8] = [
+const EMPTY_NAMES: [&[&str]; 9] = [
     &["tep", "check", "--settings", ""],
     &["tep", "check", "--settings=s", "--changes="],
     &["tep", "run", "-s=s", "-u=", "-o=d", "p1"],
@@ -152,6 +157,7 @@ const EMPTY_NAMES: [&[&str]; 8] = [
     &["tep", "run", "-s=s", "-u=u", "-o=d", "p1", ""],
     &["tep", "explain", "-s=s", ""],
     &["tep", "run", "-s=s", "-u=u", "-o=d", "--segments=", "p1"],
+    &["tep", "digest", "-u=u", ""],
     &["tep", "merge", "-o=d", "a", ""],
 ];
 
@@ -204,4 +210,16 @@ fn the_name_of_a_capture_is_a_file_and_an_interface(rt: HostRuntime) {
     for (name, file, interface) in &NAMES {
         assert!(rt; is_named(name, file, *interface), "the name {name}");
     }
+}
+
+/// Whether words lend digests to a run that is no part.
+fn lend_to_a_whole<'a>(alloc: Global, words: &'a [&'a str]) -> bool {
+    matches!(line_of(alloc, words), Err(LineFault::NoSegments))
+}
+
+#[test]
+fn digests_are_lent_to_parts_alone(rt: HostRuntime) {
+    let words = ["tep", "run", "-s=s", "-u=u", "-o=d", "--digests=l", "p1"];
+    let is_refused = lend_to_a_whole(rt.alloc(), &words);
+    assert!(rt; is_refused, "no --segments");
 }

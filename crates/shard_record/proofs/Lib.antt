@@ -1,3 +1,4 @@
 pub mod Captures
+pub mod DigestText
 pub mod Lines
 pub mod Reading

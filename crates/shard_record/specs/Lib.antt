@@ -1,5 +1,7 @@
+pub mod Digests
 pub mod Fault
 pub mod Laws
+pub mod Lent
 pub mod Parting
 pub mod Record
 pub mod Same

@@ -1,5 +1,5 @@
 -- Digests of SHA-256 (FIPS 180-4), and what they are of.
-use Rattle.std.specs.Prelude.{◌≡◌, ℕ, List, [], length, take, Result, Ok, Err}
+use Rattle.std.specs.Prelude.{◌≡◌, ℕ, ◌-◌, ◌^◌, List, [], length, min, take, Result, Ok, Err}
 use Rattle.hex.specs.Hex.{IsBytes}
 use Rattle.sha2.specs.Hashers.{Holds256}
 use Rattle.sha2.specs.declared.Sha256.{Sha256}
@@ -17,3 +17,12 @@ Took hasher octets = Holds256 hasher octets
 abbrev pub taken : {E : Type 0} → Result ℕ E → List ℕ → List ℕ
 taken (Ok n) octets = take n octets
 taken (Err fault) octets = []
+
+-- how many octets these are, counted up to the greatest number of 64 bits
+abbrev pub counted : List ℕ → ℕ
+counted octets = min (2 ^ 64 - 1) (length octets)
+
+-- a hasher of SHA-256 took these octets, and this is their number
+pub record HasTaken (hasher : Sha256) (number : ℕ) (octets : List ℕ) : Type 0 where
+  pub digest : Took hasher octets
+  pub count : number ≡ counted octets

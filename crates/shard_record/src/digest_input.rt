@@ -3,60 +3,65 @@ ghost use Rattle.std.specs.Prelude.{◌≡◌, ℕ, List, [], ◌++◌, ◌⊎�
 ghost use Rattle.std.specs.Io.{ReadsAtMost};
 ghost use Rattle.std.specs.Io.KnownBytes.{Consumes, IsAtEnd, ReadConsumes};
 ghost use Rattle.pcap_stream.specs.Counts.{CountsFaults, GoesOnBy};
-ghost use Rattle.sha2.specs.Sha256.{sha256};
-ghost use Rattle.shard_record.specs.Sum.{Took, taken};
+ghost use Rattle.shard_record.specs.Digests.{digest_of};
+ghost use Rattle.shard_record.specs.Sum.{HasTaken, taken};
 
+use crate::count_input::CountInput;
+use crate::digests::CaptureDigest;
 use pcap_stream::{DeviceFault, Input};
 use sha2::{Digest, Sha256};
 
 /// How many octets are read at once behind those that were asked for.
 const BLOCK: usize = 4096;
 
-/// An input that hands on what another gives, and takes the digest of it (SHA-256, FIPS 180-4).
+/// An input that hands on what another gives, and takes the digest of it (SHA-256, FIPS 180-4) and the number of its octets.
 #[derive(Drop)]
 pub struct DigestInput<R: Input> {
-    input: R,
+    input: CountInput<R>,
     hasher: Sha256,
 }
 
 impl<R: Input> DigestInput<R> {
     /// An input that hands on what this one gives from here on.
     pub fn new(input: R) -> DigestInput<R>
-        ensures input { result.input ≡ input }
-        ensures digest { Took result.hasher [] }
+        ensures input { result.input.input ≡ input }
+        ensures digest { HasTaken result.hasher result.input.octets [] }
     {
         DigestInput {
-            input,
+            input: CountInput::new(input),
             hasher: Sha256::new(),
         }
     }
 
     /// The input, as the reads so far left it.
     pub fn input(&self) -> &R
-        ensures { result.now ≡ self.now.input }
+        ensures { result.now ≡ self.now.input.input }
     {
-        &self.input
+        self.input.input()
     }
 
-    /// The digest of all octets that were handed on.
-    pub fn digest(&self) -> [u8; 32]
-        ensures { (octets : List ℕ) → Took self.now.hasher octets → result ≡ sha256 octets }
+    /// The digest of all octets that were handed on, and how many they are.
+    pub fn digest(&self) -> CaptureDigest
+        ensures { (octets : List ℕ) → HasTaken self.now.hasher self.now.input.octets octets → result ≡ digest_of octets }
     {
         let hasher = match self.hasher.clone() {
             Ok(hasher) => hasher,
             Err(_) => Sha256::new(),
         };
-        hasher.finalize()
+        CaptureDigest {
+            octets: self.input.octets(),
+            sum: hasher.finalize(),
+        }
     }
 
-    /// Reads to the end, in as many reads at most, and gives the digest of all octets: of those that were handed on, and of
-    /// those that were left. `Err`: a read failed, or the reads weren't enough.
-    pub fn finish(&mut self, reads: u64) -> Result<[u8; 32], DeviceFault>
-        ensures sum { IfOk result (λ sum. (octets : List ℕ) → Took self.old.hasher octets
-            → (rest : List ℕ) × Consumes (R.remaining self.old.input) (R.remaining self.new.input) rest × (sum ≡ sha256 (octets ++ rest))) }
-        ensures end { OnOk result (IsAtEnd (R.remaining self.new.input)) }
-        ensures quiet { OnOk result (R.failures self.new.input ≡ R.failures self.old.input) }
-        ensures failed { OnErr result (GoesOnBy 1 (R.failures self.old.input) (R.failures self.new.input) ⊎ GoesOnBy reads (R.calls self.old.input) (R.calls self.new.input)) }
+    /// Reads to the end, in as many reads at most, and gives the digest and the number of all octets: of those that were handed
+    /// on, and of those that were left. `Err`: a read failed, or the reads weren't enough.
+    pub fn finish(&mut self, reads: u64) -> Result<CaptureDigest, DeviceFault>
+        ensures sum { IfOk result (λ digest. (octets : List ℕ) → HasTaken self.old.hasher self.old.input.octets octets
+            → (rest : List ℕ) × Consumes (R.remaining self.old.input.input) (R.remaining self.new.input.input) rest × (digest ≡ digest_of (octets ++ rest))) }
+        ensures end { OnOk result (IsAtEnd (R.remaining self.new.input.input)) }
+        ensures quiet { OnOk result (R.failures self.new.input.input ≡ R.failures self.old.input.input) }
+        ensures failed { OnErr result (GoesOnBy 1 (R.failures self.old.input.input) (R.failures self.new.input.input) ⊎ GoesOnBy reads (R.calls self.old.input.input) (R.calls self.new.input.input)) }
     {
         let mut block = [0; BLOCK];
         for _ in 0..reads {
@@ -70,18 +75,19 @@ impl<R: Input> DigestInput<R> {
 }
 
 impl<R: Input> Input for DigestInput<R> {
-    ghost remaining = { λ d. R.remaining d.input };
+    ghost remaining = { λ d. R.remaining d.input.input };
 
-    ghost calls = { λ d. R.calls d.input };
+    ghost calls = { λ d. R.calls d.input.input };
 
-    ghost failures = { λ d. R.failures d.input };
+    ghost failures = { λ d. R.failures d.input.input };
 
     fn read(&mut self, octets: &mut [u8]) -> Result<usize, DeviceFault>
         ensures bound { ReadsAtMost result octets.new }
-        ensures taken { ReadConsumes (R.remaining self.old.input) (R.remaining self.new.input) result octets.new }
-        ensures calls { GoesOnBy 1 (R.calls self.old.input) (R.calls self.new.input) }
-        ensures failures { CountsFaults (R.failures self.old.input) (R.failures self.new.input) result }
-        ensures digest { (before : List ℕ) → Took self.old.hasher before → Took self.new.hasher (before ++ taken result octets.new) }
+        ensures taken { ReadConsumes (R.remaining self.old.input.input) (R.remaining self.new.input.input) result octets.new }
+        ensures calls { GoesOnBy 1 (R.calls self.old.input.input) (R.calls self.new.input.input) }
+        ensures failures { CountsFaults (R.failures self.old.input.input) (R.failures self.new.input.input) result }
+        ensures digest { (before : List ℕ) → HasTaken self.old.hasher self.old.input.octets before
+            → HasTaken self.new.hasher self.new.input.octets (before ++ taken result octets.new) }
     {
         let n = self.input.read(octets)?;
         self.hasher.update(&octets[..n]);

@@ -2,23 +2,34 @@
 //!
 //! A [`ShardRecord`] has the part's segments, the SHA-256 (FIPS 180-4) of the settings, of the changes and of each
 //! capture, and how many events the part tells. [`text_of`] writes it, one fact a line, and [`record_of`] reads it
-//! back, and nothing else. [`DigestInput`] takes the digest of a capture on its way. [`same_run`] says whether two parts are
-//! of one run, and [`part_all`] whether parts are all of it.
+//! back, and nothing else. [`DigestInput`] takes the digest of a capture on its way and the number of its octets, and
+//! [`CountInput`] that number alone. [`same_run`] says whether two parts are of one run, and [`part_all`] whether parts are all of it.
+//!
+//! [`CaptureDigests`] are taken once and lent to each part; [`digests_text`] writes them, one capture a line, and
+//! [`digests_of`] reads them back, and nothing else. [`see_octets`] says whether they may be those of captures with so many
+//! octets.
 #![tactic(auto)]
 
+mod count_input;
 mod digest_input;
+mod digest_lines;
+mod digests;
 mod facts;
 mod fault;
 pub mod laws;
+mod lent;
 mod parting;
 mod read;
 mod same;
 mod steps;
 mod write;
 
+pub use count_input::CountInput;
 pub use digest_input::DigestInput;
+pub use digests::{CaptureDigest, CaptureDigests, DigestsFault, digests_of, digests_text};
 pub use facts::{MOST_PORTS, ShardRecord};
 pub use fault::ShardFault;
+pub use lent::{LentFault, see_octets};
 pub use parting::{PartingFault, part_all};
 pub use read::record_of;
 pub use same::{Difference, same_run};

@@ -38,7 +38,7 @@ fn put_line(text: &mut Vec<u8>, word: &[u8], told: &[u8]) -> Result<(), AllocErr
 }
 
 /// Puts the line of a digest behind a text.
-fn put_sum(text: &mut Vec<u8>, word: &[u8], sum: &[u8; 32]) -> Result<(), AllocError>
+pub(crate) fn put_sum(text: &mut Vec<u8>, word: &[u8], sum: &[u8; 32]) -> Result<(), AllocError>
     ensures { OnOk result (text.new.items ≡ text.old.items ++ sum_line word.now sum.now) }
 {
     let digits = digits_of(sum);

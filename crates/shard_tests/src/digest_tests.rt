@@ -1,4 +1,4 @@
-//! Digests that are taken on the way.
+//! Digests and numbers of octets that are taken on the way.
 use crate::texts::{OF_ABC, OF_NOTHING};
 use pcap_stream::Input;
 use shard_record::DigestInput;
@@ -34,11 +34,15 @@ fn has_digest(
         };
         front.extend_from_slice(&room[..n])?;
     }
-    let Ok(sum) = input.finish(100_000) else {
+    let Ok(digest) = input.finish(100_000) else {
         return Ok(false);
     };
-    let digits = hex::encode(alloc, sum)?;
-    Ok(digits.as_str() == expected && text.starts_with(front.as_slice()))
+    let digits = hex::encode(alloc, digest.sum)?;
+    Ok(
+        digits.as_str() == expected
+            && digest.octets == text.len() as u64
+            && text.starts_with(front.as_slice()),
+    )
 }
 
 #[test]

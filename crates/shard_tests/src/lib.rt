@@ -7,6 +7,8 @@
 #[cfg(test)]
 mod digest_tests;
 #[cfg(test)]
+mod lent_tests;
+#[cfg(test)]
 mod parting_tests;
 #[cfg(test)]
 mod record_tests;

@@ -6,6 +6,7 @@ use dissector::{Failure, STANDARD_INPUT, capture_name, read_text};
 use file_kind::{FileKind, Peeked, peek};
 use pcap_stream::{Source, StdInput};
 use pcapng_input::{CaptureInput, Selection};
+use shard_record::CountInput;
 use std::alloc::AllocError;
 use std::fs;
 use std::io::{self, BufReader, Input, Read};
@@ -46,8 +47,8 @@ pub type Blocks<F, I> = StdInput<BufReader<Device<F, I>>>;
 /// What a capture tells as classic pcap.
 pub type ClassicInput<'a, F, I> = CaptureInput<'a, Blocks<F, I>>;
 
-/// The records of a capture.
-pub type Capture<'a, F, I> = Source<ClassicInput<'a, F, I>>;
+/// The records of a capture, whose octets are counted.
+pub type Capture<'a, F, I> = Source<CountInput<ClassicInput<'a, F, I>>>;
 
 /// The records of a capture whose first octets were looked at.
 pub type SeenCapture<'a, F, I> = Source<CaptureInput<'a, Peeked<Blocks<F, I>>>>;
@@ -189,7 +190,7 @@ pub fn open_capture<'a, R: Files + Input + AllocGlobal>(
         Ok(input) => input,
         Err(failure) => return Err(failure),
     };
-    match Source::new(rt.alloc(), input, CAPTURE_READS) {
+    match Source::new(rt.alloc(), CountInput::new(input), CAPTURE_READS) {
         Ok(capture) => Ok(capture),
         Err(error) => Err(Failure::from(error)),
     }

@@ -5,6 +5,7 @@
 #![tactic(auto)]
 
 mod checks;
+mod digests;
 mod inputs;
 mod merging;
 mod names;

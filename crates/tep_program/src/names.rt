@@ -16,6 +16,8 @@ pub struct Names<'n, 'a> {
     pub changes: Option<&'a str>,
     pub underlay: &'a str,
     pub ports: &'n [&'a str],
+    /// The text that lends a part the digests of its captures.
+    pub digests: Option<&'a str>,
 }
 
 impl<'a> Names<'_, 'a> {
@@ -33,20 +35,21 @@ impl<'a> Names<'_, 'a> {
 
     /// Whether each capture is a regular file, whose next octets are never waited for.
     pub fn are_regular_files<R: Files>(self, rt: &R) -> bool {
-        self.first_that_flows(rt).is_none()
+        self.ports.iter().all(|name| is_regular_file(rt, *name))
+            && is_regular_file(rt, self.underlay)
     }
 
-    /// The first capture that is no regular file, the ports' rising and the underlay's last.
-    pub fn first_that_flows<R: Files>(self, rt: &R) -> Option<&'a str> {
+    /// The first capture that can be read only once, the ports' rising and the underlay's last.
+    pub fn first_read_once<R: Files>(self, rt: &R) -> Option<&'a str> {
         for name in self.ports {
-            if !is_regular_file(rt, *name) {
+            if is_read_once(rt, *name) {
                 return Some(*name);
             }
         }
-        if is_regular_file(rt, self.underlay) {
-            None
-        } else {
+        if is_read_once(rt, self.underlay) {
             Some(self.underlay)
+        } else {
+            None
         }
     }
 
@@ -62,6 +65,9 @@ impl<'a> Names<'_, 'a> {
         is_same(rt, Path::new(self.settings), &found)
             || self
                 .changes
+                .is_some_and(|name| is_same(rt, Path::new(name), &found))
+            || self
+                .digests
                 .is_some_and(|name| is_same(rt, Path::new(name), &found))
             || is_same(rt, Path::new(file_of(self.underlay)), &found)
             || self
@@ -87,6 +93,11 @@ pub fn is_same<R: Files>(rt: &R, path: Path<'_>, found: &Metadata) -> bool {
         Ok(metadata) => metadata.ino() == found.ino() && metadata.dev() == found.dev(),
         Err(_) => false,
     }
+}
+
+/// Whether a capture can be read only once: a pipe, and standard input, be it a file or not, since it goes on where it was left.
+fn is_read_once<R: Files>(rt: &R, name: &str) -> bool {
+    capture_name(name).file == STANDARD_INPUT || !is_regular_file(rt, name)
 }
 
 /// Whether a capture's name stands for a regular file.

@@ -1,17 +1,17 @@
 //! Parts of a run: some of its segments, and what they were made from.
-use crate::inputs::{CAPTURE_READS, open_named};
+use crate::digests::{lent_digests, take_digests};
 use crate::names::Names;
 use crate::outputs::path_of;
-use crate::runs::{Done, Scope, Texts, run_on_files, tap_of};
+use crate::runs::{Done, Scope, Texts, run_on_files};
 use arrayvec::ArrayVec;
-use dissector::{Failure, OutputFile, ShardFailure};
+use dissector::{DigestsFailure, Failure, OutputFile, ShardFailure};
 use line_stream::{Lines, LinesFault};
 use pcap_stream::StdInput;
 use segment_set::SegmentSet;
 use sha2::{Digest, Sha256};
 use shard_lines::{LineFacts, read_line};
 use shard_merge::PartFault;
-use shard_record::{DigestInput, MOST_PORTS, ShardRecord, text_of};
+use shard_record::{CaptureDigests, MOST_PORTS, ShardRecord, see_octets, text_of};
 use std::alloc::{AllocError, Global};
 use std::fs;
 use std::io::{BufReader, Input, Write};
@@ -29,7 +29,8 @@ pub type PartInput<F> = StdInput<BufReader<F>>;
 /// from. It answers the captures of which the rest is cut and is told, which stand in the part that has what comes to no
 /// segment.
 ///
-/// The captures are read a second time for their digests, so that each has to be a regular file.
+/// Where no digests of the captures are lent, these are read a second time for them, so that none of them may be one that can
+/// be read only once. Where they are lent, the captures have to have as many octets as the digests tell.
 pub fn run_part<'a, R: Files + Input + AllocGlobal, T: Watch>(
     rt: &R,
     names: Names<'_, 'a>,
@@ -42,29 +43,28 @@ pub fn run_part<'a, R: Files + Input + AllocGlobal, T: Watch>(
         Ok(segments) => segments,
         Err(fault) => return Err(Failure::Segments(fault)),
     };
-    if let Some(name) = names.first_that_flows(rt) {
-        return Err(Failure::NotFile(name));
-    }
-    let Done { cut, shard } = match run_on_files(
-        rt,
-        names,
-        texts,
-        folder,
-        Scope::Part(&segments),
-        watch,
-    ) {
+    let lent = match lent_to(rt, names) {
+        Ok(lent) => lent,
+        Err(failure) => return Err(failure),
+    };
+    let Done {
+        cut,
+        ports,
+        underlay,
+        shard,
+    } = match run_on_files(rt, names, texts, folder, Scope::Part(&segments), watch) {
         Ok(done) => done,
         Err(failure) => return Err(failure),
     };
-    let events = match count_events(rt, folder) {
-        Ok(events) => events,
-        Err(Failure::Run(fault)) => return Err(Failure::Run(fault)),
-        Err(_) => return Err(Failure::Write(OutputFile::Decisions)),
-    };
-    let made = match record_of_part(rt, names, texts, list, events) {
-        Ok(made) => made,
+    let digests = match digests_behind(rt, names, lent, ports.as_slice(), underlay) {
+        Ok(digests) => digests,
         Err(failure) => return Err(failure),
     };
+    let events = match events_written(rt, folder) {
+        Ok(events) => events,
+        Err(failure) => return Err(failure),
+    };
+    let made = record_of_part(names, texts, list, &digests, events);
     let text = text_of(rt.alloc(), &made)?;
     if let Some(file) = shard {
         write_shard(file, text.as_slice())?;
@@ -76,6 +76,15 @@ pub fn run_part<'a, R: Files + Input + AllocGlobal, T: Watch>(
     })
 }
 
+/// How many events the decision lines tell that a part wrote into this folder.
+fn events_written<R: Files + AllocGlobal>(rt: &R, folder: &str) -> Result<u64, Failure<'static>> {
+    match count_events(rt, folder) {
+        Ok(events) => Ok(events),
+        Err(Failure::Run(fault)) => Err(Failure::Run(fault)),
+        Err(_) => Err(Failure::Write(OutputFile::Decisions)),
+    }
+}
+
 /// Writes what a part was made from.
 fn write_shard<F: Write + Drop>(file: F, text: &[u8]) -> Result<(), Failure<'static>> {
     let mut file = file;
@@ -85,22 +94,55 @@ fn write_shard<F: Write + Drop>(file: F, text: &[u8]) -> Result<(), Failure<'sta
     }
 }
 
-/// What a part with so many events was made from.
-fn record_of_part<'a, R: Files + Input + AllocGlobal>(
+/// The digests that are lent to a part, with the name of their file, where there are any; else its captures can be read twice.
+fn lent_to<'a, R: Files + AllocGlobal>(
     rt: &R,
+    names: Names<'_, 'a>,
+) -> Result<Option<(&'a str, CaptureDigests)>, Failure<'a>> {
+    match names.digests {
+        Some(name) => match lent_digests(rt, name, names.ports.len()) {
+            Ok(digests) => Ok(Some((name, digests))),
+            Err(failure) => Err(failure),
+        },
+        None => match names.first_read_once(rt) {
+            Some(name) => Err(Failure::ReadOnce(name)),
+            None => Ok(None),
+        },
+    }
+}
+
+/// The digests of captures behind a run that read so many octets of each: those that are lent, where they tell the same numbers,
+/// or their own.
+fn digests_behind<'a, R: Files + Input + AllocGlobal>(
+    rt: &R,
+    names: Names<'_, 'a>,
+    lent: Option<(&'a str, CaptureDigests)>,
+    ports: &[u64],
+    underlay: u64,
+) -> Result<CaptureDigests, Failure<'a>> {
+    let Some((name, digests)) = lent else {
+        return take_digests(rt, names.underlay, names.ports);
+    };
+    match see_octets(&digests, ports, underlay) {
+        Ok(()) => Ok(digests),
+        Err(fault) => Err(Failure::Digests(name, DigestsFailure::Other(fault))),
+    }
+}
+
+/// What a part with so many events was made from.
+fn record_of_part<'a>(
     names: Names<'_, 'a>,
     texts: &Texts,
     segments: &'a str,
+    digests: &CaptureDigests,
     events: u64,
-) -> Result<ShardRecord<'a>, Failure<'a>> {
+) -> ShardRecord<'a> {
     let mut ports = ArrayVec::<[u8; 32], MOST_PORTS>::new();
-    for (index, name) in names.ports.iter().enumerate() {
-        let sum = digest_of_capture(rt, tap_of(index), *name)?;
-        // A run has no more ports than there is room for.
-        let _ = ports.try_push(sum);
+    for digest in digests.ports.as_slice() {
+        // There is room for as many as there are digests.
+        let _ = ports.try_push(digest.sum);
     }
-    let underlay = digest_of_capture(rt, Tap::Underlay, names.underlay)?;
-    Ok(ShardRecord {
+    ShardRecord {
         segments,
         settings: digest_of_text(texts.settings.as_slice()),
         changes: if names.changes.is_some() {
@@ -109,9 +151,9 @@ fn record_of_part<'a, R: Files + Input + AllocGlobal>(
             None
         },
         ports,
-        underlay,
+        underlay: digests.underlay.sum,
         events,
-    })
+    }
 }
 
 /// The digest of a text.
@@ -119,26 +161,6 @@ fn digest_of_text(text: &[u8]) -> [u8; 32] {
     let mut hasher = Sha256::new();
     hasher.update(text);
     hasher.finalize()
-}
-
-/// The digest of what a capture tells as classic pcap.
-fn digest_of_capture<'a, R: Files + Input + AllocGlobal>(
-    rt: &R,
-    tap: Tap,
-    name: &'a str,
-) -> Result<[u8; 32], Failure<'a>> {
-    let input = match open_named(rt, name) {
-        Ok(input) => input,
-        Err(failure) => return Err(failure),
-    };
-    let mut digested = DigestInput::new(input);
-    match digested.finish(CAPTURE_READS) {
-        Ok(sum) => Ok(sum),
-        Err(_) => match digested.input().fault() {
-            Some(fault) => Err(Failure::Pcapng(tap, fault)),
-            None => Err(Failure::Read(name)),
-        },
-    }
 }
 
 /// Opens a file of the part in this folder. Nothing of it is read yet.

@@ -6,6 +6,7 @@ ghost use Rattle.dissector.specs.Status.{failure_status_of};
 ghost use Rattle.tep_program.specs.Status.{IsStatusOf};
 
 use crate::checks::check;
+use crate::digests::print_digests;
 use crate::inputs::{read_file, read_underlay};
 use crate::merging::merge;
 use crate::names::Names;
@@ -65,6 +66,7 @@ pub fn run<'a, R: Files + Input + AllocGlobal + Print + Eprint>(rt: &R, words: &
         Err(LineFault::OutOfMemory) => stopped(rt, &Failure::Run(RunFault::OutOfMemory)),
         Err(LineFault::NoValue) => words_refused(rt, &LineFault::NoValue),
         Err(LineFault::InputTwice) => words_refused(rt, &LineFault::InputTwice),
+        Err(LineFault::NoSegments) => words_refused(rt, &LineFault::NoSegments),
         Err(LineFault::Refused(error)) => {
             let is_lost = is_lost(error.print(rt));
             match error.kind() {
@@ -120,12 +122,14 @@ fn perform<'a, R: Files + Input + AllocGlobal + Print + Eprint>(
             why,
             summary,
             segments,
+            digests,
         } => {
             let names = Names {
                 settings: *settings,
                 changes: *changes,
                 underlay: *underlay,
                 ports: ports.as_slice(),
+                digests: *digests,
             };
             let asked = Asked {
                 why: why.as_slice(),
@@ -143,6 +147,7 @@ fn perform<'a, R: Files + Input + AllocGlobal + Print + Eprint>(
             capture,
         } => explain(rt, *settings, *depth, *values, *capture),
         Line::Migrate { settings } => print_migrated(rt, *settings),
+        Line::Digest { underlay, ports } => print_digests(rt, *underlay, ports.as_slice()),
         Line::Merge { out, shards } => merge(rt, *out, shards.as_slice()),
     }
 }

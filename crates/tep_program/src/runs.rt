@@ -61,6 +61,10 @@ pub enum Scope<'s> {
 pub struct Done<F: Drop> {
     /// The captures of which the rest is cut, ports rising and the underlay last.
     pub cut: Vec<Tap>,
+    /// How many octets the captures of the ports had, as classic pcap.
+    pub ports: Vec<u64>,
+    /// And how many that of the underlay.
+    pub underlay: u64,
     /// The empty file in which a part is to say what it was made from.
     pub shard: Option<F>,
 }
@@ -122,7 +126,13 @@ pub fn run_on_files<'a, R: Files + Input + AllocGlobal, T: Watch>(
         Ok(()) => match finished {
             Ok(shard) => {
                 let cut = cut_taps(rt.alloc(), ports.as_slice(), &underlay)?;
-                Ok(Done { cut, shard })
+                let counts = octets_read(rt.alloc(), ports.as_slice())?;
+                Ok(Done {
+                    cut,
+                    ports: counts,
+                    underlay: underlay.input().octets(),
+                    shard,
+                })
             }
             Err(failure) => Err(failure),
         },
@@ -157,6 +167,18 @@ fn cut_taps<F: Read + Drop, I: Read + Drop>(
     Ok(cut)
 }
 
+/// How many octets were read of each capture.
+fn octets_read<F: Read + Drop, I: Read + Drop>(
+    alloc: Global,
+    captures: &[Capture<'_, F, I>],
+) -> Result<Vec<u64>, AllocError> {
+    let mut counts = Vec::new(alloc);
+    for capture in captures {
+        counts.push(capture.input().octets())?;
+    }
+    Ok(counts)
+}
+
 /// The fault of the pcapng capture at a tap, where it has met one.
 fn fault_of<F: Read + Drop, I: Read + Drop>(
     tap: Tap,
@@ -164,10 +186,10 @@ fn fault_of<F: Read + Drop, I: Read + Drop>(
     underlay: &Capture<'_, F, I>,
 ) -> Option<PcapngFault> {
     match tap {
-        Tap::Underlay => underlay.input().fault(),
+        Tap::Underlay => underlay.input().input().fault(),
         Tap::Port(number) => {
             let index = usize::from(number).checked_sub(1)?;
-            ports.get(index)?.input().fault()
+            ports.get(index)?.input().input().fault()
         }
     }
 }

@@ -1,6 +1,6 @@
 use Rattle.std.proofs.Common.{◌∙◌, ℕ, List, [], ◌++◌, take, subst, refl, append_assoc, append-nil, rules, arith}
 use Rattle.std.proofs.KnownBytes.{Consumes-nil, Consumes-trans}
-use Rattle.shard_record.specs.Sum.{Took}
+use Rattle.shard_record.specs.Sum.{HasTaken}
 use Rattle.shard_record.proofs.digest_input.DigestInput.finish.Goals as goal
 
 pub loop-init : goal.loop-init
@@ -19,7 +19,7 @@ loop-preserved g c =
           let before = c.loop.invariant.digest octets took in (
             before.0 ++ piece,
             Consumes-trans _ _ _ before.0 piece before.1 read.taken.0,
-            subst (λ (l : List ℕ). Took c.read.new.self.hasher l) (append_assoc octets before.0 piece) (read.digest (octets ++ before.0) before.2),
+            subst (λ (l : List ℕ). HasTaken c.read.new.self.hasher c.read.new.self.input.octets l) (append_assoc octets before.0 piece) (read.digest (octets ++ before.0) before.2),
           );
       quiet = read.failures ∙ c.loop.invariant.quiet;
       calls = omega (arith, read.calls, c.loop.invariant.calls);
@@ -33,5 +33,5 @@ returns-then-n-eq0-clause-sum g c = λ octets took.
       before.0 ++ piece,
       Consumes-trans _ _ _ before.0 piece before.1 read.taken.0,
       c.digest.ensures (octets ++ (before.0 ++ piece))
-          (subst (λ (l : List ℕ). Took c.read.new.self.hasher l) (append_assoc octets before.0 piece) (read.digest (octets ++ before.0) before.2)),
+          (subst (λ (l : List ℕ). HasTaken c.read.new.self.hasher c.read.new.self.input.octets l) (append_assoc octets before.0 piece) (read.digest (octets ++ before.0) before.2)),
     )

@@ -1,0 +1,92 @@
+//! Digests of captures: taken, printed, and lent to the parts of a run.
+use crate::inputs::{CAPTURE_READS, open_named, read_file};
+use crate::printing::print_text;
+use crate::runs::tap_of;
+use arrayvec::ArrayVec;
+use capture_run::RunFault;
+use dissector::{DigestsFailure, Failure};
+use shard_record::{
+    CaptureDigest, CaptureDigests, DigestInput, DigestsFault, LentFault, MOST_PORTS, digests_of,
+    digests_text,
+};
+use std::io::Input;
+use std::rt::Files;
+use timeline::Tap;
+
+/// Prints the digests of captures.
+pub fn print_digests<'a, R: Files + Input + AllocGlobal + Print>(
+    rt: &R,
+    underlay: &'a str,
+    ports: &[&'a str],
+) -> Result<(), Failure<'a>> {
+    let digests = match take_digests(rt, underlay, ports) {
+        Ok(digests) => digests,
+        Err(failure) => return Err(failure),
+    };
+    let text = digests_text(rt.alloc(), &digests)?;
+    print_text(rt, text.as_slice())
+}
+
+/// Reads captures for their digests, ports rising and then the underlay.
+pub fn take_digests<'a, R: Files + Input + AllocGlobal>(
+    rt: &R,
+    underlay: &'a str,
+    ports: &[&'a str],
+) -> Result<CaptureDigests, Failure<'a>> {
+    let mut digests = ArrayVec::<CaptureDigest, MOST_PORTS>::new();
+    if ports.len() > MOST_PORTS {
+        return Err(Failure::Run(RunFault::PortCount));
+    }
+    for (index, name) in ports.iter().enumerate() {
+        let digest = take_digest(rt, tap_of(index), *name)?;
+        // There is room for as many as there are ports.
+        let _ = digests.try_push(digest);
+    }
+    let underlay = take_digest(rt, Tap::Underlay, underlay)?;
+    Ok(CaptureDigests {
+        ports: digests,
+        underlay,
+    })
+}
+
+/// Reads a capture for the digest of what it tells as classic pcap.
+fn take_digest<'a, R: Files + Input + AllocGlobal>(
+    rt: &R,
+    tap: Tap,
+    name: &'a str,
+) -> Result<CaptureDigest, Failure<'a>> {
+    let input = match open_named(rt, name) {
+        Ok(input) => input,
+        Err(failure) => return Err(failure),
+    };
+    let mut digested = DigestInput::new(input);
+    match digested.finish(CAPTURE_READS) {
+        Ok(digest) => Ok(digest),
+        Err(_) => match digested.input().fault() {
+            Some(fault) => Err(Failure::Pcapng(tap, fault)),
+            None => Err(Failure::Read(name)),
+        },
+    }
+}
+
+/// The digests that the file of this name lends to a part of a run of so many ports.
+pub fn lent_digests<'a, R: Files + AllocGlobal>(
+    rt: &R,
+    name: &'a str,
+    ports: usize,
+) -> Result<CaptureDigests, Failure<'a>> {
+    let text = read_file(rt, name)?;
+    match read_digests(text.as_slice()) {
+        Ok(digests) if digests.ports.len() == ports => Ok(digests),
+        Ok(_) => Err(Failure::Digests(name, DigestsFailure::Other(LentFault::Ports))),
+        Err(fault) => Err(Failure::Digests(name, DigestsFailure::Text(fault))),
+    }
+}
+
+/// The digests of a text.
+fn read_digests(text: &[u8]) -> Result<CaptureDigests, DigestsFault> {
+    match str::from_utf8(text) {
+        Ok(text) => digests_of(text),
+        Err(_) => Err(DigestsFault::Head),
+    }
+}

@@ -1,0 +1,142 @@
+-- What comes to a segment: frames of a bounded length, from places with addresses.
+use Rattle.std.proofs.Common.{◌≡◌, ◌≢◌, refl, sym, ap, subst, ℕ, ◌≤◌, arith, List, ◌∷◌, ◌++◌, length, length-append, drop, Option, Some, None, Result, Ok, Err}
+use Rattle.std.specs.List.{concat}
+use Rattle.std.proofs.lemmas.Bool.{ltb-false}
+use Rattle.std.proofs.lemmas.List.{length-drop, length-take}
+use Rattle.header_sums.specs.Octets.{IsText, octets}
+use Rattle.header_sums.proofs.OctetsLemmas.{IsText-drop, IsText-take}
+use Rattle.frame_view.specs.First.{first}
+use Rattle.frame_view.specs.Frame.{Frame, IsFrame, plain}
+use Rattle.frame_view.specs.declared.reason.Reason.{Reason}
+use Rattle.frame_view.specs.declared.reason.Refused.{Refused}
+use Rattle.frame_view.proofs.FirstLemmas.{NothingHolds-from}
+use Rattle.ip_udp_view.specs.Addr.{IsAddr}
+use Rattle.ip_udp_view.specs.Datagram.{ether_type}
+use Rattle.ip_udp_view.specs.Ip.{Family, Ip4, Ip6, IsHeader, source}
+use Rattle.ip_udp_view.specs.Udp.{udp_header}
+use Rattle.ip_udp_view.specs.declared.addr.Tunnel.{Tunnel}
+use Rattle.ip_udp_view.specs.declared.addr.Tunnel.TheVariants.{Geneve, Vxlan}
+use Rattle.filter_db.specs.declared.place.Place.TheVariants.{Local, Remote}
+use Rattle.vlan_ports.specs.Ports.{Ports}
+use Rattle.vlan_ports.specs.Ingress.{enters}
+use Rattle.underlay.specs.Overlay.{Overlay}
+use Rattle.underlay.specs.Settings.{port_of}
+use Rattle.decapsulate.specs.Arrival as arrival
+use Rattle.decapsulate.specs.Arrival.{Arrives, IsTunnelled}
+use Rattle.decapsulate.specs.declared.arrived.Arrived.{Arrived}
+use Rattle.decapsulate.proofs.ArrivesLemmas.{brings_what_arrives}
+use Rattle.endpoint_core.specs.Came.{Came}
+use Rattle.endpoint_core.specs.Arrival.{came_at, came_by, capture_reasons, entered, tunnelled, unless}
+use Rattle.endpoint_core.proofs.ComingLemmas.{entered-short}
+use Rattle.mesh_delivery.proofs.Entering.{came_at-entered}
+use Rattle.part_files.proofs.Coming.{text-behind, text-front}
+use Rattle.part_files.proofs.Remotes.{IsFar}
+
+-- a frame of no more octets than a packet has, from a place with an address
+pub record IsCome (x : Came) : Type 0 where
+  pub from : IsFar x.from
+  pub dst : length x.frame.dst ≡ 6
+  pub src : length x.frame.src ≡ 6
+  pub body : length x.frame.body ≤ 65549
+
+-- ---- by a tunnel
+
+source-addr : (f : Family) (h : List ℕ) (n : ℕ) → IsHeader f h n → IsText h → IsAddr (source f h)
+source-addr Ip4 h n is t = (omega (arith, length-take 4 (drop 12 h), length-drop 12 h, is.shortest, is.octets), IsText-take 4 (drop 12 h) (IsText-drop 12 h t))
+source-addr Ip6 h n is t = (omega (arith, length-take 16 (drop 8 h), length-drop 8 h, is.octets), IsText-take 16 (drop 8 h) (IsText-drop 8 h t))
+
+-- the inner text is a part of the data
+inner-short : (known : List (ℕ × ℕ)) (kind : Tunnel) (d : List ℕ) (vni : ℕ) (e : List ℕ) → IsTunnelled known kind d vni e → length e ≤ length d
+inner-short known Vxlan d vni e is =
+    omega (arith, ap length is.whole, length-append is.reserved (octets 3 vni ++ is.last ∷ e), length-append (octets 3 vni) (is.last ∷ e))
+inner-short known Geneve d vni e is =
+    let g = is.1 in
+    omega (arith, ap length g.whole, length-append (octets 3 vni) (g.last ∷ g.option_texts ++ e), length-append g.option_texts e)
+
+record IsArrived (b : List ℕ) (x : Arrived) : Type 0 where
+  addr : IsAddr x.from.1
+  frame : IsFrame x.frame
+  body : length x.frame.body ≤ length b
+
+arrived : (O : Overlay) (b : List ℕ) (x : Arrived) → IsText b → Arrives O b x → IsArrived b x
+arrived O b x t is =
+    let g = is.datagram in
+    let carrier = g.is_carrier in
+    let udp = udp_header is.sport (port_of O.underlay x.from.0) is.sum is.data_text in
+    let carried = udp ++ (is.data_text ++ g.tail) in
+    let packet = g.head ++ (carried ++ g.trailer) in
+    let typed = ether_type g.family ++ packet in
+    let tagged = concat g.tags ++ typed in
+    let whole : IsText (g.addresses ++ tagged) = subst IsText g.whole t in
+    let head : IsText g.head = text-front g.head (carried ++ g.trailer) (text-behind (ether_type g.family) packet (text-behind (concat g.tags) typed (text-behind g.addresses tagged whole))) in
+    let f : Frame = x.frame in
+    let long = inner-short O.underlay.known x.from.0 is.data_text is.vni (plain f) is.tunnel in
+    record {
+      addr = subst IsAddr (sym carrier.src_is) (source-addr g.family g.head _ carrier.header head);
+      frame = is.is_frame;
+      body = omega (
+        arith,
+        long,
+        length-append f.dst (f.src ++ f.body),
+        length-append f.src f.body,
+        ap length g.whole,
+        length-append g.addresses tagged,
+        length-append (concat g.tags) typed,
+        length-append (ether_type g.family) packet,
+        length-append g.head (carried ++ g.trailer),
+        length-append carried g.trailer,
+        length-append udp (is.data_text ++ g.tail),
+        length-append is.data_text g.tail,
+      );
+    }
+
+arrival-passed : (o : Option Reason) (v : Option ℕ) (r : Result Arrived Refused) (x : Arrived) → arrival.unless o v r ≡ Ok x → (o ≡ None) × (r ≡ Ok x)
+arrival-passed None v r x h = (refl, h)
+arrival-passed (Some reason) v r x h = absurd cc
+
+tunnelled-came : Arrived → Came
+tunnelled-came y = record { vid = y.vid; from = Remote y.from.0 y.from.1; frame = y.frame }
+
+of-tunnel : (r : Result Arrived Refused) (x : Came) → ((y : Arrived) → r ≡ Ok y → (IsAddr y.from.1) × (IsFrame y.frame) × (length y.frame.body ≤ 65549)) → tunnelled r ≡ Ok x → IsCome x
+unfolding tunnelled-came
+of-tunnel (Err refused) x each h = absurd cc
+of-tunnel (Ok y) x each h =
+    let same : tunnelled-came y ≡ x = cc in
+    let own = each y refl in
+    subst IsCome same (record { from = own.0; dst = own.1.dst; src = own.1.src; body = own.2 })
+
+pub came_by-come : (O : Overlay) (original : ℕ) (b : List ℕ) (x : Came) → O.underlay.vxlan_port ≢ O.underlay.geneve_port → IsText b → came_by O original b ≡ Ok x → IsCome x
+unfolding came_by
+came_by-come O original b x apart t h = of-tunnel (arrival.arrival_of O original b) x each h
+  where
+    each : (y : Arrived) → arrival.arrival_of O original b ≡ Ok y → (IsAddr y.from.1) × (IsFrame y.frame) × (length y.frame.body ≤ 65549)
+    each y is =
+        let passed = arrival-passed (first (arrival.capture_reasons original b)) None (arrival.arrival O b) y is in
+        let short = ltb-false 65549 (length b) (NothingHolds-from (arrival.capture_reasons original b) passed.0).0 in
+        let got = arrived O b y t ((brings_what_arrives O b y apart t).0 passed.1) in
+        (got.addr, got.frame, omega (arith, got.body, short))
+
+-- ---- by a local port
+
+passed : (o : Option Refused) (r : Result Came Refused) (x : Came) → unless o r ≡ Ok x → (o ≡ None) × (r ≡ Ok x)
+passed None r x h = (refl, h)
+passed (Some refused) r x h = absurd cc
+
+entered-frame : ℕ → ℕ × Frame → Came
+entered-frame port found = record { vid = found.0; from = Local port; frame = found.1 }
+
+entered-body : (port : ℕ) (b : List ℕ) (r : Result (ℕ × Frame) Refused) (x : Came) → ((vid : ℕ) (f : Frame) → r ≡ Ok (vid, f) → length f.body ≤ length b) → entered port r ≡ Ok x → length x.frame.body ≤ length b
+unfolding entered-frame
+entered-body port b (Err refused) x each h = absurd cc
+entered-body port b (Ok found) x each h =
+    let same : entered-frame port found ≡ x = cc in
+    subst (λ (y : Came). length y.frame.body ≤ length b) same (each found.0 found.1 refl)
+
+pub came_at-come : (ports : Ports) (port original : ℕ) (b : List ℕ) (x : Came) → came_at ports port original b ≡ Ok x → IsCome x
+unfolding came_at
+came_at-come ports port original b x h =
+    let parts = passed (first (capture_reasons original b)) (entered port (enters ports port b)) x h in
+    let short = ltb-false 65535 (length b) (NothingHolds-from (capture_reasons original b) parts.0).0 in
+    let own = came_at-entered ports port original b x h in
+    let body = entered-body port b (enters ports port b) x (λ vid f is. entered-short ports port b vid f is) parts.1 in
+    record { from = subst IsFar (sym own.from) tt; dst = own.whole.dst; src = own.whole.src; body = omega (arith, body, short) }

@@ -1,0 +1,42 @@
+-- Remote endpoints by addresses alone: places, flood lists and changes.
+use Rattle.std.proofs.Common.{◌≤◌, length}
+use Rattle.std.specs.List.{AllByRecursion}
+use Rattle.ip_udp_view.specs.Addr.{IsAddr}
+use Rattle.flood_lists.specs.Flood.{Entries}
+use Rattle.flood_lists.specs.declared.remote.Remote.{Remote as Endpoint}
+use Rattle.filter_db.specs.declared.place.Place.{Place}
+use Rattle.filter_db.specs.declared.place.Place.TheVariants.{Local, Remote}
+use Rattle.overlay_settings.specs.declared.change.Change.{Change}
+use Rattle.overlay_settings.specs.declared.change.Change.TheVariants.{AddFlood, RemoveFlood, Fix, Unfix, SetAgeing, SetLearning, SetMember, PortUp, PortDown, Flush, AddSegment, RemoveSegment, SetLimit}
+use Rattle.overlay_settings.specs.declared.change.Target.{Target}
+use Rattle.overlay_settings.specs.declared.change.Target.TheVariants as target
+
+-- a remote place has an address with as many octets as its family's have
+abbrev pub IsFar : Place → Type 0
+IsFar (Local port) = Unit {0}
+IsFar (Remote kind addr) = IsAddr addr
+
+-- so has each entry of a flood list, and there are no more than 16
+abbrev pub IsFlood : Entries → Type 0
+IsFlood flood = (length flood ≤ 16) × AllByRecursion (λ (r : Endpoint). IsAddr r.addr) flood
+
+-- so has the place of a fixed entry
+abbrev pub IsTarget : Target → Type 0
+IsTarget (target.Local port) = Unit {0}
+IsTarget (target.Remote addr tunnel) = IsAddr addr
+
+-- so has each endpoint that a change adds
+abbrev pub HasAddr : Change → Type 0
+HasAddr (AddFlood vid addr tunnel) = IsAddr addr
+HasAddr (RemoveFlood vid addr tunnel) = Unit {0}
+HasAddr (Fix vid mac goal) = IsTarget goal
+HasAddr (Unfix vid mac) = Unit {0}
+HasAddr (SetAgeing vid seconds) = Unit {0}
+HasAddr (SetLearning vid on) = Unit {0}
+HasAddr (SetMember vid port egress) = Unit {0}
+HasAddr (PortUp port) = Unit {0}
+HasAddr (PortDown port) = Unit {0}
+HasAddr (Flush vid) = Unit {0}
+HasAddr (AddSegment rule) = Unit {0}
+HasAddr (RemoveSegment vid) = Unit {0}
+HasAddr (SetLimit vid limit) = Unit {0}

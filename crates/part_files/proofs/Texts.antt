@@ -1,0 +1,76 @@
+-- The texts of a whole run are such as a merge reads back.
+use Rattle.std.proofs.Common.{◌≡◌, sym, subst, ℕ, ◌≤◌, arith, List, [], ◌∷◌, length, map, Vec, Ok}
+use Rattle.std.specs.List.{AllByRecursion, zip}
+use Rattle.std.specs.declared.alloc.Global.{Global}
+use Rattle.timeline.specs.Timeline.{Timeline, told}
+use Rattle.decision_lines.specs.Lines.{cut_line}
+use Rattle.overlay_config.specs.Change.{changes_in}
+use Rattle.overlay_config.specs.Settings.{settings_in}
+use Rattle.overlay_config.proofs.Meets.{texts_meet}
+use Rattle.overlay_settings.specs.Settings.{Settings as Rules}
+use Rattle.overlay_settings.specs.declared.change.Change.{Change}
+use Rattle.overlay_settings.specs.declared.change.TimedChange.{TimedChange}
+use Rattle.endpoint_state.specs.Opened.{settings_told}
+use Rattle.endpoint_core.specs.Step.{Answer, answers, opened}
+use Rattle.endpoint_core.specs.Run.{decisions}
+use Rattle.endpoint_core.proofs.Runs.{answers-decisions}
+use Rattle.capture_run.specs.Outputs.{event_of}
+use Rattle.capture_run.proofs.Growing.{rising_events}
+use Rattle.mesh_delivery.proofs.Underlays.{underlay-kept}
+use Rattle.shard_merge.specs.Coming.{AreTexts, IsPiece}
+use Rattle.segment_shards.specs.Pieces.{IsAsked, Told, all_pieces, pieces_of, told_from}
+use Rattle.segment_shards.proofs.ChangeTexts.{text-names}
+use Rattle.segment_shards.proofs.Vids.{told-asked, vids-told}
+use Rattle.part_files.specs.Files.{AreCounted, AreOctets}
+use Rattle.part_files.proofs.Beginning.{knows-opened}
+use Rattle.part_files.proofs.ChangeTexts.{IsTimed, text-timed}
+use Rattle.part_files.proofs.Coming.{IsMoment, coming-told, cuts-coming, cuts-told, rising-told}
+use Rattle.part_files.proofs.Knowing.{Knows}
+use Rattle.part_files.proofs.Remotes.{HasAddr}
+use Rattle.part_files.proofs.Telling.{cuts-read, pieces-read}
+
+-- each event's line tells its number and where its records stand, each cut capture's that it is one, and there are no
+-- more of these than a merge takes
+pub record AreReadable (ports : ℕ) (s : Rules) (changes : List TimedChange) (timeline : Timeline) : Type 0 where
+  pub texts : AreTexts ports (all_pieces (pieces_of (settings_told s) (map (λ (c : TimedChange). c.change) changes) timeline)) (map cut_line timeline.cuts)
+  pub few : length timeline.cuts ≤ 256
+
+-- the texts of a run with the settings and the changes of these texts, over captures of these octets, are so
+abbrev pub ReadsBack : List ℕ → List ℕ → List (Vec ℕ Global) → List ℕ → Type 0
+ReadsBack settings changes texts text =
+    (s : Rules) (cs : List TimedChange) (timeline : Timeline) → settings_in settings ≡ Ok s → changes_in changes ≡ Ok cs
+    → told (map (λ (c : TimedChange). c.at) cs) texts text ≡ Ok timeline → length texts ≡ length s.ports → AreReadable (length texts) s cs timeline
+
+have-addr : (cs : List TimedChange) → AllByRecursion IsTimed cs → AllByRecursion HasAddr (map (λ (c : TimedChange). c.change) cs)
+have-addr [] all = tt
+have-addr (c ∷ cs) all = (all.0.0, have-addr cs all.1)
+
+early : (cs : List TimedChange) → AllByRecursion IsTimed cs → AllByRecursion IsMoment (map (λ (c : TimedChange). c.at) cs)
+early [] all = tt
+early (c ∷ cs) all = (all.0.1, early cs all.1)
+
+pub reads-back : (settings changes : List ℕ) (texts : List (Vec ℕ Global)) (text : List ℕ) → AreOctets texts text → AreCounted changes texts text → ReadsBack settings changes texts text
+reads-back settings changes texts text octets counted s cs timeline settings_are changes_are read many =
+    let rules = texts_meet settings s settings_are in
+    let few : length texts ≤ 16 = omega (arith, many, rules.port_count.1) in
+    let timed = text-timed changes cs changes_are in
+    let moments = map (λ (c : TimedChange). c.at) cs in
+    let asked_changes : List Change = map (λ (c : TimedChange). c.change) cs in
+    let S = settings_told s in
+    let es = timeline.events in
+    let fits = counted cs timeline changes_are read in
+    let rising = rising-told moments texts text timeline read in
+    let coming = coming-told moments texts text timeline read octets.0 octets.1 (early cs timed) in
+    let same : answers (opened S) (map (event_of asked_changes) es) ≡ decisions S [] (map (event_of asked_changes) es) =
+    answers-decisions S [] (map (event_of asked_changes) es) (rising_events asked_changes 0 es rising) in
+    let asked = told-asked S asked_changes (vids-told s rules) (text-names changes cs changes_are) es in
+    record {
+      texts = record {
+        of_events = subst (λ (found : List Answer). AllByRecursion (IsPiece (length texts)) (all_pieces (told_from asked_changes 0 (zip es found)))) same
+            (pieces-read asked_changes (length texts) s.underlay (opened S) es few (underlay-kept s.underlay rules.underlay) fits (have-addr cs timed)
+            (subst (λ (n : ℕ). Knows n s.underlay (opened S).bridges) (sym many) (knows-opened s rules)) coming
+            (subst (λ (found : List Answer). AllByRecursion (λ (t : Told). IsAsked t.segment) (told_from asked_changes 0 (zip es found))) (sym same) asked));
+        of_cuts = cuts-read (length texts) (length es) timeline.cuts few fits (cuts-coming moments texts text timeline read octets.0 octets.1);
+      };
+      few = omega (arith, few, cuts-told moments texts text timeline read);
+    }

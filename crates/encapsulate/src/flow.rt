@@ -1,5 +1,6 @@
 //! The flow that a frame belongs to.
-ghost use Rattle.std.specs.Prelude.{◌≡◌, ◌≤◌, ◌^◌, length, drop, IsTrue};
+ghost use Rattle.std.specs.Prelude.{◌≡◌, ◌≤◌, ◌+◌, ◌^◌, length, drop, IsTrue};
+ghost use Rattle.header_sums.specs.Sum.{total};
 ghost use Rattle.ip_udp_view.specs.Datagram.{has_type};
 ghost use Rattle.ip_udp_view.specs.Ip.{Ip4, Ip6, is_fragment};
 ghost use Rattle.encapsulate.specs.Flow.{has_ports, shows_ports, shows_flow, ports_sum, inner_sum, source_port};
@@ -21,11 +22,13 @@ const PORTS: usize = 4;
 const OFFSETS: u16 = 8192;
 
 /// The UDP source port of the packets of a frame's flow, 49152 to 65535: frames between the same stations, and of
-/// the same TCP or UDP ports where they show some, have the same port (RFC 7348, 5; RFC 8926, 3.3).
-pub(crate) fn source_port(frame: &BridgeFrame) -> u16
+/// the same TCP or UDP ports where they show some, have the same port (RFC 7348, 5; RFC 8926, 3.3). `stations` is the sum
+/// of its addresses.
+pub(crate) fn source_port(frame: &BridgeFrame, stations: u64) -> u16
+    requires stations { stations ≡ total frame.now.dst + total frame.now.src }
+    requires small { stations ≤ 2 ^ 24 }
     ensures { result ≡ source_port frame.now }
 {
-    let stations = words(&frame.dst.0) + words(&frame.src.0);
     let hash = fold(stations + words(&frame.body[..2]) + inner_sum(frame.body));
     49152 + hash % 16384
 }

@@ -1,5 +1,6 @@
 //! What all packets with one frame share.
-ghost use Rattle.std.specs.Prelude.{◌≡◌, IfSome, is_some};
+ghost use Rattle.std.specs.Prelude.{◌≡◌, ◌≤◌, ◌+◌, ◌++◌, ◌^◌, IfSome, is_some};
+ghost use Rattle.header_sums.specs.Sum.{total};
 ghost use Rattle.encapsulate.specs.Packet.{frame_sum};
 ghost use Rattle.encapsulate.specs.Sums.{AreSums};
 
@@ -21,13 +22,14 @@ impl FrameSums {
         ensures sums { AreSums frame.now result }
         ensures summed { is_some result.sum ≡ is_summed }
     {
+        let stations = stations_sum(frame);
         let sum = if is_summed {
-            Some(frame_sum(frame))
+            Some(frame_sum(frame, stations))
         } else {
             None
         };
         FrameSums {
-            port: source_port(frame),
+            port: source_port(frame, stations),
             sum,
         }
     }
@@ -43,14 +45,25 @@ impl FrameSums {
         }
         match self.sum {
             Some(sum) => Some(sum),
-            None => Some(frame_sum(frame)),
+            None => Some(frame_sum(frame, stations_sum(frame))),
         }
     }
 }
 
-/// The folded sum of a frame's octets, without a tag.
-fn frame_sum(frame: &BridgeFrame) -> u16
+/// The sum of a frame's addresses.
+fn stations_sum(frame: &BridgeFrame) -> u64
+    ensures each { result ≡ total frame.now.dst + total frame.now.src }
+    ensures whole { result ≡ total (frame.now.dst ++ frame.now.src) }
+    ensures small { result ≤ 2 ^ 24 }
+{
+    words(&frame.dst.0) + words(&frame.src.0)
+}
+
+/// The folded sum of a frame's octets, without a tag, by the sum of its addresses.
+fn frame_sum(frame: &BridgeFrame, stations: u64) -> u16
+    requires stations { stations ≡ total (frame.now.dst ++ frame.now.src) }
+    requires small { stations ≤ 2 ^ 24 }
     ensures { result ≡ frame_sum frame.now }
 {
-    fold(words(frame.addresses) + u64::from(folded(frame.body)))
+    fold(stations + u64::from(folded(frame.body)))
 }

@@ -1,5 +1,6 @@
 //! Sums of 16-bit words.
 ghost use Rattle.std.specs.Prelude.{◌≡◌, ◌≤◌, ◌<◌, ◌+◌, ◌*◌, ◌^◌, length, drop};
+ghost use Rattle.std.specs.Int.{from_bool};
 ghost use Rattle.header_sums.specs.Sum.{total, folded, sent_of, complement};
 
 use byteorder::{BigEndian, ByteOrder, LittleEndian};
@@ -55,55 +56,78 @@ pub fn sent_sum(sum: u64) -> u16
 }
 
 /// The sum of a text's words, folded to 16 bits: for long texts cheaper than [`words`]. It adds 64-bit words as they
-/// lie in memory, low octet first, and swaps the octets of the folded sum, which is a product by 256 (RFC 1071, 2 (B)).
+/// lie in memory, low octet first, and each carry out of the 64 bits at the lowest place, since 2^64 folds to 1; then it
+/// swaps the octets of the folded sum, which is a product by 256 (RFC 1071, 2 (B) and 2 (A)).
 pub fn folded(bytes: &[u8]) -> u16
     ensures { result ≡ folded (total bytes.now) }
 {
-    let mut sum: u128 = 0;
+    let mut sum: u64 = 0;
+    let mut carries: u64 = 0;
     let mut rest = bytes;
-    while rest.len() >= 32 {
-        sum = add_block(sum, rest);
-        rest = &rest[32..];
+    while rest.len() >= 64 {
+        let (next, carry) = add_block(sum, rest);
+        sum = next;
+        carries += u64::from(carry);
+        rest = &rest[64..];
     }
     while rest.len() >= 8 {
-        sum = add_word(sum, rest);
+        let (next, carry) = add_word(sum, false, rest);
+        sum = next;
+        carries += u64::from(carry);
         rest = &rest[8..];
     }
-    fold(u64::from(fold(narrowed(sum))) * 256 + words(rest))
+    fold(u64::from(fold(narrowed(sum) + carries)) * 256 + words(rest))
 }
 
-/// Adds the first 32 octets to a sum of words with swapped octets.
+/// Adds the first 64 octets to a sum of words with swapped octets; and whether there is a carry.
 #[inline(always)]
-fn add_block(sum: u128, text: &[u8]) -> u128
-    requires small { sum < 2 ^ 125 }
-    requires long { 32 ≤ length text.now }
-    ensures sum { folded (256 * result + total (drop 32 text.now)) ≡ folded (256 * sum + total text.now) }
-    ensures small { result < sum + 2 ^ 66 }
+fn add_block(sum: u64, text: &[u8]) -> (u64, bool)
+    requires { 64 ≤ length text.now }
+    ensures { folded (256 * (result.0 + from_bool result.1) + total (drop 64 text.now)) ≡ folded (256 * sum + total text.now) }
 {
-    let first = add_word(sum, text);
-    let second = add_word(first, &text[8..]);
-    let third = add_word(second, &text[16..]);
-    add_word(third, &text[24..])
+    let (half, carry) = add_half(sum, false, text);
+    add_half(half, carry, &text[32..])
 }
 
-/// Adds the first 8 octets to a sum of words with swapped octets.
+/// Adds the first 32 octets and a carry to a sum of words with swapped octets; and whether there is a carry.
 #[inline(always)]
-fn add_word(sum: u128, text: &[u8]) -> u128
-    requires small { sum < 2 ^ 126 }
-    requires long { 8 ≤ length text.now }
-    ensures sum { folded (256 * result + total (drop 8 text.now)) ≡ folded (256 * sum + total text.now) }
-    ensures small { result < sum + 2 ^ 64 }
+fn add_half(sum: u64, carry: bool, text: &[u8]) -> (u64, bool)
+    requires { 32 ≤ length text.now }
+    ensures { folded (256 * (result.0 + from_bool result.1) + total (drop 32 text.now))
+        ≡ folded (256 * (sum + from_bool carry) + total text.now) }
 {
-    sum + u128::from(LittleEndian::read_u64(text))
+    let (first, carry) = add_word(sum, carry, text);
+    let (second, carry) = add_word(first, carry, &text[8..]);
+    let (third, carry) = add_word(second, carry, &text[16..]);
+    add_word(third, carry, &text[24..])
 }
 
-/// A sum in 64 bits that folds to the same.
+/// Adds the first 8 octets and a carry to a sum of words with swapped octets; and whether there is a carry.
 #[inline(always)]
-fn narrowed(sum: u128) -> u64
-    requires { sum < 2 ^ 126 }
-    ensures { folded result ≡ folded sum }
+fn add_word(sum: u64, carry: bool, text: &[u8]) -> (u64, bool)
+    requires { 8 ≤ length text.now }
+    ensures { folded (256 * (result.0 + from_bool result.1) + total (drop 8 text.now))
+        ≡ folded (256 * (sum + from_bool carry) + total text.now) }
 {
-    let high = (sum >> 64) as u64;
-    let low = (sum % 0x1_0000_0000_0000_0000) as u64;
-    high + (low >> 32) + low % 0x1_0000_0000
+    plus(sum, LittleEndian::read_u64(text), carry)
+}
+
+/// The sum of two words and a carry, modulo 2^64; and whether there is a carry. It is the method `carrying_add` in a form
+/// of which the compiler makes one instruction.
+#[inline(always)]
+fn plus(one: u64, other: u64, carry: bool) -> (u64, bool)
+    ensures { result.0 + from_bool result.1 * 2 ^ 64 ≡ one + other + from_bool carry }
+{
+    let sum = one.wrapping_add(other);
+    let total = sum.wrapping_add(u64::from(carry));
+    (total, (sum < one) | (total < sum))
+}
+
+/// A sum in 33 bits that folds to the same.
+#[inline(always)]
+fn narrowed(sum: u64) -> u64
+    ensures value { folded result ≡ folded sum }
+    ensures small { result < 2 ^ 33 }
+{
+    (sum >> 32) + sum % 0x1_0000_0000
 }

@@ -37,6 +37,10 @@ pub(crate) fn copy(octets: &[u8], head: &mut Head)
     requires { length octets.now ≤ 70 }
     ensures { head.new.items ≡ octets.now }
 {
+    if head.len() == octets.len() {
+        head.as_mut_slice().copy_from_slice(octets);
+        return;
+    }
     head.clear();
     match head.try_extend_from_slice(octets) {
         Ok(()) => {}

@@ -56,30 +56,30 @@ impl<'s> Bridge<'s> {
     }
 
     /// Whether both places are remotes of one horizon group.
-    pub(crate) fn in_one_group(&self, from: Place, to: Place) -> bool
-        ensures { result ≡ in_one_group (config_of self.now) from to }
+    pub(crate) fn in_one_group(&self, from: &Place, to: &Place) -> bool
+        ensures { result ≡ in_one_group (config_of self.now) from.now to.now }
     {
         match (from, to) {
             (Place::Remote(one, _), Place::Remote(other, _)) => {
-                self.group_of(one) == self.group_of(other)
+                self.group_of(*one) == self.group_of(*other)
             }
             _ => false,
         }
     }
 
     /// Whether a flood of a frame from a place goes to a local place.
-    pub(crate) fn is_local_outlet(&self, from: Place, to: Place) -> bool
-        ensures { result ≡ is_local_outlet (config_of self.now) from to }
+    pub(crate) fn is_local_outlet(&self, from: &Place, to: &Place) -> bool
+        ensures { result ≡ is_local_outlet (config_of self.now) from.now to.now }
     {
-        !self.is_shut(to) && !to.is_same(from)
+        !self.is_shut(to) && *to != *from
     }
 
     /// Whether a place is a local port where no frame of the segment leaves.
-    pub(crate) fn is_shut(&self, place: Place) -> bool
-        ensures { result ≡ is_shut (config_of self.now) place }
+    pub(crate) fn is_shut(&self, place: &Place) -> bool
+        ensures { result ≡ is_shut (config_of self.now) place.now }
     {
         match place {
-            Place::Local(port) => !self.serves(port),
+            Place::Local(port) => !self.serves(*port),
             Place::Remote(..) => false,
         }
     }

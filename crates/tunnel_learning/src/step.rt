@@ -65,21 +65,21 @@ pub fn bridge_step_into<T: Tables>(
         let _ = tables.learn(bridge.vid, frame.src, from, now);
     }
     if frame.dst.is_group() {
-        return everywhere(bridge, from, places);
+        return everywhere(bridge, &from, places);
     }
     match tables.look(bridge.vid, frame.dst, now) {
-        Some(to) => to_place(bridge, from, to, places),
-        None => everywhere(bridge, from, places),
+        Some(to) => to_place(bridge, &from, &to, places),
+        None => everywhere(bridge, &from, places),
     }
 }
 
 /// To the place where the destination stands.
-fn to_place(bridge: &Bridge, from: Place, to: Place, places: &mut Outlets) -> Result<(), Reason>
+fn to_place(bridge: &Bridge, from: &Place, to: &Place, places: &mut Outlets) -> Result<(), Reason>
     requires { places.old.items ≡ [] }
-    ensures value { put_or places.new.items result ≡ to_place (config_of bridge.now) from to }
+    ensures value { put_or places.new.items result ≡ to_place (config_of bridge.now) from.now to.now }
     ensures empty { OnErr result (places.new.items ≡ []) }
 {
-    if to.is_same(from) {
+    if *to == *from {
         return Err(Reason::SamePlace);
     }
     if bridge.in_one_group(from, to) {
@@ -88,14 +88,14 @@ fn to_place(bridge: &Bridge, from: Place, to: Place, places: &mut Outlets) -> Re
     if bridge.is_shut(to) {
         return Err(Reason::Unreachable);
     }
-    places.push(to);
+    places.push(*to);
     Ok(())
 }
 
 /// Everywhere else: the up members, and the remotes of the flood list.
-fn everywhere(bridge: &Bridge, from: Place, places: &mut Outlets) -> Result<(), Reason>
+fn everywhere(bridge: &Bridge, from: &Place, places: &mut Outlets) -> Result<(), Reason>
     requires { places.old.items ≡ [] }
-    ensures value { put_or places.new.items result ≡ everywhere (config_of bridge.now) from }
+    ensures value { put_or places.new.items result ≡ everywhere (config_of bridge.now) from.now }
     ensures empty { OnErr result (places.new.items ≡ []) }
 {
     put_local(bridge, from, places);
@@ -107,28 +107,28 @@ fn everywhere(bridge: &Bridge, from: Place, places: &mut Outlets) -> Result<(), 
 }
 
 /// Puts the up members but the port that the frame came from, rising.
-fn put_local(bridge: &Bridge, from: Place, places: &mut Outlets)
+fn put_local(bridge: &Bridge, from: &Place, places: &mut Outlets)
     requires { array_vec_len places.old ≤ 0 }
-    ensures items { places.new.items ≡ places.old.items ++ local_places (config_of bridge.now) from }
+    ensures items { places.new.items ≡ places.old.items ++ local_places (config_of bridge.now) from.now }
     ensures few { array_vec_len places.new ≤ 16 }
 {
     for number in 0..bridge.ports.ports() {
         let port = number + 1;
         let to = Place::Local(port);
-        if bridge.is_local_outlet(from, to) {
+        if bridge.is_local_outlet(from, &to) {
             places.push(to);
         }
     }
 }
 
 /// Puts the remotes of the flood list but those of the horizon group that the frame came from, in its order.
-fn put_remote(bridge: &Bridge, from: Place, places: &mut Outlets)
+fn put_remote(bridge: &Bridge, from: &Place, places: &mut Outlets)
     requires { array_vec_len places.old ≤ 16 }
-    ensures { places.new.items ≡ places.old.items ++ remote_places (config_of bridge.now) from }
+    ensures { places.new.items ≡ places.old.items ++ remote_places (config_of bridge.now) from.now }
 {
     for target in bridge.flood.targets() {
         let to = Place::Remote(target.tunnel, target.addr);
-        if !bridge.in_one_group(from, to) {
+        if !bridge.in_one_group(from, &to) {
             places.push(to);
         }
     }

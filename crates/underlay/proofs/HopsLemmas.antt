@@ -1,5 +1,5 @@
 -- The exceptions from the next hop as entries of a finite map.
-use Rattle.std.proofs.Common.{◌≡◌, ℕ, zero, suc, ◌<◌, ◌≤◌, List, [], ◌∷◌, map, length, get_or, Some, Result, Ok, Err, refl, sym, ap, ◌∙◌, subst, arith}
+use Rattle.std.proofs.Common.{◌≡◌, ℕ, zero, suc, ◌<◌, ◌≤◌, List, [], ◌∷◌, map, length, get_or, None, Some, Result, Ok, Err, refl, sym, ap, ◌∙◌, subst, arith}
 use Rattle.std.specs.Prelude.{T, MatchResult}
 use Rattle.std.specs.List.{insert as insert_at, AllWithin}
 use Rattle.std.specs.List.Sorted.{IsSearchInRange, IsBinarySearchResult, IsNonDecreasingBy}
@@ -7,13 +7,13 @@ use Rattle.std.specs.declared.cmp.Ordering.{Ordering}
 use Rattle.std.specs.declared.cmp.Ordering.TheVariants.{Less, Greater}
 use Rattle.std.specs.Ordering.{nat_cmp, ordering_index}
 use Rattle.std.specs.Cmp.Lexicographic.{slice_cmp, nat_list_cmp_total}
-use Rattle.std.specs.FinMap.{FinMap, is_sorted, from_sorted, entries, get, insert, len, len-entries}
-use Rattle.std.proofs.lemmas.List.{get_or-map, length-map}
+use Rattle.std.specs.FinMap.{FinMap, is_sorted, from_sorted, entries, get, insert, len, len-entries, get-empty}
+use Rattle.std.proofs.lemmas.List.{get_or-map, length-map, nil_from_length}
 use Rattle.ip_udp_view.specs.declared.addr.Addr.TheVariants.{V4}
 use Rattle.underlay.specs.declared.hops.Hop.{Hop}
 use Rattle.underlay.specs.Exceptions.{exception}
 use Rattle.underlay.specs.Search.{IsAt, IsGapFor}
-use Rattle.underlay.proofs.SearchLemmas.{searched, entries_shown, get_at, put_shown}
+use Rattle.underlay.proofs.SearchLemmas.{searched, entries_shown, get_at, put_shown, from_sorted-none}
 
 abbrev Octets : Type 0
 Octets = List ℕ
@@ -76,6 +76,12 @@ module _ (hops : List Hop) (m : Shown) (sorted : T (is_sorted (slice_cmp nat_cmp
       ∙ ap (λ (l : List (Octets × Octets)). Some (get_or l at (exception h)).1) entries_are
       ∙ ap (λ (e : Octets × Octets). Some e.1) (get_or-map exception hops at h (exception h) (within at there.0))
       ∙ ap (λ (g : Hop). Some g.mac) (sym read)
+
+  -- what is found among none
+  pub none_of : length hops ≡ 0 → (k : Octets) → get m k ≡ None
+  none_of none k =
+      ap (λ (n : Shown). get n k) (sym shown ∙ ap (λ (l : List Hop). from_sorted (map exception l)) (nil_from_length hops none) ∙ from_sorted-none nat_list_cmp_total)
+      ∙ get-empty (slice_cmp nat_cmp) k
 
   -- what is shown with one more
   pub hop_put : (new : List Hop) (at : ℕ) (h : Hop) → IsGapFor m (exception h).0 at → new ≡ insert_at hops at h → (T (is_sorted (slice_cmp nat_cmp) (map exception new))) × (from_sorted (map exception new) ≡ insert m (exception h).0 h.mac)

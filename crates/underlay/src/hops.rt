@@ -76,6 +76,9 @@ impl Hops {
     pub fn get(&self, addr: Addr) -> Option<Mac>
         ensures { result ≡ get self.now (address addr) }
     {
+        if self.exceptions.is_empty() {
+            return None;
+        }
         let place = self.search(addr).ok()?;
         Some(self.exceptions[place].mac)
     }

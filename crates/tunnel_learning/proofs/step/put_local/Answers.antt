@@ -11,7 +11,7 @@ use Rattle.tunnel_learning.proofs.step.put_local.Goals.{then-is_local_outlet, el
 
 pub loop-number-preserved : goal.loop-number-preserved
 loop-number-preserved c =
-    let p = is_local_outlet (config_of c.args.bridge.now) c.args.from in
+    let p = is_local_outlet (config_of c.args.bridge.now) c.args.from.now in
     let n = c.loop-number.number in
     let to = Local (n + 1) in
     let so_far = filter p (map Local (range_with_len 1 n)) in

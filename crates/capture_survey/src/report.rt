@@ -12,7 +12,7 @@ use timeline::Tap;
 const SECOND: u64 = 1_000_000_000;
 
 /// A moment in nanoseconds. It prints as seconds with nine digits behind the point.
-#[derive(Clone, Copy, Debug, PartialEq, Eq)]
+#[derive(Clone, Copy)]
 pub struct Moment(pub u64);
 
 impl fmt::Display for Moment {
@@ -147,7 +147,7 @@ impl fmt::Display for Line {
 
 /// What is in the capture of a tap. It prints as lines: what it is, its records and moments, and then a line for each thing
 /// that may be unmeant.
-#[derive(Clone, Copy, Debug, PartialEq, Eq)]
+#[derive(Clone, Copy)]
 pub struct Report {
     pub tap: Tap,
     /// Whether the file is a pcapng capture, which is read as a classic one.

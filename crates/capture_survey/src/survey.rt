@@ -12,7 +12,7 @@ use pcap_stream::{Input, Source};
 use timeline::Tap;
 
 /// What is in a capture.
-#[derive(Clone, Copy, Debug, PartialEq, Eq)]
+#[derive(Clone, Copy)]
 pub struct Survey {
     /// How it writes its numbers.
     pub style: Style,

@@ -14,14 +14,14 @@ const LONGEST_PACKET: usize = 65_549;
 
 /// The moments at which a run takes the first and the last record, in nanoseconds: a record that is earlier than one before
 /// it takes that one's moment.
-#[derive(Clone, Copy, Debug, PartialEq, Eq)]
+#[derive(Clone, Copy)]
 pub struct Span {
     pub first: u64,
     pub last: u64,
 }
 
 /// What is counted of some records.
-#[derive(Clone, Copy, Debug, PartialEq, Eq)]
+#[derive(Clone, Copy)]
 pub struct Tally {
     /// How many they are.
     pub records: u64,

@@ -41,8 +41,8 @@ fn put_asked(text: &mut String, change: Change) -> Result<(), AllocError>
         }
         Change::SetLearning { vid, on } => put_word(text, "set_learning", vid, on_word(on)),
         Change::SetMember { vid, port, egress } => put_member(text, vid, port, egress),
-        Change::PortUp { port } => write!(text, "port_up port {port}"),
-        Change::PortDown { port } => write!(text, "port_down port {port}"),
+        Change::PortUp { port } => put_of_port(text, "port_up", port),
+        Change::PortDown { port } => put_of_port(text, "port_down", port),
         Change::Flush { vid } => put_of_vid(text, "flush", vid),
         Change::AddSegment(new) => put_new(text, &new),
         Change::RemoveSegment { vid } => put_of_vid(text, "remove_segment", vid),
@@ -56,6 +56,13 @@ fn put_of_vid(text: &mut String, kind: &str, vid: Vid) -> Result<(), AllocError>
 {
     let number = vid.get();
     write!(text, "{kind} vid {number}")
+}
+
+/// Puts a kind and the number of a port.
+fn put_of_port(text: &mut String, kind: &str, port: u8) -> Result<(), AllocError>
+    ensures { OnOk result (string_bytes text.new ≡ string_bytes text.old ++ (kind.now ++ codes " port " ++ decimal port)) }
+{
+    write!(text, "{kind} port {port}")
 }
 
 /// Puts a kind, a VID and a word.

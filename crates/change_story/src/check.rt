@@ -13,7 +13,7 @@ use ip_udp_view::{Addr, Tunnel};
 use std::alloc::AllocError;
 
 /// A check of a change.
-#[derive(Clone, Copy, Debug)]
+#[derive(Clone, Copy)]
 pub struct Check {
     /// Why it refuses.
     pub fault: ChangeFault,
@@ -29,6 +29,13 @@ pub(crate) fn put(checks: &mut Vec<Check>, check: Check) -> Result<(), AllocErro
 {
     checks.push(check)?;
     Ok(())
+}
+
+/// Puts checks behind the others.
+pub(crate) fn put_all(checks: &mut Vec<Check>, more: &[Check]) -> Result<(), AllocError>
+    ensures { OnOk result (checks.new.items ≡ checks.old.items ++ more.now) }
+{
+    checks.extend_from_slice(more)
 }
 
 /// There is a segment of this VID.

@@ -10,7 +10,7 @@ ghost use Rattle.change_story.specs.Checks as specs;
 use crate::check::{
     Check, absent_check, ageing_check, count_check, family_check, fixed_check, flood_check,
     group_check, limit_check, listed_check, mac_check, own_check, pool_check, port_check, put,
-    room_check, segment_check, tunnel_check, usable_check, vid_check, vnis_check,
+    put_all, room_check, segment_check, tunnel_check, usable_check, vid_check, vnis_check,
 };
 use crate::segment::{Segment, segment_in};
 use endpoint_state::{Change, EndpointState, NewSegment, Target, kind_of};
@@ -97,8 +97,8 @@ fn put_membership(
     match segment_in(state, vid) {
         None => put(checks, segment_check(vid, false)),
         Some(_) => {
-            put(checks, segment_check(vid, true))?;
-            put_port(checks, state, port)
+            let port = port_check(state.ports().ports(), port);
+            put_all(checks, &[segment_check(vid, true), port])
         }
     }
 }
@@ -115,10 +115,7 @@ fn put_ageing(
 {
     match segment_in(state, vid) {
         None => put(checks, segment_check(vid, false)),
-        Some(_) => {
-            put(checks, segment_check(vid, true))?;
-            put(checks, ageing_check(seconds))
-        }
+        Some(_) => { put_all(checks, &[segment_check(vid, true), ageing_check(seconds)]) }
     }
 }
 
@@ -174,11 +171,16 @@ fn put_adding_by(
 ) -> Result<(), AllocError>
     ensures { OnOk result (checks.new.items ≡ checks.old.items ++ specs.flood_checks own.now flood.now addr kind) }
 {
-    put(checks, usable_check(addr))?;
-    put(checks, family_check(own, addr))?;
-    put(checks, own_check(own, addr))?;
-    put(checks, absent_check(flood.holds(kind, addr)))?;
-    put(checks, flood_check(flood.targets().len()))
+    put_all(
+        checks,
+        &[
+            usable_check(addr),
+            family_check(own, addr),
+            own_check(own, addr),
+            absent_check(flood.holds(kind, addr)),
+            flood_check(flood.targets().len()),
+        ],
+    )
 }
 
 /// Of a remote endpoint that is to leave a flood list.
@@ -238,14 +240,29 @@ fn put_fixing(
     match segment_in(state, vid) {
         None => put(checks, segment_check(vid, false)),
         Some(segment) => {
-            put(checks, segment_check(vid, true))?;
-            put(checks, mac_check(mac))?;
+            put_all(checks, &[segment_check(vid, true), mac_check(mac)])?;
             put_target(checks, state, &segment, target)?;
-            let stood = state.entry(alloc, vid, mac, now)?;
-            let entries = state.entry_count(alloc, vid, now)?;
-            put(checks, room_check(segment.limit, stood, entries))
+            let room = entry_room(alloc, state, now, vid, mac, segment.limit)?;
+            put(checks, room)
         }
     }
+}
+
+/// The room of a segment's table, which may have so many entries, for a fixed one.
+fn entry_room(
+    alloc: Global,
+    state: &EndpointState,
+    now: u64,
+    vid: Vid,
+    mac: Mac,
+    limit: u32,
+) -> Result<Check, AllocError>
+    requires time { moment_of state.now ≤ now }
+    ensures { IfOk result (λ check. check ≡ specs.room_check limit mac ((state_at now state.now).tables vid)) }
+{
+    let stood = state.entry(alloc, vid, mac, now)?;
+    let entries = state.entry_count(alloc, vid, now)?;
+    Ok(room_check(limit, stood, entries))
 }
 
 /// Of the place where a fixed entry of a segment is to stand.
@@ -282,12 +299,15 @@ fn put_remote(
     put(checks, tunnel_check(tunnel, found))?;
     match found {
         None => Ok(()),
-        Some(_) => {
-            put(checks, usable_check(addr))?;
-            put(checks, group_check(addr))?;
-            put(checks, family_check(own, addr))?;
-            put(checks, own_check(own, addr))
-        }
+        Some(_) => put_all(
+            checks,
+            &[
+                usable_check(addr),
+                group_check(addr),
+                family_check(own, addr),
+                own_check(own, addr),
+            ],
+        ),
     }
 }
 
@@ -308,9 +328,8 @@ fn put_unfixing(
     match segment_in(state, vid) {
         None => put(checks, segment_check(vid, false)),
         Some(_) => {
-            put(checks, segment_check(vid, true))?;
             let stood = state.entry(alloc, vid, mac, now)?;
-            put(checks, fixed_check(stood))
+            put_all(checks, &[segment_check(vid, true), fixed_check(stood)])
         }
     }
 }
@@ -323,15 +342,17 @@ fn put_new(
 ) -> Result<(), AllocError>
     ensures { OnOk result (checks.new.items ≡ checks.old.items ++ specs.new_checks (settings_of state.now) new.now) }
 {
-    put(checks, limit_check(new.limit))?;
-    put(checks, ageing_check(new.ageing))?;
-    put(
+    put_all(
         checks,
-        vid_check(new.vid, segment_in(state, new.vid).is_some()),
-    )?;
-    put(checks, vnis_check(state.under().are_free(&new.tunnels)))?;
-    put(checks, count_check(state.segment_count()))?;
-    put(checks, room_of(state, new.limit))
+        &[
+            limit_check(new.limit),
+            ageing_check(new.ageing),
+            vid_check(new.vid, segment_in(state, new.vid).is_some()),
+            vnis_check(state.under().are_free(&new.tunnels)),
+            count_check(state.segment_count()),
+            room_of(state, new.limit),
+        ],
+    )
 }
 
 /// Of a new limit of a segment.
@@ -347,9 +368,14 @@ fn put_limit(
     match segment_in(state, vid) {
         None => put(checks, segment_check(vid, false)),
         Some(segment) => {
-            put(checks, segment_check(vid, true))?;
-            put(checks, limit_check(limit))?;
-            put(checks, room_with(state, segment.limit, limit))
+            put_all(
+                checks,
+                &[
+                    segment_check(vid, true),
+                    limit_check(limit),
+                    room_with(state, segment.limit, limit),
+                ],
+            )
         }
     }
 }

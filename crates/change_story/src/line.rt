@@ -41,14 +41,16 @@ fn put_words(text: &mut String, seen: Seen) -> Result<(), AllocError>
 {
     match seen {
         Seen::Segment { vid, there } => put_segment(text, vid, there),
-        Seen::Port { port, ports } => write!(text, "port p{port} of {ports}"),
+        Seen::Port { port, ports } => put_port(text, port, ports),
         Seen::Tunnel { named, found } => put_tunnel(text, named, found),
         Seen::Usable { usable } => text.push_str(usable_word(usable)),
         Seen::AddrGroup { group } => put_name(text, "addr ", group_word(group)),
         Seen::Family { there } => text.push_str(family_word(there)),
         Seen::Own { own } => text.push_str(own_word(own)),
         Seen::Listed { listed } => put_listed(text, "addr", listed),
-        Seen::FloodRoom { remotes } => write!(text, "flood list has {remotes}, at most 16"),
+        Seen::FloodRoom { remotes } => {
+            put_number(text, "flood list has ", remotes as u64, ", at most 16")
+        }
         Seen::MacGroup { group } => put_name(text, "mac ", group_word(group)),
         Seen::Room {
             stood,
@@ -56,17 +58,41 @@ fn put_words(text: &mut String, seen: Seen) -> Result<(), AllocError>
             limit,
         } => put_room(text, stood, entries, limit),
         Seen::Stood { stood } => put_mac_stood(text, stood),
-        Seen::Ageing { seconds } => write!(text, "ageing {seconds}, 10 to 1000000"),
-        Seen::Limit { limit } => write!(text, "limit {limit}, 1 to 8192"),
+        Seen::Ageing { seconds } => {
+            put_number(text, "ageing ", u64::from(seconds), ", 10 to 1000000")
+        }
+        Seen::Limit { limit } => put_number(text, "limit ", u64::from(limit), ", 1 to 8192"),
         Seen::Vnis { free } => text.push_str(free_word(free)),
-        Seen::Segments { segments } => write!(text, "segments {segments}, at most 256"),
-        Seen::Pool { room } => write!(text, "pool has room for {room}"),
+        Seen::Segments { segments } => {
+            put_number(text, "segments ", u64::from(segments), ", at most 256")
+        }
+        Seen::Pool { room } => put_pool(text, room),
         Seen::AgeingBefore { span } => put_ageing(text, span),
         Seen::Learning { on } => text.push_str(learning_word(on)),
         Seen::Member { port, egress } => put_member(text, port, egress),
         Seen::Up { port, up } => put_up(text, port, up),
         Seen::Entries { entries, limit } => put_entries(text, entries, limit),
     }
+}
+
+/// Puts a number between words.
+fn put_number(text: &mut String, front: &str, number: u64, behind: &str) -> Result<(), AllocError>
+    ensures { OnOk result (string_bytes text.new ≡ string_bytes text.old ++ (front.now ++ decimal number ++ behind.now)) }
+{
+    write!(text, "{front}{number}{behind}")
+}
+
+fn put_port(text: &mut String, port: u8, ports: u8) -> Result<(), AllocError>
+    ensures { OnOk result (string_bytes text.new
+        ≡ string_bytes text.old ++ (codes "port p" ++ decimal port ++ codes " of " ++ decimal ports)) }
+{
+    write!(text, "port p{port} of {ports}")
+}
+
+fn put_pool(text: &mut String, room: u64) -> Result<(), AllocError>
+    ensures { OnOk result (string_bytes text.new ≡ string_bytes text.old ++ (codes "pool has room for " ++ decimal room)) }
+{
+    write!(text, "pool has room for {room}")
 }
 
 fn put_segment(text: &mut String, vid: u16, there: bool) -> Result<(), AllocError>

@@ -4,7 +4,7 @@ use ip_udp_view::Tunnel;
 use vlan_ports::Egress;
 
 /// What a check of a change saw, or what the change finds of what it changes.
-#[derive(Clone, Copy, Debug)]
+#[derive(Clone, Copy)]
 pub enum Seen {
     /// Whether there is a segment of this VID.
     Segment {

@@ -30,7 +30,7 @@ fn number_within(value: &Value, low: u64, high: u64) -> Option<u64>
 }
 
 /// A whole number, both ends included.
-#[derive(Clone, Copy, Debug)]
+#[derive(Clone, Copy)]
 pub struct U64Range {
     pub low: u64,
     pub high: u64,
@@ -49,7 +49,7 @@ impl Column for U64Range {
 }
 
 /// A whole number, both ends included.
-#[derive(Clone, Copy, Debug)]
+#[derive(Clone, Copy)]
 pub struct U32Range {
     pub low: u32,
     pub high: u32,
@@ -69,7 +69,7 @@ impl Column for U32Range {
 }
 
 /// A whole number, both ends included.
-#[derive(Clone, Copy, Debug)]
+#[derive(Clone, Copy)]
 pub struct U16Range {
     pub low: u16,
     pub high: u16,
@@ -89,7 +89,7 @@ impl Column for U16Range {
 }
 
 /// A whole number, both ends included.
-#[derive(Clone, Copy, Debug)]
+#[derive(Clone, Copy)]
 pub struct U8Range {
     pub low: u8,
     pub high: u8,
@@ -109,7 +109,7 @@ impl Column for U8Range {
 }
 
 /// The number of a VLAN, 1 to 4094 (IEEE 802.1Q, 9.6).
-#[derive(Clone, Copy, Debug)]
+#[derive(Clone, Copy)]
 pub struct VidNumber;
 
 impl Column for VidNumber {
@@ -125,7 +125,7 @@ impl Column for VidNumber {
 }
 
 /// True or false.
-#[derive(Clone, Copy, Debug)]
+#[derive(Clone, Copy)]
 pub struct Truth;
 
 impl Column for Truth {
@@ -141,7 +141,7 @@ impl Column for Truth {
 }
 
 /// One of these words, each with what it stands for.
-#[derive(Clone, Copy, Debug)]
+#[derive(Clone, Copy)]
 pub struct Words<'a, T> {
     pub words: &'a [(&'a str, T)],
 }
@@ -166,7 +166,7 @@ impl<T: Copy + Drop> Column for Words<'_, T> {
 }
 
 /// A MAC address.
-#[derive(Clone, Copy, Debug)]
+#[derive(Clone, Copy)]
 pub struct AnyMac;
 
 impl Column for AnyMac {
@@ -182,7 +182,7 @@ impl Column for AnyMac {
 }
 
 /// A MAC address that is no group's.
-#[derive(Clone, Copy, Debug)]
+#[derive(Clone, Copy)]
 pub struct IndividualMac;
 
 impl Column for IndividualMac {
@@ -199,7 +199,7 @@ impl Column for IndividualMac {
 }
 
 /// An address of either family.
-#[derive(Clone, Copy, Debug)]
+#[derive(Clone, Copy)]
 pub struct AnyAddr;
 
 impl Column for AnyAddr {
@@ -222,7 +222,7 @@ fn is_endpoint(addr: Addr) -> bool
 }
 
 /// The address of one endpoint, of either family.
-#[derive(Clone, Copy, Debug)]
+#[derive(Clone, Copy)]
 pub struct EndpointAddr;
 
 impl Column for EndpointAddr {
@@ -239,7 +239,7 @@ impl Column for EndpointAddr {
 }
 
 /// An IPv4 address that an endpoint can have for its own.
-#[derive(Clone, Copy, Debug)]
+#[derive(Clone, Copy)]
 pub struct OwnIp4;
 
 impl Column for OwnIp4 {
@@ -260,7 +260,7 @@ impl Column for OwnIp4 {
 }
 
 /// An IPv6 address that an endpoint can have for its own.
-#[derive(Clone, Copy, Debug)]
+#[derive(Clone, Copy)]
 pub struct OwnIp6;
 
 impl Column for OwnIp6 {

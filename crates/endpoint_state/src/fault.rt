@@ -1,55 +1,41 @@
 //! Why a change isn't made.
-ghost use Rattle.std.specs.Prelude.{◌≡◌};
+ghost use Rattle.std.specs.Prelude.{◌≡◌, Some};
 ghost use Rattle.endpoint_state.specs.Fault.{name_of, number_of, of_flood};
 
 use flood_lists::FloodFault;
-use thiserror::Error;
+use std::fmt;
 
-/// Why a change isn't made.
-#[derive(Clone, Copy, Debug, PartialEq, Eq, Error)]
+/// Why a change isn't made. It prints as its name.
+#[derive(Clone, Copy, Debug, PartialEq, Eq)]
 pub enum ChangeFault {
     /// There is no segment of this VID.
-    #[error("NoSegment")]
     NoSegment,
     /// There is no port of this number.
-    #[error("NoPort")]
     NoPort,
     /// The remote endpoint is on the segment's flood list.
-    #[error("AlreadyThere")]
     AlreadyThere,
     /// The remote endpoint isn't on the flood list, or the address has no fixed entry.
-    #[error("NotThere")]
     NotThere,
     /// The flood list has 16 entries.
-    #[error("FloodFull")]
     FloodFull,
     /// The address isn't live, and the segment has its limit of live entries.
-    #[error("TableFull")]
     TableFull,
     /// A group address where an individual one is asked for.
-    #[error("GroupAddress")]
     GroupAddress,
     /// An ageing outside 10 to 1,000,000 seconds, a limit outside 1 to 8,192, or the address 0.0.0.0, 255.255.255.255 or
     /// ::.
-    #[error("OutOfRange")]
     OutOfRange,
     /// The endpoint has no own address of this family.
-    #[error("NoFamily")]
     NoFamily,
     /// The address is the endpoint's own.
-    #[error("OwnAddress")]
     OwnAddress,
     /// There is a segment of this VID, or one with a tunnel of the same kind and VNI.
-    #[error("SegmentThere")]
     SegmentThere,
     /// The limits of all segments would come to more than the pool.
-    #[error("PoolFull")]
     PoolFull,
     /// There are 256 segments.
-    #[error("SegmentsFull")]
     SegmentsFull,
     /// The segment has no tunnel of this kind.
-    #[error("NoTunnel")]
     NoTunnel,
 }
 
@@ -98,6 +84,16 @@ impl ChangeFault {
         }
     }
 }
+
+impl fmt::Display for ChangeFault {
+    ghost output = { λ fault. Some (name_of fault) };
+
+    fn fmt<W: fmt::Write>(&self, f: &mut fmt::Formatter<W>) -> fmt::Result {
+        f.write_str(self.name())
+    }
+}
+
+impl std::error::Error for ChangeFault {}
 
 impl From<FloodFault> for ChangeFault {
     ghost from_gives = { λ fault change_fault. change_fault ≡ of_flood fault };

@@ -9,7 +9,7 @@ use std::marker::Model;
 
 /// Whether the segment of each VID learns, seen by contracts as the list for VID 0, 1 and so on. Only
 /// [`Learning::open`] takes memory.
-#[derive(Debug, Drop)]
+#[derive(Drop)]
 pub(crate) struct Learning {
     places: Vec<bool>,
 }

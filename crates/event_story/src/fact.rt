@@ -5,7 +5,7 @@ use ip_udp_view::{Addr, SumState, Tunnel};
 use vlan_ports::Egress;
 
 /// What a test of a frame or a packet saw.
-#[derive(Clone, Copy, Debug)]
+#[derive(Clone, Copy)]
 pub enum Fact {
     /// How many octets there are, and the most that there may be.
     Length {

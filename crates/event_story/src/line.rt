@@ -42,9 +42,19 @@ fn put_words(text: &mut String, fact: Fact) -> Result<(), AllocError>
     ensures { OnOk result (string_bytes text.new ≡ string_bytes text.old ++ words fact) }
 {
     match fact {
-        Fact::Length { octets, most } => write!(text, "length {octets}, at most {most}"),
-        Fact::Captured { octets, original } => write!(text, "captured {octets} of {original}"),
-        Fact::Short { octets } => write!(text, "octets {octets}, fewer than 14"),
+        Fact::Length { octets, most } => {
+            put_both(text, "length ", octets as u64, ", at most ", most as u64)
+        }
+        Fact::Captured { octets, original } => {
+            put_both(
+                text,
+                "captured ",
+                octets as u64,
+                " of ",
+                u64::from(original),
+            )
+        }
+        Fact::Short { octets } => put_short(text, octets),
         Fact::Ether {
             source,
             destination,
@@ -74,12 +84,18 @@ fn put_words(text: &mut String, fact: Fact) -> Result<(), AllocError>
         Fact::Sender { other } => text.push_str(other_word(other)),
         Fact::Receiver { group, own } => text.push_str(receiver_word(group, own)),
         Fact::Fragment => text.push_str("fragment"),
-        Fact::Protocol { number } => write!(text, "protocol {number}"),
+        Fact::Protocol { number } => put_protocol(text, number),
         Fact::BadUdp => text.push_str("udp header cut, or its length wrong"),
         Fact::Udp {
             source,
             destination,
-        } => write!(text, "udp {source} > {destination}"),
+        } => put_both(
+            text,
+            "udp ",
+            u64::from(source),
+            " > ",
+            u64::from(destination),
+        ),
         Fact::TunnelPort { kind } => put_tunnel_port(text, kind),
         Fact::NoSum => text.push_str("no udp checksum over ip6"),
         Fact::Sum { state } => put_sum(text, state),
@@ -117,6 +133,31 @@ fn put_words(text: &mut String, fact: Fact) -> Result<(), AllocError>
             put_in_tunnel(text, place, vni, hop, packet, mtu, reason)
         }
     }
+}
+
+/// Puts two numbers, each behind its words.
+fn put_both(
+    text: &mut String,
+    front: &str,
+    one: u64,
+    between: &str,
+    other: u64,
+) -> Result<(), AllocError>
+    ensures { OnOk result (string_bytes text.new ≡ string_bytes text.old ++ (front.now ++ decimal one ++ between.now ++ decimal other)) }
+{
+    write!(text, "{front}{one}{between}{other}")
+}
+
+fn put_short(text: &mut String, octets: usize) -> Result<(), AllocError>
+    ensures { OnOk result (string_bytes text.new ≡ string_bytes text.old ++ (codes "octets " ++ decimal octets ++ codes ", fewer than 14")) }
+{
+    write!(text, "octets {octets}, fewer than 14")
+}
+
+fn put_protocol(text: &mut String, number: u8) -> Result<(), AllocError>
+    ensures { OnOk result (string_bytes text.new ≡ string_bytes text.old ++ (codes "protocol " ++ decimal number)) }
+{
+    write!(text, "protocol {number}")
 }
 
 fn put_ether(text: &mut String, source: Mac, destination: Mac) -> Result<(), AllocError>

@@ -66,18 +66,35 @@ fn explanation_of(
     ensures { IfOk result (λ text. text.items ≡ explanation (settings_told settings) depth values timeline.now) }
 {
     let mut endpoint = Endpoint::open(alloc, settings)?;
-    let mut desk = Desk::new();
-    let mut text = Vec::new(alloc);
-    put_events(
+    text_of(
         alloc,
-        &mut text,
         &mut endpoint,
-        &mut desk,
         depth,
         values,
         timeline.events(),
-    )?;
-    put_cuts(&mut text, &mut desk.line, timeline.cuts())?;
+        timeline.cuts(),
+    )
+}
+
+/// The text of packets that come to an endpoint, and of the captures that are cut.
+fn text_of(
+    alloc: Global,
+    endpoint: &mut Endpoint,
+    depth: usize,
+    values: Values,
+    events: &[Event],
+    cuts: &[Cut],
+) -> Result<Vec<u8>, AllocError>
+    requires low { 1 ≤ depth }
+    requires high { depth ≤ 4 }
+    requires rising { IsRising (state_of endpoint.old).moment events.now }
+    requires known { AllByRecursion (IsEventOf 0 0) events.now }
+    ensures { IfOk result (λ text. text.items ≡ texts_from depth values 0 (state_of endpoint.old) events.now ++ flat_map cut_line cuts.now) }
+{
+    let mut desk = Desk::new();
+    let mut text = Vec::new(alloc);
+    put_events(alloc, &mut text, endpoint, &mut desk, depth, values, events)?;
+    put_cuts(&mut text, &mut desk.line, cuts)?;
     Ok(text)
 }
 

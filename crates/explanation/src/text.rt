@@ -12,7 +12,7 @@ use std::alloc::{AllocError, Global};
 use std::fmt::Write;
 
 /// Whether the values of the headers stand in their lines.
-#[derive(Clone, Copy, Debug)]
+#[derive(Clone, Copy)]
 pub enum Values {
     /// A header's line is its kind, its place and its length.
     Hidden,

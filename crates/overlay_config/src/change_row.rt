@@ -194,7 +194,7 @@ fn moment_before(earlier: &[TimedChange]) -> u64
 }
 
 /// The table of a change.
-#[derive(Clone, Copy, Debug)]
+#[derive(Clone, Copy)]
 struct ChangeRow;
 
 impl Row for ChangeRow {

@@ -12,7 +12,7 @@ const PEERS: [(&str, PeerRule); 2] = [("any", PeerRule::Any), ("listed", PeerRul
 const TAGS: [(&str, TagRule); 2] = [("drop", TagRule::Drop), ("pass", TagRule::Pass)];
 
 /// What a segment goes by, whatever its tunnels and its member ports are.
-#[derive(Clone, Copy, Debug)]
+#[derive(Clone, Copy)]
 pub(crate) struct CommonRules {
     pub(crate) limit: u32,
     pub(crate) ageing: u32,

@@ -7,7 +7,7 @@ use ip_udp_view::Tunnel;
 use toml::Value;
 
 /// Addresses that the flood list takes, for tunnels of one kind.
-#[derive(Clone, Copy, Debug)]
+#[derive(Clone, Copy)]
 pub(crate) struct Remotes {
     pub(crate) kind: Tunnel,
     pub(crate) own: Own,

@@ -1,7 +1,7 @@
 //! The kinds of changes, and the keys of each.
 
 /// The kind of a change.
-#[derive(Clone, Copy, Debug, PartialEq, Eq)]
+#[derive(Clone, Copy)]
 pub(crate) enum Kind {
     AddFlood,
     RemoveFlood,

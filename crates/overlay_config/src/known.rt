@@ -27,7 +27,7 @@ fn known_option(value: &Value) -> Option<(u16, u8)>
 }
 
 /// Options without repeats, at most 16.
-#[derive(Clone, Copy, Debug)]
+#[derive(Clone, Copy)]
 pub(crate) struct KnownOptions;
 
 impl ListColumn for KnownOptions {

@@ -20,7 +20,7 @@ const AGEING: U32Range = U32Range {
 };
 
 /// What a segment goes by at this endpoint, whatever its tunnels are.
-#[derive(Debug, Drop)]
+#[derive(Drop)]
 pub(crate) struct LocalRules {
     limit: u16,
     ageing: u32,

@@ -8,7 +8,7 @@ use toml::Value;
 use vlan_ports::PortList;
 
 /// Numbers of ports, 1 to 16, none of them twice; seen by contracts as their list.
-#[derive(Debug, Drop)]
+#[derive(Drop)]
 pub(crate) struct MemberList {
     ports: PortList,
 }
@@ -67,7 +67,7 @@ impl MemberList {
 }
 
 /// Numbers of ports, from 1, that stand neither twice on this list nor on another one.
-#[derive(Clone, Copy, Debug)]
+#[derive(Clone, Copy)]
 pub(crate) struct MemberPorts<'a> {
     /// How many ports there are.
     pub(crate) ports: u8,

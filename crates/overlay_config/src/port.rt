@@ -13,7 +13,7 @@ const ACCEPTS: [(&str, Accept); 3] = [
 const KEYS: [&str; 3] = ["pvid", "accept", "up"];
 
 /// The table of a port.
-#[derive(Clone, Copy, Debug)]
+#[derive(Clone, Copy)]
 pub(crate) struct PortRow;
 
 impl Row for PortRow {

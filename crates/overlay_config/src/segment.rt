@@ -11,7 +11,7 @@ use frame_view::Vid;
 use overlay_settings::SegmentRule;
 
 /// The versions of settings, which differ in what a segment says of its tunnels.
-#[derive(Clone, Copy, Debug, PartialEq, Eq)]
+#[derive(Clone, Copy)]
 pub(crate) enum Version {
     One,
     Two,
@@ -82,7 +82,7 @@ fn read_rules(
 }
 
 /// The table of a segment, beside the endpoint's own addresses and the number of its ports.
-#[derive(Clone, Copy, Debug)]
+#[derive(Clone, Copy)]
 pub(crate) struct SegmentRow {
     pub(crate) version: Version,
     pub(crate) own: Own,

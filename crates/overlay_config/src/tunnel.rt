@@ -32,7 +32,7 @@ pub(crate) const GROUP: U8Range = U8Range { low: 0, high: 255 };
 const LONGEST_FLOOD: usize = 16;
 
 /// The number of a network, 0 to 16777215.
-#[derive(Clone, Copy, Debug)]
+#[derive(Clone, Copy)]
 pub(crate) struct VniNumber;
 
 impl Column for VniNumber {
@@ -73,7 +73,7 @@ pub(crate) fn read_flood(at: &Reader, own: Own, kind: Tunnel) -> Result<FloodLis
 
 /// A segment's one or two tunnels, of different kinds, and its flood list; seen by contracts as the list of the tunnels
 /// and that list.
-#[derive(Debug, Drop)]
+#[derive(Drop)]
 pub(crate) struct TunnelRules {
     first: SegmentTunnel,
     second: Option<SegmentTunnel>,
@@ -146,7 +146,7 @@ fn has_tunnel(rule: &SegmentRule, tunnel: &SegmentTunnel) -> bool
 }
 
 /// A table of a segment's tunnels.
-#[derive(Debug, Drop)]
+#[derive(Drop)]
 struct TunnelTable {
     tunnel: SegmentTunnel,
     /// The segment's flood list up to this tunnel.

@@ -151,7 +151,7 @@ fn has_hop(hops: &[(Addr, Mac)], addr: Addr) -> bool
 }
 
 /// The table of a hop.
-#[derive(Clone, Copy, Debug)]
+#[derive(Clone, Copy)]
 struct HopRow;
 
 impl Row for HopRow {

@@ -7,7 +7,7 @@ use arrayvec::ArrayVec;
 use std::marker::Model;
 
 /// What is taken off a packet so far. Five frames have at most 34 heads and 10 tails.
-#[derive(Debug, Drop)]
+#[derive(Drop)]
 pub(crate) struct Apart<'a> {
     /// From the front on.
     heads: ArrayVec<Head<'a>, 34>,

@@ -1,10 +1,10 @@
 //! The Ethernet header of a frame.
-ghost use Rattle.std.specs.Prelude.{◌≡◌, ◌≤◌, ◌<◌, ◌+◌, length, IfOk, OnOk, OnErr};
+ghost use Rattle.std.specs.Prelude.{◌≡◌, ◌≤◌, ◌<◌, ◌+◌, nat_le, length, IfOk, OnOk, OnErr};
 ghost use Rattle.frame_view.specs.First.{first, fault_of};
 ghost use Rattle.frame_view.specs.declared.reason.Reason.TheVariants.{Runt};
 ghost use Rattle.ip_udp_view.specs.Datagram.{behind_tags};
 ghost use Rattle.decapsulate.specs.Arrival.{frame_reasons};
-ghost use Rattle.packet_layers.specs.Dissection.{rows, ether_off, type_off};
+ghost use Rattle.packet_layers.specs.Dissection.{rows, ether_off, tag_off, type_off};
 
 use crate::HeadKind;
 use crate::apart::Apart;
@@ -35,14 +35,26 @@ pub(crate) fn take_ether<'a>(apart: &mut Apart<'a>) -> Result<&'a [u8], Reason>
     };
     let (tags, typed) = view.skip_tags(MOST_TAGS);
     apart.put(HeadKind::Ether, ADDRESSES);
-    if tags.len() >= TAG {
-        apart.put(HeadKind::Tag, TAG);
-    }
-    if tags.len() >= 2 * TAG {
-        apart.put(HeadKind::Tag, TAG);
-    }
+    take_tags(apart, tags.len());
     take_type(apart);
     Ok(typed)
+}
+
+/// Takes off the tags of so many octets, which are in front of what is left.
+fn take_tags(apart: &mut Apart, octets: usize)
+    requires room { octets ≤ length apart.old.payload.octets }
+    requires heads { length apart.old.heads ≤ 32 }
+    requires tails { length apart.old.tails < 10 }
+    ensures taken { apart.new ≡ tag_off (nat_le 8 octets) (tag_off (nat_le 4 octets) apart.old) }
+    ensures few_heads { length apart.new.heads ≤ length apart.old.heads + 2 }
+    ensures few_tails { length apart.new.tails ≤ length apart.old.tails }
+{
+    if octets >= TAG {
+        apart.put(HeadKind::Tag, TAG);
+    }
+    if octets >= 2 * TAG {
+        apart.put(HeadKind::Tag, TAG);
+    }
 }
 
 /// Takes the type off, where two octets are left.

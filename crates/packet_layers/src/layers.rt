@@ -7,7 +7,7 @@ use std::marker::Model;
 
 /// The layers of a packet, seen by contracts as its parts and the stop. Side by side the heads, the payload and the tails
 /// are the packet.
-#[derive(Debug, Drop)]
+#[derive(Drop)]
 pub struct Layers<'a> {
     apart: Apart<'a>,
     stop: Stop,

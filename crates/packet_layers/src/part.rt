@@ -6,7 +6,7 @@ use crate::HeadKind;
 use std::marker::Model;
 
 /// Octets of a packet: the payload, or a tail.
-#[derive(Debug, Drop)]
+#[derive(Drop)]
 pub struct Span<'a> {
     place: usize,
     octets: &'a [u8],
@@ -52,7 +52,7 @@ impl<'a> Span<'a> {
 }
 
 /// A header of a packet, or a part of one.
-#[derive(Debug, Drop)]
+#[derive(Drop)]
 pub struct Head<'a> {
     kind: HeadKind,
     span: Span<'a>,

@@ -1,6 +1,7 @@
 //! Blocks.
-ghost use Rattle.std.specs.Prelude.{◌≡◌, ◌≤◌, ◌<◌, ◌+◌, ◌&&◌, nat_le, length};
-ghost use Rattle.pcapng_input.specs.Block.{is_read, is_section, next_block, order_at, told_order};
+ghost use Rattle.std.specs.Prelude.{◌≡◌, ◌≤◌, ◌&&◌, nat_le, nat_lt, ℕ, IsFalse, drop, length};
+ghost use Rattle.pcap_io.specs.Style.{number_of};
+ghost use Rattle.pcapng_input.specs.Block.{NoBlock, block_by_length, end_by_size, is_no_length, is_read, is_section, longest_block, next_block, order_at, told_order};
 ghost use Rattle.pcapng_input.specs.Seen.{IsShorter, block_seen};
 
 use crate::fault::BlockFault;
@@ -102,28 +103,45 @@ pub fn order_at(section: Option<Order>, text: &[u8]) -> Option<Order>
     }
 }
 
-/// What comes next in a text of blocks that stands in a section of this byte order, or in none.
-#[tactic(auto, unfolding(crate::specs::Block::next_block))]
-pub fn next_block<'a>(section: Option<Order>, text: &'a [u8]) -> NextBlock<'a>
-    ensures next { block_seen result ≡ next_block section text.now }
+/// Whether no block has this length.
+fn is_no_length(size: usize) -> bool
+    ensures value { result ≡ is_no_length size }
+    ensures room { IsFalse result → 12 ≤ size }
+{
+    size < EMPTY_BLOCK || size % 4 != 0
+}
+
+/// Whether a block of this type and length is one of those that are read, and longer than they may be.
+fn is_too_large(kind: u32, size: usize) -> bool
+    ensures { result ≡ (is_read kind && nat_lt longest_block size) }
+{
+    is_read(kind) && size > LONGEST_BLOCK
+}
+
+/// How the blocks end where there is no room for another.
+fn end_by_size(section: Option<Order>, size: usize) -> NextBlock<'static>
+    ensures next { block_seen result ≡ NoBlock (end_by_size section size) }
+    ensures shorter { (longest : ℕ) → IsShorter longest result }
+{
+    match section {
+        None => NextBlock::Refused(BlockFault::NoSection),
+        Some(_) if size == 0 => NextBlock::AllRead,
+        Some(_) => NextBlock::CutShort,
+    }
+}
+
+/// What a text of 12 octets or more begins with, by the length that it tells in this byte order.
+fn block_by_length<'a>(order: Order, text: &'a [u8]) -> NextBlock<'a>
+    requires { 12 ≤ length text.now }
+    ensures next { block_seen result ≡ block_by_length order (number_of order 4 (drop 4 text.now)) text.now }
     ensures shorter { IsShorter (length text.now) result }
 {
-    if text.len() < EMPTY_BLOCK {
-        return match section {
-            None => NextBlock::Refused(BlockFault::NoSection),
-            Some(_) if text.is_empty() => NextBlock::AllRead,
-            Some(_) => NextBlock::CutShort,
-        };
-    }
-    let Some(order) = order_at(section, text) else {
-        return NextBlock::Refused(BlockFault::NoSection);
-    };
     let kind = number4(order, text);
     let size = number4(order, &text[4..]) as usize;
-    if size < EMPTY_BLOCK || size % 4 != 0 {
+    if is_no_length(size) {
         return NextBlock::Refused(BlockFault::BadLength);
     }
-    if is_read(kind) && size > LONGEST_BLOCK {
+    if is_too_large(kind, size) {
         return NextBlock::Refused(BlockFault::TooLarge);
     }
     if text.len() < size {
@@ -138,4 +156,19 @@ pub fn next_block<'a>(section: Option<Order>, text: &'a [u8]) -> NextBlock<'a>
         body: &text[8..size - 4],
     };
     NextBlock::Another(block, &text[size..])
+}
+
+/// What comes next in a text of blocks that stands in a section of this byte order, or in none.
+#[tactic(auto, unfolding(crate::specs::Block::next_block))]
+pub fn next_block<'a>(section: Option<Order>, text: &'a [u8]) -> NextBlock<'a>
+    ensures next { block_seen result ≡ next_block section text.now }
+    ensures shorter { IsShorter (length text.now) result }
+{
+    if text.len() < EMPTY_BLOCK {
+        return end_by_size(section, text.len());
+    }
+    match order_at(section, text) {
+        None => NextBlock::Refused(BlockFault::NoSection),
+        Some(order) => block_by_length(order, text),
+    }
 }

@@ -17,7 +17,7 @@ const RESOLUTION: u16 = 9;
 const OFFSET: u16 = 14;
 
 /// The interfaces whose packets are taken.
-#[derive(Clone, Copy, Debug)]
+#[derive(Clone, Copy)]
 pub enum Selection<'a> {
     /// All.
     All,

@@ -7,7 +7,7 @@ ghost use Rattle.pcapng_input.specs.Classic.{found_text};
 ghost use Rattle.pcapng_input.specs.Context.{IsStepError, IsTakenAs};
 ghost use Rattle.pcapng_input.specs.Meaning.{IsMeantWithinLimits};
 ghost use Rattle.pcapng_input.specs.Reading.{record_meant, step_of};
-ghost use Rattle.pcapng_input.specs.State.{IsSettled, wanted_size, wanting_by};
+ghost use Rattle.pcapng_input.specs.State.{IsSettled, size_wanted, wanted_size, wanting_by};
 
 use crate::block::{Block, EMPTY_BLOCK, LONGEST_BLOCK, NextBlock, next_block, order_at};
 use crate::classic::record_head;
@@ -37,6 +37,16 @@ pub enum Settled {
     NoMemory,
 }
 
+/// How many octets of a block are wanted, by the length that its first 12 tell.
+fn size_wanted(size: usize) -> usize
+    ensures { result ≡ size_wanted size }
+{
+    if size < EMPTY_BLOCK {
+        return EMPTY_BLOCK;
+    }
+    size
+}
+
 /// How many octets of a block are wanted, by those that were read of it.
 #[tactic(auto, unfolding(crate::specs::State::wanted_size))]
 pub fn wanted(section: Option<Order>, held: &[u8]) -> usize
@@ -45,14 +55,10 @@ pub fn wanted(section: Option<Order>, held: &[u8]) -> usize
     if held.len() < EMPTY_BLOCK {
         return EMPTY_BLOCK;
     }
-    let Some(order) = order_at(section, held) else {
-        return EMPTY_BLOCK;
-    };
-    let size = number4(order, &held[4..]) as usize;
-    if size < EMPTY_BLOCK {
-        return EMPTY_BLOCK;
+    match order_at(section, held) {
+        None => EMPTY_BLOCK,
+        Some(order) => size_wanted(number4(order, &held[4..]) as usize),
     }
-    size
 }
 
 /// Makes a record ready. Where memory is refused, nothing is ready.

@@ -6,7 +6,7 @@ use crate::source::{Source, Tap};
 use std::marker::Model;
 
 /// What a record of a capture tells of a frame.
-#[derive(Debug, Drop)]
+#[derive(Drop)]
 pub struct Captured<'a> {
     /// How many octets the frame had. Fewer may be here, or even more.
     pub original: u32,
@@ -23,7 +23,7 @@ impl<'a> Model for Captured<'a> {
 }
 
 /// What happens.
-#[derive(Debug, Drop)]
+#[derive(Drop)]
 pub enum Happening<'a> {
     /// The change with this index in the list of changes.
     Change(usize),
@@ -32,7 +32,7 @@ pub enum Happening<'a> {
 }
 
 /// An event of a run.
-#[derive(Debug, Drop)]
+#[derive(Drop)]
 pub struct Event<'a> {
     /// Nanoseconds. For a record the greatest moment so far in its capture.
     pub moment: u64,

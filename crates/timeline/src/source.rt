@@ -25,7 +25,7 @@ impl fmt::Display for Tap {
 }
 
 /// Where an event comes from. It prints as `c` for the changes, and as its tap.
-#[derive(Clone, Copy, Debug, PartialEq, Eq)]
+#[derive(Clone, Copy)]
 pub enum Source {
     /// The list of changes.
     Changes,

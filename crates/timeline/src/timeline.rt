@@ -16,7 +16,7 @@ use std::alloc::{AllocError, Global};
 use std::marker::Model;
 
 /// A rest that is no whole record, at the end of a capture.
-#[derive(Clone, Copy, Debug, PartialEq, Eq)]
+#[derive(Clone, Copy)]
 pub struct Cut {
     pub tap: Tap,
     /// How many whole records stand before the rest.
@@ -27,7 +27,7 @@ pub struct Cut {
 ///
 /// They come in order of moment. Those of one moment come as the changes, the ports rising, the underlay, and those of
 /// one source in its order.
-#[derive(Debug, Drop)]
+#[derive(Drop)]
 pub struct Timeline<'a> {
     events: Vec<Event<'a>>,
     cuts: Vec<Cut>,

@@ -112,7 +112,7 @@ grep -q '^fn some: proved$' "$log" || complain "the log lacks what the check sai
 ends 0 three
 told stdout "words: three"
 told stderr ""
-touch "$clone/crates/rows/src/lib.rt"
+touch "$clone/crates/wire_tests/src/lib.rt"
 ends 0
 called
 for source in crates.txt crates/tep/src/main.rt crates/header_sums/specs crates/endpoint_core/proofs; do

@@ -9,6 +9,8 @@ mod block_tests;
 #[cfg(test)]
 mod device_tests;
 #[cfg(test)]
+mod longest_tests;
+#[cfg(test)]
 mod reading_tests;
 #[cfg(test)]
 mod sink_tests;

@@ -1,28 +1,21 @@
-//! Tests of the texts that an operator writes: settings, changes, and the addresses in them, with each fault and its key.
+//! Tests of the texts that an operator writes: what settings and changes mean, and texts that are cut, spoilt or thrown
+//! together from pieces. `tests/settings.sh` puts texts to the program, each with its first fault.
 //!
-//! What is expected comes from docs/FORMATS.md, and of addresses from RFC 4291, never from a run. There is nothing here but
+//! What is expected comes from docs/FORMATS.md and from the standard of TOML 1.1, never from a run. There is nothing here but
 //! tests, and nothing stands on this crate.
 #![tactic(auto)]
 
 #[cfg(test)]
-mod change_cases;
+mod change_texts;
 #[cfg(test)]
-mod change_tests;
+mod fault_tests;
 #[cfg(test)]
-mod config_text_tests;
+mod meaning_tests;
 #[cfg(test)]
-mod migrate_tests;
+mod reading;
 #[cfg(test)]
-mod segment_change_cases;
+mod settings_texts;
 #[cfg(test)]
-mod settings_cases;
+mod spoilt_tests;
 #[cfg(test)]
-mod settings_line_cases;
-#[cfg(test)]
-mod settings_meanings;
-#[cfg(test)]
-mod settings_tests;
-#[cfg(test)]
-mod two_tunnel_cases;
-#[cfg(test)]
-mod two_tunnel_tests;
+mod thrown_tests;

@@ -1,5 +1,4 @@
-//! What packets are made of, and the settings of an endpoint that they go to or come from. `wire_tests`
-//! says where the fields of each header begin.
+//! The addresses and the settings of an endpoint.
 ghost use Rattle.std.specs.Prelude.{◌≡◌};
 
 use frame_view::Mac;
@@ -10,19 +9,6 @@ use vxlan_head::Vni;
 
 /// The next hop of all endpoints.
 pub(crate) const NEXT_HOP: Mac = Mac([0x02, 0, 0, 0, 0xAA, 0xFE]);
-
-/// The addresses and the type of a packet from 02-00-00-00-AA-01 to the next hop, and an IPv6 header from 2001:db8::1 to
-/// 2001:db8::2 before 76 octets of UDP.
-pub(crate) const FRONT6: [u8; 54] = [
-    0x02, 0, 0, 0, 0xAA, 0xFE, 0x02, 0, 0, 0, 0xAA, 0x01, 0x86, 0xDD, 0x60, 0, 0, 0, 0x00, 0x4C,
-    0x11, 0x40, 0x20, 0x01, 0x0D, 0xB8, 0, 0, 0, 0, 0, 0, 0, 0, 0, 0, 0, 1, 0x20, 0x01, 0x0D, 0xB8,
-    0, 0, 0, 0, 0, 0, 0, 0, 0, 0, 0, 2,
-];
-
-/// The addresses and the type of a broadcast frame from 02-00-00-00-00-01.
-pub(crate) const BROADCAST: [u8; 14] = [
-    0xFF, 0xFF, 0xFF, 0xFF, 0xFF, 0xFF, 0x02, 0, 0, 0, 0, 0x01, 0x08, 0x06,
-];
 
 /// 192.0.2 and this octet.
 pub(crate) fn host4(last: u8) -> Addr {

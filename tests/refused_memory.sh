@@ -21,7 +21,7 @@ refused=500
 # call is given. Those of none come first of all; they aren't refused here.
 calls="
 none 1 start 0
-line_of 112 none 0
+line_of 120 none 0
 settings_of 68 none 0
 migrate 49 none 0
 changes_of 26 none 0

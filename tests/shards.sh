@@ -27,32 +27,42 @@ runs() {
         complain "tep run --segments '$list' $*: status $? and '$(cat "$folder/stderr")'"
 }
 
-# is_whole PARTS..: the merge of these parts, in any order, has what the whole run has, and nothing else
+# What runs and merges are asked to print besides, and what the whole run printed of it.
+besides=()
+: >"$folder/told"
+
+# is_whole PARTS..: the merge of these parts, in any order, has what the whole run has, and prints what it printed, and nothing else
 is_whole() {
     rm -rf "$folder/merged"
     mkdir "$folder/merged"
-    ./tep merge --out "$folder/merged" "${@/#/$folder/}" >"$folder/stdout" 2>"$folder/stderr" ||
+    ./tep merge "${besides[@]}" --out "$folder/merged" "${@/#/$folder/}" >"$folder/stdout" 2>"$folder/stderr" ||
         complain "tep merge of $*: status $? and '$(cat "$folder/stderr")'"
-    [ ! -s "$folder/stdout" ] || complain "tep merge of $* prints something"
+    diff "$folder/told" "$folder/stdout" >"$folder/differences" || complain "the merge of $* prints otherwise: $(head -n 3 "$folder/differences")"
     diff -r "$folder/whole" "$folder/merged" >"$folder/differences" || complain "the merge of $* isn't the run: $(head -n 3 "$folder/differences")"
 }
 
-# in_pairs WORDS..: a run cut into each pair of parts of the segments 10, 20, 30, the other VIDs, and what comes to no segment
+# in_pairs WORDS..: a run cut into each pair of parts of the segments 10, 20, 30, the other VIDs, and what comes to no segment;
+# its tables and its counts too
 in_pairs() {
     local pair one other item names=(10 20 30 1-9,11-19,21-29,31-4094 none)
     rm -rf "$folder"/{whole,one,other,merged}
-    runs whole "" "$@"
+    besides=(--tables --summary)
+    runs whole "" "${besides[@]}" "$@"
+    cp "$folder/stdout" "$folder/told"
     for ((pair = 1; pair < 31; pair++)); do
         one=
         other=
         for item in 0 1 2 3 4; do
             if ((pair >> item & 1)); then one=${one:+$one,}${names[item]}; else other=${other:+$other,}${names[item]}; fi
         done
-        runs one "$one" "$@"
-        runs other "$other" "$@"
+        runs one "$one" "${besides[@]}" "$@"
+        cat "$folder"/one/{tables,summary}.txt | cmp -s - "$folder/stdout" || complain "a part leaves something else than it prints"
+        runs other "$other" "${besides[@]}" "$@"
         is_whole one other
         is_whole other one
     done
+    besides=()
+    : >"$folder/told"
 }
 
 a=(--settings examples/a.toml --underlay examples/underlay.pcap)
@@ -91,6 +101,49 @@ grep -qx "cut p2 1" "$folder/whole/decisions.txt" || complain "the cut capture h
 runs one 1-4094 "${cut[@]}"
 runs other none "${cut[@]}"
 is_whole one other
+
+# ---- tables of a part: the lines that the whole run has of its segments, with an entry of each that is fixed
+
+{
+    for vid in 10 20; do
+        printf '[[change]]\nkind = "fix"\nat = 0\nvid = %s\nmac = "02:00:00:00:00:%s"\nport = 3\n\n' "$vid" "$vid"
+    done
+    cat examples/changes.toml
+} >"$folder/fixed.toml"
+fixed=("${a[@]}" --changes "$folder/fixed.toml" "${ports[@]}")
+
+# prints WORDS..: the whole run's tables, asked for so
+prints() {
+    words=("$@")
+    runs whole "" "$@" "${fixed[@]}"
+    cp "$folder/stdout" "$folder/tables"
+}
+
+# tells LIST PATTERN: the tables of the part with these segments are the whole run's lines that begin so
+tells() {
+    runs one "$1" "${words[@]}" "${fixed[@]}"
+    grep "^$2" "$folder/tables" | cmp -s - "$folder/stdout" || complain "${words[*]} of the part $1: $(cat "$folder/stdout")"
+    cat "$folder/stdout" >>"$folder/parts"
+}
+
+prints --tables
+for vid in 10 20; do
+    grep -qx "segment $vid 02:00:00:00:00:$vid p3 fixed" "$folder/tables" || complain "the whole run's tables have no fixed entry of $vid"
+done
+
+tells 10,20 "segment "
+tells none,1-9 "nothing"
+
+# Behind each event of the run, between events and at the end: the parts' lines, put together by their segments, are the run's.
+for moment in 0 1000000000 2000000000 3000000000 4000000000 4999999999 5000000000 6000000000 6999999999 7000000000 8000000000 \
+    18446744073709551615; do
+    prints --tables-at "$moment"
+    : >"$folder/parts"
+    tells 20 "segment 20 "
+    tells none,1-9,11-19,21-4094 "nothing"
+    tells 10 "segment 10 "
+    sort -s -n -k 2,2 "$folder/parts" | cmp -s - "$folder/tables" || complain "the parts' tables at $moment aren't the run's"
+done
 
 # ---- what isn't a whole run, or no part at all
 
@@ -131,13 +184,14 @@ refused 3 "read nowhere" merge --out out one nowhere
 refused 3 "write decisions.txt" merge --out one one other
 [ -z "$(ls "$folder/out")" ] || complain "a merge that was refused left something"
 
-# broken FILE FAULT: where what stands on standard input stands in a file of the second part, merging says this
+# broken FILE FAULT WORDS..: where what stands on standard input stands in a file of the second part, merging with these words
+# says this
 broken() {
     rm -rf "$folder/broken"
     cp -r "$folder/other" "$folder/broken"
     cat >"$folder/text"
     cp "$folder/text" "$folder/broken/$1"
-    refused 1 "part broken: $2" merge --out out one broken
+    refused 1 "part broken: $2" merge "${@:3}" --out out one broken
 }
 
 broken shard.txt "shard.txt: the first line is not 'tep shard 1'" </dev/null
@@ -155,6 +209,42 @@ head -c 24 "$folder/other/port2.pcap" | broken port2.pcap "p2 Missing"
 head -c -1 "$folder/other/port2.pcap" | broken port2.pcap "p2 Missing"
 cat "$folder/other/port2.pcap" <(tail -c +25 "$folder/other/port2.pcap") | broken port2.pcap "p2 LeftOver"
 head -c 20 "$folder/other/underlay.pcap" | broken underlay.pcap "u NotPcap"
+
+# ---- tables and counts of parts
+
+# A part that wasn't asked for them has none.
+refused 1 "part one: it has no summary.txt" merge --summary --out out one other
+refused 1 "part one: it has no tables.txt" merge --tables --summary --out out one other
+runs one 1-15 --tables --summary "${whole[@]}"
+refused 1 "part other: it has no tables.txt" merge --tables --out out one other
+runs other 16-4094,none --tables --summary "${whole[@]}"
+
+# Texts that are none, or of other segments.
+sed 's/^segment 20 sent 3$/segment 20 sent 03/' "$folder/other/summary.txt" | broken summary.txt "summary.txt: line 1" --summary
+sed 's/^segment 20 /segment 4095 /' "$folder/other/summary.txt" | broken summary.txt "summary.txt: line 1" --summary
+sed '3{h;d};4G' "$folder/other/summary.txt" | broken summary.txt "summary.txt: line 3" --summary
+sed '$d' "$folder/other/summary.txt" | broken summary.txt "summary.txt: line 10" --summary
+sed 's/^segment 20 /segment 10 /' "$folder/other/tables.txt" | broken tables.txt "tables.txt: line 1" --tables
+sed 's/^segment 20 /segment 4095 /' "$folder/other/tables.txt" | broken tables.txt "tables.txt: line 1" --tables
+sed 's/^segment 20 /segment 020 /' "$folder/other/tables.txt" | broken tables.txt "tables.txt: line 1" --tables
+{ cat "$folder/other/tables.txt" && echo; } | broken tables.txt "tables.txt: line 2" --tables
+head -c -1 "$folder/other/tables.txt" | broken tables.txt "tables.txt: line 1" --tables
+
+# Counts are added up also where they are as great as they can be.
+mkdir "$folder/added"
+rm -rf "$folder/broken"
+cp -r "$folder/other" "$folder/broken"
+sed -i 's/^place p1 in .*/place p1 in 18446744073709551615 18446744073709551614/' "$folder/broken/summary.txt"
+./tep merge --summary --out "$folder/added" "$folder/one" "$folder/broken" | grep -qx "place p1 in 18446744073709551615 18446744073709551615" ||
+    complain "counts aren't added up to the greatest"
+
+# A part that runs again leaves nothing of the run before, and none of these files may be a capture that it reads.
+runs one 1-15 "${whole[@]}"
+runs other 16-4094,none "${whole[@]}"
+[ ! -e "$folder/one/tables.txt" ] && [ ! -e "$folder/one/summary.txt" ] || complain "a part has tables and counts of another run"
+cp examples/port1.pcap "$folder/vids/summary.txt"
+refused 3 "write summary.txt" run --out vids --segments 10 --settings "$PWD/examples/a.toml" --underlay "$PWD/examples/underlay.pcap" vids/summary.txt \
+    "$PWD/examples/port2.pcap" "$PWD/examples/port3.pcap"
 
 # ---- digests that are lent
 

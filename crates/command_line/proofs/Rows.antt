@@ -68,6 +68,14 @@ some_digests : words_meant (codes "tep" ∷ codes "digest" ∷ codes "-u" ∷ co
 unfolding clap_on_literals
 some_digests = refl
 
-a_merge : words_meant (codes "tep" ∷ codes "merge" ∷ codes "-o" ∷ codes "d" ∷ codes "s1" ∷ codes "s2" ∷ []) ≡ Some (merge (codes "d") (codes "s1" ∷ codes "s2" ∷ []))
+a_merge : words_meant (codes "tep" ∷ codes "merge" ∷ codes "-o" ∷ codes "d" ∷ codes "s1" ∷ codes "s2" ∷ []) ≡ Some (merge (codes "d") (codes "s1" ∷ codes "s2" ∷ []) false false)
 unfolding clap_on_literals
 a_merge = refl
+
+a_merge_that_counts : words_meant (codes "tep" ∷ codes "merge" ∷ codes "-od" ∷ codes "s1" ∷ codes "--summary" ∷ codes "s2" ∷ []) ≡ Some (merge (codes "d") (codes "s1" ∷ codes "s2" ∷ []) false true)
+unfolding clap_on_literals
+a_merge_that_counts = refl
+
+a_merge_that_tells_tables : words_meant (codes "tep" ∷ codes "merge" ∷ codes "--tables" ∷ codes "-od" ∷ codes "s1" ∷ []) ≡ Some (merge (codes "d") (codes "s1" ∷ []) true false)
+unfolding clap_on_literals
+a_merge_that_tells_tables = refl

@@ -218,8 +218,12 @@ abbrev pub digest_shape : Shape
 digest_shape = digest_app.top
 
 -- `merge` with the folder that it writes into and those of the parts
+abbrev pub merge_folders_app : App
+merge_folders_app = with_rule (with_rule (new_app (codes "merge")) out_rule) shards_rule
+
+-- `merge` with the tables and the counts that it tells besides
 abbrev pub merge_app : App
-merge_app = with_rule (with_rule (new_app (codes "merge")) out_rule) shards_rule
+merge_app = with_rule (with_rule merge_folders_app tables_rule) summary_rule
 
 -- what `clap` keeps of `merge`
 abbrev pub merge_shape : Shape

@@ -14,8 +14,9 @@ use Rattle.command_line.specs.declared.line.LineFault.TheVariants as fault
 
 -- a command with its values: of `run` the settings, the changes, the underlay, the folder, the ports, whether the tables are
 -- told, the moment at which they are, the events that are told in full, whether the counts are told, the segments that a
--- part takes, and the file of the digests that are lent to it; of `check` the settings, the changes, the underlay and the ports; of `explain` the settings, the depth, whether
--- values are told, and the capture; of `migrate` the settings; of `digest` the underlay and the ports; of `merge` the folder, and those of the parts
+-- part takes, and the file of the digests that are lent to it; of `check` the settings, the changes, the underlay and the ports;
+-- of `explain` the settings, the depth, whether values are told, and the capture; of `migrate` the settings; of `digest` the
+-- underlay and the ports; of `merge` the folder, those of the parts, whether the tables are told, and whether the counts are
 pub data Meaning : Type 0 where
   sample : Meaning
   run : Text → Option Text → Text → Text → List Text → Bool → Option ℕ → List Text → Bool → Option Text → Option Text → Meaning
@@ -23,7 +24,7 @@ pub data Meaning : Type 0 where
   explain : Text → ℕ → Bool → Text → Meaning
   migrate : Text → Meaning
   digest : Text → List Text → Meaning
-  merge : Text → List Text → Meaning
+  merge : Text → List Text → Bool → Bool → Meaning
 
 -- what a command line is as such a meaning
 abbrev pub meaning_of : Line → Meaning
@@ -35,7 +36,7 @@ meaning_of (line.Check settings changes underlay ports) =
 meaning_of (line.Explain settings depth values capture) = explain settings.now depth values capture.now
 meaning_of (line.Migrate settings) = migrate settings.now
 meaning_of (line.Digest underlay ports) = digest underlay.now (texts ports.items)
-meaning_of (line.Merge out shards) = merge out.now (texts shards.items)
+meaning_of (line.Merge out shards tables summary) = merge out.now (texts shards.items) tables summary
 
 -- a depth is 1 to 4
 abbrev pub HasDepth : Line → Type 0
@@ -45,7 +46,7 @@ HasDepth (line.Check settings changes underlay ports) = ⊤
 HasDepth (line.Explain settings depth values capture) = (1 ≤ depth) × (depth ≤ 4)
 HasDepth (line.Migrate settings) = ⊤
 HasDepth (line.Digest underlay ports) = ⊤
-HasDepth (line.Merge out shards) = ⊤
+HasDepth (line.Merge out shards tables summary) = ⊤
 
 -- ---- what matches mean: nothing, where a required value is missing
 
@@ -119,7 +120,7 @@ digest_meant rows = option_and_then (λ u. option_map (λ ps. digest u ps) (all_
 
 -- what `merge` is asked to do
 abbrev pub merge_meant : List Row → Option Meaning
-merge_meant rows = option_and_then (λ o. option_map (λ ps. merge o ps) (all_of (codes "shards") rows)) (first_of (codes "out") rows)
+merge_meant rows = option_and_then (λ o. option_map (λ ps. merge o ps (is_set (codes "tables") rows) (is_set (codes "summary") rows)) (all_of (codes "shards") rows)) (first_of (codes "out") rows)
 
 -- what a subcommand of this name is asked to do
 abbrev pub command_meant : Text → List Row → Option Meaning
@@ -155,7 +156,7 @@ input_uses (check settings changes (Some underlay) ports) = inputs_among (underl
 input_uses (explain settings depth values capture) = inputs_among (capture ∷ [])
 input_uses (migrate settings) = 0
 input_uses (digest underlay ports) = inputs_among (underlay ∷ ports)
-input_uses (merge out shards) = 0
+input_uses (merge out shards tables summary) = 0
 
 -- it is read once at most
 abbrev pub ReadsInputOnce : Meaning → Type 0

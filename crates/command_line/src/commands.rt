@@ -2,7 +2,7 @@
 ghost use Rattle.std.specs.Prelude.{◌≡◌, IfOk, false};
 ghost use Rattle.clap.specs.Words.{app_of, new_app, rule_of, shape_of, with_rule};
 ghost use Rattle.clap.specs.declared.builder.Command.TheViews.{out-Command as fields_of};
-ghost use Rattle.command_line.specs.App.{check_shape, check_texts_app, digest_shape, explain_depth_app, explain_shape, merge_shape, migrate_shape, run_and_check_app, run_check_and_explain_app, run_captures_app, run_settings_app, run_shape, run_tables_app, run_to_digest_app, run_to_migrate_app, tep_app, versioned_app, with_run_app};
+ghost use Rattle.command_line.specs.App.{check_shape, check_texts_app, digest_shape, explain_depth_app, explain_shape, merge_folders_app, merge_shape, migrate_shape, run_and_check_app, run_check_and_explain_app, run_captures_app, run_settings_app, run_shape, run_tables_app, run_to_digest_app, run_to_migrate_app, tep_app, versioned_app, with_run_app};
 
 use crate::arguments::{
     capture, changes, depth, digests, out, ports, seen_ports, seen_underlay, segments, settings,
@@ -48,7 +48,7 @@ fn digest_example<'a>() -> &'a str {
 
 /// What stands below the help of `merge`.
 fn merge_example<'a>() -> &'a str {
-    "The parts are those of one run, and all of it. The folder is left what the whole run writes.\n\nExample:\n  tep merge -o whole part1 part2 part3"
+    "The parts are those of one run, and all of it. The folder is left what the whole run writes.\nTables and counts are printed as the whole run prints them, where each part was run with the same word.\n\nExamples:\n  tep merge -o whole part1 part2 part3\n  tep merge -o whole --summary part1 part2 part3"
 }
 
 /// A command of this name, with its line of help and what stands below it.
@@ -190,9 +190,9 @@ fn digest<'a>(alloc: Global) -> Result<Command<'a>, AllocError>
     taking(command, ports(alloc))
 }
 
-/// `merge`.
-fn merge<'a>(alloc: Global) -> Result<Command<'a>, AllocError>
-    ensures shape { IfOk result (λ c. shape_of c ≡ merge_shape) }
+/// `merge`, with its folders.
+fn merge_folders<'a>(alloc: Global) -> Result<Command<'a>, AllocError>
+    ensures app { IfOk result (λ c. app_of c ≡ merge_folders_app) }
     ensures local { IfOk result (λ c. (fields_of c).has_globals ≡ false) }
 {
     let command = named(
@@ -203,6 +203,15 @@ fn merge<'a>(alloc: Global) -> Result<Command<'a>, AllocError>
     );
     let command = taking(command, out(alloc))?;
     taking(command, shards(alloc))
+}
+
+/// `merge`, with all that it takes.
+fn merge<'a>(alloc: Global) -> Result<Command<'a>, AllocError>
+    ensures shape { IfOk result (λ c. shape_of c ≡ merge_shape) }
+    ensures local { IfOk result (λ c. (fields_of c).has_globals ≡ false) }
+{
+    let command = taking(merge_folders(alloc)?, tables(alloc))?;
+    taking(command, summary(alloc))
 }
 
 /// The program without its commands.

@@ -83,6 +83,10 @@ pub enum Line<'a> {
         out: &'a str,
         /// The folders of the parts: one at least.
         shards: Vec<&'a str>,
+        /// Whether the tables are told as they are behind the last event.
+        tables: bool,
+        /// Whether the counts are told.
+        summary: bool,
     },
 }
 

@@ -180,5 +180,12 @@ fn merge_from<'a>(alloc: Global, inner: &ArgMatches<'a>) -> Result<Line<'a>, Lin
     let Ok(shards) = Vec::from_slice(alloc, given) else {
         return Err(LineFault::OutOfMemory);
     };
-    Ok(Line::Merge { out, shards })
+    let tables = is_set(inner, "tables");
+    let summary = is_set(inner, "summary");
+    Ok(Line::Merge {
+        out,
+        shards,
+        tables,
+        summary,
+    })
 }

@@ -77,6 +77,12 @@ pub enum ShardFailure {
     /// It has another number of decision lines than its record says, as a part that was cut off has.
     #[error("decisions.txt has another number of events than shard.txt says")]
     Events,
+    /// It has no such file, since it was run without the word that asks for that.
+    #[error("it has no {0}")]
+    Lacks(OutputFile),
+    /// This line of a text that it left isn't what stands there in such a text.
+    #[error("{0}: line {1}")]
+    Report(OutputFile, usize),
     /// Its lines or its captures are wrong.
     #[error("{0}")]
     Part(PartFault),
@@ -91,6 +97,10 @@ pub enum OutputFile {
     Decisions,
     /// What a part was made from.
     Shard,
+    /// What a part counted.
+    Summary,
+    /// The tables of a part at its end.
+    Tables,
     Stdout,
 }
 
@@ -101,6 +111,8 @@ impl fmt::Display for OutputFile {
             OutputFile::Underlay => f.write_str("underlay.pcap"),
             OutputFile::Decisions => f.write_str("decisions.txt"),
             OutputFile::Shard => f.write_str("shard.txt"),
+            OutputFile::Summary => f.write_str("summary.txt"),
+            OutputFile::Tables => f.write_str("tables.txt"),
             OutputFile::Stdout => f.write_str("stdout"),
         }
     }

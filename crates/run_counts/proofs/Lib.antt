@@ -1,3 +1,4 @@
 pub mod Texts
 pub mod Tallies
 pub mod Runs
+pub mod Adding

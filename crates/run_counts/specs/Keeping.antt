@@ -3,7 +3,7 @@
 --     totals_in      what the counters say
 --     Expects, Hears, Sees      an event more, an answer more, both
 --     Ends      the end
-use Rattle.std.specs.Prelude.{◌≡◌, ◌⊎◌, ℕ, Bool, true, List, [], ◌∷◌, ◌++◌, length, slice_index_or}
+use Rattle.std.specs.Prelude.{◌≡◌, ◌⊎◌, ℕ, Bool, true, List, [], ◌∷◌, ◌++◌, length, slice_index_or, Option, Some, None}
 use Rattle.timeline.specs.declared.event.Event.{Event}
 use Rattle.timeline.specs.declared.source.Tap.{Tap}
 use Rattle.timeline.specs.declared.source.Tap.TheVariants.{Port, Underlay}
@@ -26,6 +26,10 @@ no_flow = record { frames = 0; octets = 0 }
 abbrev pub flow_in : Flows → Tap → Flow
 flow_in flows (Port port) = slice_index_or flows.ports port no_flow
 flow_in flows Underlay = flows.underlay
+
+-- what passed at places, where no change was refused
+abbrev pub passed : (Tap → Flow) → (Tap → Flow) → Totals
+passed came left = record { came = came; left = left; refused = λ fault. 0 }
 
 -- how often changes were refused for a cause, of counts by the numbers of the causes
 abbrev pub refusals_in : List ℕ → ChangeFault → ℕ
@@ -65,9 +69,14 @@ Expects old d new = CountsOn old new (λ es. es ++ d.event ∷ []) (λ given. gi
 abbrev pub Hears : Keeping → Answer → Keeping → Type 0
 Hears old a new = CountsOn old new (λ es. es) (λ given. given ++ a ∷ [])
 
--- an event more came and was answered
+-- an event more came and was answered; one that isn't told counts for nothing
+abbrev pub SeesReply : Keeping → Event → Option Answer → Keeping → Type 0
+SeesReply old e (Some a) new = CountsOn old new (λ es. es ++ e ∷ []) (λ given. given ++ a ∷ [])
+SeesReply old e None new = new ≡ old
+
+-- the same of what was seen
 abbrev pub Sees : Keeping → Sight → Keeping → Type 0
-Sees old s new = CountsOn old new (λ es. es ++ s.event ∷ []) (λ given. given ++ s.reply ∷ [])
+Sees old s new = SeesReply old s.event s.reply new
 
 -- at the end the text is that of the counts, unless memory was refused
 abbrev pub Ends : Keeping → State → Keeping → Type 0

@@ -4,7 +4,7 @@
 --     sizes_from, sizes_to      those that came from a place, and those that left there
 --     refusals      the changes that were refused for a cause
 --     Totals, totals_of      all of it
-use Rattle.std.specs.Prelude.{ℕ, ◌==◌, Bool, true, false, if◌then◌else◌, min, List, [], ◌∷◌, length, count_by, Option, Some, None, Ok, Err}
+use Rattle.std.specs.Prelude.{ℕ, ◌+◌, ◌==◌, Bool, true, false, if◌then◌else◌, min, List, [], ◌∷◌, length, count_by, Option, Some, None, Ok, Err}
 use Rattle.std.specs.List.{filter_map, flat_map, sum}
 use Rattle.filter_db.specs.declared.place.Place.{Place}
 use Rattle.filter_db.specs.declared.place.Place.TheVariants.{Local, Remote}
@@ -25,6 +25,10 @@ use Rattle.run_counts.specs.declared.flow.Flow.{Flow}
 -- frames or packets of these sizes
 abbrev pub flow_of : List ℕ → Flow
 flow_of sizes = record { frames = min most (length sizes); octets = min most (sum sizes) }
+
+-- what passed here and there, together
+abbrev pub flow_with : Flow → Flow → Flow
+flow_with a b = record { frames = min most (a.frames + b.frames); octets = min most (a.octets + b.octets) }
 
 -- equality as a test
 abbrev pub same_tap : Tap → Tap → Bool

@@ -3,14 +3,19 @@
 //!
 //! [`RunCounts`] looks on while `stream_run` runs. All its counters are made before the run, so no event asks for memory, and
 //! the endpoint itself counts by segments. The text is written at the end of the run. [`laws::runs`] says that the counts
-//! are those of the decisions of one learning bridge for each segment.
+//! are those of the decisions of one learning bridge for each segment. Whoever knows such counts otherwise ([`Counted`],
+//! [`Flows`], [`Refusals`]) has the same lines written of them ([`put_segments`] and its like).
 #![tactic(auto)]
 
+mod counted;
 mod flow;
 pub mod laws;
 mod lines;
 mod refusals;
 mod run_counts;
 
-pub use flow::Flow;
+pub use counted::Counted;
+pub use flow::{Flow, Flows};
+pub use lines::{put_changes, put_cuts, put_places, put_segments};
+pub use refusals::{Refusals, none_refused};
 pub use run_counts::RunCounts;

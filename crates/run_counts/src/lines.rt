@@ -1,13 +1,14 @@
 //! The lines of a summary.
 ghost use Rattle.std.specs.Prelude.{◌≡◌, ◌++◌, OnOk, codes, string_bytes};
 ghost use Rattle.std.specs.List.{flat_map};
-ghost use Rattle.endpoint_core.specs.Kept.{state_of};
-ghost use Rattle.run_counts.specs.Keeping.{refusals_in};
-ghost use Rattle.run_counts.specs.Summary.{changes_text, dropped_line, flow_line, refused_line, segment_lines, segment_word, segments_text, sent_line};
+ghost use Rattle.decision_lines.specs.Lines.{cut_line};
+ghost use Rattle.run_counts.specs.Keeping.{flow_in, passed, refusals_in};
+ghost use Rattle.run_counts.specs.Summary.{changes_text, cuts_text, dropped_line, flow_line, place_lines, places_text, refused_line, segment_lines, segment_word, segments_text, sent_line};
 
-use crate::flow::Flow;
+use crate::counted::Counted;
+use crate::flow::{Flow, Flows};
 use crate::refusals::{Refusals, refused_for};
-use endpoint_core::{ChangeFault, Endpoint};
+use endpoint_core::ChangeFault;
 use frame_view::{Reason, Vid};
 use std::alloc::AllocError;
 use std::fmt::Write;
@@ -76,50 +77,54 @@ const CAUSES: [ChangeFault; 14] = [
 ];
 
 /// Puts the lines of all segments, their VIDs rising, and then those of none.
-pub fn put_segments(text: &mut String, endpoint: &Endpoint) -> Result<(), AllocError>
-    ensures { OnOk result (string_bytes text.new ≡ string_bytes text.old ++ segments_text (state_of endpoint.now).counts) }
+pub fn put_segments<C: Counted>(text: &mut String, counts: &C) -> Result<(), AllocError>
+    ensures { OnOk result (string_bytes text.new ≡ string_bytes text.old ++ segments_text (C.counts counts.now)) }
 {
     for number in 1..4095 {
         if let Some(vid) = Vid::new(number) {
-            put_segment(text, endpoint, &Some(vid))?;
+            put_segment(text, counts, &Some(vid))?;
         }
     }
-    put_segment(text, endpoint, &None)
+    put_segment(text, counts, &None)
 }
 
 /// Puts the lines of a segment, or of none.
-fn put_segment(
+fn put_segment<C: Counted>(
     text: &mut String,
-    endpoint: &Endpoint,
+    counts: &C,
     segment: &Option<Vid>,
 ) -> Result<(), AllocError>
-    ensures { OnOk result (string_bytes text.new ≡ string_bytes text.old ++ segment_lines (state_of endpoint.now).counts segment.now) }
+    ensures { OnOk result (string_bytes text.new ≡ string_bytes text.old ++ segment_lines (C.counts counts.now) segment.now) }
 {
-    put_sent(text, endpoint, segment)?;
-    put_drops(text, endpoint, segment, &REASONS)
+    put_sent(text, counts, segment)?;
+    put_drops(text, counts, segment, &REASONS)
 }
 
 /// Puts what was dropped there, reason by reason.
-fn put_drops(
+fn put_drops<C: Counted>(
     text: &mut String,
-    endpoint: &Endpoint,
+    counts: &C,
     segment: &Option<Vid>,
     reasons: &[Reason],
 ) -> Result<(), AllocError>
-    ensures { OnOk result (string_bytes text.new ≡ string_bytes text.old ++ flat_map (dropped_line (state_of endpoint.now).counts segment.now) reasons.now) }
+    ensures { OnOk result (string_bytes text.new ≡ string_bytes text.old ++ flat_map (dropped_line (C.counts counts.now) segment.now) reasons.now) }
 {
     for reason in reasons {
-        put_dropped(text, endpoint, segment, *reason)?;
+        put_dropped(text, counts, segment, *reason)?;
     }
     Ok(())
 }
 
 /// Puts what was sent in a segment, or in none.
 #[tactic(auto, unfolding(crate::specs::Summary::sent_line, crate::specs::Summary::count_line))]
-fn put_sent(text: &mut String, endpoint: &Endpoint, segment: &Option<Vid>) -> Result<(), AllocError>
-    ensures { OnOk result (string_bytes text.new ≡ string_bytes text.old ++ sent_line (state_of endpoint.now).counts segment.now) }
+fn put_sent<C: Counted>(
+    text: &mut String,
+    counts: &C,
+    segment: &Option<Vid>,
+) -> Result<(), AllocError>
+    ensures { OnOk result (string_bytes text.new ≡ string_bytes text.old ++ sent_line (C.counts counts.now) segment.now) }
 {
-    let count = endpoint.count(*segment, 0);
+    let count = counts.count(*segment, 0);
     if count == 0 {
         return Ok(());
     }
@@ -129,16 +134,16 @@ fn put_sent(text: &mut String, endpoint: &Endpoint, segment: &Option<Vid>) -> Re
 
 /// Puts what was dropped there for a reason, or not sent for it.
 #[tactic(auto, unfolding(crate::specs::Summary::dropped_line, crate::specs::Summary::count_line))]
-fn put_dropped(
+fn put_dropped<C: Counted>(
     text: &mut String,
-    endpoint: &Endpoint,
+    counts: &C,
     segment: &Option<Vid>,
     reason: Reason,
 ) -> Result<(), AllocError>
-    ensures { OnOk result (string_bytes text.new ≡ string_bytes text.old ++ dropped_line (state_of endpoint.now).counts segment.now reason) }
+    ensures { OnOk result (string_bytes text.new ≡ string_bytes text.old ++ dropped_line (C.counts counts.now) segment.now reason) }
 {
     let number = reason.number();
-    let count = endpoint.count(*segment, number);
+    let count = counts.count(*segment, number);
     if count == 0 {
         return Ok(());
     }
@@ -195,12 +200,27 @@ fn put_refused(text: &mut String, refusals: &Refusals, cause: ChangeFault) -> Re
     writeln!(text, "change refused {number} {name} {count}")
 }
 
-/// Puts the lines of a place: what came from there, and what left.
-pub fn put_place(text: &mut String, tap: Tap, came: Flow, left: Flow) -> Result<(), AllocError>
-    ensures { OnOk result (string_bytes text.new ≡ string_bytes text.old ++ (flow_line tap (codes "in") came ++ flow_line tap (codes "out") left)) }
+/// Puts the lines of the places, where this came and that left: so many ports, rising, and the underlay.
+pub fn put_places(
+    text: &mut String,
+    came: &Flows,
+    left: &Flows,
+    ports: u8,
+) -> Result<(), AllocError>
+    ensures { OnOk result (string_bytes text.new ≡ string_bytes text.old ++ places_text (passed (flow_in came.now) (flow_in left.now)) ports) }
 {
-    put_flow(text, tap, "in", came)?;
-    put_flow(text, tap, "out", left)
+    for index in 0..ports {
+        put_place(text, came, left, Tap::Port(index + 1))?;
+    }
+    put_place(text, came, left, Tap::Underlay)
+}
+
+/// Puts the lines of a place: what came from there, and what left.
+fn put_place(text: &mut String, came: &Flows, left: &Flows, tap: Tap) -> Result<(), AllocError>
+    ensures { OnOk result (string_bytes text.new ≡ string_bytes text.old ++ place_lines (passed (flow_in came.now) (flow_in left.now)) tap) }
+{
+    put_flow(text, tap, "in", came.at(tap))?;
+    put_flow(text, tap, "out", left.at(tap))
 }
 
 /// Puts what passed at a place in one direction.
@@ -211,4 +231,21 @@ fn put_flow(text: &mut String, tap: Tap, direction: &str, flow: Flow) -> Result<
     let frames = flow.frames;
     let octets = flow.octets;
     writeln!(text, "place {tap} {direction} {frames} {octets}")
+}
+
+/// Puts the lines of cut captures, of places where this came.
+pub fn put_cuts(text: &mut String, came: &Flows, cut: &[Tap]) -> Result<(), AllocError>
+    ensures { OnOk result (string_bytes text.new ≡ string_bytes text.old ++ cuts_text (passed (flow_in came.now) (flow_in came.now)) cut.now) }
+{
+    for tap in cut {
+        put_cut(text, *tap, came.at(*tap).frames)?;
+    }
+    Ok(())
+}
+
+/// Puts the line of a capture that is cut behind so many whole records.
+fn put_cut(text: &mut String, tap: Tap, whole: u64) -> Result<(), AllocError>
+    ensures { OnOk result (string_bytes text.new ≡ string_bytes text.old ++ cut_line (record { tap = tap; whole = whole })) }
+{
+    writeln!(text, "cut {tap} {whole}")
 }

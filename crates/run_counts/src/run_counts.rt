@@ -9,18 +9,16 @@ ghost use Rattle.endpoint_core.specs.Step.{Decided, Replied, sent_at};
 ghost use Rattle.endpoint_state.specs.Settings.{segment_at};
 ghost use Rattle.endpoint_state.specs.Step.{can_leave};
 ghost use Rattle.run_counts.specs.Keeping.{Hears, flow_in, totals_in};
-ghost use Rattle.run_counts.specs.Summary.{counts_text, cuts_text, places_text};
-ghost use Rattle.decision_lines.specs.Lines.{cut_line};
+ghost use Rattle.run_counts.specs.Summary.{counts_text, cuts_text};
 ghost use Rattle.run_counts.specs.Totals.{flow_of, size_to, tap_of, totals_of};
 
 use crate::flow::{Flow, Flows};
-use crate::lines::{put_changes, put_place, put_segments};
+use crate::lines::{put_changes, put_cuts, put_places, put_segments};
 use crate::refusals::{Refusals, add_refusal, none_refused};
 use encapsulate::Head;
 use endpoint_core::{Came, ChangeFault, Course, Endpoint};
 use filter_db::Place;
 use std::alloc::{AllocError, Global};
-use std::fmt::Write;
 use std::marker::Model;
 use stream_run::Watch;
 use timeline::{Event, Happening, Tap};
@@ -90,9 +88,7 @@ impl RunCounts {
             return Err(AllocError);
         }
         let RunCounts { came, mut text, .. } = self;
-        for tap in cut {
-            put_cut(&mut text, *tap, came.at(*tap).frames)?;
-        }
+        put_cuts(&mut text, &came, cut)?;
         Ok(text.into_bytes())
     }
 }
@@ -119,6 +115,8 @@ impl Watch for RunCounts {
     fn hear_reply(&mut self, reply: Result<(), ChangeFault>) {
         self.count_reply(reply);
     }
+
+    fn pass_over(&mut self, _endpoint: &Endpoint, _number: u64, _event: &Event) {}
 
     fn end(&mut self, endpoint: &Endpoint) {
         match self.told(endpoint) {
@@ -156,24 +154,8 @@ impl RunCounts {
         let mut text = String::new(self.alloc);
         put_segments(&mut text, endpoint)?;
         put_changes(&mut text, &self.refused)?;
-        self.put_places(&mut text, endpoint.ports())?;
+        put_places(&mut text, &self.came, &self.left, endpoint.ports())?;
         Ok(text)
-    }
-
-    /// Puts the lines of the places: so many ports, rising, and the underlay.
-    fn put_places(&self, text: &mut String, ports: u8) -> Result<(), AllocError>
-        ensures { OnOk result (string_bytes text.new ≡ string_bytes text.old ++ places_text (totals_in self.now) ports) }
-    {
-        for index in 0..ports {
-            let tap = Tap::Port(index + 1);
-            put_place(text, tap, self.came(tap), self.left(tap))?;
-        }
-        put_place(
-            text,
-            Tap::Underlay,
-            self.came(Tap::Underlay),
-            self.left(Tap::Underlay),
-        )
     }
 }
 
@@ -206,11 +188,4 @@ fn tap_of(place: Place) -> Tap
         Place::Local(port) => Tap::Port(port),
         Place::Remote(..) => Tap::Underlay,
     }
-}
-
-/// Puts the line of a capture that is cut behind so many whole records.
-fn put_cut(text: &mut String, tap: Tap, whole: u64) -> Result<(), AllocError>
-    ensures { OnOk result (string_bytes text.new ≡ string_bytes text.old ++ cut_line (record { tap = tap; whole = whole })) }
-{
-    writeln!(text, "cut {tap} {whole}")
 }

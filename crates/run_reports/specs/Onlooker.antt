@@ -3,9 +3,9 @@
 --     Expected, Seen, Ended      an event more, an event with its answer, the end
 use Rattle.std.specs.Prelude.{◌≡◌, Option, Some, None}
 use Rattle.endpoint_core.specs.Step.{State}
-use Rattle.stream_run.specs.Sights.{Due, Sight, due}
+use Rattle.stream_run.specs.Sights.{Due, Sight}
 use Rattle.run_counts.specs.Keeping.{Ends, Expects, Keeping, Sees}
-use Rattle.run_reports.specs.Report.{TellsOrLoses, ended_by, seen_by}
+use Rattle.run_reports.specs.Report.{TellsOrLoses, ended_by, seen_by, told_by}
 use Rattle.run_reports.specs.declared.onlooker.Onlooker.{Onlooker}
 
 -- where someone counts, this leaves the counters, and nobody begins to
@@ -19,9 +19,9 @@ Counting step None None = Unit {0}
 abbrev pub Expected : Onlooker → Due → Onlooker → Type 0
 Expected old d new = TellsOrLoses (seen_by old.reports d) new.reports × Counting (λ x y. Expects x d y) old.counts new.counts
 
--- and behind its answer
+-- and behind its answer, where it has one
 abbrev pub Seen : Onlooker → Sight → Onlooker → Type 0
-Seen old s new = TellsOrLoses (seen_by old.reports (due s.state s.number s.event)) new.reports × Counting (λ x y. Sees x s y) old.counts new.counts
+Seen old s new = TellsOrLoses (told_by old.reports s) new.reports × Counting (λ x y. Sees x s y) old.counts new.counts
 
 -- behind the end
 abbrev pub Ended : Onlooker → State → Onlooker → Type 0

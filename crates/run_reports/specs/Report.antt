@@ -1,9 +1,10 @@
 -- What a run tells besides its outputs, to whom asks. It states no standard.
 use Rattle.std.specs.Prelude.{◌≡◌, ◌⊎◌, ℕ, ◌||◌, Bool, true, false, List, [], ◌++◌, length, map, replicate, nat_lt, Option, Some, None, if◌then◌else◌}
 use Rattle.std.specs.List.{list_any, zip}
-use Rattle.endpoint_core.specs.Step.{State}
+use Rattle.segment_set.specs.Segments.{Segments}
+use Rattle.endpoint_core.specs.Step.{Answer, State}
 use Rattle.timeline.specs.declared.event.Event.{Event}
-use Rattle.stream_run.specs.Sights.{Due}
+use Rattle.stream_run.specs.Sights.{Due, Sight, due}
 use Rattle.table_lines.specs.Lines.{tables_text}
 use Rattle.overlay_settings.specs.declared.change.TimedChange.{TimedChange}
 use Rattle.event_story.specs.Story.{run_story}
@@ -15,19 +16,23 @@ pub record Telling : Type 0 where
   pub names : List (List ℕ)
   -- the changes of the run
   pub changes : List TimedChange
+  -- whose tables are told
+  pub segments : Segments
   -- the moment at which the tables are told, until they were
   pub due : Option ℕ
   -- whether they are told at the end
   pub tables : Bool
   pub text : List ℕ
+  -- the tables at the end
+  pub last : List ℕ
   -- for each of the names whether an event had it
   pub found : List Bool
   -- whether memory was refused, so that the text has gaps
   pub is_lost : Bool
 
 -- nothing is told yet
-abbrev pub asked : List (List ℕ) → List TimedChange → Option ℕ → Bool → Telling
-asked names changes due tables = record { names = names; changes = changes; due = due; tables = tables; text = []; found = replicate (length names) false; is_lost = false }
+abbrev pub asked : List (List ℕ) → List TimedChange → Segments → Option ℕ → Bool → Telling
+asked names changes segments due tables = record { names = names; changes = changes; segments = segments; due = due; tables = tables; text = []; last = []; found = replicate (length names) false; is_lost = false }
 
 -- ---- an event
 
@@ -44,35 +49,59 @@ abbrev pub is_before : Option ℕ → ℕ → Bool
 is_before None moment = false
 is_before (Some at) moment = nat_lt at moment
 
--- the tables, before the first event behind the moment
-abbrev pub tables_before : Option ℕ → Due → List ℕ
-tables_before due s = if is_before due s.event.moment then tables_text s.state else []
+-- the tables, before the first event behind their moment
+abbrev pub tables_before : Segments → Option ℕ → State → ℕ → List ℕ
+tables_before segments due s moment = if is_before due moment then tables_text segments s else []
+
+-- with the tables before an event of this moment
+abbrev pub tables_told : Telling → State → ℕ → Telling
+tables_told r s moment = record r {
+  due = if is_before r.due moment then None else r.due;
+  text = r.text ++ tables_before r.segments r.due s moment;
+}
 
 -- why an event comes out as it does, where one asks
 abbrev pub story_of : List TimedChange → List (List ℕ) → Due → List ℕ
 story_of changes names s = if is_asked s.number s.event names then run_story changes s.state s.number s.event else []
 
--- behind an event that was seen
-abbrev pub seen_by : Telling → Due → Telling
-seen_by r s = record r {
-  due = if is_before r.due s.event.moment then None else r.due;
-  text = r.text ++ (tables_before r.due s ++ story_of r.changes r.names s);
+-- with the story of an event
+abbrev pub story_told : Telling → Due → Telling
+story_told r s = record r {
+  text = r.text ++ story_of r.changes r.names s;
   found = found_behind s.number s.event r.names r.found;
 }
+
+-- behind an event that the run answers
+abbrev pub seen_by : Telling → Due → Telling
+seen_by r s = story_told (tables_told r s.state s.event.moment) s
+
+-- behind an event with its answer, or one that isn't told to a part: of that nothing is told but that it comes
+abbrev pub replied_by : Telling → Due → Option Answer → Telling
+replied_by r s (Some a) = seen_by r s
+replied_by r s None = tables_told r s.state s.event.moment
+
+-- the same of what was seen
+abbrev pub told_by : Telling → Sight → Telling
+told_by r s = replied_by r (due s.state s.number s.event) s.reply
 
 -- ---- the end
 
 -- the tables, where their moment didn't come
-abbrev pub tables_still_due : Option ℕ → State → List ℕ
-tables_still_due None s = []
-tables_still_due (Some at) s = tables_text s
+abbrev pub tables_still_due : Segments → Option ℕ → State → List ℕ
+tables_still_due segments None s = []
+tables_still_due segments (Some at) s = tables_text segments s
+
+-- with these
+abbrev pub due_told : Telling → State → Telling
+due_told r s = record r { due = None; text = r.text ++ tables_still_due r.segments r.due s }
+
+-- with the tables of the end, where one asks for them
+abbrev pub end_told : Telling → State → Telling
+end_told r s = record r { last = r.last ++ (if r.tables then tables_text r.segments s else []) }
 
 -- behind the end
 abbrev pub ended_by : Telling → State → Telling
-ended_by r s = record r {
-  due = None;
-  text = r.text ++ (tables_still_due r.due s ++ (if r.tables then tables_text s else []));
-}
+ended_by r s = end_told (due_told r s) s
 
 -- ---- memory
 

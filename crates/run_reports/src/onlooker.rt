@@ -41,6 +41,13 @@ impl<'n, 'a> Watch for Onlooker<'n, 'a> {
         }
     }
 
+    fn pass_over(&mut self, endpoint: &Endpoint, number: u64, event: &Event) {
+        self.reports.pass_over(endpoint, number, event);
+        if let Some(counts) = &mut self.counts {
+            counts.pass_over(endpoint, number, event);
+        }
+    }
+
     fn end(&mut self, endpoint: &Endpoint) {
         self.reports.end(endpoint);
         if let Some(counts) = &mut self.counts {

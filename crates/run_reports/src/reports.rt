@@ -4,13 +4,14 @@ ghost use Rattle.endpoint_core.specs.Kept.{state_of};
 ghost use Rattle.stream_run.specs.Sights.{due};
 ghost use Rattle.event_story.specs.Story.{run_story};
 ghost use Rattle.table_lines.specs.Lines.{tables_text};
-ghost use Rattle.run_reports.specs.Report.{asked, ended_by, found_behind, is_asked, is_before, seen_by};
+ghost use Rattle.run_reports.specs.Report.{asked, due_told, ended_by, found_behind, is_asked, is_before, seen_by, story_told, tables_told};
 
 use crate::name::is_named;
 use endpoint_core::{ChangeFault, Course, Endpoint};
 use event_story::story_in_run;
 use filter_db::Place;
 use overlay_settings::TimedChange;
+use segment_set::SegmentSet;
 use std::alloc::{AllocError, Global};
 use std::marker::Model;
 use stream_run::Watch;
@@ -25,11 +26,15 @@ pub struct Reports<'n, 'a> {
     names: &'n [&'a str],
     /// The changes of the run, whose stories may be asked for.
     changes: &'n [TimedChange],
+    /// Whose tables are told.
+    segments: &'n SegmentSet,
     /// For each of the names whether an event had it.
     found: Vec<bool>,
     due: Option<u64>,
     tables: bool,
     text: Vec<u8>,
+    /// The tables at the end.
+    last: Vec<u8>,
     room: String,
     is_lost: bool,
 }
@@ -40,32 +45,36 @@ impl<'n, 'a> Model for Reports<'n, 'a> {
 
     ghost Value = { Telling };
 
-    ghost view = { λ r. record { names = map (λ name. name.now) r.names.now; changes = r.changes.now; due = r.due; tables = r.tables; text = r.text.items; found = r.found.items; is_lost = r.is_lost } };
+    ghost view = { λ r. record { names = map (λ name. name.now) r.names.now; changes = r.changes.now; segments = r.segments.now; due = r.due; tables = r.tables; text = r.text.items; last = r.last.items; found = r.found.items; is_lost = r.is_lost } };
 
     ghost invariant = { λ r. length r.found.items ≡ length r.names.now };
 }
 
 impl<'n, 'a> Reports<'n, 'a> {
-    /// Asks for why the events of these names came out as they did, in a run with these changes, and for the tables: as they
-    /// are behind the last event up to a moment, in nanoseconds, and at the end. `AllocError`: memory was refused.
+    /// Asks for why the events of these names came out as they did, in a run with these changes, and for the tables of these
+    /// segments: as they are behind the last event up to a moment, in nanoseconds, and at the end. `AllocError`: memory was
+    /// refused.
     pub fn new(
         alloc: Global,
         names: &'n [&'a str],
         changes: &'n [TimedChange],
+        segments: &'n SegmentSet,
         tables_at: Option<u64>,
         tables: bool,
     ) -> Result<Reports<'n, 'a>, AllocError>
-        ensures { IfOk result (λ reports. reports ≡ asked (map (λ name. name.now) names.entry.now) changes.entry.now tables_at tables) }
+        ensures { IfOk result (λ reports. reports ≡ asked (map (λ name. name.now) names.entry.now) changes.entry.now segments.entry.now tables_at tables) }
     {
         let found = vec![in alloc; false; names.len()]?;
         Ok(Reports {
             alloc,
             names,
             changes,
+            segments,
             found,
             due: tables_at,
             tables,
             text: Vec::new(alloc),
+            last: Vec::new(alloc),
             room: String::new(alloc),
             is_lost: false,
         })
@@ -78,23 +87,23 @@ impl<'n, 'a> Reports<'n, 'a> {
         self.found.as_slice()
     }
 
-    /// What was told. `AllocError`: memory was refused meanwhile.
-    pub fn into_text(self) -> Result<Vec<u8>, AllocError>
-        ensures told { IfOk result (λ text. text.items ≡ self.entry.text) }
+    /// What was told, and behind it the tables at the end. `AllocError`: memory was refused meanwhile.
+    pub fn into_texts(self) -> Result<(Vec<u8>, Vec<u8>), AllocError>
+        ensures told { IfOk result (λ texts. texts.0.items ≡ self.entry.text) }
+        ensures last { IfOk result (λ texts. texts.1.items ≡ self.entry.last) }
         ensures whole { OnOk result (self.entry.is_lost ≡ false) }
     {
         if self.is_lost {
             return Err(AllocError);
         }
-        Ok(self.text)
+        Ok((self.text, self.last))
     }
 }
 
 impl<'n, 'a> Watch for Reports<'n, 'a> {
-    ghost use Rattle.stream_run.specs.Sights.{due};
-    ghost use Rattle.run_reports.specs.Report.{TellsOrLoses, ended_by, seen_by};
+    ghost use Rattle.run_reports.specs.Report.{TellsOrLoses, ended_by, seen_by, told_by};
 
-    ghost sees = { λ old s new. TellsOrLoses (seen_by old (due s.state s.number s.event)) new };
+    ghost sees = { λ old s new. TellsOrLoses (told_by old s) new };
 
     ghost expects = { λ old d new. TellsOrLoses (seen_by old d) new };
 
@@ -110,6 +119,12 @@ impl<'n, 'a> Watch for Reports<'n, 'a> {
 
     fn hear_reply(&mut self, _reply: Result<(), ChangeFault>) {}
 
+    fn pass_over(&mut self, endpoint: &Endpoint, _number: u64, event: &Event) {
+        if !self.is_lost && self.tell_tables(endpoint, event.moment).is_err() {
+            self.is_lost = true;
+        }
+    }
+
     fn end(&mut self, endpoint: &Endpoint) {
         if !self.is_lost && self.tell_end(endpoint).is_err() {
             self.is_lost = true;
@@ -118,14 +133,34 @@ impl<'n, 'a> Watch for Reports<'n, 'a> {
 }
 
 impl<'n, 'a> Reports<'n, 'a> {
-    /// Tells what is asked for before an event.
+    /// Tells what is asked for before an event that the run answers.
     fn tell(&mut self, endpoint: &Endpoint, number: u64, event: &Event) -> Result<(), AllocError>
         ensures { OnOk result (self.new ≡ seen_by self.old (due (state_of endpoint.now) number event.now)) }
     {
-        if is_before(self.due, event.moment) {
+        self.tell_tables(endpoint, event.moment)?;
+        self.tell_story(endpoint, number, event)
+    }
+
+    /// Tells the tables before an event of this moment, where it is behind theirs.
+    fn tell_tables(&mut self, endpoint: &Endpoint, moment: u64) -> Result<(), AllocError>
+        ensures { OnOk result (self.new ≡ tables_told self.old (state_of endpoint.now) moment) }
+    {
+        if is_before(self.due, moment) {
             self.due = None;
-            put_tables(self.alloc, &mut self.text, endpoint)?;
+            put_tables(self.alloc, &mut self.text, endpoint, self.segments)?;
         }
+        Ok(())
+    }
+
+    /// Tells why an event comes out as it does, where one asks for it.
+    fn tell_story(
+        &mut self,
+        endpoint: &Endpoint,
+        number: u64,
+        event: &Event,
+    ) -> Result<(), AllocError>
+        ensures { OnOk result (self.new ≡ story_told self.old (due (state_of endpoint.now) number event.now)) }
+    {
         let is_asked = mark_found(
             self.names,
             self.found.as_mut_slice(),
@@ -150,12 +185,20 @@ impl<'n, 'a> Reports<'n, 'a> {
     fn tell_end(&mut self, endpoint: &Endpoint) -> Result<(), AllocError>
         ensures { OnOk result (self.new ≡ ended_by self.old (state_of endpoint.now)) }
     {
+        self.tell_due(endpoint)?;
+        if self.tables {
+            put_tables(self.alloc, &mut self.last, endpoint, self.segments)?;
+        }
+        Ok(())
+    }
+
+    /// Tells the tables at the end, where their moment didn't come.
+    fn tell_due(&mut self, endpoint: &Endpoint) -> Result<(), AllocError>
+        ensures { OnOk result (self.new ≡ due_told self.old (state_of endpoint.now)) }
+    {
         if self.due.is_some() {
             self.due = None;
-            put_tables(self.alloc, &mut self.text, endpoint)?;
-        }
-        if self.tables {
-            put_tables(self.alloc, &mut self.text, endpoint)?;
+            put_tables(self.alloc, &mut self.text, endpoint, self.segments)?;
         }
         Ok(())
     }
@@ -192,11 +235,16 @@ fn mark_found(
     Ok(is_asked)
 }
 
-/// Puts the tables as they are.
-fn put_tables(alloc: Global, text: &mut Vec<u8>, endpoint: &Endpoint) -> Result<(), AllocError>
-    ensures { OnOk result (text.new.items ≡ text.old.items ++ tables_text (state_of endpoint.now)) }
+/// Puts the tables of these segments as they are.
+fn put_tables(
+    alloc: Global,
+    text: &mut Vec<u8>,
+    endpoint: &Endpoint,
+    segments: &SegmentSet,
+) -> Result<(), AllocError>
+    ensures { OnOk result (text.new.items ≡ text.old.items ++ tables_text segments.now (state_of endpoint.now)) }
 {
-    let tables = tables_text(alloc, endpoint)?;
+    let tables = tables_text(alloc, endpoint, segments)?;
     text.extend_from_slice(tables.as_slice())
 }
 

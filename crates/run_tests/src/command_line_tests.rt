@@ -12,7 +12,7 @@ fn told<'a>(alloc: Global, words: &'a [&'a str]) -> Result<String, Fail> {
 }
 
 /// Words, and the line that they ask for.
-const LINES: [(&[&str], &str); 11] = [
+const LINES: [(&[&str], &str); 12] = [
     (&["tep"], "Sample"),
     (
         &[
@@ -86,7 +86,11 @@ const LINES: [(&[&str], &str); 11] = [
     ),
     (
         &["tep", "merge", "a", "-o", "d", "b"],
-        "Merge { out: \"d\", shards: [\"a\", \"b\"] }",
+        "Merge { out: \"d\", shards: [\"a\", \"b\"], tables: false, summary: false }",
+    ),
+    (
+        &["tep", "merge", "-od", "a", "--summary", "--tables"],
+        "Merge { out: \"d\", shards: [\"a\"], tables: true, summary: true }",
     ),
     (
         &["tep", "digest", "-uu", "p1", "-"],

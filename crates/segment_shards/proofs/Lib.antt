@@ -1,6 +1,7 @@
 pub mod Keeping
 pub mod Counting
 pub mod Telling
+pub mod Tables
 pub mod Writing
 pub mod Running
 pub mod Parting

@@ -18,6 +18,7 @@ ghost use Rattle.noninterference.specs.Coming.{Inputs, IsRunOf, changes_of};
 ghost use Rattle.segment_set.specs.Segments.{Segments, holds};
 ghost use Rattle.capture_run.specs.Among.{cuts_among, outputs_among, run_among};
 ghost use Rattle.shard_merge.specs.Merged.{IsRising, Piece, texts_of_pieces, side_by_side, merged};
+ghost use Rattle.table_lines.specs.Lines.{tables_text};
 ghost use Rattle.segment_shards.specs.Pieces.{pieces_of, all_pieces, pieces_in, IsAsked, PartAll, HasVids, NamesVid, state_among, counted_among};
 
 /// What a part of a run writes is the texts of those pieces of the whole run that are told of its segments: it answers
@@ -85,7 +86,8 @@ pub fn texts()
 {}
 
 /// Behind any events the endpoint of a part has the settings in force of the whole run's, the tables of its own segments,
-/// and their counts; of other segments it counts nothing. So the counts of all parts add up to those of the whole run.
+/// and their counts; of other segments it counts nothing. So the lines of its tables are those of the whole run's, and the
+/// counts of all parts add up to those of the whole run.
 pub fn states()
     ensures settings { (segments : Segments) (S : Settings) (es : List Event) →
         (state_among segments (opened S) es).bridges.settings ≡ (state_after (opened S) es).bridges.settings }
@@ -95,6 +97,8 @@ pub fn states()
         (state_among segments (opened S) es).counts ≡ counted_among segments (state_after (opened S) es).counts }
     ensures moment { (segments : Segments) (S : Settings) (es : List Event) →
         (state_among segments (opened S) es).moment ≡ (state_after (opened S) es).moment }
+    ensures lines { (segments : Segments) (S : Settings) (es : List Event) →
+        tables_text segments (state_among segments (opened S) es) ≡ tables_text segments (state_after (opened S) es) }
     ensures sums { (parts : List Segments) (S : Settings) (es : List Event) → PartAll parts →
         (segment : Option ℕ) (number : ℕ) → IsAsked segment →
         sum (map (λ (part : Segments). (state_among part (opened S) es).counts segment number) parts)

@@ -16,15 +16,16 @@ use Rattle.stream_run.specs.Begun.{AreAtFirst, OpensInTurn}
 use Rattle.stream_run.specs.Coming.{coming}
 use Rattle.stream_run.specs.Cuts.{cuts_at}
 use Rattle.stream_run.specs.Over.{LeavesOver, Tells, texts_octets, whole_records}
+use Rattle.stream_run.specs.Reached.{ReachesOver}
 use Rattle.stream_run.specs.Sights.{Sight, sights}
 use Rattle.stream_run.specs.Stage.{Drains, Lead, StandAt, StandBetween, no_texts}
-use Rattle.stream_run.specs.Steps.{AreRead, AreReady, EndsInOrder, IsAt, IsRunOn, LeadsBehind, Run, changes_of, run_at, texts_behind}
+use Rattle.stream_run.specs.Steps.{AreRead, AreReadBehind, AreReady, EndsInOrder, IsAt, IsRunOn, LeadsBehind, Run, StopInFront, changes_of, run_at, texts_behind}
 use Rattle.stream_run.specs.Watched.{IsWatchedRun, SeesOver, state_behind}
 use Rattle.stream_run.specs.declared.fault.StreamFault.{StreamFault}
 use Rattle.stream_run.specs.declared.fault.StreamFault.TheVariants as stream
 use Rattle.stream_run.specs.declared.fault.Target.{Target}
 use Rattle.stream_run.specs.declared.turn.Turn.{Turn}
-use Rattle.stream_run.proofs.Overall.{all_opened, one_refused, over_all, over_cuts, over_events, over_refused, over_unopened, seen_all, seen_cuts, seen_events, seen_unread, tells_many}
+use Rattle.stream_run.proofs.Overall.{all_opened, one_refused, over_all, over_cuts, over_events, over_refused, over_unopened, reach_cuts, reach_events, reach_unread, seen_all, seen_cuts, seen_events, seen_unread, tells_many}
 use Rattle.stream_run.proofs.Wholes.{AllStandAtEnd, all_at_end, all_coming}
 use Rattle.segment_set.specs.Segments.{Segments}
 
@@ -50,6 +51,17 @@ module _ (segments : Segments) where
     over_opening new ports new_ports underlay new_underlay (stream.Run faults.OutOfMemory) tells opens many at = absurd opens
     over_opening new ports new_ports underlay new_underlay (stream.Read place) tells opens many at = over_unopened segments s changes texts text start new at
     over_opening new ports new_ports underlay new_underlay (stream.Write target) tells opens many at = absurd opens
+
+    pub reach_opening : (new : Drains) (ports new_ports : List Stream) (underlay new_underlay : Stream) (fault : StreamFault) → OpensInTurn ports underlay new_ports new_underlay (Err fault)
+        → StandAt start new (no_texts (length texts)) → ReachesOver segments s changes texts text start new new_ports new_underlay (Err fault)
+    reach_opening new ports new_ports underlay new_underlay (stream.Run (faults.Capture place f)) opens at = tt
+    reach_opening new ports new_ports underlay new_underlay (stream.Run (faults.Record place n f)) opens at = absurd opens
+    reach_opening new ports new_ports underlay new_underlay (stream.Run (faults.Settings f)) opens at = tt
+    reach_opening new ports new_ports underlay new_underlay (stream.Run (faults.Changes f)) opens at = tt
+    reach_opening new ports new_ports underlay new_underlay (stream.Run faults.PortCount) opens at = tt
+    reach_opening new ports new_ports underlay new_underlay (stream.Run faults.OutOfMemory) opens at = absurd opens
+    reach_opening new ports new_ports underlay new_underlay (stream.Read place) opens at = reach_unread segments s changes texts text start new new_ports new_underlay place at
+    reach_opening new ports new_ports underlay new_underlay (stream.Write target) opens at = absurd opens
 
     -- so nothing was seen
     pub seen_opening : {T : Type 0} (sees : T → Sight → T → Type 0) (end : T → State → T → Type 0) (watch : T) (new : Drains) (ports new_ports : List Stream) (underlay new_underlay : Stream) (fault : StreamFault)
@@ -77,6 +89,15 @@ module _ (segments : Segments) where
           over_events segments s changes texts text start run.drains fault run on.es on.more told.rest (all_are on.es on.more told.rest told.first) told.ends on.part
           (subst (λ st. LeadsBehind {T = Unit {0}} segments changes st start run.drains (empty_outputs (length texts)) on.es on.more (Err fault)) is (on.outputs start (empty_outputs (length texts)) at))
           (subst (λ st. EndsInOrder {T = Unit {0}} segments changes st start run.drains (empty_outputs (length texts)) on.es on.more (Err fault)) is (on.order start (empty_outputs (length texts)) at))
+          told.in_front
+
+      pub reach_run : (fault : StreamFault) → IsRunOn segments changes (run_at ports underlay turns state 0 d) run (Err fault) → ReachesOver segments s changes texts text start run.drains run.ports run.underlay (Err fault)
+      reach_run fault on =
+          let told = on.told (texts_octets texts) text read in
+          reach_events segments s changes texts text start run.drains fault run on.es on.more told.rest (all_are on.es on.more told.rest told.first) told.ends on.part
+          (subst (λ st. LeadsBehind {T = Unit {0}} segments changes st start run.drains (empty_outputs (length texts)) on.es on.more (Err fault)) is (on.outputs start (empty_outputs (length texts)) at))
+          (subst (λ st. EndsInOrder {T = Unit {0}} segments changes st start run.drains (empty_outputs (length texts)) on.es on.more (Err fault)) is (on.order start (empty_outputs (length texts)) at))
+          told.in_front told.read_on
 
       -- it goes through all of them
       no_more : (on : IsRunOn segments changes (run_at ports underlay turns state 0 d) run (Ok tt)) → (whole_records changes texts text).events ≡ on.es
@@ -87,6 +108,10 @@ module _ (segments : Segments) where
       ends : (on : IsRunOn segments changes (run_at ports underlay turns state 0 d) run (Ok tt)) → AllStandAtEnd texts text run.turns run.ports run.underlay
       ends on = all_at_end texts text run.turns run.ports run.underlay (on.told (texts_octets texts) text read).ends.1 on.ready.size on.over
 
+      -- they stop in front of each fault
+      stop : (on : IsRunOn segments changes (run_at ports underlay turns state 0 d) run (Ok tt)) → StopInFront (texts_octets texts) text on.es
+      stop on = subst (StopInFront (texts_octets texts) text) (ap (λ l. on.es ++ l) on.part ∙ append-nil on.es) (on.told (texts_octets texts) text read).in_front
+
       -- the texts that stand then, and with the lines of the cut captures
       abbrev pub before_lines : IsRunOn segments changes (run_at ports underlay turns state 0 d) run (Ok tt) → Outputs
       before_lines on = texts_behind segments changes state (empty_outputs (length texts)) on.es
@@ -94,8 +119,19 @@ module _ (segments : Segments) where
       pub over_lines : (new : Drains) (target : Target) (on : IsRunOn segments changes (run_at ports underlay turns state 0 d) run (Ok tt))
           → Lead {T = Unit {0}} start new (before_lines on) (with_cuts (before_lines on) (cuts_among segments (cuts_at run.ports run.underlay run.turns))) (Err target) → LeavesOver segments s changes texts text start new (Err (stream.Write target))
       over_lines new target on lead =
-          over_cuts segments s changes texts text start new target on.es run.turns run.ports run.underlay (no_more on) (ends on)
+          over_cuts segments s changes texts text start new target on.es run.turns run.ports run.underlay (no_more on) (ends on) (stop on)
           (subst (λ st. StandBetween start new (texts_behind segments changes st (empty_outputs (length texts)) on.es) (with_cuts (texts_behind segments changes st (empty_outputs (length texts)) on.es) (cuts_among segments (cuts_at run.ports run.underlay run.turns)))) is lead.0)
+
+      pub reach_lines : (new : Drains) (target : Target) (on : IsRunOn segments changes (run_at ports underlay turns state 0 d) run (Ok tt))
+          → Lead {T = Unit {0}} start new (before_lines on) (with_cuts (before_lines on) (cuts_among segments (cuts_at run.ports run.underlay run.turns))) (Err target)
+          → ReachesOver segments s changes texts text start new run.ports run.underlay (Err (stream.Write target))
+      reach_lines new target on lead =
+          reach_cuts segments s changes texts text start new target on.es run.turns run.ports run.underlay (no_more on) (ends on) (stop on)
+          (subst (λ st. StandBetween start new (texts_behind segments changes st (empty_outputs (length texts)) on.es) (with_cuts (texts_behind segments changes st (empty_outputs (length texts)) on.es) (cuts_among segments (cuts_at run.ports run.underlay run.turns)))) is lead.0)
+          (λ place index at_index other. (on.told (texts_octets texts) text read).read_on place index at_index tt)
+
+      pub reach_whole : (new : Drains) (on : IsRunOn segments changes (run_at ports underlay turns state 0 d) run (Ok tt)) → ReachesOver segments s changes texts text start new run.ports run.underlay (Ok tt)
+      reach_whole new on = subst (λ l. AreReadBehind {T = Unit {0}} (texts_octets texts) text l run.ports run.underlay (Ok tt)) (sym (no_more on)) (on.told (texts_octets texts) text read).read_on
 
       pub over_whole : (new : Drains) (on : IsRunOn segments changes (run_at ports underlay turns state 0 d) run (Ok tt)) → length texts ≡ length s.ports
           → Lead {T = Unit {0}} start new (before_lines on) (with_cuts (before_lines on) (cuts_among segments (cuts_at run.ports run.underlay run.turns))) (Ok tt) → LeavesOver segments s changes texts text start new (Ok tt)
@@ -120,12 +156,13 @@ module _ (segments : Segments) where
             seen_events segments s changes texts text start run.drains sees end old_watch fault run on.run.es on.run.more told.rest new_watch (all_are on.run.es on.run.more told.rest told.first) told.ends on.run.part
             (subst (λ st. LeadsBehind {T = Unit {0}} segments changes st start run.drains (empty_outputs (length texts)) on.run.es on.run.more (Err fault)) is (on.run.outputs start (empty_outputs (length texts)) at))
             (subst (λ st. EndsInOrder {T = Unit {0}} segments changes st start run.drains (empty_outputs (length texts)) on.run.es on.run.more (Err fault)) is (on.run.order start (empty_outputs (length texts)) at))
+            told.in_front
             (sees_all (on.run.es ++ on.run.more) new_watch on.seen)
 
         pub seen_lines : (new : Drains) (target : Target) (new_watch : T) (on : IsWatchedRun segments sees changes (run_at ports underlay turns state 0 d) run old_watch new_watch (Ok tt))
             → Lead {T = Unit {0}} start new (before_lines on.run) (with_cuts (before_lines on.run) (cuts_among segments (cuts_at run.ports run.underlay run.turns))) (Err target) → SeesOver segments sees end s changes texts text start new old_watch new_watch (Err (stream.Write target))
         seen_lines new target new_watch on lead =
-            seen_cuts segments s changes texts text start new sees end old_watch target on.run.es run.turns run.ports run.underlay new_watch (no_more on.run) (ends on.run)
+            seen_cuts segments s changes texts text start new sees end old_watch target on.run.es run.turns run.ports run.underlay new_watch (no_more on.run) (ends on.run) (stop on.run)
             (subst (λ st. StandBetween start new (texts_behind segments changes st (empty_outputs (length texts)) on.run.es) (with_cuts (texts_behind segments changes st (empty_outputs (length texts)) on.run.es) (cuts_among segments (cuts_at run.ports run.underlay run.turns)))) is lead.0)
             (subst (λ l. FoldsTo sees old_watch (sights segments (changes_of changes) (opened (settings_told s)) 0 l) new_watch) (sees_whole new_watch on) (sees_all (on.run.es ++ on.run.more) new_watch on.seen))
 

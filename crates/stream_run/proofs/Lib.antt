@@ -10,6 +10,7 @@ mod Firsts
 mod Wholes
 mod Overall
 mod Stepping
+mod Counting
 mod Running
 mod Headers
 mod Opened

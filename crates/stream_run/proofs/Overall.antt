@@ -41,14 +41,16 @@ use Rattle.stream_run.specs.Coming.{EndBefore}
 use Rattle.stream_run.specs.Cuts.{cuts_at}
 use Rattle.stream_run.specs.Over.{BeginsIn, IsRunOverAmong, LeavesOver, StandsSomewhere, Tells, texts_octets, texts_at, whole_records}
 use Rattle.stream_run.specs.Amidst.{StandsInEvent}
+use Rattle.stream_run.specs.Reached.{AreReadTo, IsReachedOverAmong, ReachesOver}
 use Rattle.stream_run.specs.Sights.{Sight, sights, state_among}
 use Rattle.stream_run.specs.Stage.{Drains, StandAt, StandBetween, first_of, no_texts, stage}
-use Rattle.stream_run.specs.Steps.{EndsIn, EndsInOrder, IsAt, IsPart, LeadsBehind, Run, changes_of, octets_at, source_at, texts_behind}
+use Rattle.stream_run.specs.Steps.{AreReadBehind, EndsIn, EndsInOrder, IsAt, IsPart, LeadsBehind, Run, StopInFront, changes_of, octets_at, source_at, texts_behind}
 use Rattle.stream_run.specs.Watched.{IsWatchedOverAmong, SeesOver, first_sights, state_behind}
 use Rattle.stream_run.specs.declared.fault.StreamFault.{StreamFault}
 use Rattle.stream_run.specs.declared.fault.StreamFault.TheVariants as stream
 use Rattle.stream_run.specs.declared.fault.Target.{Target}
 use Rattle.stream_run.specs.declared.turn.Turn.{Turn}
+use Rattle.stream_run.proofs.Counting.{none_in_front}
 use Rattle.stream_run.proofs.Wholes.{AllStandAtEnd, IsFirstRefused, cuts_at_end, first_refused, no_faults, whole_at_end}
 use Rattle.segment_set.specs.Segments.{Segments}
 
@@ -189,7 +191,7 @@ module _ (segments : Segments) where
 
     -- before any capture was opened, or at one of which a read failed
     pub over_unopened : StandAt start new (no_texts (length texts)) → StandsSomewhere segments s changes texts text start new
-    over_unopened at = record { k = 0; most = omega arith; stands = at }
+    over_unopened at = record { k = 0; most = omega arith; in_front = none_in_front (texts_octets texts) text; stands = at }
 
     -- at a capture that can't be opened
     pub over_refused : (index : ℕ) (place : Tap) (fault : CaptureFault) → length texts ≡ length s.ports → IsFirstRefused texts text index place fault → StandAt start new (no_texts (length texts))
@@ -203,11 +205,16 @@ module _ (segments : Segments) where
 
     -- among the headers
     pub over_headers : (target : Target) → StandBetween start new (no_texts (length texts)) (empty_outputs (length texts)) → LeavesOver segments s changes texts text start new (Err (stream.Write target))
-    over_headers target between = record { k = 0; most = inl (omega arith); order = λ es rest e is at. absurd (omega (arith, at)); stands = subst (StandBetween start new (no_texts (length texts))) (sym (texts_are [] whole.events 1 refl (omega arith))) between }
+    over_headers target between = record { k = 0; most = inl (omega arith); in_front = none_in_front (texts_octets texts) text; order = λ es rest e is at. absurd (omega (arith, at)); stands = subst (StandBetween start new (no_texts (length texts))) (sym (texts_are [] whole.events 1 refl (omega arith))) between }
 
-    stands_behind : (es rest : List Event) → whole.events ≡ es ++ rest → StandAt start new (behind es) → StandsSomewhere segments s changes texts text start new
-    stands_behind es rest is at = record {
+    -- the first events are these
+    front_of_all : (es rest : List Event) (k : ℕ) → whole.events ≡ es ++ rest → k ≡ length es → StopInFront (texts_octets texts) text es → StopInFront (texts_octets texts) text (take k whole.events)
+    front_of_all es rest k is at in_front = subst (StopInFront (texts_octets texts) text) (sym (ap (λ n. take n whole.events) at ∙ first_events whole es rest is)) in_front
+
+    stands_behind : (es rest : List Event) → whole.events ≡ es ++ rest → StandAt start new (behind es) → StopInFront (texts_octets texts) text es → StandsSomewhere segments s changes texts text start new
+    stands_behind es rest is at in_front = record {
       k = length es + 1;
+      in_front = front_of_all es rest (length es + 1 - 1) is (omega arith) in_front;
       most = omega (arith, ap length is, length-append es rest);
       stands = subst (StandAt start new) (sym (texts_are es rest (length es + 1) is refl)) at;
     }
@@ -216,13 +223,13 @@ module _ (segments : Segments) where
     pub over_firsts : (fault : StreamFault) (turns : List Turn) (ports : List Stream) (underlay : Stream) → BeginsIn {T = Unit {0}} (texts_octets texts) text turns ports underlay (Err fault) → StandAt start new (empty_outputs (length texts))
         → LeavesOver segments s changes texts text start new (Err fault)
     over_firsts (stream.Run (faults.Record place n f)) turns ports underlay h at =
-        record { k = 0; faulty = h.0; before = inl (refl, h.1); stands = subst (StandAt start new) (sym (texts_are [] whole.events 1 refl (omega arith))) at }
+        record { k = 0; faulty = h.0; in_front = none_in_front (texts_octets texts) text; before = inl (refl, h.1); stands = subst (StandAt start new) (sym (texts_are [] whole.events 1 refl (omega arith))) at }
     over_firsts (stream.Run (faults.Settings f)) turns ports underlay h at = absurd h
     over_firsts (stream.Run (faults.Changes f)) turns ports underlay h at = absurd h
     over_firsts (stream.Run faults.PortCount) turns ports underlay h at = absurd h
     over_firsts (stream.Run (faults.Capture place f)) turns ports underlay h at = absurd h
     over_firsts (stream.Run faults.OutOfMemory) turns ports underlay h at = absurd h
-    over_firsts (stream.Read place) turns ports underlay h at = stands_behind [] whole.events refl at
+    over_firsts (stream.Read place) turns ports underlay h at = stands_behind [] whole.events refl at (none_in_front (texts_octets texts) text)
     over_firsts (stream.Write target) turns ports underlay h at = absurd h
 
     -- the texts of the event behind some others stand in order
@@ -245,25 +252,27 @@ module _ (segments : Segments) where
 
     -- among the events
     pub over_events : (fault : StreamFault) (run : Run) (es more rest : List Event) → whole.events ≡ es ++ (more ++ rest) → EndsIn {T = Unit {0}} (texts_octets texts) text es rest run (Err fault) → IsPart {T = Unit {0}} more (Err fault)
-        → LeadsBehind {T = Unit {0}} segments changes (opened (settings_told s)) start new (empty_outputs (length texts)) es more (Err fault) → Ordered es more (Err fault) → LeavesOver segments s changes texts text start new (Err fault)
-    over_events (stream.Run (faults.Record place n f)) run es more rest is h part at ordered = record {
+        → LeadsBehind {T = Unit {0}} segments changes (opened (settings_told s)) start new (empty_outputs (length texts)) es more (Err fault) → Ordered es more (Err fault) → StopInFront (texts_octets texts) text (es ++ more) → LeavesOver segments s changes texts text start new (Err fault)
+    over_events (stream.Run (faults.Record place n f)) run es more rest is h part at ordered in_front = record {
       k = length es;
       faulty = h.0;
+      in_front = front_of_all es (more ++ rest) (length es) is refl (subst (StopInFront (texts_octets texts) text) (ap (λ l. es ++ l) part ∙ append-nil es) in_front);
       before = inr (subst (EndBefore place n) (sym (first_events whole es (more ++ rest) is)) h.1);
       stands = subst (StandAt start new) (sym (texts_are es (more ++ rest) (length es + 1) is refl)) at;
     }
-    over_events (stream.Run (faults.Settings f)) run es more rest is h part at ordered = absurd h
-    over_events (stream.Run (faults.Changes f)) run es more rest is h part at ordered = absurd h
-    over_events (stream.Run faults.PortCount) run es more rest is h part at ordered = absurd h
-    over_events (stream.Run (faults.Capture place f)) run es more rest is h part at ordered = absurd h
-    over_events (stream.Run faults.OutOfMemory) run es more rest is h part at ordered = stands_behind es (more ++ rest) is at
-    over_events (stream.Read place) run es more rest is h part at ordered = stands_behind es (more ++ rest) is at
-    over_events (stream.Write target) run es more rest is h part at ordered =
+    over_events (stream.Run (faults.Settings f)) run es more rest is h part at ordered in_front = absurd h
+    over_events (stream.Run (faults.Changes f)) run es more rest is h part at ordered in_front = absurd h
+    over_events (stream.Run faults.PortCount) run es more rest is h part at ordered in_front = absurd h
+    over_events (stream.Run (faults.Capture place f)) run es more rest is h part at ordered in_front = absurd h
+    over_events (stream.Run faults.OutOfMemory) run es more rest is h part at ordered in_front = stands_behind es (more ++ rest) is at (subst (StopInFront (texts_octets texts) text) (ap (λ l. es ++ l) part ∙ append-nil es) in_front)
+    over_events (stream.Read place) run es more rest is h part at ordered in_front = stands_behind es (more ++ rest) is at (subst (StopInFront (texts_octets texts) text) (ap (λ l. es ++ l) part ∙ append-nil es) in_front)
+    over_events (stream.Write target) run es more rest is h part at ordered in_front =
         let one : length more ≡ 1 = ap length part.1 in
         let all : whole.events ≡ (es ++ more) ++ rest = is ∙ sym (append_assoc es more rest) in
         record {
           k = length es + 1;
           most = inl (omega (arith, one, ap length is, length-append es (more ++ rest), length-append more rest));
+          in_front = front_of_all (es ++ more) rest (length es + 1) all (omega (arith, one, length-append es more)) in_front;
           order = λ fs left f also there. in_order target (length es + 1) es more rest fs left part.0 f is part.1 ordered refl also there;
           stands = subst (λ o. StandBetween start new o (texts_at segments s changes texts text (length es + 1 + 1))) (sym (texts_are es (more ++ rest) (length es + 1) is refl))
               (subst (StandBetween start new (behind es)) (sym (texts_are (es ++ more) rest (length es + 1 + 1) all (omega (arith, one, length-append es more)))) at.0);
@@ -271,8 +280,8 @@ module _ (segments : Segments) where
 
     -- among the lines of the cut captures
     pub over_cuts : (target : Target) (es : List Event) (turns : List Turn) (ports : List Stream) (underlay : Stream) → whole.events ≡ es → AllStandAtEnd texts text turns ports underlay
-        → StandBetween start new (behind es) (with_cuts (behind es) (cuts_among segments (cuts_at ports underlay turns))) → LeavesOver segments s changes texts text start new (Err (stream.Write target))
-    over_cuts target es turns ports underlay is ends between =
+        → StopInFront (texts_octets texts) text es → StandBetween start new (behind es) (with_cuts (behind es) (cuts_among segments (cuts_at ports underlay turns))) → LeavesOver segments s changes texts text start new (Err (stream.Write target))
+    over_cuts target es turns ports underlay is ends in_front between =
         let same : length es + 1 + 1 ≡ suc (suc (length es)) = omega arith in
         let all : texts_at segments s changes texts text (length es + 1 + 1) ≡ with_cuts (behind es) (cuts_among segments (cuts_at ports underlay turns)) =
         ap (texts_at segments s changes texts text) same
@@ -280,6 +289,7 @@ module _ (segments : Segments) where
         ∙ ap (λ l. with_cuts (behind es) (cuts_among segments l)) (cuts_at_end texts text turns ports underlay ends) in
         record {
           k = length es + 1;
+          in_front = subst (StopInFront (texts_octets texts) text) (sym (take_all (length es + 1) whole.events (omega (arith, ap length is)) ∙ is)) in_front;
           order = λ fs left f also there. absurd (omega (arith, there, ap length (sym is ∙ also), length-append fs (f ∷ left)));
           most = inr (ap (λ (l : List Event). length l + 1) (sym is), no_faults texts text (whole_at_end texts text turns ports underlay ends));
           stands = subst (λ o. StandBetween start new o (texts_at segments s changes texts text (length es + 1 + 1))) (sym (texts_are es [] (length es + 1) (is ∙ sym (append-nil es)) refl))
@@ -298,6 +308,70 @@ module _ (segments : Segments) where
           subst (StandAt start new)
               (ap (λ l. with_cuts (behind l) (cuts_among segments (cuts_at ports underlay turns))) (sym is) ∙ ap (λ l. with_cuts (behind whole.events) (cuts_among segments l)) (sym (cuts_at_end texts text turns ports underlay ends))) at,
         )
+
+    -- ---- how far the captures are read
+
+    abbrev Reaches : List Stream → Stream → Result (Unit {0}) StreamFault → Type 0
+    Reaches ports underlay result = ReachesOver segments s changes texts text start new ports underlay result
+
+    reads_first : (ports : List Stream) (underlay : Stream) (result : Result (Unit {0}) StreamFault) (es rest : List Event) (k : ℕ) → whole.events ≡ es ++ rest → k ≡ length es
+        → AreReadBehind (texts_octets texts) text es ports underlay result → AreReadTo changes texts text k ports underlay result
+    reads_first ports underlay result es rest k is at read =
+        subst (λ l. AreReadBehind (texts_octets texts) text l ports underlay result) (sym (ap (λ n. take n whole.events) at ∙ first_events whole es rest is)) read
+
+    none_told : 0 ≤ 1
+    none_told = omega arith
+
+    headers_told : 0 + 1 ≤ 1
+    headers_told = omega arith
+
+    pub reach_unopened : (ports : List Stream) (underlay : Stream) → StandAt start new (no_texts (length texts)) → Reaches ports underlay (Err (stream.Run faults.OutOfMemory))
+    unfolding over_unopened
+    reach_unopened ports underlay at = (over_unopened at, inl none_told)
+
+    pub reach_unread : (ports : List Stream) (underlay : Stream) (place : Tap) → StandAt start new (no_texts (length texts)) → Reaches ports underlay (Err (stream.Read place))
+    unfolding over_unopened
+    reach_unread ports underlay place at = (over_unopened at, inl none_told)
+
+    pub reach_headers : (ports : List Stream) (underlay : Stream) (target : Target) → StandBetween start new (no_texts (length texts)) (empty_outputs (length texts)) → Reaches ports underlay (Err (stream.Write target))
+    unfolding over_headers
+    reach_headers ports underlay target between = (over_headers target between, inl refl)
+
+    pub reach_firsts : (fault : StreamFault) (turns : List Turn) (ports : List Stream) (underlay : Stream) → BeginsIn {T = Unit {0}} (texts_octets texts) text turns ports underlay (Err fault) → StandAt start new (empty_outputs (length texts))
+        → Reaches ports underlay (Err fault)
+    unfolding over_firsts stands_behind
+    reach_firsts (stream.Run (faults.Record place n f)) turns ports underlay h at = (over_firsts (stream.Run (faults.Record place n f)) turns ports underlay h at, inl refl)
+    reach_firsts (stream.Run (faults.Settings f)) turns ports underlay h at = absurd h
+    reach_firsts (stream.Run (faults.Changes f)) turns ports underlay h at = absurd h
+    reach_firsts (stream.Run faults.PortCount) turns ports underlay h at = absurd h
+    reach_firsts (stream.Run (faults.Capture place f)) turns ports underlay h at = absurd h
+    reach_firsts (stream.Run faults.OutOfMemory) turns ports underlay h at = absurd h
+    reach_firsts (stream.Read place) turns ports underlay h at = (over_firsts (stream.Read place) turns ports underlay h at, inl headers_told)
+    reach_firsts (stream.Write target) turns ports underlay h at = absurd h
+
+    pub reach_events : (fault : StreamFault) (run : Run) (es more rest : List Event) → whole.events ≡ es ++ (more ++ rest) → EndsIn {T = Unit {0}} (texts_octets texts) text es rest run (Err fault) → IsPart {T = Unit {0}} more (Err fault)
+        → LeadsBehind {T = Unit {0}} segments changes (opened (settings_told s)) start new (empty_outputs (length texts)) es more (Err fault) → Ordered es more (Err fault) → StopInFront (texts_octets texts) text (es ++ more)
+        → AreReadBehind {T = Unit {0}} (texts_octets texts) text es run.ports run.underlay (Err fault) → Reaches run.ports run.underlay (Err fault)
+    unfolding over_events stands_behind
+    reach_events (stream.Run (faults.Record place n f)) run es more rest is h part at ordered in_front read =
+        (over_events (stream.Run (faults.Record place n f)) run es more rest is h part at ordered in_front, inr (reads_first run.ports run.underlay (Err (stream.Run (faults.Record place n f))) es (more ++ rest) _ is refl read))
+    reach_events (stream.Run (faults.Settings f)) run es more rest is h part at ordered in_front read = absurd h
+    reach_events (stream.Run (faults.Changes f)) run es more rest is h part at ordered in_front read = absurd h
+    reach_events (stream.Run faults.PortCount) run es more rest is h part at ordered in_front read = absurd h
+    reach_events (stream.Run (faults.Capture place f)) run es more rest is h part at ordered in_front read = absurd h
+    reach_events (stream.Run faults.OutOfMemory) run es more rest is h part at ordered in_front read =
+        (over_events (stream.Run faults.OutOfMemory) run es more rest is h part at ordered in_front, inr (reads_first run.ports run.underlay (Err (stream.Run faults.OutOfMemory)) es (more ++ rest) _ is (omega arith) read))
+    reach_events (stream.Read place) run es more rest is h part at ordered in_front read =
+        (over_events (stream.Read place) run es more rest is h part at ordered in_front, inr (reads_first run.ports run.underlay (Err (stream.Read place)) es (more ++ rest) _ is (omega arith) read))
+    reach_events (stream.Write target) run es more rest is h part at ordered in_front read =
+        (over_events (stream.Write target) run es more rest is h part at ordered in_front, inr (reads_first run.ports run.underlay (Err (stream.Write target)) es (more ++ rest) _ is (omega arith) read))
+
+    pub reach_cuts : (target : Target) (es : List Event) (turns : List Turn) (ports : List Stream) (underlay : Stream) → whole.events ≡ es → AllStandAtEnd texts text turns ports underlay
+        → StopInFront (texts_octets texts) text es → StandBetween start new (behind es) (with_cuts (behind es) (cuts_among segments (cuts_at ports underlay turns)))
+        → AreReadBehind {T = Unit {0}} (texts_octets texts) text es ports underlay (Err (stream.Write target)) → Reaches ports underlay (Err (stream.Write target))
+    unfolding over_cuts
+    reach_cuts target es turns ports underlay is ends in_front between read =
+        (over_cuts target es turns ports underlay is ends in_front between, inr (reads_first ports underlay (Err (stream.Write target)) es [] _ (is ∙ sym (append-nil es)) (omega arith) read))
 
     -- ---- what was seen
 
@@ -340,35 +414,35 @@ module _ (segments : Segments) where
 
       -- the first events were, and where a write failed one more
       pub seen_events : (fault : StreamFault) (run : Run) (es more rest : List Event) (new_watch : T) → whole.events ≡ es ++ (more ++ rest) → EndsIn {T = Unit {0}} (texts_octets texts) text es rest run (Err fault)
-          → IsPart {T = Unit {0}} more (Err fault) → LeadsBehind {T = Unit {0}} segments changes (opened (settings_told s)) start new (empty_outputs (length texts)) es more (Err fault) → Ordered es more (Err fault) → Sees (es ++ more) new_watch → Seen new_watch (Err fault)
+          → IsPart {T = Unit {0}} more (Err fault) → LeadsBehind {T = Unit {0}} segments changes (opened (settings_told s)) start new (empty_outputs (length texts)) es more (Err fault) → Ordered es more (Err fault) → StopInFront (texts_octets texts) text (es ++ more) → Sees (es ++ more) new_watch → Seen new_watch (Err fault)
       unfolding over_events stands_behind
-      seen_events (stream.Run (faults.Record place n f)) run es more rest new_watch is h part at ordered seen = (
-        over_events (stream.Run (faults.Record place n f)) run es more rest is h part at ordered,
+      seen_events (stream.Run (faults.Record place n f)) run es more rest new_watch is h part at ordered in_front seen = (
+        over_events (stream.Run (faults.Record place n f)) run es more rest is h part at ordered in_front,
         sees_first (es ++ more) rest _ new_watch (is ∙ sym (append_assoc es more rest)) (omega (arith, ap length part, length-append es more)) seen,
       )
-      seen_events (stream.Run (faults.Settings f)) run es more rest new_watch is h part at ordered seen = absurd h
-      seen_events (stream.Run (faults.Changes f)) run es more rest new_watch is h part at ordered seen = absurd h
-      seen_events (stream.Run faults.PortCount) run es more rest new_watch is h part at ordered seen = absurd h
-      seen_events (stream.Run (faults.Capture place f)) run es more rest new_watch is h part at ordered seen = absurd h
-      seen_events (stream.Run faults.OutOfMemory) run es more rest new_watch is h part at ordered seen = (
-        over_events (stream.Run faults.OutOfMemory) run es more rest is h part at ordered,
+      seen_events (stream.Run (faults.Settings f)) run es more rest new_watch is h part at ordered in_front seen = absurd h
+      seen_events (stream.Run (faults.Changes f)) run es more rest new_watch is h part at ordered in_front seen = absurd h
+      seen_events (stream.Run faults.PortCount) run es more rest new_watch is h part at ordered in_front seen = absurd h
+      seen_events (stream.Run (faults.Capture place f)) run es more rest new_watch is h part at ordered in_front seen = absurd h
+      seen_events (stream.Run faults.OutOfMemory) run es more rest new_watch is h part at ordered in_front seen = (
+        over_events (stream.Run faults.OutOfMemory) run es more rest is h part at ordered in_front,
         sees_first (es ++ more) rest _ new_watch (is ∙ sym (append_assoc es more rest)) (omega (arith, ap length part, length-append es more)) seen,
       )
-      seen_events (stream.Read place) run es more rest new_watch is h part at ordered seen = (
-        over_events (stream.Read place) run es more rest is h part at ordered,
+      seen_events (stream.Read place) run es more rest new_watch is h part at ordered in_front seen = (
+        over_events (stream.Read place) run es more rest is h part at ordered in_front,
         sees_first (es ++ more) rest _ new_watch (is ∙ sym (append_assoc es more rest)) (omega (arith, ap length part, length-append es more)) seen,
       )
-      seen_events (stream.Write target) run es more rest new_watch is h part at ordered seen = (
-        over_events (stream.Write target) run es more rest is h part at ordered,
+      seen_events (stream.Write target) run es more rest new_watch is h part at ordered in_front seen = (
+        over_events (stream.Write target) run es more rest is h part at ordered in_front,
         sees_first (es ++ more) rest _ new_watch (is ∙ sym (append_assoc es more rest)) (omega (arith, ap length part.1, length-append es more)) seen,
       )
 
       -- all events were, but not the end
       pub seen_cuts : (target : Target) (es : List Event) (turns : List Turn) (ports : List Stream) (underlay : Stream) (new_watch : T) → whole.events ≡ es → AllStandAtEnd texts text turns ports underlay
-          → StandBetween start new (behind es) (with_cuts (behind es) (cuts_among segments (cuts_at ports underlay turns))) → Sees es new_watch → Seen new_watch (Err (stream.Write target))
+          → StopInFront (texts_octets texts) text es → StandBetween start new (behind es) (with_cuts (behind es) (cuts_among segments (cuts_at ports underlay turns))) → Sees es new_watch → Seen new_watch (Err (stream.Write target))
       unfolding over_cuts
-      seen_cuts target es turns ports underlay new_watch is at_end between seen = (
-        over_cuts target es turns ports underlay is at_end between,
+      seen_cuts target es turns ports underlay new_watch is at_end in_front between seen = (
+        over_cuts target es turns ports underlay is at_end in_front between,
         subst (λ l. Sees l new_watch) (sym (take_all (length es + 1) whole.events (omega (arith, ap length is)) ∙ is)) seen,
       )
 
@@ -412,3 +486,15 @@ module _ (segments : Segments) where
     seen_refusal sees ends watch (Ok s) (Ok changes) faults.OutOfMemory refusal at = seen_unopened s changes texts text start new sees ends watch at
     seen_refusal sees ends watch (Ok s) (Err f) fault refusal at = refl
     seen_refusal sees ends watch (Err f) c fault refusal at = refl
+
+    -- and so nothing is said of how far the captures are read
+    pub reach_refusal : (s : Meaning Settings) (c : Meaning (List TimedChange)) (ports : List Stream) (underlay : Stream) (fault : RunFault) → IsRefusal fault → StandAt start new (no_texts (length texts))
+        → IsReachedOverAmong segments s c texts text start new ports underlay (Err (stream.Run fault))
+    reach_refusal (Ok s) (Ok changes) ports underlay (faults.Settings f) refusal at = tt
+    reach_refusal (Ok s) (Ok changes) ports underlay (faults.Changes f) refusal at = tt
+    reach_refusal (Ok s) (Ok changes) ports underlay faults.PortCount refusal at = tt
+    reach_refusal (Ok s) (Ok changes) ports underlay (faults.Capture place f) refusal at = tt
+    reach_refusal (Ok s) (Ok changes) ports underlay (faults.Record place n f) refusal at = absurd refusal
+    reach_refusal (Ok s) (Ok changes) ports underlay faults.OutOfMemory refusal at = reach_unopened s changes texts text start new ports underlay at
+    reach_refusal (Ok s) (Err f) ports underlay fault refusal at = tt
+    reach_refusal (Err f) c ports underlay fault refusal at = tt

@@ -11,10 +11,10 @@ use Rattle.timeline.specs.declared.source.Tap.TheVariants.{Port, Underlay}
 use Rattle.endpoint_core.specs.Step.{State}
 use Rattle.capture_run.specs.declared.fault.RunFault.TheVariants as faults
 use Rattle.stream_run.specs.Coming.{IsRecordBefore, coming, source_events}
-use Rattle.stream_run.specs.Fetched.{IsFetch, IsFetched}
+use Rattle.stream_run.specs.Fetched.{IsFetch, IsFetched, ReadsOne}
 use Rattle.stream_run.specs.Read.{IsRead}
 use Rattle.stream_run.specs.Stage.{Drains}
-use Rattle.stream_run.specs.Steps.{AreRead, AreReady, Fetches, FetchesAt, IsAt, IsNextEvent, Run, octets_at, run_at, source_at}
+use Rattle.stream_run.specs.Steps.{AreRead, AreReady, Fetches, FetchesAt, IsAt, IsChangedAt, IsNextEvent, Run, StayBut, octets_at, run_at, source_at}
 use Rattle.stream_run.specs.Turns.{IsFirst, IsLater, IsNoSooner}
 use Rattle.stream_run.specs.declared.fault.StreamFault.{StreamFault}
 use Rattle.stream_run.specs.declared.fault.StreamFault.TheVariants as stream
@@ -94,6 +94,19 @@ before_it ports underlay index done moment n place e at (inl h) is = absurd (nev
 before_it ports underlay index done moment n place e at (inr (other, r, also, lends, event)) is =
     let same : other ≡ place = one_place (length ports) index other place also at in
     rw event (record { source = ap sources.Tap same; number = omega (arith, is) })
+
+-- the other sources stand as before
+pub stays_at_fault : (changes : List TimedChange) (index done latest : ℕ) (old new : Run) (fault : StreamFault) → FetchesAt changes index done latest old.ports old.underlay new.ports new.underlay (Err fault)
+    → StayBut {T = Unit {0}} index old new (Err fault)
+stays_at_fault changes index done latest old new fault (inl h) = let never = h.3 in absurd cc
+stays_at_fault changes index done latest old new fault (inr (place, s, at, changed, fetch)) = by fault fetch.reads
+  where
+    by : (fault : StreamFault) → ReadsOne {T = Turn} place (source_at old.ports old.underlay place) s (Err fault) → StayBut {T = Unit {0}} index old new (Err fault)
+    by (stream.Run f) reads = (place, s, at, changed)
+    by (stream.Read p) reads =
+        let same : place ≡ p = sym reads.0 in
+        (s, subst (IsAt (length old.ports) index) same at, subst (λ p. IsChangedAt p old.ports old.underlay new.ports new.underlay s) same changed)
+    by (stream.Write target) reads = absurd reads
 
 pub fault_fetched : (changes : List TimedChange) (texts : List (List ℕ)) (text : List ℕ) (index latest : ℕ) (ports new : List Stream) (underlay new_underlay : Stream) (turns : List Turn) (t : Turn) (fault : StreamFault)
     (rest : List Event) (e : Event) (run : Run) → AreRead texts text turns ports underlay → (slice_index_or turns index t).next ≡ Some latest → IsNextEvent ports underlay index (slice_index_or turns index t).done latest e

@@ -1,9 +1,11 @@
 -- Many events, one after another.
-use Rattle.std.proofs.Common.{◌≡◌, ◌∙◌, refl, sym, ap, subst, ℕ, ◌+◌, ◌-◌, ◌<◌, ◌≤◌, ◌⊎◌, slice_index_or, List, [], ◌∷◌, ◌++◌, length, map, arith, append_assoc, append-nil, None, Result, Ok, Err, length-append}
+use Rattle.std.proofs.Common.{◌≡◌, ◌≢◌, ◌∙◌, refl, sym, ap, subst, ℕ, ◌+◌, ◌-◌, ◌<◌, ◌≤◌, ◌⊎◌, slice_index_or, List, [], ◌∷◌, ◌++◌, length, map, arith, append_assoc, append-nil, None, Result, Ok, Err, length-append}
 use Rattle.overlay_settings.specs.declared.change.Change.{Change}
 use Rattle.overlay_settings.specs.declared.change.TimedChange.{TimedChange}
 use Rattle.timeline.specs.Order.{IsRising, merged}
+use Rattle.timeline.specs.Words.{source_of}
 use Rattle.timeline.specs.declared.event.Event.{Event}
+use Rattle.timeline.specs.declared.source.Source.TheVariants as sources
 use Rattle.endpoint_core.specs.Among.{after_among}
 use Rattle.endpoint_core.specs.Step.{State}
 use Rattle.capture_run.specs.Outputs.{Outputs, event_of}
@@ -12,17 +14,20 @@ use Rattle.capture_run.specs.Among.{with_event_among, with_events_among}
 use Rattle.capture_run.specs.declared.fault.RunFault.{RunFault}
 use Rattle.capture_run.specs.declared.fault.RunFault.TheVariants as faults
 use Rattle.pcap_stream.specs.Source.{Stream}
+use Rattle.pcap_io.specs.declared.record.RecordFault.{RecordFault}
 use Rattle.stream_run.specs.Amidst.{StandsInEvent}
+use Rattle.stream_run.specs.Begun.{IsNoWrite}
 use Rattle.stream_run.specs.Coming.{coming, source_events}
 use Rattle.stream_run.specs.Read.{AreQuiet, GivesUpAt, failures_of}
 use Rattle.stream_run.specs.Sights.{Sight, sight_among, sights, state_among}
 use Rattle.stream_run.specs.Stage.{Drains, StandAt, StandBetween}
-use Rattle.stream_run.specs.Steps.{AreFirst, AreRead, AreReady, EndsIn, Fetches, IsRunOn, IsStep, Run, changes_of, texts_behind}
+use Rattle.stream_run.specs.Steps.{AreFirst, AreRead, AreReadBehind, AreReady, EndsIn, Fetches, IsAt, IsNextEvent, IsRunOn, IsStep, Run, StopInFront, changes_of, texts_behind}
 use Rattle.stream_run.specs.Watched.{IsWatchedRun, IsWatchedStep, state_behind}
 use Rattle.stream_run.specs.declared.fault.StreamFault.{StreamFault}
 use Rattle.stream_run.specs.declared.fault.StreamFault.TheVariants as stream
 use Rattle.stream_run.specs.declared.turn.First.{First}
 use Rattle.stream_run.specs.declared.turn.Turn.{Turn}
+use Rattle.stream_run.proofs.Counting.{AreAsMany, AreCounted, all_in_front, all_so, counts_on, next_is, none_came, one_came, one_in_front, others_so}
 use Rattle.stream_run.proofs.Merging.{none_left}
 use Rattle.stream_run.proofs.Telling.{are_ahead}
 use Rattle.timeline.specs.declared.source.Tap.{Tap}
@@ -119,6 +124,8 @@ module _ (segments : Segments) where
     pub quiet : AreQuiet old.ports old.underlay now.ports now.underlay
     pub told : (texts : List (List ℕ)) (text : List ℕ) → AreRead texts text old.turns old.ports old.underlay → IsUpTo changes texts text old now es
     pub outputs : (start : Drains) (o : Outputs) → StandAt start old.drains o → StandAt start now.drains (texts_behind segments changes old.state o es)
+    pub counted : AreCounted (length now.ports) now.turns es
+    pub many : AreAsMany (length now.ports) now.turns es
 
   run_begins : (changes : List TimedChange) (old : Run) → old.number ≡ 0 → AreReady changes old → HasRun changes old old
   run_begins changes old none ready = record {
@@ -131,6 +138,8 @@ module _ (segments : Segments) where
     quiet = record { ports = refl; underlay = refl };
     told = λ texts text read. record { read = read; first = refl };
     outputs = λ start o at. at;
+    counted = λ place index t at. tt;
+    many = none_came (length old.ports) old.turns ready.size (subst (λ n. (t : Turn) (k : ℕ) → k < length old.turns → (slice_index_or old.turns k t).done ≤ n) none ready.done);
   }
 
   -- the texts behind one event more
@@ -144,6 +153,10 @@ module _ (segments : Segments) where
   rises_on : (changes : List TimedChange) (old now new : Run) (first : First) (result : Result (Unit {0}) StreamFault) (has : HasRun changes old now) (step : IsStep segments changes now new first result)
       → IsRising old.state.moment (has.es ++ step.e ∷ [])
   rises_on changes old now new first result has step = rising_snoc old.state.moment has.es step.e has.rising (omega (arith, has.latest, step.time))
+
+  -- as many captures
+  as_many : (now new : Run) → AreQuiet now.ports now.underlay new.ports new.underlay → length now.ports ≡ length new.ports
+  as_many now new quiet = omega (arith, ap length quiet.ports, length-map new.ports failures_of, length-map now.ports failures_of)
 
   run_steps : (changes : List TimedChange) (old now new : Run) (first : First) → HasRun changes old now → IsStep segments changes now new first (Ok tt) → HasRun changes old new
   run_steps changes old now new first has step = record {
@@ -159,17 +172,56 @@ module _ (segments : Segments) where
         let came = step.told texts text up_to.read in
         record { read = came.fetched.0; first = comes_next changes texts text old now has.es (coming changes texts text new.turns) step.e up_to (came.first ∙ ap (λ l. step.e ∷ l) came.fetched.1) };
     outputs = λ start o at. subst (StandAt start new.drains) (sym (one_more changes old now has step.e o)) (step.outputs start (texts_behind segments changes old.state o has.es) (has.outputs start o at));
+    counted =
+        subst (λ n. AreCounted n new.turns (has.es ++ step.e ∷ [])) (as_many now new step.reads) (counts_on now.ports now.underlay now.turns new.turns first.index first.moment has.es step.e has.counted step.next step.turns);
+    many =
+        subst (λ n. AreAsMany n new.turns (has.es ++ step.e ∷ [])) (as_many now new step.reads) (one_came now.ports now.underlay now.turns new.turns first.index first.moment has.es step.e has.many step.next step.turns);
   }
+
+  -- a record's fault is one of the capture whose event came
+  own_fault : (changes : List TimedChange) (texts : List (List ℕ)) (text : List ℕ) (now new : Run) (first : First) (rest : List Event) (e : Event) (place source : Tap) (n : ℕ) (f : RecordFault)
+      → ((t : Turn) → IsNextEvent now.ports now.underlay first.index (slice_index_or now.turns first.index t).done first.moment e) → IsAt (length now.ports) first.index source
+      → Fetches {T = Unit {0}} changes texts text rest e new (Err (stream.Run (faults.Record place n f))) → place ≡ source
+  own_fault changes texts text now new first rest e place source n f next at fetched =
+      let t : Turn = record { done = 0; next = None } in
+      let from = next_is now.ports now.underlay first.index (slice_index_or now.turns first.index t).done first.moment source e (next t) at in
+      let of_it : source_of e.happening ≡ sources.Tap place = fetched.1.source in
+      cc
+
+  -- at a fault the other captures stand behind it
+  read_but : (changes : List TimedChange) (texts : List (List ℕ)) (text : List ℕ) (old now new : Run) (first : First) (fault : StreamFault) (has : HasRun changes old now) (step : IsStep segments changes now new first (Err fault))
+      → AreRead texts text old.turns old.ports old.underlay → IsNoWrite (Err fault) → AreReadBehind {T = Unit {0}} texts text (has.es ++ step.e ∷ []) new.ports new.underlay (Err fault)
+  read_but changes texts text old now new first (stream.Write target) has step read no_write place i at other = absurd no_write
+  read_but changes texts text old now new first (stream.Read source) has step read no_write place i at other =
+      let up_to = has.told texts text read in
+      others_so texts text now.turns now.ports now.underlay has.es up_to.read has.many first.index first.moment source step.e new.ports new.underlay step.stay.0 step.next step.stay.1 step.stay.2 place i at other
+  read_but changes texts text old now new first (stream.Run (faults.Record source n f)) has step read no_write place i at other =
+      let up_to = has.told texts text read in
+      let came = step.told texts text up_to.read in
+      let own : source ≡ step.stay.0 = own_fault changes texts text now new first came.rest step.e source step.stay.0 n f step.next step.stay.2 came.fetched in
+      others_so texts text now.turns now.ports now.underlay has.es up_to.read has.many first.index first.moment step.stay.0 step.e new.ports new.underlay step.stay.1 step.next step.stay.2 step.stay.3 place i at (subst (λ p. place ≢ p) own other)
+  read_but changes texts text old now new first (stream.Run (faults.Settings f)) has step read no_write place i at other = absurd (step.told texts text (has.told texts text read).read).fetched
+  read_but changes texts text old now new first (stream.Run (faults.Changes f)) has step read no_write place i at other = absurd (step.told texts text (has.told texts text read).read).fetched
+  read_but changes texts text old now new first (stream.Run faults.PortCount) has step read no_write place i at other = absurd (step.told texts text (has.told texts text read).read).fetched
+  read_but changes texts text old now new first (stream.Run (faults.Capture p f)) has step read no_write place i at other = absurd (step.told texts text (has.told texts text read).read).fetched
+  read_but changes texts text old now new first (stream.Run faults.OutOfMemory) has step read no_write place i at other = absurd (step.told texts text (has.told texts text read).read).fetched
 
   -- at a fault the event stands behind the others
   stops_at : (changes : List TimedChange) (texts : List (List ℕ)) (text : List ℕ) (old now new : Run) (first : First) (fault : StreamFault) (has : HasRun changes old now) (step : IsStep segments changes now new first (Err fault))
-      → AreRead texts text old.turns old.ports old.underlay
+      → AreRead texts text old.turns old.ports old.underlay → IsNoWrite (Err fault)
       → ((rest : List Event) → Fetches {T = Unit {0}} changes texts text rest step.e new (Err fault) → EndsIn {T = Unit {0}} texts text (has.es ++ step.e ∷ []) rest new (Err fault))
       → AreFirst changes texts text old new (has.es ++ step.e ∷ []) [] (Err fault)
-  stops_at changes texts text old now new first fault has step read ends =
+  stops_at changes texts text old now new first fault has step read no_write ends =
       let up_to = has.told texts text read in
       let came = step.told texts text up_to.read in
-      record { rest = came.rest; first = comes_next changes texts text old now has.es came.rest step.e up_to came.first; ends = ends came.rest came.fetched }
+      let es = has.es ++ step.e ∷ [] in
+      record {
+        rest = came.rest;
+        first = comes_next changes texts text old now has.es came.rest step.e up_to came.first;
+        in_front = subst (StopInFront texts text) (sym (append-nil es)) (one_in_front texts text now.turns now.ports now.underlay has.es up_to.read has.counted step.e);
+        read_on = read_but changes texts text old now new first fault has step read no_write;
+        ends = ends came.rest came.fetched;
+      }
 
   -- amidst the event behind the others
   stops_amidst : (changes : List TimedChange) (old now : Run) (start new : Drains) (o : Outputs) (has : HasRun changes old now) (e f : Event) → ◌≡◌ {A = List Event} (e ∷ []) (f ∷ [])
@@ -198,7 +250,15 @@ module _ (segments : Segments) where
     told = λ texts text read.
         let up_to = has.told texts text read in
         let came = step.told texts text up_to.read in
-        record { rest = came.rest; first = up_to.first ∙ ap (λ l. has.es ++ l) came.first; ends = tt };
+        record {
+          rest = came.rest;
+          first = up_to.first ∙ ap (λ l. has.es ++ l) came.first;
+          in_front = one_in_front texts text now.turns now.ports now.underlay has.es up_to.read has.counted step.e;
+          read_on = subst (λ ports. AreReadBehind {T = Unit {0}} texts text has.es ports new.underlay (Err (stream.Write target))) (sym step.stay.0)
+              (subst (λ underlay. AreReadBehind {T = Unit {0}} texts text has.es now.ports underlay (Err (stream.Write target))) (sym step.stay.1)
+              (all_so texts text now.turns now.ports now.underlay has.es up_to.read has.many (Err (stream.Write target))));
+          ends = tt;
+        };
   }
   run_stops changes old now new first (stream.Run f) has step = record {
     order = λ start o at. tt;
@@ -210,7 +270,7 @@ module _ (segments : Segments) where
     reads = quiet_on old.ports now.ports new.ports old.underlay now.underlay new.underlay has.quiet step.reads;
     over = tt;
     ready = tt;
-    told = λ texts text read. stops_at changes texts text old now new first (stream.Run f) has step read (λ rest h. stops_run changes texts text new has.es rest step.e f h);
+    told = λ texts text read. stops_at changes texts text old now new first (stream.Run f) has step read tt (λ rest h. stops_run changes texts text new has.es rest step.e f h);
   }
   run_stops changes old now new first (stream.Read place) has step = record {
     order = λ start o at. tt;
@@ -222,7 +282,7 @@ module _ (segments : Segments) where
     reads = gives_up_on place old.ports now.ports new.ports old.underlay now.underlay new.underlay has.quiet step.reads;
     over = tt;
     ready = tt;
-    told = λ texts text read. stops_at changes texts text old now new first (stream.Read place) has step read (λ rest h. tt);
+    told = λ texts text read. stops_at changes texts text old now new first (stream.Read place) has step read tt (λ rest h. tt);
   }
 
   -- ---- where it ends
@@ -245,6 +305,8 @@ module _ (segments : Segments) where
         record {
           rest = coming changes texts text now.turns;
           first = up_to.first;
+          in_front = subst (StopInFront texts text) (sym (append-nil has.es)) (all_in_front texts text now.turns now.ports now.underlay has.es up_to.read has.counted);
+          read_on = all_so texts text now.turns now.ports now.underlay has.es up_to.read has.many (Ok tt);
           ends = (ap merged (none_left now.turns (source_events changes texts text) ahead none), up_to.read);
         };
   }
@@ -261,18 +323,25 @@ module _ (segments : Segments) where
     reads = has.quiet;
     over = tt;
     ready = tt;
-    told = λ texts text read. record { rest = coming changes texts text now.turns; first = (has.told texts text read).first; ends = tt };
+    told = λ texts text read.
+        let up_to = has.told texts text read in
+        record {
+          rest = coming changes texts text now.turns;
+          first = up_to.first;
+          in_front = subst (StopInFront texts text) (sym (append-nil has.es)) (all_in_front texts text now.turns now.ports now.underlay has.es up_to.read has.counted);
+          read_on = all_so texts text now.turns now.ports now.underlay has.es up_to.read has.many (Err (stream.Run faults.OutOfMemory));
+          ends = tt;
+        };
   }
 
   -- ---- with what is seen
 
   -- an event behind others
   sights_snoc : (cs : List Change) (count number : ℕ) (s : State) (es : List Event) (e : Event) → number ≡ count + length es + 1
-      → sights segments cs s count (es ++ e ∷ []) ≡ sights segments cs s count es ++ sight_among segments cs (state_among segments cs s es) number e
-  sights_snoc cs count number s [] e is = append-nil (sight_among segments cs s (count + 1) e) ∙ ap (λ n. sight_among segments cs s n e) (omega (arith, is))
+      → sights segments cs s count (es ++ e ∷ []) ≡ sights segments cs s count es ++ sight_among segments cs (state_among segments cs s es) number e ∷ []
+  sights_snoc cs count number s [] e is = ap (λ n. sight_among segments cs s n e ∷ []) (omega (arith, is))
   sights_snoc cs count number s (f ∷ es) e is =
-      ap (λ l. sight_among segments cs s (count + 1) f ++ l) (sights_snoc cs (count + 1) number (after_among segments s (event_of cs f)) es e (omega (arith, is)))
-      ∙ sym (append_assoc (sight_among segments cs s (count + 1) f) (sights segments cs (after_among segments s (event_of cs f)) (count + 1) es) (sight_among segments cs (state_among segments cs (after_among segments s (event_of cs f)) es) number e))
+      ap (λ l. sight_among segments cs s (count + 1) f ∷ l) (sights_snoc cs (count + 1) number (after_among segments s (event_of cs f)) es e (omega (arith, is)))
 
   -- nothing behind them
   runs_out : {T : Type 0} (sees : T → Sight → T → Type 0) (changes : List TimedChange) (s : State) (es : List Event) (old_watch new_watch : T)
@@ -291,10 +360,10 @@ module _ (segments : Segments) where
 
     -- one event more is seen
     sees_more : (now : Run) (has : HasRun changes old now) (e : Event) (now_watch new_watch : T) → FoldsTo sees old_watch (sights segments (changes_of changes) old.state 0 has.es) now_watch
-        → FoldsTo sees now_watch (sight_among segments (changes_of changes) now.state (now.number + 1) e) new_watch → FoldsTo sees old_watch (sights segments (changes_of changes) old.state 0 (has.es ++ e ∷ [])) new_watch
+        → sees now_watch (sight_among segments (changes_of changes) now.state (now.number + 1) e) new_watch → FoldsTo sees old_watch (sights segments (changes_of changes) old.state 0 (has.es ++ e ∷ [])) new_watch
     sees_more now has e now_watch new_watch seen more =
         subst (λ l. FoldsTo sees old_watch l new_watch) (sym (sights_snoc (changes_of changes) 0 (now.number + 1) old.state has.es e (omega (arith, has.number))))
-        (folds_append sees (sights segments (changes_of changes) old.state 0 has.es) _ old_watch now_watch new_watch seen (subst (λ s. FoldsTo sees now_watch (sight_among segments (changes_of changes) s (now.number + 1) e) new_watch) has.state more))
+        (folds_append sees (sights segments (changes_of changes) old.state 0 has.es) _ old_watch now_watch new_watch seen (new_watch, subst (λ s. sees now_watch (sight_among segments (changes_of changes) s (now.number + 1) e) new_watch) has.state more, refl))
 
     -- the state behind it
     state_more : (now new : Run) (first : First) (result : Result (Unit {0}) StreamFault) (has : HasRun changes old now) (step : IsStep segments changes now new first result)

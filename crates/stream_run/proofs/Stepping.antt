@@ -19,7 +19,7 @@ use Rattle.stream_run.specs.declared.fault.StreamFault.TheVariants as stream
 use Rattle.stream_run.specs.declared.fault.Target.{Target}
 use Rattle.stream_run.specs.declared.turn.First.{First}
 use Rattle.stream_run.specs.declared.turn.Turn.{Turn}
-use Rattle.stream_run.proofs.Reading.{fault_fetched, read_again, takes_first}
+use Rattle.stream_run.proofs.Reading.{fault_fetched, read_again, stays_at_fault, takes_first}
 use Rattle.stream_run.proofs.Readying.{asked, event_moment, next_up, no_write_fails, reads_fault, reads_turn, ready_again, stands_at_fault}
 use Rattle.segment_set.specs.Segments.{Segments}
 
@@ -70,6 +70,8 @@ module _ (segments : Segments) where
       number = also ∙ one;
       outputs = leads (Err target) taken one;
       order = orders (Err target) taken one;
+      turns = tt;
+      stay = (refl, refl);
       ready = tt;
       reads = record { ports = refl; underlay = refl };
       told = λ texts text read.
@@ -90,6 +92,8 @@ module _ (segments : Segments) where
       number = also ∙ one;
       outputs = λ start o at. stands_at_fault changes first.index (done + 1) first.moment ports underlay new new_underlay fault start behind o _ fetched (leads (Ok tt) taken one start o at);
       order = λ start o at. no_write_fails changes first.index (done + 1) first.moment ports underlay new new_underlay fault (changes_of changes) start behind (number + 1) state o taken.e fetched;
+      turns = tt;
+      stay = stays_at_fault changes first.index (done + 1) first.moment (run_at ports underlay turns state number before) (run_at new new_underlay turns new_state new_number behind) fault fetched;
       ready = tt;
       reads = reads_fault changes first.index (done + 1) first.moment ports underlay new new_underlay fault fetched;
       told = λ texts text read.
@@ -122,6 +126,8 @@ module _ (segments : Segments) where
           number = also ∙ one;
           outputs = leads (Ok tt) taken one;
           order = λ start o at. tt;
+          turns = record { there = is_first.there; turn = turn; changed = refl; count = λ t. asks.count ∙ ap (λ n. n + 1) (same t) };
+          stay = tt;
           ready = subst (λ k. AreReady changes (run_at new new_underlay (slice_set turns first.index turn) new_state k behind)) (sym (also ∙ one))
               (ready_again changes ports underlay turns state number before new new_underlay new_state behind first turn done ready is_first few
               (ap (λ (s : State). s.moment) taken.state ∙ moment_among segments state (event_of (changes_of changes) taken.e) ∙ event)
@@ -145,8 +151,8 @@ module _ (segments : Segments) where
       abbrev TakenSeen : Result (Unit {0}) Target → Type 0
       TakenSeen result = IsWatchedTake segments sees changes ports underlay first.index done first.moment n state new_state before behind old_watch new_watch result
 
-      shown : (result : Result (Unit {0}) Target) (taken : TakenSeen result) → n ≡ number + 1 → FoldsTo sees old_watch (sight_among segments (changes_of changes) state (number + 1) taken.taken.e) new_watch
-      shown result taken one = subst (λ k. FoldsTo sees old_watch (sight_among segments (changes_of changes) state k taken.taken.e) new_watch) one taken.seen
+      shown : (result : Result (Unit {0}) Target) (taken : TakenSeen result) → n ≡ number + 1 → sees old_watch (sight_among segments (changes_of changes) state (number + 1) taken.taken.e) new_watch
+      shown result taken one = subst (λ k. sees old_watch (sight_among segments (changes_of changes) state k taken.taken.e) new_watch) one taken.seen
 
       pub shown_put : (new_number : ℕ) (target : Target) (d : Turn) → AreReady changes (run_at ports underlay turns state number before) → IsFirst turns (length turns) first → ((t : Turn) → done ≡ (slice_index_or turns first.index t).done) → n ≡ number + 1 → new_number ≡ n → TakenSeen (Err target)
           → IsWatchedStep segments sees changes (run_at ports underlay turns state number before) (run_at ports underlay turns new_state new_number behind) first old_watch new_watch (Err (stream.Write target))

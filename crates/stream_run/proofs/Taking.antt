@@ -1,6 +1,5 @@
 -- An event that is told to some segments, and one that isn't.
 use Rattle.std.proofs.Common.{◌≡◌, refl, ℕ, true, false, Option, Result, Ok}
-use Rattle.std.specs.List.{FoldsTo}
 use Rattle.segment_set.specs.Segments.{Segments}
 use Rattle.timeline.specs.declared.event.Event.{Event}
 use Rattle.endpoint_core.specs.Among.{after_among, after_untold, is_told}
@@ -8,7 +7,7 @@ use Rattle.endpoint_core.specs.Event.{Event as Asked}
 use Rattle.endpoint_core.specs.Step.{State, after, answer}
 use Rattle.capture_run.specs.Outputs.{Outputs}
 use Rattle.capture_run.specs.Writing.{with_input}
-use Rattle.stream_run.specs.Sights.{Sight, answered, due}
+use Rattle.stream_run.specs.Sights.{Sight, answered, due, untold}
 use Rattle.stream_run.specs.Stage.{Drains, Lead, StandAt}
 use Rattle.stream_run.specs.Steps.{seen_among, with_input_among}
 use Rattle.stream_run.specs.declared.fault.Target.{Target}
@@ -28,8 +27,8 @@ module _ (segments : Segments) (s : State) (asked : Asked) where
   puts_nothing number named e start new o told at = rw told at
 
   module _ {T : Type 0} (sees : T → Sight → T → Type 0) (number : ℕ) (e : Event) where
-    pub seen_told : (old new : T) → is_told segments s asked ≡ true → sees old (answered (due s number e) (answer s asked)) new → FoldsTo sees old (seen_among segments s number e asked) new
-    seen_told old new told seen = rw told (new, seen, refl)
+    pub seen_told : (old new : T) → is_told segments s asked ≡ true → sees old (answered (due s number e) (answer s asked)) new → sees old (seen_among segments s number e asked) new
+    seen_told old new told seen = rw told seen
 
-    pub not_seen : (watch : T) → is_told segments s asked ≡ false → FoldsTo sees watch (seen_among segments s number e asked) watch
-    not_seen watch told = rw told refl
+    pub seen_untold : (old new : T) → is_told segments s asked ≡ false → sees old (untold (due s number e)) new → sees old (seen_among segments s number e asked) new
+    seen_untold old new told seen = rw told seen

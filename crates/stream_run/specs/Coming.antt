@@ -1,7 +1,8 @@
 -- The events of a run that are still to come, by the octets of its captures; they serve the contract of its steps.
 --     source_events      those of each source: the changes, the ports rising, the underlay
 --     coming      those that have not come yet, in order of moment
-use Rattle.std.specs.Prelude.{◌≡◌, ℕ, ◌+◌, List, [], ◌∷◌, ◌++◌, drop, map, Result, Ok, Err}
+--     records_among      how many of some events are records of a capture
+use Rattle.std.specs.Prelude.{◌≡◌, ◌==◌, ℕ, ◌+◌, Bool, true, false, if◌then◌else◌, List, [], ◌∷◌, ◌++◌, drop, map, Result, Ok, Err}
 use Rattle.pcap_io.specs.Capture.{opened}
 use Rattle.pcap_io.specs.Reading.{Reading}
 use Rattle.pcap_io.specs.declared.header.CaptureFault.{CaptureFault}
@@ -10,6 +11,7 @@ use Rattle.timeline.specs.Events.{change_events, events_of}
 use Rattle.timeline.specs.Order.{merged}
 use Rattle.timeline.specs.Words.{source_of}
 use Rattle.timeline.specs.declared.event.Event.{Event}
+use Rattle.timeline.specs.declared.source.Source.{Source}
 use Rattle.timeline.specs.declared.source.Source.TheVariants as sources
 use Rattle.timeline.specs.declared.source.Tap.{Tap}
 use Rattle.timeline.specs.declared.source.Tap.TheVariants as taps
@@ -50,9 +52,33 @@ pub record IsRecordBefore (place : Tap) (n : ℕ) (e : Event) : Type 0 where
   pub source : source_of e.happening ≡ sources.Tap place
   pub number : e.number + 1 ≡ n
 
+-- none of some events stands behind it; there is none of them where no record is before that of this number
+pub record NoneBehind (place : Tap) (n : ℕ) (es : List Event) : Type 0 where
+  pub none : n ≡ 1 → es ≡ []
+  pub last : (others behind : List Event) (e : Event) → es ≡ others ++ e ∷ behind → IsRecordBefore place n e → behind ≡ []
+
 -- the last of some events is
 pub record EndBefore (place : Tap) (n : ℕ) (es : List Event) : Type 0 where
   pub others : List Event
   pub last : Event
   pub ends : es ≡ others ++ last ∷ []
   pub is_before : IsRecordBefore place n last
+
+-- ---- how many
+
+-- two places are one
+abbrev pub is_place : Tap → Tap → Bool
+is_place (taps.Port p) (taps.Port q) = p == q
+is_place (taps.Port p) taps.Underlay = false
+is_place taps.Underlay (taps.Port q) = false
+is_place taps.Underlay taps.Underlay = true
+
+-- an event comes from this capture
+abbrev pub is_from : Tap → Source → Bool
+is_from place sources.Changes = false
+is_from place (sources.Tap other) = is_place place other
+
+-- how many of some events are records of this capture
+abbrev pub records_among : Tap → List Event → ℕ
+records_among place [] = 0
+records_among place (e ∷ es) = (if is_from place (source_of e.happening) then 1 else 0) + records_among place es

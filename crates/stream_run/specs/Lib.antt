@@ -13,4 +13,5 @@ pub mod Begun
 pub mod Cuts
 pub mod Left
 pub mod Over
+pub mod Reached
 pub mod Watched

@@ -1,7 +1,7 @@
 -- What a run over streams answers, and what it leaves in its outputs, by the octets of its captures; it serves the contract of the run.
 --     whole_records      the events of all whole records, in order, and the captures that are cut
 --     IsRunOver      the answer of a run, and the texts that its outputs hold then
-use Rattle.std.specs.Prelude.{◌≡◌, ◌⊎◌, ◌≤◌, ⊤, ℕ, ◌+◌, List, [], ◌∷◌, ◌++◌, length, map, take, Vec, Some, Result, Ok, Err}
+use Rattle.std.specs.Prelude.{◌≡◌, ◌⊎◌, ◌≤◌, ⊤, ℕ, ◌+◌, ◌-◌, List, [], ◌∷◌, ◌++◌, length, map, take, Vec, Some, Result, Ok, Err}
 use Rattle.std.specs.declared.alloc.Global.{Global}
 use Rattle.pcap_io.specs.declared.record.RecordFault.{RecordFault}
 use Rattle.pcap_stream.specs.Source.{Stream}
@@ -24,7 +24,7 @@ use Rattle.stream_run.specs.Amidst.{StandsInEvent}
 use Rattle.stream_run.specs.Coming.{EndBefore}
 use Rattle.stream_run.specs.Sights.{state_among}
 use Rattle.stream_run.specs.Stage.{Drains, StandAt, StandBetween, no_texts, stage}
-use Rattle.stream_run.specs.Steps.{AreRead, IsFaultyAt, changes_of}
+use Rattle.stream_run.specs.Steps.{AreRead, IsFaultyAt, StopInFront, changes_of}
 use Rattle.stream_run.specs.declared.fault.StreamFault.{StreamFault}
 use Rattle.stream_run.specs.declared.fault.StreamFault.TheVariants as stream
 use Rattle.stream_run.specs.declared.turn.Turn.{Turn}
@@ -58,25 +58,30 @@ AreFaultless texts text = faults_of (inputs texts text) ≡ []
 abbrev pub texts_at : Segments → Settings → List TimedChange → List (Vec ℕ Global) → List ℕ → ℕ → Outputs
 texts_at segments s changes texts text k = stage segments (settings_told s) (changes_of changes) (length texts) (whole_records changes texts text) k
 
--- the outputs hold the texts of whole events, with the headers or without them
+-- the outputs hold the texts of whole events, with the headers or without them; where a capture has a fault, of none
+-- behind its last whole record
 pub record StandsSomewhere (segments : Segments) (s : Settings) (changes : List TimedChange) (texts : List (Vec ℕ Global)) (text : List ℕ) (old new : Drains) : Type 0 where
   pub k : ℕ
   pub most : k ≤ length (whole_records changes texts text).events + 1
+  pub in_front : StopInFront (texts_octets texts) text (take (k - 1) (whole_records changes texts text).events)
   pub stands : StandAt old new (texts_at segments s changes texts text k)
 
 -- or also a part of what comes next; lines of cut captures only where all captures were read to their ends
 pub record StandsAmong (segments : Segments) (s : Settings) (changes : List TimedChange) (texts : List (Vec ℕ Global)) (text : List ℕ) (old new : Drains) : Type 0 where
   pub k : ℕ
+  pub in_front : StopInFront (texts_octets texts) text (take k (whole_records changes texts text).events)
   pub most : (k ≤ length (whole_records changes texts text).events) ⊎ ((k ≡ length (whole_records changes texts text).events + 1) × AreFaultless texts text)
   pub stands : StandBetween old new (texts_at segments s changes texts text k) (texts_at segments s changes texts text (k + 1))
   -- where an event comes next, the records of its first outlets, and the line behind them all
   pub order : (es rest : List Event) (e : Event) → (whole_records changes texts text).events ≡ es ++ e ∷ rest → k ≡ length es + 1
       → StandsInEvent (changes_of changes) old new k (state_among segments (changes_of changes) (opened (settings_told s)) es) (texts_at segments s changes texts text k) e
 
--- a record has this fault, and the outputs hold the texts of all events up to the record before it, and no more
+-- a record has this fault, and the outputs hold the texts of all events up to the record before it, and no more; no other
+-- capture has one sooner
 pub record StandsBefore (segments : Segments) (place : Tap) (n : ℕ) (fault : RecordFault) (s : Settings) (changes : List TimedChange) (texts : List (Vec ℕ Global)) (text : List ℕ) (old new : Drains) : Type 0 where
   pub k : ℕ
   pub faulty : IsFaultyAt (texts_octets texts) text place n fault
+  pub in_front : StopInFront (texts_octets texts) text (take k (whole_records changes texts text).events)
   pub before : ((k ≡ 0) × (n ≡ 1)) ⊎ EndBefore place n (take k (whole_records changes texts text).events)
   pub stands : StandAt old new (texts_at segments s changes texts text (k + 1))
 

@@ -1,8 +1,8 @@
 -- What is seen of a run by whoever looks on. It states no standard.
 --     Due      an event that comes, and how the endpoint stands before it
---     Sight      the same, and what the event is answered
+--     Sight      the same, and what the event is answered, or that it isn't told
 --     sights      those of events one after another
-use Rattle.std.specs.Prelude.{ℕ, ◌+◌, if◌then◌else◌, List, [], ◌∷◌, ◌++◌}
+use Rattle.std.specs.Prelude.{ℕ, ◌+◌, if◌then◌else◌, List, [], ◌∷◌, Option, Some, None}
 use Rattle.overlay_settings.specs.declared.change.Change.{Change}
 use Rattle.timeline.specs.declared.event.Event.{Event}
 use Rattle.endpoint_core.specs.Step.{Answer, State, answer}
@@ -27,26 +27,27 @@ pub record Sight : Type 0 where
   pub state : State
   pub number : ℕ
   pub event : Event
-  pub reply : Answer
+  -- None: it isn't told to the segments that are asked for
+  pub reply : Option Answer
 
 -- an event with this answer
 abbrev pub answered : Due → Answer → Sight
-answered c a = record { state = c.state; number = c.number; event = c.event; reply = a }
+answered c a = record { state = c.state; number = c.number; event = c.event; reply = Some a }
 
--- an event, as an endpoint in this state answers it
-abbrev pub sight : List Change → State → ℕ → Event → Sight
-sight changes s number e = answered (due s number e) (answer s (event_of changes e))
+-- an event that isn't told
+abbrev pub untold : Due → Sight
+untold c = record { state = c.state; number = c.number; event = c.event; reply = None }
 
--- an event, where it is told to these segments
-abbrev pub sight_among : Segments → List Change → State → ℕ → Event → List Sight
-sight_among segments changes s number e = if is_told segments s (event_of changes e) then sight changes s number e ∷ [] else []
+-- an event, as an endpoint in this state answers it, where it is told to these segments
+abbrev pub sight_among : Segments → List Change → State → ℕ → Event → Sight
+sight_among segments changes s number e =
+    if is_told segments s (event_of changes e) then answered (due s number e) (answer s (event_of changes e)) else untold (due s number e)
 
--- of events that come one after another behind so many others those that are told: each finds the endpoint as the one
--- before left it, told or not
+-- events that come one after another behind so many others: each finds the endpoint as the one before left it, told or not
 abbrev pub sights : Segments → List Change → State → ℕ → List Event → List Sight
 sights segments changes s count [] = []
 sights segments changes s count (e ∷ es) =
-    sight_among segments changes s (count + 1) e ++ sights segments changes (after_among segments s (event_of changes e)) (count + 1) es
+    sight_among segments changes s (count + 1) e ∷ sights segments changes (after_among segments s (event_of changes e)) (count + 1) es
 
 -- how an endpoint stands behind events
 abbrev pub state_among : Segments → List Change → State → List Event → State

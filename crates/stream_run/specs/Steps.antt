@@ -4,7 +4,7 @@
 --     AreRead      the same, by the octets of the captures
 --     IsStep      one event, and the fetch behind it
 --     IsRunOn      many of them: by the octets, the first of those that were to come
-use Rattle.std.specs.Prelude.{◌≡◌, if◌then◌else◌, ◌<◌, ◌≤◌, ⊤, ℕ, ◌+◌, List, [], ◌∷◌, ◌++◌, length, map, slice_index_or, slice_get, Option, Some, None, option_map, Result, Ok, Err, OnOk, IsSome, slice_set, ◌-◌, ◌⊎◌}
+use Rattle.std.specs.Prelude.{◌≡◌, ◌≢◌, if◌then◌else◌, ◌<◌, ◌≤◌, ⊤, ℕ, ◌+◌, List, [], ◌∷◌, ◌++◌, length, map, slice_index_or, slice_get, Option, Some, None, option_map, Result, Ok, Err, OnOk, IsSome, slice_set, ◌-◌, ◌⊎◌}
 use Rattle.pcap_io.specs.Record.{Record, last_moment}
 use Rattle.pcap_io.specs.declared.record.RecordFault.{RecordFault}
 use Rattle.pcap_stream.specs.Source.{Stream, lent}
@@ -22,10 +22,10 @@ use Rattle.capture_run.specs.Outputs.{Outputs, event_of, named_by}
 use Rattle.capture_run.specs.Among.{with_event_among, with_events_among}
 use Rattle.capture_run.specs.declared.fault.RunFault.TheVariants as faults
 use Rattle.stream_run.specs.Amidst.{PutsInOrder, StandsInEvent, StepsInOrder}
-use Rattle.stream_run.specs.Coming.{EndBefore, IsRecordBefore, coming}
+use Rattle.stream_run.specs.Coming.{EndBefore, IsRecordBefore, NoneBehind, coming, records_among}
 use Rattle.stream_run.specs.Fetched.{IsFetch, IsMoment}
 use Rattle.capture_run.specs.Writing.{with_input}
-use Rattle.stream_run.specs.Sights.{Sight, answered, due, state_among}
+use Rattle.stream_run.specs.Sights.{Sight, answered, due, state_among, untold}
 use Rattle.stream_run.specs.Read.{IsFaulty, IsRead, ReadsWith}
 use Rattle.stream_run.specs.Stage.{Drains, FailedAt, Lead, StandAt, StandBetween}
 use Rattle.stream_run.specs.Turns.{IsNoSooner}
@@ -107,6 +107,24 @@ pub record IsFaultyAt (texts : List (List ℕ)) (text : List ℕ) (place : Tap) 
   pub at : IsAt (length texts) index place
   pub faulty : IsFaulty (octets_at texts text place) number fault
 
+-- some events stop in front of each fault of a capture: none is behind the last whole record before it
+abbrev pub StopInFront : List (List ℕ) → List ℕ → List Event → Type 0
+StopInFront texts text es = (place : Tap) (n : ℕ) (fault : RecordFault) → IsFaultyAt texts text place n fault → NoneBehind place n es
+
+module _ {T : Type 0} where
+  -- a capture at whose record a run didn't stop, for its fault or for a failed read
+  abbrev pub IsOther : Tap → Result T StreamFault → Type 0
+  IsOther place (Err (stream.Run (faults.Record other n fault))) = place ≢ other
+  IsOther place (Err (stream.Read other)) = place ≢ other
+  IsOther place result = ⊤
+
+  -- the captures hold these octets: of each so many records as stand among these events were read, and the next one is
+  -- lent, or there is none and it ended
+  abbrev pub AreReadBehind : List (List ℕ) → List ℕ → List Event → List Stream → Stream → Result T StreamFault → Type 0
+  AreReadBehind texts text es ports underlay result =
+      (place : Tap) (index : ℕ) → IsAt (length texts) index place → IsOther place result
+      → (next : Option ℕ) × IsRead (octets_at texts text place) (record { done = records_among place es; next = next }) (source_at ports underlay place)
+
 -- ---- the events
 
 -- the event of a record at this moment, behind so many others of its capture
@@ -144,8 +162,8 @@ abbrev pub with_input_among : Segments → ℕ → Option ℕ → State → Outp
 with_input_among segments number named s o e asked = if is_told segments s asked then with_input number named o e (answer s asked) else o
 
 -- what is seen of it
-abbrev pub seen_among : Segments → State → ℕ → Event → Asked → List Sight
-seen_among segments s number e asked = if is_told segments s asked then answered (due s number e) (answer s asked) ∷ [] else []
+abbrev pub seen_among : Segments → State → ℕ → Event → Asked → Sight
+seen_among segments s number e asked = if is_told segments s asked then answered (due s number e) (answer s asked) else untold (due s number e)
 
 -- ---- fetched
 
@@ -183,6 +201,22 @@ pub record ComesFirst (changes : List TimedChange) (texts : List (List ℕ)) (te
   pub first : coming changes texts text old.turns ≡ e ∷ rest
   pub fetched : Fetches changes texts text rest e new result
 
+module _ {T : Type 0} where
+  -- where a step stops, the sources stand as before, but that of the event where it was asked for another record
+  abbrev pub StayBut : ℕ → Run → Run → Result T StreamFault → Type 0
+  StayBut index old new (Ok x) = ⊤
+  StayBut index old new (Err (stream.Write target)) = (new.ports ≡ old.ports) × (new.underlay ≡ old.underlay)
+  StayBut index old new (Err (stream.Read place)) = (s : Stream) × IsAt (length old.ports) index place × IsChangedAt place old.ports old.underlay new.ports new.underlay s
+  StayBut index old new (Err (stream.Run fault)) =
+      (place : Tap) × (s : Stream) × IsAt (length old.ports) index place × IsChangedAt place old.ports old.underlay new.ports new.underlay s
+
+-- of the source with this index one event more came
+pub record CountsOne (index : ℕ) (old new : List Turn) : Type 0 where
+  pub there : index < length old
+  pub turn : Turn
+  pub changed : new ≡ slice_set old index turn
+  pub count : (t : Turn) → turn.done ≡ (slice_index_or old index t).done + 1
+
 -- an event came, and the next one of its source was asked for
 pub record IsStep (segments : Segments) (changes : List TimedChange) (old new : Run) (first : First) (result : Result (Unit {0}) StreamFault) : Type 0 where
   pub e : Event
@@ -191,6 +225,8 @@ pub record IsStep (segments : Segments) (changes : List TimedChange) (old new : 
   pub next : (t : Turn) → IsNextEvent old.ports old.underlay first.index (slice_index_or old.turns first.index t).done first.moment e
   pub state : new.state ≡ after_among segments old.state (event_of (changes_of changes) e)
   pub number : new.number ≡ old.number + 1
+  pub turns : OnOk result (CountsOne first.index old.turns new.turns)
+  pub stay : StayBut first.index old new result
   pub outputs : (start : Drains) (o : Outputs) → StandAt start old.drains o
       → StepsTo start new.drains o (with_event_among segments (changes_of changes) (old.number + 1) old.state o e) result
   pub order : (start : Drains) (o : Outputs) → StandAt start old.drains o → StepsInOrder (changes_of changes) start new.drains (old.number + 1) old.state o e result
@@ -238,6 +274,8 @@ module _ {T : Type 0} where
 pub record AreFirst (changes : List TimedChange) (texts : List (List ℕ)) (text : List ℕ) (old new : Run) (es more : List Event) (result : Result (Unit {0}) StreamFault) : Type 0 where
   pub rest : List Event
   pub first : coming changes texts text old.turns ≡ es ++ (more ++ rest)
+  pub in_front : StopInFront texts text (es ++ more)
+  pub read_on : AreReadBehind texts text es new.ports new.underlay result
   pub ends : EndsIn texts text es rest new result
 
 -- some events came, one after another

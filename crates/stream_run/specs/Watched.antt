@@ -1,5 +1,5 @@
 -- What a run over streams shows to whoever looks on; it serves the contract of the run.
---     IsWatchedTake, IsWatchedStep, IsWatchedRun      each event is seen, taken, and its answer heard
+--     IsWatchedTake, IsWatchedStep, IsWatchedRun      each event is seen, taken, and its answer heard, where it is told
 --     IsShown      a whole run: the events of which the outputs hold texts, and the end
 --     IsWatchedOver      the same by the octets of its captures: all events and the end, or the first events
 use Rattle.std.specs.Prelude.{◌≡◌, ◌⊎◌, ◌==◌, ℕ, ◌+◌, ◌-◌, List, [], ◌∷◌, ◌++◌, length, take, MatchBool, Vec, Result, Ok, Err}
@@ -33,15 +33,15 @@ state_behind segments changes s es = state_among segments (changes_of changes) s
 -- ---- the steps
 
 module _ (segments : Segments) {T : Type 0} (sees : T → Sight → T → Type 0) where
-  -- the event was taken; where it is told, it was seen before, and its answer heard
+  -- the event was taken; it was seen before, and where it is told, its answer heard
   pub record IsWatchedTake (changes : List TimedChange) (ports : List Stream) (underlay : Stream) (index done moment number : ℕ) (old new : State) (before behind : Drains) (old_watch new_watch : T) (result : Result (Unit {0}) Target) : Type 0 where
     pub taken : IsTaken segments changes ports underlay index done moment number old new before behind result
-    pub seen : FoldsTo sees old_watch (sight_among segments (changes_of changes) old number taken.e) new_watch
+    pub seen : sees old_watch (sight_among segments (changes_of changes) old number taken.e) new_watch
 
   -- the same, and the next one of its source was asked for
   pub record IsWatchedStep (changes : List TimedChange) (old new : Run) (first : First) (old_watch new_watch : T) (result : Result (Unit {0}) StreamFault) : Type 0 where
     pub step : IsStep segments changes old new first result
-    pub seen : FoldsTo sees old_watch (sight_among segments (changes_of changes) old.state (old.number + 1) step.e) new_watch
+    pub seen : sees old_watch (sight_among segments (changes_of changes) old.state (old.number + 1) step.e) new_watch
 
   -- some events came, one after another, and each was seen before it was taken; where a write failed, so was the event
   -- of which a part was written

@@ -8,7 +8,8 @@
 //! where a read or a write fails or memory is refused. Where it stops at a [`StreamFault`], what was written stands.
 //!
 //! Whoever looks on, a [`Watch`], is shown each event just before the endpoint takes it, told the answer just behind, and
-//! shown the endpoint at the end of a run that stops at no fault; with [`Unwatched`] nobody looks on.
+//! shown the endpoint at the end of a run that stops at no fault; with [`Unwatched`] nobody looks on. Of an event that isn't
+//! told to the segments of a part it is shown that it is passed over.
 //!
 //! [`run_segments`] is a part of a run: of what comes to some segments, a [`SegmentSet`](segment_set::SegmentSet), with the
 //! numbers and the decisions of the whole run.

@@ -6,6 +6,7 @@ ghost use Rattle.overlay_config.specs.Settings.{settings_in};
 ghost use Rattle.stream_run.specs.Begun.{IsUnread};
 ghost use Rattle.stream_run.specs.Left.{Answers, AnswersAmong, Leaves, WritesWith, ends};
 ghost use Rattle.stream_run.specs.Over.{IsRunOver, IsRunOverAmong, IsWholeRun, LeavesOver, Tells};
+ghost use Rattle.stream_run.specs.Reached.{IsReachedOver, IsReachedOverAmong, ReachesOver};
 ghost use Rattle.stream_run.specs.Read.{ReadsWith};
 ghost use Rattle.stream_run.specs.Stage.{drains};
 ghost use Rattle.stream_run.specs.Steps.{AreTimely};
@@ -63,6 +64,10 @@ pub fn run_streams<R: Input, W: Output, T: Watch>(
         → IsWholeRun (settings_in settings.now) (changes_in changes.now) texts text
         (drains port_sinks.old underlay_sink.old (W.written decisions.old) (W.failures decisions.old))
         (drains port_sinks.new underlay_sink.new (W.written decisions.new) (W.failures decisions.new)) result }
+    ensures reached { (texts : List (AVec ℕ AGlobal)) (text : List ℕ) → Tells ports.old underlay.old texts text
+        → IsReachedOver (settings_in settings.now) (changes_in changes.now) texts text
+        (drains port_sinks.old underlay_sink.old (W.written decisions.old) (W.failures decisions.old))
+        (drains port_sinks.new underlay_sink.new (W.written decisions.new) (W.failures decisions.new)) ports.new underlay.new result }
     ensures shown { IsShown T.sees T.ends (settings_in settings.now) (changes_in changes.now) ports.old
         (drains port_sinks.old underlay_sink.old (W.written decisions.old) (W.failures decisions.old))
         (drains port_sinks.new underlay_sink.new (W.written decisions.new) (W.failures decisions.new)) watch.old watch.new result }
@@ -94,7 +99,7 @@ pub fn run_streams<R: Input, W: Output, T: Watch>(
 /// isn't told is made all the same, for it may be one of settings that all segments stand on; so the settings are at each
 /// event those of the whole run. The lines of cut captures stand in the part that has what comes to no segment.
 ///
-/// Whoever looks on is shown what is told, and nothing else. All else is as it is with [`run_streams`].
+/// Whoever looks on is shown what is told, and all else as passed over. All else is as it is with [`run_streams`].
 pub fn run_segments<R: Input, W: Output, T: Watch>(
     alloc: Global,
     settings: &[u8],
@@ -117,6 +122,10 @@ pub fn run_segments<R: Input, W: Output, T: Watch>(
         → IsRunOverAmong segments.now (settings_in settings.now) (changes_in changes.now) texts text
         (drains port_sinks.old underlay_sink.old (W.written decisions.old) (W.failures decisions.old))
         (drains port_sinks.new underlay_sink.new (W.written decisions.new) (W.failures decisions.new)) result }
+    ensures reached { (texts : List (AVec ℕ AGlobal)) (text : List ℕ) → Tells ports.old underlay.old texts text
+        → IsReachedOverAmong segments.now (settings_in settings.now) (changes_in changes.now) texts text
+        (drains port_sinks.old underlay_sink.old (W.written decisions.old) (W.failures decisions.old))
+        (drains port_sinks.new underlay_sink.new (W.written decisions.new) (W.failures decisions.new)) ports.new underlay.new result }
     ensures shown { IsShownAmong segments.now T.sees T.ends (settings_in settings.now) (changes_in changes.now) ports.old
         (drains port_sinks.old underlay_sink.old (W.written decisions.old) (W.failures decisions.old))
         (drains port_sinks.new underlay_sink.new (W.written decisions.new) (W.failures decisions.new)) watch.old watch.new result }
@@ -179,6 +188,9 @@ fn run_with<R: Input, W: Output, T: Watch>(
     ensures over { (texts : List (AVec ℕ AGlobal)) (text : List ℕ) → Tells ports.old underlay.old texts text → LeavesOver segments.now settings changes.now texts text
         (drains port_sinks.old underlay_sink.old (W.written decisions.old) (W.failures decisions.old))
         (drains port_sinks.new underlay_sink.new (W.written decisions.new) (W.failures decisions.new)) result }
+    ensures reached { (texts : List (AVec ℕ AGlobal)) (text : List ℕ) → Tells ports.old underlay.old texts text → ReachesOver segments.now settings changes.now texts text
+        (drains port_sinks.old underlay_sink.old (W.written decisions.old) (W.failures decisions.old))
+        (drains port_sinks.new underlay_sink.new (W.written decisions.new) (W.failures decisions.new)) ports.new underlay.new result }
     ensures shown { Shows segments.now T.sees T.ends settings changes.now
         (drains port_sinks.old underlay_sink.old (W.written decisions.old) (W.failures decisions.old))
         (drains port_sinks.new underlay_sink.new (W.written decisions.new) (W.failures decisions.new)) watch.old watch.new result }

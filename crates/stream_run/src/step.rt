@@ -19,8 +19,8 @@ use overlay_config::TimedChange;
 use pcap_stream::{Input, Output, Sink, Source};
 use segment_set::SegmentSet;
 
-/// Puts the event that comes first through the endpoint, and shows it before where it is told to these segments; and fetches
-/// the next one of its source.
+/// Puts the event that comes first through the endpoint, and shows it before, as passed over where it isn't told to these
+/// segments; and fetches the next one of its source.
 fn put_first<R: Input, W: Output, T: Watch>(
     changes: &[TimedChange],
     ports: &mut [Source<R>],
@@ -80,8 +80,8 @@ fn put_first<R: Input, W: Output, T: Watch>(
     }
 }
 
-/// Puts the changes and the records of all captures through an endpoint, in order of moment, and shows those that are told
-/// to these segments before.
+/// Puts the changes and the records of all captures through an endpoint, in order of moment, and shows each before, as passed
+/// over where it isn't told to these segments.
 pub fn put_events<R: Input, W: Output, T: Watch>(
     changes: &[TimedChange],
     ports: &mut [Source<R>],

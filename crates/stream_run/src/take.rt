@@ -1,6 +1,5 @@
 //! Events as the endpoint takes them: a change, a frame, a packet.
 ghost use Rattle.std.specs.Prelude.{◌≡◌, ◌≤◌, ◌<◌, ◌+◌, ◌^◌, ℕ, List, [], Option, Some, None, IfOk, IsSome, length, true};
-ghost use Rattle.std.specs.List.{FoldsTo};
 ghost use Rattle.pcap_io.specs.Record.{Record as ARecord, last_moment};
 ghost use Rattle.pcap_stream.specs.Sink.{Drain};
 ghost use Rattle.pcap_stream.specs.Source.{Stream, lent};
@@ -105,7 +104,7 @@ fn take_came<'a, W: Output, T: Watch>(
 }
 
 /// Takes the frame that a port's source lends, behind so many others: where it is told to these segments, it's shown, put to the
-/// endpoint, and what comes of it to the outputs; else time passes.
+/// endpoint, and what comes of it to the outputs; else it's shown as passed over, and time passes.
 pub fn take_frame<R: Input, W: Output, T: Watch>(
     source: &Source<R>,
     port_sinks: &mut [Sink<W>],
@@ -136,14 +135,10 @@ pub fn take_frame<R: Input, W: Output, T: Watch>(
         (record_event (Port port) count moment r) (answer (state_of endpoint.old) (frame_at moment port r.original r.octets)) result }
     ensures number { desk.new.number ≡ desk.old.number }
     ensures seen { (r : ARecord) → lent source.now.standing ≡ Some r
-        → FoldsTo T.sees watch.old (seen_among segments.now (state_of endpoint.old) desk.old.number (record_event (Port port) count moment r) (frame_at moment port r.original r.octets)) watch.new }
+        → T.sees watch.old (seen_among segments.now (state_of endpoint.old) desk.old.number (record_event (Port port) count moment r) (frame_at moment port r.original r.octets)) watch.new }
 {
     let record = source.head().unwrap();
     let came = endpoint.frame_from(port, record.original, record.octets);
-    if !segments.has(segment_of(&came)) {
-        endpoint.pass(moment);
-        return Ok(());
-    }
     let event = Event {
         moment,
         number: count + 1,
@@ -155,6 +150,11 @@ pub fn take_frame<R: Input, W: Output, T: Watch>(
             },
         ),
     };
+    if !segments.has(segment_of(&came)) {
+        watch.pass_over(endpoint, desk.number.value(), &event);
+        endpoint.pass(moment);
+        return Ok(());
+    }
     take_came(
         port_sinks,
         underlay_sink,
@@ -167,8 +167,8 @@ pub fn take_frame<R: Input, W: Output, T: Watch>(
     )
 }
 
-/// Takes the packet that the underlay's source lends, behind so many others: where it is told to these segments, it's shown, put to the
-/// endpoint, and what comes of it to the outputs; else time passes.
+/// Takes the packet that the underlay's source lends, behind so many others: where it is told to these segments, it's shown, put
+/// to the endpoint, and what comes of it to the outputs; else it's shown as passed over, and time passes.
 pub fn take_packet<R: Input, W: Output, T: Watch>(
     source: &Source<R>,
     port_sinks: &mut [Sink<W>],
@@ -196,14 +196,10 @@ pub fn take_packet<R: Input, W: Output, T: Watch>(
         (record_event Underlay count moment r) (answer (state_of endpoint.old) (packet_at moment r.original r.octets)) result }
     ensures number { desk.new.number ≡ desk.old.number }
     ensures seen { (r : ARecord) → lent source.now.standing ≡ Some r
-        → FoldsTo T.sees watch.old (seen_among segments.now (state_of endpoint.old) desk.old.number (record_event Underlay count moment r) (packet_at moment r.original r.octets)) watch.new }
+        → T.sees watch.old (seen_among segments.now (state_of endpoint.old) desk.old.number (record_event Underlay count moment r) (packet_at moment r.original r.octets)) watch.new }
 {
     let record = source.head().unwrap();
     let brought = endpoint.frame_in(record.original, record.octets);
-    if !segments.has(segment_of(&brought)) {
-        endpoint.pass(moment);
-        return Ok(());
-    }
     let event = Event {
         moment,
         number: count + 1,
@@ -215,6 +211,11 @@ pub fn take_packet<R: Input, W: Output, T: Watch>(
             },
         ),
     };
+    if !segments.has(segment_of(&brought)) {
+        watch.pass_over(endpoint, desk.number.value(), &event);
+        endpoint.pass(moment);
+        return Ok(());
+    }
     take_came(
         port_sinks,
         underlay_sink,
@@ -227,8 +228,8 @@ pub fn take_packet<R: Input, W: Output, T: Watch>(
     )
 }
 
-/// Takes the next event of the source with this index, behind so many others of that source, and shows it where it is told to
-/// these segments: the changes, the ports, the underlay.
+/// Takes the next event of the source with this index, behind so many others of that source, and shows it, as passed over where
+/// it isn't told to these segments: the changes, the ports, the underlay.
 pub fn take_at<R: Input, W: Output, T: Watch>(
     changes: &[TimedChange],
     ports: &[Source<R>],
@@ -291,8 +292,8 @@ pub fn take_at<R: Input, W: Output, T: Watch>(
     )
 }
 
-/// Puts the change of this index to the endpoint; where it is told to these segments, it's shown before, and what comes of it
-/// is put to the outputs.
+/// Shows the change of this index, and puts it to the endpoint; where it is told to these segments, its reply is told, and what
+/// comes of it is put to the outputs.
 fn take_change_at<W: Output, T: Watch>(
     decisions: &mut W,
     endpoint: &mut Endpoint,
@@ -311,17 +312,18 @@ fn take_change_at<W: Output, T: Watch>(
         (drains port_sinks underlay_sink (W.written decisions.new) (W.failures decisions.new)) watch.old watch.new result }
     ensures number { desk.new.number ≡ desk.old.number }
 {
-    let named = changes[index as usize].change.vid();
-    if !segments.has(named) {
-        make_change(endpoint, changes, moment, index);
-        return Ok(());
-    }
-    let change = changes[index as usize].change;
     let event = Event {
         moment,
         number: index + 1,
         happening: Happening::Change(index as usize),
     };
+    let named = changes[index as usize].change.vid();
+    if !segments.has(named) {
+        watch.pass_over(endpoint, desk.number.value(), &event);
+        make_change(endpoint, changes, moment, index);
+        return Ok(());
+    }
+    let change = changes[index as usize].change;
     take_change(decisions, endpoint, desk, &event, change, watch)
 }
 

@@ -4,17 +4,18 @@ ghost use Rattle.frame_view.specs.First.{fault_of};
 ghost use Rattle.endpoint_core.specs.Course.{CanLeave, IsShortFrame, IsThere, decision_of};
 ghost use Rattle.endpoint_core.specs.Kept.{state_of};
 ghost use Rattle.endpoint_core.specs.Step.{Decided, Replied, State};
-ghost use Rattle.stream_run.specs.Sights.{Due, Sight, answered, due};
+ghost use Rattle.stream_run.specs.Sights.{Due, Sight, answered, due, untold};
 
 use endpoint_core::{ChangeFault, Course, Endpoint};
 use filter_db::Place;
 use timeline::Event;
 
 /// Whoever looks on while a run goes. The run shows each event just before the endpoint takes it, and tells just behind what
-/// the endpoint answered; and at its end it shows the endpoint. A list of all that was seen is kept nowhere, so a contract
-/// says what one event makes of whoever looks on.
+/// the endpoint answered; and at its end it shows the endpoint. A part of a run shows the events of other segments too, as
+/// passed over, and tells no answer of them. A list of all that was seen is kept nowhere, so a contract says what one event
+/// makes of whoever looks on.
 pub trait Watch {
-    /// From the first state, seeing this event and hearing its answer leaves the second.
+    /// From the first state, seeing this event and hearing its answer, where it has one, leaves the second.
     ghost sees: { Self → Sight → Self → Type 0 };
 
     /// From the first state, seeing this event leaves the second, before its answer is heard.
@@ -41,6 +42,11 @@ pub trait Watch {
     fn hear_reply(&mut self, reply: Result<(), ChangeFault>)
         ensures { (before : Self) (c : Due) → expects before c self.old → sees before (answered c (Replied (fault_of reply))) self.new };
 
+    /// An event comes which isn't told to the segments of a part, and is passed over next: the endpoint as it stands before, and
+    /// the event's number in the run. No answer is heard.
+    fn pass_over(&mut self, endpoint: &Endpoint, number: u64, event: &Event)
+        ensures { sees self.old (untold (due (state_of endpoint.now) number event.now)) self.new };
+
     /// All events were taken and all that comes of them was written: the endpoint as it stands behind them.
     fn end(&mut self, endpoint: &Endpoint)
         ensures { ends self.old (state_of endpoint.now) self.new };
@@ -65,6 +71,9 @@ impl Watch for Unwatched {
 
     #[inline]
     fn hear_reply(&mut self, _reply: Result<(), ChangeFault>) {}
+
+    #[inline]
+    fn pass_over(&mut self, _endpoint: &Endpoint, _number: u64, _event: &Event) {}
 
     #[inline]
     fn end(&mut self, _endpoint: &Endpoint) {}

@@ -5,7 +5,8 @@ use Rattle.std.proofs.lemmas.List.FromFn.{map-range_with_len_more}
 use Rattle.std.proofs.lemmas.Grind.{flat_map-append}
 use Rattle.std.specs.List.{flat_map, range_with_len}
 use Rattle.endpoint_core.specs.Step.{State}
-use Rattle.table_lines.specs.Lines.{segment_lines, tables_text, vids}
+use Rattle.segment_set.specs.Segments.{Segments}
+use Rattle.table_lines.specs.Lines.{lines_among, tables_text, vids}
 
 -- a text behind another is put behind what the other was put behind
 behind : (t u x y : List ℕ) → u ≡ t ++ x → u ++ y ≡ t ++ (x ++ y)
@@ -21,14 +22,14 @@ range_more n =
     sym (map-id (range_with_len 1 (n + 1))) ∙ map-range_with_len_more (λ (k : ℕ). k) 1 n (1 + n) refl ∙ ap (λ (xs : List ℕ). xs ++ (1 + n) ∷ []) (map-id (range_with_len 1 n))
 
 -- one segment more
-pub segments_more : (s : State) (n number : ℕ) → number ≡ 1 + n → flat_map (segment_lines s) (range_with_len 1 n) ++ segment_lines s number ≡ flat_map (segment_lines s) (range_with_len 1 (n + 1))
-segments_more s n number is =
-    ap (λ (k : ℕ). flat_map (segment_lines s) (range_with_len 1 n) ++ segment_lines s k) is
-    ∙ ap (λ (t : List ℕ). flat_map (segment_lines s) (range_with_len 1 n) ++ t) (sym (append-nil (segment_lines s (1 + n))))
-    ∙ sym (flat_map-append (segment_lines s) (range_with_len 1 n) ((1 + n) ∷ []))
-    ∙ sym (ap (flat_map (segment_lines s)) (range_more n))
+pub segments_more : (q : Segments) (s : State) (n number : ℕ) → number ≡ 1 + n → flat_map (lines_among q s) (range_with_len 1 n) ++ lines_among q s number ≡ flat_map (lines_among q s) (range_with_len 1 (n + 1))
+segments_more q s n number is =
+    ap (λ (k : ℕ). flat_map (lines_among q s) (range_with_len 1 n) ++ lines_among q s k) is
+    ∙ ap (λ (t : List ℕ). flat_map (lines_among q s) (range_with_len 1 n) ++ t) (sym (append-nil (lines_among q s (1 + n))))
+    ∙ sym (flat_map-append (lines_among q s) (range_with_len 1 n) ((1 + n) ∷ []))
+    ∙ sym (ap (flat_map (lines_among q s)) (range_more n))
 
 -- all of them
-pub segments_all : (s : State) (n : ℕ) → n ≡ 4094 → flat_map (segment_lines s) (range_with_len 1 n) ≡ tables_text s
+pub segments_all : (q : Segments) (s : State) (n : ℕ) → n ≡ 4094 → flat_map (lines_among q s) (range_with_len 1 n) ≡ tables_text q s
 unfolding vids
-segments_all s n is = ap (λ (k : ℕ). flat_map (segment_lines s) (range_with_len 1 k)) is
+segments_all q s n is = ap (λ (k : ℕ). flat_map (lines_among q s) (range_with_len 1 k)) is

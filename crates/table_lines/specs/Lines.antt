@@ -1,9 +1,10 @@
--- The live entries of all segments as lines of text: `segment 10 02:00:00:00:00:07 p2 seen 7000000000 age 3.000000000`,
+-- The live entries of segments as lines of text: `segment 10 02:00:00:00:00:07 p2 seen 7000000000 age 3.000000000`,
 -- and `segment 10 02:00:00:00:00:09 192.0.2.2 fixed`. It states no standard.
-use Rattle.std.specs.Prelude.{ℕ, ◌-◌, ◌/◌, ◌%◌, Bool, List, [], ◌∷◌, ◌++◌, length, replicate, codes, decimal, Option, Some, None}
+use Rattle.std.specs.Prelude.{ℕ, ◌-◌, ◌/◌, ◌%◌, if◌then◌else◌, Bool, List, [], ◌∷◌, ◌++◌, length, replicate, codes, decimal, Option, Some, None}
 use Rattle.std.specs.FinMap.{entries}
 use Rattle.std.specs.List.{flat_map, range_with_len}
 use Rattle.header_sums.specs.Octets.{octet}
+use Rattle.segment_set.specs.Segments.{Segments, holds}
 use Rattle.filter_db.specs.declared.entry.Entry.{Entry}
 use Rattle.endpoint_core.specs.Step.{State, has_two_tunnels}
 use Rattle.endpoint_core.specs.Text.{hex_octet, place_text}
@@ -35,10 +36,14 @@ entry_line two_tunnels now vid row =
 abbrev pub segment_lines : State → ℕ → List ℕ
 segment_lines s vid = flat_map (entry_line (has_two_tunnels s.bridges.settings.overlay vid) s.moment vid) (entries (s.bridges.tables vid))
 
+-- the lines of a segment that is asked for, and none of another
+abbrev pub lines_among : Segments → State → ℕ → List ℕ
+lines_among segments s vid = if holds segments (Some vid) then segment_lines s vid else []
+
 -- the VIDs that a segment may have (IEEE 802.1Q, 9.6)
 unfoldable pub vids : List ℕ
 vids = range_with_len 1 4094
 
--- the lines of all segments, their VIDs rising
-abbrev pub tables_text : State → List ℕ
-tables_text s = flat_map (segment_lines s) vids
+-- the lines of all segments that are asked for, their VIDs rising; a whole run asks for all
+abbrev pub tables_text : Segments → State → List ℕ
+tables_text segments s = flat_map (lines_among segments s) vids

@@ -7,9 +7,11 @@
 mod checks;
 mod digests;
 mod inputs;
+mod merged_texts;
 mod merging;
 mod names;
 mod outputs;
+mod part_texts;
 mod parts;
 mod printing;
 mod program;

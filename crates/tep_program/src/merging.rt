@@ -1,6 +1,7 @@
 //! Parts of a run made the whole run.
 ghost use Rattle.std.specs.Prelude.{◌≤◌};
 
+use crate::merged_texts::{MergedTexts, TextsAsked, merge_texts};
 use crate::names::is_same;
 use crate::outputs::{open_outputs, path_of};
 use crate::parts::{PartInput, count_events, of_part, open_lines, open_part_file};
@@ -24,20 +25,29 @@ const TEXT_READS: u64 = 4_096;
 
 const CAPTURE_READS: u64 = u64::MAX;
 
-/// Puts the parts in these folders together, and writes the whole run into a folder.
+/// Puts the parts in these folders together, and writes the whole run into a folder. It answers what the whole run tells
+/// besides, as far as that is asked for.
 ///
-/// Where they aren't all parts of one run, or an output is one of their files, nothing is made or written.
+/// Where they aren't all parts of one run, what they told isn't there or is no such text, or an output is one of their files,
+/// nothing is made or written.
 pub fn merge<'a, R: Files + AllocGlobal>(
     rt: &R,
     out: &str,
     folders: &[&'a str],
-) -> Result<(), Failure<'a>> {
+    asked: TextsAsked,
+) -> Result<MergedTexts, Failure<'a>> {
     let texts = match read_records(rt, folders) {
         Ok(texts) => texts,
         Err(failure) => return Err(failure),
     };
-    let count = match look_at(rt, folders, texts.as_slice()) {
-        Ok(count) => at_most_ports(count),
+    let (found, segments) = match look_at(rt, folders, texts.as_slice()) {
+        Ok(looked) => looked,
+        Err(failure) => return Err(failure),
+    };
+    let count = at_most_ports(found);
+    let ports = u8::try_from(count).unwrap_or(u8::MAX);
+    let told = match merge_texts(rt, folders, segments.as_slice(), ports, asked) {
+        Ok(told) => told,
         Err(failure) => return Err(failure),
     };
     spare_parts(rt, out, folders, count)?;
@@ -55,7 +65,7 @@ pub fn merge<'a, R: Files + AllocGlobal>(
     );
     let finished = outputs.finish();
     match merged {
-        Ok(()) => finished.map(|_| ()),
+        Ok(()) => finished.map(|_| told),
         Err(fault) => Err(failure_of(folders, fault)),
     }
 }
@@ -93,12 +103,12 @@ fn read_records<'a, R: Files + AllocGlobal>(
     Ok(texts)
 }
 
-/// Sees that these are the parts of one run and all of it, and how many ports it has.
+/// Sees that these are the parts of one run and all of it, how many ports it has, and which segments each part.
 fn look_at<'a, R: Files + AllocGlobal>(
     rt: &R,
     folders: &[&'a str],
     texts: &[Vec<u8>],
-) -> Result<usize, Failure<'a>> {
+) -> Result<(usize, Vec<SegmentSet>), Failure<'a>> {
     let mut first: Option<ShardRecord<'_>> = None;
     let mut sets = Vec::new(rt.alloc());
     for (folder, text) in folders.iter().zip(texts) {
@@ -124,7 +134,7 @@ fn look_at<'a, R: Files + AllocGlobal>(
     for (folder, text) in folders.iter().zip(texts) {
         see_events(rt, *folder, text.as_slice())?;
     }
-    Ok(first.map_or(0, |found| found.ports.len()))
+    Ok((first.map_or(0, |found| found.ports.len()), sets))
 }
 
 /// What a part was made from, and its segments.

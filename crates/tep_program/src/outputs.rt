@@ -46,6 +46,8 @@ pub fn spare_inputs<R: Files + AllocGlobal>(
     spare(rt, folder, names, OutputFile::Decisions)?;
     if is_part {
         spare(rt, folder, names, OutputFile::Shard)?;
+        spare(rt, folder, names, OutputFile::Tables)?;
+        spare(rt, folder, names, OutputFile::Summary)?;
     }
     Ok(())
 }

@@ -25,9 +25,50 @@ const PART_BLOCK: usize = 16_384;
 /// The octets of a part's file, read in blocks.
 pub type PartInput<F> = StdInput<BufReader<F>>;
 
-/// Runs the segments of a list on captures, and writes what comes out of them into a folder, and last what they were made
-/// from. It answers the captures of which the rest is cut and is told, which stand in the part that has what comes to no
-/// segment.
+/// The segments of a part by their list, or all of them, where there is none.
+pub fn segments_of<'a>(list: Option<&str>) -> Result<SegmentSet, Failure<'a>> {
+    match list {
+        Some(list) => match SegmentSet::parse(list) {
+            Ok(segments) => Ok(segments),
+            Err(fault) => Err(Failure::Segments(fault)),
+        },
+        None => Ok(SegmentSet::all()),
+    }
+}
+
+/// A run whose outputs are written.
+#[derive(Drop)]
+pub struct Ran<F: Drop> {
+    /// The captures of which the rest is cut and is told. Of a part they stand in the one that has what comes to no segment.
+    pub cut: Vec<Tap>,
+    /// The empty file in which a part is to say what it was made from.
+    shard: Option<F>,
+    /// What it was made from.
+    record: Vec<u8>,
+}
+
+impl<F: Write + Drop> Ran<F> {
+    /// A whole run.
+    pub fn whole(alloc: Global, cut: Vec<Tap>) -> Ran<F> {
+        Ran {
+            cut,
+            shard: None,
+            record: Vec::new(alloc),
+        }
+    }
+
+    /// Writes what a part was made from. No merge takes a part before.
+    pub fn finish(self) -> Result<(), Failure<'static>> {
+        let Ran { shard, record, .. } = self;
+        match shard {
+            Some(file) => write_shard(file, record.as_slice()),
+            None => Ok(()),
+        }
+    }
+}
+
+/// Runs these segments, which a list names, on captures, and writes what comes out of them into a folder. What the part was
+/// made from is still to be written.
 ///
 /// Where no digests of the captures are lent, these are read a second time for them, so that none of them may be one that can
 /// be read only once. Where they are lent, the captures have to have as many octets as the digests tell.
@@ -37,12 +78,9 @@ pub fn run_part<'a, R: Files + Input + AllocGlobal, T: Watch>(
     texts: &Texts,
     folder: &str,
     list: &'a str,
+    segments: &SegmentSet,
     watch: &mut T,
-) -> Result<Vec<Tap>, Failure<'a>> {
-    let segments = match SegmentSet::parse(list) {
-        Ok(segments) => segments,
-        Err(fault) => return Err(Failure::Segments(fault)),
-    };
+) -> Result<Ran<R::File>, Failure<'a>> {
     let lent = match lent_to(rt, names) {
         Ok(lent) => lent,
         Err(failure) => return Err(failure),
@@ -52,7 +90,7 @@ pub fn run_part<'a, R: Files + Input + AllocGlobal, T: Watch>(
         ports,
         underlay,
         shard,
-    } = match run_on_files(rt, names, texts, folder, Scope::Part(&segments), watch) {
+    } = match run_on_files(rt, names, texts, folder, Scope::Part(segments), watch) {
         Ok(done) => done,
         Err(failure) => return Err(failure),
     };
@@ -65,15 +103,13 @@ pub fn run_part<'a, R: Files + Input + AllocGlobal, T: Watch>(
         Err(failure) => return Err(failure),
     };
     let made = record_of_part(names, texts, list, &digests, events);
-    let text = text_of(rt.alloc(), &made)?;
-    if let Some(file) = shard {
-        write_shard(file, text.as_slice())?;
-    }
-    Ok(if segments.has(None) {
+    let record = text_of(rt.alloc(), &made)?;
+    let cut = if segments.has(None) {
         cut
     } else {
         Vec::new(rt.alloc())
-    })
+    };
+    Ok(Ran { cut, shard, record })
 }
 
 /// How many events the decision lines tell that a part wrote into this folder.

@@ -8,17 +8,20 @@ ghost use Rattle.tep_program.specs.Status.{IsStatusOf};
 use crate::checks::check;
 use crate::digests::print_digests;
 use crate::inputs::{read_file, read_underlay};
+use crate::merged_texts::TextsAsked;
 use crate::merging::merge;
 use crate::names::Names;
-use crate::parts::run_part;
+use crate::part_texts::leave_text;
+use crate::parts::{Ran, run_part, segments_of};
 use crate::printing::{is_lost, print_text};
 use crate::runs::{Scope, Texts, run_on_files};
 use capture_run::{RunFault, of_settings};
 use clap::error::ErrorKind as Refusal;
 use dissector::{Failure, Line, LineFault, OutputFile, Values, explain_bytes, line_of, sample};
-use overlay_config::migrate;
+use overlay_config::{TimedChange, migrate};
 use run_counts::RunCounts;
 use run_reports::{Onlooker, Reports};
+use segment_set::SegmentSet;
 use std::alloc::{AllocError, Global};
 use std::env;
 use std::io::{ErrorKind, Input};
@@ -148,7 +151,33 @@ fn perform<'a, R: Files + Input + AllocGlobal + Print + Eprint>(
         } => explain(rt, *settings, *depth, *values, *capture),
         Line::Migrate { settings } => print_migrated(rt, *settings),
         Line::Digest { underlay, ports } => print_digests(rt, *underlay, ports.as_slice()),
-        Line::Merge { out, shards } => merge(rt, *out, shards.as_slice()),
+        Line::Merge {
+            out,
+            shards,
+            tables,
+            summary,
+        } => {
+            let asked = TextsAsked {
+                tables: *tables,
+                summary: *summary,
+            };
+            merge_and_tell(rt, *out, shards.as_slice(), asked)
+        }
+    }
+}
+
+/// Makes parts the whole run, and prints what it tells besides.
+fn merge_and_tell<'a, R: Files + AllocGlobal + Print>(
+    rt: &R,
+    out: &str,
+    folders: &[&'a str],
+    asked: TextsAsked,
+) -> Result<(), Failure<'a>> {
+    match merge(rt, out, folders, asked) {
+        Ok(told) => {
+            print_text(rt, told.tables.as_slice()).and(print_text(rt, told.summary.as_slice()))
+        }
+        Err(failure) => Err(failure),
     }
 }
 
@@ -169,7 +198,7 @@ struct Asked<'n, 'a> {
     tables: bool,
     /// What was counted.
     summary: bool,
-    /// The segments of a part.
+    /// The list of a part's segments.
     segments: Option<&'a str>,
 }
 
@@ -188,33 +217,22 @@ fn run_and_tell<'a, R: Files + Input + AllocGlobal + Print + Eprint>(
     asked: Asked<'_, 'a>,
 ) -> Result<(), Failure<'a>> {
     let texts = Texts::read(rt, names)?;
+    let segments = segments_of(asked.segments)?;
     // Who asks for nothing pays nothing for it.
     if asked.is_nothing() {
-        return run_asked(rt, names, &texts, folder, asked, &mut Unwatched).map(|_| ());
+        return match run_asked(rt, names, &texts, folder, asked, &segments, &mut Unwatched) {
+            Ok(ran) => ran.finish(),
+            Err(failure) => Err(failure),
+        };
     }
     let changes = texts.changes_told(rt.alloc())?;
-    let mut onlooker = Onlooker {
-        reports: Reports::new(
-            rt.alloc(),
-            asked.why,
-            changes.as_slice(),
-            asked.tables_at,
-            asked.tables,
-        )?,
-        counts: if asked.summary {
-            Some(RunCounts::new(rt.alloc()))
-        } else {
-            None
-        },
-    };
-    let run = run_asked(rt, names, &texts, folder, asked, &mut onlooker);
+    let mut onlooker = onlooker_of(rt.alloc(), asked, changes.as_slice(), &segments)?;
+    let run = run_asked(rt, names, &texts, folder, asked, &segments, &mut onlooker);
     let Onlooker { reports, counts } = onlooker;
     match run {
-        Ok(cut) => {
+        Ok(ran) => {
             let found = tell_missing(rt, asked.why, reports.found());
-            print_told(rt, reports)
-                .and(print_summary(rt, counts, cut.as_slice()))
-                .and(found)
+            tell_all(rt, folder, asked, reports, counts, ran).and(found)
         }
         Err(failure) => {
             // What was told stands, wherever the run stopped.
@@ -224,19 +242,43 @@ fn run_and_tell<'a, R: Files + Input + AllocGlobal + Print + Eprint>(
     }
 }
 
-/// Runs on captures, all segments or a part of them. It answers the captures of which the rest is cut and is told.
+/// Who looks on at a run with these changes, of these segments, for whom asks.
+fn onlooker_of<'n, 'a>(
+    alloc: Global,
+    asked: Asked<'n, 'a>,
+    changes: &'n [TimedChange],
+    segments: &'n SegmentSet,
+) -> Result<Onlooker<'n, 'a>, AllocError> {
+    let reports = Reports::new(
+        alloc,
+        asked.why,
+        changes,
+        segments,
+        asked.tables_at,
+        asked.tables,
+    )?;
+    let counts = if asked.summary {
+        Some(RunCounts::new(alloc))
+    } else {
+        None
+    };
+    Ok(Onlooker { reports, counts })
+}
+
+/// Runs on captures, all segments, or those of a list as a part.
 fn run_asked<'a, R: Files + Input + AllocGlobal, T: Watch>(
     rt: &R,
     names: Names<'_, 'a>,
     texts: &Texts,
     folder: &str,
     asked: Asked<'_, 'a>,
+    segments: &SegmentSet,
     watch: &mut T,
-) -> Result<Vec<Tap>, Failure<'a>> {
+) -> Result<Ran<R::File>, Failure<'a>> {
     match asked.segments {
-        Some(list) => run_part(rt, names, texts, folder, list, watch),
+        Some(list) => run_part(rt, names, texts, folder, list, segments, watch),
         None => match run_on_files(rt, names, texts, folder, Scope::Whole, watch) {
-            Ok(done) => Ok(done.cut),
+            Ok(done) => Ok(Ran::whole(rt.alloc(), done.cut)),
             Err(failure) => Err(failure),
         },
     }
@@ -260,27 +302,67 @@ fn tell_missing<'a>(
     missing
 }
 
-/// Prints what a run counted, where that is asked for.
-fn print_summary<R: Print>(
+/// Prints what a run told and counted. A part leaves its tables at the end and its counts in its folder before, and last what
+/// it was made from.
+fn tell_all<R: Files + AllocGlobal + Print>(
     rt: &R,
+    folder: &str,
+    asked: Asked<'_, '_>,
+    reports: Reports<'_, '_>,
     counts: Option<RunCounts>,
-    cut: &[Tap],
+    ran: Ran<R::File>,
 ) -> Result<(), Failure<'static>> {
-    let Some(counts) = counts else {
-        return Ok(());
-    };
-    let Ok(text) = counts.into_text(cut) else {
+    let Ok((told, tables)) = reports.into_texts() else {
         return Err(Failure::from(AllocError));
     };
-    print_text(rt, text.as_slice())
+    let summary = summary_of(rt.alloc(), counts, ran.cut.as_slice())?;
+    let left = match leave_texts(rt, folder, asked, tables.as_slice(), summary.as_slice()) {
+        Ok(()) => ran.finish(),
+        Err(failure) => Err(failure),
+    };
+    left.and(print_text(rt, told.as_slice()))
+        .and(print_text(rt, tables.as_slice()))
+        .and(print_text(rt, summary.as_slice()))
+}
+
+/// Writes the tables and the counts of a part into its folder, as far as they are asked for.
+fn leave_texts<R: Files + AllocGlobal>(
+    rt: &R,
+    folder: &str,
+    asked: Asked<'_, '_>,
+    tables: &[u8],
+    summary: &[u8],
+) -> Result<(), Failure<'static>> {
+    if asked.segments.is_none() {
+        return Ok(());
+    }
+    if asked.tables {
+        leave_text(rt, folder, OutputFile::Tables, tables)?;
+    }
+    if asked.summary {
+        leave_text(rt, folder, OutputFile::Summary, summary)?;
+    }
+    Ok(())
+}
+
+/// What a run counted, where that is asked for.
+fn summary_of(
+    alloc: Global,
+    counts: Option<RunCounts>,
+    cut: &[Tap],
+) -> Result<Vec<u8>, AllocError> {
+    match counts {
+        Some(counts) => counts.into_text(cut),
+        None => Ok(Vec::new(alloc)),
+    }
 }
 
 /// Prints what a run told.
 fn print_told<R: Print>(rt: &R, reports: Reports<'_, '_>) -> Result<(), Failure<'static>> {
-    let Ok(text) = reports.into_text() else {
+    let Ok((told, tables)) = reports.into_texts() else {
         return Err(Failure::from(AllocError));
     };
-    print_text(rt, text.as_slice())
+    print_text(rt, told.as_slice()).and(print_text(rt, tables.as_slice()))
 }
 
 /// Prints a settings text as one of version 2.

@@ -2,6 +2,7 @@
 use crate::inputs::{Capture, open_capture, open_captures, read_file, read_if_given};
 use crate::names::Names;
 use crate::outputs::{open_outputs, spare_inputs};
+use crate::part_texts::drop_texts;
 use capture_run::{RunFault, of_changes, of_settings};
 use dissector::Failure;
 use overlay_config::{TimedChange, changes_of, settings_of};
@@ -108,6 +109,9 @@ pub fn run_on_files<'a, R: Files + Input + AllocGlobal, T: Watch>(
         0
     };
     let opened = open_outputs(rt, folder, is_part, ports.len())?;
+    if is_part {
+        drop_texts(rt, folder)?;
+    }
     let mut outputs = opened.emptied(rt.alloc(), block)?;
     let run = run_segments(
         rt.alloc(),

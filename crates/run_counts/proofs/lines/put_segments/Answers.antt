@@ -2,15 +2,14 @@ use Rattle.std.proofs.Common.{◌≡◌, ◌++◌, List, ℕ, ◌∙◌, ◌-◌
 use Rattle.std.specs.List.{flat_map, range_with_len}
 use Rattle.std.specs.String.{string_bytes}
 use Rattle.std.proofs.lemmas.Result.{on_ok_weaker}
-use Rattle.endpoint_core.specs.Kept.{state_of}
 use Rattle.run_counts.specs.Summary.{segment_lines, segments_text}
 use Rattle.run_counts.proofs.Texts.{more_behind, segments_all, then_one}
 use Rattle.run_counts.proofs.lines.put_segments.Goals as goal
 use Rattle.run_counts.proofs.lines.put_segments.Goals.{in-Some+in_ok-put_segment, in_default}
 
 pub loop-number-preserved : goal.loop-number-preserved
-loop-number-preserved c =
-    let lines : ℕ → List ℕ = λ vid. segment_lines (state_of c.args.endpoint.now).counts (Some vid) in
+loop-number-preserved g c =
+    let lines : ℕ → List ℕ = λ vid. segment_lines (g.C.Counted.counts c.args.counts.now) (Some vid) in
     let number : ℕ = c.loop-number.number in
     let next : (number - 1) + 1 ≡ (number + 1) - 1 = omega (arith, c.loop-number.auto.number) in
     elim c.match-new.branch [
@@ -22,8 +21,8 @@ loop-number-preserved c =
     ]
 
 pub returns : goal.returns
-returns c =
-    let counts = (state_of c.args.endpoint.now).counts in
+returns g c =
+    let counts = g.C.Counted.counts c.args.counts.now in
     let lines : ℕ → List ℕ = λ vid. segment_lines counts (Some vid) in
     let so_far = flat_map lines (range_with_len 1 (c.loop-number.number - 1)) in
     let all : c.loop-number.number - 1 ≡ 4094 = omega (arith, c.loop-number-test.false, c.loop-number.auto.number-end) in

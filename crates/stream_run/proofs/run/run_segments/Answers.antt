@@ -9,11 +9,12 @@ use Rattle.capture_run.specs.Fault.{of_changes, of_settings}
 use Rattle.capture_run.specs.declared.fault.RunFault.TheVariants as faults
 use Rattle.stream_run.specs.Left.{AnswersAmong, Leaves, ends}
 use Rattle.stream_run.specs.Over.{IsRunOverAmong, LeavesOver}
+use Rattle.stream_run.specs.Reached.{IsReachedOverAmong, ReachesOver}
 use Rattle.stream_run.specs.Stage.{drains}
 use Rattle.stream_run.specs.Watched.{IsShownAmong, IsWatchedOverAmong, SeesOver, Shows}
 use Rattle.stream_run.specs.declared.fault.StreamFault.TheVariants as stream
 use Rattle.stream_run.proofs.Framing.{none_at, timely, writes_by}
-use Rattle.stream_run.proofs.Overall.{changes_refusal, over_refusal, seen_refusal, settings_refusal, tells_texts}
+use Rattle.stream_run.proofs.Overall.{changes_refusal, over_refusal, reach_refusal, seen_refusal, settings_refusal, tells_texts}
 use Rattle.stream_run.proofs.Refusing.{changes_refused, count_refused, counted, settings_refused}
 use Rattle.stream_run.proofs.Showing.{shows_counted, shows_refused}
 use Rattle.stream_run.proofs.run.run_segments.Goals as goal
@@ -103,6 +104,37 @@ returns-clause-over g c texts text tells =
     subst (λ m. IsRunOverAmong c.args.segments.now m changes texts text old new c.run_with.result) (sym c.in-Ok.ensures)
     (subst (λ m. IsRunOverAmong c.args.segments.now (Ok c.in-Ok.settings) m texts text old new c.run_with.result) (sym c.in-Ok-changes_of.ensures.value)
     (subst (λ l. LeavesOver c.args.segments.now c.in-Ok.settings l texts text old new c.run_with.result) c.as_slice.ensures.value (c.run_with.ensures.over texts text tells)))
+
+-- ---- how far they are read
+
+pub returns-in-Err-clause-reached : goal.returns-in-Err-clause-reached
+returns-in-Err-clause-reached g c texts text tells =
+    let d = drains c.args.port_sinks.now c.args.underlay_sink.now (g.W.Output.written c.args.decisions.now) (g.W.Output.failures c.args.decisions.now) in
+    subst (λ f. IsReachedOverAmong c.args.segments.now (settings_in c.args.settings.now) (changes_in c.args.changes.now) texts text d d c.args.ports.now c.args.underlay.now (Err (stream.Run f))) (sym c.of_settings.ensures)
+    (reach_refusal c.args.segments.now texts text d d (settings_in c.args.settings.now) (changes_in c.args.changes.now) c.args.ports.now c.args.underlay.now (of_settings c.in-Err.fault) (settings_refusal c.in-Err.fault)
+    (none_at d (length texts) (c.requires.sinks ∙ tells_texts c.args.ports.now c.args.underlay.now texts text tells)))
+
+pub returns-in-Err-changes_of-clause-reached : goal.returns-in-Err-changes_of-clause-reached
+returns-in-Err-changes_of-clause-reached g c texts text tells =
+    let d = drains c.args.port_sinks.now c.args.underlay_sink.now (g.W.Output.written c.args.decisions.now) (g.W.Output.failures c.args.decisions.now) in
+    subst (λ f. IsReachedOverAmong c.args.segments.now (settings_in c.args.settings.now) (changes_in c.args.changes.now) texts text d d c.args.ports.now c.args.underlay.now (Err (stream.Run f))) (sym c.of_changes.ensures)
+    (reach_refusal c.args.segments.now texts text d d (settings_in c.args.settings.now) (changes_in c.args.changes.now) c.args.ports.now c.args.underlay.now (of_changes c.in-Err-changes_of.fault) (changes_refusal c.in-Err-changes_of.fault)
+    (none_at d (length texts) (c.requires.sinks ∙ tells_texts c.args.ports.now c.args.underlay.now texts text tells)))
+
+pub returns-then-ports-clause-reached : goal.returns-then-ports-clause-reached
+returns-then-ports-clause-reached g c texts text tells =
+    let d = drains c.args.port_sinks.now c.args.underlay_sink.now (g.W.Output.written c.args.decisions.now) (g.W.Output.failures c.args.decisions.now) in
+    reach_refusal c.args.segments.now texts text d d (settings_in c.args.settings.now) (changes_in c.args.changes.now) c.args.ports.now c.args.underlay.now faults.PortCount tt
+    (none_at d (length texts) (c.requires.sinks ∙ tells_texts c.args.ports.now c.args.underlay.now texts text tells))
+
+pub returns-clause-reached : goal.returns-clause-reached
+returns-clause-reached g c texts text tells =
+    let changes = changes_in c.args.changes.now in
+    let old = drains c.args.port_sinks.now c.args.underlay_sink.now (g.W.Output.written c.args.decisions.now) (g.W.Output.failures c.args.decisions.now) in
+    let new = drains c.run_with.new.port_sinks c.run_with.new.underlay_sink (g.W.Output.written c.run_with.new.decisions) (g.W.Output.failures c.run_with.new.decisions) in
+    subst (λ m. IsReachedOverAmong c.args.segments.now m changes texts text old new c.run_with.new.ports c.run_with.new.underlay c.run_with.result) (sym c.in-Ok.ensures)
+    (subst (λ m. IsReachedOverAmong c.args.segments.now (Ok c.in-Ok.settings) m texts text old new c.run_with.new.ports c.run_with.new.underlay c.run_with.result) (sym c.in-Ok-changes_of.ensures.value)
+    (subst (λ l. ReachesOver c.args.segments.now c.in-Ok.settings l texts text old new c.run_with.new.ports c.run_with.new.underlay c.run_with.result) c.as_slice.ensures.value (c.run_with.ensures.reached texts text tells)))
 
 -- ---- by who looks on
 

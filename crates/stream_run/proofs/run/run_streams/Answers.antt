@@ -4,6 +4,7 @@ use Rattle.overlay_config.specs.Change.{changes_in}
 use Rattle.overlay_config.specs.Settings.{settings_in}
 use Rattle.stream_run.specs.Left.{AnswersAmong, ends}
 use Rattle.stream_run.specs.Over.{IsRunOverAmong}
+use Rattle.stream_run.specs.Reached.{IsReachedOverAmong}
 use Rattle.stream_run.specs.Stage.{drains}
 use Rattle.stream_run.specs.Watched.{IsShownAmong, IsWatchedOverAmong}
 use Rattle.stream_run.proofs.Refusing.{whole_run}
@@ -44,3 +45,11 @@ returns-clause-watched g c texts text tells =
     (drains c.args.port_sinks.now c.args.underlay_sink.now (g.W.Output.written c.args.decisions.now) (g.W.Output.failures c.args.decisions.now))
     (drains c.run_segments.new.port_sinks c.run_segments.new.underlay_sink (g.W.Output.written c.run_segments.new.decisions) (g.W.Output.failures c.run_segments.new.decisions)) c.args.watch.now c.run_segments.new.watch c.run_segments.result)
     c.all.ensures (c.run_segments.ensures.watched texts text tells)
+
+pub returns-clause-reached : goal.returns-clause-reached
+returns-clause-reached g c texts text tells =
+    subst (λ (segments : Segments). IsReachedOverAmong segments (settings_in c.args.settings.now) (changes_in c.args.changes.now) texts text
+    (drains c.args.port_sinks.now c.args.underlay_sink.now (g.W.Output.written c.args.decisions.now) (g.W.Output.failures c.args.decisions.now))
+    (drains c.run_segments.new.port_sinks c.run_segments.new.underlay_sink (g.W.Output.written c.run_segments.new.decisions) (g.W.Output.failures c.run_segments.new.decisions))
+    c.run_segments.new.ports c.run_segments.new.underlay c.run_segments.result)
+    c.all.ensures (c.run_segments.ensures.reached texts text tells)

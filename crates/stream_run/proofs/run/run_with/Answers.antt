@@ -8,10 +8,10 @@ use Rattle.stream_run.specs.Cuts.{cuts_at}
 use Rattle.stream_run.specs.Over.{texts_octets}
 use Rattle.stream_run.specs.Stage.{FailedAt, StandAt, StandBetween, drains, no_texts}
 use Rattle.stream_run.specs.Steps.{AreRead, AreReady, run_at, texts_behind}
-use Rattle.stream_run.proofs.Closing.{opened_read, over_lines, over_opening, over_run, over_whole, seen_lines, seen_opening, seen_run, seen_whole}
+use Rattle.stream_run.proofs.Closing.{opened_read, over_lines, over_opening, over_run, over_whole, reach_lines, reach_opening, reach_run, reach_whole, seen_lines, seen_opening, seen_run, seen_whole}
 use Rattle.stream_run.proofs.Framing.{leaves_all, leaves_begun, leaves_cuts, leaves_events, leaves_headers, leaves_nothing, lent_back, none_at, opened_all, opens_no_write, ready_begun}
 use Rattle.stream_run.proofs.Opened.{reads_behind}
-use Rattle.stream_run.proofs.Overall.{over_firsts, over_headers, over_unopened, seen_firsts, seen_headers, seen_unopened, tells_texts}
+use Rattle.stream_run.proofs.Overall.{over_firsts, over_headers, over_unopened, reach_firsts, reach_headers, reach_unopened, seen_firsts, seen_headers, seen_unopened, tells_texts}
 use Rattle.stream_run.proofs.Running.{quiet_on}
 use Rattle.stream_run.proofs.Showing.{shows_all, shows_begun, shows_cuts, shows_events, shows_headers, shows_nothing}
 use Rattle.stream_run.proofs.run.run_with.Goals as goal
@@ -207,6 +207,100 @@ returns-clause-over g c texts text tells =
     let back : c.as_slice.result.now ≡ c.put_events.new.turns = c.as_slice.ensures.value ∙ lent_back c.put_events.new.turns _ c.in-Ok.turns.len (omega (arith, c.put_events.auto.turns, c.as_mut_slice-2.ensures.len)) in
     let lead = c.in-Err-put_cuts_among.ensures start o c.put_events.new.port_sinks c.put_events.new.underlay_sink (run.outputs start (empty_outputs (length texts)) at) in
     over_lines c.args.segments.now c.args.settings c.args.changes.now texts text start c.fetch_all.new.ports c.fetch_all.new.underlay c.as_mut_slice-2.result.now (state_of c.in-Ok-open.endpoint) begun _ ready read at c.in-Ok-open.ensures
+    cut c.in-Err-put_cuts_among.target run (subst (λ ts. StandBetween start cut o (with_cuts o (cuts_among c.args.segments.now (cuts_at c.put_events.new.ports c.put_events.new.underlay ts))) × FailedAt c.in-Err-put_cuts_among.target start cut) back lead)
+
+-- ---- how far they are read
+
+pub returns-in_default-clause-reached : goal.returns-in_default-clause-reached
+returns-in_default-clause-reached g c texts text tells =
+    let start = drains c.args.port_sinks.now c.args.underlay_sink.now (g.W.Output.written c.args.decisions.now) (g.W.Output.failures c.args.decisions.now) in
+    reach_unopened c.args.segments.now c.args.settings c.args.changes.now texts text start start c.args.ports.now c.args.underlay.now (none_at start (length texts) (c.requires.sinks ∙ tells_texts c.args.ports.now c.args.underlay.now texts text tells))
+
+pub returns-in_default-open-clause-reached : goal.returns-in_default-open-clause-reached
+returns-in_default-open-clause-reached g c texts text tells =
+    let start = drains c.args.port_sinks.now c.args.underlay_sink.now (g.W.Output.written c.args.decisions.now) (g.W.Output.failures c.args.decisions.now) in
+    reach_unopened c.args.segments.now c.args.settings c.args.changes.now texts text start start c.args.ports.now c.args.underlay.now (none_at start (length texts) (c.requires.sinks ∙ tells_texts c.args.ports.now c.args.underlay.now texts text tells))
+
+pub returns-in-Err-clause-reached : goal.returns-in-Err-clause-reached
+returns-in-Err-clause-reached g c texts text tells =
+    let start = drains c.args.port_sinks.now c.args.underlay_sink.now (g.W.Output.written c.args.decisions.now) (g.W.Output.failures c.args.decisions.now) in
+    let many = tells_texts c.args.ports.now c.args.underlay.now texts text tells in
+    reach_opening c.args.segments.now c.args.settings c.args.changes.now texts text start start c.args.ports.now c.open_all.new.ports c.args.underlay.now c.open_all.new.underlay c.in-Err.fault c.in-Err.ensures.opened
+    (none_at start (length texts) (c.requires.sinks ∙ many))
+
+pub returns-in-Err-begin_all-clause-reached : goal.returns-in-Err-begin_all-clause-reached
+returns-in-Err-begin_all-clause-reached g c texts text tells =
+    let start = drains c.args.port_sinks.now c.args.underlay_sink.now (g.W.Output.written c.args.decisions.now) (g.W.Output.failures c.args.decisions.now) in
+    let many = c.requires.sinks ∙ tells_texts c.args.ports.now c.args.underlay.now texts text tells in
+    let begun = drains c.begin_all.new.port_sinks c.begin_all.new.underlay_sink (g.W.Output.written c.args.decisions.now) (g.W.Output.failures c.args.decisions.now) in
+    let lead = c.in-Err-begin_all.ensures start (g.W.Output.written c.args.decisions.now) (g.W.Output.failures c.args.decisions.now) (none_at start (length c.args.port_sinks.now) refl) in
+    reach_headers c.args.segments.now c.args.settings c.args.changes.now texts text start begun c.open_all.new.ports c.open_all.new.underlay c.in-Err-begin_all.target (subst (λ n. StandBetween start begun (no_texts n) (empty_outputs n)) many lead.0)
+
+pub returns-in-Err-fetch_all-clause-reached : goal.returns-in-Err-fetch_all-clause-reached
+returns-in-Err-fetch_all-clause-reached g c texts text tells =
+    let start = drains c.args.port_sinks.now c.args.underlay_sink.now (g.W.Output.written c.args.decisions.now) (g.W.Output.failures c.args.decisions.now) in
+    let many = c.requires.sinks ∙ tells_texts c.args.ports.now c.args.underlay.now texts text tells in
+    let begun = drains c.begin_all.new.port_sinks c.begin_all.new.underlay_sink (g.W.Output.written c.args.decisions.now) (g.W.Output.failures c.args.decisions.now) in
+    let at : StandAt start begun (empty_outputs (length texts)) = subst (λ n. StandAt start begun (empty_outputs n)) many (c.in_default-begin_all.ensures start (g.W.Output.written c.args.decisions.now) (g.W.Output.failures c.args.decisions.now) (none_at start (length c.args.port_sinks.now) refl)) in
+    let read = opened_read c.args.ports.now c.open_all.new.ports c.args.underlay.now c.open_all.new.underlay texts text tells (omega (arith, c.open_all.auto.ports)) c.in_default-open_all.ensures.opened in
+    reach_firsts c.args.segments.now c.args.settings c.args.changes.now texts text start begun c.in-Err-fetch_all.fault c.fetch_all.new.turns c.fetch_all.new.ports c.fetch_all.new.underlay (c.in-Err-fetch_all.ensures.told (texts_octets texts) text read) at
+
+pub returns-in-Err-put_events-clause-reached : goal.returns-in-Err-put_events-clause-reached
+returns-in-Err-put_events-clause-reached g c texts text tells =
+    let start = drains c.args.port_sinks.now c.args.underlay_sink.now (g.W.Output.written c.args.decisions.now) (g.W.Output.failures c.args.decisions.now) in
+    let many = c.requires.sinks ∙ tells_texts c.args.ports.now c.args.underlay.now texts text tells in
+    let begun = drains c.begin_all.new.port_sinks c.begin_all.new.underlay_sink (g.W.Output.written c.args.decisions.now) (g.W.Output.failures c.args.decisions.now) in
+    let at : StandAt start begun (empty_outputs (length texts)) = subst (λ n. StandAt start begun (empty_outputs n)) many (c.in_default-begin_all.ensures start (g.W.Output.written c.args.decisions.now) (g.W.Output.failures c.args.decisions.now) (none_at start (length c.args.port_sinks.now) refl)) in
+    let as_many : length c.open_all.new.ports ≡ length c.args.ports.now = omega (arith, c.open_all.auto.ports) in
+    let opened = opened_read c.args.ports.now c.open_all.new.ports c.args.underlay.now c.open_all.new.underlay texts text tells as_many c.in_default-open_all.ensures.opened in
+    let turns : c.as_mut_slice.result.now ≡ _ = c.as_mut_slice.ensures.value ∙ c.in-Ok.ensures ∙ ap (λ n. first_turns c.args.changes.now (n + 1)) (sym as_many) in
+    let lent : c.as_mut_slice-2.result.now ≡ c.fetch_all.new.turns = c.as_mut_slice-2.ensures.value ∙ lent_back c.fetch_all.new.turns c.in-Ok.turns.items c.in-Ok.turns.len (omega (arith, c.fetch_all.auto.turns, c.as_mut_slice.ensures.len)) in
+    let ready = subst (λ ts. AreReady c.args.changes.now (run_at c.fetch_all.new.ports c.fetch_all.new.underlay ts (state_of c.in-Ok-open.endpoint) 0 begun)) (sym lent)
+    (c.in_default-fetch_all.ensures.ready (state_of c.in-Ok-open.endpoint) begun (ap (λ (s : State). s.moment) c.in-Ok-open.ensures)
+    (ready_begun c.args.changes.now c.open_all.new.ports c.open_all.new.underlay c.args.settings (state_of c.in-Ok-open.endpoint) begun _ c.requires.timely (omega (arith, as_many, c.requires.few)) (as_many ∙ c.requires.ports) c.in-Ok-open.ensures turns)) in
+    let read = subst (λ ts. AreRead (texts_octets texts) text ts c.fetch_all.new.ports c.fetch_all.new.underlay) (sym lent) (c.in_default-fetch_all.ensures.told (texts_octets texts) text opened) in
+    reach_run c.args.segments.now c.args.settings c.args.changes.now texts text start c.fetch_all.new.ports c.fetch_all.new.underlay c.as_mut_slice-2.result.now (state_of c.in-Ok-open.endpoint) begun _ ready read at c.in-Ok-open.ensures
+    c.in-Err-put_events.fault c.in-Err-put_events.ensures.run
+
+pub returns-in-Ok-put_cuts_among-clause-reached : goal.returns-in-Ok-put_cuts_among-clause-reached
+returns-in-Ok-put_cuts_among-clause-reached g c texts text tells =
+    let start = drains c.args.port_sinks.now c.args.underlay_sink.now (g.W.Output.written c.args.decisions.now) (g.W.Output.failures c.args.decisions.now) in
+    let many = c.requires.sinks ∙ tells_texts c.args.ports.now c.args.underlay.now texts text tells in
+    let begun = drains c.begin_all.new.port_sinks c.begin_all.new.underlay_sink (g.W.Output.written c.args.decisions.now) (g.W.Output.failures c.args.decisions.now) in
+    let cut = drains c.put_events.new.port_sinks c.put_events.new.underlay_sink (g.W.Output.written c.put_cuts_among.new.decisions) (g.W.Output.failures c.put_cuts_among.new.decisions) in
+    let at : StandAt start begun (empty_outputs (length texts)) = subst (λ n. StandAt start begun (empty_outputs n)) many (c.in_default-begin_all.ensures start (g.W.Output.written c.args.decisions.now) (g.W.Output.failures c.args.decisions.now) (none_at start (length c.args.port_sinks.now) refl)) in
+    let as_many : length c.open_all.new.ports ≡ length c.args.ports.now = omega (arith, c.open_all.auto.ports) in
+    let opened = opened_read c.args.ports.now c.open_all.new.ports c.args.underlay.now c.open_all.new.underlay texts text tells as_many c.in_default-open_all.ensures.opened in
+    let turns : c.as_mut_slice.result.now ≡ _ = c.as_mut_slice.ensures.value ∙ c.in-Ok.ensures ∙ ap (λ n. first_turns c.args.changes.now (n + 1)) (sym as_many) in
+    let lent : c.as_mut_slice-2.result.now ≡ c.fetch_all.new.turns = c.as_mut_slice-2.ensures.value ∙ lent_back c.fetch_all.new.turns c.in-Ok.turns.items c.in-Ok.turns.len (omega (arith, c.fetch_all.auto.turns, c.as_mut_slice.ensures.len)) in
+    let ready = subst (λ ts. AreReady c.args.changes.now (run_at c.fetch_all.new.ports c.fetch_all.new.underlay ts (state_of c.in-Ok-open.endpoint) 0 begun)) (sym lent)
+    (c.in_default-fetch_all.ensures.ready (state_of c.in-Ok-open.endpoint) begun (ap (λ (s : State). s.moment) c.in-Ok-open.ensures)
+    (ready_begun c.args.changes.now c.open_all.new.ports c.open_all.new.underlay c.args.settings (state_of c.in-Ok-open.endpoint) begun _ c.requires.timely (omega (arith, as_many, c.requires.few)) (as_many ∙ c.requires.ports) c.in-Ok-open.ensures turns)) in
+    let read = subst (λ ts. AreRead (texts_octets texts) text ts c.fetch_all.new.ports c.fetch_all.new.underlay) (sym lent) (c.in_default-fetch_all.ensures.told (texts_octets texts) text opened) in
+    let run = c.in_default-put_events.ensures.run in
+    reach_whole c.args.segments.now c.args.settings c.args.changes.now texts text start c.fetch_all.new.ports c.fetch_all.new.underlay c.as_mut_slice-2.result.now (state_of c.in-Ok-open.endpoint) begun _ ready read at c.in-Ok-open.ensures
+    cut run
+
+pub returns-clause-reached : goal.returns-clause-reached
+returns-clause-reached g c texts text tells =
+    let start = drains c.args.port_sinks.now c.args.underlay_sink.now (g.W.Output.written c.args.decisions.now) (g.W.Output.failures c.args.decisions.now) in
+    let many = c.requires.sinks ∙ tells_texts c.args.ports.now c.args.underlay.now texts text tells in
+    let begun = drains c.begin_all.new.port_sinks c.begin_all.new.underlay_sink (g.W.Output.written c.args.decisions.now) (g.W.Output.failures c.args.decisions.now) in
+    let cut = drains c.put_events.new.port_sinks c.put_events.new.underlay_sink (g.W.Output.written c.put_cuts_among.new.decisions) (g.W.Output.failures c.put_cuts_among.new.decisions) in
+    let at : StandAt start begun (empty_outputs (length texts)) = subst (λ n. StandAt start begun (empty_outputs n)) many (c.in_default-begin_all.ensures start (g.W.Output.written c.args.decisions.now) (g.W.Output.failures c.args.decisions.now) (none_at start (length c.args.port_sinks.now) refl)) in
+    let as_many : length c.open_all.new.ports ≡ length c.args.ports.now = omega (arith, c.open_all.auto.ports) in
+    let opened = opened_read c.args.ports.now c.open_all.new.ports c.args.underlay.now c.open_all.new.underlay texts text tells as_many c.in_default-open_all.ensures.opened in
+    let turns : c.as_mut_slice.result.now ≡ _ = c.as_mut_slice.ensures.value ∙ c.in-Ok.ensures ∙ ap (λ n. first_turns c.args.changes.now (n + 1)) (sym as_many) in
+    let lent : c.as_mut_slice-2.result.now ≡ c.fetch_all.new.turns = c.as_mut_slice-2.ensures.value ∙ lent_back c.fetch_all.new.turns c.in-Ok.turns.items c.in-Ok.turns.len (omega (arith, c.fetch_all.auto.turns, c.as_mut_slice.ensures.len)) in
+    let ready = subst (λ ts. AreReady c.args.changes.now (run_at c.fetch_all.new.ports c.fetch_all.new.underlay ts (state_of c.in-Ok-open.endpoint) 0 begun)) (sym lent)
+    (c.in_default-fetch_all.ensures.ready (state_of c.in-Ok-open.endpoint) begun (ap (λ (s : State). s.moment) c.in-Ok-open.ensures)
+    (ready_begun c.args.changes.now c.open_all.new.ports c.open_all.new.underlay c.args.settings (state_of c.in-Ok-open.endpoint) begun _ c.requires.timely (omega (arith, as_many, c.requires.few)) (as_many ∙ c.requires.ports) c.in-Ok-open.ensures turns)) in
+    let read = subst (λ ts. AreRead (texts_octets texts) text ts c.fetch_all.new.ports c.fetch_all.new.underlay) (sym lent) (c.in_default-fetch_all.ensures.told (texts_octets texts) text opened) in
+    let run = c.in_default-put_events.ensures.run in
+    let o = texts_behind c.args.segments.now c.args.changes.now (state_of c.in-Ok-open.endpoint) (empty_outputs (length texts)) run.es in
+    let back : c.as_slice.result.now ≡ c.put_events.new.turns = c.as_slice.ensures.value ∙ lent_back c.put_events.new.turns _ c.in-Ok.turns.len (omega (arith, c.put_events.auto.turns, c.as_mut_slice-2.ensures.len)) in
+    let lead = c.in-Err-put_cuts_among.ensures start o c.put_events.new.port_sinks c.put_events.new.underlay_sink (run.outputs start (empty_outputs (length texts)) at) in
+    reach_lines c.args.segments.now c.args.settings c.args.changes.now texts text start c.fetch_all.new.ports c.fetch_all.new.underlay c.as_mut_slice-2.result.now (state_of c.in-Ok-open.endpoint) begun _ ready read at c.in-Ok-open.ensures
     cut c.in-Err-put_cuts_among.target run (subst (λ ts. StandBetween start cut o (with_cuts o (cuts_among c.args.segments.now (cuts_at c.put_events.new.ports c.put_events.new.underlay ts))) × FailedAt c.in-Err-put_cuts_among.target start cut) back lead)
 
 -- ---- by who looks on

@@ -1,4 +1,4 @@
-use Rattle.std.proofs.Common.{◌≡◌, true, false, ◌∙◌, ap, sym, subst, refl, inl, ◌+◌}
+use Rattle.std.proofs.Common.{◌≡◌, true, false, ◌∙◌, ap, sym, subst, refl, inl, ◌+◌, ℕ}
 use Rattle.timeline.specs.declared.event.Event.{Event}
 use Rattle.timeline.specs.declared.event.Happening.TheVariants as happenings
 use Rattle.overlay_settings.specs.declared.change.Change.{Change}
@@ -9,12 +9,12 @@ use Rattle.segment_set.specs.Segments.{holds}
 use Rattle.capture_run.specs.Outputs.{event_of, named_by}
 use Rattle.stream_run.specs.Steps.{changes_of}
 use Rattle.stream_run.proofs.Amidst.{put_at_line}
-use Rattle.stream_run.proofs.Taking.{after_not_told, after_told, not_seen, puts_nothing, puts_told, seen_told}
+use Rattle.stream_run.proofs.Taking.{after_not_told, after_told, puts_nothing, puts_told, seen_told, seen_untold}
 use Rattle.endpoint_core.specs.Kept.{state_of}
 use Rattle.endpoint_core.specs.Step.{after, answer}
 use Rattle.capture_run.specs.Writing.{with_input}
 use Rattle.capture_run.proofs.Changes.{change_there}
-use Rattle.stream_run.specs.Sights.{answered, due}
+use Rattle.stream_run.specs.Sights.{answered, due, untold}
 use Rattle.stream_run.specs.Stage.{Lead, drains}
 use Rattle.stream_run.proofs.take.take_change_at.Goals as goal
 
@@ -34,7 +34,8 @@ returns-then-not-has-clause-taken g c ports underlay port_sinks underlay_sink =
         outputs = λ start o at. puts_nothing c.args.segments.now s asked c.args.desk.now.number (named_by (changes_of c.args.changes.now) e.happening) e start _ o away at;
         order = λ start o at. tt;
       };
-      seen = not_seen c.args.segments.now s asked g.T.Watch.sees c.args.desk.now.number e c.args.watch.now away;
+      seen = seen_untold c.args.segments.now s asked g.T.Watch.sees c.args.desk.now.number e c.args.watch.now c.pass_over.new.self away
+          (subst (λ (n : ℕ). g.T.Watch.sees c.args.watch.now (untold (due s n e)) c.pass_over.new.self) c.value.ensures c.pass_over.ensures);
     }
 
 pub returns-clause-taken : goal.returns-clause-taken

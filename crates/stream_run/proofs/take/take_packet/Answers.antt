@@ -1,4 +1,4 @@
-use Rattle.std.proofs.Common.{◌≡◌, ◌∙◌, ◌+◌, sym, ap, subst, None, true, false}
+use Rattle.std.proofs.Common.{◌≡◌, ◌∙◌, ◌+◌, sym, ap, subst, None, true, false, ℕ}
 use Rattle.frame_view.specs.declared.reason.Refused.{Refused}
 use Rattle.std.proofs.Common.{Result}
 use Rattle.segment_set.specs.Segments.{holds}
@@ -15,10 +15,10 @@ use Rattle.endpoint_core.specs.Kept.{state_of}
 use Rattle.endpoint_core.specs.Step.{Decided, after_coming, answer, decided}
 use Rattle.capture_run.specs.Writing.{with_input}
 use Rattle.stream_run.specs.Amidst.{PutsInOrder}
-use Rattle.stream_run.specs.Sights.{answered, due}
+use Rattle.stream_run.specs.Sights.{answered, due, untold}
 use Rattle.stream_run.specs.Stage.{Lead, drains}
 use Rattle.stream_run.specs.Steps.{record_event}
-use Rattle.stream_run.proofs.Taking.{after_not_told, after_told, not_seen, puts_nothing, puts_told, seen_told}
+use Rattle.stream_run.proofs.Taking.{after_not_told, after_told, puts_nothing, puts_told, seen_told, seen_untold}
 use Rattle.stream_run.proofs.take.take_packet.Goals as goal
 
 pub returns-then-not-has-clause-state : goal.returns-then-not-has-clause-state
@@ -43,7 +43,10 @@ returns-then-not-has-clause-seen g c r told =
     let same : c.unwrap-record.result ≡ r = cc (c.unwrap-record.ensures, c.head.ensures.record, told) in
     let came = c.frame_in-brought.ensures.value ∙ ap (λ (r : Record). came_by (state_of c.args.endpoint.now).bridges.settings.overlay r.original r.octets) (c.record.view_is ∙ same) in
     let away : is_told c.args.segments.now s (packet_at c.args.moment r.original r.octets) ≡ false = sym (ap (λ (r : Result Came Refused). holds c.args.segments.now (segment_of r)) came) ∙ sym (ap (holds c.args.segments.now) c.segment_of.ensures) ∙ sym c.has.ensures ∙ c.if-not-has.true in
-    not_seen c.args.segments.now s (packet_at c.args.moment r.original r.octets) g.T.Watch.sees c.args.desk.now.number (record_event Underlay c.args.count c.args.moment r) c.args.watch.now away
+    let e : Event = record { moment = c.args.moment; number = c.args.count + 1; happening = happenings.Record Underlay (record { original = c.record.inside.original; octets = c.record.inside.octets.now }) } in
+    seen_untold c.args.segments.now s (packet_at c.args.moment r.original r.octets) g.T.Watch.sees c.args.desk.now.number (record_event Underlay c.args.count c.args.moment r) c.args.watch.now c.pass_over.new.self away
+    (subst (λ (q : Record). g.T.Watch.sees c.args.watch.now (untold (due s c.args.desk.now.number (record_event Underlay c.args.count c.args.moment q))) c.pass_over.new.self) (c.record.view_is ∙ same)
+    (subst (λ (n : ℕ). g.T.Watch.sees c.args.watch.now (untold (due s n e)) c.pass_over.new.self) c.value.ensures c.pass_over.ensures))
 
 pub returns-clause-state : goal.returns-clause-state
 returns-clause-state g c r told =

@@ -1,0 +1,137 @@
+//! What the parts of a run told, as the whole run tells it.
+use crate::outputs::path_of;
+use crate::parts::open_part_file;
+use dissector::{Failure, OutputFile, ShardFailure, read_text};
+use part_counts::{ReportFault, Summary};
+use part_tables::{TablesFault, rows_in, tables_of};
+use segment_set::SegmentSet;
+use std::alloc::AllocError;
+use std::fs;
+use std::io::ErrorKind;
+use std::rt::Files;
+
+/// How many reads are made of a text that a part left, at most.
+const TEXT_READS: u64 = 4_294_967_296;
+
+/// What is asked for of parts besides the outputs.
+#[derive(Clone, Copy)]
+pub struct TextsAsked {
+    /// The tables at the end.
+    pub tables: bool,
+    /// What was counted.
+    pub summary: bool,
+}
+
+/// What the whole run tells besides its outputs; empty, where it isn't asked for.
+#[derive(Drop)]
+pub struct MergedTexts {
+    pub tables: Vec<u8>,
+    pub summary: Vec<u8>,
+}
+
+/// What the parts in these folders, of these segments each, told of a run on so many ports, put together.
+pub fn merge_texts<'a, R: Files + AllocGlobal>(
+    rt: &R,
+    folders: &[&'a str],
+    segments: &[SegmentSet],
+    ports: u8,
+    asked: TextsAsked,
+) -> Result<MergedTexts, Failure<'a>> {
+    let tables = if asked.tables {
+        match merge_tables(rt, folders, segments) {
+            Ok(text) => text,
+            Err(failure) => return Err(failure),
+        }
+    } else {
+        Vec::new(rt.alloc())
+    };
+    let summary = if asked.summary {
+        match merge_summaries(rt, folders, ports) {
+            Ok(text) => text,
+            Err(failure) => return Err(failure),
+        }
+    } else {
+        Vec::new(rt.alloc())
+    };
+    Ok(MergedTexts { tables, summary })
+}
+
+/// The tables of all parts.
+fn merge_tables<'a, R: Files + AllocGlobal>(
+    rt: &R,
+    folders: &[&'a str],
+    segments: &[SegmentSet],
+) -> Result<Vec<u8>, Failure<'a>> {
+    let mut texts = Vec::new(rt.alloc());
+    for folder in folders {
+        let text = match read_left(rt, *folder, OutputFile::Tables) {
+            Ok(text) => text,
+            Err(failure) => return Err(failure),
+        };
+        if texts.push(text).is_err() {
+            return Err(Failure::from(AllocError));
+        }
+    }
+    let mut rows = Vec::new(rt.alloc());
+    for ((folder, text), segments) in folders.iter().zip(&texts).zip(segments) {
+        let more = match rows_in(rt.alloc(), text.as_slice(), segments) {
+            Ok(more) => more,
+            Err(TablesFault::OutOfMemory) => return Err(Failure::from(AllocError)),
+            Err(TablesFault::Line(line)) => {
+                return Err(wrong_line(*folder, OutputFile::Tables, line));
+            }
+        };
+        rows.extend_from_slice(more.as_slice())?;
+    }
+    Ok(tables_of(rt.alloc(), rows.as_slice())?)
+}
+
+/// The counts of all parts.
+fn merge_summaries<'a, R: Files + AllocGlobal>(
+    rt: &R,
+    folders: &[&'a str],
+    ports: u8,
+) -> Result<Vec<u8>, Failure<'a>> {
+    let mut all = Summary::none(rt.alloc())?;
+    for folder in folders {
+        let text = match read_left(rt, *folder, OutputFile::Summary) {
+            Ok(text) => text,
+            Err(failure) => return Err(failure),
+        };
+        match Summary::read(rt.alloc(), text.as_slice(), ports) {
+            Ok(summary) => all.add(&summary)?,
+            Err(ReportFault::OutOfMemory) => return Err(Failure::from(AllocError)),
+            Err(ReportFault::Line(line)) => {
+                return Err(wrong_line(*folder, OutputFile::Summary, line));
+            }
+        }
+    }
+    Ok(all.to_text(rt.alloc(), ports)?)
+}
+
+/// A text that the part in this folder left.
+fn read_left<'a, R: Files + AllocGlobal>(
+    rt: &R,
+    folder: &'a str,
+    output: OutputFile,
+) -> Result<Vec<u8>, Failure<'a>> {
+    let path = path_of(rt.alloc(), folder, output)?;
+    if let Err(error) = fs::metadata(rt, path.as_path()) {
+        if error.kind() == ErrorKind::NotFound {
+            return Err(Failure::Shard(folder, ShardFailure::Lacks(output)));
+        }
+    }
+    let mut input = match open_part_file(rt, folder, output) {
+        Ok(input) => input,
+        Err(failure) => return Err(failure),
+    };
+    match read_text(rt.alloc(), &mut input, TEXT_READS) {
+        Ok(text) => Ok(text),
+        Err(fault) => Err(Failure::reading(folder, fault)),
+    }
+}
+
+/// That this line of a text which the part in this folder left isn't what stands there in such a text.
+fn wrong_line<'a>(folder: &'a str, output: OutputFile, line: usize) -> Failure<'a> {
+    Failure::Shard(folder, ShardFailure::Report(output, line))
+}

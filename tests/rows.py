@@ -70,13 +70,17 @@ class Row:
             self.events[tap] = self.events.get(tap, 0) + 1
             self.last = f"{tap}:{self.events[tap]}"
 
+    def settings_text(self):
+        """The settings, migrated where that is asked for."""
+        if not self.is_migrated:
+            return self.settings
+        return runs.ends(["migrate", "-s", "/dev/stdin"], self.settings.encode()).stdout.decode()
+
     def faults(self):
         """What the run does otherwise than it is told."""
-        settings = self.settings
-        if self.is_migrated:
-            settings = runs.ends(["migrate", "-s", "/dev/stdin"], settings.encode()).stdout.decode()
-            if not settings.startswith("version = 2\n"):
-                yield f"migrated:\n{settings}"
+        settings = self.settings_text()
+        if self.is_migrated and not settings.startswith("version = 2\n"):
+            yield f"migrated:\n{settings}"
         words = self.words + [word for event in self.why for word in ("--why", event)]
         run = runs.Run(settings, self.changes, self.comes, words)
         if run.stdout.splitlines() != self.prints:
@@ -132,4 +136,5 @@ def main():
     return 1 if wrong else 0
 
 
-sys.exit(main())
+if __name__ == "__main__":
+    sys.exit(main())

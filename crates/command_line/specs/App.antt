@@ -218,6 +218,7 @@ abbrev pub digest_shape : Shape
 digest_shape = digest_app.top
 
 -- `merge` with the folder that it writes into and those of the parts
+-- `merge` with its folders
 abbrev pub merge_folders_app : App
 merge_folders_app = with_rule (with_rule (new_app (codes "merge")) out_rule) shards_rule
 

@@ -7,6 +7,7 @@ use Rattle.run_counts.specs.Keeping.{flow_in, refusals_in}
 use Rattle.run_counts.specs.declared.flow.Flows.{Flows}
 use Rattle.part_counts.specs.Told.{Told}
 
+-- the counts as they are kept
 pub record Kept : Type 0 where
   pub counts : List ℕ
   -- by the numbers of the causes
@@ -20,6 +21,7 @@ abbrev pub is_row : Option ℕ → Bool
 is_row None = true
 is_row (Some vid) = nat_le 1 vid && nat_le vid 4094
 
+-- its row, which is its VID; that of none is 0
 abbrev pub row_of : Option ℕ → ℕ
 row_of None = 0
 row_of (Some vid) = vid
@@ -32,9 +34,11 @@ is_kept segment number = nat_lt number 41 && is_row segment
 abbrev pub index_of : Option ℕ → ℕ → ℕ
 index_of segment number = row_of segment * 41 + number
 
+-- how often each thing was decided, by the counts that are kept
 abbrev pub count_in : List ℕ → Counts
 count_in counts = λ segment number. if is_kept segment number then slice_index_or counts (index_of segment number) 0 else 0
 
+-- what they tell
 abbrev pub told_in : Kept → Told
 told_in k = record {
   counts = count_in k.counts;

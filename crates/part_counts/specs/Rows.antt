@@ -25,6 +25,7 @@ use Rattle.part_counts.specs.declared.row.Row.TheVariants.{Count, Refused, Came,
 abbrev pub byte_of : ℕ → Option ℕ
 byte_of number = if nat_lt number 256 then Some number else None
 
+-- that of a word
 abbrev pub small : List ℕ → Option ℕ
 small text = option_and_then byte_of (number_of text)
 
@@ -33,6 +34,7 @@ abbrev pub tap_of : List ℕ → Option Tap
 tap_of [] = None
 tap_of (c ∷ cs) = if c == 112 then option_and_then (λ port. Some (Port port)) (small cs) else Some Underlay
 
+-- a number that is a VID (IEEE 802.1Q, 9.6)
 abbrev pub vid_of : ℕ → Option ℕ
 vid_of number = if nat_le 1 number && nat_le number 4094 then Some number else None
 
@@ -76,6 +78,7 @@ flow_in text =
 abbrev pub cut_in : List ℕ → Option Row
 cut_in text = option_and_then (λ tap. Some (Cut tap)) (tap_of (word text))
 
+-- what a line tells, by its first word
 unfoldable pub row_in : List ℕ → Option Row
 row_in line =
     if is_same (word line) (codes "segment") then count_in (behind line)
@@ -89,6 +92,7 @@ abbrev pub rows_from : List ℕ → List ℕ → List Row
 rows_from line [] = []
 rows_from line (c ∷ cs) = if c == 10 then option_to_list (row_in line) ++ rows_from [] cs else rows_from (line ++ c ∷ []) cs
 
+-- those of a whole text
 abbrev pub rows_of : List ℕ → List Row
 rows_of text = rows_from [] text
 

@@ -73,6 +73,7 @@ nothing = record {
 abbrev pub sum_of : ℕ → ℕ → ℕ
 sum_of m n = min most (m + n)
 
+-- what passed at places, and the refused changes, of both
 abbrev pub totals_with : Totals → Totals → Totals
 totals_with a b = record {
   came = λ tap. flow_with (a.came tap) (b.came tap);

@@ -111,8 +111,8 @@ fn put_course(
     ensures number { desk.new.number ≡ desk.old.number }
 {
     match course {
-        Course::Dropped(refused) => desk.line.write_drop(&desk.number, event, *refused),
-        Course::Leaves(came) => put_leaving(outputs, endpoint, desk, event, came)?,
+        Err(refused) => desk.line.write_drop(&desk.number, event, *refused),
+        Ok(came) => put_leaving(outputs, endpoint, desk, event, came)?,
     }
     outputs.put_line(desk.line.text())
 }

@@ -47,8 +47,8 @@ impl Desk {
         ensures number { self.new.number ≡ self.old.number }
     {
         match course {
-            Course::Dropped(refused) => self.line.write_drop(&self.number, event, *refused),
-            Course::Leaves(came) => {
+            Err(refused) => self.line.write_drop(&self.number, event, *refused),
+            Ok(came) => {
                 self.line.begin(&self.number, event, Some(came.segment()));
                 self.line
                     .put_outcomes(endpoint, came, self.places.as_slice(), &mut self.head);

@@ -5,12 +5,10 @@ use Rattle.std.specs.Prelude.{slice_index_or}
 use Rattle.frame_view.specs.declared.reason.Refused.{Refused}
 use Rattle.filter_db.specs.declared.place.Place.{Place}
 use Rattle.endpoint_state.specs.Settings.{Settings}
-use Rattle.endpoint_core.specs.declared.course.Course.{Course}
-use Rattle.endpoint_core.specs.declared.course.Course.TheVariants.{Dropped, Leaves}
 use Rattle.endpoint_core.specs.declared.decision.Outcome.{Outcome}
 use Rattle.endpoint_core.specs.Arrival.{emitted_parts}
 use Rattle.endpoint_core.specs.Came.{Came}
-use Rattle.endpoint_core.specs.Course.{AreInParts, IsOfWhatCame, outcomes_of}
+use Rattle.endpoint_core.specs.Course.{AreInParts, Course, IsOfWhatCame, outcomes_of}
 use Rattle.endpoint_core.specs.Step.{outcome_at}
 
 same_Ok : (x y : Came) → ◌≡◌ {A = Result Came Refused} (Ok x) (Ok y) → x ≡ y
@@ -21,10 +19,10 @@ Leaving S x o = o.sent ≡ emitted_parts S.ports S.overlay x.vid x.frame o.place
 
 pub in-parts : (S : Settings) (came : Result Came Refused) (course : Course) (places : List Place) (outcomes : List Outcome)
     → IsOfWhatCame came course → outcomes ≡ outcomes_of S course places → AreInParts S came outcomes
-in-parts S (Ok x) (Dropped refused) places outcomes of is = All-same (Leaving S x) outcomes [] is (All-nil (Leaving S x))
-in-parts S (Ok x) (Leaves y) places outcomes of is =
+in-parts S (Ok x) (Err refused) places outcomes of is = All-same (Leaving S x) outcomes [] is (All-nil (Leaving S x))
+in-parts S (Ok x) (Ok y) places outcomes of is =
     All-same (Leaving S x) outcomes (map (outcome_at S y.vid y.frame) places) is
     (All-map (Leaving S x) (outcome_at S y.vid y.frame) places
     (λ k d l. ap (λ (z : Came). emitted_parts S.ports S.overlay z.vid z.frame (slice_index_or places k d)) (sym (same_Ok x y of))))
-in-parts S (Err refused) (Dropped other) places outcomes of is = is
-in-parts S (Err refused) (Leaves y) places outcomes of is = absurd cc
+in-parts S (Err refused) (Err other) places outcomes of is = is
+in-parts S (Err refused) (Ok y) places outcomes of is = absurd cc

@@ -74,8 +74,8 @@ impl Counts {
         ensures { count_in self.new ≡ counted (count_in self.old) (decision_of (settings_of state.now) course.now places.now) }
     {
         match course {
-            Course::Dropped(refused) => self.add(refused.segment, refused.reason.number()),
-            Course::Leaves(came) => self.tally_places(state, came.vid, &came.frame, places),
+            Err(refused) => self.add(refused.segment, refused.reason.number()),
+            Ok(came) => self.tally_places(state, came.vid, &came.frame, places),
         }
     }
 

@@ -2,11 +2,5 @@
 use crate::arrival::Came;
 use frame_view::Refused;
 
-/// Where a frame or a packet goes: nowhere, or to the places that were put in a list.
-#[derive(Debug, Drop)]
-pub enum Course<'a> {
-    /// Nowhere, for this reason.
-    Dropped(Refused),
-    /// To each place of the list.
-    Leaves(Came<'a>),
-}
+/// Where a frame or a packet goes: to each place that was put in a list, or nowhere, for this reason.
+pub type Course<'a> = Result<Came<'a>, Refused>;

@@ -1,10 +1,10 @@
 //! Where a frame or a packet goes.
-ghost use Rattle.std.specs.Prelude.{◌≡◌, ◌≤◌, length, IfOk, IsSome, Ok, true};
+ghost use Rattle.std.specs.Prelude.{◌≡◌, ◌≤◌, length, IfOk, IsSome, true};
 ghost use Rattle.endpoint_state.specs.Held.{settings_of, state_at, moment_of};
 ghost use Rattle.endpoint_state.specs.Settings.{segment_at};
 ghost use Rattle.endpoint_state.specs.Sound.{is_reached};
 ghost use Rattle.endpoint_state.specs.Step.{after_frame};
-ghost use Rattle.endpoint_core.specs.Course.{decision_of, IsThere, IsShortFrame, CanLeave, IsEmptied, IsOfWhatCame};
+ghost use Rattle.endpoint_core.specs.Course.{decision_of, course_of, IsThere, IsShortFrame, CanLeave, IsEmptied, IsOfWhatCame};
 ghost use Rattle.endpoint_core.specs.Step.{decided, decided_in, after_came};
 
 use crate::Course;
@@ -13,61 +13,63 @@ use endpoint_state::EndpointState;
 use frame_view::Refused;
 use tunnel_learning::Outlets;
 
-/// Where a frame or a packet goes at a moment that came to a segment, or to none.
+/// Turns what came to a segment at a moment, or to none, into where it goes.
 pub(crate) fn decide<'a>(
     state: &mut EndpointState,
     now: u64,
-    came: Result<Came<'a>, Refused>,
+    course: &mut Course<'a>,
     places: &mut Outlets,
-) -> Course<'a>
+)
     requires time { moment_of state.old ≤ now }
-    requires there { IfOk came (λ x. IsSome (segment_at (settings_of state.old) x.vid)) }
-    requires short { IfOk came (λ x. length x.frame.body ≤ 65549) }
-    requires reached { IfOk came (λ x. is_reached (settings_of state.old).overlay x.vid x.from ≡ true) }
-    ensures decision { decision_of (settings_of state.new) result places.new.items ≡ decided now (state_at now state.old) came.entry }
-    ensures after { state_at now state.new ≡ after_came now (state_at now state.old) came.entry }
-    ensures there { IsThere (settings_of state.new) result }
-    ensures short { IsShortFrame result }
-    ensures leave { CanLeave (settings_of state.new) result places.new.items }
-    ensures empty { IsEmptied result places.new.items }
-    ensures came { IsOfWhatCame came.entry result }
+    requires there { IfOk course.old (λ x. IsSome (segment_at (settings_of state.old) x.vid)) }
+    requires short { IfOk course.old (λ x. length x.frame.body ≤ 65549) }
+    requires reached { IfOk course.old (λ x. is_reached (settings_of state.old).overlay x.vid x.from ≡ true) }
+    ensures decision { decision_of (settings_of state.new) course.new places.new.items ≡ decided now (state_at now state.old) course.old }
+    ensures after { state_at now state.new ≡ after_came now (state_at now state.old) course.old }
+    ensures there { IsThere (settings_of state.new) course.new }
+    ensures short { IsShortFrame course.new }
+    ensures leave { CanLeave (settings_of state.new) course.new places.new.items }
+    ensures empty { IsEmptied course.new places.new.items }
+    ensures came { IsOfWhatCame course.old course.new }
     ensures time { moment_of state.new ≤ now }
 {
-    match came {
+    let forwarded = match course {
         Ok(came) => forward(state, now, came, places),
-        Err(refused) => {
+        Err(_) => {
             places.clear();
-            Course::Dropped(refused)
+            return;
         }
+    };
+    if let Err(refused) = forwarded {
+        *course = Err(refused);
     }
 }
 
-/// Where the bridge of its segment sends a frame.
-fn forward<'a>(
+/// Where the bridge of its segment sends a frame, or why nowhere.
+fn forward(
     state: &mut EndpointState,
     now: u64,
-    mut came: Came<'a>,
+    came: &mut Came,
     places: &mut Outlets,
-) -> Course<'a>
+) -> Result<(), Refused>
     requires time { moment_of state.old ≤ now }
-    requires there { IsSome (segment_at (settings_of state.old) came.vid) }
-    requires short { length came.frame.body ≤ 65549 }
-    requires reached { is_reached (settings_of state.old).overlay came.vid came.from ≡ true }
-    ensures decision { decision_of (settings_of state.new) result places.new.items ≡ decided_in now (state_at now state.old) came.entry }
-    ensures after { state_at now state.new ≡ after_frame now came.entry.vid came.entry.from came.entry.frame (state_at now state.old) }
-    ensures there { IsThere (settings_of state.new) result }
-    ensures short { IsShortFrame result }
-    ensures leave { CanLeave (settings_of state.new) result places.new.items }
-    ensures empty { IsEmptied result places.new.items }
-    ensures came { IsOfWhatCame (Ok came.entry) result }
+    requires there { IsSome (segment_at (settings_of state.old) came.old.vid) }
+    requires short { length came.old.frame.body ≤ 65549 }
+    requires reached { is_reached (settings_of state.old).overlay came.old.vid came.old.from ≡ true }
+    ensures decision { decision_of (settings_of state.new) (course_of result came.old) places.new.items ≡ decided_in now (state_at now state.old) came.old }
+    ensures after { state_at now state.new ≡ after_frame now came.old.vid came.old.from came.old.frame (state_at now state.old) }
+    ensures there { IsThere (settings_of state.new) (course_of result came.old) }
+    ensures leave { CanLeave (settings_of state.new) (course_of result came.old) places.new.items }
+    ensures empty { IsEmptied (course_of result came.old) places.new.items }
+    ensures came { came.new ≡ came.old }
     ensures time { moment_of state.new ≤ now }
 {
     match state.step(now, came.vid, came.from, &came.frame, places) {
         Ok(()) => {
             came.sum_for(places.as_slice(), state.under().settings());
-            Course::Leaves(came)
+            Ok(())
         }
-        Err(reason) => Course::Dropped(Refused {
+        Err(reason) => Err(Refused {
             segment: Some(came.vid),
             reason,
         }),

@@ -75,8 +75,8 @@ impl<'a> Decision<'a> {
         ensures parts { result.outcomes ≡ outcomes_of (settings_of state.now) course.now places.now }
     {
         match course {
-            Course::Dropped(refused) => Decision::refused(*refused),
-            Course::Leaves(came) => Decision::forwarded(state, came, places),
+            Err(refused) => Decision::refused(*refused),
+            Ok(came) => Decision::forwarded(state, came, places),
         }
     }
 

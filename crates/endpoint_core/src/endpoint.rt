@@ -24,7 +24,7 @@ use crate::{Course, Decision};
 use encapsulate::{Head, Leaving};
 use endpoint_state::{Change, ChangeFault, EndpointState};
 use filter_db::{Entry, Place};
-use frame_view::{Mac, Reason, Refused, Vid};
+use frame_view::{Mac, Reason, Vid};
 use overlay_settings::Settings;
 use std::alloc::{AllocError, Global};
 use std::marker::Model;
@@ -133,8 +133,9 @@ impl Endpoint {
         ensures came { let S = (state_of self.old).bridges.settings in
             IsOfWhatCame (came_at S.ports port original octets.now) result }
     {
-        let came = come_at(self.state.ports(), port, original, octets);
-        self.take(now, came, places)
+        let mut course = come_at(self.state.ports(), port, original, octets);
+        self.take(now, &mut course, places);
+        course
     }
 
     /// A packet of this original length came in from the underlay at a moment, in nanoseconds: where its frame goes, with
@@ -156,36 +157,31 @@ impl Endpoint {
         ensures came { let S = (state_of self.old).bridges.settings in
             IsOfWhatCame (came_by S.overlay original octets.now) result }
     {
-        let came = come_by(self.state.under(), original, octets);
-        self.take(now, came, places)
+        let mut course = come_by(self.state.under(), original, octets);
+        self.take(now, &mut course, places);
+        course
     }
 
     /// A frame or a packet came at a moment, in nanoseconds, to a segment or to none, as [`Endpoint::frame_from`] or
-    /// [`Endpoint::frame_in`] tells it of this endpoint: where it goes, with the places in a list that is written over, and
-    /// empty where it is dropped. `now` isn't before `self.now()`.
+    /// [`Endpoint::frame_in`] tells it of this endpoint. That is turned, where it lies, into where it goes, with the places in
+    /// a list that is written over, and empty where it is dropped. `now` isn't before `self.now()`.
     #[inline]
-    pub fn take<'a>(
-        &mut self,
-        now: u64,
-        came: Result<Came<'a>, Refused>,
-        places: &mut Outlets,
-    ) -> Course<'a>
+    pub fn take<'a>(&mut self, now: u64, course: &mut Course<'a>, places: &mut Outlets)
         requires moment { (state_of self.old).moment ≤ now }
-        requires there { IfOk came (λ x. IsSome (segment_at (state_of self.old).bridges.settings x.vid)) }
-        requires short { IfOk came (λ x. length x.frame.body ≤ 65549) }
-        requires reached { IfOk came (λ x. is_reached (state_of self.old).bridges.settings.overlay x.vid x.from ≡ true) }
-        ensures answer { decision_of (state_of self.new).bridges.settings result places.new.items ≡ decided now (aged now (state_of self.old).bridges) came.entry }
-        ensures after { state_of self.new ≡ after_coming now came.entry (state_of self.old) }
-        ensures there { IsThere (state_of self.new).bridges.settings result }
-        ensures short { IsShortFrame result }
-        ensures leave { CanLeave (state_of self.new).bridges.settings result places.new.items }
-        ensures empty { IsEmptied result places.new.items }
-        ensures came { IsOfWhatCame came.entry result }
+        requires there { IfOk course.old (λ x. IsSome (segment_at (state_of self.old).bridges.settings x.vid)) }
+        requires short { IfOk course.old (λ x. length x.frame.body ≤ 65549) }
+        requires reached { IfOk course.old (λ x. is_reached (state_of self.old).bridges.settings.overlay x.vid x.from ≡ true) }
+        ensures answer { decision_of (state_of self.new).bridges.settings course.new places.new.items ≡ decided now (aged now (state_of self.old).bridges) course.old }
+        ensures after { state_of self.new ≡ after_coming now course.old (state_of self.old) }
+        ensures there { IsThere (state_of self.new).bridges.settings course.new }
+        ensures short { IsShortFrame course.new }
+        ensures leave { CanLeave (state_of self.new).bridges.settings course.new places.new.items }
+        ensures empty { IsEmptied course.new places.new.items }
+        ensures came { IsOfWhatCame course.old course.new }
     {
-        let course = decide(&mut self.state, now, came, places);
-        self.counts.tally(&self.state, &course, places.as_slice());
+        decide(&mut self.state, now, course, places);
+        self.counts.tally(&self.state, course, places.as_slice());
         self.moment = now;
-        course
     }
 
     /// Time passes up to a moment, in nanoseconds: nothing is decided or learned, and nothing is counted. `now` isn't

@@ -133,7 +133,7 @@ impl RunCounts {
         requires leave { CanLeave (state_of endpoint.now).bridges.settings course.now places.now }
         ensures { Hears self.old (Decided (decision_of (state_of endpoint.now).bridges.settings course.now places.now)) self.new }
     {
-        if let Course::Leaves(came) = course {
+        if let Ok(came) = course {
             add_leaving(&mut self.left, &mut self.head, endpoint, came, places);
         }
     }

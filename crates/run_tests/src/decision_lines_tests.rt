@@ -2,7 +2,7 @@
 ghost use Rattle.std.specs.Prelude.{◌≤◌, ◌+◌, length};
 
 use decision_lines::{Counter, Desk, Line};
-use endpoint_core::{ChangeFault, Course, Endpoint, Head, Leaving, Outlets};
+use endpoint_core::{ChangeFault, Endpoint, Head, Leaving, Outlets};
 use filter_db::Place;
 use frame_view::{Reason, Refused, Vid};
 use ip_udp_view::{Addr, Tunnel};
@@ -263,7 +263,7 @@ fn writes_longest(line: &mut Line, endpoint: &mut Endpoint) -> bool {
     if endpoint.now() > SECOND || endpoint.ports() == 0 {
         return false;
     }
-    let Course::Leaves(came) = endpoint.take_frame(SECOND, 1, 60, &octets, &mut places) else {
+    let Ok(came) = endpoint.take_frame(SECOND, 1, 60, &octets, &mut places) else {
         return false;
     };
     for place in places.as_slice() {

@@ -1,8 +1,9 @@
 -- What an event and the fetch behind it tell of the octets of a run's captures.
-use Rattle.std.proofs.Common.{◌≡◌, ◌∙◌, refl, sym, ap, subst, ℕ, ◌+◌, ◌<◌, inl, inr, List, [], ◌∷◌, ◌++◌, length, length-append, drop, slice_index_or, slice_set, arith, Some, Result, Ok, Err}
+use Rattle.std.proofs.Common.{◌≡◌, ◌≢◌, ◌∙◌, refl, sym, ap, subst, ℕ, ◌+◌, ◌<◌, inl, inr, List, [], ◌∷◌, ◌++◌, length, length-append, drop, slice_index_or, slice_set, arith, Option, Some, Result, Ok, Err}
 use Rattle.std.proofs.lemmas.List.{length-set}
 use Rattle.pcap_io.specs.Record.{Record}
 use Rattle.pcap_stream.specs.Source.{Stream}
+use Rattle.pcap_stream.specs.declared.fault.SourceFault.{SourceFault}
 use Rattle.overlay_settings.specs.declared.change.TimedChange.{TimedChange}
 use Rattle.timeline.specs.declared.event.Event.{Event}
 use Rattle.timeline.specs.declared.source.Source.TheVariants as sources
@@ -11,10 +12,11 @@ use Rattle.timeline.specs.declared.source.Tap.TheVariants.{Port, Underlay}
 use Rattle.endpoint_core.specs.Step.{State}
 use Rattle.capture_run.specs.declared.fault.RunFault.TheVariants as faults
 use Rattle.stream_run.specs.Coming.{IsRecordBefore, coming, source_events}
-use Rattle.stream_run.specs.Fetched.{IsFetch, IsFetched, ReadsOne}
+use Rattle.stream_run.specs.Fault.{fault_of}
+use Rattle.stream_run.specs.Fetched.{IsFetch, IsFetched, ReadsOne, fetched}
 use Rattle.stream_run.specs.Read.{IsRead}
 use Rattle.stream_run.specs.Stage.{Drains}
-use Rattle.stream_run.specs.Steps.{AreRead, AreReady, Fetches, FetchesAt, IsAt, IsChangedAt, IsNextEvent, Run, StayBut, octets_at, run_at, source_at}
+use Rattle.stream_run.specs.Steps.{AreRead, AreReady, Fetches, FetchesAt, FetchesFrom, IsAt, IsChangedAt, IsNextEvent, Run, StayBut, octets_at, run_at, source_at}
 use Rattle.stream_run.specs.Turns.{IsFirst, IsLater, IsNoSooner}
 use Rattle.stream_run.specs.declared.fault.StreamFault.{StreamFault}
 use Rattle.stream_run.specs.declared.fault.StreamFault.TheVariants as stream
@@ -46,6 +48,22 @@ one_place n index (Port p) (Port q) at also = let same : p ≡ q = omega (arith,
 one_place n index (Port p) Underlay at also = absurd (omega (arith, at.0, at.2, also))
 one_place n index Underlay (Port q) at also = absurd (omega (arith, also.0, also.2, at))
 one_place n index Underlay Underlay at also = refl
+
+-- a fetch of the source that stands here, told of the source with its index
+pub fetches_from : (changes : List TimedChange) (index done latest : ℕ) (ports : List Stream) (underlay : Stream) (new : List Stream) (new_underlay : Stream) (place : Tap) (s : Stream) (next : Option ℕ) (result : Result (Unit {0}) SourceFault)
+    → IsAt (length ports) index place → IsChangedAt place ports underlay new new_underlay s → IsFetch (source_at ports underlay place) s place done latest (fetched place done next result)
+    → FetchesFrom changes index done latest ports underlay new new_underlay next result
+fetches_from changes index done latest ports underlay new new_underlay place s next (Ok x) at changed fetch = inr (place, s, at, changed, fetch)
+fetches_from changes index done latest ports underlay new new_underlay place s next (Err fault) at changed fetch = λ tap there.
+    let same : place ≡ tap = one_place (length ports) index place tap at (there (λ zero. never_change (length ports) place (subst (λ i. IsAt (length ports) i place) zero at))) in
+    subst (λ p. FetchesAt changes index done latest ports underlay new new_underlay (Err (fault_of p (done + 1) fault))) same (inr (place, s, at, changed, fetch))
+
+-- its fault, as it is told of the run
+pub fault_from : (changes : List TimedChange) (index done latest : ℕ) (ports : List Stream) (underlay : Stream) (new : List Stream) (new_underlay : Stream) (next : Option ℕ) (fault : SourceFault) (tap : Tap) (told : StreamFault) (n : ℕ)
+    → told ≡ fault_of tap (done + 1) fault → (index ≢ 0 → IsAt n index tap) → n ≡ length ports → FetchesFrom changes index done latest ports underlay new new_underlay next (Err fault)
+    → FetchesAt changes index done latest ports underlay new new_underlay (Err told)
+fault_from changes index done latest ports underlay new new_underlay next fault tap told n is at many from =
+    subst (λ f. FetchesAt changes index done latest ports underlay new new_underlay (Err f)) (sym is) (from tap (λ there. subst (λ m. IsAt m index tap) many (at there)))
 
 -- a fetch of a source that lent its next record
 told_by : (octets : List ℕ) (tap : Tap) (t : Turn) (old new : Stream) (latest : ℕ) (result : Result Turn StreamFault) → IsFetch old new tap (t.done + 1) latest result → IsRead octets t old → t.next ≡ Some latest

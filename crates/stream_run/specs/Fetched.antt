@@ -4,9 +4,11 @@ use Rattle.pcap_io.specs.Record.{Record, last_moment}
 use Rattle.pcap_stream.specs.InTurn.{IsReading}
 use Rattle.pcap_stream.specs.Source.{Standing, Stream, Open, lent}
 use Rattle.pcap_stream.specs.Supply.{GivesUp}
+use Rattle.pcap_stream.specs.declared.fault.SourceFault.{SourceFault}
 use Rattle.timeline.specs.Events.{greatest}
 use Rattle.timeline.specs.declared.source.Tap.{Tap}
 use Rattle.capture_run.specs.declared.fault.RunFault.TheVariants as faults
+use Rattle.stream_run.specs.Fault.{fault_of}
 use Rattle.stream_run.specs.Read.{IsFaulty, StandsBehind, failures_of}
 use Rattle.stream_run.specs.declared.fault.StreamFault.{StreamFault}
 use Rattle.stream_run.specs.declared.fault.StreamFault.TheVariants as stream
@@ -19,6 +21,11 @@ IsFetched octets rs tap new (Err (stream.Run (faults.Record place n fault))) = (
 IsFetched octets rs tap new (Err (stream.Run fault)) = ⊥
 IsFetched octets rs tap new (Err (stream.Read place)) = place ≡ tap
 IsFetched octets rs tap new (Err (stream.Write target)) = ⊥
+
+-- of a capture of which so many records came, where it stands now, or its fault as one of the run
+abbrev pub fetched : Tap → ℕ → Option ℕ → Result (Unit {0}) SourceFault → Result Turn StreamFault
+fetched tap done next (Ok x) = Ok (record { done = done; next = next })
+fetched tap done next (Err fault) = Err (fault_of tap (done + 1) fault)
 
 -- a source that can be asked for another record
 abbrev pub IsOpen : Standing → Type 0

@@ -8,6 +8,7 @@ use Rattle.std.specs.Prelude.{◌≡◌, ◌≢◌, if◌then◌else◌, ◌<◌
 use Rattle.pcap_io.specs.Record.{Record, last_moment}
 use Rattle.pcap_io.specs.declared.record.RecordFault.{RecordFault}
 use Rattle.pcap_stream.specs.Source.{Stream, lent}
+use Rattle.pcap_stream.specs.declared.fault.SourceFault.{SourceFault}
 use Rattle.overlay_settings.specs.declared.change.Change.{Change}
 use Rattle.overlay_settings.specs.declared.change.TimedChange.{TimedChange}
 use Rattle.timeline.specs.Order.{IsRising}
@@ -23,6 +24,7 @@ use Rattle.capture_run.specs.Among.{with_event_among, with_events_among}
 use Rattle.capture_run.specs.declared.fault.RunFault.TheVariants as faults
 use Rattle.stream_run.specs.Amidst.{PutsInOrder, StandsInEvent, StepsInOrder}
 use Rattle.stream_run.specs.Coming.{EndBefore, IsRecordBefore, NoneBehind, coming, records_among}
+use Rattle.stream_run.specs.Fault.{fault_of}
 use Rattle.stream_run.specs.Fetched.{IsFetch, IsMoment}
 use Rattle.capture_run.specs.Writing.{with_input}
 use Rattle.stream_run.specs.Sights.{Sight, answered, due, state_among, untold}
@@ -177,6 +179,13 @@ abbrev pub FetchesAt : List TimedChange → ℕ → ℕ → ℕ → List Stream 
 FetchesAt changes index done latest ports underlay new_ports new_underlay result =
     ((index ≡ 0) × (new_ports ≡ ports) × (new_underlay ≡ underlay) × (result ≡ Ok (record { done = done; next = moment_at changes done })))
     ⊎ ((place : Tap) × (s : Stream) × IsAt (length ports) index place × IsChangedAt place ports underlay new_ports new_underlay s × IsFetch (source_at ports underlay place) s place done latest result)
+
+-- the same of a source of which so many events came: when the next comes, if there is one, or its own fault
+abbrev pub FetchesFrom : List TimedChange → ℕ → ℕ → ℕ → List Stream → Stream → List Stream → Stream → Option ℕ → Result (Unit {0}) SourceFault → Type 0
+FetchesFrom changes index done latest ports underlay new_ports new_underlay next (Ok x) =
+    FetchesAt changes index done latest ports underlay new_ports new_underlay (Ok (record { done = done; next = next }))
+FetchesFrom changes index done latest ports underlay new_ports new_underlay next (Err fault) =
+    (tap : Tap) → (index ≢ 0 → IsAt (length ports) index tap) → FetchesAt changes index done latest ports underlay new_ports new_underlay (Err (fault_of tap (done + 1) fault))
 
 -- ---- a step
 

@@ -1,6 +1,7 @@
 -- Whose event comes next. It states no standard.
 --     Turn      where a source of events stands: how many of its events came, and the moment of the next one
-use Rattle.std.specs.Prelude.{◌≡◌, ◌<◌, ◌≤◌, ⊤, ℕ, List, slice_index_or, Option, Some, None}
+use Rattle.std.specs.Prelude.{◌≡◌, ◌<◌, ◌≤◌, ◌-◌, ◌^◌, ◌⊎◌, ⊤, ℕ, List, slice_index_or, Option, Some, None}
+use Rattle.pcap_io.specs.Record.{last_moment}
 use Rattle.stream_run.specs.declared.turn.First.{First}
 use Rattle.stream_run.specs.declared.turn.Turn.{Turn}
 
@@ -25,3 +26,7 @@ pub record IsFirst (turns : List Turn) (count : ℕ) (first : First) : Type 0 wh
 abbrev pub FindsFirst : List Turn → ℕ → Option First → Type 0
 FindsFirst turns count None = (t : Turn) (k : ℕ) → k < count → (slice_index_or turns k t).next ≡ None
 FindsFirst turns count (Some first) = IsFirst turns count first
+
+-- as it is found one source after another: until an event is found it stands at a moment that no event has
+abbrev pub IsFirstSoFar : List Turn → ℕ → First → Type 0
+IsFirstSoFar turns count first = ((first.moment ≡ 2 ^ 64 - 1) × FindsFirst turns count None) ⊎ ((first.moment ≤ last_moment) × IsFirst turns count first)

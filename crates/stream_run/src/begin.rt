@@ -10,8 +10,8 @@ ghost use Rattle.stream_run.specs.Read.{ReadsWith};
 ghost use Rattle.stream_run.specs.Stage.{Drains, Lead, StandAt, drains, no_texts};
 ghost use Rattle.stream_run.specs.Steps.{AreReady, IsAt, run_at, source_at};
 
-use crate::fault::{StreamFault, Target};
-use crate::fetch::{fetch_at, moment_of};
+use crate::fault::{StreamFault, Target, fault_at};
+use crate::fetch::{fetch_at, moment_of, tap_at};
 use crate::turn::Turn;
 use overlay_config::TimedChange;
 use pcap_stream::{Input, Output, Sink, Source};
@@ -72,10 +72,11 @@ pub fn fetch_all<R: Input>(
     ensures no_write { IsNoWrite result }
 {
     for index in 1..turns.len() {
-        match fetch_at(changes, ports, underlay, index, 0, 0) {
-            Ok(turn) => turns[index] = turn,
-            Err(fault) => return Err(fault),
+        let mut next = None;
+        if let Err(fault) = fetch_at(changes, ports, underlay, index, 0, 0, &mut next) {
+            return Err(fault_at(tap_at(turns.len() - 2, index), 1, fault));
         }
+        turns[index] = Turn { done: 0, next };
     }
     Ok(())
 }

@@ -1,34 +1,31 @@
 //! The next record of a source.
-ghost use Rattle.std.specs.Prelude.{◌≡◌, ◌≤◌, ◌<◌, ◌+◌, ◌^◌, length};
+ghost use Rattle.std.specs.Prelude.{◌≡◌, ◌≢◌, ◌≤◌, ◌+◌, ℕ, length};
 ghost use Rattle.timeline.specs.declared.source.Tap.{Tap as ATap};
-ghost use Rattle.stream_run.specs.Fetched.{IsFetch, IsOpen};
-ghost use Rattle.stream_run.specs.Steps.{FetchesAt, IsAt, moment_at, source_at};
+ghost use Rattle.stream_run.specs.Fetched.{IsFetch, IsOpen, fetched};
+ghost use Rattle.stream_run.specs.Steps.{FetchesFrom, IsAt, moment_at, source_at};
 
-use crate::fault::{StreamFault, fault_at};
-use crate::turn::Turn;
 use overlay_config::TimedChange;
-use pcap_stream::{Input, Source};
+use pcap_stream::{Input, Source, SourceFault};
 use timeline::Tap;
 
-/// Fetches the next record of a capture, of which so many came, the latest at this moment.
+/// Fetches the next record of a capture, the latest of those that came at this moment, and sets when it comes, if there is one.
+/// Where it fails, what was set says nothing.
 pub fn fetch<R: Input>(
     source: &mut Source<R>,
-    tap: Tap,
-    done: u64,
     latest: u64,
-) -> Result<Turn, StreamFault>
-    requires open { IsOpen source.old.standing }
-    requires count { done + 1 < 2 ^ 64 }
-    ensures { IsFetch source.old source.new tap done latest result }
+    next: &mut Option<u64>,
+) -> Result<(), SourceFault>
+    requires { IsOpen source.old.standing }
+    ensures { (tap : ATap) (done : ℕ) → IsFetch source.old source.new tap done latest (fetched tap done next.new result) }
 {
     if let Err(fault) = source.fill() {
-        return Err(fault_at(tap, done + 1, fault));
+        return Err(fault);
     }
-    let next = match source.head() {
+    *next = match source.head() {
         Some(record) => Some(record.moment.max(latest)),
         None => None,
     };
-    Ok(Turn { done, next })
+    Ok(())
 }
 
 /// The moment of a change, where there is one of this index.
@@ -42,7 +39,8 @@ pub fn moment_of(changes: &[TimedChange], index: u64) -> Option<u64>
     }
 }
 
-/// Asks the source with this index for what comes next: the changes, the ports, the underlay.
+/// Asks the source with this index, of which so many events came, for what comes next, and sets when, if there is more: the
+/// changes, the ports, the underlay. The changes never fail.
 pub fn fetch_at<R: Input>(
     changes: &[TimedChange],
     ports: &mut [Source<R>],
@@ -50,21 +48,32 @@ pub fn fetch_at<R: Input>(
     index: usize,
     done: u64,
     latest: u64,
-) -> Result<Turn, StreamFault>
+    next: &mut Option<u64>,
+) -> Result<(), SourceFault>
     requires index { index ≤ length ports.old + 1 }
     requires few { length ports.old ≤ 16 }
     requires open { (place : ATap) → IsAt (length ports.old) index place → IsOpen (source_at ports.old underlay.old place).standing }
-    requires count { done + 1 < 2 ^ 64 }
-    ensures { FetchesAt changes.now index done latest ports.old underlay.old ports.new underlay.new result }
+    ensures { FetchesFrom changes.now index done latest ports.old underlay.old ports.new underlay.new next.new result }
 {
     if index == 0 {
-        return Ok(Turn {
-            done,
-            next: moment_of(changes, done),
-        });
+        *next = moment_of(changes, done);
+        return Ok(());
     }
     if index <= ports.len() {
-        return fetch(&mut ports[index - 1], Tap::Port(index as u8), done, latest);
+        return fetch(&mut ports[index - 1], latest, next);
     }
-    fetch(underlay, Tap::Underlay, done, latest)
+    fetch(underlay, latest, next)
+}
+
+/// Where the source with this index stands, behind the changes: one of so many ports, or the underlay.
+pub fn tap_at(ports: usize, index: usize) -> Tap
+    requires few { ports ≤ 16 }
+    requires index { index ≤ ports + 1 }
+    ensures { index ≢ 0 → IsAt ports index result }
+{
+    if index <= ports {
+        Tap::Port(index as u8)
+    } else {
+        Tap::Underlay
+    }
 }

@@ -213,11 +213,11 @@ pub fn put_course<W: Output>(
     ensures number { desk.new.number ≡ desk.old.number }
 {
     match course {
-        Course::Dropped(refused) => {
+        Err(refused) => {
             desk.line.write_drop(&desk.number, event, *refused);
             put_line(decisions, desk.line.text())
         }
-        Course::Leaves(came) => put_forwarded(
+        Ok(came) => put_forwarded(
             port_sinks,
             underlay_sink,
             decisions,

@@ -6,8 +6,8 @@ ghost use Rattle.stream_run.specs.Steps.{AreReady, run_at};
 ghost use Rattle.stream_run.specs.Turns.{IsFirst};
 ghost use Rattle.stream_run.specs.Watched.{IsWatchedRun, IsWatchedStep};
 
-use crate::fault::StreamFault;
-use crate::fetch::fetch_at;
+use crate::fault::{StreamFault, fault_at};
+use crate::fetch::{fetch_at, tap_at};
 use crate::order::find_first;
 use crate::take::take_at;
 use crate::turn::{First, Turn};
@@ -64,20 +64,22 @@ fn put_first<R: Input, W: Output, T: Watch>(
     ) {
         return Err(StreamFault::Write(target));
     }
-    match fetch_at(
+    let done = done + 1;
+    let mut next = None;
+    if let Err(fault) = fetch_at(
         changes,
         ports,
         underlay,
         first.index,
-        done + 1,
+        done,
         first.moment,
+        &mut next,
     ) {
-        Ok(turn) => {
-            turns[first.index] = turn;
-            Ok(())
-        }
-        Err(fault) => Err(fault),
+        let tap = tap_at(turns.len() - 2, first.index);
+        return Err(fault_at(tap, done + 1, fault));
     }
+    turns[first.index] = Turn { done, next };
+    Ok(())
 }
 
 /// Puts the changes and the records of all captures through an endpoint, in order of moment, and shows each before, as passed

@@ -25,8 +25,7 @@ use crate::fault::Target;
 use crate::put::{put_course, put_line};
 use crate::watch::Watch;
 use decision_lines::Desk;
-use endpoint_core::{Came, Endpoint, segment_of};
-use frame_view::Refused;
+use endpoint_core::{Course, Endpoint, segment_of};
 use overlay_config::{Change, TimedChange};
 use pcap_stream::{Input, Output, Sink, Source};
 use segment_set::SegmentSet;
@@ -60,38 +59,38 @@ pub fn take_change<W: Output, T: Watch>(
 
 /// Shows a frame or a packet that came to a segment, or to none, as the endpoint tells it; puts it to the endpoint, tells what
 /// is decided, and puts what comes of it to the outputs.
-fn take_came<'a, W: Output, T: Watch>(
+fn take_came<W: Output, T: Watch>(
     port_sinks: &mut [Sink<W>],
     underlay_sink: &mut Sink<W>,
     decisions: &mut W,
     endpoint: &mut Endpoint,
     desk: &mut Desk,
     event: &Event,
-    came: Result<Came<'a>, Refused>,
+    course: &mut Course,
     watch: &mut T,
 ) -> Result<(), Target>
     requires time { (state_of endpoint.old).moment ≤ event.now.moment }
     requires moment { event.now.moment ≤ last_moment }
-    requires there { IfOk came (λ x. IsSome (segment_at (state_of endpoint.old).bridges.settings x.vid)) }
-    requires short { IfOk came (λ x. length x.frame.body ≤ 65549) }
-    requires reached { IfOk came (λ x. is_reached (state_of endpoint.old).bridges.settings.overlay x.vid x.from ≡ true) }
-    ensures state { state_of endpoint.new ≡ after_coming event.now.moment came.entry (state_of endpoint.old) }
+    requires there { IfOk course.old (λ x. IsSome (segment_at (state_of endpoint.old).bridges.settings x.vid)) }
+    requires short { IfOk course.old (λ x. length x.frame.body ≤ 65549) }
+    requires reached { IfOk course.old (λ x. is_reached (state_of endpoint.old).bridges.settings.overlay x.vid x.from ≡ true) }
+    ensures state { state_of endpoint.new ≡ after_coming event.now.moment course.old (state_of endpoint.old) }
     ensures outputs { (start : Drains) (o : Outputs)
         → StandAt start (drains port_sinks.old underlay_sink.old (W.written decisions.old) (W.failures decisions.old)) o
         → Lead start (drains port_sinks.new underlay_sink.new (W.written decisions.new) (W.failures decisions.new)) o
-        (with_input desk.old.number None o event.now (Decided (decided event.now.moment (aged event.now.moment (state_of endpoint.old).bridges) came.entry))) result }
+        (with_input desk.old.number None o event.now (Decided (decided event.now.moment (aged event.now.moment (state_of endpoint.old).bridges) course.old))) result }
     ensures order { (start : Drains) (o : Outputs)
         → StandAt start (drains port_sinks.old underlay_sink.old (W.written decisions.old) (W.failures decisions.old)) o
         → PutsInOrder start (drains port_sinks.new underlay_sink.new (W.written decisions.new) (W.failures decisions.new)) desk.old.number None o event.now
-        (Decided (decided event.now.moment (aged event.now.moment (state_of endpoint.old).bridges) came.entry)) result }
+        (Decided (decided event.now.moment (aged event.now.moment (state_of endpoint.old).bridges) course.old)) result }
     ensures number { desk.new.number ≡ desk.old.number }
     ensures seen { T.sees watch.old (answered (due (state_of endpoint.old) desk.old.number event.now)
-        (Decided (decided event.now.moment (aged event.now.moment (state_of endpoint.old).bridges) came.entry))) watch.new }
+        (Decided (decided event.now.moment (aged event.now.moment (state_of endpoint.old).bridges) course.old))) watch.new }
 {
     let number = desk.number.value();
     watch.see(endpoint, number, event);
-    let course = endpoint.take(event.moment, came, &mut desk.places);
-    watch.hear_decision(endpoint, &course, desk.places.as_slice());
+    endpoint.take(event.moment, course, &mut desk.places);
+    watch.hear_decision(endpoint, course, desk.places.as_slice());
     put_course(
         port_sinks,
         underlay_sink,
@@ -99,7 +98,7 @@ fn take_came<'a, W: Output, T: Watch>(
         endpoint,
         desk,
         event,
-        &course,
+        course,
     )
 }
 
@@ -138,7 +137,7 @@ pub fn take_frame<R: Input, W: Output, T: Watch>(
         → T.sees watch.old (seen_among segments.now (state_of endpoint.old) desk.old.number (record_event (Port port) count moment r) (frame_at moment port r.original r.octets)) watch.new }
 {
     let record = source.head().unwrap();
-    let came = endpoint.frame_from(port, record.original, record.octets);
+    let mut came = endpoint.frame_from(port, record.original, record.octets);
     let event = Event {
         moment,
         number: count + 1,
@@ -162,7 +161,7 @@ pub fn take_frame<R: Input, W: Output, T: Watch>(
         endpoint,
         desk,
         &event,
-        came,
+        &mut came,
         watch,
     )
 }
@@ -199,7 +198,7 @@ pub fn take_packet<R: Input, W: Output, T: Watch>(
         → T.sees watch.old (seen_among segments.now (state_of endpoint.old) desk.old.number (record_event Underlay count moment r) (packet_at moment r.original r.octets)) watch.new }
 {
     let record = source.head().unwrap();
-    let brought = endpoint.frame_in(record.original, record.octets);
+    let mut brought = endpoint.frame_in(record.original, record.octets);
     let event = Event {
         moment,
         number: count + 1,
@@ -223,7 +222,7 @@ pub fn take_packet<R: Input, W: Output, T: Watch>(
         endpoint,
         desk,
         &event,
-        brought,
+        &mut brought,
         watch,
     )
 }

@@ -74,6 +74,7 @@ pub fn bridge_step_into<T: Tables>(
 }
 
 /// To the place where the destination stands.
+#[inline(always)]
 fn to_place(bridge: &Bridge, from: &Place, to: &Place, places: &mut Outlets) -> Result<(), Reason>
     requires { places.old.items ≡ [] }
     ensures value { put_or places.new.items result ≡ to_place (config_of bridge.now) from.now to.now }
@@ -93,6 +94,7 @@ fn to_place(bridge: &Bridge, from: &Place, to: &Place, places: &mut Outlets) -> 
 }
 
 /// Everywhere else: the up members, and the remotes of the flood list.
+#[inline(always)]
 fn everywhere(bridge: &Bridge, from: &Place, places: &mut Outlets) -> Result<(), Reason>
     requires { places.old.items ≡ [] }
     ensures value { put_or places.new.items result ≡ everywhere (config_of bridge.now) from.now }

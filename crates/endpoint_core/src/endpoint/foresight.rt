@@ -9,7 +9,7 @@ ghost use Rattle.endpoint_core.specs.Event.{frame_at, packet_at};
 ghost use Rattle.endpoint_core.specs.Step.{Decided, answer, decided, decided_in};
 
 use crate::arrival::{Came, come_at, come_by};
-use crate::{Course, Decision, Endpoint};
+use crate::{Decision, Endpoint};
 use endpoint_state::EndpointState;
 use frame_view::Refused;
 use std::alloc::{AllocError, Global};
@@ -109,7 +109,7 @@ fn foreseen<'a>(
 {
     match came {
         Ok(came) => foreseen_in(state, alloc, now, came),
-        Err(refused) => Ok(Decision::of(state, &Course::Dropped(refused), &[])),
+        Err(refused) => Ok(Decision::of(state, &Err(refused), &[])),
     }
 }
 
@@ -128,14 +128,10 @@ fn foreseen_in<'a>(
 {
     let verdict = state.foresee(alloc, now, came.vid, came.from, &came.frame)?;
     match verdict {
-        Verdict::Outlets(places) => Ok(Decision::of(
-            state,
-            &Course::Leaves(came),
-            places.as_slice(),
-        )),
+        Verdict::Outlets(places) => Ok(Decision::of(state, &Ok(came), places.as_slice())),
         Verdict::Dropped(reason) => {
             let refused = Refused::within(came.vid, reason);
-            Ok(Decision::of(state, &Course::Dropped(refused), &[]))
+            Ok(Decision::of(state, &Err(refused), &[]))
         }
     }
 }

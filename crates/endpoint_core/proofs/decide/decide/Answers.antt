@@ -1,7 +1,7 @@
 use Rattle.endpoint_core.proofs.decide.decide.Goals as goal
 
-pub returns-in-Ok-clause-after : goal.returns-in-Ok-clause-after
-returns-in-Ok-clause-after c = rw c.in-Ok.is c.forward.ensures.after
+pub returns-in-Err-forwarded-clause-after : goal.returns-in-Err-forwarded-clause-after
+returns-in-Err-forwarded-clause-after c = rw c.in-Ok.is c.in-Err-forwarded.ensures.after
 
-pub returns-in-Ok-clause-came : goal.returns-in-Ok-clause-came
-returns-in-Ok-clause-came c = rw c.in-Ok.is c.forward.ensures.came
+pub returns-in_default-clause-after : goal.returns-in_default-clause-after
+returns-in_default-clause-after c = rw c.in-Ok.is c.in_default.ensures.after

@@ -1,6 +1,7 @@
 use Rattle.std.proofs.Common.{arith, subst}
 use Rattle.stream_run.specs.Steps.{IsAt}
 use Rattle.stream_run.proofs.Begun.{all_fetched, faults_told, fetch_no_write, fetch_stops, none_fetched, one_fetched}
+use Rattle.stream_run.proofs.Reading.{fault_from}
 use Rattle.stream_run.proofs.begin.fetch_all.Goals as goal
 
 pub loop-index-init : goal.loop-index-init
@@ -10,13 +11,13 @@ pub fetch_at-requires-clause-open : goal.fetch_at-requires-clause-open
 fetch_at-requires-clause-open g c place at = c.loop-index.invariant.open_ place c.loop-index.index (omega arith) (subst (λ n. IsAt n c.loop-index.index place) c.loop-index.invariant.many at)
 
 pub loop-index-preserved : goal.loop-index-preserved
-loop-index-preserved g c = one_fetched c.args.changes.now c.loop-index.index c.args.ports.now c.args.underlay.now c.args.turns.now c.loop-index.ports c.loop-index.underlay c.loop-index.turns c.loop-index.invariant c.fetch_at.new.ports c.fetch_at.new.underlay c.in-Ok.turn (omega (arith, c.loop-index-test.true, c.loop-index.invariant.size)) c.in-Ok.ensures
+loop-index-preserved g c = one_fetched c.args.changes.now c.loop-index.index c.args.ports.now c.args.underlay.now c.args.turns.now c.loop-index.ports c.loop-index.underlay c.loop-index.turns c.loop-index.invariant c.fetch_at.new.ports c.fetch_at.new.underlay _ (omega (arith, c.loop-index-test.true, c.loop-index.invariant.size)) c.in_default.ensures
 
 pub returns-in-Err-clause-reads : goal.returns-in-Err-clause-reads
-returns-in-Err-clause-reads g c = fetch_stops c.args.changes.now c.loop-index.index c.args.ports.now c.args.underlay.now c.args.turns.now c.loop-index.ports c.loop-index.underlay c.loop-index.turns c.loop-index.invariant c.fetch_at.new.ports c.fetch_at.new.underlay c.in-Err.fault c.in-Err.ensures
+returns-in-Err-clause-reads g c = fetch_stops c.args.changes.now c.loop-index.index c.args.ports.now c.args.underlay.now c.args.turns.now c.loop-index.ports c.loop-index.underlay c.loop-index.turns c.loop-index.invariant c.fetch_at.new.ports c.fetch_at.new.underlay c.fault_at.result (fault_from c.args.changes.now c.loop-index.index 0 0 c.loop-index.ports c.loop-index.underlay c.fetch_at.new.ports c.fetch_at.new.underlay c.fetch_at.new.next c.in-Err.fault c.tap_at.result c.fault_at.result _ c.fault_at.ensures c.tap_at.ensures (omega (arith, c.loop-index.invariant.size, c.loop-index.invariant.many, c.requires.size)) c.in-Err.ensures)
 
 pub returns-in-Err-clause-no_write : goal.returns-in-Err-clause-no_write
-returns-in-Err-clause-no_write g c = fetch_no_write c.args.changes.now c.loop-index.index c.args.ports.now c.args.underlay.now c.args.turns.now c.loop-index.ports c.loop-index.underlay c.loop-index.turns c.loop-index.invariant c.fetch_at.new.ports c.fetch_at.new.underlay c.in-Err.fault c.in-Err.ensures
+returns-in-Err-clause-no_write g c = fetch_no_write c.args.changes.now c.loop-index.index c.args.ports.now c.args.underlay.now c.args.turns.now c.loop-index.ports c.loop-index.underlay c.loop-index.turns c.loop-index.invariant c.fetch_at.new.ports c.fetch_at.new.underlay c.fault_at.result (fault_from c.args.changes.now c.loop-index.index 0 0 c.loop-index.ports c.loop-index.underlay c.fetch_at.new.ports c.fetch_at.new.underlay c.fetch_at.new.next c.in-Err.fault c.tap_at.result c.fault_at.result _ c.fault_at.ensures c.tap_at.ensures (omega (arith, c.loop-index.invariant.size, c.loop-index.invariant.many, c.requires.size)) c.in-Err.ensures)
 
 pub returns-clause-ready : goal.returns-clause-ready
 returns-clause-ready g c = c.loop-index.invariant.ready
@@ -25,7 +26,7 @@ pub returns-clause-reads : goal.returns-clause-reads
 returns-clause-reads g c = c.loop-index.invariant.quiet
 
 pub returns-in-Err-clause-told : goal.returns-in-Err-clause-told
-returns-in-Err-clause-told g c = faults_told c.args.changes.now c.loop-index.index c.args.ports.now c.args.underlay.now c.args.turns.now c.loop-index.ports c.loop-index.underlay c.loop-index.turns c.loop-index.invariant c.fetch_at.new.ports c.fetch_at.new.underlay c.in-Err.fault c.loop-index.turns c.in-Err.ensures
+returns-in-Err-clause-told g c = faults_told c.args.changes.now c.loop-index.index c.args.ports.now c.args.underlay.now c.args.turns.now c.loop-index.ports c.loop-index.underlay c.loop-index.turns c.loop-index.invariant c.fetch_at.new.ports c.fetch_at.new.underlay c.fault_at.result c.loop-index.turns (fault_from c.args.changes.now c.loop-index.index 0 0 c.loop-index.ports c.loop-index.underlay c.fetch_at.new.ports c.fetch_at.new.underlay c.fetch_at.new.next c.in-Err.fault c.tap_at.result c.fault_at.result _ c.fault_at.ensures c.tap_at.ensures (omega (arith, c.loop-index.invariant.size, c.loop-index.invariant.many, c.requires.size)) c.in-Err.ensures)
 
 pub returns-clause-told : goal.returns-clause-told
 returns-clause-told g c =

@@ -6,17 +6,17 @@ use Rattle.stream_run.specs.Stage.{Lead, drains}
 use Rattle.stream_run.proofs.Amidst.{put_at_line}
 use Rattle.stream_run.proofs.put.put_course.Goals as goal
 
-pub returns-in-Dropped-clause-order : goal.returns-in-Dropped-clause-order
-returns-in-Dropped-clause-order g c start o at =
+pub returns-in-Err-clause-order : goal.returns-in-Err-clause-order
+returns-in-Err-clause-order g c start o at =
     let new = drains c.args.port_sinks.now c.args.underlay_sink.now (g.W.Output.written c.put_line.new.decisions) (g.W.Output.failures c.put_line.new.decisions) in
-    let answer = Decided (refused_as c.in-Dropped.refused) in
+    let answer = Decided (refused_as c.in-Err.refused) in
     let lead : Lead {T = Unit {0}} start new o (with_line o c.text.result.now) c.put_line.result = c.put_line.ensures start o c.args.port_sinks.now c.args.underlay_sink.now at in
     let order = put_at_line c.args.desk.now.number None o c.args.event.now answer start new c.put_line.result
     (subst (λ l. Lead {T = Unit {0}} start new o (with_line o l) c.put_line.result) (c.text.ensures.value ∙ c.write_drop.ensures) lead) in
-    rw c.in-Dropped.is order
+    rw c.in-Err.is order
 
-pub returns-in-Leaves-clause-outputs : goal.returns-in-Leaves-clause-outputs
-returns-in-Leaves-clause-outputs g c start o at = rw c.in-Leaves.is (c.put_forwarded.ensures.outputs start o at)
+pub returns-in-Ok-clause-outputs : goal.returns-in-Ok-clause-outputs
+returns-in-Ok-clause-outputs g c start o at = rw c.in-Ok.is (c.put_forwarded.ensures.outputs start o at)
 
-pub returns-in-Leaves-clause-order : goal.returns-in-Leaves-clause-order
-returns-in-Leaves-clause-order g c start o at = rw c.in-Leaves.is (c.put_forwarded.ensures.order start o at)
+pub returns-in-Ok-clause-order : goal.returns-in-Ok-clause-order
+returns-in-Ok-clause-order g c start o at = rw c.in-Ok.is (c.put_forwarded.ensures.order start o at)

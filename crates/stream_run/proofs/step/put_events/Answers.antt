@@ -11,6 +11,9 @@ put_first-requires-clause-few g c = omega (arith, c.loop-count.invariant.count, 
 pub put_first-requires-clause-ready : goal.put_first-requires-clause-ready
 put_first-requires-clause-ready g c = c.loop-count.invariant.run.has.ready
 
+pub find_first-requires : goal.find_first-requires
+find_first-requires g c = c.loop-count.invariant.run.has.ready.moments
+
 pub loop-count-preserved : goal.loop-count-preserved
 loop-count-preserved g c =
     let step = c.in_default-put_first.ensures in

@@ -2,6 +2,7 @@ use Rattle.std.proofs.Common.{ap, arith, None}
 use Rattle.std.proofs.lemmas.List.{get_or_default}
 use Rattle.endpoint_core.specs.Kept.{state_of}
 use Rattle.stream_run.specs.declared.turn.Turn.{Turn}
+use Rattle.stream_run.proofs.Reading.{fault_from}
 use Rattle.stream_run.proofs.Readying.{next_up}
 use Rattle.stream_run.proofs.Stepping.{shown_fault, shown_put, shown_turn}
 use Rattle.stream_run.proofs.step.put_first.Goals as goal
@@ -16,11 +17,6 @@ take_at-requires-clause-lent g c = (next_up c.args.changes.now c.args.ports.now 
 pub fetch_at-requires-clause-open : goal.fetch_at-requires-clause-open
 fetch_at-requires-clause-open g c = (next_up c.args.changes.now c.args.ports.now c.args.underlay.now c.args.turns.now (state_of c.args.endpoint.now) c.args.desk.now.number _ c.args.first no_turn c.requires.ready c.requires.first).open_
 
-pub fetch_at-requires-clause-count : goal.fetch_at-requires-clause-count
-fetch_at-requires-clause-count g c =
-    let done = c.requires.ready.done (record { done = 0; next = None }) c.args.first.index c.requires.first.there in
-    omega (arith, done, c.requires.few)
-
 pub returns-in-Err : goal.returns-in-Err
 returns-in-Err g c =
     shown_put c.args.segments.now c.args.changes.now c.args.ports.now c.args.underlay.now c.args.turns.now (state_of c.args.endpoint.now) c.args.desk.now.number _ c.args.first _ c.add_one.new.self (state_of c.take_at.new.endpoint) _ g.T.Watch.sees c.args.watch.now c.take_at.new.watch c.take_at.new.desk.number c.in-Err.target
@@ -29,11 +25,12 @@ returns-in-Err g c =
 pub returns-in-Err-fetch_at : goal.returns-in-Err-fetch_at
 returns-in-Err-fetch_at g c =
     shown_fault c.args.segments.now c.args.changes.now c.args.ports.now c.args.underlay.now c.args.turns.now (state_of c.args.endpoint.now) c.args.desk.now.number _ c.args.first _ c.add_one.new.self (state_of c.take_at.new.endpoint) _ g.T.Watch.sees c.args.watch.now c.take_at.new.watch c.take_at.new.desk.number
-    c.fetch_at.new.ports c.fetch_at.new.underlay c.in-Err-fetch_at.fault no_turn c.requires.ready c.requires.first
-    (λ t. ap (λ (x : Turn). x.done) (get_or_default c.args.turns.now c.args.first.index _ t c.requires.first.there)) c.add_one.ensures c.take_at.ensures.number c.in_default.ensures.taken c.in-Err-fetch_at.ensures
+    c.fetch_at.new.ports c.fetch_at.new.underlay c.fault_at.result no_turn c.requires.ready c.requires.first
+    (λ t. ap (λ (x : Turn). x.done) (get_or_default c.args.turns.now c.args.first.index _ t c.requires.first.there)) c.add_one.ensures c.take_at.ensures.number c.in_default.ensures.taken
+    (fault_from c.args.changes.now c.args.first.index _ c.args.first.moment c.args.ports.now c.args.underlay.now c.fetch_at.new.ports c.fetch_at.new.underlay c.fetch_at.new.next c.in-Err-fetch_at.fault c.tap_at-tap.result c.fault_at.result _ c.fault_at.ensures c.tap_at-tap.ensures (omega (arith, c.requires.ready.size)) c.in-Err-fetch_at.ensures)
 
-pub returns-in-Ok : goal.returns-in-Ok
-returns-in-Ok g c =
+pub returns : goal.returns
+returns g c =
     shown_turn c.args.segments.now c.args.changes.now c.args.ports.now c.args.underlay.now c.args.turns.now (state_of c.args.endpoint.now) c.args.desk.now.number _ c.args.first _ c.add_one.new.self (state_of c.take_at.new.endpoint) _ g.T.Watch.sees c.args.watch.now c.take_at.new.watch c.take_at.new.desk.number
-    c.fetch_at.new.ports c.fetch_at.new.underlay c.in-Ok.turn no_turn c.requires.ready c.requires.first
-    (λ t. ap (λ (x : Turn). x.done) (get_or_default c.args.turns.now c.args.first.index _ t c.requires.first.there)) c.add_one.ensures c.take_at.ensures.number c.in_default.ensures.taken c.in-Ok.ensures
+    c.fetch_at.new.ports c.fetch_at.new.underlay _ no_turn c.requires.ready c.requires.first
+    (λ t. ap (λ (x : Turn). x.done) (get_or_default c.args.turns.now c.args.first.index _ t c.requires.first.there)) c.add_one.ensures c.take_at.ensures.number c.in_default.ensures.taken c.in_default-fetch_at.ensures

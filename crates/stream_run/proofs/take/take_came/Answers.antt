@@ -13,18 +13,18 @@ use Rattle.stream_run.proofs.take.take_came.Goals as goal
 pub returns-clause-outputs : goal.returns-clause-outputs
 returns-clause-outputs g c start o at =
     let new = drains c.put_course.new.port_sinks c.put_course.new.underlay_sink (g.W.Output.written c.put_course.new.decisions) (g.W.Output.failures c.put_course.new.decisions) in
-    subst (λ (d : Decision). Lead {T = Unit {0}} start new o (with_input c.args.desk.now.number None o c.args.event.now (Decided d)) c.put_course.result) c.take-course.ensures.answer (c.put_course.ensures.outputs start o at)
+    subst (λ (d : Decision). Lead {T = Unit {0}} start new o (with_input c.args.desk.now.number None o c.args.event.now (Decided d)) c.put_course.result) c.take.ensures.answer (c.put_course.ensures.outputs start o at)
 
 pub returns-clause-order : goal.returns-clause-order
 returns-clause-order g c start o at =
     let new = drains c.put_course.new.port_sinks c.put_course.new.underlay_sink (g.W.Output.written c.put_course.new.decisions) (g.W.Output.failures c.put_course.new.decisions) in
-    subst (λ (d : Decision). PutsInOrder {T = Unit {0}} start new c.args.desk.now.number None o c.args.event.now (Decided d) c.put_course.result) c.take-course.ensures.answer (c.put_course.ensures.order start o at)
+    subst (λ (d : Decision). PutsInOrder {T = Unit {0}} start new c.args.desk.now.number None o c.args.event.now (Decided d) c.put_course.result) c.take.ensures.answer (c.put_course.ensures.order start o at)
 
 pub returns-clause-seen : goal.returns-clause-seen
 returns-clause-seen g c =
     let state = state_of c.args.endpoint.now in
     let expected = subst (λ (n : ℕ). g.T.Watch.expects c.args.watch.now (due state n c.args.event.now) c.see.new.self) c.value-number.ensures c.see.ensures in
-    let heard = subst (λ (places : List Place). g.T.Watch.sees c.args.watch.now (answered (due state c.args.desk.now.number c.args.event.now) (Decided (decision_of (state_of c.take-course.new.self).bridges.settings c.take-course.result places))) c.hear_decision.new.self)
+    let heard = subst (λ (places : List Place). g.T.Watch.sees c.args.watch.now (answered (due state c.args.desk.now.number c.args.event.now) (Decided (decision_of (state_of c.take.new.self).bridges.settings c.take.new.course places))) c.hear_decision.new.self)
     c.as_slice.ensures.value (c.hear_decision.ensures c.args.watch.now (due state c.args.desk.now.number c.args.event.now) expected) in
-    subst (λ (d : Decision). g.T.Watch.sees c.args.watch.now (answered (due state c.args.desk.now.number c.args.event.now) (Decided d)) c.hear_decision.new.self) c.take-course.ensures.answer
+    subst (λ (d : Decision). g.T.Watch.sees c.args.watch.now (answered (due state c.args.desk.now.number c.args.event.now) (Decided d)) c.hear_decision.new.self) c.take.ensures.answer
     heard

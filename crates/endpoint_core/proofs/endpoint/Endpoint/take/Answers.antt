@@ -11,13 +11,13 @@ use Rattle.endpoint_core.proofs.endpoint.Endpoint.take.Goals as goal
 pub returns-clause-answer : goal.returns-clause-answer
 returns-clause-answer c =
     let later = subst (λ (k : Kept). k.moment ≤ c.args.now) (sym c.self.view_is) c.requires.moment in
-    let tallied = c.tally.ensures ∙ ap (λ (ps : List Place). counted (count_in c.self.inside.counts) (decision_of (settings_of c.decide-course.new.state) c.decide-course.result ps)) c.as_slice.ensures.value in
-    let then = decided-then c.self.inside.state c.decide-course.new.state c.self.inside.counts c.tally.new.self c.self.inside.moment c.args.now (decision_of (settings_of c.decide-course.new.state) c.decide-course.result c.decide-course.new.places.items) c.args.came _ later refl c.decide-course.ensures.decision c.decide-course.ensures.after tallied in
+    let tallied = c.tally.ensures ∙ ap (λ (ps : List Place). counted (count_in c.self.inside.counts) (decision_of (settings_of c.decide.new.state) c.decide.new.course ps)) c.as_slice.ensures.value in
+    let then = decided-then c.self.inside.state c.decide.new.state c.self.inside.counts c.tally.new.self c.self.inside.moment c.args.now (decision_of (settings_of c.decide.new.state) c.decide.new.course c.decide.new.places.items) c.args.course.now _ later refl c.decide.ensures.decision c.decide.ensures.after tallied in
     rw (← c.self.view_is) then.0
 
 pub returns-clause-after : goal.returns-clause-after
 returns-clause-after c =
     let later = subst (λ (k : Kept). k.moment ≤ c.args.now) (sym c.self.view_is) c.requires.moment in
-    let tallied = c.tally.ensures ∙ ap (λ (ps : List Place). counted (count_in c.self.inside.counts) (decision_of (settings_of c.decide-course.new.state) c.decide-course.result ps)) c.as_slice.ensures.value in
-    let then = decided-then c.self.inside.state c.decide-course.new.state c.self.inside.counts c.tally.new.self c.self.inside.moment c.args.now (decision_of (settings_of c.decide-course.new.state) c.decide-course.result c.decide-course.new.places.items) c.args.came _ later refl c.decide-course.ensures.decision c.decide-course.ensures.after tallied in
+    let tallied = c.tally.ensures ∙ ap (λ (ps : List Place). counted (count_in c.self.inside.counts) (decision_of (settings_of c.decide.new.state) c.decide.new.course ps)) c.as_slice.ensures.value in
+    let then = decided-then c.self.inside.state c.decide.new.state c.self.inside.counts c.tally.new.self c.self.inside.moment c.args.now (decision_of (settings_of c.decide.new.state) c.decide.new.course c.decide.new.places.items) c.args.course.now _ later refl c.decide.ensures.decision c.decide.ensures.after tallied in
     rw (← c.self.view_is) then.1

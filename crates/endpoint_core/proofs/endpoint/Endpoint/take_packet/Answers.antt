@@ -9,6 +9,6 @@ use Rattle.endpoint_core.proofs.endpoint.Endpoint.take_packet.Goals as goal
 
 pub returns-clause-after : goal.returns-clause-after
 returns-clause-after c =
-    let same = c.come_by-came.ensures.value ∙ ap (λ (overlay : Overlay). came_by overlay c.args.original c.args.octets.now) c.under.ensures.value in
-    let told = subst (λ (k : Kept). c.come_by-came.result ≡ came_by (state_of k).bridges.settings.overlay c.args.original c.args.octets.now) c.self.view_is same in
+    let same = c.come_by-course.ensures.value ∙ ap (λ (overlay : Overlay). came_by overlay c.args.original c.args.octets.now) c.under.ensures.value in
+    let told = subst (λ (k : Kept). c.come_by-course.result ≡ came_by (state_of k).bridges.settings.overlay c.args.original c.args.octets.now) c.self.view_is same in
     c.take.ensures.after ∙ ap (λ (r : Result Came Refused). after_coming c.args.now r (state_of c.args.self.now)) told

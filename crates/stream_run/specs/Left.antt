@@ -10,7 +10,7 @@ use Rattle.overlay_settings.specs.declared.change.TimedChange.{TimedChange}
 use Rattle.overlay_config.specs.Fault.{Meaning}
 use Rattle.overlay_settings.specs.Settings.{Settings}
 use Rattle.endpoint_state.specs.Opened.{settings_told}
-use Rattle.endpoint_core.specs.Step.{opened}
+use Rattle.endpoint_core.specs.Step.{State, opened}
 use Rattle.capture_run.specs.Fault.{of_changes, of_settings}
 use Rattle.capture_run.specs.Outputs.{Outputs}
 use Rattle.capture_run.specs.Writing.{empty_outputs, with_cuts}
@@ -79,3 +79,14 @@ AnswersAmong segments (Ok s) (Ok changes) old new result = MatchBool (length old
 -- the same of the whole run
 abbrev pub Answers : Meaning Settings → Meaning (List TimedChange) → Ends → Ends → Result (Unit {0}) StreamFault → Type 0
 Answers s c old new result = AnswersAmong All s c old new result
+
+-- ---- where it begins
+
+-- an endpoint that was opened just now with these settings, on as many captures as there are ports
+pub record IsOpenedWith (s : Settings) (ports : List Stream) (state : State) : Type 0 where
+  pub state_is : state ≡ opened (settings_told s)
+  pub many : length ports ≡ length s.ports
+
+-- with some settings
+abbrev pub CanBegin : List Stream → State → Type 0
+CanBegin ports state = (s : Settings) × IsOpenedWith s ports state

@@ -1,10 +1,12 @@
 //! Runs over streams.
-ghost use Rattle.std.specs.Prelude.{◌≡◌, ◌≤◌, ℕ, List, All, Vec as AVec, length};
+ghost use Rattle.std.specs.Prelude.{◌≡◌, ◌≤◌, ◌+◌, ℕ, List, All, Vec as AVec, length};
 ghost use Rattle.std.specs.declared.alloc.Global.{Global as AGlobal};
 ghost use Rattle.overlay_config.specs.Change.{changes_in};
 ghost use Rattle.overlay_config.specs.Settings.{settings_in};
-ghost use Rattle.stream_run.specs.Begun.{IsUnread};
-ghost use Rattle.stream_run.specs.Left.{Answers, AnswersAmong, Leaves, WritesWith, ends};
+ghost use Rattle.overlay_settings.specs.Settings.{Settings};
+ghost use Rattle.endpoint_core.specs.Kept.{state_of};
+ghost use Rattle.stream_run.specs.Begun.{IsUnread, first_turns};
+ghost use Rattle.stream_run.specs.Left.{Answers, AnswersAmong, CanBegin, IsOpenedWith, Leaves, WritesWith, ends};
 ghost use Rattle.stream_run.specs.Over.{IsRunOver, IsRunOverAmong, IsWholeRun, LeavesOver, Tells};
 ghost use Rattle.stream_run.specs.Reached.{IsReachedOver, IsReachedOverAmong, ReachesOver};
 ghost use Rattle.stream_run.specs.Read.{ReadsWith};
@@ -17,6 +19,7 @@ use crate::cuts::put_cuts_among;
 use crate::fault::StreamFault;
 use crate::opening::open_all;
 use crate::step::put_events;
+use crate::turn::Turn;
 use crate::watch::Watch;
 use capture_run::{RunFault, of_changes, of_settings};
 use decision_lines::Desk;
@@ -206,16 +209,7 @@ fn run_with<R: Input, W: Output, T: Watch>(
         return Err(StreamFault::Run(RunFault::OutOfMemory));
     };
     let mut desk = Desk::new();
-    if let Err(fault) = open_all(ports, underlay) {
-        return Err(fault);
-    }
-    if let Err(target) = begin_all(port_sinks, underlay_sink) {
-        return Err(StreamFault::Write(target));
-    }
-    if let Err(fault) = fetch_all(changes, ports, underlay, turns.as_mut_slice()) {
-        return Err(fault);
-    }
-    if let Err(fault) = put_events(
+    run_on(
         changes,
         ports,
         underlay,
@@ -227,19 +221,75 @@ fn run_with<R: Input, W: Output, T: Watch>(
         decisions,
         segments,
         watch,
+    )
+}
+
+/// The run with an endpoint that was opened just now, whose steps are lent what they need.
+fn run_on<R: Input, W: Output, T: Watch>(
+    changes: &[TimedChange],
+    ports: &mut [Source<R>],
+    underlay: &mut Source<R>,
+    turns: &mut [Turn],
+    endpoint: &mut Endpoint,
+    desk: &mut Desk,
+    port_sinks: &mut [Sink<W>],
+    underlay_sink: &mut Sink<W>,
+    decisions: &mut W,
+    segments: &SegmentSet,
+    watch: &mut T,
+) -> Result<(), StreamFault>
+    requires few { length ports.old ≤ 16 }
+    requires opened { CanBegin ports.old (state_of endpoint.old) }
+    requires turns { turns.old ≡ first_turns changes.now (length ports.old + 1) }
+    requires number { desk.old.number ≡ 0 }
+    requires sinks { length port_sinks.old ≡ length ports.old }
+    requires timely { AreTimely changes.now }
+    requires new_ports { All IsUnread ports.old }
+    requires new_underlay { IsUnread underlay.old }
+    ensures outputs { (settings : Settings) → IsOpenedWith settings ports.old (state_of endpoint.old) → Leaves segments.now settings changes.now
+        (drains port_sinks.old underlay_sink.old (W.written decisions.old) (W.failures decisions.old))
+        (drains port_sinks.new underlay_sink.new (W.written decisions.new) (W.failures decisions.new)) result }
+    ensures over { (settings : Settings) → IsOpenedWith settings ports.old (state_of endpoint.old) → (texts : List (AVec ℕ AGlobal)) (text : List ℕ) → Tells ports.old underlay.old texts text → LeavesOver segments.now settings changes.now texts text
+        (drains port_sinks.old underlay_sink.old (W.written decisions.old) (W.failures decisions.old))
+        (drains port_sinks.new underlay_sink.new (W.written decisions.new) (W.failures decisions.new)) result }
+    ensures reached { (settings : Settings) → IsOpenedWith settings ports.old (state_of endpoint.old) → (texts : List (AVec ℕ AGlobal)) (text : List ℕ) → Tells ports.old underlay.old texts text → ReachesOver segments.now settings changes.now texts text
+        (drains port_sinks.old underlay_sink.old (W.written decisions.old) (W.failures decisions.old))
+        (drains port_sinks.new underlay_sink.new (W.written decisions.new) (W.failures decisions.new)) ports.new underlay.new result }
+    ensures shown { (settings : Settings) → IsOpenedWith settings ports.old (state_of endpoint.old) → Shows segments.now T.sees T.ends settings changes.now
+        (drains port_sinks.old underlay_sink.old (W.written decisions.old) (W.failures decisions.old))
+        (drains port_sinks.new underlay_sink.new (W.written decisions.new) (W.failures decisions.new)) watch.old watch.new result }
+    ensures watched { (settings : Settings) → IsOpenedWith settings ports.old (state_of endpoint.old) → (texts : List (AVec ℕ AGlobal)) (text : List ℕ) → Tells ports.old underlay.old texts text → SeesOver segments.now T.sees T.ends settings changes.now texts text
+        (drains port_sinks.old underlay_sink.old (W.written decisions.old) (W.failures decisions.old))
+        (drains port_sinks.new underlay_sink.new (W.written decisions.new) (W.failures decisions.new)) watch.old watch.new result }
+    ensures reads { ReadsWith ports.old underlay.old ports.new underlay.new result }
+{
+    if let Err(fault) = open_all(ports, underlay) {
+        return Err(fault);
+    }
+    if let Err(target) = begin_all(port_sinks, underlay_sink) {
+        return Err(StreamFault::Write(target));
+    }
+    if let Err(fault) = fetch_all(changes, ports, underlay, turns) {
+        return Err(fault);
+    }
+    if let Err(fault) = put_events(
+        changes,
+        ports,
+        underlay,
+        turns,
+        endpoint,
+        desk,
+        port_sinks,
+        underlay_sink,
+        decisions,
+        segments,
+        watch,
     ) {
         return Err(fault);
     }
-    match put_cuts_among(
-        segments,
-        ports,
-        underlay,
-        turns.as_slice(),
-        &mut desk.line,
-        decisions,
-    ) {
+    match put_cuts_among(segments, ports, underlay, turns, &mut desk.line, decisions) {
         Ok(()) => {
-            watch.end(&endpoint);
+            watch.end(endpoint);
             Ok(())
         }
         Err(target) => Err(StreamFault::Write(target)),

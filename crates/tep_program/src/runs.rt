@@ -1,7 +1,10 @@
 //! Runs over captures, in files and pipes.
+ghost use Rattle.std.specs.Prelude.{◌≡◌, All, IfOk, length};
+ghost use Rattle.stream_run.specs.Begun.{IsUnread};
+
 use crate::inputs::{Capture, open_capture, open_captures, read_file, read_if_given};
 use crate::names::Names;
-use crate::outputs::{open_outputs, spare_inputs};
+use crate::outputs::{Outputs, open_outputs, spare_inputs};
 use crate::part_texts::drop_texts;
 use capture_run::{RunFault, of_changes, of_settings};
 use dissector::Failure;
@@ -90,6 +93,38 @@ pub fn run_on_files<'a, R: Files + Input + AllocGlobal, T: Watch>(
         Ok(ports) => ports,
         Err(failure) => return Err(failure),
     };
+    match run_on_captures(
+        rt,
+        names,
+        texts,
+        folder,
+        scope,
+        ports.as_mut_slice(),
+        &mut underlay,
+        watch,
+    ) {
+        Ok(shard) => match done_on(rt.alloc(), ports.as_slice(), &underlay, shard) {
+            Ok(done) => Ok(done),
+            Err(error) => Err(Failure::from(error)),
+        },
+        Err(failure) => Err(failure),
+    }
+}
+
+/// Runs on captures of which nothing is read yet. Of a part it answers the file in which it is to say what it was made from.
+fn run_on_captures<'a, R: Files + Input + AllocGlobal, T: Watch>(
+    rt: &R,
+    names: Names<'_, 'a>,
+    texts: &Texts,
+    folder: &str,
+    scope: Scope<'_>,
+    ports: &mut [Capture<'a, R::File, R::Reader>],
+    underlay: &mut Capture<'a, R::File, R::Reader>,
+    watch: &mut T,
+) -> Result<Option<R::File>, Failure<'a>>
+    requires ports { All IsUnread ports.old }
+    requires underlay { IsUnread underlay.old }
+{
     look_before(
         rt.alloc(),
         texts.settings.as_slice(),
@@ -101,24 +136,13 @@ pub fn run_on_files<'a, R: Files + Input + AllocGlobal, T: Watch>(
         Scope::Whole => (false, &all),
         Scope::Part(segments) => (true, segments),
     };
-    spare_inputs(rt, folder, is_part, names)?;
-    // A read of a pipe may wait for whoever writes into it, and what came of an event has to be out by then.
-    let block = if names.are_regular_files(rt) {
-        BLOCK
-    } else {
-        0
-    };
-    let opened = open_outputs(rt, folder, is_part, ports.len())?;
-    if is_part {
-        drop_texts(rt, folder)?;
-    }
-    let mut outputs = opened.emptied(rt.alloc(), block)?;
+    let mut outputs = prepare_outputs(rt, names, folder, is_part, ports.len())?;
     let run = run_segments(
         rt.alloc(),
         texts.settings.as_slice(),
         texts.changes.as_slice(),
-        ports.as_mut_slice(),
-        &mut underlay,
+        ports,
+        underlay,
         outputs.ports.as_mut_slice(),
         &mut outputs.underlay,
         &mut outputs.decisions,
@@ -128,23 +152,68 @@ pub fn run_on_files<'a, R: Files + Input + AllocGlobal, T: Watch>(
     let finished = outputs.finish();
     match run {
         Ok(()) => match finished {
-            Ok(shard) => {
-                let cut = cut_taps(rt.alloc(), ports.as_slice(), &underlay)?;
-                let counts = octets_read(rt.alloc(), ports.as_slice())?;
-                Ok(Done {
-                    cut,
-                    ports: counts,
-                    underlay: underlay.input().octets(),
-                    shard,
-                })
-            }
+            Ok(shard) => Ok(shard),
             Err(failure) => Err(failure),
         },
-        Err(StreamFault::Read(tap)) => match fault_of(tap, ports.as_slice(), &underlay) {
-            Some(fault) => Err(Failure::Pcapng(tap, fault)),
-            None => Err(Failure::Read(names.capture(tap))),
+        Err(fault) => Err(failure_of(names, fault, ports, underlay)),
+    }
+}
+
+/// What a run on these captures leaves besides its outputs.
+fn done_on<F: Read + Drop, I: Read + Drop>(
+    alloc: Global,
+    ports: &[Capture<'_, F, I>],
+    underlay: &Capture<'_, F, I>,
+    shard: Option<F>,
+) -> Result<Done<F>, AllocError> {
+    let cut = cut_taps(alloc, ports, underlay)?;
+    let counts = octets_read(alloc, ports)?;
+    Ok(Done {
+        cut,
+        ports: counts,
+        underlay: underlay.input().octets(),
+        shard,
+    })
+}
+
+/// Opens the outputs of so many ports and empties them, where none of them is a file that is read.
+fn prepare_outputs<'a, R: Files + Input + AllocGlobal>(
+    rt: &R,
+    names: Names<'_, 'a>,
+    folder: &str,
+    is_part: bool,
+    count: usize,
+) -> Result<Outputs<R::File>, Failure<'a>>
+    ensures { IfOk result (λ outputs. length outputs.ports.items ≡ count) }
+{
+    spare_inputs(rt, folder, is_part, names)?;
+    // A read of a pipe may wait for whoever writes into it, and what came of an event has to be out by then.
+    let block = if names.are_regular_files(rt) {
+        BLOCK
+    } else {
+        0
+    };
+    let opened = open_outputs(rt, folder, is_part, count)?;
+    if is_part {
+        drop_texts(rt, folder)?;
+    }
+    let outputs = opened.emptied(rt.alloc(), block)?;
+    Ok(outputs)
+}
+
+/// Why a run on these captures stopped.
+fn failure_of<'a, F: Read + Drop, I: Read + Drop>(
+    names: Names<'_, 'a>,
+    fault: StreamFault,
+    ports: &[Capture<'_, F, I>],
+    underlay: &Capture<'_, F, I>,
+) -> Failure<'a> {
+    match fault {
+        StreamFault::Read(tap) => match fault_of(tap, ports, underlay) {
+            Some(fault) => Failure::Pcapng(tap, fault),
+            None => Failure::Read(names.capture(tap)),
         },
-        Err(fault) => Err(Failure::running(names.underlay, fault)),
+        fault => Failure::running(names.underlay, fault),
     }
 }
 

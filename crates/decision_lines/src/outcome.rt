@@ -33,6 +33,22 @@ impl Line {
         self.put_count(count_of(sent));
     }
 
+    /// The same of a local port where so many octets left.
+    #[inline]
+    pub fn put_local(&mut self, is_first: bool, port: u8, count: usize)
+        requires room { length self.old + 77 ≤ 4096 }
+        ensures text { self.new ≡ self.old ++ (gap is_first ++ ((codes "p" ++ decimal port) ++ count_text (Ok count))) }
+        ensures len { length self.new ≤ length self.old + 77 }
+    {
+        if !is_first {
+            self.put_octet(b' ');
+        }
+        self.put_octet(b'p');
+        self.put_small(port);
+        self.put_octet(b'=');
+        self.put_number(count as u64);
+    }
+
     /// Puts that a frame or packet is dropped, and why.
     pub fn put_drop(&mut self, reason: Reason)
         requires room { length self.old + 24 ≤ 4096 }

@@ -1,5 +1,5 @@
 //! What leaves at one outlet.
-ghost use Rattle.std.specs.Prelude.{◌≡◌, ◌<◌, ◌≤◌, ◌⊎◌, ◌+◌, ◌++◌, [], ◌∷◌, map, length, OnOk, OnErr};
+ghost use Rattle.std.specs.Prelude.{◌≡◌, ◌<◌, ◌≤◌, ◌⊎◌, ◌+◌, ◌++◌, [], ◌∷◌, map, length, unwrap_or, OnOk, OnErr};
 ghost use Rattle.std.specs.Prelude.{vec_len, vec_capacity};
 ghost use Rattle.std.specs.List.{concat};
 ghost use Rattle.encapsulate.specs.Emission.{no_parts, text, around, local_text, local_parts, local_tag};
@@ -136,15 +136,23 @@ pub fn local<'a>(vid: Vid, egress: Egress, frame: &BridgeFrame<'a>) -> Emission<
     ensures text { text result ≡ local_text vid egress frame.now }
     ensures parts { result ≡ local_parts vid egress frame.now }
 {
-    let tag = match egress {
-        Egress::Tagged => Some(tag_of(vid, frame)),
-        Egress::Untagged => None,
-    };
     Emission {
         head: Head::new(),
         addresses: frame.addresses,
-        tag,
+        tag: local_tag(vid, egress, frame),
         body: frame.body,
+    }
+}
+
+/// The tag that a frame leaves with at a local port of its segment (IEEE 802.1Q, 8.8 and 9.6), if it leaves with one.
+#[inline]
+pub fn local_tag(vid: Vid, egress: Egress, frame: &BridgeFrame) -> Option<[u8; 4]>
+    ensures tag { unwrap_or result [] ≡ local_tag vid egress frame.now }
+    ensures text { let f = frame.now in (f.dst ++ f.src) ++ (unwrap_or result [] ++ f.body) ≡ local_text vid egress f }
+{
+    match egress {
+        Egress::Tagged => Some(tag_of(vid, frame)),
+        Egress::Untagged => None,
     }
 }
 

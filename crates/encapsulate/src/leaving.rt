@@ -3,9 +3,8 @@ ghost use Rattle.std.specs.Prelude.{◌≡◌, ◌≤◌, ◌⊎◌, ◌+◌, �
 ghost use Rattle.std.specs.List.{concat};
 ghost use Rattle.encapsulate.specs.Emission.{text, around, local_text, local_parts};
 
-use crate::emission::{four, tag_of};
+use crate::emission::{four, local_tag};
 use frame_view::{BridgeFrame, Vid};
-use outer_head::Head;
 use std::marker::Model;
 use vlan_ports::Egress;
 
@@ -75,25 +74,16 @@ impl<'h, 'a> Leaving<'h, 'a> {
     }
 }
 
-/// The frame as it leaves at a local port of its segment; the head isn't used.
-pub fn local_in<'h, 'a>(
-    vid: Vid,
-    egress: Egress,
-    frame: &BridgeFrame<'a>,
-    room: &'h mut Head,
-) -> Leaving<'h, 'a>
+/// The frame as it leaves at a local port of its segment: it has no head.
+#[inline]
+pub fn local_in<'h, 'a>(vid: Vid, egress: Egress, frame: &BridgeFrame<'a>) -> Leaving<'h, 'a>
     ensures text { text result ≡ local_text vid egress frame.now }
     ensures parts { result ≡ local_parts vid egress frame.now }
 {
-    let tag = match egress {
-        Egress::Tagged => Some(tag_of(vid, frame)),
-        Egress::Untagged => None,
-    };
-    room.clear();
     Leaving {
-        head: room.as_slice(),
+        head: &[],
         addresses: frame.addresses,
-        tag,
+        tag: local_tag(vid, egress, frame),
         body: frame.body,
     }
 }

@@ -13,7 +13,7 @@ mod leaving;
 mod remote;
 mod sums;
 
-pub use emission::{Emission, local};
+pub use emission::{Emission, local, local_tag};
 pub use leaving::{Leaving, local_in};
 pub use outer_head::Head;
 pub use remote::{unsent, wrap, wrap_in};

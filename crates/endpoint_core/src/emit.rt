@@ -1,5 +1,5 @@
 //! What is sent of a frame at an outlet.
-ghost use Rattle.std.specs.Prelude.{◌≡◌, ◌≤◌, IfOk, IsSome, IsTrue};
+ghost use Rattle.std.specs.Prelude.{◌≡◌, ◌≤◌, ◌++◌, [], Ok, IfOk, IsSome, IsTrue, unwrap_or};
 ghost use Rattle.filter_db.specs.declared.place.Place.TheVariants.{Local};
 ghost use Rattle.encapsulate.specs.Emission.{text};
 ghost use Rattle.encapsulate.specs.Remote.{texts};
@@ -13,7 +13,7 @@ ghost use Rattle.endpoint_core.specs.Step.{sent_at, outcome_at};
 
 use crate::Outcome;
 use crate::arrival::Came;
-use encapsulate::{Emission, Head, Leaving, local, local_in, unsent, wrap, wrap_in};
+use encapsulate::{Emission, Head, Leaving, local, local_in, local_tag, unsent, wrap, wrap_in};
 use endpoint_state::EndpointState;
 use filter_db::Place;
 use frame_view::{BridgeFrame, Reason, Vid};
@@ -32,7 +32,7 @@ pub(crate) fn emit_in<'h, 'a>(
     ensures parts { result ≡ (outcome_at (settings_of state.now) came.now.vid came.now.frame place).sent }
 {
     match place {
-        Place::Local(port) => Ok(emit_local_in(state, came.vid, &came.frame, port, room)),
+        Place::Local(port) => Ok(emit_local_in(state, came.vid, &came.frame, port)),
         Place::Remote(kind, addr) => wrap_in(
             state.under(),
             came.vid,
@@ -45,13 +45,29 @@ pub(crate) fn emit_in<'h, 'a>(
     }
 }
 
+/// The tag that a frame leaves with at a local port of its segment, if it leaves with one.
+#[inline]
+#[tactic(auto, unfolding(crate::specs::Arrival::emitted))]
+pub(crate) fn tag_in(
+    state: &EndpointState,
+    vid: Vid,
+    frame: &BridgeFrame,
+    port: u8,
+) -> Option<[u8; 4]>
+    requires { IsTrue (can_leave (settings_of state.now) vid (Local port)) }
+    ensures { let f = frame.now in
+        Ok ((f.dst ++ f.src) ++ (unwrap_or result [] ++ f.body)) ≡ (sent_at (settings_of state.now) vid f (Local port)).sent }
+{
+    let egress = state.ports().egress(vid, port).unwrap();
+    local_tag(vid, egress, frame)
+}
+
 /// What is sent at a local port of the segment.
 fn emit_local_in<'h, 'a>(
     state: &EndpointState,
     vid: Vid,
     frame: &BridgeFrame<'a>,
     port: u8,
-    room: &'h mut Head,
 ) -> Leaving<'h, 'a>
     requires { IsTrue (can_leave (settings_of state.now) vid (Local port)) }
     ensures value { text result ≡ local_octets (settings_of state.now).ports vid frame.now port }
@@ -59,7 +75,7 @@ fn emit_local_in<'h, 'a>(
     ensures parts { result ≡ local_emission (settings_of state.now).ports vid frame.now port }
 {
     let egress = state.ports().egress(vid, port).unwrap();
-    local_in(vid, egress, frame, room)
+    local_in(vid, egress, frame)
 }
 
 /// The number under which what is sent of a frame at a place is counted.

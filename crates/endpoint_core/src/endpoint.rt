@@ -1,5 +1,6 @@
 //! The endpoint.
-ghost use Rattle.std.specs.Prelude.{◌≡◌, ◌≤◌, IfOk, IsSome, IsTrue, length, true};
+ghost use Rattle.std.specs.Prelude.{◌≡◌, ◌≤◌, ◌++◌, [], Ok, IfOk, IsSome, IsTrue, length, true, unwrap_or};
+ghost use Rattle.filter_db.specs.declared.place.Place.TheVariants.{Local};
 ghost use Rattle.std.specs.FinMap.{entries};
 ghost use Rattle.frame_view.specs.First.{fault_of};
 ghost use Rattle.endpoint_state.specs.Opened.{settings_told};
@@ -19,7 +20,7 @@ ghost use Rattle.endpoint_state.specs.Step.{can_leave};
 use crate::arrival::{Came, come_at, come_by};
 use crate::counts::Counts;
 use crate::decide::decide;
-use crate::emit::emit_in;
+use crate::emit::{emit_in, tag_in};
 use crate::{Course, Decision};
 use encapsulate::{Head, Leaving};
 use endpoint_state::{Change, ChangeFault, EndpointState};
@@ -216,6 +217,17 @@ impl Endpoint {
             result ≡ (outcome_at S came.now.vid came.now.frame place).sent }
     {
         emit_in(&self.state, came, place, room)
+    }
+
+    /// The tag that a frame leaves with at a local port where it can leave, if it leaves with one. In front of it stand the
+    /// frame's addresses, and behind it its body.
+    #[inline]
+    pub fn tag_at(&self, came: &Came, port: u8) -> Option<[u8; 4]>
+        requires { IsTrue (can_leave (state_of self.now).bridges.settings came.now.vid (Local port)) }
+        ensures { let f = came.now.frame in
+            Ok ((f.dst ++ f.src) ++ (unwrap_or result [] ++ f.body)) ≡ (sent_at (state_of self.now).bridges.settings came.now.vid f (Local port)).sent }
+    {
+        tag_in(&self.state, came.vid, &came.frame, port)
     }
 
     /// A frame of this original length came in at a local port at a moment, in nanoseconds: what is decided of it.

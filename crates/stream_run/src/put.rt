@@ -1,18 +1,19 @@
 //! What comes of one event, put to the outputs of a run.
-ghost use Rattle.std.specs.Prelude.{◌≡◌, ◌≤◌, ◌<◌, ◌++◌, ℕ, List, Option, Some, None, IsSome, IsTrue, IfOk, length, map, slice_index_or};
+ghost use Rattle.std.specs.Prelude.{◌≡◌, ◌≤◌, ◌<◌, ◌+◌, ◌++◌, ℕ, List, Option, Some, None, [], Bool, IsSome, IsTrue, OnOk, length, map, slice_index_or, unwrap_or};
 ghost use Rattle.std.specs.List.{list_all};
 ghost use Rattle.pcap_io.specs.Record.{last_moment};
 ghost use Rattle.pcap_io.specs.Written.{whole_frame, written_record};
 ghost use Rattle.pcap_stream.specs.Sink.{Drain, IsPut};
 ghost use Rattle.encapsulate.specs.Emission.{text};
-ghost use Rattle.encapsulate.specs.Remote.{texts};
+ghost use Rattle.filter_db.specs.declared.place.Place.TheVariants.{Local};
 ghost use Rattle.endpoint_state.specs.Settings.{segment_at};
 ghost use Rattle.endpoint_state.specs.Step.{can_leave};
 ghost use Rattle.endpoint_core.specs.Course.{CanLeave, IsShortFrame, IsThere, decision_of};
 ghost use Rattle.endpoint_core.specs.Decision.{Sent};
 ghost use Rattle.endpoint_core.specs.Kept.{state_of};
 ghost use Rattle.endpoint_core.specs.Step.{Decided, has_two_tunnels, sent_at};
-ghost use Rattle.endpoint_core.specs.Text.{outcomes_text};
+ghost use Rattle.endpoint_core.specs.Text.{outcome_text, outcomes_text};
+ghost use Rattle.decision_lines.specs.Outcomes.{gap};
 ghost use Rattle.capture_run.specs.Outputs.{Outputs};
 ghost use Rattle.capture_run.specs.Writing.{put_at, with_all_sent, with_input, with_line, with_sent};
 ghost use Rattle.stream_run.specs.Amidst.{PutsInOrder, SendsInOrder};
@@ -24,9 +25,48 @@ use decision_lines::{Desk, Line};
 use encapsulate::{Head, Leaving};
 use endpoint_core::{Came, Course, Endpoint};
 use filter_db::Place;
-use frame_view::Reason;
 use pcap_stream::{Output, Sink, WriteFault, write_full};
 use timeline::Event;
+
+/// Puts a record with a frame's addresses, a tag and the frame's body into the capture of a port, where there is one of this
+/// number.
+#[inline(always)]
+fn put_at<W: Output>(
+    sinks: &mut [Sink<W>],
+    port: u8,
+    moment: u64,
+    addresses: &[u8],
+    tag: &[u8],
+    body: &[u8],
+) -> Result<(), Target>
+    requires moment { moment ≤ last_moment }
+    requires addresses { length addresses.now ≤ 12 }
+    requires tag { length tag.now ≤ 4 }
+    requires short { length body.now ≤ 65549 }
+    ensures { (start : Drains) (o : Outputs) (underlay : Drain) (written : Option (List ℕ)) (failures : ℕ) → StandAt start (drains sinks.old underlay written failures) o
+        → Lead start (drains sinks.new underlay written failures) o
+        (record o { ports = put_at port (written_record (whole_frame moment (addresses.now ++ (tag.now ++ body.now)))) o.ports }) result }
+{
+    if port == 0 || usize::from(port) > sinks.len() {
+        return Ok(());
+    }
+    match sinks[usize::from(port) - 1].put(moment, &[], addresses, tag, body) {
+        Ok(()) => Ok(()),
+        Err(_) => Err(Target::Port(port)),
+    }
+}
+
+/// The octets of a tag, if there is one.
+#[inline(always)]
+fn octets_of(tag: &Option<[u8; 4]>) -> &[u8]
+    ensures value { result.now ≡ unwrap_or tag.now [] }
+    ensures few { length result.now ≤ 4 }
+{
+    match tag {
+        Some(tag) => tag,
+        None => &[],
+    }
+}
 
 /// Puts a record with what leaves into a capture.
 fn put_leaving<W: Output>(
@@ -42,27 +82,6 @@ fn put_leaving<W: Output>(
     sink.put(moment, head, addresses, tag, body)
 }
 
-/// Puts a record with what leaves into the capture of a port, where there is one of this number.
-fn put_at<W: Output>(
-    sinks: &mut [Sink<W>],
-    port: u8,
-    moment: u64,
-    leaving: &Leaving,
-) -> Result<(), Target>
-    requires moment { moment ≤ last_moment }
-    requires short { length leaving.now.body ≤ 65549 }
-    ensures { (start : Drains) (o : Outputs) (underlay : Drain) (written : Option (List ℕ)) (failures : ℕ) → StandAt start (drains sinks.old underlay written failures) o
-        → Lead start (drains sinks.new underlay written failures) o (record o { ports = put_at port (written_record (whole_frame moment (text leaving.now))) o.ports }) result }
-{
-    if port == 0 || usize::from(port) > sinks.len() {
-        return Ok(());
-    }
-    match put_leaving(&mut sinks[usize::from(port) - 1], moment, leaving) {
-        Ok(()) => Ok(()),
-        Err(_) => Err(Target::Port(port)),
-    }
-}
-
 /// Puts a record with what leaves into the capture of the underlay.
 fn put_out<W: Output>(sink: &mut Sink<W>, moment: u64, leaving: &Leaving) -> Result<(), Target>
     requires moment { moment ≤ last_moment }
@@ -76,25 +95,79 @@ fn put_out<W: Output>(sink: &mut Sink<W>, moment: u64, leaving: &Leaving) -> Res
     }
 }
 
-/// Puts what came of an outlet: a record into the capture of its place, if something is sent.
-fn put_sent<W: Output>(
+/// Puts what leaves of a frame at a local port, and tells it in a line.
+#[inline(always)]
+fn put_local<W: Output>(
     port_sinks: &mut [Sink<W>],
-    underlay_sink: &mut Sink<W>,
+    endpoint: &Endpoint,
     moment: u64,
-    place: Place,
-    sent: &Result<Leaving, Reason>,
+    came: &Came,
+    port: u8,
+    is_first: bool,
+    line: &mut Line,
 ) -> Result<(), Target>
     requires moment { moment ≤ last_moment }
-    requires short { IfOk sent.now (λ e. length e.body ≤ 65549) }
-    ensures { (start : Drains) (o : Outputs) (written : Option (List ℕ)) (failures : ℕ) → StandAt start (drains port_sinks.old underlay_sink.old written failures) o
-        → Lead start (drains port_sinks.new underlay_sink.new written failures) o (with_sent moment o (record { place = place; sent = texts sent.now })) result }
+    requires leave { IsTrue (can_leave (state_of endpoint.now).bridges.settings came.now.vid (Local port)) }
+    requires short { length came.now.frame.body ≤ 65549 }
+    requires room { length line.old + 77 ≤ 4096 }
+    ensures sent { let S = (state_of endpoint.now).bridges.settings in
+        (start : Drains) (o : Outputs) (underlay : Drain) (written : Option (List ℕ)) (failures : ℕ) → StandAt start (drains port_sinks.old underlay written failures) o
+        → Lead start (drains port_sinks.new underlay written failures) o (with_sent moment o (sent_at S came.now.vid came.now.frame (Local port))) result }
+    ensures line { let S = (state_of endpoint.now).bridges.settings in
+        (two : Bool) → OnOk result (line.new ≡ line.old ++ (gap is_first ++ outcome_text two (sent_at S came.now.vid came.now.frame (Local port)))) }
+    ensures len { OnOk result (length line.new ≤ length line.old + 77) }
 {
-    let Ok(leaving) = sent else {
-        return Ok(());
-    };
+    let tag = endpoint.tag_at(came, port);
+    let tag = octets_of(&tag);
+    let frame = came.frame();
+    if let Err(target) = put_at(port_sinks, port, moment, frame.addresses, tag, frame.body) {
+        return Err(target);
+    }
+    line.put_local(
+        is_first,
+        port,
+        frame.addresses.len() + tag.len() + frame.body.len(),
+    );
+    Ok(())
+}
+
+/// Puts what leaves of a frame at a place, if something does, and tells it in a line.
+#[inline(always)]
+fn put_place<W: Output>(
+    port_sinks: &mut [Sink<W>],
+    underlay_sink: &mut Sink<W>,
+    endpoint: &Endpoint,
+    moment: u64,
+    came: &Came,
+    place: &Place,
+    is_first: bool,
+    two_tunnels: bool,
+    head: &mut Head,
+    line: &mut Line,
+) -> Result<(), Target>
+    requires moment { moment ≤ last_moment }
+    requires leave { IsTrue (can_leave (state_of endpoint.now).bridges.settings came.now.vid place.now) }
+    requires short { length came.now.frame.body ≤ 65549 }
+    requires room { length line.old + 77 ≤ 4096 }
+    ensures sent { let S = (state_of endpoint.now).bridges.settings in
+        (start : Drains) (o : Outputs) (written : Option (List ℕ)) (failures : ℕ) → StandAt start (drains port_sinks.old underlay_sink.old written failures) o
+        → Lead start (drains port_sinks.new underlay_sink.new written failures) o (with_sent moment o (sent_at S came.now.vid came.now.frame place.now)) result }
+    ensures line { let S = (state_of endpoint.now).bridges.settings in
+        OnOk result (line.new ≡ line.old ++ (gap is_first ++ outcome_text two_tunnels (sent_at S came.now.vid came.now.frame place.now))) }
+    ensures len { OnOk result (length line.new ≤ length line.old + 77) }
+{
     match place {
-        Place::Local(port) => put_at(port_sinks, port, moment, leaving),
-        Place::Remote(..) => put_out(underlay_sink, moment, leaving),
+        Place::Local(port) => {
+            put_local(port_sinks, endpoint, moment, came, *port, is_first, line)
+        }
+        Place::Remote(..) => {
+            let sent = endpoint.emit(came, *place, head);
+            if let Ok(leaving) = &sent {
+                put_out(underlay_sink, moment, leaving)?;
+            }
+            line.put_outcome(is_first, two_tunnels, *place, &sent);
+            Ok(())
+        }
     }
 }
 
@@ -127,11 +200,20 @@ fn put_places<W: Output>(
     let two_tunnels = endpoint.has_two_tunnels(came);
     let mut is_first = true;
     for place in places {
-        let sent = endpoint.emit(came, *place, head);
-        if let Err(target) = put_sent(port_sinks, underlay_sink, moment, *place, &sent) {
+        if let Err(target) = put_place(
+            port_sinks,
+            underlay_sink,
+            endpoint,
+            moment,
+            came,
+            place,
+            is_first,
+            two_tunnels,
+            head,
+            line,
+        ) {
             return Err(target);
         }
-        line.put_outcome(is_first, two_tunnels, *place, &sent);
         is_first = false;
     }
     Ok(())

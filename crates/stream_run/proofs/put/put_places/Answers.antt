@@ -1,15 +1,13 @@
-use Rattle.std.proofs.Common.{◌≡◌, ◌∙◌, ◌+◌, ◌++◌, ◌∷◌, [], refl, ap, subst, arith, drop, cond, map, slice_index_or, List, Result}
+use Rattle.std.proofs.Common.{◌≡◌, ◌∙◌, ◌+◌, ◌++◌, ◌∷◌, [], refl, ap, subst, arith, drop, cond, map, slice_index_or}
 use Rattle.std.proofs.lemmas.List.{drop_all}
-use Rattle.frame_view.specs.declared.reason.Reason.{Reason}
 use Rattle.filter_db.specs.declared.place.Place.TheVariants.{Local}
-use Rattle.encapsulate.specs.Remote.{texts}
 use Rattle.endpoint_core.specs.Kept.{state_of}
 use Rattle.endpoint_core.specs.Step.{has_two_tunnels, sent_at}
 use Rattle.endpoint_core.specs.Text.{further_text, outcome_text, outcomes_text}
 use Rattle.decision_lines.specs.Outcomes.{gap}
-use Rattle.capture_run.specs.Writing.{with_all_sent, with_sent}
+use Rattle.capture_run.specs.Writing.{with_all_sent}
 use Rattle.capture_run.proofs.Changes.{left_is}
-use Rattle.stream_run.specs.Stage.{StandAt, StandBetween, drains}
+use Rattle.stream_run.specs.Stage.{StandBetween, drains}
 use Rattle.stream_run.proofs.Lining.{text_more}
 use Rattle.stream_run.proofs.Standing.{PutSoFar, put_end, put_failed, put_more, put_next, put_none}
 use Rattle.stream_run.proofs.put.put_places.Goals as goal
@@ -22,10 +20,8 @@ returns-in-Err-clause-sent g c start o written failures at =
     let left = left_is c.args.places.now i (Local 0) c.loop-place-test.true in
     let so_far = c.loop-place.invariant.sent start o written failures at in
     let here = subst (λ l. PutSoFar c.args.moment start (drains c.loop-place.port_sinks c.loop-place.underlay_sink written failures) o (map f l) (map f c.args.places.now)) left so_far in
-    let same = ap (λ (s : Result (List _) Reason). with_sent c.args.moment here.mid (record { place = p; sent = s })) c.emit-sent.ensures.sent in
-    let lead = c.in-Err.ensures start here.mid written failures here.at in (
-      put_failed c.args.moment start (drains c.loop-place.port_sinks c.loop-place.underlay_sink written failures) (drains c.put_sent.new.port_sinks c.put_sent.new.underlay_sink written failures) o (f p) (map f (drop (i + 1) c.args.places.now)) (map f c.args.places.now) here
-          (subst (StandBetween start (drains c.put_sent.new.port_sinks c.put_sent.new.underlay_sink written failures) here.mid) same lead.0),
+    let lead = c.in-Err.ensures.sent start here.mid written failures here.at in (
+      put_failed c.args.moment start (drains c.loop-place.port_sinks c.loop-place.underlay_sink written failures) (drains c.put_place.new.port_sinks c.put_place.new.underlay_sink written failures) o (f p) (map f (drop (i + 1) c.args.places.now)) (map f c.args.places.now) here lead.0,
       lead.1,
     )
 
@@ -46,18 +42,17 @@ returns-in-Err-clause-order g c start o written failures at =
     let rest = map f (drop (i + 1) c.args.places.now) in
     let all = map f c.args.places.now in
     let now = drains c.loop-place.port_sinks c.loop-place.underlay_sink written failures in
-    let new = drains c.put_sent.new.port_sinks c.put_sent.new.underlay_sink written failures in
+    let new = drains c.put_place.new.port_sinks c.put_place.new.underlay_sink written failures in
     let left = left_is c.args.places.now i (Local 0) c.loop-place-test.true in
     let so_far = c.loop-place.invariant.sent start o written failures at in
     let here = subst (λ l. PutSoFar c.args.moment start now o (map f l) all) left so_far in
-    let same = ap (λ (s : Result (List _) Reason). with_sent c.args.moment here.mid (record { place = p; sent = s })) c.emit-sent.ensures.sent in
-    let lead = c.in-Err.ensures start here.mid written failures here.at in (
+    let lead = c.in-Err.ensures.sent start here.mid written failures here.at in (
       here.front,
       f p,
       rest,
       here.is,
       subst (λ m. StandBetween start new m (with_all_sent c.args.moment o (here.front ++ f p ∷ []))) here.put
-          (subst (StandBetween start new here.mid) (same ∙ put_next c.args.moment start now o (f p) rest all here) lead.0),
+          (subst (StandBetween start new here.mid) (put_next c.args.moment start now o (f p) rest all here) lead.0),
     )
 
 pub loop-place-preserved : goal.loop-place-preserved
@@ -72,14 +67,12 @@ loop-place-preserved g c =
     record {
       sent = λ start o written failures at.
           let here = subst (λ l. PutSoFar c.args.moment start (drains c.loop-place.port_sinks c.loop-place.underlay_sink written failures) o (map f l) (map f c.args.places.now)) left (c.loop-place.invariant.sent start o written failures at) in
-          let same = ap (λ (s : Result (List _) Reason). with_sent c.args.moment here.mid (record { place = p; sent = s })) c.emit-sent.ensures.sent in
-          put_more c.args.moment start (drains c.loop-place.port_sinks c.loop-place.underlay_sink written failures) (drains c.put_sent.new.port_sinks c.put_sent.new.underlay_sink written failures) o (f p) (map f (drop (i + 1) c.args.places.now)) (map f c.args.places.now) here
-          (subst (StandAt start (drains c.put_sent.new.port_sinks c.put_sent.new.underlay_sink written failures)) same (c.in_default.ensures start here.mid written failures here.at));
-      text = text_more two c.loop-place.is_first c.loop-place.line _ c.put_outcome.new.self (f p) (map f (drop (i + 1) c.args.places.now))
+          put_more c.args.moment start (drains c.loop-place.port_sinks c.loop-place.underlay_sink written failures) (drains c.put_place.new.port_sinks c.put_place.new.underlay_sink written failures) o (f p) (map f (drop (i + 1) c.args.places.now)) (map f c.args.places.now) here
+          (c.in_default.ensures.sent start here.mid written failures here.at);
+      text = text_more two c.loop-place.is_first c.loop-place.line _ c.put_place.new.line (f p) (map f (drop (i + 1) c.args.places.now))
           (subst (λ l. c.loop-place.line ++ cond c.loop-place.is_first (outcomes_text two (map f l)) (further_text two (map f l)) ≡ c.args.line.now ++ outcomes_text two (map f c.args.places.now)) left whole)
-          (c.put_outcome.ensures.text ∙ ap (λ b. c.loop-place.line ++ (gap c.loop-place.is_first ++ outcome_text b (record { place = p; sent = texts c.emit-sent.result }))) c.has_two_tunnels-two_tunnels.ensures
-          ∙ ap (λ (s : Result (List _) Reason). c.loop-place.line ++ (gap c.loop-place.is_first ++ outcome_text two (record { place = p; sent = s }))) c.emit-sent.ensures.sent);
-      room = omega (arith, c.put_outcome.ensures.len, c.loop-place.invariant.room);
+          (c.in_default.ensures.line ∙ ap (λ b. c.loop-place.line ++ (gap c.loop-place.is_first ++ outcome_text b (f p))) c.has_two_tunnels-two_tunnels.ensures);
+      room = omega (arith, c.in_default.ensures.len, c.loop-place.invariant.room);
     }
 
 pub returns-clause-sent : goal.returns-clause-sent

@@ -141,11 +141,11 @@ fn put_place<W: Output>(
     came: &Came,
     place: &Place,
     is_first: bool,
-    two_tunnels: bool,
     head: &mut Head,
     line: &mut Line,
 ) -> Result<(), Target>
     requires moment { moment ≤ last_moment }
+    requires there { IsSome (segment_at (state_of endpoint.now).bridges.settings came.now.vid) }
     requires leave { IsTrue (can_leave (state_of endpoint.now).bridges.settings came.now.vid place.now) }
     requires short { length came.now.frame.body ≤ 65549 }
     requires room { length line.old + 77 ≤ 4096 }
@@ -153,7 +153,7 @@ fn put_place<W: Output>(
         (start : Drains) (o : Outputs) (written : Option (List ℕ)) (failures : ℕ) → StandAt start (drains port_sinks.old underlay_sink.old written failures) o
         → Lead start (drains port_sinks.new underlay_sink.new written failures) o (with_sent moment o (sent_at S came.now.vid came.now.frame place.now)) result }
     ensures line { let S = (state_of endpoint.now).bridges.settings in
-        OnOk result (line.new ≡ line.old ++ (gap is_first ++ outcome_text two_tunnels (sent_at S came.now.vid came.now.frame place.now))) }
+        OnOk result (line.new ≡ line.old ++ (gap is_first ++ outcome_text (has_two_tunnels S.overlay came.now.vid) (sent_at S came.now.vid came.now.frame place.now))) }
     ensures len { OnOk result (length line.new ≤ length line.old + 77) }
 {
     match place {
@@ -165,7 +165,7 @@ fn put_place<W: Output>(
             if let Ok(leaving) = &sent {
                 put_out(underlay_sink, moment, leaving)?;
             }
-            line.put_outcome(is_first, two_tunnels, *place, &sent);
+            line.put_outcome(is_first, endpoint.has_two_tunnels(came), *place, &sent);
             Ok(())
         }
     }
@@ -197,7 +197,6 @@ fn put_places<W: Output>(
     ensures line { let S = (state_of endpoint.now).bridges.settings in
         LineLeads line.old line.new (outcomes_text (has_two_tunnels S.overlay came.now.vid) (map (sent_at S came.now.vid came.now.frame) places.now)) result }
 {
-    let two_tunnels = endpoint.has_two_tunnels(came);
     let mut is_first = true;
     for place in places {
         if let Err(target) = put_place(
@@ -208,7 +207,6 @@ fn put_places<W: Output>(
             came,
             place,
             is_first,
-            two_tunnels,
             head,
             line,
         ) {

@@ -3,14 +3,15 @@ use Rattle.frame_view.specs.declared.reason.Reason.{Reason}
 use Rattle.encapsulate.specs.Emission.{text}
 use Rattle.encapsulate.specs.Remote.{texts}
 use Rattle.endpoint_core.specs.Kept.{state_of}
-use Rattle.endpoint_core.specs.Step.{sent_at}
+use Rattle.endpoint_core.specs.Step.{has_two_tunnels, sent_at}
 use Rattle.capture_run.specs.Writing.{with_sent}
 use Rattle.stream_run.specs.Stage.{StandAt, drains}
 use Rattle.stream_run.proofs.put.put_place.Goals as goal
 use Rattle.stream_run.proofs.put.put_place.Goals.{in-Ok+in_ok-put_out-in-Remote, in_default}
 
 pub returns-in-Local-clause-line : goal.returns-in-Local-clause-line
-returns-in-Local-clause-line g c = rw c.in-Local.is (c.put_local.ensures.line c.args.two_tunnels)
+returns-in-Local-clause-line g c =
+    rw c.in-Local.is (c.put_local.ensures.line (has_two_tunnels (state_of c.args.endpoint.now).bridges.settings.overlay c.args.came.now.vid))
 
 pub returns-after-sent-clause-sent : goal.returns-after-sent-clause-sent
 returns-after-sent-clause-sent g c start o written failures at =

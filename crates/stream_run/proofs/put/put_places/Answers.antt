@@ -1,10 +1,9 @@
-use Rattle.std.proofs.Common.{◌≡◌, ◌∙◌, ◌+◌, ◌++◌, ◌∷◌, [], refl, ap, subst, arith, drop, cond, map, slice_index_or}
+use Rattle.std.proofs.Common.{◌≡◌, ◌+◌, ◌++◌, ◌∷◌, [], refl, subst, arith, drop, cond, map, slice_index_or}
 use Rattle.std.proofs.lemmas.List.{drop_all}
 use Rattle.filter_db.specs.declared.place.Place.TheVariants.{Local}
 use Rattle.endpoint_core.specs.Kept.{state_of}
 use Rattle.endpoint_core.specs.Step.{has_two_tunnels, sent_at}
-use Rattle.endpoint_core.specs.Text.{further_text, outcome_text, outcomes_text}
-use Rattle.decision_lines.specs.Outcomes.{gap}
+use Rattle.endpoint_core.specs.Text.{further_text, outcomes_text}
 use Rattle.capture_run.specs.Writing.{with_all_sent}
 use Rattle.capture_run.proofs.Changes.{left_is}
 use Rattle.stream_run.specs.Stage.{StandBetween, drains}
@@ -71,7 +70,7 @@ loop-place-preserved g c =
           (c.in_default.ensures.sent start here.mid written failures here.at);
       text = text_more two c.loop-place.is_first c.loop-place.line _ c.put_place.new.line (f p) (map f (drop (i + 1) c.args.places.now))
           (subst (λ l. c.loop-place.line ++ cond c.loop-place.is_first (outcomes_text two (map f l)) (further_text two (map f l)) ≡ c.args.line.now ++ outcomes_text two (map f c.args.places.now)) left whole)
-          (c.in_default.ensures.line ∙ ap (λ b. c.loop-place.line ++ (gap c.loop-place.is_first ++ outcome_text b (f p))) c.has_two_tunnels-two_tunnels.ensures);
+          c.in_default.ensures.line;
       room = omega (arith, c.in_default.ensures.len, c.loop-place.invariant.room);
     }
 

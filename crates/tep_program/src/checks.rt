@@ -1,6 +1,4 @@
 //! A look at what a run is to read, before it does.
-use crate::inputs::{SeenCapture, open_seen, read_file, read_if_given};
-use crate::printing::print_text;
 use capture_run::{RunFault, of_changes, of_settings};
 use capture_survey::{Report, SurveyFault, survey_capture};
 use config_text::SettingsFault;
@@ -9,6 +7,7 @@ use file_kind::FileKind;
 use foreseen_changes::foresee;
 use overlay_config::{changes_of, settings_of};
 use pcap_io::CaptureFault;
+use program_files::{SeenCapture, open_seen, print_text, read_file, read_if_given, tap_of};
 use std::fmt::Write;
 use std::io::{Input, Read};
 use std::rt::Files;
@@ -114,8 +113,7 @@ fn look_at_captures<'a, R: Files + Input + AllocGlobal + Print>(
 ) -> Result<(), Failure<'a>> {
     let mut seen = Ok(());
     for (index, name) in ports.iter().enumerate() {
-        let tap = Tap::Port(u8::try_from(index + 1).unwrap_or(u8::MAX));
-        let looked = look_at_capture(rt, tap, *name);
+        let looked = look_at_capture(rt, tap_of(index), *name);
         seen = seen.and(looked);
     }
     match underlay {

@@ -1,20 +1,11 @@
-//! The program `tep` from its words to its files, texts and exit status. What it works out stands in the library
-//! `dissector` and in `stream_run`; here are its words, its files and its exit statuses.
+//! The program `tep` from its words to its texts and exit status. What it works out stands in the library `dissector` and in
+//! `stream_run`, its files and its runs and merges on them in `program_files`, `runs_on_files` and `merge_on_files`; here are
+//! its words, its look at what a run is to read, and its exit statuses.
 //!
 //! [`start`] gets the words of the process; [`run`] is handed them.
 #![tactic(auto)]
 
 mod checks;
-mod digests;
-mod inputs;
-mod merged_texts;
-mod merging;
-mod names;
-mod outputs;
-mod part_texts;
-mod parts;
-mod printing;
 mod program;
-mod runs;
 
 pub use program::{run, start};

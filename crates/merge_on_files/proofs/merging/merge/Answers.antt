@@ -1,5 +1,5 @@
 use Rattle.std.proofs.Common.{arith, ap, length}
-use Rattle.tep_program.proofs.merging.merge.Goals as goal
+use Rattle.merge_on_files.proofs.merging.merge.Goals as goal
 
 pub merge_streams-merged-requires : goal.merge_streams-merged-requires
 merge_streams-merged-requires g c = record {

@@ -1,10 +1,8 @@
 //! Digests of captures: taken, printed, and lent to the parts of a run.
-use crate::inputs::{CAPTURE_READS, open_named, read_file};
-use crate::printing::print_text;
-use crate::runs::tap_of;
 use arrayvec::ArrayVec;
 use capture_run::RunFault;
 use dissector::{DigestsFailure, Failure};
+use program_files::{CAPTURE_READS, open_named, print_text, read_file, tap_of};
 use shard_record::{
     CaptureDigest, CaptureDigests, DigestInput, DigestsFault, LentFault, MOST_PORTS, digests_of,
     digests_text,

@@ -26,7 +26,7 @@ pub struct Outputs<F: Write + Drop> {
 /// The same files, opened, with what stood in them.
 #[derive(Drop)]
 pub struct Opened<F: Drop> {
-    ports: Vec<F>,
+    pub ports: Vec<F>,
     underlay: F,
     decisions: F,
     shard: Option<F>,

@@ -1,6 +1,6 @@
 use Rattle.std.proofs.Common.{◌≡◌, All, length}
 use Rattle.pcap_stream.specs.Source.{New, Stream}
-use Rattle.tep_program.proofs.inputs.open_captures.Given as goal
+use Rattle.program_files.proofs.inputs.open_captures.Given as goal
 
 abbrev pub invariant-loop-name : goal.invariant-loop-name
 invariant-loop-name g l = record {

@@ -2,14 +2,14 @@
 ghost use Rattle.std.specs.Prelude.{◌≡◌, All, IfOk, length};
 ghost use Rattle.stream_run.specs.Begun.{IsUnread};
 
-use crate::inputs::{Capture, open_capture, open_captures, read_file, read_if_given};
-use crate::names::Names;
-use crate::outputs::{Outputs, open_outputs, spare_inputs};
-use crate::part_texts::drop_texts;
 use capture_run::{RunFault, of_changes, of_settings};
 use dissector::Failure;
 use overlay_config::{TimedChange, changes_of, settings_of};
 use pcapng_input::PcapngFault;
+use program_files::{
+    Capture, Names, Outputs, drop_texts, open_capture, open_captures, open_outputs, read_file,
+    read_if_given, spare_inputs, tap_of,
+};
 use segment_set::SegmentSet;
 use std::alloc::{AllocError, Global};
 use std::io::{Input, Read};
@@ -85,15 +85,34 @@ pub fn run_on_files<'a, R: Files + Input + AllocGlobal, T: Watch>(
     scope: Scope<'_>,
     watch: &mut T,
 ) -> Result<Done<R::File>, Failure<'a>> {
-    let mut underlay = match open_capture(rt, names.underlay) {
+    let underlay = match open_capture(rt, names.underlay) {
         Ok(underlay) => underlay,
         Err(failure) => return Err(failure),
     };
-    let mut ports = match open_captures(rt, names.ports) {
+    let ports = match open_captures(rt, names.ports) {
         Ok(ports) => ports,
         Err(failure) => return Err(failure),
     };
-    match run_on_captures(
+    run_on_opened(rt, names, texts, folder, scope, ports, underlay, watch)
+}
+
+/// The same on captures of which nothing is read yet.
+fn run_on_opened<'a, R: Files + Input + AllocGlobal, T: Watch>(
+    rt: &R,
+    names: Names<'_, 'a>,
+    texts: &Texts,
+    folder: &str,
+    scope: Scope<'_>,
+    ports: Vec<Capture<'a, R::File, R::Reader>>,
+    underlay: Capture<'a, R::File, R::Reader>,
+    watch: &mut T,
+) -> Result<Done<R::File>, Failure<'a>>
+    requires ports { All IsUnread ports.items }
+    requires underlay { IsUnread underlay }
+{
+    let mut ports = ports;
+    let mut underlay = underlay;
+    let shard = match run_on_captures(
         rt,
         names,
         texts,
@@ -103,11 +122,12 @@ pub fn run_on_files<'a, R: Files + Input + AllocGlobal, T: Watch>(
         &mut underlay,
         watch,
     ) {
-        Ok(shard) => match done_on(rt.alloc(), ports.as_slice(), &underlay, shard) {
-            Ok(done) => Ok(done),
-            Err(error) => Err(Failure::from(error)),
-        },
-        Err(failure) => Err(failure),
+        Ok(shard) => shard,
+        Err(failure) => return Err(failure),
+    };
+    match done_on(rt.alloc(), ports.as_slice(), &underlay, shard) {
+        Ok(done) => Ok(done),
+        Err(error) => Err(Failure::from(error)),
     }
 }
 
@@ -215,11 +235,6 @@ fn failure_of<'a, F: Read + Drop, I: Read + Drop>(
         },
         fault => Failure::running(names.underlay, fault),
     }
-}
-
-/// The tap of the port behind so many others.
-pub fn tap_of(index: usize) -> Tap {
-    Tap::Port(u8::try_from(index.saturating_add(1)).unwrap_or(u8::MAX))
 }
 
 /// The taps of the captures that are cut.

@@ -1,6 +1,6 @@
 use Rattle.std.proofs.Common.{◌≡◌, ◌++◌, length}
 use Rattle.std.specs.Vec.Iter.{into_iter_items}
-use Rattle.tep_program.proofs.outputs.Opened.emptied.Given as goal
+use Rattle.program_files.proofs.outputs.Opened.emptied.Given as goal
 
 -- a file that is written stands for each that was taken
 abbrev pub invariant-loop-file : goal.invariant-loop-file

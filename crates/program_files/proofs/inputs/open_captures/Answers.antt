@@ -1,7 +1,7 @@
 use Rattle.std.proofs.Common.{◌≡◌, ◌∷◌, [], ◌++◌, All, rules, sym, subst}
 use Rattle.std.proofs.lemmas.List.Elements.{All-push}
 use Rattle.pcap_stream.specs.Source.{New, Stream}
-use Rattle.tep_program.proofs.inputs.open_captures.Goals as goal
+use Rattle.program_files.proofs.inputs.open_captures.Goals as goal
 
 pub loop-name-preserved : goal.loop-name-preserved
 loop-name-preserved g c =

@@ -2,12 +2,12 @@
 ghost use Rattle.std.specs.Prelude.{◌≤◌};
 
 use crate::merged_texts::{MergedTexts, TextsAsked, merge_texts};
-use crate::names::is_same;
-use crate::outputs::{open_outputs, path_of};
-use crate::parts::{PartInput, count_events, of_part, open_lines, open_part_file};
-use crate::runs::tap_of;
 use dissector::{Failure, OutputFile, ShardFailure, read_text};
 use pcap_stream::Source;
+use program_files::{
+    PartInput, count_events, is_same, of_part, open_lines, open_outputs, open_part_file, path_of,
+    tap_of,
+};
 use segment_set::SegmentSet;
 use shard_merge::{Capture, MergeFault, Part, PartFault, RecordsFault, Target, merge_streams};
 use shard_record::{MOST_PORTS, ShardFault, ShardRecord, part_all, record_of, same_run};

@@ -1,0 +1,8 @@
+//! Parts of a run, in their folders, made the whole run again.
+#![tactic(auto)]
+
+mod merged_texts;
+mod merging;
+
+pub use merged_texts::{MergedTexts, TextsAsked};
+pub use merging::merge;

@@ -1,0 +1,20 @@
+//! What the program reads and writes: the texts and captures of a run, the files that it leaves, the files of a part, and what
+//! is printed. Which of them a run takes, and what comes out of it, stands above.
+#![tactic(auto)]
+
+mod inputs;
+mod names;
+mod outputs;
+mod part_inputs;
+mod part_texts;
+mod printing;
+
+pub use inputs::{
+    Blocks, CAPTURE_READS, Capture, ClassicInput, Device, SeenCapture, open_capture, open_captures,
+    open_named, open_seen, read_file, read_if_given, read_underlay,
+};
+pub use names::{Names, is_same, tap_of};
+pub use outputs::{Opened, Outputs, Written, open_outputs, path_of, spare_inputs};
+pub use part_inputs::{PartInput, count_events, of_part, open_lines, open_part_file};
+pub use part_texts::{drop_texts, leave_text};
+pub use printing::{is_lost, print_text};

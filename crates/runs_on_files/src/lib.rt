@@ -1,0 +1,10 @@
+//! Runs on files and pipes: of all segments, and of some of them as a part.
+#![tactic(auto)]
+
+mod digests;
+mod parts;
+mod runs;
+
+pub use digests::print_digests;
+pub use parts::{Ran, run_part, segments_of};
+pub use runs::{Done, Scope, Texts, run_on_files};

@@ -82,8 +82,6 @@ fn verdict(tables: &mut ListTables, bridge: &Bridge, now: u64, came: &Came) -> O
         return None;
     };
     let frame = BridgeFrame {
-        dst: view.dst(),
-        src: view.src(),
         pcp: 0,
         dei: false,
         addresses: view.addresses(),

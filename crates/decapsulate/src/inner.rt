@@ -40,8 +40,6 @@ pub(crate) fn frame_in<'a>(
         return Err(Reason::InnerTag);
     }
     Ok(BridgeFrame {
-        dst: view.dst(),
-        src: view.src(),
         pcp: 0,
         dei: false,
         addresses: view.addresses(),

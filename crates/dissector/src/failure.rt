@@ -1,6 +1,10 @@
 //! Why the program gives up.
 ghost use Rattle.std.specs.Prelude.{◌≡◌};
+ghost use Rattle.capture_run.specs.declared.fault.RunFault.TheVariants as run;
 ghost use Rattle.dissector.specs.Status.{failure_status_of, stream_status_of};
+ghost use Rattle.dissector.specs.declared.failure.Failure.TheVariants as failures;
+ghost use Rattle.dissector.specs.declared.failure.ShardFailure.TheVariants as shards;
+ghost use Rattle.dissector.specs.declared.text.TextFault.TheVariants.{OutOfMemory, Read};
 
 use crate::status::exit_code;
 use crate::text::TextFault;
@@ -126,11 +130,21 @@ impl<'a> From<AllocError> for Failure<'a> {
 
 impl<'a> Failure<'a> {
     /// That the file of this name couldn't be read whole.
-    pub fn reading(name: &'a str, fault: TextFault) -> Failure<'a> {
+    pub fn reading(name: &'a str, fault: TextFault) -> Failure<'a>
+        ensures read { fault ≡ Read → result ≡ failures.Read name.entry }
+        ensures memory { fault ≡ OutOfMemory → result ≡ failures.Run run.OutOfMemory }
+    {
         match fault {
             TextFault::Read => Failure::Read(name),
             TextFault::OutOfMemory => Failure::Run(RunFault::OutOfMemory),
         }
+    }
+
+    /// That the part in this folder is wrong.
+    pub fn in_part(folder: &'a str, fault: PartFault) -> Failure<'a>
+        ensures { result ≡ failures.Shard folder.entry (shards.Part fault) }
+    {
+        Failure::Shard(folder, ShardFailure::Part(fault))
     }
 
     /// That a run stopped, of whose captures the one of this name is the one that a failed read was of.

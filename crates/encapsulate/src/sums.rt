@@ -56,7 +56,9 @@ fn stations_sum(frame: &BridgeFrame) -> u64
     ensures whole { result ≡ total (frame.now.dst ++ frame.now.src) }
     ensures small { result ≤ 2 ^ 24 }
 {
-    words(&frame.dst.0) + words(&frame.src.0)
+    let destination = frame.dst();
+    let source = frame.src();
+    words(&destination.0) + words(&source.0)
 }
 
 /// The folded sum of a frame's octets, without a tag, by the sum of its addresses.

@@ -36,14 +36,14 @@ pub(crate) fn put_bridge_facts(
     let vid = came.segment();
     let from = came.place();
     let frame = came.frame();
-    let source = state.entry(alloc, vid, frame.src, now)?;
+    let source = state.entry(alloc, vid, frame.src(), now)?;
     let entries = state.entry_count(alloc, vid, now)?;
-    let before = state.entry(alloc, vid, frame.dst, left)?;
+    let before = state.entry(alloc, vid, frame.dst(), left)?;
     let destination = state.destination(alloc, now, vid, from, frame)?;
     let stood = stood_fact(now, state.ageing(vid), before, destination);
     let limit = state.limit(vid);
     let bridge = state.bridge(vid);
-    let group = frame.dst.is_group();
+    let group = frame.dst().is_group();
     put_told(
         facts,
         &bridge,

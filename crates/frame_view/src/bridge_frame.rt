@@ -1,12 +1,13 @@
 //! A frame as a bridge sees it.
+ghost use Rattle.std.specs.Prelude.{◌≡◌};
+
 use crate::Mac;
+use crate::ether_view::six;
 use std::marker::Model;
 
 /// A frame without its outermost tag, seen by contracts as a `Frame`: its addresses, priority and body.
 #[derive(Debug, Drop)]
 pub struct BridgeFrame<'a> {
-    pub dst: Mac,
-    pub src: Mac,
     /// The priority code point, 0 to 7.
     pub pcp: u8,
     /// The drop eligible indicator.
@@ -18,15 +19,38 @@ pub struct BridgeFrame<'a> {
 }
 
 impl<'a> Model for BridgeFrame<'a> {
-    ghost use Rattle.std.specs.Prelude.{◌≡◌, ◌<◌, ◌≤◌, ◌++◌, length};
+    ghost use Rattle.std.specs.Prelude.{◌≡◌, ◌<◌, ◌≤◌, drop, length, take};
     ghost use Rattle.frame_view.specs.Frame.{Frame};
 
     ghost Value = { Frame };
 
-    ghost view = { λ f. record { dst = f.dst; src = f.src; pcp = f.pcp; dei = f.dei; body = f.body.now } };
+    ghost view = { λ f. record {
+      dst = take 6 f.addresses.now;
+      src = drop 6 f.addresses.now;
+      pcp = f.pcp;
+      dei = f.dei;
+      body = f.body.now;
+    } };
 
-    ghost invariant = { λ f. (f.addresses.now ≡ f.dst ++ f.src)
-        × (length f.addresses.now ≡ 12)
+    ghost invariant = { λ f. (length f.addresses.now ≡ 12)
         × (f.pcp < 8)
         × (2 ≤ length f.body.now) };
+}
+
+impl<'a> BridgeFrame<'a> {
+    /// The destination.
+    #[inline(always)]
+    pub fn dst(&self) -> Mac
+        ensures { result ≡ self.now.dst }
+    {
+        Mac(six(self.addresses, 0))
+    }
+
+    /// The source.
+    #[inline(always)]
+    pub fn src(&self) -> Mac
+        ensures { result ≡ self.now.src }
+    {
+        Mac(six(self.addresses, 6))
+    }
 }

@@ -83,6 +83,8 @@ impl<'a> EtherView<'a> {
     pub fn addresses(&self) -> &'a [u8]
         ensures part { result.now ≡ take 12 self.now }
         ensures both { result.now ≡ take 6 self.now ++ part 6 6 self.now }
+        ensures first { take 6 result.now ≡ take 6 self.now }
+        ensures second { drop 6 result.now ≡ part 6 6 self.now }
         ensures len { length result.now ≡ 12 }
     {
         &self.octets[..ADDRESSES]
@@ -153,7 +155,7 @@ fn has_outer_tag(text: &[u8]) -> bool
     kind == CUSTOMER_TAG || kind == SERVICE_TAG
 }
 
-fn six(octets: &[u8], at: usize) -> [u8; 6]
+pub(crate) fn six(octets: &[u8], at: usize) -> [u8; 6]
     requires { at + 6 ≤ length octets.now }
     ensures { result ≡ part at 6 octets.now }
 {

@@ -2,11 +2,10 @@
 ghost use Rattle.std.specs.Prelude.{◌≤◌};
 
 use crate::merged_texts::{MergedTexts, TextsAsked, merge_texts};
-use dissector::{Failure, OutputFile, ShardFailure, read_text};
+use dissector::{Failure, OutputFile, ShardFailure, read_text, tap_of};
 use pcap_stream::Source;
 use program_files::{
-    PartInput, count_events, is_same, of_part, open_lines, open_outputs, open_part_file, path_of,
-    tap_of,
+    PartInput, count_events, is_same, open_lines, open_outputs, open_part_file, path_of,
 };
 use segment_set::SegmentSet;
 use shard_merge::{Capture, MergeFault, Part, PartFault, RecordsFault, Target, merge_streams};
@@ -275,7 +274,10 @@ fn open_capture<'a, R: Files + AllocGlobal>(
     };
     match Capture::open(source) {
         Ok(capture) => Ok(capture),
-        Err(fault) => Err(of_part(folder, PartFault::Capture(tap, RecordsFault::Source(fault)))),
+        Err(fault) => Err(Failure::in_part(
+            folder,
+            PartFault::Capture(tap, RecordsFault::Source(fault)),
+        )),
     }
 }
 
@@ -283,7 +285,7 @@ fn open_capture<'a, R: Files + AllocGlobal>(
 fn failure_of<'a>(folders: &[&'a str], fault: MergeFault) -> Failure<'a> {
     match fault {
         MergeFault::Read(part) => Failure::Read(name_of(folders, part)),
-        MergeFault::Part(part, fault) => of_part(name_of(folders, part), fault),
+        MergeFault::Part(part, fault) => Failure::in_part(name_of(folders, part), fault),
         MergeFault::Write(Target::Decisions) => Failure::Write(OutputFile::Decisions),
         MergeFault::Write(Target::Capture(Tap::Underlay)) => Failure::Write(OutputFile::Underlay),
         MergeFault::Write(Target::Capture(Tap::Port(number))) => {

@@ -1,5 +1,5 @@
 -- What a blank head tells.
-use Rattle.std.proofs.Common.{◌≡◌, ℕ, zero, suc, ◌+◌, ◌*◌, ◌/◌, ◌%◌, ◌<◌, List, [], ◌∷◌, ◌++◌, length, drop, refl, sym, ap, ◌∙◌, subst, arith}
+use Rattle.std.proofs.Common.{◌≡◌, ℕ, zero, suc, ◌+◌, ◌*◌, ◌/◌, ◌%◌, ◌<◌, List, [], ◌∷◌, ◌++◌, length, take, drop, refl, sym, ap, ◌∙◌, subst, arith}
 use Rattle.std.proofs.lemmas.List.{length-take, length-drop, length-append}
 use Rattle.header_sums.specs.Octets.{octet, part}
 use Rattle.outer_head.specs.Template.{Fixed, blank4, fixed4, blank6, fixed6}
@@ -49,8 +49,9 @@ pub tells6 : (b : List ℕ) (t : Fixed) → b ≡ blank6 t → fixed6 (blank6 t)
 tells6 b t is back = is ∙ ap blank6 (sym (ap fixed6 is ∙ back))
 
 -- the octets of a frame
-pub length-plain : (dst src body addresses : List ℕ) → addresses ≡ dst ++ src → length addresses ≡ 12 → length (dst ++ (src ++ body)) ≡ 12 + length body
-length-plain dst src body addresses is twelve = omega (arith, ap length is, twelve, length-append dst src, length-append dst (src ++ body), length-append src body)
+pub length-plain : (addresses body : List ℕ) → length addresses ≡ 12 → length (take 6 addresses ++ (drop 6 addresses ++ body)) ≡ 12 + length body
+length-plain addresses body twelve =
+    omega (arith, twelve, length-take 6 addresses, length-drop 6 addresses, length-append (take 6 addresses) (drop 6 addresses ++ body), length-append (drop 6 addresses) body)
 
 -- the octets of a part that is there
 pub length-part : (place n : ℕ) (b : List ℕ) → place + n < length b + 1 → length (part place n b) ≡ n

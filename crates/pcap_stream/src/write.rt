@@ -8,7 +8,7 @@ ghost use Rattle.pcap_stream.specs.Sink.{AppendsPart, joined};
 
 use crate::fault::WriteFault;
 use crate::output::Output;
-use pcap_io::record_header;
+use pcap_io::{RECORD_HEADER_LENGTH, record_header};
 
 /// Writes a text whole: mostly the output takes it at once.
 #[inline(always)]
@@ -72,6 +72,8 @@ fn write_parts<W: Output>(output: &mut W, parts: &[&[u8]]) -> Result<(), WriteFa
 
 /// Writes five texts that lie in different places, one behind another. They share a lifetime, so that they can stand in
 /// one array.
+#[cold]
+#[inline(never)]
 fn write_five<'p, W: Output>(
     output: &mut W,
     before: &'p [u8],
@@ -173,7 +175,8 @@ fn write_two<W: Output>(output: &mut W, front: &[u8], body: &[u8]) -> Result<(),
     write_full(output, body)
 }
 
-/// Writes five texts, one behind another: the first four at once, where they are as short as an endpoint's are.
+/// Writes five texts, one behind another: the first four, which are as short as an endpoint's are, at once.
+#[inline(always)]
 fn write_gathered<W: Output>(
     output: &mut W,
     before: &[u8],
@@ -182,7 +185,7 @@ fn write_gathered<W: Output>(
     tag: &[u8],
     body: &[u8],
 ) -> Result<(), WriteFault>
-    requires { length before.now + length head.now + length addresses.now + length tag.now < 2 ^ 64 }
+    requires { length before.now + length head.now + length addresses.now + length tag.now ≤ 102 }
     ensures ok { OnOk result (Appends (W.written output.old) (W.written output.new)
         (before.now ++ (head.now ++ (addresses.now ++ (tag.now ++ body.now))))) }
     ensures err { OnErr result (AppendsPart (W.written output.old) (W.written output.new)
@@ -190,9 +193,6 @@ fn write_gathered<W: Output>(
     ensures quiet { OnOk result (W.failures output.new ≡ W.failures output.old) }
     ensures cause { OnErr result (GoesOnBy 1 (W.failures output.old) (W.failures output.new)) }
 {
-    if before.len() + head.len() + addresses.len() + tag.len() > FRONT {
-        return write_five(output, before, head, addresses, tag, body);
-    }
     let mut front = [0; FRONT];
     let end = put_four(&mut front, before, head, addresses, tag);
     write_two(output, &front[..end], body)
@@ -217,6 +217,22 @@ pub fn write_record<W: Output>(
     ensures cause { OnErr result (GoesOnBy 1 (W.failures output.old) (W.failures output.new)) }
 {
     let size = (head.len() + addresses.len() + tag.len() + body.len()) as u32;
-    let before = record_header(moment, size);
-    write_gathered(output, &before, head, addresses, tag, body)
+    if RECORD_HEADER_LENGTH + head.len() + addresses.len() + tag.len() > FRONT {
+        return write_five(
+            output,
+            &record_header(moment, size),
+            head,
+            addresses,
+            tag,
+            body,
+        );
+    }
+    write_gathered(
+        output,
+        &record_header(moment, size),
+        head,
+        addresses,
+        tag,
+        body,
+    )
 }

@@ -13,8 +13,8 @@ pub use inputs::{
     Blocks, CAPTURE_READS, Capture, ClassicInput, Device, SeenCapture, open_capture, open_captures,
     open_named, open_seen, read_file, read_if_given, read_underlay,
 };
-pub use names::{Names, is_same, tap_of};
+pub use names::{Names, is_same};
 pub use outputs::{Opened, Outputs, Written, open_outputs, path_of, spare_inputs};
-pub use part_inputs::{PartInput, count_events, of_part, open_lines, open_part_file};
+pub use part_inputs::{PartInput, count_events, open_lines, open_part_file};
 pub use part_texts::{drop_texts, leave_text};
-pub use printing::{is_lost, print_text};
+pub use printing::print_text;

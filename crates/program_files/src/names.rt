@@ -77,11 +77,6 @@ impl<'a> Names<'_, 'a> {
     }
 }
 
-/// The tap of the port behind so many others.
-pub fn tap_of(index: usize) -> Tap {
-    Tap::Port(u8::try_from(index.saturating_add(1)).unwrap_or(u8::MAX))
-}
-
 /// The file that a capture's name stands for.
 fn file_of(name: &str) -> &str {
     let file = capture_name(name).file;

@@ -1,6 +1,6 @@
 //! What is read of a part of a run: the files in its folder.
 use crate::outputs::path_of;
-use dissector::{Failure, OutputFile, ShardFailure};
+use dissector::{Failure, OutputFile};
 use line_stream::{Lines, LinesFault};
 use pcap_stream::StdInput;
 use shard_lines::{LineFacts, read_line};
@@ -61,7 +61,7 @@ pub fn count_events<'a, R: Files + AllocGlobal>(
         match lines.fetch() {
             Ok(()) => {}
             Err(LinesFault::Read) => return Err(Failure::Read(folder)),
-            Err(LinesFault::TooLong) => return Err(of_part(folder, PartFault::LongLine)),
+            Err(LinesFault::TooLong) => return Err(Failure::in_part(folder, PartFault::LongLine)),
         }
         let line = lines.line();
         if line.is_empty() {
@@ -70,13 +70,8 @@ pub fn count_events<'a, R: Files + AllocGlobal>(
         match read_line(line) {
             Ok(LineFacts::Event(..)) => events = events.saturating_add(1),
             Ok(LineFacts::Cut) => {}
-            Err(fault) => return Err(of_part(folder, PartFault::Line(fault))),
+            Err(fault) => return Err(Failure::in_part(folder, PartFault::Line(fault))),
         }
     }
     Err(Failure::Read(folder))
-}
-
-/// That the part in this folder is wrong.
-pub fn of_part<'a>(folder: &'a str, fault: PartFault) -> Failure<'a> {
-    Failure::Shard(folder, ShardFailure::Part(fault))
 }

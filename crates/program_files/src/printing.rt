@@ -1,6 +1,6 @@
 //! What is printed on standard output.
-use dissector::{Failure, OutputFile};
-use std::io::{self, ErrorKind, Write};
+use dissector::{Failure, OutputFile, is_lost};
+use std::io::{self, Write};
 
 /// Prints a text on standard output.
 pub fn print_text(rt: &impl Print, text: &[u8]) -> Result<(), Failure<'static>> {
@@ -8,12 +8,4 @@ pub fn print_text(rt: &impl Print, text: &[u8]) -> Result<(), Failure<'static>> 
         return Err(Failure::Write(OutputFile::Stdout));
     }
     Ok(())
-}
-
-/// Whether a text didn't come to standard output. Where its reader went away, it had enough of it, and nothing is lost.
-pub fn is_lost(printed: io::Result<()>) -> bool {
-    match printed {
-        Ok(()) => false,
-        Err(error) => error.kind() != ErrorKind::BrokenPipe,
-    }
 }

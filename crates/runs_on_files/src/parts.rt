@@ -13,17 +13,6 @@ use std::rt::Files;
 use stream_run::Watch;
 use timeline::Tap;
 
-/// The segments of a part by their list, or all of them, where there is none.
-pub fn segments_of<'a>(list: Option<&str>) -> Result<SegmentSet, Failure<'a>> {
-    match list {
-        Some(list) => match SegmentSet::parse(list) {
-            Ok(segments) => Ok(segments),
-            Err(fault) => Err(Failure::Segments(fault)),
-        },
-        None => Ok(SegmentSet::all()),
-    }
-}
-
 /// A run whose outputs are written.
 #[derive(Drop)]
 pub struct Ran<F: Drop> {

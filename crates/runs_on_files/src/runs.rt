@@ -3,12 +3,12 @@ ghost use Rattle.std.specs.Prelude.{◌≡◌, All, IfOk, length};
 ghost use Rattle.stream_run.specs.Begun.{IsUnread};
 
 use capture_run::{RunFault, of_changes, of_settings};
-use dissector::Failure;
+use dissector::{Failure, tap_of};
 use overlay_config::{TimedChange, changes_of, settings_of};
 use pcapng_input::PcapngFault;
 use program_files::{
     Capture, Names, Outputs, drop_texts, open_capture, open_captures, open_outputs, read_file,
-    read_if_given, spare_inputs, tap_of,
+    read_if_given, spare_inputs,
 };
 use segment_set::SegmentSet;
 use std::alloc::{AllocError, Global};

@@ -24,7 +24,7 @@ use Rattle.stream_run.proofs.Running.{quiet_on}
 -- ---- one fetch
 
 -- the first of a capture
-asked_first : (changes : List TimedChange) (index : ℕ) (ports : List Stream) (underlay : Stream) (new : List Stream) (new_underlay : Stream) (turn : Turn)
+pub asked_first : (changes : List TimedChange) (index : ℕ) (ports : List Stream) (underlay : Stream) (new : List Stream) (new_underlay : Stream) (turn : Turn)
     → 1 ≤ index → FetchesAt changes index 0 0 ports underlay new new_underlay (Ok turn) → IsAsked changes index 0 0 ports underlay new new_underlay turn
 asked_first changes index ports underlay new new_underlay turn first (inl h) = absurd (omega (arith, h.0, first))
 asked_first changes index ports underlay new new_underlay turn first (inr h) =

@@ -79,7 +79,7 @@ never_sooner : (next : Option ℕ) → IsNoSooner 0 next
 never_sooner None = tt
 never_sooner (Some m) = omega arith
 
-first_change : (changes : List TimedChange) → AreTimely changes → IsMoment (moment_at changes 0)
+pub first_change : (changes : List TimedChange) → AreTimely changes → IsMoment (moment_at changes 0)
 first_change [] timely = tt
 first_change (c ∷ changes) timely = timely.moments c 0 (omega arith)
 

@@ -100,6 +100,12 @@ next_change changes k moment timely is = by_this (slice_get changes k) refl is
 
 -- ---- ready again
 
+-- what a fetch tells of the next moment it tells of what holds that moment
+pub fetched_to : (changes : List TimedChange) (index done latest : ℕ) (ports : List Stream) (underlay : Stream) (new : List Stream) (new_underlay : Stream) (next held : Option ℕ) → held ≡ next
+    → FetchesAt changes index done latest ports underlay new new_underlay (Ok (record { done = done; next = next })) → FetchesAt changes index done latest ports underlay new new_underlay (Ok (record { done = done; next = held }))
+fetched_to changes index done latest ports underlay new new_underlay next held same fetched =
+    subst (λ n. FetchesAt changes index done latest ports underlay new new_underlay (Ok (record { done = done; next = n }))) (sym same) fetched
+
 -- what a fetch tells of a turn and its source
 pub record IsAsked (changes : List TimedChange) (index done latest : ℕ) (ports : List Stream) (underlay : Stream) (new : List Stream) (new_underlay : Stream) (turn : Turn) : Type 0 where
   pub many : length new ≡ length ports

@@ -15,3 +15,4 @@ pub mod Left
 pub mod Over
 pub mod Reached
 pub mod Watched
+pub mod Upcoming

@@ -8,11 +8,11 @@ ghost use Rattle.stream_run.specs.Fetched.{IsOpen};
 ghost use Rattle.stream_run.specs.Over.{BeginsIn};
 ghost use Rattle.stream_run.specs.Read.{ReadsWith};
 ghost use Rattle.stream_run.specs.Stage.{Drains, Lead, StandAt, drains, no_texts};
-ghost use Rattle.stream_run.specs.Steps.{AreReady, IsAt, run_at, source_at};
+ghost use Rattle.stream_run.specs.Steps.{AreReady, AreTimely, IsAt, run_at, source_at};
 
 use crate::fault::{StreamFault, Target, fault_at};
 use crate::fetch::{fetch_at, moment_of, tap_at};
-use crate::turn::Turn;
+use crate::turn::{Turn, Upcoming};
 use overlay_config::TimedChange;
 use pcap_stream::{Input, Output, Sink, Source};
 use std::alloc::{AllocError, Global};
@@ -43,15 +43,16 @@ pub fn first_turns(
     changes: &[TimedChange],
     captures: usize,
 ) -> Result<Vec<Turn>, AllocError>
-    requires { captures < 2 ^ 32 }
+    requires few { captures < 2 ^ 32 }
+    requires timely { AreTimely changes.now }
     ensures { IfOk result (λ turns. turns.items ≡ first_turns changes.now captures) }
 {
     let nothing = Turn {
         done: 0,
-        next: None,
+        next: Upcoming::none(),
     };
     let mut turns = vec![in alloc; nothing; captures + 1]?;
-    turns[0].next = moment_of(changes, 0);
+    turns[0].next = Upcoming::at(moment_of(changes, 0));
     Ok(turns)
 }
 
@@ -76,7 +77,10 @@ pub fn fetch_all<R: Input>(
         if let Err(fault) = fetch_at(changes, ports, underlay, index, 0, 0, &mut next) {
             return Err(fault_at(tap_at(turns.len() - 2, index), 1, fault));
         }
-        turns[index] = Turn { done: 0, next };
+        turns[index] = Turn {
+            done: 0,
+            next: Upcoming::at(next),
+        };
     }
     Ok(())
 }

@@ -38,5 +38,5 @@ pub use opening::open_capture;
 pub use put::put_line;
 pub use run::{run_segments, run_streams};
 pub use step::put_events;
-pub use turn::Turn;
+pub use turn::{Turn, Upcoming};
 pub use watch::{Unwatched, Watch};

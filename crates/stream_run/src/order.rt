@@ -4,10 +4,7 @@ ghost use Rattle.stream_run.specs.Fetched.{IsMoment};
 ghost use Rattle.stream_run.specs.Turns.{FindsFirst, IsFirstSoFar};
 ghost use Rattle.stream_run.specs.declared.turn.Turn.{Turn as Stands};
 
-use crate::turn::{First, Turn};
-
-/// Later than each moment that an event has.
-const NEVER: u64 = u64::MAX;
+use crate::turn::{First, NEVER, Turn, Upcoming};
 
 /// The first of the next events: the earliest, and of those of one moment that of the first source in the list.
 pub fn find_first(turns: &[Turn]) -> Option<First>
@@ -29,12 +26,17 @@ pub fn find_first(turns: &[Turn]) -> Option<First>
 }
 
 /// The first of some events and of one more, that of the source behind theirs.
-fn earlier(first: First, index: usize, next: Option<u64>) -> First
+#[inline(always)]
+fn earlier(first: First, index: usize, next: Upcoming) -> First
     requires { IsMoment next }
     ensures { (turns : List Stands) → IsFirstSoFar turns index first → ((t : Stands) → (slice_index_or turns index t).next ≡ next) → IsFirstSoFar turns (index + 1) result }
 {
-    match next {
-        Some(moment) if moment < first.moment => First { index, moment },
-        _ => first,
+    if next.is_before(first.moment) {
+        First {
+            index,
+            moment: next.word,
+        }
+    } else {
+        first
     }
 }

@@ -10,7 +10,7 @@ use crate::fault::{StreamFault, fault_at};
 use crate::fetch::{fetch_at, tap_at};
 use crate::order::find_first;
 use crate::take::take_at;
-use crate::turn::{First, Turn};
+use crate::turn::{First, Turn, Upcoming};
 use crate::watch::Watch;
 use capture_run::RunFault;
 use decision_lines::Desk;
@@ -78,7 +78,10 @@ fn put_first<R: Input, W: Output, T: Watch>(
         let tap = tap_at(turns.len() - 2, first.index);
         return Err(fault_at(tap, done + 1, fault));
     }
-    turns[first.index] = Turn { done, next };
+    turns[first.index] = Turn {
+        done,
+        next: Upcoming::at(next),
+    };
     Ok(())
 }
 

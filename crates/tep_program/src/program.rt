@@ -8,13 +8,16 @@ ghost use Rattle.tep_program.specs.Status.{IsStatusOf};
 use crate::checks::check;
 use capture_run::{RunFault, of_settings};
 use clap::error::ErrorKind as Refusal;
-use dissector::{Failure, Line, LineFault, OutputFile, Values, explain_bytes, line_of, sample};
+use dissector::{
+    Failure, Line, LineFault, OutputFile, Values, explain_bytes, is_lost, line_of, sample,
+    segments_of,
+};
 use merge_on_files::{TextsAsked, merge};
 use overlay_config::{TimedChange, migrate};
-use program_files::{Names, is_lost, leave_text, print_text, read_file, read_underlay};
+use program_files::{Names, leave_text, print_text, read_file, read_underlay};
 use run_counts::RunCounts;
 use run_reports::{Onlooker, Reports};
-use runs_on_files::{Ran, Scope, Texts, print_digests, run_on_files, run_part, segments_of};
+use runs_on_files::{Ran, Scope, Texts, print_digests, run_on_files, run_part};
 use segment_set::SegmentSet;
 use std::alloc::{AllocError, Global};
 use std::env;

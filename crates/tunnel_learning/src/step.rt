@@ -62,12 +62,12 @@ pub fn bridge_step_into<T: Tables>(
 {
     places.clear();
     if bridge.learning {
-        let _ = tables.learn(bridge.vid, frame.src, from, now);
+        let _ = tables.learn(bridge.vid, frame.src(), from, now);
     }
-    if frame.dst.is_group() {
+    if frame.dst().is_group() {
         return everywhere(bridge, &from, places);
     }
-    match tables.look(bridge.vid, frame.dst, now) {
+    match tables.look(bridge.vid, frame.dst(), now) {
         Some(to) => to_place(bridge, &from, &to, places),
         None => everywhere(bridge, &from, places),
     }

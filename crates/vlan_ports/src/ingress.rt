@@ -113,8 +113,6 @@ fn frame_of<'a>(view: &EtherView<'a>, pcp: u8, dei: bool, body: &'a [u8]) -> Bri
         result ≡ record { dst = take 6 view.now; src = src; pcp = pcp; dei = dei; body = body.now } }
 {
     BridgeFrame {
-        dst: view.dst(),
-        src: view.src(),
         pcp,
         dei,
         addresses: view.addresses(),

@@ -64,12 +64,19 @@ impl EndpointState {
         requires there { IsSome (segment_at (settings_of self.now) vid) }
         ensures { IfOk result (λ entry. entry ≡ get ((after_frame now vid from frame.now (state_at now self.now)).tables vid) frame.now.dst) }
     {
-        let stood = self.entry(alloc, vid, frame.dst, now)?;
+        let stood = self.entry(alloc, vid, frame.dst(), now)?;
         let count = self.entry_count(alloc, vid, now)?;
         let learning = self.bridge(vid).learning;
         let limit = self.limit(vid);
         Ok(after_learning(
-            learning, limit, count, now, from, frame.src, frame.dst, stood,
+            learning,
+            limit,
+            count,
+            now,
+            from,
+            frame.src(),
+            frame.dst(),
+            stood,
         ))
     }
 
@@ -158,7 +165,7 @@ fn toward(
     ensures { IfOk result (λ v. seen v ≡ bridges.toward (bridges.config_of bridge.now) from (if is_group frame.now.dst then None else to)) }
 {
     let vid = bridge.vid;
-    let mut tables = alone(alloc, vid, frame.dst, to)?;
+    let mut tables = alone(alloc, vid, frame.dst(), to)?;
     let asked = Bridge {
         vid,
         learning: false,

@@ -22,8 +22,8 @@ returns c =
     let vid = c.segment-vid.ensures in
     let from = c.place-from.ensures in
     let frame = c.frame-frame.ensures in
-    let src = ap (λ (f : Frame). f.src) (c.frame.view_is ∙ frame) in
-    let dst = ap (λ (f : Frame). f.dst) (c.frame.view_is ∙ frame) in
+    let src = c.src.ensures ∙ ap (λ (f : Frame). f.src) frame in
+    let dst = c.dst.ensures ∙ ap (λ (f : Frame). f.dst) frame in
     let told =
     bridge-told t S.ports (L.tables x.vid) (B.tables x.vid) ((after_frame t x.vid x.from x.frame B).tables x.vid) x c.args.dropped (segment_at S x.vid)
     (bridges.config_of c.bridge-bridge.result) c.limit-limit.result c.ageing.result c.in_ok-entries.entries c.place-from.result c.in_ok-source.source c.in_ok-before.before c.in_ok-destination.destination c.is_group-group.result c.stood_fact-stood.result
@@ -36,6 +36,6 @@ returns c =
     (c.in_ok-source.ensures ∙ (λ i. get (B.tables (vid i)) (src i)))
     (c.in_ok-before.ensures ∙ (λ i. get (L.tables (vid i)) (dst i)))
     (c.in_ok-destination.ensures ∙ (λ i. get ((after_frame t (vid i) (from i) (frame i) B).tables (vid i)) (frame i).dst))
-    (c.is_group-group.ensures ∙ ap is_group dst)
+    (c.is_group-group.ensures ∙ ap is_group (c.dst-2.ensures ∙ ap (λ (f : Frame). f.dst) frame))
     c.stood_fact-stood.ensures in
     subst (λ (fs : List Fact). OnOk c.put_told.result (c.put_told.new.facts.items ≡ c.args.facts.now.items ++ fs)) told c.put_told.ensures

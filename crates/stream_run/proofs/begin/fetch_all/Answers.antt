@@ -1,7 +1,8 @@
 use Rattle.std.proofs.Common.{arith, subst}
 use Rattle.stream_run.specs.Steps.{IsAt}
-use Rattle.stream_run.proofs.Begun.{all_fetched, faults_told, fetch_no_write, fetch_stops, none_fetched, one_fetched}
+use Rattle.stream_run.proofs.Begun.{all_fetched, asked_first, faults_told, fetch_no_write, fetch_stops, none_fetched, one_fetched}
 use Rattle.stream_run.proofs.Reading.{fault_from}
+use Rattle.stream_run.proofs.Readying.{fetched_to}
 use Rattle.stream_run.proofs.begin.fetch_all.Goals as goal
 
 pub loop-index-init : goal.loop-index-init
@@ -10,8 +11,13 @@ loop-index-init g c = none_fetched c.args.changes.now c.args.ports.now c.args.un
 pub fetch_at-requires-clause-open : goal.fetch_at-requires-clause-open
 fetch_at-requires-clause-open g c place at = c.loop-index.invariant.open_ place c.loop-index.index (omega arith) (subst (λ n. IsAt n c.loop-index.index place) c.loop-index.invariant.many at)
 
+pub at-requires : goal.at-requires
+at-requires g c = (asked_first c.args.changes.now c.loop-index.index c.loop-index.ports c.loop-index.underlay c.fetch_at.new.ports c.fetch_at.new.underlay _ c.loop-index.invariant.first c.in_default.ensures).moment
+
 pub loop-index-preserved : goal.loop-index-preserved
-loop-index-preserved g c = one_fetched c.args.changes.now c.loop-index.index c.args.ports.now c.args.underlay.now c.args.turns.now c.loop-index.ports c.loop-index.underlay c.loop-index.turns c.loop-index.invariant c.fetch_at.new.ports c.fetch_at.new.underlay _ (omega (arith, c.loop-index-test.true, c.loop-index.invariant.size)) c.in_default.ensures
+loop-index-preserved g c =
+    one_fetched c.args.changes.now c.loop-index.index c.args.ports.now c.args.underlay.now c.args.turns.now c.loop-index.ports c.loop-index.underlay c.loop-index.turns c.loop-index.invariant c.fetch_at.new.ports c.fetch_at.new.underlay _ (omega (arith, c.loop-index-test.true, c.loop-index.invariant.size))
+    (fetched_to c.args.changes.now c.loop-index.index 0 0 c.loop-index.ports c.loop-index.underlay c.fetch_at.new.ports c.fetch_at.new.underlay c.fetch_at.new.next c.at.result c.at.ensures c.in_default.ensures)
 
 pub returns-in-Err-clause-reads : goal.returns-in-Err-clause-reads
 returns-in-Err-clause-reads g c = fetch_stops c.args.changes.now c.loop-index.index c.args.ports.now c.args.underlay.now c.args.turns.now c.loop-index.ports c.loop-index.underlay c.loop-index.turns c.loop-index.invariant c.fetch_at.new.ports c.fetch_at.new.underlay c.fault_at.result (fault_from c.args.changes.now c.loop-index.index 0 0 c.loop-index.ports c.loop-index.underlay c.fetch_at.new.ports c.fetch_at.new.underlay c.fetch_at.new.next c.in-Err.fault c.tap_at.result c.fault_at.result _ c.fault_at.ensures c.tap_at.ensures (omega (arith, c.loop-index.invariant.size, c.loop-index.invariant.many, c.requires.size)) c.in-Err.ensures)

@@ -1,4 +1,5 @@
-use Rattle.std.proofs.Common.{◌≡◌, ◌∙◌, ◌++◌, [], ℕ, ap, subst, List, Option, Result, Ok, Err, unwrap_or}
+use Rattle.std.proofs.Common.{◌≡◌, ◌∙◌, ◌++◌, [], ℕ, ap, subst, sym, List, Option, Result, Ok, Err, unwrap_or}
+use Rattle.std.proofs.lemmas.List.{take-append-drop}
 use Rattle.frame_view.specs.Frame.{Frame}
 use Rattle.frame_view.specs.declared.reason.Reason.{Reason}
 use Rattle.filter_db.specs.declared.place.Place.TheVariants.{Local}
@@ -20,12 +21,12 @@ octets_sent S vid port f v addresses tag put_in front behind same is =
 
 pub returns-in-Err-clause-sent : goal.returns-in-Err-clause-sent
 returns-in-Err-clause-sent g c start o underlay written failures at =
-    let is = octets_sent (state_of c.args.endpoint.now).bridges.settings c.args.came.now.vid c.args.port c.args.came.now.frame _ _ _ c.tag_at-tag.result c.frame.invariant.0 c.octets_of-tag.ensures.value (c.frame.view_is ∙ c.frame-frame.ensures) c.tag_at-tag.ensures in
+    let is = octets_sent (state_of c.args.endpoint.now).bridges.settings c.args.came.now.vid c.args.port c.args.came.now.frame _ _ _ c.tag_at-tag.result (sym (take-append-drop 6 _)) c.octets_of-tag.ensures.value (c.frame.view_is ∙ c.frame-frame.ensures) c.tag_at-tag.ensures in
     subst (λ (s : Result (List ℕ) Reason). Lead {T = Unit {0}} start (drains c.put_at.new.sinks underlay written failures) o (with_sent c.args.moment o (record { place = Local c.args.port; sent = s })) (Err c.in-Err.target))
     is (c.in-Err.ensures start o underlay written failures at)
 
 pub returns-clause-sent : goal.returns-clause-sent
 returns-clause-sent g c start o underlay written failures at =
-    let is = octets_sent (state_of c.args.endpoint.now).bridges.settings c.args.came.now.vid c.args.port c.args.came.now.frame _ _ _ c.tag_at-tag.result c.frame.invariant.0 c.octets_of-tag.ensures.value (c.frame.view_is ∙ c.frame-frame.ensures) c.tag_at-tag.ensures in
+    let is = octets_sent (state_of c.args.endpoint.now).bridges.settings c.args.came.now.vid c.args.port c.args.came.now.frame _ _ _ c.tag_at-tag.result (sym (take-append-drop 6 _)) c.octets_of-tag.ensures.value (c.frame.view_is ∙ c.frame-frame.ensures) c.tag_at-tag.ensures in
     subst (λ (s : Result (List ℕ) Reason). StandAt start (drains c.put_at.new.sinks underlay written failures) (with_sent c.args.moment o (record { place = Local c.args.port; sent = s })))
     is (c.in_default.ensures start o underlay written failures at)

@@ -1,9 +1,10 @@
-use Rattle.std.proofs.Common.{ap, arith, None}
+use Rattle.std.proofs.Common.{◌≡◌, ap, arith, subst, None, Some}
 use Rattle.std.proofs.lemmas.List.{get_or_default}
 use Rattle.endpoint_core.specs.Kept.{state_of}
+use Rattle.stream_run.specs.Steps.{moment_at}
 use Rattle.stream_run.specs.declared.turn.Turn.{Turn}
 use Rattle.stream_run.proofs.Reading.{fault_from}
-use Rattle.stream_run.proofs.Readying.{next_up}
+use Rattle.stream_run.proofs.Readying.{asked, fetched_to, next_up}
 use Rattle.stream_run.proofs.Stepping.{shown_fault, shown_put, shown_turn}
 use Rattle.stream_run.proofs.step.put_first.Goals as goal
 
@@ -29,8 +30,16 @@ returns-in-Err-fetch_at g c =
     (λ t. ap (λ (x : Turn). x.done) (get_or_default c.args.turns.now c.args.first.index _ t c.requires.first.there)) c.add_one.ensures c.take_at.ensures.number c.in_default.ensures.taken
     (fault_from c.args.changes.now c.args.first.index _ c.args.first.moment c.args.ports.now c.args.underlay.now c.fetch_at.new.ports c.fetch_at.new.underlay c.fetch_at.new.next c.in-Err-fetch_at.fault c.tap_at-tap.result c.fault_at.result _ c.fault_at.ensures c.tap_at-tap.ensures (omega (arith, c.requires.ready.size)) c.in-Err-fetch_at.ensures)
 
+pub at-requires : goal.at-requires
+at-requires g c =
+    let up = next_up c.args.changes.now c.args.ports.now c.args.underlay.now c.args.turns.now (state_of c.args.endpoint.now) c.args.desk.now.number _ c.args.first no_turn c.requires.ready c.requires.first in
+    let done = ap (λ (x : Turn). x.done) (get_or_default c.args.turns.now c.args.first.index no_turn _ c.requires.first.there) in
+    (asked c.args.changes.now c.args.first.index _ c.args.first.moment c.args.ports.now c.args.underlay.now c.fetch_at.new.ports c.fetch_at.new.underlay _ c.requires.ready.timely up.moment
+    (λ zero. subst (λ n. moment_at c.args.changes.now n ≡ Some c.args.first.moment) done (up.change zero)) c.in_default-fetch_at.ensures).moment
+
 pub returns : goal.returns
 returns g c =
     shown_turn c.args.segments.now c.args.changes.now c.args.ports.now c.args.underlay.now c.args.turns.now (state_of c.args.endpoint.now) c.args.desk.now.number _ c.args.first _ c.add_one.new.self (state_of c.take_at.new.endpoint) _ g.T.Watch.sees c.args.watch.now c.take_at.new.watch c.take_at.new.desk.number
     c.fetch_at.new.ports c.fetch_at.new.underlay _ no_turn c.requires.ready c.requires.first
-    (λ t. ap (λ (x : Turn). x.done) (get_or_default c.args.turns.now c.args.first.index _ t c.requires.first.there)) c.add_one.ensures c.take_at.ensures.number c.in_default.ensures.taken c.in_default-fetch_at.ensures
+    (λ t. ap (λ (x : Turn). x.done) (get_or_default c.args.turns.now c.args.first.index _ t c.requires.first.there)) c.add_one.ensures c.take_at.ensures.number c.in_default.ensures.taken
+    (fetched_to c.args.changes.now c.args.first.index _ c.args.first.moment c.args.ports.now c.args.underlay.now c.fetch_at.new.ports c.fetch_at.new.underlay c.fetch_at.new.next c.at.result c.at.ensures c.in_default-fetch_at.ensures)

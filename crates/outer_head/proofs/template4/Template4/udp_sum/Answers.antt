@@ -18,7 +18,7 @@ returns c =
     let port = c.self.invariant.3 in
     let dport : t.dport ≡ _ = ap (λ (x : Fixed). x.dport) (sym c.self.view_is) in
     let udp : c.self.inside.udp ≡ udp_part t = c.self.invariant.2 ∙ ap udp_part c.self.view_is in
-    let long : length f ≡ 12 + length c.frame.inside.body.now = ap (λ (g : Frame). length (plain g)) (sym c.frame.view_is) ∙ length-plain c.frame.inside.dst c.frame.inside.src c.frame.inside.body.now c.frame.inside.addresses.now c.frame.invariant.0 c.frame.invariant.1 in
+    let long : length f ≡ 12 + length c.frame.inside.body.now = ap (λ (g : Frame). length (plain g)) (sym c.frame.view_is) ∙ length-plain c.frame.inside.addresses.now c.frame.inside.body.now c.frame.invariant.0 in
     let sum : c.in-Some.sum ≡ frame_sum c.args.frame.now = subst (λ (o : Option ℕ). IfSome o (λ s. s ≡ frame_sum c.args.frame.now)) c.in-Some.is c.requires.sum in
     let is : c.self.inside.udp + c.words.result + 2 * (28 + length c.frame.inside.body.now) + c.from.result + c.from-2.result ≡ udp_part t + total c.args.dst + 2 * (16 + length f) + c.args.sport + folded (total f) =
     omega (arith, udp, c.words.ensures.sum, long, c.from.ensures, c.from-2.ensures, sum) in

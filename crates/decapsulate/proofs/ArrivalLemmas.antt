@@ -30,7 +30,7 @@ use Rattle.geneve_head.specs.declared.view.GnFault.TheVariants.{CriticalOption}
 use Rattle.geneve_head.proofs.PacketLemmas.{geneve-only}
 use Rattle.decapsulate.specs.Arrival.{packet_in, kind_to, sum_of, vni_of, inner_of, tunnel_reasons, is_bad_source, is_elsewhere, needs_sum, is_zero, is_wrong, frame_reasons, packet_reasons, datagram_reasons, outer_reasons, inner_reasons, unless, arrival_in, arrival_by, arrival, IsTunnelled, IsSumTaken}
 use Rattle.decapsulate.proofs.PacketLemmas.{first-as_reasons}
-use Rattle.decapsulate.proofs.ReasonsLemmas.{outer-tunnel}
+use Rattle.decapsulate.proofs.ReasonsLemmas.{carried-tunnel, outer-carried}
 
 -- ---- the tunnel header
 
@@ -170,7 +170,7 @@ outer-none S vid g kind vni b src dst from to sum d e k q =
       ),
     ) in
     let in_tunnel = ap (λ (x : List ℕ). first (tunnel_reasons U.known kind x)) parts.data_is ∙ q.reads.nothing in
-    (kind_is, outer-tunnel S b kind None in_frame in_packet in_datagram kind_is in_tunnel)
+    (kind_is, outer-carried S b None in_frame (carried-tunnel U p kind None in_packet in_datagram kind_is in_tunnel))
 
 pub arrives : (S : Overlay) (vid : ℕ) (g : Segment) (kind : Tunnel) (vni : ℕ) (b : List ℕ) (src dst : Addr) (from to sum : ℕ) (d e : List ℕ)
     → Datagram b src dst from to sum d → Brings S vid g kind vni src dst from to sum d e

@@ -153,12 +153,13 @@ abbrev pub data_reasons : List (ℕ × ℕ) → Option Tunnel → List ℕ → L
 data_reasons known None d = []
 data_reasons known (Some kind) d = tunnel_reasons known kind d
 
+-- a packet that carries nothing, from its header to the tunnel header
+abbrev pub carried_reasons : Underlay → Packet → List (Reason × Bool)
+carried_reasons U p = packet_reasons U p ++ (datagram_reasons U p ++ data_reasons U.known (kind_to U p) (data_of p.payload))
+
 -- all of them, from the Ethernet header to the tunnel header
 abbrev pub outer_reasons : Overlay → List ℕ → List (Reason × Bool)
-outer_reasons S b =
-    let U = S.underlay in
-    let p = packet_in b in
-    frame_reasons b ++ (packet_reasons U p ++ (datagram_reasons U p ++ data_reasons U.known (kind_to U p) (data_of p.payload)))
+outer_reasons S b = frame_reasons b ++ carried_reasons S.underlay (packet_in b)
 
 -- ---- the inner text
 

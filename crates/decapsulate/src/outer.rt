@@ -1,6 +1,6 @@
 //! Reading outer packets.
 ghost use Rattle.std.specs.Prelude.{◌≡◌, IfOk, Some};
-ghost use Rattle.decapsulate.specs.Arrival.{arrival, inner_place, outer_reasons, packet_in, kind_to, vni_of, inner_of};
+ghost use Rattle.decapsulate.specs.Arrival.{arrival, inner_place, carried_reasons, kind_to, vni_of, inner_of};
 ghost use Rattle.frame_view.specs.First.{first, fault_of};
 ghost use Rattle.frame_view.specs.Frame.{plain, size};
 ghost use Rattle.header_sums.specs.Octets.{part};
@@ -15,13 +15,11 @@ use ip_udp_view::{Addr, Tunnel};
 use underlay::Under;
 use vxlan_head::Vni;
 
-/// What a packet carries, with the outer addresses, before its segment is known.
+/// What a packet carries, before its segment is known.
 #[derive(Debug, Drop)]
 struct Carried<'a> {
     kind: Tunnel,
     vni: Vni,
-    source: Addr,
-    destination: Addr,
     inner: &'a [u8],
 }
 
@@ -32,46 +30,44 @@ pub fn unwrap<'a>(under: &Under, octets: &'a [u8]) -> Result<Arrived<'a>, Refuse
     ensures place { IfOk result (λ arrived.
         plain arrived.frame ≡ part (inner_place arrived.from.0 octets.now) (size arrived.frame) octets.now) }
 {
-    let carried = match carried_in(under, octets) {
+    let packet = match Packet::read(octets) {
+        Ok(packet) => packet,
+        Err(reason) => return Err(Refused::nowhere(reason)),
+    };
+    let carried = match carried_in(under, &packet) {
         Ok(carried) => carried,
         Err(reason) => return Err(Refused::nowhere(reason)),
     };
     let Some((vid, segment)) = under.segment_by(carried.kind, carried.vni) else {
         return Err(Refused::nowhere(Reason::UnknownVni));
     };
-    let from = (carried.kind, carried.source);
     match frame_in(
         segment,
         carried.kind,
-        carried.source,
-        carried.destination,
+        packet.source,
+        packet.destination,
         carried.inner,
     ) {
-        Ok(frame) => Ok(Arrived { vid, from, frame }),
+        Ok(frame) => Ok(Arrived {
+            vid,
+            from: (carried.kind, packet.source),
+            frame,
+        }),
         Err(reason) => Err(Refused::within(vid, reason)),
     }
 }
 
-/// Takes off the outer headers of a packet, from the Ethernet header to the tunnel header.
-fn carried_in<'a>(under: &Under, octets: &'a [u8]) -> Result<Carried<'a>, Reason>
-    ensures fault { fault_of result ≡ first (outer_reasons under.now octets.now) }
-    ensures kind { IfOk result (λ carried. kind_to under.now.underlay (packet_in octets.now) ≡ Some carried.kind) }
-    ensures vni { IfOk result (λ carried. carried.vni ≡ vni_of carried.kind (data_of (packet_in octets.now).payload)) }
-    ensures source { IfOk result (λ carried. carried.source ≡ (packet_in octets.now).source) }
-    ensures destination { IfOk result (λ carried. carried.destination ≡ (packet_in octets.now).destination) }
-    ensures inner { IfOk result (λ carried. carried.inner.now ≡ inner_of carried.kind (data_of (packet_in octets.now).payload)) }
+/// Takes off the headers of a packet, up to the tunnel header.
+fn carried_in<'a>(under: &Under, packet: &Packet<'a>) -> Result<Carried<'a>, Reason>
+    ensures fault { fault_of result ≡ first (carried_reasons under.now.underlay packet.now) }
+    ensures kind { IfOk result (λ carried. kind_to under.now.underlay packet.now ≡ Some carried.kind) }
+    ensures vni { IfOk result (λ carried. carried.vni ≡ vni_of carried.kind (data_of packet.now.payload)) }
+    ensures inner { IfOk result (λ carried. carried.inner.now ≡ inner_of carried.kind (data_of packet.now.payload)) }
 {
-    let packet = Packet::read(octets)?;
     packet.check(under.settings())?;
-    let (kind, data) = datagram_of(&packet, under.settings())?;
+    let (kind, data) = datagram_of(packet, under.settings())?;
     match tunnel_of(under.known(), kind, data) {
-        Ok((vni, inner)) => Ok(Carried {
-            kind,
-            vni,
-            source: packet.source,
-            destination: packet.destination,
-            inner,
-        }),
+        Ok((vni, inner)) => Ok(Carried { kind, vni, inner }),
         Err(reason) => Err(reason),
     }
 }

@@ -95,6 +95,7 @@ impl<'a> Packet<'a> {
 /// The IP packet that stands behind the type of a frame: `typed` is the type and what follows.
 ///
 /// `NotIp`: the type is neither IPv4's nor IPv6's. `BadIp`, `BadIpSum`: as [`IpView`] reads the packet.
+#[inline(always)]
 pub fn ip_view(typed: &[u8]) -> Result<IpView<'_>, Reason>
     ensures fault { fault_of result ≡ first (typed_reasons typed.now) }
     ensures family { IfOk result (λ view. family_of view ≡ family_named typed.now) }

@@ -5,6 +5,19 @@ ghost use Rattle.endpoint_core.specs.Text.{hex_digit, hex_octet};
 use itoa::write_digits;
 use std::marker::Model;
 
+/// The two decimal digits of each number below 100.
+static PAIRS: [[u8; 2]; 100] = [
+    *b"00", *b"01", *b"02", *b"03", *b"04", *b"05", *b"06", *b"07", *b"08", *b"09", *b"10", *b"11",
+    *b"12", *b"13", *b"14", *b"15", *b"16", *b"17", *b"18", *b"19", *b"20", *b"21", *b"22", *b"23",
+    *b"24", *b"25", *b"26", *b"27", *b"28", *b"29", *b"30", *b"31", *b"32", *b"33", *b"34", *b"35",
+    *b"36", *b"37", *b"38", *b"39", *b"40", *b"41", *b"42", *b"43", *b"44", *b"45", *b"46", *b"47",
+    *b"48", *b"49", *b"50", *b"51", *b"52", *b"53", *b"54", *b"55", *b"56", *b"57", *b"58", *b"59",
+    *b"60", *b"61", *b"62", *b"63", *b"64", *b"65", *b"66", *b"67", *b"68", *b"69", *b"70", *b"71",
+    *b"72", *b"73", *b"74", *b"75", *b"76", *b"77", *b"78", *b"79", *b"80", *b"81", *b"82", *b"83",
+    *b"84", *b"85", *b"86", *b"87", *b"88", *b"89", *b"90", *b"91", *b"92", *b"93", *b"94", *b"95",
+    *b"96", *b"97", *b"98", *b"99",
+];
+
 /// A line in a buffer of 4,096 octets, seen by contracts as its text. It is cleared and written again, and never asks for
 /// memory.
 ///
@@ -76,7 +89,7 @@ impl Line {
     }
 
     /// Puts a number in decimal digits at the end.
-    #[inline]
+    #[inline(always)]
     pub(crate) fn put_number(&mut self, number: u64)
         requires room { length self.old + 20 ≤ 4096 }
         ensures text { self.new ≡ self.old ++ decimal number }
@@ -85,7 +98,42 @@ impl Line {
         if number < 10_000 {
             return self.put_short(number as u16);
         }
-        self.put_digits(number, digits(number));
+        if number < 100_000_000 {
+            self.put_short((number / 10_000) as u16);
+            return self.put_four((number % 10_000) as u16);
+        }
+        self.put_long(number);
+    }
+
+    /// Puts a number from 100,000,000 on in decimal digits at the end.
+    #[inline(always)]
+    fn put_long(&mut self, number: u64)
+        requires long { 100000000 ≤ number }
+        requires room { length self.old + 20 ≤ 4096 }
+        ensures text { self.new ≡ self.old ++ decimal number }
+        ensures len { length self.new ≤ length self.old + 20 }
+    {
+        let high = number / 100_000_000;
+        let low = (number % 100_000_000) as u32;
+        if high < 10_000 {
+            self.put_short(high as u16);
+        } else {
+            self.put_digits(high, digits(high));
+        }
+        self.put_four((low / 10_000) as u16);
+        self.put_four((low % 10_000) as u16);
+    }
+
+    /// Puts a number below 10,000 in four decimal digits at the end.
+    #[inline]
+    fn put_four(&mut self, number: u16)
+        requires four { number < 10000 }
+        requires room { length self.old + 4 ≤ 4096 }
+        ensures text { self.new ≡ self.old ++ (48 + number / 1000) ∷ (48 + number / 100 % 10) ∷ (48 + number / 10 % 10) ∷ (48 + number % 10) ∷ [] }
+        ensures len { length self.new ≡ length self.old + 4 }
+    {
+        self.put_pair((number / 100) as u8);
+        self.put_pair((number % 100) as u8);
     }
 
     /// Puts a number below 65,536 in decimal digits at the end.
@@ -132,8 +180,9 @@ impl Line {
         ensures text { self.new ≡ self.old ++ (48 + number / 10) ∷ (48 + number % 10) ∷ [] }
         ensures len { length self.new ≡ length self.old + 2 }
     {
-        self.put_octet(b'0' + number / 10);
-        self.put_octet(b'0' + number % 10);
+        let [tens, ones] = PAIRS[usize::from(number)];
+        self.put_octet(tens);
+        self.put_octet(ones);
     }
 
     /// Puts a number that has this many decimal digits.
@@ -191,6 +240,7 @@ pub(crate) fn digits(number: u64) -> usize
     ensures short { result ≤ 20 }
     ensures small { number < 256 → result ≤ 3 }
     ensures word { number < 65536 → result ≤ 5 }
+    ensures twelve { number < 1000000000000 → result ≤ 12 }
 {
     if number < 10 {
         1

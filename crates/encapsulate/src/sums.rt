@@ -18,6 +18,7 @@ pub struct FrameSums {
 
 impl FrameSums {
     /// Those of a frame, whose octets are summed where a packet with a checksum is to be sent.
+    #[inline(always)]
     pub fn of(frame: &BridgeFrame, is_summed: bool) -> FrameSums
         ensures sums { AreSums frame.now result }
         ensures summed { is_some result.sum ≡ is_summed }

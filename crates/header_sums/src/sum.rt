@@ -13,14 +13,34 @@ pub fn words(bytes: &[u8]) -> u64
 {
     let mut sum: u64 = 0;
     let mut rest = bytes;
-    while let [_, _, behind @ ..] = rest {
-        sum += u64::from(BigEndian::read_u16(rest));
+    while let [_, _, _, _, behind @ ..] = rest {
+        sum += u64::from(BigEndian::read_u16(rest)) + u64::from(BigEndian::read_u16(&rest[2..]));
         rest = behind;
     }
-    match rest {
-        [last, ..] => sum + u64::from(*last) * 256,
-        [] => sum,
+    sum + last_words(rest)
+}
+
+/// The sum of the words of a text of three octets at most.
+#[inline]
+fn last_words(bytes: &[u8]) -> u64
+    requires { length bytes.now ≤ 3 }
+    ensures sum { result ≡ total bytes.now }
+    ensures small { result ≤ 65535 * length bytes.now }
+{
+    match bytes {
+        [a, b, last, ..] => word(*a, *b) + word(*last, 0),
+        [a, b] => word(*a, *b),
+        [last] => word(*last, 0),
+        [] => 0,
     }
+}
+
+/// The word of two octets.
+#[inline]
+fn word(high: u8, low: u8) -> u64
+    ensures { result ≡ 256 * high + low }
+{
+    u64::from(high) * 256 + u64::from(low)
 }
 
 /// A sum of words and the sum of one more part, which begins at a word's first octet. The sum is at most 2^40, the part

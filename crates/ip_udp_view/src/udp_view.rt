@@ -103,6 +103,7 @@ impl<'a> UdpView<'a> {
 
     /// What the checksum says of the datagram between these addresses, which are of one family: over the header and the
     /// payload, and not over the tail.
+    #[inline(always)]
     pub fn sum_state(&self, src: Addr, dst: Addr) -> SumState
         requires { IsTrue (same_family src dst) }
         ensures { result ≡ sum_state src dst (self.now.head ++ self.now.payload) }
@@ -117,6 +118,7 @@ impl<'a> UdpView<'a> {
     }
 
     /// The folded sum of the datagram and of its pseudo header between these addresses (RFC 768; RFC 8200, 8.1).
+    #[inline(always)]
     fn sum_between(&self, src: Addr, dst: Addr) -> u16
         requires { IsTrue (same_family src dst) }
         ensures { let datagram = self.now.head ++ self.now.payload in

@@ -1,5 +1,5 @@
 -- Octets that were read ahead, and those that are taken of them.
-use Rattle.std.proofs.Common.{◌≡◌, ◌∙◌, refl, sym, ap, subst, ℕ, ◌+◌, ◌-◌, ◌<◌, ◌≤◌, List, ◌++◌, take, drop, drop_at, length, length-append, length-take, slice_range, append_assoc, arith, max, option_map, IfSome, Option, None, Some, inl, inr}
+use Rattle.std.proofs.Common.{◌≡◌, ◌∙◌, refl, sym, ap, subst, ℕ, ◌+◌, ◌-◌, ◌≤◌, List, ◌++◌, take, drop, drop_at, length, length-append, length-take, slice_range, append_assoc, arith, max, option_map, IfSome, Option, None, Some, inl, inr}
 use Rattle.std.proofs.lemmas.Bool.{cases_lt}
 use Rattle.std.proofs.KnownBytes.{Consumes-kept}
 use Rattle.std.proofs.lemmas.List.{drop-drop, drop-take, take-append-drop}

@@ -1,10 +1,11 @@
 -- A block whose first octets are handed on.
-use Rattle.std.proofs.Common.{◌≡◌, ◌∙◌, refl, sym, ap, ℕ, ◌+◌, ◌-◌, ◌≤◌, List, ◌++◌, take, drop, length, append_assoc, arith, length-drop, Option, None, Some}
+use Rattle.std.proofs.Common.{◌≡◌, ◌∙◌, sym, ap, ℕ, ◌+◌, ◌-◌, ◌<◌, ◌≤◌, List, [], ◌++◌, take, drop, length, append_assoc, append-nil, arith, length-drop, Option, None, Some, OnErr, Result, Ok, Err}
 use lib.Seq.{paste}
 use Rattle.std.proofs.lemmas.List.{drop-take, take-append-drop}
 use Rattle.std.proofs.lemmas.List.Edits.{take-paste}
 use Rattle.std.specs.List.{copy_within}
 use Rattle.std.specs.Io.KnownBytes.{Appends, Keeps, append_known}
+use Rattle.pcap_stream.specs.Sink.{AppendsPart}
 
 -- what is kept of a block, moved to its front
 pub shifted : (octets : List ℕ) (count held : ℕ) → count ≤ held → held ≤ length octets → take (held - count) (copy_within octets count held 0) ≡ drop count (take held octets)
@@ -22,3 +23,13 @@ handed_on None new held count h = tt
 handed_on (Some text) None held count h = absurd h
 handed_on (Some text) (Some more) held count h =
     ap (λ l. l ++ drop count held) h ∙ append_assoc text (take count held) (drop count held) ∙ ap (λ l. text ++ l) (take-append-drop count held)
+
+kept_is_none_more : (old new : Option (List ℕ)) → Keeps old new → Appends old new []
+kept_is_none_more None new same = tt
+kept_is_none_more (Some text) None same = absurd same
+kept_is_none_more (Some text) (Some more) same = same ∙ sym (append-nil text)
+
+-- where nothing was written of a text that isn't empty, a part of it was
+pub none_of : {T E : Type 0} (old new : Option (List ℕ)) (text : List ℕ) (result : Result T E) → Keeps old new → 0 < length text → OnErr result (AppendsPart old new text)
+none_of old new text (Ok x) same some = tt
+none_of old new text (Err e) same some = (0, some, kept_is_none_more old new same)

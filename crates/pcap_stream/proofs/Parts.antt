@@ -1,5 +1,5 @@
 -- Texts that are read or written part by part.
-use Rattle.std.proofs.Common.{◌≡◌, ◌∙◌, sym, ap, subst, ℕ, suc, ◌+◌, ◌<◌, ◌≤◌, ◌≢◌, List, ◌∷◌, ◌++◌, length, length-take-le, take, drop, get_or, arith, length-append, Option, None, Some, IfSome, OnErr, Result, Ok, Err}
+use Rattle.std.proofs.Common.{◌≡◌, ◌∙◌, sym, ap, subst, ℕ, suc, ◌+◌, ◌<◌, ◌≤◌, ◌≢◌, List, ◌∷◌, ◌++◌, length, length-take-le, take, drop, get_or, arith, append_assoc, length-append, Option, None, Some, IfSome, OnErr, Result, Ok, Err}
 use Rattle.std.proofs.KnownBytes.{Appends-trans, Consumes-kept, Consumes-trans}
 use Rattle.std.proofs.Math.Seq.{drop-cons, take-add, take-append-add}
 use Rattle.std.proofs.lemmas.Bool.{ne_eqb}
@@ -49,6 +49,12 @@ pub part_behind_on : {T E : Type 0} (a b c : Option (List ℕ)) (front text : Li
     → OnErr result (AppendsPart a c (front ++ text))
 part_behind_on a b c front text (Ok x) before part = tt
 part_behind_on a b c front text (Err e) before part = part_behind a b c front text before part
+
+-- four texts and one behind them
+pub four_behind : (front a b c d e : List ℕ) → front ≡ a ++ (b ++ (c ++ d)) → front ++ e ≡ a ++ (b ++ (c ++ (d ++ e)))
+four_behind front a b c d e is =
+    ap (λ (t : List ℕ). t ++ e) is ∙ append_assoc a (b ++ (c ++ d)) e
+    ∙ ap (λ (t : List ℕ). a ++ t) (append_assoc b (c ++ d) e ∙ ap (λ (t : List ℕ). b ++ t) (append_assoc c d e))
 
 -- a part of one of several texts, behind those before it, is a part of all
 pub part_of_all : {A : Type 0} (a b c : Option (List ℕ)) (f : A → List ℕ) (xs : List A) (i : ℕ) (d : A) → i < length xs

@@ -97,6 +97,8 @@ impl<R: Input> ReadAhead<R> {
 
     /// Moves what is ahead to the front of the room, and reads behind it until `wanted` octets are there or the input
     /// ends. A fault lets go of what was ahead.
+    #[cold]
+    #[inline(never)]
     fn bring(&mut self, wanted: usize) -> Result<(), DeviceFault>
         requires { (length self.old.ahead ≤ wanted) × (wanted ≤ longest) }
         ensures taken { OnOk result (Consumes (left_of self.old).rest self.new.input.rest self.new.ahead) }

@@ -1,13 +1,15 @@
 //! An output in blocks.
-ghost use Rattle.std.specs.Prelude.{◌≡◌, ◌≤◌, ◌+◌, ◌-◌, [], ◌++◌, IfOk, OnErr, OnOk, drop, length, take};
+ghost use Rattle.std.specs.Prelude.{◌≡◌, ◌≤◌, ◌<◌, ◌+◌, ◌-◌, [], ◌++◌, IfOk, OnErr, OnOk, drop, length, take};
 ghost use Rattle.std.specs.Io.{WritesAtMost};
 ghost use Rattle.std.specs.Io.KnownBytes.{Appends, Keeps, WriteAppends};
 ghost use Rattle.pcap_stream.specs.Block.{told};
 ghost use Rattle.pcap_stream.specs.Counts.{CountsRefusals, GoesOnBy};
+ghost use Rattle.pcap_stream.specs.Sink.{AppendsPart};
 
 use crate::device::DeviceFault;
 use crate::fault::WriteFault;
 use crate::output::Output;
+use crate::write::put_five;
 use std::alloc::{AllocError, Global};
 use std::marker::Model;
 
@@ -106,6 +108,23 @@ impl<W: Output> BlockOutput<W> {
         self.held = end;
     }
 
+    /// Puts five texts into the block, behind what it holds.
+    #[inline(always)]
+    fn put_gathered(
+        &mut self,
+        before: &[u8],
+        head: &[u8],
+        addresses: &[u8],
+        tag: &[u8],
+        body: &[u8],
+    )
+        requires { length self.old.held + (length before.now + length head.now + length addresses.now + length tag.now + length body.now) ≤ self.old.size }
+        ensures { self.new ≡ record self.old { held = self.old.held ++ (before.now ++ (head.now ++ (addresses.now ++ (tag.now ++ body.now)))) } }
+    {
+        let room = self.block.as_mut_slice();
+        self.held = put_five(room, self.held, before, head, addresses, tag, body);
+    }
+
     /// A write that the block has no room for: the block goes on first, and then what is longer than it.
     #[cold]
     #[inline(never)]
@@ -123,6 +142,55 @@ impl<W: Output> BlockOutput<W> {
         self.put(octets);
         Ok(octets.len())
     }
+
+    /// The same of a write of all of them.
+    #[cold]
+    #[inline(never)]
+    fn write_all_on(&mut self, octets: &[u8]) -> Result<(), WriteFault>
+        requires { 0 < length octets.now }
+        ensures ok { OnOk result (Appends (told self.old) (told self.new) octets.now) }
+        ensures err { OnErr result (AppendsPart (told self.old) (told self.new) octets.now) }
+        ensures quiet { OnOk result (self.new.failures ≡ self.old.failures) }
+        ensures cause { OnErr result (GoesOnBy 1 self.old.failures self.new.failures) }
+    {
+        self.finish()?;
+        if octets.len() > self.block.len() {
+            return self.output.write_all(octets);
+        }
+        self.put(octets);
+        Ok(())
+    }
+
+    /// The same of a write of five texts.
+    #[cold]
+    #[inline(never)]
+    fn write_gathered_on(
+        &mut self,
+        before: &[u8],
+        head: &[u8],
+        addresses: &[u8],
+        tag: &[u8],
+        body: &[u8],
+    ) -> Result<(), WriteFault>
+        requires some { 0 < length before.now + length head.now + length addresses.now + length tag.now + length body.now }
+        requires short { length before.now + length head.now + length addresses.now + length tag.now ≤ 102 }
+        ensures ok { OnOk result (Appends (told self.old) (told self.new)
+            (before.now ++ (head.now ++ (addresses.now ++ (tag.now ++ body.now))))) }
+        ensures err { OnErr result (AppendsPart (told self.old) (told self.new)
+            (before.now ++ (head.now ++ (addresses.now ++ (tag.now ++ body.now))))) }
+        ensures quiet { OnOk result (self.new.failures ≡ self.old.failures) }
+        ensures cause { OnErr result (GoesOnBy 1 self.old.failures self.new.failures) }
+    {
+        self.finish()?;
+        let size = before.len() + head.len() + addresses.len() + tag.len() + body.len();
+        if size > self.block.len() {
+            return self
+                .output
+                .write_gathered(before, head, addresses, tag, body);
+        }
+        self.put_gathered(before, head, addresses, tag, body);
+        Ok(())
+    }
 }
 
 impl<W: Output> Output for BlockOutput<W> {
@@ -139,6 +207,32 @@ impl<W: Output> Output for BlockOutput<W> {
         }
         self.put(octets);
         Ok(octets.len())
+    }
+
+    #[inline(always)]
+    fn write_all(&mut self, octets: &[u8]) -> Result<(), WriteFault> {
+        if octets.len() > self.block.len() - self.held {
+            return self.write_all_on(octets);
+        }
+        self.put(octets);
+        Ok(())
+    }
+
+    #[inline(always)]
+    fn write_gathered(
+        &mut self,
+        before: &[u8],
+        head: &[u8],
+        addresses: &[u8],
+        tag: &[u8],
+        body: &[u8],
+    ) -> Result<(), WriteFault> {
+        let size = before.len() + head.len() + addresses.len() + tag.len() + body.len();
+        if size > self.block.len() - self.held {
+            return self.write_gathered_on(before, head, addresses, tag, body);
+        }
+        self.put_gathered(before, head, addresses, tag, body);
+        Ok(())
     }
 }
 

@@ -26,4 +26,3 @@ pub use input::{Input, StdInput};
 pub use output::{Output, StdOutput};
 pub use sink::Sink;
 pub use source::Source;
-pub use write::write_full;

@@ -1,10 +1,13 @@
 //! Where octets go.
-ghost use Rattle.std.specs.Prelude.{◌≡◌, ℕ, List, Option, length, take, IfOk, OnErr};
+ghost use Rattle.std.specs.Prelude.{◌≡◌, ◌≤◌, ◌+◌, ◌++◌, ℕ, List, Option, length, take, IfOk, OnErr, OnOk};
 ghost use Rattle.std.specs.Io.{WritesAtMost};
 ghost use Rattle.std.specs.Io.KnownBytes.{Appends, Keeps, WriteAppends};
-ghost use Rattle.pcap_stream.specs.Counts.{CountsRefusals};
+ghost use Rattle.pcap_stream.specs.Counts.{CountsRefusals, GoesOnBy};
+ghost use Rattle.pcap_stream.specs.Sink.{AppendsPart};
 
 use crate::device::{DeviceFault, TRIES};
+use crate::fault::WriteFault;
+use crate::write::{FRONT, put_four};
 use std::io::{ErrorKind, Write};
 
 /// Octets that go one write after another.
@@ -20,6 +23,52 @@ pub trait Output {
         ensures bound { WritesAtMost result octets.now }
         ensures appended { WriteAppends (written self.old) (written self.new) result octets.now }
         ensures failures { CountsRefusals (failures self.old) (failures self.new) result (length octets.now) };
+
+    /// Appends all of `octets`, in as many writes as it takes. A fault comes where a write fails or takes none of some
+    /// octets: then a part of them was appended, and not all.
+    fn write_all(&mut self, octets: &[u8]) -> Result<(), WriteFault>
+        ensures ok { OnOk result (Appends (written self.old) (written self.new) octets.now) }
+        ensures err { OnErr result (AppendsPart (written self.old) (written self.new) octets.now) }
+        ensures quiet { OnOk result (failures self.new ≡ failures self.old) }
+        ensures cause { OnErr result (GoesOnBy 1 (failures self.old) (failures self.new)) }
+    {
+        let mut at = 0;
+        while at < octets.len() {
+            let Ok(n) = self.write(&octets[at..]) else {
+                return Err(WriteFault);
+            };
+            if n == 0 {
+                return Err(WriteFault);
+            }
+            at += n;
+        }
+        Ok(())
+    }
+
+    /// Appends five texts, one behind another, of which all but the last are short, as [`Output::write_all`] appends one.
+    fn write_gathered(
+        &mut self,
+        before: &[u8],
+        head: &[u8],
+        addresses: &[u8],
+        tag: &[u8],
+        body: &[u8],
+    ) -> Result<(), WriteFault>
+        requires { length before.now + length head.now + length addresses.now + length tag.now ≤ 102 }
+        ensures ok { OnOk result (Appends (written self.old) (written self.new)
+            (before.now ++ (head.now ++ (addresses.now ++ (tag.now ++ body.now))))) }
+        ensures err { OnErr result (AppendsPart (written self.old) (written self.new)
+            (before.now ++ (head.now ++ (addresses.now ++ (tag.now ++ body.now))))) }
+        ensures quiet { OnOk result (failures self.new ≡ failures self.old) }
+        ensures cause { OnErr result (GoesOnBy 1 (failures self.old) (failures self.new)) }
+    {
+        let mut front = [0; FRONT];
+        let end = put_four(&mut front, 0, before, head, addresses, tag);
+        if let Err(fault) = self.write_all(&front[..end]) {
+            return Err(fault);
+        }
+        self.write_all(body)
+    }
 }
 
 /// A writer of std's, as an output.

@@ -6,7 +6,7 @@ ghost use Rattle.pcap_stream.specs.Sink.{IsPut};
 
 use crate::fault::WriteFault;
 use crate::output::Output;
-use crate::write::{write_full, write_record};
+use crate::write::write_record;
 use pcap_io::global_header;
 use std::marker::Model;
 
@@ -63,7 +63,7 @@ impl<W: Output> Sink<W> {
         if self.is_failed {
             return Err(WriteFault);
         }
-        let written = write_full(&mut self.output, &global_header());
+        let written = self.output.write_all(&global_header());
         self.note(written)
     }
 

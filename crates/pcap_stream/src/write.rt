@@ -10,51 +10,6 @@ use crate::fault::WriteFault;
 use crate::output::Output;
 use pcap_io::{RECORD_HEADER_LENGTH, record_header};
 
-/// Writes a text whole: mostly the output takes it at once.
-#[inline(always)]
-pub fn write_full<W: Output>(output: &mut W, text: &[u8]) -> Result<(), WriteFault>
-    ensures ok { OnOk result (Appends (W.written output.old) (W.written output.new) text.now) }
-    ensures err { OnErr result (AppendsPart (W.written output.old) (W.written output.new) text.now) }
-    ensures quiet { OnOk result (W.failures output.new ≡ W.failures output.old) }
-    ensures cause { OnErr result (GoesOnBy 1 (W.failures output.old) (W.failures output.new)) }
-{
-    if text.is_empty() {
-        return Ok(());
-    }
-    let Ok(n) = output.write(text) else {
-        return Err(WriteFault);
-    };
-    if n == text.len() {
-        return Ok(());
-    }
-    if n == 0 {
-        return Err(WriteFault);
-    }
-    write_rest(output, &text[n..])
-}
-
-/// Writes a text in as many writes as it takes.
-#[cold]
-#[inline(never)]
-fn write_rest<W: Output>(output: &mut W, text: &[u8]) -> Result<(), WriteFault>
-    ensures ok { OnOk result (Appends (W.written output.old) (W.written output.new) text.now) }
-    ensures err { OnErr result (AppendsPart (W.written output.old) (W.written output.new) text.now) }
-    ensures quiet { OnOk result (W.failures output.new ≡ W.failures output.old) }
-    ensures cause { OnErr result (GoesOnBy 1 (W.failures output.old) (W.failures output.new)) }
-{
-    let mut at = 0;
-    while at < text.len() {
-        let Ok(n) = output.write(&text[at..]) else {
-            return Err(WriteFault);
-        };
-        if n == 0 {
-            return Err(WriteFault);
-        }
-        at += n;
-    }
-    Ok(())
-}
-
 /// Writes some texts, one behind another.
 fn write_parts<W: Output>(output: &mut W, parts: &[&[u8]]) -> Result<(), WriteFault>
     ensures ok { OnOk result (Appends (W.written output.old) (W.written output.new) (joined parts.now)) }
@@ -63,7 +18,7 @@ fn write_parts<W: Output>(output: &mut W, parts: &[&[u8]]) -> Result<(), WriteFa
     ensures cause { OnErr result (GoesOnBy 1 (W.failures output.old) (W.failures output.new)) }
 {
     for part in parts {
-        let Ok(()) = write_full(output, *part) else {
+        let Ok(()) = output.write_all(*part) else {
             return Err(WriteFault);
         };
     }
@@ -93,7 +48,7 @@ fn write_five<'p, W: Output>(
 }
 
 /// The octets that stand before a frame's body at most: a record's header, outer headers of 70, two addresses and a tag.
-const FRONT: usize = 102;
+pub(crate) const FRONT: usize = 102;
 
 /// Puts a text behind the first `at` octets of a room, and says where it ends.
 #[inline(always)]
@@ -149,56 +104,47 @@ fn put_tag(room: &mut [u8], at: usize, text: &[u8]) -> usize
     put_behind(room, at, text)
 }
 
-/// Puts four texts into the front of a room, one behind another, and says where they end.
+/// Puts four texts behind the first `at` octets of a room, one behind another, and says where they end.
 #[inline(always)]
-fn put_four(room: &mut [u8], before: &[u8], head: &[u8], addresses: &[u8], tag: &[u8]) -> usize
-    requires { length before.now + length head.now + length addresses.now + length tag.now ≤ length room.old }
-    ensures end { result ≤ length room.new }
-    ensures texts { take result room.new ≡ before.now ++ (head.now ++ (addresses.now ++ tag.now)) }
+pub(crate) fn put_four(
+    room: &mut [u8],
+    at: usize,
+    before: &[u8],
+    head: &[u8],
+    addresses: &[u8],
+    tag: &[u8],
+) -> usize
+    requires { at + (length before.now + length head.now + length addresses.now + length tag.now) ≤ length room.old }
+    ensures end { result ≡ at + (length before.now + length head.now + length addresses.now + length tag.now) }
+    ensures texts { take result room.new ≡ take at room.old ++ (before.now ++ (head.now ++ (addresses.now ++ tag.now))) }
 {
-    let before_end = put_behind(room, 0, before);
+    let before_end = put_behind(room, at, before);
     let head_end = put_head(room, before_end, head);
     let addresses_end = put_addresses(room, head_end, addresses);
     put_tag(room, addresses_end, tag)
 }
 
-/// Writes two texts, one behind the other.
-fn write_two<W: Output>(output: &mut W, front: &[u8], body: &[u8]) -> Result<(), WriteFault>
-    ensures ok { OnOk result (Appends (W.written output.old) (W.written output.new) (front.now ++ body.now)) }
-    ensures err { OnErr result (AppendsPart (W.written output.old) (W.written output.new) (front.now ++ body.now)) }
-    ensures quiet { OnOk result (W.failures output.new ≡ W.failures output.old) }
-    ensures cause { OnErr result (GoesOnBy 1 (W.failures output.old) (W.failures output.new)) }
-{
-    if let Err(fault) = write_full(output, front) {
-        return Err(fault);
-    }
-    write_full(output, body)
-}
-
-/// Writes five texts, one behind another: the first four, which are as short as an endpoint's are, at once.
+/// The same of four texts and one more.
 #[inline(always)]
-fn write_gathered<W: Output>(
-    output: &mut W,
+pub(crate) fn put_five(
+    room: &mut [u8],
+    at: usize,
     before: &[u8],
     head: &[u8],
     addresses: &[u8],
     tag: &[u8],
     body: &[u8],
-) -> Result<(), WriteFault>
-    requires { length before.now + length head.now + length addresses.now + length tag.now ≤ 102 }
-    ensures ok { OnOk result (Appends (W.written output.old) (W.written output.new)
-        (before.now ++ (head.now ++ (addresses.now ++ (tag.now ++ body.now))))) }
-    ensures err { OnErr result (AppendsPart (W.written output.old) (W.written output.new)
-        (before.now ++ (head.now ++ (addresses.now ++ (tag.now ++ body.now))))) }
-    ensures quiet { OnOk result (W.failures output.new ≡ W.failures output.old) }
-    ensures cause { OnErr result (GoesOnBy 1 (W.failures output.old) (W.failures output.new)) }
+) -> usize
+    requires { at + (length before.now + length head.now + length addresses.now + length tag.now + length body.now) ≤ length room.old }
+    ensures end { result ≡ at + (length before.now + length head.now + length addresses.now + length tag.now + length body.now) }
+    ensures texts { take result room.new ≡ take at room.old ++ (before.now ++ (head.now ++ (addresses.now ++ (tag.now ++ body.now)))) }
 {
-    let mut front = [0; FRONT];
-    let end = put_four(&mut front, before, head, addresses, tag);
-    write_two(output, &front[..end], body)
+    let front_end = put_four(room, at, before, head, addresses, tag);
+    put_behind(room, front_end, body)
 }
 
 /// Writes a record that holds a whole frame, the four slices side by side.
+#[inline(always)]
 pub fn write_record<W: Output>(
     output: &mut W,
     moment: u64,
@@ -217,22 +163,9 @@ pub fn write_record<W: Output>(
     ensures cause { OnErr result (GoesOnBy 1 (W.failures output.old) (W.failures output.new)) }
 {
     let size = (head.len() + addresses.len() + tag.len() + body.len()) as u32;
+    let before = &record_header(moment, size);
     if RECORD_HEADER_LENGTH + head.len() + addresses.len() + tag.len() > FRONT {
-        return write_five(
-            output,
-            &record_header(moment, size),
-            head,
-            addresses,
-            tag,
-            body,
-        );
+        return write_five(output, before, head, addresses, tag, body);
     }
-    write_gathered(
-        output,
-        &record_header(moment, size),
-        head,
-        addresses,
-        tag,
-        body,
-    )
+    output.write_gathered(before, head, addresses, tag, body)
 }

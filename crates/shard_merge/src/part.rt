@@ -14,7 +14,7 @@ use crate::capture::Capture;
 use crate::fault::{MergeFault, PartFault, Target};
 use crate::records::{copy_all, end_captures};
 use line_stream::{Lines, LinesFault};
-use pcap_stream::{Input, Output, Sink, write_full};
+use pcap_stream::{Input, Output, Sink};
 use shard_lines::{LineFacts, read_line};
 use std::marker::Model;
 
@@ -128,7 +128,7 @@ fn copy_event<R: Input, W: Output>(
 fn put_line<W: Output>(decisions: &mut W, line: &[u8]) -> Result<(), MergeFault>
     ensures { UnlessDevice result (Appends (W.written decisions.old) (W.written decisions.new) line.now) }
 {
-    match write_full(decisions, line) {
+    match decisions.write_all(line) {
         Ok(()) => Ok(()),
         Err(_) => Err(MergeFault::Write(Target::Decisions)),
     }

@@ -1,5 +1,5 @@
 -- A VID and an address as one number, and back.
-use Rattle.std.proofs.Common.{◌≡◌, ℕ, zero, suc, ◌%◌, ◌^◌, ◌<◌, List, [], ◌∷◌, ◌++◌, length, take, drop, get_or, refl, ap, ◌∙◌, arith}
+use Rattle.std.proofs.Common.{◌≡◌, ℕ, zero, suc, ◌+◌, ◌/◌, ◌%◌, ◌^◌, ◌<◌, List, [], ◌∷◌, ◌++◌, length, take, drop, get_or, refl, ap, ◌∙◌, arith}
 use Rattle.std.specs.Int.{from_be_bytes, to_be_bytes, w16, w64}
 use Rattle.std.proofs.lemmas.Nat.{be_bytes_2, be_bytes_8, from_be_bytes-to_be_bytes_2, from_be_bytes-to_be_bytes_8}
 use Rattle.header_sums.specs.Octets.{octets, IsText}
@@ -47,3 +47,12 @@ module _ (key : ℕ) where
   pub bucket_in_key : total (to_be_bytes w64 key) % 4096 ≡ bucket_of (vid_in key) (mac_in key)
   unfolding vid_in mac_in
   bucket_in_key = ap (λ n. n % 4096) (omega arith)
+
+  -- the sum of its words, of which the lowest twelve bits are told apart from no carry
+  words_in_key : total (to_be_bytes w64 key) ≡ key % 65536 + key / 65536 % 65536 + key / 4294967296 % 65536 + key / 281474976710656 % 65536
+  words_in_key = omega arith
+
+  pub bucket_by_words : (((key + key / 65536) % 18446744073709551616 + key / 4294967296) % 18446744073709551616 + key / 281474976710656) % 18446744073709551616 % 4096 ≡ bucket_of (vid_in key) (mac_in key)
+  bucket_by_words =
+      let sum : (((key + key / 65536) % 18446744073709551616 + key / 4294967296) % 18446744073709551616 + key / 281474976710656) % 18446744073709551616 % 4096 ≡ total (to_be_bytes w64 key) % 4096 = omega (arith, words_in_key) in
+      sum ∙ bucket_in_key

@@ -3,7 +3,6 @@ ghost use Rattle.std.specs.Prelude.{◌≡◌, ◌↔◌, IsTrue, ◌<◌, [], �
 ghost use Rattle.shared_tables.specs.Bucket.{bucket_of, chain_of, key_of, vid_in, mac_in, spread};
 
 use frame_view::{Mac, Vid};
-use header_sums::words;
 
 /// How many there are.
 const BUCKETS: usize = 4096;
@@ -65,8 +64,11 @@ fn bucket_by_key(key: u64) -> usize
     ensures value { result ≡ bucket_of (vid_in key) (mac_in key) }
     ensures in_range { result < 4096 }
 {
-    let octets = key.to_be_bytes();
-    (words(&octets) % BUCKETS as u64) as usize
+    let words = key
+        .wrapping_add(key >> 16)
+        .wrapping_add(key >> 32)
+        .wrapping_add(key >> 48);
+    (words % BUCKETS as u64) as usize
 }
 
 /// Which of its bucket's chains a key is on.

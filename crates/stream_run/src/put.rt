@@ -25,7 +25,7 @@ use decision_lines::{Desk, Line};
 use encapsulate::{Head, Leaving};
 use endpoint_core::{Came, Course, Endpoint};
 use filter_db::Place;
-use pcap_stream::{Output, Sink, WriteFault, write_full};
+use pcap_stream::{Output, Sink, WriteFault};
 use timeline::Event;
 
 /// Puts a record with a frame's addresses, a tag and the frame's body into the capture of a port, where there is one of this
@@ -222,7 +222,7 @@ pub fn put_line<W: Output>(decisions: &mut W, line: &[u8]) -> Result<(), Target>
     ensures { (start : Drains) (o : Outputs) (ports : List Drain) (underlay : Drain) → StandAt start (drains ports underlay (W.written decisions.old) (W.failures decisions.old)) o
         → Lead start (drains ports underlay (W.written decisions.new) (W.failures decisions.new)) o (with_line o line.now) result }
 {
-    match write_full(decisions, line) {
+    match decisions.write_all(line) {
         Ok(()) => Ok(()),
         Err(_) => Err(Target::Decisions),
     }

@@ -54,7 +54,10 @@ impl Underlay {
     pub fn is_own(&self, addr: Addr) -> bool
         ensures { result ≡ is_own self.now addr }
     {
-        self.own().is_own(addr)
+        match addr {
+            Addr::V4(octets) => self.ip4 == Some(octets),
+            Addr::V6(octets) => self.ip6 == Some(octets),
+        }
     }
 
     /// The kind of the tunnels at a UDP port, where it is a tunnel port.

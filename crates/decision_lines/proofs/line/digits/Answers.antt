@@ -19,3 +19,8 @@ pub returns-else-number-lt10-clause-word : goal.returns-else-number-lt10-clause-
 returns-else-number-lt10-clause-word c h =
     let long = length-decimal-log c.ilog10.result c.args.number c.ilog10.ensures.power_le c.ilog10.ensures.next_power_gt c.ranges.number.fits in
     omega (arith, long, length-decimal-le 5 c.args.number (omega arith) (omega (arith, h)) c.ranges.number.fits)
+
+pub returns-else-number-lt10-clause-twelve : goal.returns-else-number-lt10-clause-twelve
+returns-else-number-lt10-clause-twelve c h =
+    let long = length-decimal-log c.ilog10.result c.args.number c.ilog10.ensures.power_le c.ilog10.ensures.next_power_gt c.ranges.number.fits in
+    omega (arith, long, length-decimal-le 12 c.args.number (omega arith) (omega (arith, h)) c.ranges.number.fits)

@@ -24,10 +24,10 @@ returns-then-head-addresses-gt-FRONT-clause-err g c =
 
 pub returns-clause-ok : goal.returns-clause-ok
 returns-clause-ok g c =
-    let is = text_is c.args.moment _ _ c.args.head.now c.args.addresses.now c.args.tag.now c.args.body.now c.record_header-2.ensures refl in
-    subst (λ (t : List ℕ). OnOk c.write_gathered.result (Appends (g.W.Output.written c.args.output.now) (g.W.Output.written c.write_gathered.new.output) t)) is c.write_gathered.ensures.ok
+    let is = text_is c.args.moment _ _ c.args.head.now c.args.addresses.now c.args.tag.now c.args.body.now c.record_header.ensures refl in
+    subst (λ (t : List ℕ). OnOk c.write_gathered.result (Appends (g.W.Output.written c.args.output.now) (g.W.Output.written c.write_gathered.new.self) t)) is c.write_gathered.ensures.ok
 
 pub returns-clause-err : goal.returns-clause-err
 returns-clause-err g c =
-    let is = text_is c.args.moment _ _ c.args.head.now c.args.addresses.now c.args.tag.now c.args.body.now c.record_header-2.ensures refl in
-    subst (λ (t : List ℕ). OnErr c.write_gathered.result (AppendsPart (g.W.Output.written c.args.output.now) (g.W.Output.written c.write_gathered.new.output) t)) is c.write_gathered.ensures.err
+    let is = text_is c.args.moment _ _ c.args.head.now c.args.addresses.now c.args.tag.now c.args.body.now c.record_header.ensures refl in
+    subst (λ (t : List ℕ). OnErr c.write_gathered.result (AppendsPart (g.W.Output.written c.args.output.now) (g.W.Output.written c.write_gathered.new.self) t)) is c.write_gathered.ensures.err

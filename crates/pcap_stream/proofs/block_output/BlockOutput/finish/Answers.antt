@@ -1,4 +1,4 @@
-use Rattle.std.proofs.Common.{◌≡◌, rules, subst, sym, take, length, List, ℕ}
+use Rattle.std.proofs.Common.{rules, subst, sym, take, length, List, ℕ}
 use Rattle.std.specs.Io.KnownBytes.{Appends, Keeps}
 use Rattle.pcap_stream.specs.Block.{Block, told}
 use Rattle.pcap_stream.proofs.Blocks.{handed_on}

@@ -65,21 +65,21 @@ put_case() {
     printf '%-20s %3d\n' "$1" "$2" >"$folder/cases/$1-$2"
 }
 
-# run_cases: runs all cases, in two halves side by side, and keeps in a log what the program prints for each
+# run_cases: runs all cases, a share of them on each processor, and keeps in a log what the program prints for each
 run_cases() {
-    local number=0 file half
-    mkdir "$folder/half0" "$folder/half1"
+    local many number=0 file share
+    many=$(nproc)
+    for share in $(seq 0 $((many - 1))); do mkdir "$folder/share$share"; done
     for file in "$folder"/cases/*; do
-        half=$folder/half$((number % 2))
-        mv "$file" "$half"
+        mv "$file" "$folder/share$((number % many))"
         number=$((number + 1))
     done
-    for half in half0 half1; do
+    for share in "$folder"/share*; do
         (cd crates/refused_memory &&
-            rt try --steps 1 --seconds 300 --fail-alloc "$refused" --cases "$folder/$half" >"$folder/$half.log" 2>&1) &
+            rt try --steps 1 --seconds 300 --fail-alloc "$refused" --cases "$share" >"$share.log" 2>&1) &
     done
     wait
-    cat "$folder/half0.log" "$folder/half1.log" >"$folder/log"
+    cat "$folder"/share*.log >"$folder/log"
 }
 
 # said NAME COUNT: what the program printed for a case: the answer, and how many requests were granted behind it

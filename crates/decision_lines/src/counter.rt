@@ -42,7 +42,7 @@ impl Counter {
     }
 
     /// Adds one.
-    #[inline]
+    #[inline(always)]
     pub fn add_one(&mut self)
         requires { self.old + 1 < 2 ^ 64 }
         ensures { self.new ≡ self.old + 1 }

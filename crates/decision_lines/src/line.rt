@@ -137,7 +137,7 @@ impl Line {
     }
 
     /// Puts a number below 65,536 in decimal digits at the end.
-    #[inline]
+    #[inline(always)]
     pub(crate) fn put_short(&mut self, number: u16)
         requires room { length self.old + 5 ≤ 4096 }
         ensures text { self.new ≡ self.old ++ decimal number }

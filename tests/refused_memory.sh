@@ -65,10 +65,11 @@ put_case() {
     printf '%-20s %3d\n' "$1" "$2" >"$folder/cases/$1-$2"
 }
 
-# run_cases: runs all cases, a share of them on each processor, and keeps in a log what the program prints for each
+# run_cases: runs all cases, a share of them on each processor, four at most, and keeps in a log what the program prints for each
 run_cases() {
     local many number=0 file share
     many=$(nproc)
+    [ "$many" -le 4 ] || many=4
     for share in $(seq 0 $((many - 1))); do mkdir "$folder/share$share"; done
     for file in "$folder"/cases/*; do
         mv "$file" "$folder/share$((number % many))"

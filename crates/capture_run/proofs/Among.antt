@@ -10,7 +10,7 @@ use Rattle.timeline.specs.Events.{all_events as all_events_of}
 use Rattle.timeline.specs.Faults.{faults_of}
 use Rattle.timeline.specs.Inputs.{inputs, opened_captures}
 use Rattle.timeline.specs.Order.{IsRising, merged}
-use Rattle.timeline.specs.Timeline.{Timeline, cuts_of, told, unless}
+use Rattle.timeline.specs.Timeline.{Timeline, cuts_of, told, if_faultless}
 use Rattle.timeline.specs.declared.event.Event.{Event as Happens}
 use Rattle.timeline.specs.declared.fault.TimelineFault.{TimelineFault}
 use Rattle.timeline.specs.declared.timeline.Cut.{Cut}
@@ -41,7 +41,7 @@ all_outputs S changes n timeline rising =
 
 -- the same with what the captures tell
 all_by_timeline : (s : Asked) (changes : List TimedChange) (n : ℕ) (timeline : Timeline) (others : List TimelineFault) → IsRising 0 timeline.events
-    → by_timeline_among All s changes n (unless others timeline) ≡ by_timeline s changes n (unless others timeline)
+    → by_timeline_among All s changes n (if_faultless others timeline) ≡ by_timeline s changes n (if_faultless others timeline)
 all_by_timeline s changes n timeline [] rising =
     ap (λ (o : Outputs). let r : Result Outputs RunFault = Ok o in r) (all_outputs (settings_told s) (map (λ (c : TimedChange). c.change) changes) n timeline rising)
 all_by_timeline s changes n timeline (fault ∷ others) rising = refl

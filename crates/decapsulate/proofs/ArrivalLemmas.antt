@@ -6,8 +6,9 @@ use Rattle.std.proofs.lemmas.List.{length-append, take_at, drop_at, drop-drop}
 use Rattle.header_sums.specs.Octets.{part}
 use Rattle.header_sums.specs.Sum.{total, folded}
 use Rattle.header_sums.proofs.OctetsLemmas.{field-append}
-use Rattle.frame_view.specs.First.{first}
+use Rattle.frame_view.specs.First.{first, unless}
 use Rattle.frame_view.specs.Frame.{Frame, IsFrame, plain, frame_of}
+use Rattle.frame_view.specs.Refusal.{as_refused}
 use Rattle.frame_view.specs.declared.reason.Reason.{Reason}
 use Rattle.frame_view.proofs.FirstLemmas.{NothingHolds-from, first-nothing}
 use Rattle.ip_udp_view.specs.declared.addr.Addr.{Addr}
@@ -28,7 +29,7 @@ use Rattle.vxlan_head.proofs.Reading.{vxlan-only}
 use Rattle.geneve_head.specs.Reading.{geneve_faults, reason_of as geneve_reason}
 use Rattle.geneve_head.specs.declared.view.GnFault.TheVariants.{CriticalOption}
 use Rattle.geneve_head.proofs.PacketLemmas.{geneve-only}
-use Rattle.decapsulate.specs.Arrival.{packet_in, kind_to, sum_of, vni_of, inner_of, tunnel_reasons, is_bad_source, is_elsewhere, needs_sum, is_zero, is_wrong, frame_reasons, packet_reasons, datagram_reasons, outer_reasons, inner_reasons, unless, arrival_in, arrival_by, arrival, IsTunnelled, IsSumTaken}
+use Rattle.decapsulate.specs.Arrival.{packet_in, kind_to, sum_of, vni_of, inner_of, tunnel_reasons, is_bad_source, is_elsewhere, needs_sum, is_zero, is_wrong, frame_reasons, packet_reasons, datagram_reasons, outer_reasons, inner_reasons, arrival_in, arrival_by, arrival, IsTunnelled, IsSumTaken}
 use Rattle.decapsulate.proofs.PacketLemmas.{first-as_reasons}
 use Rattle.decapsulate.proofs.ReasonsLemmas.{carried-tunnel, outer-carried}
 
@@ -179,7 +180,7 @@ arrives S vid g kind vni b src dst from to sum d e k q =
     let p = packet_in b in
     let parts = (only-datagram b src dst from to sum d k).1 in
     let none = outer-none S vid g kind vni b src dst from to sum d e k q in
-    ap (λ (o : Option Reason). unless o None (arrival_by S (kind_to S.underlay p) p.source p.destination (data_of p.payload))) none.1
+    ap (λ (o : Option Reason). unless (as_refused None o) (arrival_by S (kind_to S.underlay p) p.source p.destination (data_of p.payload))) none.1
     ∙ ap (λ (o : Option Tunnel). arrival_by S o p.source p.destination (data_of p.payload)) none.0
     ∙ ap (λ (x : Addr). arrival_by S (Some kind) x p.destination (data_of p.payload)) parts.source_is
     ∙ ap (λ (x : Addr). arrival_by S (Some kind) src x (data_of p.payload)) parts.destination_is
@@ -187,4 +188,4 @@ arrives S vid g kind vni b src dst from to sum d e k q =
     ∙ ap (λ (n : ℕ). arrival_in (segment_by S kind n) kind src dst (inner_of kind d)) q.reads.vni_is
     ∙ ap (λ (x : List ℕ). arrival_in (segment_by S kind vni) kind src dst x) q.reads.inner_is
     ∙ ap (λ (o : Option (ℕ × Segment)). arrival_in o kind src dst e) q.segment_is
-    ∙ ap (λ (o : Option Reason). unless o (Some vid) (Ok (record { vid = vid; from = (kind, src); frame = frame_of e }))) q.inside
+    ∙ ap (λ (o : Option Reason). unless (as_refused (Some vid) o) (Ok (record { vid = vid; from = (kind, src); frame = frame_of e }))) q.inside

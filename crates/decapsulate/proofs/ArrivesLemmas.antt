@@ -1,16 +1,16 @@
 -- A packet brings what arrives in whole texts, and nothing else.
-use Rattle.std.proofs.Common.{◌≡◌, ◌≢◌, ℕ, ◌<◌, ◌≤◌, Bool, true, false, not, ◌&&◌, cond, eqb, List, ◌++◌, length, take, drop, Option, Some, None, Result, Ok, option_map, refl, sym, ap, ◌∙◌, subst, arith, inl, inr}
+use Rattle.std.proofs.Common.{◌≡◌, ◌≢◌, ℕ, ◌<◌, ◌≤◌, Bool, true, false, not, ◌&&◌, cond, eqb, List, ◌++◌, length, take, drop, Option, Some, None, Ok, option_map, refl, sym, ap, ◌∙◌, subst, arith, inl, inr}
 use Rattle.std.specs.Prelude.{◌⊎◌, is_none}
 use Rattle.std.proofs.lemmas.Bool.{ltb-false, le-ltb, eqb-true, eqb-false, not-false, not_from_true, and_cases, and_left, and_right}
 use Rattle.std.proofs.lemmas.List.{length-append, length-take, length-drop, take-append-drop, drop-drop}
 use Rattle.header_sums.specs.Octets.{IsText, part}
 use Rattle.frame_view.specs.Address.{is_group as is_group_mac, is_reserved}
 use Rattle.frame_view.specs.First.{first}
+use Rattle.frame_view.proofs.RefusalLemmas.{refused-ok}
 use Rattle.frame_view.specs.Frame.{Frame, IsFrame, plain, frame_of}
 use Rattle.frame_view.specs.Tag.{begins_tag}
 use Rattle.frame_view.specs.declared.reason.Reason.{Reason}
-use Rattle.frame_view.specs.declared.reason.Refused.{Refused}
-use Rattle.frame_view.proofs.FirstLemmas.{NothingHolds, NothingHolds-from, first-nothing}
+use Rattle.frame_view.proofs.FirstLemmas.{NothingHolds, NothingHolds-from, first-nothing, same_Ok}
 use Rattle.ip_udp_view.specs.declared.addr.Addr.{Addr}
 use Rattle.ip_udp_view.specs.declared.addr.Tunnel.{Tunnel}
 use Rattle.ip_udp_view.specs.declared.addr.Tunnel.TheVariants.{Vxlan, Geneve}
@@ -27,7 +27,7 @@ use Rattle.vxlan_head.specs.Reading.{vxlan_faults, reason_of as vxlan_reason}
 use Rattle.vxlan_head.proofs.Reading.{vxlan-found}
 use Rattle.geneve_head.specs.Reading.{geneve_options, geneve_faults, reason_of as geneve_reason}
 use Rattle.geneve_head.proofs.PacketLemmas.{geneve-found}
-use Rattle.decapsulate.specs.Arrival.{Arrived, packet_in, kind_to, sum_of, vni_of, inner_of, tunnel_reasons, data_reasons, needs_sum, is_zero, is_wrong, outer_reasons, inner_reasons, unless, arrival_in, arrival_by, arrival, IsTunnelled, IsSumTaken, Arrives, BringsWhatArrives}
+use Rattle.decapsulate.specs.Arrival.{Arrived, packet_in, kind_to, sum_of, vni_of, inner_of, tunnel_reasons, data_reasons, needs_sum, is_zero, is_wrong, outer_reasons, inner_reasons, arrival_in, arrival_by, arrival, IsTunnelled, IsSumTaken, Arrives, BringsWhatArrives}
 use Rattle.decapsulate.proofs.PacketLemmas.{first-as_reasons}
 use Rattle.decapsulate.proofs.ArrivalLemmas.{Reads-from, port-kind_at, state_of, text_sum, sum_state-header, frame_of-plain, Brings, arrives}
 
@@ -47,13 +47,6 @@ either a b (inr h) = and_right a b h
 some_of : {A : Type 0} (o : Option A) → is_none o ≡ false → (a : A) × (o ≡ Some a)
 some_of None h = absurd cc
 some_of (Some a) h = (a, refl)
-
-unless-ok : {A : Type 0} (o : Option Reason) (v : Option ℕ) (y : Result A Refused) (x : A) → unless o v y ≡ Ok x → (o ≡ None) × (y ≡ Ok x)
-unless-ok (Some r) v y x e = absurd cc
-unless-ok None v y x e = (refl, e)
-
-ok_is : (x y : Arrived) → ◌≡◌ {A = Result Arrived Refused} (Ok x) (Ok y) → x ≡ y
-ok_is x y e = cc
 
 -- a table of reasons that a table of faults is, and none of which holds
 no_fault : {A : Type 0} (o : Option A) (reason_of : A → Reason) → option_map reason_of o ≡ None → o ≡ None
@@ -116,8 +109,8 @@ in_segment : (g : Option (ℕ × Segment)) (kind : Tunnel) (a b : Addr) (e : Lis
 in_segment None kind a b e x h = absurd cc
 in_segment (Some found) kind a b e x h =
     let made : Arrived = record { vid = found.0; from = (kind, a); frame = frame_of e } in
-    let u = unless-ok (first (inner_reasons found.1 kind a b e)) (Some found.0) (Ok made) x h in
-    record { vid = found.0; segment = found.1; segment_is = refl; nothing = NothingHolds-from (inner_reasons found.1 kind a b e) u.0; is = ok_is made x u.1 }
+    let u = refused-ok (Some found.0) (first (inner_reasons found.1 kind a b e)) (Ok made) x h in
+    record { vid = found.0; segment = found.1; segment_is = refl; nothing = NothingHolds-from (inner_reasons found.1 kind a b e) u.0; is = same_Ok made x u.1 }
 
 -- a text of 14 octets or more is that of a frame without a tag
 is_frame-from : (e : List ℕ) → 14 ≤ length e → IsFrame (frame_of e)
@@ -160,7 +153,7 @@ to_texts S b x text h =
     let d = data_of p.payload in
     let src = p.source in
     let dst = p.destination in
-    let u = unless-ok (first (outer_reasons S b)) None (arrival_by S (kind_to U p) src dst d) x h in
+    let u = refused-ok None (first (outer_reasons S b)) (arrival_by S (kind_to U p) src dst d) x h in
     let a = NothingHolds-from (outer_reasons S b) u.0 in
     let some_kind = some_of (kind_to U p) a.1.1.1.1.1.1.1.1.1.0 in
     let kind = some_kind.0 in

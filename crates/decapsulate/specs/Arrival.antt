@@ -7,8 +7,9 @@ use Rattle.header_sums.specs.Octets.{IsText}
 use Rattle.header_sums.specs.Sum.{total, folded}
 use Rattle.frame_view.specs.Address.{is_group as is_group_mac, is_reserved}
 use Rattle.frame_view.specs.Ether.{has_tag}
-use Rattle.frame_view.specs.First.{first}
+use Rattle.frame_view.specs.First.{first, unless}
 use Rattle.frame_view.specs.Frame.{IsFrame, plain, frame_of}
+use Rattle.frame_view.specs.Refusal.{as_refused}
 use Rattle.frame_view.specs.Tag.{begins_tag}
 use Rattle.frame_view.specs.declared.reason.Reason.{Reason}
 use Rattle.frame_view.specs.declared.reason.Reason.TheVariants.{TooLong, Sliced, Runt, BadSource, Reserved, NotIp, BadIp, BadIpSum, BadOuterSource, NotForUs, Fragment, NotUdp, BadUdp, NotTunnel, ZeroSum, BadUdpSum, UnknownVni, WrongGroup, UnknownPeer, InnerRunt, InnerTag}
@@ -176,16 +177,11 @@ inner_reasons g kind a b e =
 
 -- ---- what arrives
 
--- the first reason, in the segment where it is known; or what there is where none holds
-abbrev pub unless : {A : Type 0} → Option Reason → Option ℕ → Result A Refused → Result A Refused
-unless (Some reason) vid otherwise = Err (record { segment = vid; reason = reason })
-unless None vid otherwise = otherwise
-
 -- what the inner text e brings, from address a to address b, in the segment of a VID
 abbrev pub arrival_in : Option (ℕ × Segment) → Tunnel → Addr → Addr → List ℕ → Result Arrived Refused
 arrival_in None kind a b e = Err (record { segment = None; reason = UnknownVni })
 arrival_in (Some found) kind a b e =
-    unless (first (inner_reasons found.1 kind a b e)) (Some found.0)
+    unless (as_refused (Some found.0) (first (inner_reasons found.1 kind a b e)))
     (Ok (record { vid = found.0; from = (kind, a); frame = frame_of e }))
 
 -- what the data d brings, from address a to address b, at a port of a kind
@@ -197,7 +193,7 @@ arrival_by S (Some kind) a b d = arrival_in (segment_by S kind (vni_of kind d)) 
 abbrev pub arrival : Overlay → List ℕ → Result Arrived Refused
 arrival S b =
     let p = packet_in b in
-    unless (first (outer_reasons S b)) None (arrival_by S (kind_to S.underlay p) p.source p.destination (data_of p.payload))
+    unless (as_refused None (first (outer_reasons S b))) (arrival_by S (kind_to S.underlay p) p.source p.destination (data_of p.payload))
 
 -- the octets of a tunnel header, with its options
 abbrev pub header_octets : Tunnel → List ℕ → ℕ
@@ -219,7 +215,7 @@ capture_reasons original b =
 
 -- what a record of a capture brings
 abbrev pub arrival_of : Overlay → ℕ → List ℕ → Result Arrived Refused
-arrival_of S original b = unless (first (capture_reasons original b)) None (arrival S b)
+arrival_of S original b = unless (as_refused None (first (capture_reasons original b))) (arrival S b)
 
 -- ---- the same in whole texts
 

@@ -3,6 +3,7 @@ use Rattle.std.proofs.Common.{◌≡◌, ◌∙◌, sym, ap, ◌-◌, List, ℕ,
 use Rattle.std.proofs.Math.Seq.{take-append_seam}
 use Rattle.frame_view.specs.Frame.{Frame, plain}
 use Rattle.frame_view.specs.declared.reason.Reason.{Reason}
+use Rattle.frame_view.proofs.FirstLemmas.{same_Ok}
 use Rattle.ip_udp_view.specs.declared.addr.Addr.{Addr}
 use Rattle.ip_udp_view.specs.declared.addr.Tunnel.{Tunnel}
 use Rattle.underlay.specs.Overlay.{Overlay}
@@ -20,9 +21,6 @@ texts_by o t = elim o [ Some reason ↦ Err reason | None ↦ Ok t ]
 
 abbrev parts_by : Option Reason → List ℕ → Frame → Result Parts Reason
 parts_by o t f = elim o [ Some reason ↦ Err reason | None ↦ Ok (around (before (plain f) t) [] f) ]
-
-same_Ok : (x y : List ℕ) → ◌≡◌ {A = Result (List ℕ) Reason} (Ok x) (Ok y) → x ≡ y
-same_Ok x y h = cc
 
 sent : (o : Option Reason) (t head : List ℕ) (f : Frame) → Ok (text (around head [] f)) ≡ texts_by o t → Ok (around head [] f) ≡ parts_by o t f
 sent (Some reason) t head f h = absurd cc

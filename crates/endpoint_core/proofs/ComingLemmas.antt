@@ -1,5 +1,5 @@
 -- A frame that comes to a segment comes to one that is there, and from a place that the segment can send to.
-use Rattle.std.proofs.Common.{◌≡◌, ℕ, ◌≤◌, Bool, true, false, cond, not, ◌&&◌, ◌||◌, refl, sym, ap, ◌∙◌, subst, Option, Some, None, Result, Ok, List, [], ◌∷◌, length, length-drop, arith}
+use Rattle.std.proofs.Common.{◌≡◌, ℕ, ◌≤◌, Bool, true, false, cond, not, ◌&&◌, ◌||◌, refl, sym, ap, ◌∙◌, subst, Option, Some, None, Ok, List, [], ◌∷◌, length, length-drop, arith}
 use Rattle.std.specs.Prelude.{is_some, ◌==◌}
 use Rattle.std.specs.List.{list_all}
 use Rattle.std.specs.Option.{option_and_then, option_map_or}
@@ -9,9 +9,8 @@ use Rattle.std.proofs.lemmas.Bool.{false≢true}
 use Rattle.frame_view.specs.First.{first}
 use Rattle.frame_view.specs.Frame.{Frame, frame_of, frame_behind_tag}
 use Rattle.frame_view.specs.Ether.{has_tag}
-use Rattle.frame_view.specs.declared.reason.Reason.{Reason}
-use Rattle.frame_view.specs.declared.reason.Refused.{Refused}
-use Rattle.frame_view.proofs.FirstLemmas.{NothingHolds-from}
+use Rattle.frame_view.proofs.FirstLemmas.{NothingHolds-from, unless-ok, same_Ok}
+use Rattle.frame_view.proofs.RefusalLemmas.{refused-ok}
 use Rattle.ip_udp_view.specs.declared.addr.Addr.{Addr}
 use Rattle.ip_udp_view.specs.declared.addr.Addr.TheVariants.{V4, V6}
 use Rattle.ip_udp_view.specs.declared.addr.Tunnel.{Tunnel}
@@ -20,31 +19,27 @@ use Rattle.ip_udp_view.specs.Ip.{Family, Ip4, Ip6, source, destination}
 use Rattle.flood_lists.specs.Flood.{Entries, has_family, is_own, is_there, own_of, is_entry, holds}
 use Rattle.flood_lists.specs.declared.own.Own.{Own}
 use Rattle.vlan_ports.specs.Ports.{Ports, has_segment as has_members}
-use Rattle.vlan_ports.specs.Ingress.{enters, reasons, vid_at, frame_in, unless as unless_refused}
+use Rattle.vlan_ports.specs.Ingress.{enters, reasons, vid_at, frame_in}
 use Rattle.underlay.specs.Overlay.{Overlay, has_tunnel, segment_by, segment_at, tunnel_of, tunnel_at, has_segment, flood_at, floods}
 use Rattle.underlay.specs.Settings.{own}
 use Rattle.underlay.specs.declared.segment.Segment.{Segment}
 use Rattle.underlay.proofs.CountLemmas.{found_where}
-use Rattle.decapsulate.specs.Arrival.{arrival, arrival_by, arrival_in, outer_reasons, inner_reasons, packet_in, kind_to, vni_of, inner_of, unless}
+use Rattle.decapsulate.specs.Arrival.{arrival, arrival_by, arrival_in, outer_reasons, inner_reasons, packet_in, kind_to, vni_of, inner_of}
 use Rattle.decapsulate.specs.declared.arrived.Arrived.{Arrived}
 use Rattle.endpoint_state.specs.Sound.{reaches}
 
 -- ---- by a local port
 
 -- a text that enters a segment enters one that is there
-entered-from : (o : Option Refused) (x y : ℕ × Frame) → unless_refused o x ≡ Ok y → (o ≡ None) × (x ≡ y)
-entered-from None x y h = (refl, cc)
-entered-from (Some refused) x y h = absurd cc
-
 not-not : (b : Bool) → not b ≡ false → b ≡ true
 not-not true h = refl
 not-not false h = absurd (false≢true (sym h))
 
 pub entered-there : (ports : Ports) (port : ℕ) (b : List ℕ) (vid : ℕ) (f : Frame) → enters ports port b ≡ Ok (vid, f) → has_members ports vid ≡ true
 entered-there ports port b vid f h =
-    let found = entered-from (first (reasons ports port b)) (vid_at ports port b, frame_in b) (vid, f) h in
+    let found = unless-ok (first (reasons ports port b)) (Ok (vid_at ports port b, frame_in b)) (vid, f) h in
     let none = NothingHolds-from (reasons ports port b) found.0 in
-    ap (λ (x : ℕ × Frame). has_members ports x.0) (sym found.1) ∙ not-not (has_members ports (vid_at ports port b)) none.1.1.1.1.1.1.1.0
+    ap (λ (x : ℕ × Frame). has_members ports x.0) (sym (same_Ok (vid_at ports port b, frame_in b) (vid, f) found.1)) ∙ not-not (has_members ports (vid_at ports port b)) none.1.1.1.1.1.1.1.0
 
 body-short : (b : List ℕ) (tag : Bool) → length (cond tag (frame_behind_tag b) (frame_of b)).body ≤ length b
 body-short b true = omega (arith, length-drop 16 b)
@@ -53,17 +48,10 @@ body-short b false = omega (arith, length-drop 12 b)
 -- and its body is a part of the text
 pub entered-short : (ports : Ports) (port : ℕ) (b : List ℕ) (vid : ℕ) (f : Frame) → enters ports port b ≡ Ok (vid, f) → length f.body ≤ length b
 entered-short ports port b vid f h =
-    let found = entered-from (first (reasons ports port b)) (vid_at ports port b, frame_in b) (vid, f) h in
-    subst (λ (x : ℕ × Frame). length x.1.body ≤ length b) found.1 (body-short b (has_tag b))
+    let found = unless-ok (first (reasons ports port b)) (Ok (vid_at ports port b, frame_in b)) (vid, f) h in
+    subst (λ (x : ℕ × Frame). length x.1.body ≤ length b) (same_Ok (vid_at ports port b, frame_in b) (vid, f) found.1) (body-short b (has_tag b))
 
 -- ---- by a tunnel
-
-arrived-from : {A : Type 0} (o : Option Reason) (vid : Option ℕ) (r : Result A Refused) (x : A) → unless o vid r ≡ Ok x → (o ≡ None) × (r ≡ Ok x)
-arrived-from None vid r x h = (refl, h)
-arrived-from (Some reason) vid r x h = absurd cc
-
-same_Ok : {A E : Type 0} (x y : A) → ◌≡◌ {A = Result A E} (Ok x) (Ok y) → x ≡ y
-same_Ok x y h = cc
 
 kind-from : (S : Overlay) (o : Option Tunnel) (a b : Addr) (d : List ℕ) (x : Arrived) → arrival_by S o a b d ≡ Ok x →
     (kind : Tunnel) × (arrival_in (segment_by S kind (vni_of kind d)) kind a b (inner_of kind d) ≡ Ok x)
@@ -79,7 +67,7 @@ pub record Found (S : Overlay) (kind : Tunnel) (src dst : Addr) (vni : ℕ) (x :
 found-from : (S : Overlay) (o : Option (ℕ × Segment)) (kind : Tunnel) (src dst : Addr) (vni : ℕ) (e : List ℕ) (x : Arrived) → segment_by S kind vni ≡ o → arrival_in o kind src dst e ≡ Ok x → Found S kind src dst vni x
 found-from S None kind src dst vni e x is h = absurd cc
 found-from S (Some found) kind src dst vni e x is h =
-    let parts = arrived-from (first (inner_reasons found.1 kind src dst e)) (Some found.0) _ x h in
+    let parts = refused-ok (Some found.0) (first (inner_reasons found.1 kind src dst e)) _ x h in
     let none = NothingHolds-from (inner_reasons found.1 kind src dst e) parts.0 in
     let same = same_Ok _ x parts.1 in
     record {
@@ -166,7 +154,7 @@ pub arrived-reached : (S : Overlay) (b : List ℕ) (x : Arrived) → ((vid : ℕ
     (reaches S x.vid x.from.0 x.from.1 ≡ true) × (has_segment S x.vid ≡ true)
 arrived-reached S b x sound h =
     let p = packet_in b in
-    let outer = arrived-from (first (outer_reasons S b)) None _ x h in
+    let outer = refused-ok None (first (outer_reasons S b)) _ x h in
     let none = NothingHolds-from (outer_reasons S b) outer.0 in
     let kind = kind-from S (kind_to S.underlay p) p.source p.destination _ x outer.1 in
     reached-found S kind.0 p.source p.destination _ x sound (one-family _ _) none.1.1.1.1.1.0

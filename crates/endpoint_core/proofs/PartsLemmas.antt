@@ -1,8 +1,9 @@
 -- The outcomes of what came, in their parts.
-use Rattle.std.proofs.Common.{◌≡◌, sym, ap, List, [], map, get_or, Result, Ok, Err}
+use Rattle.std.proofs.Common.{◌≡◌, sym, ap, List, [], map, Result, Ok, Err}
 use Rattle.std.proofs.lemmas.List.Elements.{All-map, All-nil, All-same}
 use Rattle.std.specs.Prelude.{slice_index_or}
 use Rattle.frame_view.specs.declared.reason.Refused.{Refused}
+use Rattle.frame_view.proofs.FirstLemmas.{same_Ok}
 use Rattle.filter_db.specs.declared.place.Place.{Place}
 use Rattle.endpoint_state.specs.Settings.{Settings}
 use Rattle.endpoint_core.specs.declared.decision.Outcome.{Outcome}
@@ -10,9 +11,6 @@ use Rattle.endpoint_core.specs.Arrival.{emitted_parts}
 use Rattle.endpoint_core.specs.Came.{Came}
 use Rattle.endpoint_core.specs.Course.{AreInParts, Course, IsOfWhatCame, outcomes_of}
 use Rattle.endpoint_core.specs.Step.{outcome_at}
-
-same_Ok : (x y : Came) → ◌≡◌ {A = Result Came Refused} (Ok x) (Ok y) → x ≡ y
-same_Ok x y h = cc
 
 abbrev Leaving : Settings → Came → Outcome → Type 0
 Leaving S x o = o.sent ≡ emitted_parts S.ports S.overlay x.vid x.frame o.place

@@ -1,5 +1,5 @@
 -- An endpoint of which some segments are asked for: what comes to the others is passed over. It states no standard.
-use Rattle.std.specs.Prelude.{ℕ, Bool, if◌then◌else◌, Option, Some, None, Result, Ok, Err}
+use Rattle.std.specs.Prelude.{ℕ, Bool, if◌then◌else◌, Option, Some, Result, Ok, Err}
 use Rattle.frame_view.specs.declared.reason.Refused.{Refused}
 use Rattle.segment_set.specs.Segments.{Segments, holds}
 use Rattle.endpoint_state.specs.Change.{named}

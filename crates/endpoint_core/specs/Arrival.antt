@@ -1,7 +1,7 @@
 -- How a frame comes to the bridge of a segment: by a local port or by a tunnel. It states no standard.
-use Rattle.std.specs.Prelude.{ℕ, nat_lt, Bool, List, [], ◌∷◌, length, Option, Some, None, Result, Ok, Err}
+use Rattle.std.specs.Prelude.{ℕ, nat_lt, Bool, List, [], ◌∷◌, length, Result, Ok, Err}
 use Rattle.std.specs.Option.{option_map_or}
-use Rattle.frame_view.specs.First.{first}
+use Rattle.frame_view.specs.First.{first, unless}
 use Rattle.frame_view.specs.Frame.{Frame}
 use Rattle.frame_view.specs.declared.reason.Reason.{Reason}
 use Rattle.frame_view.specs.declared.reason.Reason.TheVariants.{TooLong, Sliced}
@@ -25,11 +25,6 @@ capture_reasons original b =
     (nowhere TooLong, nat_lt 65535 (length b))
     ∷ (nowhere Sliced, nat_lt (length b) original)
     ∷ []
-
--- a refusal, or what there is where there is none
-abbrev pub unless : Option Refused → Result Came Refused → Result Came Refused
-unless (Some refused) otherwise = Err refused
-unless None otherwise = otherwise
 
 -- a frame in a segment, from a local port
 abbrev pub entered : ℕ → Result (ℕ × Frame) Refused → Result Came Refused

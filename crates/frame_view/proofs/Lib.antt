@@ -1,3 +1,4 @@
 pub mod FirstLemmas
 pub mod FrameLemmas
+pub mod RefusalLemmas
 pub mod TagLemmas

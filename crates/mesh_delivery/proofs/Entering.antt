@@ -1,5 +1,5 @@
 -- A frame that enters by a local port is whole, and comes from that port.
-use Rattle.std.proofs.Common.{◌≡◌, ℕ, ◌≤◌, Bool, true, false, cond, List, length, drop, Option, Some, None, Result, Ok, Err, refl, subst, arith}
+use Rattle.std.proofs.Common.{◌≡◌, ℕ, ◌≤◌, Bool, true, false, cond, List, length, drop, Result, Ok, Err, refl, subst, arith}
 use Rattle.std.specs.Prelude.{nat_lt, ◌&&◌}
 use Rattle.std.proofs.lemmas.Bool.{ltb-false}
 use Rattle.std.proofs.lemmas.List.{length-take, length-drop}
@@ -7,17 +7,13 @@ use Rattle.frame_view.specs.Ether.{has_tag}
 use Rattle.frame_view.specs.First.{first}
 use Rattle.frame_view.specs.Frame.{Frame, frame_of, frame_behind_tag}
 use Rattle.frame_view.specs.declared.reason.Refused.{Refused}
-use Rattle.frame_view.proofs.FirstLemmas.{NothingHolds-from}
+use Rattle.frame_view.proofs.FirstLemmas.{NothingHolds-from, unless-ok, same_Ok}
 use Rattle.filter_db.specs.declared.place.Place.TheVariants.{Local}
 use Rattle.vlan_ports.specs.Ports.{Ports}
-use Rattle.vlan_ports.specs.Ingress.{enters, reasons, vid_at, frame_in, unless as unless_refused}
+use Rattle.vlan_ports.specs.Ingress.{enters, reasons, vid_at, frame_in}
 use Rattle.endpoint_core.specs.Came.{Came}
-use Rattle.endpoint_core.specs.Arrival.{came_at, capture_reasons, entered, unless}
+use Rattle.endpoint_core.specs.Arrival.{came_at, capture_reasons, entered}
 use Rattle.mesh_delivery.proofs.Wire.{IsWhole}
-
-entered-from : (o : Option Refused) (x y : ℕ × Frame) → unless_refused o x ≡ Ok y → (o ≡ None) × (x ≡ y)
-entered-from None x y h = (refl, cc)
-entered-from (Some refused) x y h = absurd cc
 
 -- a text with 14 octets, and 18 with a tag
 whole-text : (b : List ℕ) (tag : Bool) → 14 ≤ length b → (tag && nat_lt (length b) 18) ≡ false → IsWhole (cond tag (frame_behind_tag b) (frame_of b))
@@ -28,9 +24,9 @@ whole-text b false long uncut = record { dst = omega (arith, length-take 6 b); s
 
 entered-whole : (ports : Ports) (port : ℕ) (b : List ℕ) (found : ℕ × Frame) → enters ports port b ≡ Ok found → IsWhole found.1
 entered-whole ports port b found h =
-    let from = entered-from (first (reasons ports port b)) (vid_at ports port b, frame_in b) found h in
+    let from = unless-ok (first (reasons ports port b)) (Ok (vid_at ports port b, frame_in b)) found h in
     let none = NothingHolds-from (reasons ports port b) from.0 in
-    subst (λ (x : ℕ × Frame). IsWhole x.1) from.1 (whole-text b (has_tag b) (ltb-false (length b) 14 none.0) none.1.1.1.1.0)
+    subst (λ (x : ℕ × Frame). IsWhole x.1) (same_Ok (vid_at ports port b, frame_in b) found from.1) (whole-text b (has_tag b) (ltb-false (length b) 14 none.0) none.1.1.1.1.0)
 
 pub record IsEntered (port : ℕ) (x : Came) : Type 0 where
   pub from : x.from ≡ Local port
@@ -43,10 +39,6 @@ entered-as port (Ok found) x whole h = subst (IsEntered port) same (record { fro
     same : ◌≡◌ {A = Came} (record { vid = found.0; from = Local port; frame = found.1 }) x
     same = cc
 
-passed : (o : Option Refused) (r : Result Came Refused) (x : Came) → unless o r ≡ Ok x → r ≡ Ok x
-passed None r x h = h
-passed (Some refused) r x h = absurd cc
-
 pub came_at-entered : (ports : Ports) (port original : ℕ) (b : List ℕ) (x : Came) → came_at ports port original b ≡ Ok x → IsEntered port x
 unfolding came_at
-came_at-entered ports port original b x h = entered-as port (enters ports port b) x (entered-whole ports port b) (passed (first (capture_reasons original b)) (entered port (enters ports port b)) x h)
+came_at-entered ports port original b x h = entered-as port (enters ports port b) x (entered-whole ports port b) (unless-ok (first (capture_reasons original b)) (entered port (enters ports port b)) x h).1

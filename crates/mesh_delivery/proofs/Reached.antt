@@ -1,11 +1,10 @@
 -- What an endpoint knows of remote places it can send to.
-use Rattle.std.proofs.Common.{◌≡◌, ℕ, Bool, true, false, cond, not, ◌&&◌, ◌||◌, List, [], ◌∷◌, ◌++◌, Option, Some, None, Result, Ok, Err, refl, sym, ap, ◌∙◌, subst}
+use Rattle.std.proofs.Common.{◌≡◌, ℕ, Bool, true, false, cond, List, [], ◌∷◌, ◌++◌, Option, Some, None, Result, Ok, Err, refl, sym, ap, ◌∙◌, subst}
 use Rattle.std.specs.Prelude.{is_some, is_none, ◌==◌, nat_lt}
 use Rattle.std.specs.Option.{option_map, option_map_or, unwrap_or}
 use Rattle.std.specs.List.{list_all}
 use Rattle.std.specs.FinMap.{get, insert, empty, len}
 use Rattle.std.proofs.lemmas.Bool.{eqb-true, and_from, false≢true}
-use Rattle.frame_view.proofs.FirstLemmas.{NothingHolds-from}
 use Rattle.frame_view.specs.Address.{is_group as is_group_mac}
 use Rattle.frame_view.specs.Frame.{Frame}
 use Rattle.frame_view.specs.declared.reason.Refused.{Refused}
@@ -20,7 +19,7 @@ use Rattle.filter_db.specs.Table.{Table, learn, nanoseconds, is_live, stands}
 use Rattle.filter_db.proofs.TableLemmas.{get-none}
 use Rattle.vlan_ports.proofs.PlacesLemmas.{get-insert_at, get-remove_at}
 use Rattle.underlay.specs.Settings.{own}
-use Rattle.underlay.specs.Overlay.{Overlay, segment_of, are_free, flood_at, tunnel_at, with_flood, segment_at as under_at}
+use Rattle.underlay.specs.Overlay.{Overlay, segment_of, flood_at, tunnel_at, with_flood, segment_at as under_at}
 use Rattle.underlay.specs.declared.segment.Segment.{Segment}
 use Rattle.overlay_settings.specs.declared.change.NewSegment.{NewSegment}
 use Rattle.overlay_settings.specs.declared.change.Change.{Change}
@@ -31,13 +30,11 @@ use Rattle.overlay_settings.specs.Rules.{MeetsRules}
 use Rattle.overlay_settings.specs.Settings.{Settings as Told}
 use Rattle.endpoint_state.specs.Opened.{settings_told}
 use Rattle.endpoint_state.specs.declared.fault.ChangeFault.{ChangeFault}
-use Rattle.endpoint_state.specs.declared.fault.ChangeFault.TheVariants.{OutOfRange, SegmentThere, PoolFull, SegmentsFull}
 use Rattle.endpoint_state.specs.Fault.{of_flood}
 use Rattle.endpoint_state.specs.Effect.{effect, new_tunnels, with_segment, without_segment}
 use Rattle.endpoint_state.proofs.SegmentLemmas.{flood_same, table_same}
-use Rattle.filter_db.specs.Standing.{segment_count}
-use Rattle.endpoint_state.specs.Settings.{Settings, BridgeSettings, SegmentSettings, tables_asked, segment_at, kind_named}
-use Rattle.endpoint_state.specs.Change.{is_about, is_limit, is_ageing, are_vnis, is_taken, is_too_much, in_segment, at_tunnel, target_fault, refused, kind_in, accepted, place_of, entries_changed}
+use Rattle.endpoint_state.specs.Settings.{Settings, BridgeSettings, SegmentSettings, segment_at, kind_named}
+use Rattle.endpoint_state.specs.Change.{is_about, in_segment, at_tunnel, target_fault, refused, kind_in, accepted, place_of, entries_changed}
 use Rattle.endpoint_state.specs.Sound.{reaches, is_reached, is_reached_if, AreReached}
 use Rattle.endpoint_state.specs.State.{State as Bridges, live_in, aged, table_changed, accepted_state, after_change}
 use Rattle.endpoint_state.specs.Step.{table_learned, after_frame}

@@ -6,6 +6,7 @@ use Rattle.std.specs.List.{AllByRecursion, remove}
 use Rattle.std.proofs.lemmas.Bool.{false≢true}
 use Rattle.std.proofs.lemmas.Bool.Decides.{nat_tests}
 use Rattle.frame_view.specs.Frame.{Frame}
+use Rattle.frame_view.proofs.FirstLemmas.{same_Ok}
 use Rattle.frame_view.specs.declared.reason.Reason.{Reason}
 use Rattle.ip_udp_view.specs.declared.addr.Addr.{Addr}
 use Rattle.ip_udp_view.specs.declared.addr.Tunnel.{Tunnel}
@@ -162,9 +163,6 @@ taken-all P zero (y ∷ ys) x e h = let same : y ≡ x = cc in (subst P same h.0
 taken-all P (suc k) (y ∷ ys) x e h = let rest = taken-all P k ys x e h.1 in (rest.0, (h.0, rest.1))
 
 -- ---- what is emitted
-
-same_Ok : {A E : Type 0} (x y : A) → ◌≡◌ {A = Result A E} (Ok x) (Ok y) → x ≡ y
-same_Ok x y h = cc
 
 emitted-local : (ports : Ports) (O : Overlay) (vid : ℕ) (f : Frame) (q : ℕ) (text : List ℕ) → Ok text ≡ emitted ports O vid f (Local q) → text ≡ local_octets ports vid f q
 unfolding emitted

@@ -10,7 +10,8 @@ use Rattle.frame_view.specs.First.{first}
 use Rattle.frame_view.specs.Frame.{Frame, IsFrame, plain}
 use Rattle.frame_view.specs.declared.reason.Reason.{Reason}
 use Rattle.frame_view.specs.declared.reason.Refused.{Refused}
-use Rattle.frame_view.proofs.FirstLemmas.{NothingHolds-from}
+use Rattle.frame_view.proofs.FirstLemmas.{NothingHolds-from, same_Ok}
+use Rattle.frame_view.proofs.RefusalLemmas.{refused-ok}
 use Rattle.ip_udp_view.specs.declared.addr.Addr.{Addr}
 use Rattle.ip_udp_view.specs.declared.addr.Addr.TheVariants.{V4, V6}
 use Rattle.ip_udp_view.specs.declared.addr.Tunnel.{Tunnel}
@@ -31,7 +32,7 @@ use Rattle.underlay.specs.Overlay.{Overlay, has_tunnel, segment_at, segment_by, 
 use Rattle.underlay.specs.Settings.{own, is_own, kind_at, port_of}
 use Rattle.underlay.proofs.CountLemmas.{found_where}
 use Rattle.decapsulate.specs.declared.arrived.Arrived.{Arrived}
-use Rattle.decapsulate.specs.Arrival.{packet_in, kind_to, inner_of, is_bad_source, outer_reasons, inner_reasons, unless, arrival_in, arrival_by, arrival, arrival_of, capture_reasons, IsTunnelled}
+use Rattle.decapsulate.specs.Arrival.{packet_in, kind_to, inner_of, is_bad_source, outer_reasons, inner_reasons, arrival_in, arrival_by, arrival, arrival_of, capture_reasons, IsTunnelled}
 use Rattle.decapsulate.proofs.ArrivalLemmas.{Reads, Reads-from, kind_at-port, frame_of-plain}
 use Rattle.encapsulate.specs.Flow.{source_port}
 use Rattle.encapsulate.specs.Packet.{tunnelled, sum_sent}
@@ -43,10 +44,6 @@ use Rattle.endpoint_core.specs.Came.{Came}
 use Rattle.endpoint_core.specs.Arrival.{came_by, tunnelled as of_tunnel}
 
 -- ---- small steps
-
-unless-ok : {A : Type 0} (o : Option Reason) (v : Option ℕ) (y : Result A Refused) (x : A) → unless o v y ≡ Ok x → (o ≡ None) × (y ≡ Ok x)
-unless-ok (Some r) v y x e = absurd cc
-unless-ok None v y x e = (refl, e)
 
 -- an address that an endpoint owns is one
 owned-is : (o : Option (List ℕ)) (b : List ℕ) (family : List ℕ → Addr) → IfSome o (λ x. IsOwnAddr (family x)) → is_there o b ≡ true → IsAddr (family b)
@@ -122,9 +119,6 @@ record Found (R : Overlay) (kind : Tunnel) (c : Addr) (vni : ℕ) (f : Frame) (x
   vni_is : option_map (λ t. t.vni) (tunnel_at R x.vid kind) ≡ Some vni
   frame : x.frame ≡ f
 
-same_Ok : {A E : Type 0} (x y : A) → ◌≡◌ {A = Result A E} (Ok x) (Ok y) → x ≡ y
-same_Ok x y h = cc
-
 found-vni : (o : Option SegmentTunnel) (vni : ℕ) → option_map_or (λ t. t.vni == vni) o false ≡ true → option_map (λ t. t.vni) o ≡ Some vni
 found-vni None vni h = absurd (false≢true h)
 found-vni (Some t) vni h = ap Some (eqb-true t.vni vni h)
@@ -140,7 +134,7 @@ found-in : (R : Overlay) (o : Option (ℕ × Segment)) (kind : Tunnel) (c a : Ad
     → arrival_in o kind c a (plain f) ≡ Ok x → Found R kind c vni f x
 found-in R None kind c a vni f x other is h e got = absurd cc
 found-in R (Some found) kind c a vni f x other is h e got =
-    let same = same_Ok _ x (unless-ok (first (inner_reasons found.1 kind c a (plain f))) (Some found.0) _ x got).1 in
+    let same = same_Ok _ x (refused-ok (Some found.0) (first (inner_reasons found.1 kind c a (plain f))) _ x got).1 in
     record {
       another = other;
       vni_is = ap (λ (y : Arrived). option_map (λ (t : SegmentTunnel). t.vni) (tunnel_at R y.vid kind)) (sym same) ∙ found-segment R kind vni found.0 found.1 is;
@@ -163,7 +157,7 @@ read R b c a from to sum d kind vni f x two k port reads h e got =
     let p = packet_in b in
     let parts = (only-datagram b c a from to sum d k).1 in
     let kind_is : kind_to U p ≡ Some kind = ap (kind_at U) (parts.dport_is ∙ port) ∙ kind_at-port U kind two in
-    let u = unless-ok (first (outer_reasons R b)) None (arrival_by R (kind_to U p) p.source p.destination (data_of p.payload)) x got in
+    let u = refused-ok None (first (outer_reasons R b)) (arrival_by R (kind_to U p) p.source p.destination (data_of p.payload)) x got in
     let none = NothingHolds-from (outer_reasons R b) u.0 in
     let other : is_own U c ≡ false = not-own U c (sym (ap (is_bad_source U) parts.source_is) ∙ none.1.1.1.1.0) in
     let way : arrival_by R (kind_to U p) p.source p.destination (data_of p.payload) ≡ arrival_in (segment_by R kind vni) kind c a (plain f) =
@@ -179,7 +173,7 @@ read R b c a from to sum d kind vni f x two k port reads h e got =
 read-nothing : (R : Overlay) (x : Arrived) → arrival R [] ≡ Ok x → ⊥
 read-nothing R x got =
     let p = packet_in [] in
-    let u = unless-ok (first (outer_reasons R [])) None (arrival_by R (kind_to R.underlay p) p.source p.destination (data_of p.payload)) x got in
+    let u = refused-ok None (first (outer_reasons R [])) (arrival_by R (kind_to R.underlay p) p.source p.destination (data_of p.payload)) x got in
     false≢true (sym (NothingHolds-from (outer_reasons R []) u.0).0)
 
 -- ---- one to another
@@ -251,7 +245,7 @@ pub came_by-arrived : (R : Overlay) (original : ℕ) (b : List ℕ) (x : Came) �
 unfolding came_by
 came_by-arrived R original b x h =
     let a = of-arrived (arrival_of R original b) x h in
-    (a.0, (unless-ok (first (capture_reasons original b)) None (arrival R b) a.0 a.1).1, a.2)
+    (a.0, (refused-ok None (first (capture_reasons original b)) (arrival R b) a.0 a.1).1, a.2)
 
 sent-by : (o : Option Reason) (text b : List ℕ) → elim o as (λ _. Result (List ℕ) Reason) [ Some reason ↦ Err reason | None ↦ Ok text ] ≡ Ok b → (o ≡ None) × (text ≡ b)
 sent-by None text b h = (refl, same_Ok text b h)

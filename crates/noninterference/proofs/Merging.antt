@@ -14,7 +14,8 @@ use Rattle.timeline.specs.Events.{all_events, change_events, events_of, record_e
 use Rattle.timeline.specs.Faults.{faults_of}
 use Rattle.timeline.specs.Inputs.{inputs, inputs_from, opened_by, opened_captures}
 use Rattle.timeline.specs.Order.{IsRising, merged, put_in}
-use Rattle.timeline.specs.Timeline.{Timeline, told, unless, cuts_of}
+use Rattle.timeline.specs.Timeline.{Timeline, told, cuts_of}
+use Rattle.timeline.proofs.Telling.{faultless-ok}
 use Rattle.timeline.specs.Words.{source_of}
 use Rattle.timeline.specs.declared.capture.Opened.{Opened}
 use Rattle.timeline.specs.declared.event.Event.{Event as Happens}
@@ -124,16 +125,12 @@ turn_all changes vs underlay = turn_changes 0 changes (flat_map events_of (opene
 
 -- ---- a timeline
 
-unless_told : (faults : List TimelineFault) (found timeline : Timeline) → unless faults found ≡ Ok timeline → found ≡ timeline
-unless_told [] found timeline is = cc
-unless_told (fault ∷ others) found timeline is = absurd cc
-
 pub told_events : (changes : List ℕ) (vs : List (Vec ℕ Global)) (underlay : List ℕ) (timeline : Timeline) → told changes vs underlay ≡ Ok timeline
     → merged (all_events changes (opened_captures (inputs vs underlay))) ≡ timeline.events
 unfolding told
 told_events changes vs underlay timeline is =
     ap (λ (t : Timeline). t.events)
-    (unless_told (faults_of (inputs vs underlay))
+    (faultless-ok (faults_of (inputs vs underlay))
     (record { events = merged (all_events changes (opened_captures (inputs vs underlay))); cuts = cuts_of (opened_captures (inputs vs underlay)) }) timeline is)
 
 -- ---- as the endpoint takes them

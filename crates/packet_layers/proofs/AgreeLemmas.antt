@@ -3,7 +3,8 @@ use Rattle.std.proofs.Common.{◌≡◌, ◌≢◌, ℕ, ltb, leb, eqb, Bool, tr
 use Rattle.std.specs.Prelude.{IsTrue, is_none, Result}
 use Rattle.std.proofs.lemmas.Bool.{false≢true}
 use Rattle.std.proofs.lemmas.List.Elements.{All-nil, All-push}
-use Rattle.frame_view.specs.First.{first}
+use Rattle.frame_view.specs.First.{first, unless}
+use Rattle.frame_view.specs.Refusal.{as_refused}
 use Rattle.frame_view.proofs.FirstLemmas.{NothingHolds-from}
 use Rattle.frame_view.specs.declared.reason.Reason.{Reason}
 use Rattle.frame_view.specs.declared.reason.Reason.TheVariants.{Runt, BadSource, Reserved, NotIp, BadIp, BadIpSum, BadOuterSource, NotForUs, Fragment, NotUdp, BadUdp, NotTunnel, ZeroSum, BadUdpSum, UnknownVni, WrongGroup, UnknownPeer, InnerRunt, InnerTag}
@@ -20,7 +21,7 @@ use Rattle.frame_view.specs.Address.{is_group as is_group_mac, is_reserved}
 use Rattle.frame_view.specs.Ether.{has_tag}
 use Rattle.frame_view.specs.Frame.{frame_of}
 use Rattle.underlay.specs.declared.segment.Segment.{Segment}
-use Rattle.decapsulate.specs.Arrival.{outer_reasons, inner_reasons, packet_in, kind_to, frame_reasons, unless, vni_of, inner_of, arrival_in, arrival_by, is_bad_source, is_elsewhere, sum_of, needs_sum, is_zero, is_wrong}
+use Rattle.decapsulate.specs.Arrival.{outer_reasons, inner_reasons, packet_in, kind_to, frame_reasons, vni_of, inner_of, arrival_in, arrival_by, is_bad_source, is_elsewhere, sum_of, needs_sum, is_zero, is_wrong}
 use Rattle.decapsulate.specs.declared.arrived.Arrived.{Arrived}
 use Rattle.packet_layers.specs.declared.kind.HeadKind.{HeadKind}
 use Rattle.packet_layers.specs.declared.kind.HeadKind.TheVariants.{Ether, Tag, Kind, Udp}
@@ -161,7 +162,7 @@ inner_tests false false false false false true reason h = named InnerTag reason 
 inner_tests false false false false false false reason h = absurd cc
 
 by_inner : (o : Option Reason) (vid : ℕ) (arrived : Arrived) (reason : Reason) → ((x : Reason) → o ≡ Some x → is_of_layers x ≡ false)
-    → reason_in (unless o (Some vid) (Ok arrived)) ≡ Some reason → IsTrue (is_of_layers reason) → ⊥
+    → reason_in (unless (as_refused (Some vid) o) (Ok arrived)) ≡ Some reason → IsTrue (is_of_layers reason) → ⊥
 by_inner None vid arrived reason none h asked = absurd cc
 by_inner (Some x) vid arrived reason none h asked = left_aside x reason (none x refl) h asked
 
@@ -181,7 +182,7 @@ behind S (Some kind) a b d reason some h asked = inner S (segment_by S kind (vni
 -- ---- both
 
 by_first : (S : Overlay) (b : List ℕ) (reason : Reason) (o : Option Reason) → first (outer_reasons S b) ≡ o
-    → reason_in (unless o None (arrival_by S (kind_to S.underlay (packet_in b)) (packet_in b).source (packet_in b).destination (data_of (packet_in b).payload))) ≡ Some reason
+    → reason_in (unless (as_refused None o) (arrival_by S (kind_to S.underlay (packet_in b)) (packet_in b).source (packet_in b).destination (data_of (packet_in b).payload))) ≡ Some reason
     → IsTrue (is_of_layers reason) → first (outer_reasons S b) ≡ Some reason
 by_first S b reason (Some x) told h asked = told ∙ h
 by_first S b reason None told h asked =

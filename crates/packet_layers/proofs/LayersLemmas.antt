@@ -18,7 +18,7 @@ use Rattle.packet_layers.specs.declared.kind.HeadKind.TheVariants.{Ether, Tag, K
 use Rattle.packet_layers.specs.declared.kind.Stop.{Stop}
 use Rattle.packet_layers.specs.declared.kind.Stop.TheVariants.{Deep}
 use Rattle.packet_layers.specs.Apart.{Apart, whole, put}
-use Rattle.packet_layers.specs.Dissection.{refusal, ip_kind, tunnel_kind, tag_off, type_off, ether_off, tunnel_off, Taken, stopped, unless, frame_off, Layers, or_next, layers_from, dissection}
+use Rattle.packet_layers.specs.Dissection.{refusal, ip_kind, tunnel_kind, tag_off, type_off, ether_off, tunnel_off, Taken, stopped, unless_stopped, frame_off, Layers, or_next, layers_from, dissection}
 use Rattle.decapsulate.specs.Arrival.{typed_reasons}
 use Rattle.packet_layers.specs.Code.{udp_reasons}
 use Rattle.packet_layers.proofs.RefusalLemmas.{refusal-ip, refusal-udp}
@@ -93,7 +93,7 @@ IsOf-tunnel b (Some kind) a h = IsOf-put b (tunnel_kind kind) (header_octets kin
 
 -- ---- frame by frame
 
-at_stop : (b : List ℕ) (o : Option Reason) (a : Apart) (next : Taken) → IsOf b a → (o ≡ None → IsOf b next.apart) → IsOf b (unless o a next).apart
+at_stop : (b : List ℕ) (o : Option Reason) (a : Apart) (next : Taken) → IsOf b a → (o ≡ None → IsOf b next.apart) → IsOf b (unless_stopped o a next).apart
 at_stop b None a next h k = k refl
 at_stop b (Some reason) a next h k = h
 
@@ -110,11 +110,11 @@ IsOf-frame S n b a h =
     let ip = at_ip a in
     let udp = at_udp a in
     let on : Taken = record { apart = tunnel_off kind udp; stop = None } in
-    let in_tunnel : Taken = unless (refusal S ZeroSum CriticalOption c) udp on in
+    let in_tunnel : Taken = unless_stopped (refusal S ZeroSum CriticalOption c) udp on in
     let deep : Taken = cond (eqb n 0) (stopped Deep udp) in_tunnel in
-    let in_port : Taken = unless (refusal S NotTunnel NotTunnel c) udp deep in
-    let in_udp : Taken = unless (refusal S Fragment BadUdp c) ip in_port in
-    let in_ip : Taken = unless (refusal S NotIp BadIpSum c) ether in_udp in
+    let in_port : Taken = unless_stopped (refusal S NotTunnel NotTunnel c) udp deep in
+    let in_udp : Taken = unless_stopped (refusal S Fragment BadUdp c) ip in_port in
+    let in_ip : Taken = unless_stopped (refusal S NotIp BadIpSum c) ether in_udp in
     at_stop b (refusal S Runt Runt c) a in_ip h (λ e1.
     let he = IsOf-ether b c a h in
     at_stop b (refusal S NotIp BadIpSum c) ether in_udp he (λ e2.

@@ -86,9 +86,9 @@ abbrev pub stopped : Stop → Apart → Taken
 stopped stop a = record { apart = a; stop = Some stop }
 
 -- what is taken off so far where there is a reason, else what comes of the next layer
-abbrev pub unless : Option Reason → Apart → Taken → Taken
-unless (Some reason) a next = stopped (At reason) a
-unless None a next = next
+abbrev pub unless_stopped : Option Reason → Apart → Taken → Taken
+unless_stopped (Some reason) a next = stopped (At reason) a
+unless_stopped None a next = next
 
 -- a frame's layers, where so many more tunnel headers may be taken off
 unfoldable pub frame_off : Overlay → ℕ → Apart → Taken
@@ -98,13 +98,13 @@ frame_off S left a =
     let ip = ip_off b ether in
     let udp = udp_off ip in
     let kind = kind_to S.underlay (packet_in b) in
-    unless (refusal S Runt Runt b) a (
-    unless (refusal S NotIp BadIpSum b) ether (
-    unless (refusal S Fragment BadUdp b) ip (
-    unless (refusal S NotTunnel NotTunnel b) udp (
+    unless_stopped (refusal S Runt Runt b) a (
+    unless_stopped (refusal S NotIp BadIpSum b) ether (
+    unless_stopped (refusal S Fragment BadUdp b) ip (
+    unless_stopped (refusal S NotTunnel NotTunnel b) udp (
     if left == 0
     then stopped Deep udp
-    else unless (refusal S ZeroSum CriticalOption b) udp (record { apart = tunnel_off kind udp; stop = None })
+    else unless_stopped (refusal S ZeroSum CriticalOption b) udp (record { apart = tunnel_off kind udp; stop = None })
     )
     )
     )

@@ -9,7 +9,8 @@ use Rattle.frame_view.specs.First.{first}
 use Rattle.frame_view.specs.Frame.{Frame, IsFrame, plain}
 use Rattle.frame_view.specs.declared.reason.Reason.{Reason}
 use Rattle.frame_view.specs.declared.reason.Refused.{Refused}
-use Rattle.frame_view.proofs.FirstLemmas.{NothingHolds-from}
+use Rattle.frame_view.proofs.FirstLemmas.{NothingHolds-from, unless-ok}
+use Rattle.frame_view.proofs.RefusalLemmas.{refused-ok}
 use Rattle.ip_udp_view.specs.Addr.{IsAddr}
 use Rattle.ip_udp_view.specs.Datagram.{ether_type}
 use Rattle.ip_udp_view.specs.Ip.{Family, Ip4, Ip6, IsHeader, source}
@@ -26,7 +27,7 @@ use Rattle.decapsulate.specs.Arrival.{Arrives, IsTunnelled}
 use Rattle.decapsulate.specs.declared.arrived.Arrived.{Arrived}
 use Rattle.decapsulate.proofs.ArrivesLemmas.{brings_what_arrives}
 use Rattle.endpoint_core.specs.Came.{Came}
-use Rattle.endpoint_core.specs.Arrival.{came_at, came_by, capture_reasons, entered, tunnelled, unless}
+use Rattle.endpoint_core.specs.Arrival.{came_at, came_by, capture_reasons, entered, tunnelled}
 use Rattle.endpoint_core.proofs.ComingLemmas.{entered-short}
 use Rattle.mesh_delivery.proofs.Entering.{came_at-entered}
 use Rattle.part_files.proofs.Coming.{text-behind, text-front}
@@ -90,10 +91,6 @@ arrived O b x t is =
       );
     }
 
-arrival-passed : (o : Option Reason) (v : Option ℕ) (r : Result Arrived Refused) (x : Arrived) → arrival.unless o v r ≡ Ok x → (o ≡ None) × (r ≡ Ok x)
-arrival-passed None v r x h = (refl, h)
-arrival-passed (Some reason) v r x h = absurd cc
-
 tunnelled-came : Arrived → Came
 tunnelled-came y = record { vid = y.vid; from = Remote y.from.0 y.from.1; frame = y.frame }
 
@@ -111,16 +108,12 @@ came_by-come O original b x apart t h = of-tunnel (arrival.arrival_of O original
   where
     each : (y : Arrived) → arrival.arrival_of O original b ≡ Ok y → (IsAddr y.from.1) × (IsFrame y.frame) × (length y.frame.body ≤ 65549)
     each y is =
-        let passed = arrival-passed (first (arrival.capture_reasons original b)) None (arrival.arrival O b) y is in
+        let passed = refused-ok None (first (arrival.capture_reasons original b)) (arrival.arrival O b) y is in
         let short = ltb-false 65549 (length b) (NothingHolds-from (arrival.capture_reasons original b) passed.0).0 in
         let got = arrived O b y t ((brings_what_arrives O b y apart t).0 passed.1) in
         (got.addr, got.frame, omega (arith, got.body, short))
 
 -- ---- by a local port
-
-passed : (o : Option Refused) (r : Result Came Refused) (x : Came) → unless o r ≡ Ok x → (o ≡ None) × (r ≡ Ok x)
-passed None r x h = (refl, h)
-passed (Some refused) r x h = absurd cc
 
 entered-frame : ℕ → ℕ × Frame → Came
 entered-frame port found = record { vid = found.0; from = Local port; frame = found.1 }
@@ -135,7 +128,7 @@ entered-body port b (Ok found) x each h =
 pub came_at-come : (ports : Ports) (port original : ℕ) (b : List ℕ) (x : Came) → came_at ports port original b ≡ Ok x → IsCome x
 unfolding came_at
 came_at-come ports port original b x h =
-    let parts = passed (first (capture_reasons original b)) (entered port (enters ports port b)) x h in
+    let parts = unless-ok (first (capture_reasons original b)) (entered port (enters ports port b)) x h in
     let short = ltb-false 65535 (length b) (NothingHolds-from (capture_reasons original b) parts.0).0 in
     let own = came_at-entered ports port original b x h in
     let body = entered-body port b (enters ports port b) x (λ vid f is. entered-short ports port b vid f is) parts.1 in

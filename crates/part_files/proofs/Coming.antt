@@ -18,7 +18,8 @@ use Rattle.timeline.specs.Events.{IsTapOf, all_events, change_events, events_of,
 use Rattle.timeline.specs.Faults.{faults_of}
 use Rattle.timeline.specs.Inputs.{Input, inputs, inputs_from, opened_by, opened_captures}
 use Rattle.timeline.specs.Order.{IsRising, merged, put_in}
-use Rattle.timeline.specs.Timeline.{Timeline, cut_by, cut_of, cuts_of, told, unless}
+use Rattle.timeline.specs.Timeline.{Timeline, cut_by, cut_of, cuts_of, told}
+use Rattle.timeline.proofs.Telling.{faultless-ok}
 use Rattle.timeline.specs.declared.capture.Opened.{Opened}
 use Rattle.timeline.specs.declared.event.Event.{Event}
 use Rattle.timeline.specs.declared.event.Happening.{Happening}
@@ -153,16 +154,12 @@ coming-all moments vs underlay all is_text early =
 
 -- ---- a run without a fault
 
-told-by : (faults : List TimelineFault) (t timeline : Timeline) → unless faults t ≡ Ok timeline → t ≡ timeline
-told-by [] t timeline is = cc
-told-by (fault ∷ others) t timeline is = absurd cc
-
 told-is : (moments : List ℕ) (vs : List (Vec ℕ Global)) (underlay : List ℕ) (timeline : Timeline) → told moments vs underlay ≡ Ok timeline
     → let cs = opened_captures (inputs vs underlay) in
     record { events = merged (all_events moments cs); cuts = cuts_of cs } ≡ timeline
 unfolding told
 told-is moments vs underlay timeline is =
-    told-by (faults_of (inputs vs underlay)) (record { events = merged (all_events moments (opened_captures (inputs vs underlay))); cuts = cuts_of (opened_captures (inputs vs underlay)) }) timeline is
+    faultless-ok (faults_of (inputs vs underlay)) (record { events = merged (all_events moments (opened_captures (inputs vs underlay))); cuts = cuts_of (opened_captures (inputs vs underlay)) }) timeline is
 
 -- its events are in order
 pub rising-told : (moments : List ℕ) (vs : List (Vec ℕ Global)) (underlay : List ℕ) (timeline : Timeline) → told moments vs underlay ≡ Ok timeline → IsRising 0 timeline.events

@@ -3,6 +3,7 @@ use Rattle.std.proofs.Common.{◌≡◌, ◌∙◌, refl, sym, ap, subst, ℕ, z
 use Rattle.std.specs.List.{AllByRecursion}
 use Rattle.std.specs.declared.alloc.Global.{Global}
 use Rattle.std.proofs.lemmas.Bool.{eqb-true}
+use Rattle.frame_view.proofs.FirstLemmas.{same_Ok}
 use Rattle.pcap_stream.specs.Sink.{Drain}
 use Rattle.timeline.specs.Timeline.{Timeline, told}
 use Rattle.timeline.specs.declared.fault.TimelineFault.{TimelineFault}
@@ -83,9 +84,6 @@ port-count s cs n found o is = by (n == length s.ports) refl is
     by : (b : Bool) → (n == length s.ports) ≡ b → cond b (by_timeline s cs n found) (Err PortCount) ≡ Ok o → n ≡ length s.ports
     by true same h = eqb-true n (length s.ports) same
     by false same h = absurd cc
-
-same_Ok : {A E : Type 0} (x y : A) → ◌≡◌ {A = Result A E} (Ok x) (Ok y) → x ≡ y
-same_Ok x y h = cc
 
 -- ---- lists of parts, by number
 

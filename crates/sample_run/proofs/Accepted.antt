@@ -28,7 +28,7 @@ use Rattle.timeline.specs.Events.{all_events}
 use Rattle.timeline.specs.Faults.{faults_of, opening_faults, record_faults, refused_by}
 use Rattle.timeline.specs.Inputs.{Input, inputs, inputs_from, opened_by, opened_captures}
 use Rattle.timeline.specs.Order.{merged}
-use Rattle.timeline.specs.Timeline.{Timeline, cuts_of, told, unless}
+use Rattle.timeline.specs.Timeline.{Timeline, cuts_of, told, if_faultless}
 use Rattle.capture_run.proofs.Faults.{ports_counted}
 use Rattle.capture_run.specs.Outputs.{Outputs}
 use Rattle.capture_run.specs.Run.{Gives, run, by_timeline}
@@ -95,7 +95,7 @@ unfolding told
 told_whole changes vs underlay all below =
     let opened = opened_captures (inputs vs underlay) in
     let t : Timeline = record { events = merged (all_events changes opened); cuts = cuts_of opened } in
-    (t, ap (λ faults. unless faults t) (no_faults (inputs vs underlay) (whole_inputs 1 vs underlay all below)))
+    (t, ap (λ faults. if_faultless faults t) (no_faults (inputs vs underlay) (whole_inputs 1 vs underlay all below)))
 
 fits : (p : Passing) → p.second ≤ 4 → length (frame p) ≡ 60 → IsWithinLimits (record_of p)
 fits p early short = record { moment = omega (arith, early); original = omega (arith, short); length = omega (arith, short) }

@@ -8,7 +8,7 @@ use Rattle.timeline.specs.Events.{all_events}
 use Rattle.timeline.specs.Faults.{faults_of}
 use Rattle.timeline.specs.Inputs.{Input, inputs, inputs_from, opened_captures}
 use Rattle.timeline.specs.Order.{merged}
-use Rattle.timeline.specs.Timeline.{Timeline, told, unless, cuts_of}
+use Rattle.timeline.specs.Timeline.{Timeline, told, if_faultless, cuts_of}
 use Rattle.timeline.specs.declared.fault.TimelineFault.{TimelineFault}
 use Rattle.timeline.specs.declared.source.Tap.TheVariants.{Port, Underlay}
 use Rattle.capture_run.specs.Outputs.{Outputs}
@@ -32,7 +32,7 @@ inputs_are port (v ∷ vs) underlay = ap (λ is. record { tap = Port port; text 
 told_by : List ℕ → List Input → Result Timeline TimelineFault
 told_by changes inputs =
     let captures = opened_captures inputs in
-    unless (faults_of inputs) (record { events = merged (all_events changes captures); cuts = cuts_of captures })
+    if_faultless (faults_of inputs) (record { events = merged (all_events changes captures); cuts = cuts_of captures })
 
 told_is : (changes : List ℕ) (vs : List (Vec ℕ Global)) (underlay : List ℕ) → told changes vs underlay ≡ told_by changes (inputs vs underlay)
 unfolding told told_by

@@ -3,7 +3,8 @@ use Rattle.std.proofs.Common.{◌≡◌, ℕ, ◌==◌, Bool, true, false, List,
 use Rattle.std.specs.Option.{option_map, option_and_then}
 use Rattle.std.specs.FinMap.{empty}
 use Rattle.std.proofs.lemmas.Bool.{false≢true}
-use Rattle.frame_view.specs.First.{first}
+use Rattle.frame_view.specs.First.{first, unless}
+use Rattle.frame_view.specs.Refusal.{as_refused}
 use Rattle.frame_view.specs.declared.reason.Reason.{Reason}
 use Rattle.frame_view.specs.declared.reason.Reason.TheVariants.{NotTunnel}
 use Rattle.frame_view.specs.declared.reason.Refused.{Refused}
@@ -13,7 +14,7 @@ use Rattle.underlay.specs.declared.segment.Segment.{Segment}
 use Rattle.underlay.specs.declared.settings.Underlay.{Underlay}
 use Rattle.decapsulate.specs.declared.arrived.Arrived.{Arrived}
 use Rattle.ip_udp_view.specs.Udp.{data_of}
-use Rattle.decapsulate.specs.Arrival.{Packet, packet_in, kind_to, vni_of, inner_of, inner_reasons, outer_reasons, capture_reasons, unless, arrival_in, arrival_by, arrival_of}
+use Rattle.decapsulate.specs.Arrival.{Packet, packet_in, kind_to, vni_of, inner_of, inner_reasons, outer_reasons, capture_reasons, arrival_in, arrival_by, arrival_of}
 use Rattle.segment_isolation.specs.Alone.{is_segment}
 use Rattle.segment_isolation.proofs.Finding.{tunnels_at, found-same}
 
@@ -29,8 +30,8 @@ brought (Some kind) found p = arrival_in found kind p.source p.destination (inne
 
 arriving : Underlay → Option (ℕ × Segment) → ℕ → List ℕ → Result Arrived Refused
 arriving U found original b =
-    unless (first (capture_reasons original b)) None
-    (unless (first (outer_reasons (with_underlay U) b)) None (brought (kind_to U (packet_in b)) found (packet_in b)))
+    unless (as_refused None (first (capture_reasons original b)))
+    (unless (as_refused None (first (outer_reasons (with_underlay U) b))) (brought (kind_to U (packet_in b)) found (packet_in b)))
 
 -- the segment that is found for the data d at a port of a kind
 abbrev found_for : Overlay → List ℕ → Option Tunnel → Option (ℕ × Segment)
@@ -46,7 +47,7 @@ by-brought S p (Some kind) = refl
 arrival_of-is : (S : Overlay) (original : ℕ) (b : List ℕ) → arrival_of S original b ≡ arriving S.underlay (found S b) original b
 unfolding arriving found
 arrival_of-is S original b =
-    ap (λ (r : Result Arrived Refused). unless (first (capture_reasons original b)) None (unless (first (outer_reasons S b)) None r))
+    ap (λ (r : Result Arrived Refused). unless (as_refused None (first (capture_reasons original b))) (unless (as_refused None (first (outer_reasons S b))) r))
     (by-brought S (packet_in b) (kind_to S.underlay (packet_in b)))
 
 -- ---- the segment of what arrives
@@ -56,11 +57,11 @@ segment_arrived (Ok x) = Some x.vid
 segment_arrived (Err refused) = refused.segment
 
 -- why nothing arrives is told of no segment
-nowhere_unless : (vid : ℕ) (o : Option Reason) (r : Result Arrived Refused) → is_segment vid (segment_arrived r) ≡ false → is_segment vid (segment_arrived (unless o None r)) ≡ false
+nowhere_unless : (vid : ℕ) (o : Option Reason) (r : Result Arrived Refused) → is_segment vid (segment_arrived r) ≡ false → is_segment vid (segment_arrived (unless (as_refused None o) r)) ≡ false
 nowhere_unless vid (Some reason) r other = refl
 nowhere_unless vid None r other = other
 
-within_unless : (vid v : ℕ) (o : Option Reason) (x : Arrived) → x.vid ≡ v → (vid == v) ≡ false → is_segment vid (segment_arrived (unless o (Some v) (Ok x))) ≡ false
+within_unless : (vid v : ℕ) (o : Option Reason) (x : Arrived) → x.vid ≡ v → (vid == v) ≡ false → is_segment vid (segment_arrived (unless (as_refused (Some v) o) (Ok x))) ≡ false
 within_unless vid v (Some reason) x same other = other
 within_unless vid v None x same other = ap (λ (k : ℕ). vid == k) same ∙ other
 

@@ -1,7 +1,7 @@
 -- What comes to a segment is read by what that segment sees.
 use Rattle.std.proofs.Common.{◌≡◌, ℕ, Bool, true, false, cond, List, [], ◌∷◌, Option, Some, Result, Ok, Err, refl, sym, ap, ◌∙◌}
 use Rattle.std.specs.List.{AllByRecursion}
-use Rattle.frame_view.specs.First.{first}
+use Rattle.frame_view.specs.First.{first, unless}
 use Rattle.frame_view.specs.Frame.{Frame}
 use Rattle.frame_view.specs.declared.reason.Refused.{Refused}
 use Rattle.vlan_ports.specs.Ports.{Ports, has_segment, members_at}
@@ -10,7 +10,7 @@ use Rattle.underlay.specs.Overlay.{Overlay, segment_at}
 use Rattle.decapsulate.specs.declared.arrived.Arrived.{Arrived}
 use Rattle.decapsulate.specs.Arrival.{arrival_of}
 use Rattle.endpoint_core.specs.Came.{Came}
-use Rattle.endpoint_core.specs.Arrival.{capture_reasons, unless, entered, tunnelled, came_at, came_by}
+use Rattle.endpoint_core.specs.Arrival.{capture_reasons, entered, tunnelled, came_at, came_by}
 use Rattle.segment_isolation.specs.Alone.{is_segment}
 use Rattle.segment_isolation.proofs.Entering.{segment_entered, enters-same}
 use Rattle.segment_isolation.proofs.Arriving.{segment_arrived, arrival-same}

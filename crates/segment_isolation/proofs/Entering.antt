@@ -6,10 +6,11 @@ use Rattle.std.specs.FinMap.{empty, get}
 use Rattle.std.proofs.lemmas.Bool.{false≢true, eqb-true}
 use Rattle.vlan_ports.specs.Frame.{first, Frame}
 use Rattle.vlan_ports.specs.Ports.{Ports, Members, port_at, has_segment, members_at, egress_at}
-use Rattle.vlan_ports.specs.Ingress.{text_reasons, segment_vid, tag_vid, vid_at, accepts, frame_in, nowhere, within, unless, enters}
+use Rattle.vlan_ports.specs.Ingress.{text_reasons, segment_vid, tag_vid, vid_at, accepts, frame_in, nowhere, within, enters}
 use Rattle.vlan_ports.specs.declared.member.Egress.{Egress}
 use Rattle.vlan_ports.specs.declared.port.PortRule.{PortRule}
 use Rattle.frame_view.specs.declared.reason.Refused.{Refused}
+use Rattle.frame_view.specs.First.{unless}
 use Rattle.frame_view.specs.declared.reason.Reason.TheVariants.{BadVid, FrameType, NoSegment, NotMember}
 use Rattle.segment_isolation.specs.Alone.{is_segment}
 
@@ -33,7 +34,7 @@ vid_rows P port w stands egress =
 -- what enters, by whether the segment stands and how its frames leave at the port
 unfoldable pub entering : List PortRule → Bool → Option Egress → ℕ → List ℕ → Result (ℕ × Frame) Refused
 entering ports stands egress port b =
-    unless (first (text_reasons (with_ports ports) port b ++ vid_rows (with_ports ports) port (tag_vid b) stands egress)) (vid_for ports port b, frame_in b)
+    unless (first (text_reasons (with_ports ports) port b ++ vid_rows (with_ports ports) port (tag_vid b) stands egress)) (Ok (vid_for ports port b, frame_in b))
 
 enters-is : (P : Ports) (port : ℕ) (b : List ℕ) → enters P port b ≡ entering P.ports (has_segment P (vid_for P.ports port b)) (egress_at P (vid_for P.ports port b) port) port b
 unfolding entering
@@ -46,11 +47,11 @@ segment_entered (Ok found) = Some found.0
 segment_entered (Err refused) = refused.segment
 
 -- no row is of the segment, nor is the frame
-out_of : (vid : ℕ) (found : ℕ × Frame) (rows : List (Refused × Bool)) → (vid == found.0) ≡ false → AllByRecursion (λ row. is_segment vid row.0.segment ≡ false) rows → is_segment vid (segment_entered (unless (first rows) found)) ≡ false
+out_of : (vid : ℕ) (found : ℕ × Frame) (rows : List (Refused × Bool)) → (vid == found.0) ≡ false → AllByRecursion (λ row. is_segment vid row.0.segment ≡ false) rows → is_segment vid (segment_entered (unless (first rows) (Ok found))) ≡ false
 out_of vid found [] other all = other
 out_of vid found (row ∷ rows) other all = by row.1 (out_of vid found rows other all.1)
   where
-    by : (b : Bool) → is_segment vid (segment_entered (unless (first rows) found)) ≡ false → is_segment vid (segment_entered (unless (cond b (Some row.0) (first rows)) found)) ≡ false
+    by : (b : Bool) → is_segment vid (segment_entered (unless (first rows) (Ok found))) ≡ false → is_segment vid (segment_entered (unless (cond b (Some row.0) (first rows)) (Ok found))) ≡ false
     by true rest = all.0
     by false rest = rest
 

@@ -7,7 +7,8 @@ use Rattle.std.specs.Cmp.{nat_cmp_total}
 use Rattle.std.specs.Ordering.{nat_cmp}
 use Rattle.std.specs.FinMap.{FinMap, empty, get, insert, remove, entries, entries_sorted, get-entries}
 use Rattle.std.proofs.lemmas.Bool.{eqb-true, false≢true}
-use Rattle.frame_view.specs.First.{first}
+use Rattle.frame_view.specs.First.{first, unless}
+use Rattle.frame_view.specs.Refusal.{as_refused}
 use Rattle.frame_view.specs.Frame.{Frame}
 use Rattle.frame_view.specs.Tag.{IsVid}
 use Rattle.frame_view.specs.declared.reason.Reason.{Reason}
@@ -17,7 +18,6 @@ use Rattle.ip_udp_view.specs.declared.addr.Addr.{Addr}
 use Rattle.ip_udp_view.specs.declared.addr.Tunnel.{Tunnel}
 use Rattle.vlan_ports.specs.Ports as ports
 use Rattle.vlan_ports.specs.Ports.{Ports, port_at, egress_at}
-use Rattle.vlan_ports.specs.Ingress as ingress
 use Rattle.vlan_ports.specs.Ingress.{nowhere, within, text_reasons, segment_vid, tag_vid, accepts, reasons, vid_at, frame_in, enters}
 use Rattle.vlan_ports.proofs.PlacesLemmas.{get-insert_at, get-remove_at}
 use Rattle.underlay.specs.Overlay as overlay
@@ -43,7 +43,7 @@ use Rattle.endpoint_state.specs.Change.{refused, accepted, changed}
 use Rattle.endpoint_state.specs.Opened.{settings_told}
 use Rattle.endpoint_state.proofs.OpenLemmas.{sound-opened}
 use Rattle.endpoint_core.specs.Came.{Came}
-use Rattle.endpoint_core.specs.Arrival.{capture_reasons, unless, entered, tunnelled, came_at, came_by}
+use Rattle.endpoint_core.specs.Arrival.{capture_reasons, entered, tunnelled, came_at, came_by}
 use Rattle.endpoint_core.specs.Event.{Input, FrameAt, Packet, Asks, Event}
 use Rattle.endpoint_core.specs.Run.{settings_after_input, settings_after, bridges_at, decisions}
 use Rattle.capture_run.specs.Outputs.{no_change, input_of, event_of}
@@ -56,21 +56,21 @@ use Rattle.segment_shards.proofs.Telling.{told_in-is}
 -- ---- by a local port
 
 -- each refusal of a table, and what there is where none holds
-entered-rows : (rows : List (Refused × Bool)) (found : ℕ × Frame) → AllByRecursion (λ (row : Refused × Bool). IsAsked row.0.segment) rows → IsVid found.0 → IsAsked (segment_entered (ingress.unless (first rows) found))
+entered-rows : (rows : List (Refused × Bool)) (found : ℕ × Frame) → AllByRecursion (λ (row : Refused × Bool). IsAsked row.0.segment) rows → IsVid found.0 → IsAsked (segment_entered (unless (first rows) (Ok found)))
 entered-rows [] found all own = own
 entered-rows (row ∷ rows) found all own = by row.1 (entered-rows rows found all.1 own)
   where
-    by : (b : Bool) → IsAsked (segment_entered (ingress.unless (first rows) found)) → IsAsked (segment_entered (ingress.unless (cond b (Some row.0) (first rows)) found))
+    by : (b : Bool) → IsAsked (segment_entered (unless (first rows) (Ok found))) → IsAsked (segment_entered (unless (cond b (Some row.0) (first rows)) (Ok found)))
     by true rest = all.0
     by false rest = rest
 
 -- some refusals, and behind them one that holds
-entered-none : (rows rest : List (Refused × Bool)) (found : ℕ × Frame) → AllByRecursion (λ (row : Refused × Bool). IsAsked row.0.segment) rows → IsAsked (segment_entered (ingress.unless (first (rows ++ (nowhere NoSegment, true) ∷ rest)) found))
+entered-none : (rows rest : List (Refused × Bool)) (found : ℕ × Frame) → AllByRecursion (λ (row : Refused × Bool). IsAsked row.0.segment) rows → IsAsked (segment_entered (unless (first (rows ++ (nowhere NoSegment, true) ∷ rest)) (Ok found)))
 entered-none [] rest found all = tt
 entered-none (row ∷ rows) rest found all = by row.1 (entered-none rows rest found all.1)
   where
-    by : (b : Bool) → IsAsked (segment_entered (ingress.unless (first (rows ++ (nowhere NoSegment, true) ∷ rest)) found))
-        → IsAsked (segment_entered (ingress.unless (cond b (Some row.0) (first (rows ++ (nowhere NoSegment, true) ∷ rest))) found))
+    by : (b : Bool) → IsAsked (segment_entered (unless (first (rows ++ (nowhere NoSegment, true) ∷ rest)) (Ok found)))
+        → IsAsked (segment_entered (unless (cond b (Some row.0) (first (rows ++ (nowhere NoSegment, true) ∷ rest))) (Ok found)))
     by true more = all.0
     by false more = more
 
@@ -89,7 +89,7 @@ enters-asked P port b vids = by (ports.has_segment P (vid_at P port b)) refl
     by : (c : Bool) → ports.has_segment P k ≡ c → IsAsked (segment_entered (enters P port b))
     by true is = entered-rows (reasons P port b) (k, frame_in b) (tt, (tt, (tt, (tt, (tt, (tt, (tt, (tt, (vids k is, tt))))))))) (vids k is)
     by false is =
-        subst (λ (c : Bool). IsAsked (segment_entered (ingress.unless (first (early ++ (nowhere NoSegment, not c) ∷ late)) (k, frame_in b)))) (sym is)
+        subst (λ (c : Bool). IsAsked (segment_entered (unless (first (early ++ (nowhere NoSegment, not c) ∷ late)) (Ok (k, frame_in b))))) (sym is)
         (entered-none early late (k, frame_in b) (tt, (tt, (tt, (tt, (tt, (tt, (tt, tt))))))))
 
 by-entered : (port : ℕ) (r : Result (ℕ × Frame) Refused) → IsAsked (segment_entered r) → IsAsked (segment_of (entered port r))
@@ -111,7 +111,7 @@ came_at-asked P port original b vids =
 
 -- ---- by a tunnel
 
-arrived-unless : (o : Option Reason) (v : Option ℕ) (r : Result Arrived Refused) → IsAsked v → IsAsked (segment_arrived r) → IsAsked (segment_arrived (arrival.unless o v r))
+arrived-unless : (o : Option Reason) (v : Option ℕ) (r : Result Arrived Refused) → IsAsked v → IsAsked (segment_arrived r) → IsAsked (segment_arrived (unless (as_refused v o) r))
 arrived-unless (Some reason) v r within_it own = within_it
 arrived-unless None v r within_it own = own
 

@@ -18,7 +18,7 @@ use Rattle.timeline.specs.Events.{all_events}
 use Rattle.timeline.specs.Faults.{faults_of}
 use Rattle.timeline.specs.Inputs.{inputs, opened_captures}
 use Rattle.timeline.specs.Order.{merged}
-use Rattle.timeline.specs.Timeline.{Timeline, cuts_of, told, unless}
+use Rattle.timeline.specs.Timeline.{Timeline, cuts_of, told, if_faultless}
 use Rattle.timeline.specs.declared.event.Event.{Event}
 use Rattle.timeline.specs.declared.fault.TimelineFault.{TimelineFault}
 use Rattle.timeline.specs.declared.fault.TimelineFault.TheVariants as timeline
@@ -86,11 +86,11 @@ told_fault : (changes : List ℕ) (texts : List (Vec ℕ Global)) (text : List �
 unfolding told
 told_fault changes texts text fault others is =
     let captures = opened_captures (inputs texts text) in
-    ap (λ l. unless l (record { events = merged (all_events changes captures); cuts = cuts_of captures })) is
+    ap (λ l. if_faultless l (record { events = merged (all_events changes captures); cuts = cuts_of captures })) is
 
 told_whole : (changes : List TimedChange) (texts : List (Vec ℕ Global)) (text : List ℕ) → faults_of (inputs texts text) ≡ [] → told (map (λ (c : TimedChange). c.at) changes) texts text ≡ Ok (whole_records changes texts text)
 unfolding told
-told_whole changes texts text is = ap (λ l. unless l (whole_records changes texts text)) is
+told_whole changes texts text is = ap (λ l. if_faultless l (whole_records changes texts text)) is
 
 -- an input tells the octets of its capture
 tells_at : (ports : List Stream) (underlay : Stream) (texts : List (Vec ℕ Global)) (text : List ℕ) (index : ℕ) (place : Tap) → Tells ports underlay texts text → IsAt (length ports) index place

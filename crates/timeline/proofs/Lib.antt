@@ -1,3 +1,4 @@
 pub mod Orders
 pub mod KnownEvents
 pub mod Records
+pub mod Telling

@@ -34,15 +34,15 @@ abbrev pub cuts_of : List Opened → List CutRest
 cuts_of captures = filter_map cut_of captures
 
 -- the first fault, or else this
-abbrev pub unless : List TimelineFault → Timeline → Result Timeline TimelineFault
-unless [] timeline = Ok timeline
-unless (fault ∷ others) timeline = Err fault
+abbrev pub if_faultless : List TimelineFault → Timeline → Result Timeline TimelineFault
+if_faultless [] timeline = Ok timeline
+if_faultless (fault ∷ others) timeline = Err fault
 
 -- what the moments of the changes and the captures of the ports and of the underlay tell
 unfoldable pub told : List ℕ → List (Vec ℕ Global) → List ℕ → Result Timeline TimelineFault
 told changes ports underlay =
     let captures = opened_captures (inputs ports underlay) in
-    unless (faults_of (inputs ports underlay)) (record { events = merged (all_events changes captures); cuts = cuts_of captures })
+    if_faultless (faults_of (inputs ports underlay)) (record { events = merged (all_events changes captures); cuts = cuts_of captures })
 
 -- an answer is what is told, unless memory was refused
 abbrev pub Gives : Result Timeline TimelineFault → Result Timeline TimelineFault → Type 0

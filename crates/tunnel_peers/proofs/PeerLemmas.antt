@@ -7,6 +7,8 @@ use Rattle.header_sums.specs.Octets.{octets}
 use Rattle.header_sums.proofs.OctetsLemmas.{is_same-true}
 use Rattle.header_sums.proofs.SumLemmas.{sent-not_zero}
 use Rattle.frame_view.specs.Frame.{Frame, plain}
+use Rattle.frame_view.specs.First.{unless}
+use Rattle.frame_view.specs.Refusal.{as_refused}
 use Rattle.frame_view.proofs.FirstLemmas.{first-nothing}
 use Rattle.ip_udp_view.specs.declared.addr.Addr.{Addr}
 use Rattle.ip_udp_view.specs.declared.addr.Addr.TheVariants.{V4, V6}
@@ -25,7 +27,7 @@ use Rattle.underlay.specs.declared.tunnels.SegmentTunnel.{SegmentTunnel}
 use Rattle.underlay.specs.Overlay.{Overlay}
 use Rattle.underlay.specs.Settings.{own, is_own, port_of}
 use Rattle.decapsulate.specs.declared.arrived.Arrived.{Arrived}
-use Rattle.decapsulate.specs.Arrival.{is_bad_source, IsTunnelled, IsSumTaken, Arrives, unless, capture_reasons, arrival, arrival_of}
+use Rattle.decapsulate.specs.Arrival.{is_bad_source, IsTunnelled, IsSumTaken, Arrives, capture_reasons, arrival, arrival_of}
 use Rattle.encapsulate.specs.Flow.{source_port}
 use Rattle.encapsulate.specs.Packet.{tunnelled, sum_sent, packet}
 use Rattle.encapsulate.specs.Remote.{remote_text}
@@ -183,7 +185,7 @@ sent-to S R vid w h kind t (V6 dst) c f s q = let o = own-octets S.underlay.ip6 
 -- a packet is whole where it is as long as it was
 whole : (R : Overlay) (b : List ℕ) (x : Arrived) → length b ≤ 65549 → arrival R b ≡ Ok x → arrival_of R (length b) b ≡ Ok x
 whole R b x h e =
-    ap (λ o. unless o None (arrival R b)) (first-nothing (capture_reasons (length b) b) (le-ltb _ _ h, (le-ltb _ _ (omega arith), tt))) ∙ e
+    ap (λ o. unless (as_refused None o) (arrival R b)) (first-nothing (capture_reasons (length b) b) (le-ltb _ _ h, (le-ltb _ _ (omega arith), tt))) ∙ e
 
 -- what arrives in whole texts is what a packet brings
 abbrev pub Brings : Type 0

@@ -9,16 +9,16 @@ use Rattle.std.proofs.lemmas.List.{length-append, length-take, length-drop, drop
 use Rattle.header_sums.specs.Octets.{IsText, field, octets, part}
 use Rattle.header_sums.proofs.OctetsLemmas.{field-drop, field2-below}
 use Rattle.frame_view.specs.Ether.{has_tag}
-use Rattle.frame_view.specs.First.{first}
+use Rattle.frame_view.specs.First.{first, unless}
 use Rattle.frame_view.specs.Frame.{Frame, IsFrame, plain, tagged, frame_of, frame_behind_tag}
 use Rattle.frame_view.specs.Tag.{bit, begins_tag, vid_of, pcp_of, dei_of}
 use Rattle.frame_view.specs.declared.reason.Refused.{Refused}
-use Rattle.frame_view.proofs.FirstLemmas.{NothingHolds-from, first-nothing}
+use Rattle.frame_view.proofs.FirstLemmas.{NothingHolds-from, first-nothing, unless-ok, same_Ok}
 use Rattle.frame_view.proofs.FrameLemmas.{three-parts, tagged-frame_behind_tag}
 use Rattle.vlan_ports.specs.Frame.{is_group, is_reserved}
 use Rattle.vlan_ports.specs.declared.member.Egress.{Egress}
 use Rattle.vlan_ports.specs.Ports.{Ports, Members, port_at, is_up, egress_at, members_at}
-use Rattle.vlan_ports.specs.Ingress.{IsEntering, Enters, enters, reasons, unless, frame_in, tag_vid, vid_at, segment_vid, accepts, source, destination, is_cut}
+use Rattle.vlan_ports.specs.Ingress.{IsEntering, Enters, enters, reasons, frame_in, tag_vid, vid_at, segment_vid, accepts, source, destination, is_cut}
 
 -- ---- from the places to the text
 
@@ -162,10 +162,6 @@ uncut-room b room = elim (cases_Bool (has_tag b)) [
   | inr lacks ↦ and_left (has_tag b) (ltb (length b) 18) lacks
 ]
 
-unless-ok : {A : Type 0} (o : Option Refused) (x y : A) → unless o x ≡ Ok y → (o ≡ None) × (x ≡ y)
-unless-ok (Some refused) x y h = absurd (cc)
-unless-ok None x y h = (refl, cc)
-
 some-egress : (o : Option Egress) → is_none o ≡ false → IsSome o
 some-egress (Some egress) h = search rules
 some-egress None h = absurd (cc)
@@ -181,7 +177,7 @@ some-members None port h = absurd (search rules)
 
 pub enters-from : (s : Ports) (port : ℕ) (b : List ℕ) (vid : ℕ) (f : Frame) → IsText b → enters s port b ≡ Ok (vid, f) → Enters s port b vid f
 enters-from s port b vid f text answer =
-    let parts = unless-ok (first (reasons s port b)) (vid_at s port b, frame_in b) (vid, f) answer in
+    let parts = unless-ok (first (reasons s port b)) (Ok (vid_at s port b, frame_in b)) (vid, f) answer in
     let clear = NothingHolds-from (reasons s port b) parts.0 in
     let long = ltb-false (length b) 14 clear.0 in
     let is_text = entering b text long (room-uncut b clear.1.1.1.1.0) in
@@ -198,7 +194,7 @@ enters-from s port b vid f text answer =
       vid_is = refl;
       member = some-egress (egress_at s (vid_at s port b) port) clear.1.1.1.1.1.1.1.1.0;
     } in
-    subst (λ (p : ℕ × Frame). Enters s port b p.0 p.1) parts.1 all
+    subst (λ (p : ℕ × Frame). Enters s port b p.0 p.1) (same_Ok (vid_at s port b, frame_in b) (vid, f) parts.1) all
 
 pub enters-of : (s : Ports) (port : ℕ) (b : List ℕ) (vid : ℕ) (f : Frame) → Enters s port b vid f → enters s port b ≡ Ok (vid, f)
 enters-of s port b vid f k =
@@ -210,7 +206,7 @@ enters-of s port b vid f k =
     let below = k.tag_is_vid in
     let member : IsSome (egress_at s (vid_at s port b) port) = subst (λ (v : ℕ). IsSome (egress_at s v port)) (sym vid_is) k.member in
     let answer : ◌≡◌ {A = ℕ × Frame} (vid_at s port b, frame_in b) (vid, f) = λ i. (vid_is i, r.frame i) in
-    ap (λ (o : Option Refused). unless o (vid_at s port b, frame_in b))
+    ap (λ (o : Option Refused). unless o (Ok (vid_at s port b, frame_in b)))
     (first-nothing (reasons s port b) (
       le-ltb (length b) 14 r.long,
       (

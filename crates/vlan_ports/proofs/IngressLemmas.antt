@@ -1,18 +1,19 @@
 -- How the parts of the answer of `enters` are put together.
-use Rattle.std.proofs.Common.{◌≡◌, ℕ, Bool, true, false, cond, List, Option, Some, None, Err, refl, ap}
+use Rattle.std.proofs.Common.{◌≡◌, ℕ, Bool, true, false, cond, List, Option, Some, None, Err, refl, ap, Ok}
 use Rattle.vlan_ports.specs.Frame.{first}
+use Rattle.frame_view.specs.First.{unless}
 use Rattle.frame_view.specs.declared.reason.Refused.{Refused}
 use Rattle.frame_view.proofs.FirstLemmas.{first-append}
 use Rattle.vlan_ports.specs.Ports.{Ports}
-use Rattle.vlan_ports.specs.Ingress.{enters, unless, text_reasons, vid_reasons, tag_vid, vid_at, frame_in}
+use Rattle.vlan_ports.specs.Ingress.{enters, text_reasons, vid_reasons, tag_vid, vid_at, frame_in}
 
 -- where no reason of the text holds, those of the VID are left
-pub enters-behind : (s : Ports) (port : ℕ) (b : List ℕ) → first (text_reasons s port b) ≡ None → enters s port b ≡ unless (first (vid_reasons s port (tag_vid b))) (vid_at s port b, frame_in b)
+pub enters-behind : (s : Ports) (port : ℕ) (b : List ℕ) → first (text_reasons s port b) ≡ None → enters s port b ≡ unless (first (vid_reasons s port (tag_vid b))) (Ok (vid_at s port b, frame_in b))
 enters-behind s port b nothing =
-    ap (λ (o : Option Refused). unless o (vid_at s port b, frame_in b)) (first-append (text_reasons s port b) (vid_reasons s port (tag_vid b)) nothing)
+    ap (λ (o : Option Refused). unless o (Ok (vid_at s port b, frame_in b))) (first-append (text_reasons s port b) (vid_reasons s port (tag_vid b)) nothing)
 
 -- a refusal is the same, whatever there would be otherwise
-pub unless-err : {A B : Type 0} (o : Option Refused) (x : A) (y : B) (refused : Refused) → unless o x ≡ Err refused → unless o y ≡ Err refused
+pub unless-err : {A B : Type 0} (o : Option Refused) (x : A) (y : B) (refused : Refused) → unless o (Ok x) ≡ Err refused → unless o (Ok y) ≡ Err refused
 unless-err (Some r) x y refused h = cc
 unless-err None x y refused h = absurd (cc)
 

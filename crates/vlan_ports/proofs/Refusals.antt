@@ -1,17 +1,17 @@
 -- A table of reasons and the facts that its tests decide: the first test that holds is the first fact.
-use Rattle.std.proofs.Common.{◌≡◌, ◌⊎◌, ℕ, Bool, true, false, not, ltb, List, [], ◌∷◌, ◌++◌, length, Option, Some, None, Err, refl, sym, ap, ◌∙◌, subst, inl, inr}
+use Rattle.std.proofs.Common.{◌≡◌, ◌⊎◌, ℕ, Bool, true, false, not, ltb, List, [], ◌∷◌, ◌++◌, length, Option, Some, None, Err, refl, sym, ap, ◌∙◌, subst, inl, inr, Ok}
 use Rattle.std.specs.List.{AllByRecursion}
 use Rattle.std.specs.Prelude.{is_some, is_none}
 use Rattle.std.proofs.lemmas.Bool.{ltb-true, lt-ltb, eqb-true, eq-eqb, cases_Bool, and_parts, and_from, not-true, not_from_false, false_from_ne_true, false≢true}
 use Rattle.std.proofs.lemmas.Option.{same_Some}
-use Rattle.frame_view.specs.First.{first}
+use Rattle.frame_view.specs.First.{first, unless}
 use Rattle.frame_view.proofs.FirstLemmas.{first-skip, first-here}
 use Rattle.frame_view.specs.declared.reason.Reason.{Reason}
 use Rattle.frame_view.specs.declared.reason.Refused.{Refused}
 use Rattle.vlan_ports.specs.Frame.{has_tag}
 use Rattle.vlan_ports.specs.declared.member.Egress.{Egress}
 use Rattle.vlan_ports.specs.Ports.{Ports, Members, port_at, is_up, egress_at, members_at}
-use Rattle.vlan_ports.specs.Ingress.{Holds, IsRefused, enters, reasons, unless, local_reasons, refused_in, accepts, tag_vid, vid_at, frame_in}
+use Rattle.vlan_ports.specs.Ingress.{Holds, IsRefused, enters, reasons, local_reasons, refused_in, accepts, tag_vid, vid_at, frame_in}
 
 -- a test is true exactly where the reason holds, and the refusal is that of the reason
 record Decides (s : Ports) (port : ℕ) (b : List ℕ) (row : Refused × Bool) (reason : Reason) : Type 0 where
@@ -130,7 +130,7 @@ decides s port b =
       ),
     )
 
-refused-first : {A : Type 0} (o : Option Refused) (x : A) (refused : Refused) → unless o x ≡ Err refused → o ≡ Some refused
+refused-first : {A : Type 0} (o : Option Refused) (x : A) (refused : Refused) → unless o (Ok x) ≡ Err refused → o ≡ Some refused
 refused-first (Some r) x refused h = cc
 refused-first None x refused h = absurd (cc)
 
@@ -149,4 +149,4 @@ refused-from s port b refused answer =
 
 pub refused-of : (s : Ports) (port : ℕ) (b : List ℕ) (refused : Refused) → IsRefused s port b refused → enters s port b ≡ Err refused
 refused-of s port b refused k =
-    ap (λ (o : Option Refused). unless o (vid_at s port b, frame_in b)) (first-of s port b (reasons s port b) local_reasons k.before k.behind refused (decides s port b) k.in_order k.none_before k.holds k.segment_is)
+    ap (λ (o : Option Refused). unless o (Ok (vid_at s port b, frame_in b))) (first-of s port b (reasons s port b) local_reasons k.before k.behind refused (decides s port b) k.in_order k.none_before k.holds k.segment_is)

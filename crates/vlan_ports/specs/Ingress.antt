@@ -7,6 +7,7 @@
 use Rattle.std.specs.Prelude.{◌≡◌, ◌<◌, ◌≤◌, ◌⊎◌, ◌↔◌, ℕ, Bool, true, false, not, ◌==◌, ◌&&◌, nat_lt, if◌then◌else◌, List, [], ◌∷◌, ◌++◌, length, map, take, Option, Some, None, is_none, IsSome, Result, Ok, Err}
 use Rattle.std.specs.List.{AllByRecursion}
 use Rattle.vlan_ports.specs.Octets.{IsText, field, part}
+use Rattle.frame_view.specs.First.{unless}
 use Rattle.vlan_ports.specs.Frame.{first, Frame, IsFrame, plain, tagged, frame_of, frame_behind_tag, has_tag, begins_tag, vid_of, is_group, is_reserved}
 use Rattle.frame_view.specs.Reason.{number_of}
 use Rattle.frame_view.specs.declared.reason.Reason.{Reason}
@@ -88,14 +89,9 @@ vid_reasons s port w =
 abbrev pub reasons : Ports → ℕ → List ℕ → List (Refused × Bool)
 reasons s port b = text_reasons s port b ++ vid_reasons s port (tag_vid b)
 
--- the first refusal of a table, or what there is where there is none
-abbrev pub unless : {A : Type 0} → Option Refused → A → Result A Refused
-unless (Some refused) otherwise = Err refused
-unless None otherwise = Ok otherwise
-
 -- the segment and the frame, or the first reason that holds
 abbrev pub enters : Ports → ℕ → List ℕ → Result (ℕ × Frame) Refused
-enters s port b = unless (first (reasons s port b)) (vid_at s port b, frame_in b)
+enters s port b = unless (first (reasons s port b)) (Ok (vid_at s port b, frame_in b))
 
 -- ---- the same as facts
 

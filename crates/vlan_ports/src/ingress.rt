@@ -2,7 +2,8 @@
 ghost use Rattle.std.specs.Prelude.{◌≡◌, ◌≤◌, ◌<◌, length, take, is_none, IfSome};
 ghost use Rattle.vlan_ports.specs.Octets.{part};
 ghost use Rattle.vlan_ports.specs.Frame.{first};
-ghost use Rattle.vlan_ports.specs.Ingress.{enters, unless, vid_reasons, segment_vid, is_cut, tag_vid, frame_in};
+ghost use Rattle.frame_view.specs.First.{unless};
+ghost use Rattle.vlan_ports.specs.Ingress.{enters, vid_reasons, segment_vid, is_cut, tag_vid, frame_in};
 ghost use Rattle.vlan_ports.specs.Ports.{port_at};
 
 use crate::PortSet;
@@ -86,7 +87,7 @@ fn segment_of(ports: &PortSet, port: u8, tag_vid: u16) -> Result<Vid, Refused>
     requires high { port ≤ length ports.now.ports }
     requires bits { tag_vid < 4096 }
     ensures { let pvid = (port_at ports.now port).pvid in
-        result ≡ unless (first (vid_reasons ports.now port tag_vid)) (segment_vid pvid tag_vid) }
+        result ≡ unless (first (vid_reasons ports.now port tag_vid)) (Ok (segment_vid pvid tag_vid)) }
 {
     if tag_vid == RESERVED_VID {
         return Err(Refused::nowhere(Reason::BadVid));

@@ -1,10 +1,11 @@
-use Rattle.std.proofs.Common.{◌≡◌, ◌≤◌, ◌∙◌, List, ℕ, length, ap, arith, sym, Some, None, Err, Result}
-use Rattle.frame_view.specs.First.{first}
+use Rattle.std.proofs.Common.{◌≡◌, ◌≤◌, ◌∙◌, List, ℕ, length, ap, arith, sym, Some, None, Err}
+use Rattle.frame_view.specs.First.{first, unless}
 use Rattle.frame_view.specs.Frame.{frame_of}
+use Rattle.frame_view.specs.Refusal.{as_refused}
 use Rattle.frame_view.specs.declared.reason.Reason.{Reason}
 use Rattle.ip_udp_view.specs.Udp.{data_of}
 use Rattle.underlay.specs.Overlay.{Overlay}
-use Rattle.decapsulate.specs.Arrival.{packet_in, inner_of, kind_to, outer_reasons, carried_reasons, unless, arrival_by, arrival}
+use Rattle.decapsulate.specs.Arrival.{packet_in, inner_of, kind_to, outer_reasons, carried_reasons, arrival_by, arrival}
 use Rattle.decapsulate.proofs.PlaceLemmas.{plain-inner}
 use Rattle.decapsulate.proofs.ReasonsLemmas.{outer-frame, outer-carried}
 use Rattle.decapsulate.proofs.outer.unwrap.Goals as goal
@@ -13,7 +14,7 @@ use Rattle.decapsulate.proofs.outer.unwrap.Goals as goal
 refused : (S : Overlay) (b : List ℕ) (reason : Reason) → first (outer_reasons S b) ≡ Some reason → arrival S b ≡ Err (record { segment = None; reason = reason })
 refused S b reason h =
     let p = packet_in b in
-    ap (λ o. unless o None (arrival_by S (kind_to S.underlay p) p.source p.destination (data_of p.payload))) h
+    ap (λ o. unless (as_refused None o) (arrival_by S (kind_to S.underlay p) p.source p.destination (data_of p.payload))) h
 
 pub returns-in-Err-clause-value : goal.returns-in-Err-clause-value
 returns-in-Err-clause-value c =

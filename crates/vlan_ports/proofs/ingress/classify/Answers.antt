@@ -1,9 +1,10 @@
-use Rattle.std.proofs.Common.{◌≡◌, ◌∙◌, ◌≤◌, not, ℕ, length, sym, ap, arith}
+use Rattle.std.proofs.Common.{◌≡◌, ◌∙◌, ◌≤◌, not, ℕ, length, sym, ap, arith, Ok}
 use Rattle.std.proofs.lemmas.Bool.{le-ltb}
 use Rattle.std.proofs.lemmas.Result.{err_from_is_err_and}
 use Rattle.frame_view.proofs.FirstLemmas.{first-nothing}
+use Rattle.frame_view.specs.First.{unless}
 use Rattle.vlan_ports.specs.Frame.{first, is_group, is_reserved}
-use Rattle.vlan_ports.specs.Ingress.{text_reasons, vid_reasons, unless, tag_vid, vid_at, is_cut, frame_in, source, destination, segment_vid}
+use Rattle.vlan_ports.specs.Ingress.{text_reasons, vid_reasons, tag_vid, vid_at, is_cut, frame_in, source, destination, segment_vid}
 use Rattle.vlan_ports.specs.Ports.{port_at}
 use Rattle.vlan_ports.proofs.IngressLemmas.{enters-behind, unless-err}
 use Rattle.vlan_ports.proofs.ingress.classify.Goals as goal
@@ -29,7 +30,7 @@ returns-in_err-vid c =
         ),
       ),
     ) in
-    let of_tag = λ (w : ℕ). unless (first (vid_reasons s port w)) (segment_vid (port_at s port).pvid w) in
+    let of_tag = λ (w : ℕ). unless (first (vid_reasons s port w)) (Ok (segment_vid (port_at s port).pvid w)) in
     let refusal = ap of_tag (sym tag) ∙ sym c.segment_of.ensures ∙ c.in_err-vid.was in
     let p = err_from_is_err_and c.from_residual.result c.from_residual.ensures.1 in
     rw (p.1, p.2) (sym (enters-behind s port b nothing ∙ unless-err (first (vid_reasons s port (tag_vid b))) (segment_vid (port_at s port).pvid (tag_vid b)) (vid_at s port b, frame_in b) c.in_err-vid.field-0.0 refusal))

@@ -38,7 +38,7 @@ impl Line {
     }
 
     /// Ends the line.
-    #[inline]
+    #[inline(always)]
     pub fn end(&mut self)
         requires room { length self.old < 4096 }
         ensures { self.new ≡ self.old ++ 10 ∷ [] }
@@ -47,7 +47,7 @@ impl Line {
     }
 
     /// Clears the line and puts an event's number, its moment and its source.
-    #[inline]
+    #[inline(always)]
     fn put_origin(&mut self, number: &Counter, moment: u64, source: Source)
         ensures text { self.new ≡ decimal number.now ++ codes " " ++ decimal moment ++ codes " " ++ source_word source ++ codes " " }
         ensures len { length self.new ≤ 47 }
@@ -62,7 +62,7 @@ impl Line {
     }
 
     /// Puts where an event comes from.
-    #[inline]
+    #[inline(always)]
     fn put_source(&mut self, source: Source)
         requires room { length self.old + 4 ≤ 4096 }
         ensures text { self.new ≡ self.old ++ source_word source }
@@ -75,7 +75,7 @@ impl Line {
     }
 
     /// Puts where a capture is taken.
-    #[inline]
+    #[inline(always)]
     pub(crate) fn put_tap(&mut self, tap: Tap)
         requires room { length self.old + 4 ≤ 4096 }
         ensures text { self.new ≡ self.old ++ tap_word tap }
@@ -91,7 +91,7 @@ impl Line {
     }
 
     /// Puts the VID of a segment, or a dash for none, between spaces.
-    #[inline]
+    #[inline(always)]
     fn put_segment(&mut self, segment: Option<Vid>)
         requires room { length self.old + 7 ≤ 4096 }
         ensures text { self.new ≡ self.old ++ (codes " " ++ (segment_text segment ++ codes " ")) }

@@ -66,7 +66,7 @@ impl Line {
     }
 
     /// Puts one octet at the end.
-    #[inline]
+    #[inline(always)]
     pub(crate) fn put_octet(&mut self, octet: u8)
         requires room { length self.old < 4096 }
         ensures text { self.new ≡ self.old ++ octet ∷ [] }
@@ -125,7 +125,7 @@ impl Line {
     }
 
     /// Puts a number below 10,000 in four decimal digits at the end.
-    #[inline]
+    #[inline(always)]
     fn put_four(&mut self, number: u16)
         requires four { number < 10000 }
         requires room { length self.old + 4 ≤ 4096 }
@@ -155,7 +155,7 @@ impl Line {
     }
 
     /// Puts a number below 256 in decimal digits at the end.
-    #[inline]
+    #[inline(always)]
     pub(crate) fn put_small(&mut self, number: u8)
         requires room { length self.old + 3 ≤ 4096 }
         ensures text { self.new ≡ self.old ++ decimal number }
@@ -173,7 +173,7 @@ impl Line {
     }
 
     /// Puts a number below 100 in two decimal digits at the end.
-    #[inline]
+    #[inline(always)]
     fn put_pair(&mut self, number: u8)
         requires two { number < 100 }
         requires room { length self.old + 2 ≤ 4096 }
@@ -199,7 +199,7 @@ impl Line {
     }
 
     /// Puts the first octets of a short text that lies in a room of 20, which is copied whole.
-    #[inline]
+    #[inline(always)]
     pub(crate) fn put_first(&mut self, octets: &[u8; 20], count: usize)
         requires room { length self.old + 20 ≤ 4096 }
         requires within { count ≤ 20 }

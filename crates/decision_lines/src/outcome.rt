@@ -34,7 +34,7 @@ impl Line {
     }
 
     /// The same of a local port where so many octets left.
-    #[inline]
+    #[inline(always)]
     pub fn put_local(&mut self, is_first: bool, port: u8, count: usize)
         requires room { length self.old + 77 ≤ 4096 }
         ensures text { self.new ≡ self.old ++ (gap is_first ++ ((codes "p" ++ decimal port) ++ count_text (Ok count))) }
@@ -98,7 +98,7 @@ impl Line {
 }
 
 /// How many octets leave, or why none do.
-#[inline]
+#[inline(always)]
 fn count_of(sent: &Result<Leaving, Reason>) -> Result<usize, Reason>
     ensures { count_text result ≡ sent_text (texts sent.now) }
 {

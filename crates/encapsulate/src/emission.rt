@@ -145,7 +145,7 @@ pub fn local<'a>(vid: Vid, egress: Egress, frame: &BridgeFrame<'a>) -> Emission<
 }
 
 /// The tag that a frame leaves with at a local port of its segment (IEEE 802.1Q, 8.8 and 9.6), if it leaves with one.
-#[inline]
+#[inline(always)]
 pub fn local_tag(vid: Vid, egress: Egress, frame: &BridgeFrame) -> Option<[u8; 4]>
     ensures tag { unwrap_or result [] ≡ local_tag vid egress frame.now }
     ensures text { let f = frame.now in (f.dst ++ f.src) ++ (unwrap_or result [] ++ f.body) ≡ local_text vid egress f }

@@ -112,14 +112,12 @@ pub fn segment_of(came: &Result<Came, Refused>) -> Option<Vid>
     }
 }
 
-/// Whether a place is a remote endpoint.
+/// Whether the last place is a remote endpoint: those stand behind the local ports.
 fn has_remote(places: &[Place]) -> bool {
-    for at in 0..places.len() {
-        if let Place::Remote(_, _) = places[at] {
-            return true;
-        }
+    match places.last() {
+        Some(Place::Remote(..)) => true,
+        _ => false,
     }
-    false
 }
 
 /// Whether a place is a remote endpoint to which packets have a checksum.

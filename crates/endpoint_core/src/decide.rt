@@ -1,5 +1,5 @@
 //! Where a frame or a packet goes.
-ghost use Rattle.std.specs.Prelude.{◌≡◌, ◌≤◌, length, IfOk, IsSome, true};
+ghost use Rattle.std.specs.Prelude.{◌≡◌, ◌≤◌, length, IfOk, IsSome, true, Err};
 ghost use Rattle.endpoint_state.specs.Held.{settings_of, state_at, moment_of};
 ghost use Rattle.endpoint_state.specs.Settings.{segment_at};
 ghost use Rattle.endpoint_state.specs.Sound.{is_reached};
@@ -41,8 +41,16 @@ pub(crate) fn decide<'a>(
         }
     };
     if let Err(refused) = forwarded {
-        *course = Err(refused);
+        refuse(course, refused);
     }
+}
+
+/// Turns what came to a segment into what was refused, where that comes: only there is room made for it.
+#[inline(always)]
+fn refuse<'a>(course: &mut Course<'a>, refused: Refused)
+    ensures { course.new ≡ Err refused }
+{
+    *course = Err(refused);
 }
 
 /// Where the bridge of its segment sends a frame, or why nowhere.

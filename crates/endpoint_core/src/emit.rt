@@ -46,7 +46,7 @@ pub(crate) fn emit_in<'h, 'a>(
 }
 
 /// The tag that a frame leaves with at a local port of its segment, if it leaves with one.
-#[inline]
+#[inline(always)]
 #[tactic(auto, unfolding(crate::specs::Arrival::emitted))]
 pub(crate) fn tag_in(
     state: &EndpointState,

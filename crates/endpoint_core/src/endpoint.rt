@@ -221,7 +221,7 @@ impl Endpoint {
 
     /// The tag that a frame leaves with at a local port where it can leave, if it leaves with one. In front of it stand the
     /// frame's addresses, and behind it its body.
-    #[inline]
+    #[inline(always)]
     pub fn tag_at(&self, came: &Came, port: u8) -> Option<[u8; 4]>
         requires { IsTrue (can_leave (state_of self.now).bridges.settings came.now.vid (Local port)) }
         ensures { let f = came.now.frame in

@@ -57,6 +57,11 @@ abbrev pub share_written : List (Option Share) → ℕ → Option Share → List
 share_written shares vid None = shares
 share_written shares vid (Some share) = slice_set shares vid (Some share)
 
+-- the shares when one has another line and another count
+abbrev pub shares_with_line : List (Option Share) → ℕ → Bool → Ends → ℕ → List (Option Share)
+shares_with_line shares vid fixed ends count =
+    share_written shares vid (option_map (λ share. record (with_line share fixed ends) { count = count }) (share_at shares vid))
+
 -- the shares when an entry has left its line
 abbrev pub shares_without : List (Option Share) → ℕ → Bool → Links → List (Option Share)
 shares_without shares vid fixed own = share_written shares vid (option_map (share_without fixed own) (share_at shares vid))

@@ -6,6 +6,7 @@ ghost use Rattle.filter_db.specs.Segment.{aged_all, segment_at, adjusted, learn_
 ghost use Rattle.shared_tables.specs.Segments.{segments_of};
 ghost use Rattle.shared_tables.specs.Work.{ComparesFew, VisitsFew, TellsAtMost, Pays};
 
+use crate::bucket::chain;
 use crate::{SharedTables, learning};
 use filter_db::{Learned, NotThere, Place, TableFull, Tables};
 use frame_view::{Mac, Vid};
@@ -45,7 +46,8 @@ impl Tables for SharedTables {
     {
         self.count_call();
         let ageing = self.ageing(vid);
-        match self.find(vid, mac) {
+        let chain = chain(vid, mac);
+        match self.find(chain, vid, mac) {
             Some(slot) => self.place_if_live(slot, ageing, now),
             None => None,
         }
@@ -69,10 +71,11 @@ impl Tables for SharedTables {
         ensures paid { Pays self.old self.new }
     {
         self.begin(now);
-        match self.find(vid, mac) {
+        let chain = chain(vid, mac);
+        match self.find(chain, vid, mac) {
             Some(slot) => learning::relearn(self, vid, slot, &place),
             None => {
-                if learning::admit(self, vid, mac, place, Some(now)) {
+                if learning::admit(self, chain, vid, mac, place, Some(now)) {
                     Learned::New
                 } else {
                     Learned::Full
@@ -99,13 +102,14 @@ impl Tables for SharedTables {
         ensures paid { Pays self.old self.new }
     {
         self.begin(now);
-        match self.find(vid, mac) {
+        let chain = chain(vid, mac);
+        match self.find(chain, vid, mac) {
             Some(slot) => {
                 self.refresh(vid, slot, &place, None);
                 Ok(())
             }
             None => {
-                if learning::admit(self, vid, mac, place, None) {
+                if learning::admit(self, chain, vid, mac, place, None) {
                     Ok(())
                 } else {
                     Err(TableFull)
@@ -130,7 +134,8 @@ impl Tables for SharedTables {
         ensures paid { Pays self.old self.new }
     {
         self.begin(now);
-        match self.find(vid, mac) {
+        let chain = chain(vid, mac);
+        match self.find(chain, vid, mac) {
             Some(slot) if self.is_fixed(slot) => {
                 self.release(vid, slot);
                 Ok(())

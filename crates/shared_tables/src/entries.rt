@@ -106,8 +106,7 @@ pub fn drop_entry(
             let line = share::line_of(&share, fixed);
             threads::unchain(slots, heads, chain, slot);
             let ends = threads::leave(slots, line, slot);
-            let shorter = share::with_line_of(&share, fixed, ends, share.count - 1);
-            share::set_share(shares, vid, shorter);
+            share::set_line_of(shares, vid, fixed, ends, share.count - 1);
             slots.free(slot);
         }
         None => unreachable!(),

@@ -1,5 +1,6 @@
 //! How entries come, stay and go: each step over the slots of one segment.
 ghost use Rattle.std.specs.Prelude.{◌≡◌, ℕ, ◌<◌, ◌≤◌, IsSome, Some, None, Option};
+ghost use Rattle.shared_tables.specs.Bucket.{chain_of};
 ghost use Rattle.shared_tables.specs.Pool.{entry_at};
 ghost use Rattle.shared_tables.specs.Threads.{IsHeld};
 ghost use Rattle.shared_tables.specs.Shared.{rule_at, Lacks, IsNow, span_of, Sweeps, IsOf, Admits, Relearns, Flushes, kept_count};
@@ -56,8 +57,17 @@ pub fn fit(tables: &mut SharedTables, vid: Vid, limit: u32)
     }
 }
 
-/// Makes an entry for an address that no slot holds; false where the segment has no room for it.
-pub fn admit(tables: &mut SharedTables, vid: Vid, mac: Mac, place: Place, last: Option<u64>) -> bool
+/// Makes an entry for an address on this chain that no slot holds; false where the segment has no room for it.
+pub fn admit(
+    tables: &mut SharedTables,
+    chain: usize,
+    vid: Vid,
+    mac: Mac,
+    place: Place,
+    last: Option<u64>,
+) -> bool
+    requires chain { chain ≡ chain_of vid mac }
+    requires in_range { chain < 65536 }
     requires rule { IsSome (rule_at tables.old.rules vid) }
     requires absent { Lacks tables.old.entries vid mac }
     requires now { IsNow last tables.old.moment }
@@ -67,7 +77,7 @@ pub fn admit(tables: &mut SharedTables, vid: Vid, mac: Mac, place: Place, last: 
     if tables.kept(vid) >= tables.most(vid) {
         return false;
     }
-    tables.enter(vid, mac, place, last);
+    tables.enter(chain, vid, mac, place, last);
     true
 }
 

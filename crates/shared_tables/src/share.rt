@@ -1,6 +1,6 @@
 //! What the pool keeps of each segment.
 ghost use Rattle.std.specs.Prelude.{◌≡◌, ℕ, ◌<◌, Some, None, Option, length, slice_set, vec_len};
-ghost use Rattle.shared_tables.specs.Sound.{line_at, with_line, share_at};
+ghost use Rattle.shared_tables.specs.Sound.{line_at, with_line, share_at, shares_with_line};
 
 use crate::threads::Ends;
 use frame_view::Vid;
@@ -42,25 +42,6 @@ pub fn set_line(share: &mut Share, fixed: bool, ends: Ends)
     }
 }
 
-/// The share with another line and another count.
-pub fn with_line_of(share: &Share, fixed: bool, ends: Ends, count: u32) -> Share
-    ensures { result ≡ record (with_line share.now fixed ends) { count = count } }
-{
-    if fixed {
-        Share {
-            count,
-            fixed: ends,
-            ..*share
-        }
-    } else {
-        Share {
-            count,
-            queue: ends,
-            ..*share
-        }
-    }
-}
-
 /// The share of a VID's segment.
 pub fn share_at(shares: &[Option<Share>], vid: Vid) -> Option<Share>
     requires { length shares.now ≡ 4096 }
@@ -76,4 +57,15 @@ pub fn set_share(shares: &mut Vec<Option<Share>>, vid: Vid, share: Share)
     ensures in_range { vid < 4096 }
 {
     shares[usize::from(vid.get())] = Some(share);
+}
+
+/// Gives the share of a VID's segment another line and another count, where there is one.
+pub fn set_line_of(shares: &mut Vec<Option<Share>>, vid: Vid, fixed: bool, ends: Ends, count: u32)
+    requires { vec_len shares.old ≡ 4096 }
+    ensures { shares.new.items ≡ shares_with_line shares.old.items vid fixed ends count }
+{
+    if let Some(share) = &mut shares[usize::from(vid.get())] {
+        set_line(share, fixed, ends);
+        share.count = count;
+    }
 }

@@ -8,10 +8,9 @@ ghost use Rattle.shared_tables.specs.Pool.{entry_at, IfHeld, is_dead_in, is_fixe
 ghost use Rattle.shared_tables.specs.Threads.{IsHeld};
 ghost use Rattle.shared_tables.specs.Shared.{rule_at, Lacks, kept_count, bucket_count, IsNow, HasRoom, Enters, Refreshes, IsOf, span_of, NoneAges, IsOldest, IsOrderly, live_place, with_ageing, DropsPlace, stands_at};
 ghost use Rattle.shared_tables.specs.Segments.{segments_of};
-ghost use Rattle.shared_tables.specs.Bucket.{bucket_of};
+ghost use Rattle.shared_tables.specs.Bucket.{bucket_of, chain_of};
 ghost use Rattle.shared_tables.specs.Work.{IsPaid};
 
-use crate::bucket::chain;
 use crate::chains::find_in;
 use crate::entries::{drop_entry, renew_entry};
 use crate::opening::{no_heads, open_shares};
@@ -111,8 +110,10 @@ impl SharedTables {
         self.moment = now;
     }
 
-    /// The slot of an address.
-    pub(crate) fn find(&mut self, vid: Vid, mac: Mac) -> Option<SlotId>
+    /// The slot of an address, which is on this chain.
+    pub(crate) fn find(&mut self, chain: usize, vid: Vid, mac: Mac) -> Option<SlotId>
+        requires chain { chain ≡ chain_of vid mac }
+        requires in_range { chain < 65536 }
         ensures found { IfSome result (λ s. IfHeld (entry_at self.old.entries s) vid mac) }
         ensures held { IfSome result (IsHeld self.old.entries) }
         ensures none { IfNone result (Lacks self.old.entries vid mac) }
@@ -120,18 +121,26 @@ impl SharedTables {
         ensures counted { self.old.compared ≤ self.new.compared }
         ensures compared { self.new.compared ≤ self.old.compared + bucket_count (bucket_of vid mac) self.old.entries }
     {
-        let first = threads::head(&self.heads, chain(vid, mac));
+        let first = threads::head(&self.heads, chain);
         find_in(&mut self.slots, first, vid, mac)
     }
 
     /// Takes a slot for a new entry: first on its chain, and last on its line.
-    pub(crate) fn enter(&mut self, vid: Vid, mac: Mac, place: Place, last: Option<u64>)
+    pub(crate) fn enter(
+        &mut self,
+        chain: usize,
+        vid: Vid,
+        mac: Mac,
+        place: Place,
+        last: Option<u64>,
+    )
+        requires chain { chain ≡ chain_of vid mac }
+        requires in_range { chain < 65536 }
         requires room { HasRoom (rule_at self.old.rules vid) (kept_count vid self.old.entries) }
         requires absent { Lacks self.old.entries vid mac }
         requires now { IsNow last self.old.moment }
         ensures { Enters self.old self.new (record { vid = vid; mac = mac; place = place; last = last }) }
     {
-        let chain = chain(vid, mac);
         let fixed = last.is_none();
         match share::share_at(&self.shares, vid) {
             Some(share) => {
@@ -139,8 +148,7 @@ impl SharedTables {
                 threads::enchain(&mut self.slots, &mut self.heads, chain, slot);
                 let line = share::line_of(&share, fixed);
                 let ends = threads::push_back(&mut self.slots, line, slot);
-                let longer = share::with_line_of(&share, fixed, ends, share.count + 1);
-                share::set_share(&mut self.shares, vid, longer);
+                share::set_line_of(&mut self.shares, vid, fixed, ends, share.count + 1);
             }
             None => unreachable!(),
         }

@@ -1,5 +1,5 @@
 //! What comes of one event, put to the outputs of a run.
-ghost use Rattle.std.specs.Prelude.{◌≡◌, ◌≤◌, ◌<◌, ◌+◌, ◌++◌, ℕ, List, Option, Some, None, [], Bool, IsSome, IsTrue, OnOk, length, map, slice_index_or, unwrap_or};
+ghost use Rattle.std.specs.Prelude.{◌≡◌, ◌≢◌, ◌≤◌, ◌<◌, ◌+◌, ◌++◌, ℕ, List, Option, Some, None, [], Bool, IsSome, IsTrue, OnOk, length, map, slice_index_or, unwrap_or};
 ghost use Rattle.std.specs.List.{list_all};
 ghost use Rattle.pcap_io.specs.Record.{last_moment};
 ghost use Rattle.pcap_io.specs.Written.{whole_frame, written_record};
@@ -131,6 +131,40 @@ fn put_local<W: Output>(
     Ok(())
 }
 
+/// Puts what leaves of a frame at a remote endpoint, if something does, and tells it in a line. Apart from local ports, because
+/// only here is room made for it.
+#[inline(always)]
+fn put_remote<W: Output>(
+    underlay_sink: &mut Sink<W>,
+    endpoint: &Endpoint,
+    moment: u64,
+    came: &Came,
+    place: &Place,
+    is_first: bool,
+    head: &mut Head,
+    line: &mut Line,
+) -> Result<(), Target>
+    requires moment { moment ≤ last_moment }
+    requires there { IsSome (segment_at (state_of endpoint.now).bridges.settings came.now.vid) }
+    requires leave { IsTrue (can_leave (state_of endpoint.now).bridges.settings came.now.vid place.now) }
+    requires short { length came.now.frame.body ≤ 65549 }
+    requires remote { (port : ℕ) → place.now ≢ Local port }
+    requires room { length line.old + 77 ≤ 4096 }
+    ensures sent { let S = (state_of endpoint.now).bridges.settings in
+        (start : Drains) (o : Outputs) (ports : List Drain) (written : Option (List ℕ)) (failures : ℕ) → StandAt start (drains ports underlay_sink.old written failures) o
+        → Lead start (drains ports underlay_sink.new written failures) o (with_sent moment o (sent_at S came.now.vid came.now.frame place.now)) result }
+    ensures line { let S = (state_of endpoint.now).bridges.settings in
+        OnOk result (line.new ≡ line.old ++ (gap is_first ++ outcome_text (has_two_tunnels S.overlay came.now.vid) (sent_at S came.now.vid came.now.frame place.now))) }
+    ensures len { OnOk result (length line.new ≤ length line.old + 77) }
+{
+    let sent = endpoint.emit(came, *place, head);
+    if let Ok(leaving) = &sent {
+        put_out(underlay_sink, moment, leaving)?;
+    }
+    line.put_outcome(is_first, endpoint.has_two_tunnels(came), *place, &sent);
+    Ok(())
+}
+
 /// Puts what leaves of a frame at a place, if something does, and tells it in a line.
 #[inline(always)]
 fn put_place<W: Output>(
@@ -160,14 +194,16 @@ fn put_place<W: Output>(
         Place::Local(port) => {
             put_local(port_sinks, endpoint, moment, came, *port, is_first, line)
         }
-        Place::Remote(..) => {
-            let sent = endpoint.emit(came, *place, head);
-            if let Ok(leaving) = &sent {
-                put_out(underlay_sink, moment, leaving)?;
-            }
-            line.put_outcome(is_first, endpoint.has_two_tunnels(came), *place, &sent);
-            Ok(())
-        }
+        Place::Remote(..) => put_remote(
+            underlay_sink,
+            endpoint,
+            moment,
+            came,
+            place,
+            is_first,
+            head,
+            line,
+        ),
     }
 }
 

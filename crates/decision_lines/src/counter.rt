@@ -59,7 +59,7 @@ impl Counter {
 
 impl Line {
     /// Puts a counted number in decimal digits at the end.
-    #[inline(always)]
+    #[inline]
     pub(crate) fn put_counter(&mut self, counter: &Counter)
         requires room { length self.old + 20 ≤ 4096 }
         ensures text { self.new ≡ self.old ++ decimal counter.now }

@@ -19,7 +19,8 @@ static PAIRS: [[u8; 2]; 100] = [
 ];
 
 /// A line in a buffer of 4,096 octets, seen by contracts as its text. It is cleared and written again, and never asks for
-/// memory.
+/// memory. Each call reads the length before it writes octets and not behind that: the compiler doesn't know that no octet is
+/// written over the length.
 ///
 /// The longest decision line has 2,539 octets at most: a front of 74, 32 outcomes of 77 each with its space, and the end of
 /// the line. So each call has its room where a line is begun first and has no more outcomes than there are outlets.
@@ -66,14 +67,15 @@ impl Line {
     }
 
     /// Puts one octet at the end.
-    #[inline(always)]
+    #[inline]
     pub(crate) fn put_octet(&mut self, octet: u8)
         requires room { length self.old < 4096 }
         ensures text { self.new ≡ self.old ++ octet ∷ [] }
         ensures len { length self.new ≡ length self.old + 1 }
     {
-        self.octets[self.len] = octet;
-        self.len += 1;
+        let len = self.len;
+        self.octets[len] = octet;
+        self.len = len + 1;
     }
 
     /// Puts a text at the end.
@@ -125,7 +127,7 @@ impl Line {
     }
 
     /// Puts a number below 10,000 in four decimal digits at the end.
-    #[inline(always)]
+    #[inline]
     fn put_four(&mut self, number: u16)
         requires four { number < 10000 }
         requires room { length self.old + 4 ≤ 4096 }
@@ -155,7 +157,7 @@ impl Line {
     }
 
     /// Puts a number below 256 in decimal digits at the end.
-    #[inline(always)]
+    #[inline]
     pub(crate) fn put_small(&mut self, number: u8)
         requires room { length self.old + 3 ≤ 4096 }
         ensures text { self.new ≡ self.old ++ decimal number }
@@ -173,7 +175,7 @@ impl Line {
     }
 
     /// Puts a number below 100 in two decimal digits at the end.
-    #[inline(always)]
+    #[inline]
     fn put_pair(&mut self, number: u8)
         requires two { number < 100 }
         requires room { length self.old + 2 ≤ 4096 }
@@ -199,15 +201,16 @@ impl Line {
     }
 
     /// Puts the first octets of a short text that lies in a room of 20, which is copied whole.
-    #[inline(always)]
+    #[inline]
     pub(crate) fn put_first(&mut self, octets: &[u8; 20], count: usize)
         requires room { length self.old + 20 ≤ 4096 }
         requires within { count ≤ 20 }
         ensures text { self.new ≡ self.old ++ take count octets.now }
         ensures len { length self.new ≡ length self.old + count }
     {
-        self.octets[self.len..self.len + 20].copy_from_slice(octets);
-        self.len += count;
+        let len = self.len;
+        self.octets[len..len + 20].copy_from_slice(octets);
+        self.len = len + count;
     }
 
     /// Puts an octet in two hexadecimal digits at the end.

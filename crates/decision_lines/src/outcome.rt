@@ -3,7 +3,8 @@ ghost use Rattle.std.specs.Prelude.{◌≡◌, ◌≤◌, ◌+◌, ◌++◌, len
 ghost use Rattle.encapsulate.specs.Remote.{texts};
 ghost use Rattle.frame_view.specs.First.{fault_of};
 ghost use Rattle.frame_view.specs.Reason.{name_of, number_of};
-ghost use Rattle.endpoint_core.specs.Text.{outcome_text, sent_text};
+ghost use Rattle.filter_db.specs.declared.place.Place.TheVariants.{Remote};
+ghost use Rattle.endpoint_core.specs.Text.{outcome_text, place_text, sent_text};
 ghost use Rattle.decision_lines.specs.Lines.{reply_text};
 ghost use Rattle.decision_lines.specs.Outcomes.{count_text, gap};
 
@@ -11,6 +12,7 @@ use crate::line::Line;
 use endpoint_core::{ChangeFault, Leaving};
 use filter_db::Place;
 use frame_view::Reason;
+use ip_udp_view::{Addr, Tunnel};
 
 impl Line {
     /// Puts what came of an outlet: its place, and the number of octets that left or the name of the reason why none did;
@@ -34,7 +36,7 @@ impl Line {
     }
 
     /// The same of a local port where so many octets left.
-    #[inline(always)]
+    #[inline]
     pub fn put_local(&mut self, is_first: bool, port: u8, count: usize)
         requires room { length self.old + 77 ≤ 4096 }
         ensures text { self.new ≡ self.old ++ (gap is_first ++ ((codes "p" ++ decimal port) ++ count_text (Ok count))) }
@@ -47,6 +49,26 @@ impl Line {
         self.put_small(port);
         self.put_octet(b'=');
         self.put_number(count as u64);
+    }
+
+    /// The same of a remote endpoint where so many octets left, or none did for a reason.
+    pub fn put_remote(
+        &mut self,
+        is_first: bool,
+        two_tunnels: bool,
+        kind: Tunnel,
+        addr: Addr,
+        count: Result<usize, Reason>,
+    )
+        requires room { length self.old + 77 ≤ 4096 }
+        ensures text { self.new ≡ self.old ++ (gap is_first ++ (place_text two_tunnels (Remote kind addr) ++ count_text count)) }
+        ensures len { length self.new ≤ length self.old + 77 }
+    {
+        if !is_first {
+            self.put_octet(b' ');
+        }
+        self.put_remote_place(two_tunnels, kind, addr);
+        self.put_count(count);
     }
 
     /// Puts that a frame or packet is dropped, and why.
@@ -98,7 +120,7 @@ impl Line {
 }
 
 /// How many octets leave, or why none do.
-#[inline(always)]
+#[inline]
 fn count_of(sent: &Result<Leaving, Reason>) -> Result<usize, Reason>
     ensures { count_text result ≡ sent_text (texts sent.now) }
 {

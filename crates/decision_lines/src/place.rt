@@ -1,5 +1,6 @@
 //! Places in a decision line.
 ghost use Rattle.std.specs.Prelude.{◌≡◌, ◌≤◌, ◌+◌, ◌*◌, ◌++◌, length};
+ghost use Rattle.filter_db.specs.declared.place.Place.TheVariants.{Remote};
 ghost use Rattle.endpoint_core.specs.Text.{place_text, kind_text, addr_text, ip4_text, ip6_text, grouped, hex_octet};
 
 use crate::line::Line;
@@ -19,13 +20,21 @@ impl Line {
                 self.put_octet(b'p');
                 self.put_small(port);
             }
-            Place::Remote(kind, addr) => {
-                if two_tunnels {
-                    self.put_kind(kind);
-                }
-                self.put_addr(addr);
-            }
+            Place::Remote(kind, addr) => self.put_remote_place(two_tunnels, kind, addr),
         }
+    }
+
+    /// Puts the address of a remote endpoint, behind the kind of its tunnel where the segment has two.
+    #[inline(always)]
+    pub(crate) fn put_remote_place(&mut self, two_tunnels: bool, kind: Tunnel, addr: Addr)
+        requires room { length self.old + 55 ≤ 4096 }
+        ensures text { self.new ≡ self.old ++ place_text two_tunnels (Remote kind addr) }
+        ensures len { length self.new ≤ length self.old + 55 }
+    {
+        if two_tunnels {
+            self.put_kind(kind);
+        }
+        self.put_addr(addr);
     }
 
     fn put_kind(&mut self, kind: Tunnel)

@@ -16,7 +16,7 @@ mod sums;
 pub use emission::{Emission, local, local_tag};
 pub use leaving::{Leaving, local_in};
 pub use outer_head::Head;
-pub use remote::{unsent, wrap, wrap_in};
+pub use remote::{put_head, unsent, wrap, wrap_in};
 pub use sums::FrameSums;
 pub use underlay::{
     Hops, PeerRule, Segment, SegmentTunnel, TagRule, TunnelRule, Tunnels, Under, Underlay,

@@ -74,8 +74,10 @@ pub fn wrap_in<'h, 'a>(
     Ok(Leaving::behind(room.as_slice(), frame))
 }
 
-/// Writes the headers of that packet over a head.
-fn put_head(
+/// Writes the headers of that packet over a head: what is sent is the head, and behind it the frame without a tag. The segment
+/// is there and has such a tunnel, and the endpoint has an own address of the family. The sums are those of the frame. Where
+/// nothing is sent, what stands in the head says nothing.
+pub fn put_head(
     under: &Under,
     vid: Vid,
     kind: Tunnel,

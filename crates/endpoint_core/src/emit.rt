@@ -1,8 +1,8 @@
 //! What is sent of a frame at an outlet.
 ghost use Rattle.std.specs.Prelude.{◌≡◌, ◌≤◌, ◌++◌, [], Ok, IfOk, IsSome, IsTrue, unwrap_or};
-ghost use Rattle.filter_db.specs.declared.place.Place.TheVariants.{Local};
+ghost use Rattle.filter_db.specs.declared.place.Place.TheVariants.{Local, Remote};
 ghost use Rattle.encapsulate.specs.Emission.{text};
-ghost use Rattle.encapsulate.specs.Remote.{texts};
+ghost use Rattle.encapsulate.specs.Remote.{text_behind, texts};
 ghost use Rattle.endpoint_state.specs.Held.{settings_of};
 ghost use Rattle.endpoint_state.specs.Settings.{segment_at};
 ghost use Rattle.endpoint_state.specs.Step.{can_leave};
@@ -13,10 +13,13 @@ ghost use Rattle.endpoint_core.specs.Step.{sent_at, outcome_at};
 
 use crate::Outcome;
 use crate::arrival::Came;
-use encapsulate::{Emission, Head, Leaving, local, local_in, local_tag, unsent, wrap, wrap_in};
+use encapsulate::{
+    Emission, Head, Leaving, local, local_in, local_tag, put_head, unsent, wrap, wrap_in,
+};
 use endpoint_state::EndpointState;
 use filter_db::Place;
 use frame_view::{BridgeFrame, Reason, Vid};
+use ip_udp_view::{Addr, Tunnel};
 
 /// What is sent of a frame of a segment at a place where it can leave, its head in a room, or why nothing is.
 #[tactic(auto, unfolding(crate::specs::Arrival::emitted, crate::specs::Arrival::emitted_parts))]
@@ -60,6 +63,32 @@ pub(crate) fn tag_in(
 {
     let egress = state.ports().egress(vid, port).unwrap();
     local_tag(vid, egress, frame)
+}
+
+/// Writes the head of the packet that a frame of a segment is sent in to a remote endpoint, in the tunnel of a kind, over a head,
+/// or tells why none is.
+#[inline(always)]
+#[tactic(auto, unfolding(crate::specs::Arrival::emitted))]
+pub(crate) fn put_head_in(
+    state: &EndpointState,
+    came: &Came,
+    kind: Tunnel,
+    addr: Addr,
+    head: &mut Head,
+) -> Result<(), Reason>
+    requires { IsTrue (can_leave (settings_of state.now) came.now.vid (Remote kind addr)) }
+    ensures { let f = came.now.frame in
+        text_behind head.new.items f result ≡ (sent_at (settings_of state.now) came.now.vid f (Remote kind addr)).sent }
+{
+    put_head(
+        state.under(),
+        came.vid,
+        kind,
+        addr,
+        &came.frame,
+        &came.sums(),
+        head,
+    )
 }
 
 /// What is sent at a local port of the segment.

@@ -1,6 +1,6 @@
 //! The endpoint.
 ghost use Rattle.std.specs.Prelude.{◌≡◌, ◌≤◌, ◌++◌, [], Ok, IfOk, IsSome, IsTrue, length, true, unwrap_or};
-ghost use Rattle.filter_db.specs.declared.place.Place.TheVariants.{Local};
+ghost use Rattle.filter_db.specs.declared.place.Place.TheVariants.{Local, Remote};
 ghost use Rattle.std.specs.FinMap.{entries};
 ghost use Rattle.frame_view.specs.First.{fault_of};
 ghost use Rattle.endpoint_state.specs.Opened.{settings_told};
@@ -11,7 +11,7 @@ ghost use Rattle.endpoint_core.specs.Step.{sent_at, outcome_at, has_two_tunnels}
 ghost use Rattle.endpoint_core.specs.Arrival.{came_at, came_by};
 ghost use Rattle.endpoint_core.specs.Course.{decision_of, IsThere, IsShortFrame, CanLeave, IsEmptied};
 ghost use Rattle.endpoint_core.specs.Course.{AreInParts, IsOfWhatCame};
-ghost use Rattle.encapsulate.specs.Remote.{texts};
+ghost use Rattle.encapsulate.specs.Remote.{text_behind, texts};
 ghost use Rattle.endpoint_state.specs.Settings.{segment_at};
 ghost use Rattle.endpoint_state.specs.Sound.{is_reached};
 ghost use Rattle.endpoint_state.specs.State.{aged};
@@ -20,12 +20,13 @@ ghost use Rattle.endpoint_state.specs.Step.{can_leave};
 use crate::arrival::{Came, come_at, come_by};
 use crate::counts::Counts;
 use crate::decide::decide;
-use crate::emit::{emit_in, tag_in};
+use crate::emit::{emit_in, put_head_in, tag_in};
 use crate::{Course, Decision};
 use encapsulate::{Head, Leaving};
 use endpoint_state::{Change, ChangeFault, EndpointState};
 use filter_db::{Entry, Place};
 use frame_view::{Mac, Reason, Vid};
+use ip_udp_view::{Addr, Tunnel};
 use overlay_settings::Settings;
 use std::alloc::{AllocError, Global};
 use std::marker::Model;
@@ -217,6 +218,25 @@ impl Endpoint {
             result ≡ (outcome_at S came.now.vid came.now.frame place).sent }
     {
         emit_in(&self.state, came, place, room)
+    }
+
+    /// Writes the head of the packet in which a frame goes to a remote endpoint where it can leave, in its segment's tunnel of a
+    /// kind, over a head. Behind it stand the frame's addresses and its body.
+    ///
+    /// `TooBig`, `InnerTagOut`: nothing is sent there, and what stands in the head says nothing.
+    #[inline(always)]
+    pub fn put_head(
+        &self,
+        came: &Came,
+        kind: Tunnel,
+        addr: Addr,
+        head: &mut Head,
+    ) -> Result<(), Reason>
+        requires { IsTrue (can_leave (state_of self.now).bridges.settings came.now.vid (Remote kind addr)) }
+        ensures { let f = came.now.frame in
+            text_behind head.new.items f result ≡ (sent_at (state_of self.now).bridges.settings came.now.vid f (Remote kind addr)).sent }
+    {
+        put_head_in(&self.state, came, kind, addr, head)
     }
 
     /// The tag that a frame leaves with at a local port where it can leave, if it leaves with one. In front of it stand the

@@ -1,11 +1,10 @@
 //! What comes of one event, put to the outputs of a run.
 ghost use Rattle.std.specs.Prelude.{◌≡◌, ◌≢◌, ◌≤◌, ◌<◌, ◌+◌, ◌++◌, ℕ, List, Option, Some, None, [], Bool, IsSome, IsTrue, OnOk, length, map, slice_index_or, unwrap_or};
 ghost use Rattle.std.specs.List.{list_all};
-ghost use Rattle.pcap_io.specs.Record.{last_moment};
+ghost use Rattle.pcap_io.specs.Record.{last_moment, longest};
 ghost use Rattle.pcap_io.specs.Written.{whole_frame, written_record};
-ghost use Rattle.pcap_stream.specs.Sink.{Drain, IsPut};
-ghost use Rattle.encapsulate.specs.Emission.{text};
-ghost use Rattle.filter_db.specs.declared.place.Place.TheVariants.{Local};
+ghost use Rattle.pcap_stream.specs.Sink.{Drain};
+ghost use Rattle.filter_db.specs.declared.place.Place.TheVariants.{Local, Remote};
 ghost use Rattle.endpoint_state.specs.Settings.{segment_at};
 ghost use Rattle.endpoint_state.specs.Step.{can_leave};
 ghost use Rattle.endpoint_core.specs.Course.{CanLeave, IsShortFrame, IsThere, decision_of};
@@ -22,10 +21,11 @@ ghost use Rattle.stream_run.specs.Stage.{Drains, Lead, StandAt, drains};
 
 use crate::fault::Target;
 use decision_lines::{Desk, Line};
-use encapsulate::{Head, Leaving};
+use encapsulate::Head;
 use endpoint_core::{Came, Course, Endpoint};
 use filter_db::Place;
-use pcap_stream::{Output, Sink, WriteFault};
+use ip_udp_view::{Addr, Tunnel};
+use pcap_stream::{Output, Sink};
 use timeline::Event;
 
 /// Puts a record with a frame's addresses, a tag and the frame's body into the capture of a port, where there is one of this
@@ -68,28 +68,22 @@ fn octets_of(tag: &Option<[u8; 4]>) -> &[u8]
     }
 }
 
-/// Puts a record with what leaves into a capture.
-fn put_leaving<W: Output>(
+/// Puts a record with a head, a frame's addresses and its body into the capture of the underlay.
+#[inline(always)]
+fn put_out<W: Output>(
     sink: &mut Sink<W>,
     moment: u64,
-    leaving: &Leaving,
-) -> Result<(), WriteFault>
+    head: &[u8],
+    addresses: &[u8],
+    body: &[u8],
+) -> Result<(), Target>
     requires moment { moment ≤ last_moment }
-    requires short { length leaving.now.body ≤ 65549 }
-    ensures { IsPut sink.old sink.new (written_record (whole_frame moment (text leaving.now))) result }
-{
-    let [head, addresses, tag, body] = leaving.parts();
-    sink.put(moment, head, addresses, tag, body)
-}
-
-/// Puts a record with what leaves into the capture of the underlay.
-fn put_out<W: Output>(sink: &mut Sink<W>, moment: u64, leaving: &Leaving) -> Result<(), Target>
-    requires moment { moment ≤ last_moment }
-    requires short { length leaving.now.body ≤ 65549 }
+    requires size { length head.now + length addresses.now + length body.now ≤ longest }
     ensures { (start : Drains) (o : Outputs) (ports : List Drain) (written : Option (List ℕ)) (failures : ℕ) → StandAt start (drains ports sink.old written failures) o
-        → Lead start (drains ports sink.new written failures) o (record o { underlay = o.underlay ++ written_record (whole_frame moment (text leaving.now)) }) result }
+        → Lead start (drains ports sink.new written failures) o
+        (record o { underlay = o.underlay ++ written_record (whole_frame moment (head.now ++ (addresses.now ++ ([] ++ body.now)))) }) result }
 {
-    match put_leaving(sink, moment, leaving) {
+    match sink.put(moment, head, addresses, &[], body) {
         Ok(()) => Ok(()),
         Err(_) => Err(Target::Underlay),
     }
@@ -131,37 +125,43 @@ fn put_local<W: Output>(
     Ok(())
 }
 
-/// Puts what leaves of a frame at a remote endpoint, if something does, and tells it in a line. Apart from local ports, because
-/// only here is room made for it.
+/// Puts what leaves of a frame for a remote endpoint, if something does, and tells it in a line.
 #[inline(always)]
 fn put_remote<W: Output>(
     underlay_sink: &mut Sink<W>,
     endpoint: &Endpoint,
     moment: u64,
     came: &Came,
-    place: &Place,
+    kind: Tunnel,
+    addr: Addr,
     is_first: bool,
     head: &mut Head,
     line: &mut Line,
 ) -> Result<(), Target>
     requires moment { moment ≤ last_moment }
     requires there { IsSome (segment_at (state_of endpoint.now).bridges.settings came.now.vid) }
-    requires leave { IsTrue (can_leave (state_of endpoint.now).bridges.settings came.now.vid place.now) }
+    requires leave { IsTrue (can_leave (state_of endpoint.now).bridges.settings came.now.vid (Remote kind addr)) }
     requires short { length came.now.frame.body ≤ 65549 }
-    requires remote { (port : ℕ) → place.now ≢ Local port }
     requires room { length line.old + 77 ≤ 4096 }
     ensures sent { let S = (state_of endpoint.now).bridges.settings in
         (start : Drains) (o : Outputs) (ports : List Drain) (written : Option (List ℕ)) (failures : ℕ) → StandAt start (drains ports underlay_sink.old written failures) o
-        → Lead start (drains ports underlay_sink.new written failures) o (with_sent moment o (sent_at S came.now.vid came.now.frame place.now)) result }
+        → Lead start (drains ports underlay_sink.new written failures) o (with_sent moment o (sent_at S came.now.vid came.now.frame (Remote kind addr))) result }
     ensures line { let S = (state_of endpoint.now).bridges.settings in
-        OnOk result (line.new ≡ line.old ++ (gap is_first ++ outcome_text (has_two_tunnels S.overlay came.now.vid) (sent_at S came.now.vid came.now.frame place.now))) }
+        OnOk result (line.new ≡ line.old ++ (gap is_first ++ outcome_text (has_two_tunnels S.overlay came.now.vid) (sent_at S came.now.vid came.now.frame (Remote kind addr)))) }
     ensures len { OnOk result (length line.new ≤ length line.old + 77) }
 {
-    let sent = endpoint.emit(came, *place, head);
-    if let Ok(leaving) = &sent {
-        put_out(underlay_sink, moment, leaving)?;
-    }
-    line.put_outcome(is_first, endpoint.has_two_tunnels(came), *place, &sent);
+    let count = match endpoint.put_head(came, kind, addr, head) {
+        Ok(()) => {
+            let frame = came.frame();
+            let head = head.as_slice();
+            if let Err(target) = put_out(underlay_sink, moment, head, frame.addresses, frame.body) {
+                return Err(target);
+            }
+            Ok(head.len() + frame.addresses.len() + frame.body.len())
+        }
+        Err(reason) => Err(reason),
+    };
+    line.put_remote(is_first, endpoint.has_two_tunnels(came), kind, addr, count);
     Ok(())
 }
 
@@ -194,12 +194,13 @@ fn put_place<W: Output>(
         Place::Local(port) => {
             put_local(port_sinks, endpoint, moment, came, *port, is_first, line)
         }
-        Place::Remote(..) => put_remote(
+        Place::Remote(kind, addr) => put_remote(
             underlay_sink,
             endpoint,
             moment,
             came,
-            place,
+            *kind,
+            *addr,
             is_first,
             head,
             line,

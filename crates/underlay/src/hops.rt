@@ -73,6 +73,7 @@ impl Hops {
     }
 
     /// The exception for an address, where there is one.
+    #[inline(always)]
     pub fn get(&self, addr: Addr) -> Option<Mac>
         ensures { result ≡ get self.now (address addr) }
     {
@@ -95,6 +96,7 @@ impl Hops {
     }
 
     /// The place of an address, or where it would go.
+    #[inline(never)]
     fn search(&self, addr: Addr) -> Result<usize, usize>
         ensures { MatchResult result (IsAt self.now (address addr)) (IsGapFor self.now (address addr)) }
     {

@@ -84,6 +84,7 @@ impl Underlay {
     }
 
     /// The MAC address to send to for an address: a group's own, the exception for the address, or the next hop.
+    #[inline(always)]
     pub fn hop_to(&self, addr: Addr) -> Mac
         ensures { result ≡ hop_to self.now addr }
     {

@@ -1,43 +1,48 @@
-use Rattle.std.proofs.Common.{◌≡◌, ◌≢◌, ◌∙◌, ◌++◌, ap, sym, subst, refl, ℕ, List, Result, Ok, Err}
+use Rattle.std.proofs.Common.{◌≡◌, ◌∙◌, ◌++◌, [], ap, sym, subst, ℕ, List, Result, Ok, Err}
+use Rattle.std.proofs.lemmas.List.{take-append-drop}
+use Rattle.frame_view.specs.Frame.{Frame}
 use Rattle.frame_view.specs.declared.reason.Reason.{Reason}
-use Rattle.pcap_io.specs.Written.{whole_frame, written_record}
-use Rattle.encapsulate.specs.Emission.{text}
-use Rattle.encapsulate.specs.Remote.{texts}
-use Rattle.filter_db.specs.declared.place.Place.{Place}
-use Rattle.filter_db.specs.declared.place.Place.TheVariants.{Local, Remote}
-use Rattle.endpoint_core.specs.Decision.{Sent}
+use Rattle.encapsulate.specs.Emission.{around, text}
+use Rattle.encapsulate.specs.Remote.{text_behind}
+use Rattle.filter_db.specs.declared.place.Place.TheVariants.{Remote}
 use Rattle.endpoint_core.specs.Kept.{state_of}
 use Rattle.endpoint_core.specs.Step.{sent_at}
-use Rattle.capture_run.specs.Outputs.{Outputs}
 use Rattle.capture_run.specs.Writing.{with_sent}
-use Rattle.stream_run.specs.Stage.{StandAt, drains}
+use Rattle.stream_run.specs.Stage.{Lead, StandAt, drains}
 use Rattle.stream_run.proofs.put.put_remote.Goals as goal
-use Rattle.stream_run.proofs.put.put_remote.Goals.{in-Ok+in_ok-put_out, in_default}
+use Rattle.stream_run.proofs.put.put_remote.Goals.{in-Ok+in_default, in-Err}
 
--- what is sent to no local port goes to the underlay
-into_underlay : (place : Place) (moment : ℕ) (o : Outputs) (t : List ℕ) → ((port : ℕ) → place ≢ Local port)
-    → record o { underlay = o.underlay ++ written_record (whole_frame moment t) } ≡ with_sent moment o (record { place = place; sent = Ok t })
-into_underlay (Local port) moment o t remote = absurd (remote port refl)
-into_underlay (Remote kind addr) moment o t remote = refl
+-- a head, the addresses and the body of a frame side by side are the packet that is sent
+packet_sent : (items head addresses : List ℕ) (f v : Frame) (sent : Result (List ℕ) Reason) → head ≡ items → addresses ≡ v.dst ++ v.src → v ≡ f
+    → Ok (text (around items [] f)) ≡ sent → Ok (head ++ (addresses ++ ([] ++ v.body))) ≡ sent
+packet_sent items head addresses f v sent lent front same is =
+    ap (λ h. Ok (h ++ (addresses ++ v.body))) lent
+    ∙ ap (λ a. Ok (items ++ (a ++ v.body))) front
+    ∙ ap (λ (g : Frame). Ok (items ++ ((g.dst ++ g.src) ++ g.body))) same
+    ∙ is
 
--- and what isn't sent goes nowhere
-unsent : (place : Place) (moment : ℕ) (o : Outputs) (reason : Reason) → o ≡ with_sent moment o (record { place = place; sent = Err reason })
-unsent place moment o reason = refl
+pub returns-in-Err-put_out-clause-sent : goal.returns-in-Err-put_out-clause-sent
+returns-in-Err-put_out-clause-sent g c start o ports written failures at =
+    let S = (state_of c.args.endpoint.now).bridges.settings in
+    let f = c.args.came.now.frame in
+    let whole = sent_at S c.args.came.now.vid f (Remote c.args.kind c.args.addr) in
+    let is = packet_sent c.put_head.new.head.items _ _ f _ whole.sent c.as_slice-head.ensures.value (sym (take-append-drop 6 _)) (c.frame.view_is ∙ c.frame-frame.ensures)
+    (ap (text_behind c.put_head.new.head.items f) (sym c.in-Ok.is) ∙ c.put_head.ensures) in
+    subst (λ (s : Result (List ℕ) Reason). Lead {T = Unit {0}} start (drains ports c.put_out.new.sink written failures) o (with_sent c.args.moment o (record { place = Remote c.args.kind c.args.addr; sent = s })) (Err c.in-Err-put_out.target))
+    is (c.in-Err-put_out.ensures start o ports written failures at)
 
 pub returns-clause-sent : goal.returns-clause-sent
 returns-clause-sent g c start o ports written failures at =
     let S = (state_of c.args.endpoint.now).bridges.settings in
-    let whole = sent_at S c.args.came.now.vid c.args.came.now.frame c.args.place.now in
-    elim c.match-sent.branch [
-      | in-Ok+in_ok-put_out w ↦
-          let new = drains ports w.put_out.new.sink written failures in
-          let sent : Ok (text w.in-Ok.leaving) ≡ whole.sent = ap texts (sym w.in-Ok.is) ∙ c.emit-sent.ensures.sent in
-          let stood : StandAt start new (with_sent c.args.moment o (record { place = c.args.place.now; sent = Ok (text w.in-Ok.leaving) })) =
-          subst (StandAt start new) (into_underlay c.args.place.now c.args.moment o (text w.in-Ok.leaving) c.requires.remote) (w.in_ok-put_out.ensures start o ports written failures at) in
-          rw w.underlay_sink-is (subst (λ (s : Result (List _) Reason). StandAt start new (with_sent c.args.moment o (record { place = c.args.place.now; sent = s }))) sent stood)
-      | in_default w ↦
-          let new = drains ports c.args.underlay_sink.now written failures in
-          let sent : Err w.in_default.field-0 ≡ whole.sent = ap texts (sym w.in_default.is) ∙ c.emit-sent.ensures.sent in
-          let stood = subst (StandAt start new) (unsent c.args.place.now c.args.moment o w.in_default.field-0) at in
-          rw w.underlay_sink-is (subst (λ (s : Result (List _) Reason). StandAt start new (with_sent c.args.moment o (record { place = c.args.place.now; sent = s }))) sent stood)
+    let f = c.args.came.now.frame in
+    let whole = sent_at S c.args.came.now.vid f (Remote c.args.kind c.args.addr) in
+    elim c.match-put_head.branch [
+      | in-Ok+in_default w ↦
+          let is = packet_sent c.put_head.new.head.items _ _ f _ whole.sent w.as_slice-head.ensures.value (sym (take-append-drop 6 _)) (w.frame.view_is ∙ w.frame-frame.ensures)
+          (ap (text_behind c.put_head.new.head.items f) (sym w.in-Ok.is) ∙ c.put_head.ensures) in
+          rw w.underlay_sink-is (subst (λ (s : Result (List ℕ) Reason). StandAt start (drains ports w.put_out.new.sink written failures) (with_sent c.args.moment o (record { place = Remote c.args.kind c.args.addr; sent = s })))
+          is (w.in_default.ensures start o ports written failures at))
+      | in-Err w ↦
+          let is : Err w.in-Err.reason ≡ whole.sent = ap (text_behind c.put_head.new.head.items f) (sym w.in-Err.is) ∙ c.put_head.ensures in
+          rw w.underlay_sink-is (subst (λ (s : Result (List ℕ) Reason). StandAt start (drains ports c.args.underlay_sink.now written failures) (with_sent c.args.moment o (record { place = Remote c.args.kind c.args.addr; sent = s }))) is at)
     ]

@@ -1,5 +1,5 @@
 //! What comes of one event, put to the outputs of a run.
-ghost use Rattle.std.specs.Prelude.{◌≡◌, ◌≢◌, ◌≤◌, ◌<◌, ◌+◌, ◌++◌, ℕ, List, Option, Some, None, [], Bool, IsSome, IsTrue, OnOk, length, map, slice_index_or, unwrap_or};
+ghost use Rattle.std.specs.Prelude.{◌≡◌, ◌≤◌, ◌<◌, ◌+◌, ◌++◌, ℕ, List, Option, Some, None, [], Bool, IsSome, IsTrue, OnOk, length, map, slice_index_or, unwrap_or};
 ghost use Rattle.std.specs.List.{list_all};
 ghost use Rattle.pcap_io.specs.Record.{last_moment, longest};
 ghost use Rattle.pcap_io.specs.Written.{whole_frame, written_record};

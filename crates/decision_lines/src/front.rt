@@ -11,6 +11,7 @@ use timeline::{Event, Source, Tap};
 impl Line {
     /// Clears the line and puts what stands before the result: the event's number, its moment, its source, its number
     /// there and the VID of a segment, or a dash for none, each with a space behind.
+    #[inline(always)]
     pub fn begin(&mut self, number: &Counter, event: &Event, segment: Option<Vid>)
         ensures text { self.new ≡ line_front number.now event.now ++ (segment_text segment ++ codes " ") }
         ensures len { length self.new ≤ 74 }

@@ -74,9 +74,11 @@ pub fn wrap_in<'h, 'a>(
     Ok(Leaving::behind(room.as_slice(), frame))
 }
 
-/// Writes the headers of that packet over a head: what is sent is the head, and behind it the frame without a tag. The segment
-/// is there and has such a tunnel, and the endpoint has an own address of the family. The sums are those of the frame. Where
-/// nothing is sent, what stands in the head says nothing.
+/// Writes the headers of the packet in which a frame goes to the remote endpoint at an address, in its segment's tunnel of a
+/// kind, over a head: what is sent is the head, and behind it the frame without a tag. The segment is there and has such a
+/// tunnel, and the endpoint has an own address of the family. The sums are those of the frame.
+///
+/// `TooBig`, `InnerTagOut`: nothing is sent, and what stands in the head says nothing.
 pub fn put_head(
     under: &Under,
     vid: Vid,

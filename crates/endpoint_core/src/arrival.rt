@@ -10,6 +10,7 @@ ghost use Rattle.encapsulate.specs.Sums.{AreSums};
 ghost use Rattle.endpoint_core.specs.Among.{segment_of};
 ghost use Rattle.endpoint_core.specs.Arrival.{came_at, came_by};
 
+use crate::Course;
 use decapsulate::unwrap;
 use encapsulate::FrameSums;
 use filter_db::Place;
@@ -28,9 +29,10 @@ const LONGEST_PACKET: usize = 65_549;
 /// A frame in a segment, and the place that it came from.
 #[derive(Debug, Drop)]
 pub struct Came<'a> {
+    // the frame first: nothing stands unused before it then, and it is made where it lies
+    pub(crate) frame: BridgeFrame<'a>,
     pub(crate) vid: Vid,
     pub(crate) from: Place,
-    pub(crate) frame: BridgeFrame<'a>,
     /// What all packets with the frame share, where it goes to remote endpoints.
     sums: Option<FrameSums>,
 }
@@ -140,7 +142,8 @@ fn computes_sum(addr: Addr, underlay: &Underlay) -> bool {
     }
 }
 
-/// The frame that these octets at a local port are, in its segment; or the first reason, of 1 to 11, why it comes to none.
+/// Sets a course to the frame that these octets at a local port are, in its segment; or to the first reason, of 1 to 11, why
+/// it comes to none. It is written where it lies: a result in its place would be put together and copied.
 #[tactic(auto, unfolding(crate::specs::Arrival::came_at))]
 #[inline(always)]
 pub(crate) fn come_at<'a>(
@@ -148,47 +151,57 @@ pub(crate) fn come_at<'a>(
     port: u8,
     original: u32,
     octets: &'a [u8],
-) -> Result<Came<'a>, Refused>
+    course: &mut Course<'a>,
+)
     requires low { 1 ≤ port }
     requires high { port ≤ length ports.now.ports }
-    ensures value { result ≡ came_at ports.now port original octets.now }
-    ensures there { IfOk result (λ x. has_members ports.now x.vid ≡ true) }
-    ensures from { IfOk result (λ x. x.from ≡ Local port) }
-    ensures short { IfOk result (λ x. length x.frame.body ≤ 65535) }
+    ensures value { course.new ≡ came_at ports.now port original octets.now }
+    ensures there { IfOk course.new (λ x. has_members ports.now x.vid ≡ true) }
+    ensures from { IfOk course.new (λ x. x.from ≡ Local port) }
+    ensures short { IfOk course.new (λ x. length x.frame.body ≤ 65535) }
 {
     if octets.len() > LONGEST_FRAME {
-        return Err(nowhere(Reason::TooLong));
+        *course = Err(nowhere(Reason::TooLong));
+        return;
     }
     if octets.len() < original as usize {
-        return Err(nowhere(Reason::Sliced));
+        *course = Err(nowhere(Reason::Sliced));
+        return;
     }
-    let (vid, frame) = classify(ports, port, octets)?;
-    Ok(Came::at(vid, Place::Local(port), frame))
+    match classify(ports, port, octets) {
+        Ok(entered) => {
+            let (vid, frame) = entered;
+            *course = Ok(Came::at(vid, Place::Local(port), frame));
+        }
+        Err(refused) => *course = Err(refused),
+    }
 }
 
-/// The frame that an outer packet brings, in its segment; or the first reason, of 1 to 3, 5, 6 and 12 to 34, why it brings
-/// none.
+/// Sets a course to the frame that an outer packet brings, in its segment; or to the first reason, of 1 to 3, 5, 6 and 12 to
+/// 34, why it brings none.
 #[tactic(auto, unfolding(crate::specs::Arrival::came_by))]
-pub(crate) fn come_by<'a>(
-    under: &Under,
-    original: u32,
-    octets: &'a [u8],
-) -> Result<Came<'a>, Refused>
+pub(crate) fn come_by<'a>(under: &Under, original: u32, octets: &'a [u8], course: &mut Course<'a>)
     requires { (vid : ℕ) → list_all (λ r. reaches under.now vid r.tunnel r.addr) (flood_at under.now vid) ≡ true }
-    ensures value { result ≡ came_by under.now original octets.now }
-    ensures there { IfOk result (λ x. has_segment under.now x.vid ≡ true) }
-    ensures reached { IfOk result (λ x. is_reached under.now x.vid x.from ≡ true) }
-    ensures short { IfOk result (λ x. length x.frame.body ≤ 65549) }
+    ensures value { course.new ≡ came_by under.now original octets.now }
+    ensures there { IfOk course.new (λ x. has_segment under.now x.vid ≡ true) }
+    ensures reached { IfOk course.new (λ x. is_reached under.now x.vid x.from ≡ true) }
+    ensures short { IfOk course.new (λ x. length x.frame.body ≤ 65549) }
 {
     if octets.len() > LONGEST_PACKET {
-        return Err(nowhere(Reason::TooLong));
+        *course = Err(nowhere(Reason::TooLong));
+        return;
     }
     if octets.len() < original as usize {
-        return Err(nowhere(Reason::Sliced));
+        *course = Err(nowhere(Reason::Sliced));
+        return;
     }
-    let arrived = unwrap(under, octets)?;
-    let (kind, addr) = arrived.from;
-    Ok(Came::at(arrived.vid, Place::Remote(kind, addr), arrived.frame))
+    match unwrap(under, octets) {
+        Ok(arrived) => {
+            let (kind, addr) = arrived.from;
+            *course = Ok(Came::at(arrived.vid, Place::Remote(kind, addr), arrived.frame));
+        }
+        Err(refused) => *course = Err(refused),
+    }
 }
 
 /// A refusal before the segment is known.

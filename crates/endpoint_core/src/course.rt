@@ -1,6 +1,18 @@
 //! Where a frame or a packet goes.
+ghost use Rattle.std.specs.Prelude.{◌≡◌, Err};
+ghost use Rattle.frame_view.specs.declared.reason.Reason.TheVariants.{Runt};
+ghost use Rattle.vlan_ports.specs.Ingress.{nowhere};
+
 use crate::arrival::Came;
-use frame_view::Refused;
+use frame_view::{Reason, Refused};
 
 /// Where a frame or a packet goes: to each place that was put in a list, or nowhere, for this reason.
 pub type Course<'a> = Result<Came<'a>, Refused>;
+
+/// A course before anything came, which is there to be written over: a runt's, in no segment.
+#[inline]
+pub fn unset<'a>() -> Course<'a>
+    ensures { result ≡ Err (nowhere Runt) }
+{
+    Err(Refused::nowhere(Reason::Runt))
+}

@@ -72,7 +72,7 @@ fn forward(
     ensures came { came.new ≡ came.old }
     ensures time { moment_of state.new ≤ now }
 {
-    match state.step(now, came.vid, came.from, &came.frame, places) {
+    match state.step(now, came.vid, &came.from, &came.frame, places) {
         Ok(()) => {
             came.sum_for(places.as_slice(), state.under().settings());
             Ok(())

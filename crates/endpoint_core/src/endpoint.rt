@@ -17,7 +17,7 @@ ghost use Rattle.endpoint_state.specs.Sound.{is_reached};
 ghost use Rattle.endpoint_state.specs.State.{aged};
 ghost use Rattle.endpoint_state.specs.Step.{can_leave};
 
-use crate::arrival::{Came, come_at, come_by};
+use crate::arrival::Came;
 use crate::counts::Counts;
 use crate::decide::decide;
 use crate::emit::{emit_in, put_head_in, tag_in};
@@ -135,7 +135,7 @@ impl Endpoint {
         ensures came { let S = (state_of self.old).bridges.settings in
             IsOfWhatCame (came_at S.ports port original octets.now) result }
     {
-        let mut course = come_at(self.state.ports(), port, original, octets);
+        let mut course = self.frame_from(port, original, octets);
         self.take(now, &mut course, places);
         course
     }
@@ -159,7 +159,7 @@ impl Endpoint {
         ensures came { let S = (state_of self.old).bridges.settings in
             IsOfWhatCame (came_by S.overlay original octets.now) result }
     {
-        let mut course = come_by(self.state.under(), original, octets);
+        let mut course = self.frame_in(original, octets);
         self.take(now, &mut course, places);
         course
     }

@@ -140,15 +140,15 @@ impl EndpointState {
         &mut self,
         now: u64,
         vid: Vid,
-        from: Place,
+        from: &Place,
         frame: &BridgeFrame,
         places: &mut Outlets,
     ) -> Result<(), Reason>
         requires time { moment_of self.old ≤ now }
         requires there { IsSome (segment_at (settings_of self.old) vid) }
-        requires reached { is_reached (settings_of self.old).overlay vid from ≡ true }
-        ensures verdict { put_or places.new.items result ≡ verdict now vid from frame.now (state_at now self.old) }
-        ensures after { state_at now self.new ≡ after_frame now vid from frame.now (state_at now self.old) }
+        requires reached { is_reached (settings_of self.old).overlay vid from.now ≡ true }
+        ensures verdict { put_or places.new.items result ≡ verdict now vid from.now frame.now (state_at now self.old) }
+        ensures after { state_at now self.new ≡ after_frame now vid from.now frame.now (state_at now self.old) }
         ensures leaves { IfOk (put_or places.new.items result) (λ places. IsTrue (list_all (can_leave (settings_of self.old) vid) places)) }
         ensures empty { OnErr result (places.new.items ≡ []) }
         ensures time { moment_of self.new ≤ now }

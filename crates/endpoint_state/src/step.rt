@@ -21,16 +21,16 @@ impl<T: Tables> Parts<T> {
         &mut self,
         now: u64,
         vid: Vid,
-        from: Place,
+        from: &Place,
         frame: &BridgeFrame,
         places: &mut Outlets,
     ) -> Result<(), Reason>
         requires sound { IsSound T.segments self.old }
         requires time { T.moment self.old.tables ≤ now }
         requires there { IsSome (T.segments self.old.tables vid) }
-        requires reached { is_reached self.old.under vid from ≡ true }
-        ensures verdict { put_or places.new.items result ≡ verdict now vid from frame.now (state_of T.segments T.pool now self.old) }
-        ensures after { state_of T.segments T.pool now self.new ≡ after_frame now vid from frame.now (state_of T.segments T.pool now self.old) }
+        requires reached { is_reached self.old.under vid from.now ≡ true }
+        ensures verdict { put_or places.new.items result ≡ verdict now vid from.now frame.now (state_of T.segments T.pool now self.old) }
+        ensures after { state_of T.segments T.pool now self.new ≡ after_frame now vid from.now frame.now (state_of T.segments T.pool now self.old) }
         ensures leaves { IfOk (put_or places.new.items result) (λ places. IsTrue (list_all (can_leave (settings_of T.segments T.pool self.old) vid) places)) }
         ensures empty { OnErr result (places.new.items ≡ []) }
         ensures sound { IsSound T.segments self.new }

@@ -21,7 +21,6 @@ use Rattle.timeline.specs.declared.capture.Opened.{Opened}
 use Rattle.timeline.specs.declared.event.Event.{Event as Happens}
 use Rattle.timeline.specs.declared.event.Happening.{Happening}
 use Rattle.timeline.specs.declared.event.Happening.TheVariants as happenings
-use Rattle.timeline.specs.declared.fault.TimelineFault.{TimelineFault}
 use Rattle.timeline.specs.declared.source.Source.{Source}
 use Rattle.timeline.specs.declared.source.Source.TheVariants as sources
 use Rattle.timeline.specs.declared.source.Tap.{Tap}

@@ -25,7 +25,7 @@ use Rattle.overlay_settings.specs.declared.change.Change.{Change}
 use Rattle.endpoint_core.specs.Event.{frame_at, packet_at}
 use Rattle.capture_run.specs.Outputs.{Outputs, event_of, input_of}
 use Rattle.noninterference.specs.Coming as coming
-use Rattle.noninterference.specs.Coming.{Inputs, IsRunOf, IsTold, IsToldAsItIs, NeverFall, changes_of, is_tap, is_source, from_source, taken_from}
+use Rattle.noninterference.specs.Coming.{Inputs, IsRunOf, IsTold, IsToldAsItIs, NeverFall, changes_of, is_tap, is_source, taken_from}
 use Rattle.noninterference.proofs.Lists.{all-both, all-each, filter-agree, filter-map}
 use Rattle.noninterference.proofs.Merging.{same_source, told_events}
 use Rattle.noninterference.proofs.Turns.{is_tap-itself}

@@ -1,5 +1,5 @@
 -- What comes to a segment: frames of a bounded length, from places with addresses.
-use Rattle.std.proofs.Common.{◌≡◌, ◌≢◌, refl, sym, ap, subst, ℕ, ◌≤◌, arith, List, ◌∷◌, ◌++◌, length, length-append, drop, Option, Some, None, Result, Ok, Err}
+use Rattle.std.proofs.Common.{◌≡◌, ◌≢◌, refl, sym, ap, subst, ℕ, ◌≤◌, arith, List, ◌∷◌, ◌++◌, length, length-append, drop, None, Result, Ok, Err}
 use Rattle.std.specs.List.{concat}
 use Rattle.std.proofs.lemmas.Bool.{ltb-false}
 use Rattle.std.proofs.lemmas.List.{length-drop, length-take}
@@ -7,7 +7,6 @@ use Rattle.header_sums.specs.Octets.{IsText, octets}
 use Rattle.header_sums.proofs.OctetsLemmas.{IsText-drop, IsText-take}
 use Rattle.frame_view.specs.First.{first}
 use Rattle.frame_view.specs.Frame.{Frame, IsFrame, plain}
-use Rattle.frame_view.specs.declared.reason.Reason.{Reason}
 use Rattle.frame_view.specs.declared.reason.Refused.{Refused}
 use Rattle.frame_view.proofs.FirstLemmas.{NothingHolds-from, unless-ok}
 use Rattle.frame_view.proofs.RefusalLemmas.{refused-ok}

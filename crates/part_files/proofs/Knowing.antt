@@ -20,7 +20,7 @@ use Rattle.filter_db.specs.Table.{Table, is_live, nanoseconds, learn}
 use Rattle.filter_db.specs.declared.place.Place.{Place}
 use Rattle.vlan_ports.proofs.PlacesLemmas.{get-insert_at, get-remove_at}
 use Rattle.underlay.specs.Overlay as overlay
-use Rattle.underlay.specs.Overlay.{Overlay, flood_at, flood_in, segment_of, with_flood}
+use Rattle.underlay.specs.Overlay.{flood_at, flood_in, segment_of, with_flood}
 use Rattle.underlay.specs.Settings.{own}
 use Rattle.underlay.specs.declared.segment.Segment.{Segment}
 use Rattle.underlay.specs.declared.settings.Underlay.{Underlay}

@@ -2,5 +2,6 @@ pub mod Aheads
 pub mod Bounds
 pub mod Fetching
 pub mod Parts
+pub mod Records
 pub mod Runs
 mod Blocks

@@ -75,6 +75,43 @@ fn put_head(room: &mut [u8], at: usize, text: &[u8]) -> usize
     put_behind(room, at, text)
 }
 
+/// Overwrites a room of an array's length by the array.
+#[inline(always)]
+fn fill<const N: usize>(room: &mut [u8], octets: &[u8; N])
+    requires { length room.old ≡ N }
+    ensures { room.new ≡ octets.now }
+{
+    let Some(room) = room.as_mut_array::<N>() else {
+        unreachable!()
+    };
+    *room = *octets;
+}
+
+/// The same as [`put_behind`], of an array.
+#[inline(always)]
+fn put_array<const N: usize>(room: &mut [u8], at: usize, octets: &[u8; N]) -> usize
+    requires { at + N ≤ length room.old }
+    ensures end { result ≡ at + N }
+    ensures text { take result room.new ≡ take at room.old ++ octets.now }
+{
+    let end = at + N;
+    fill(&mut room[at..end], octets);
+    end
+}
+
+/// The same of a text that mostly has sixteen octets, as a record's header has.
+#[inline(always)]
+fn put_header(room: &mut [u8], at: usize, text: &[u8]) -> usize
+    requires { at + length text.now ≤ length room.old }
+    ensures end { result ≡ at + length text.now }
+    ensures text { take result room.new ≡ take at room.old ++ text.now }
+{
+    match text.as_array::<RECORD_HEADER_LENGTH>() {
+        Some(header) => put_array(room, at, header),
+        None => put_behind(room, at, text),
+    }
+}
+
 /// The same of a text that mostly has twelve octets, as two addresses have.
 #[inline(always)]
 fn put_addresses(room: &mut [u8], at: usize, text: &[u8]) -> usize
@@ -82,10 +119,10 @@ fn put_addresses(room: &mut [u8], at: usize, text: &[u8]) -> usize
     ensures end { result ≡ at + length text.now }
     ensures text { take result room.new ≡ take at room.old ++ text.now }
 {
-    if text.len() == 12 {
-        return put_behind(room, at, &text[..12]);
+    match text.as_array::<12>() {
+        Some(addresses) => put_array(room, at, addresses),
+        None => put_behind(room, at, text),
     }
-    put_behind(room, at, text)
 }
 
 /// The same of a text that mostly is empty or has four octets, as a tag has.
@@ -98,10 +135,10 @@ fn put_tag(room: &mut [u8], at: usize, text: &[u8]) -> usize
     if text.is_empty() {
         return at;
     }
-    if text.len() == 4 {
-        return put_behind(room, at, &text[..4]);
+    match text.as_array::<4>() {
+        Some(tag) => put_array(room, at, tag),
+        None => put_behind(room, at, text),
     }
-    put_behind(room, at, text)
 }
 
 /// Puts four texts behind the first `at` octets of a room, one behind another, and says where they end.
@@ -118,7 +155,7 @@ pub(crate) fn put_four(
     ensures end { result ≡ at + (length before.now + length head.now + length addresses.now + length tag.now) }
     ensures texts { take result room.new ≡ take at room.old ++ (before.now ++ (head.now ++ (addresses.now ++ tag.now))) }
 {
-    let before_end = put_behind(room, at, before);
+    let before_end = put_header(room, at, before);
     let head_end = put_head(room, before_end, head);
     let addresses_end = put_addresses(room, head_end, addresses);
     put_tag(room, addresses_end, tag)
@@ -143,9 +180,10 @@ pub(crate) fn put_five(
     put_behind(room, front_end, body)
 }
 
-/// Writes a record that holds a whole frame, the four slices side by side.
-#[inline(always)]
-pub fn write_record<W: Output>(
+/// The same as [`write_record`], for a record of any form.
+#[cold]
+#[inline(never)]
+fn write_any<W: Output>(
     output: &mut W,
     moment: u64,
     head: &[u8],
@@ -168,4 +206,63 @@ pub fn write_record<W: Output>(
         return write_five(output, before, head, addresses, tag, body);
     }
     output.write_gathered(before, head, addresses, tag, body)
+}
+
+/// The same, where a copy of the tag goes on: so where the record is of the form that most have, the tag need not stand in
+/// memory.
+#[inline(always)]
+fn write_apart<W: Output>(
+    output: &mut W,
+    moment: u64,
+    head: &[u8],
+    addresses: &[u8],
+    tag: &[u8],
+    body: &[u8],
+) -> Result<(), WriteFault>
+    requires moment { moment ≤ last_moment }
+    requires size { length head.now + length addresses.now + length tag.now + length body.now ≤ longest }
+    ensures ok { OnOk result (Appends (W.written output.old) (W.written output.new)
+        (written_record (whole_frame moment (head.now ++ (addresses.now ++ (tag.now ++ body.now)))))) }
+    ensures err { OnErr result (AppendsPart (W.written output.old) (W.written output.new)
+        (written_record (whole_frame moment (head.now ++ (addresses.now ++ (tag.now ++ body.now)))))) }
+    ensures quiet { OnOk result (W.failures output.new ≡ W.failures output.old) }
+    ensures cause { OnErr result (GoesOnBy 1 (W.failures output.old) (W.failures output.new)) }
+{
+    match tag.as_array::<4>() {
+        Some(tag) => {
+            let tag = *tag;
+            write_any(output, moment, head, addresses, &tag, body)
+        }
+        None => write_any(output, moment, head, addresses, tag, body),
+    }
+}
+
+/// Writes a record that holds a whole frame, the four slices side by side. It takes least where the addresses have twelve
+/// octets and the front is short.
+#[inline(always)]
+pub fn write_record<W: Output>(
+    output: &mut W,
+    moment: u64,
+    head: &[u8],
+    addresses: &[u8],
+    tag: &[u8],
+    body: &[u8],
+) -> Result<(), WriteFault>
+    requires moment { moment ≤ last_moment }
+    requires size { length head.now + length addresses.now + length tag.now + length body.now ≤ longest }
+    ensures ok { OnOk result (Appends (W.written output.old) (W.written output.new)
+        (written_record (whole_frame moment (head.now ++ (addresses.now ++ (tag.now ++ body.now)))))) }
+    ensures err { OnErr result (AppendsPart (W.written output.old) (W.written output.new)
+        (written_record (whole_frame moment (head.now ++ (addresses.now ++ (tag.now ++ body.now)))))) }
+    ensures quiet { OnOk result (W.failures output.new ≡ W.failures output.old) }
+    ensures cause { OnErr result (GoesOnBy 1 (W.failures output.old) (W.failures output.new)) }
+{
+    if let Some(pair) = addresses.as_array::<12>() {
+        if RECORD_HEADER_LENGTH + head.len() + pair.len() + tag.len() <= FRONT {
+            let size = (head.len() + pair.len() + tag.len() + body.len()) as u32;
+            let before = &record_header(moment, size);
+            return output.write_gathered(before, head, pair, tag, body);
+        }
+    }
+    write_apart(output, moment, head, addresses, tag, body)
 }

@@ -1,7 +1,7 @@
 -- Who looks on at a run for whom asks. It states no standard.
 --     Counting      whoever counts, where someone does
 --     Expected, Seen, Ended      an event more, an event with its answer, the end
-use Rattle.std.specs.Prelude.{◌≡◌, Option, Some, None}
+use Rattle.std.specs.Prelude.{Option, Some, None}
 use Rattle.endpoint_core.specs.Step.{State}
 use Rattle.stream_run.specs.Sights.{Due, Sight}
 use Rattle.run_counts.specs.Keeping.{Ends, Expects, Keeping, Sees}

@@ -7,7 +7,7 @@ use Rattle.segment_set.specs.Segments.{Segments, holds}
 use Rattle.endpoint_state.specs.Settings.{Settings}
 use Rattle.endpoint_core.specs.Event.{Event}
 use Rattle.endpoint_core.specs.Step.{State, has_two_tunnels, opened, state_after}
-use Rattle.table_lines.specs.Lines.{entry_line, lines_among, segment_lines, tables_text, vids}
+use Rattle.table_lines.specs.Lines.{entry_line, segment_lines, tables_text, vids}
 use Rattle.segment_shards.specs.Pieces.{state_among}
 use Rattle.segment_shards.proofs.Telling.{moment-kept, settings-kept, tables-kept}
 

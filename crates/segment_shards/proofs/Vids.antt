@@ -18,7 +18,7 @@ use Rattle.ip_udp_view.specs.declared.addr.Addr.{Addr}
 use Rattle.ip_udp_view.specs.declared.addr.Tunnel.{Tunnel}
 use Rattle.vlan_ports.specs.Ports as ports
 use Rattle.vlan_ports.specs.Ports.{Ports, port_at, egress_at}
-use Rattle.vlan_ports.specs.Ingress.{nowhere, within, text_reasons, segment_vid, tag_vid, accepts, reasons, vid_at, frame_in, enters}
+use Rattle.vlan_ports.specs.Ingress.{nowhere, within, text_reasons, tag_vid, accepts, reasons, vid_at, frame_in, enters}
 use Rattle.vlan_ports.proofs.PlacesLemmas.{get-insert_at, get-remove_at}
 use Rattle.underlay.specs.Overlay as overlay
 use Rattle.underlay.specs.Overlay.{Overlay, flooding, segment_by, has_tunnel}

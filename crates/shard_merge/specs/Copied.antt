@@ -1,5 +1,5 @@
 -- What comes of a record that is copied; it serves the contracts of the merge's parts.
-use Rattle.std.specs.Prelude.{◌≡◌, ◌≢◌, ⊤, ◌⊎◌, ℕ, true, List, length, IfSome, IsSome, Option, Some, None, Result, Ok, Err}
+use Rattle.std.specs.Prelude.{◌≡◌, ◌≢◌, ⊤, ◌⊎◌, ℕ, true, List, length, IfSome, IsSome, None, Result, Ok, Err}
 use Rattle.pcap_io.specs.Record.{Record}
 use Rattle.pcap_stream.specs.Sink.{Drain}
 use Rattle.pcap_stream.specs.Source.{Stream, answer, ends_cut, lent}

@@ -1,5 +1,5 @@
 -- The chains of buckets.
-use Rattle.std.proofs.Common.{◌≡◌, ℕ, ◌+◌, ◌*◌, ◌/◌, ◌<◌, ◌≤◌, Bool, true, false, cond, List, [], ◌∷◌, Option, Some, None, nat_eq, refl, sym, ap, ◌∙◌, arith}
+use Rattle.std.proofs.Common.{◌≡◌, ℕ, ◌+◌, ◌*◌, ◌/◌, ◌<◌, ◌≤◌, Bool, true, false, cond, List, [], ◌∷◌, Option, Some, None, nat_eq, sym, ap, ◌∙◌, arith}
 use Rattle.std.proofs.lemmas.List.Sums.{sum_by-cons}
 use Rattle.std.specs.List.{sum_by}
 use Rattle.shared_tables.specs.Pool.{Held}
@@ -44,10 +44,3 @@ few_on_chain vid mac (o ∷ es) =
         let counts : weight (bucket_key (bucket_of vid mac)) (Some e) ≡ 1 = ap (λ b. cond (nat_eq b (bucket_of vid mac)) 1 0) same ∙ ap (λ c. cond c 1 0) (nat_eq_refl (bucket_of vid mac)) in
         omega (arith, counts, at_most (nat_eq (chain_of e.vid e.mac) (chain_of vid mac))))
         (λ no. let none : weight (chain_key (chain_of vid mac)) (Some e) ≡ 0 = ap (λ c. cond c 1 0) no in omega (arith, none))
-
--- ---- new heads
-
--- what is no slot is nothing
-pub only_none : (P : Option ℕ → Type 0) → ((s : ℕ) → P (Some s) → ⊥) → (y : Option ℕ) → P y → y ≡ None
-only_none P h None k = refl
-only_none P h (Some s) k = absurd (h s k)

@@ -6,16 +6,17 @@ use Rattle.std.proofs.lemmas.List.{get_or-set_same, length-set, get_or_past, set
 use Rattle.std.specs.Option.{option_map}
 use Rattle.filter_db.specs.declared.place.Place.{Place}
 use Rattle.shared_tables.specs.declared.slots.Links.{Links}
+use Rattle.shared_tables.specs.declared.threads.Ends.{Ends}
 use Rattle.shared_tables.specs.Pool.{Held}
 use Rattle.shared_tables.specs.declared.share.Share.{Share}
 use Rattle.shared_tables.specs.Bucket.{chain_of}
 use Rattle.shared_tables.specs.Pool.{links_at, entry_at, alone, is_fixed_in, renewed}
-use Rattle.shared_tables.specs.Threads.{HoldsAny, unlinked, pushed_back, pushed_front, ends_without, ends_with, heads_without}
+use Rattle.shared_tables.specs.Threads.{HoldsAny, AreEnds, unlinked, pushed_back, pushed_front, ends_without, ends_with, heads_without}
 use Rattle.shared_tables.specs.Line.{last_of}
 use Rattle.shared_tables.specs.Shared.{chain_key, line_key, IsNow}
-use Rattle.shared_tables.specs.Sound.{IsChain, IsSound, share_at, head_at, line_at, with_line, share_moved, shares_moved, share_written, last_left, rule_of}
+use Rattle.shared_tables.specs.Sound.{IsChain, IsSound, share_at, head_at, line_at, with_line, share_moved, shares_moved, share_written, last_left, HasEndsLeft, rule_of}
 use Rattle.shared_tables.proofs.Threaded.{thread_same, back_over}
-use Rattle.shared_tables.proofs.SoundLemmas.{sound_at, holds_last, holds_more, rules_stay}
+use Rattle.shared_tables.proofs.SoundLemmas.{sound_at, thread_ends, holds_last, holds_more, rules_stay}
 use Rattle.shared_tables.proofs.Entering.{enter_sound}
 use Rattle.shared_tables.proofs.Leaving.{leave_sound, leave_lacks, leave_lt, leave_count}
 use Rattle.shared_tables.proofs.Dropping.{Stays}
@@ -45,6 +46,12 @@ last_is share true true own = refl
 last_is share true false own = refl
 last_is share false true own = refl
 last_is share false false own = refl
+
+line_is : (share : Share) (was fixed : Bool) (own : Links) → line_at (without share was own) fixed ≡ line_at (with_line share was (ends_without (line_at share was) own)) fixed
+line_is share true true own = refl
+line_is share true false own = refl
+line_is share false true own = refl
+line_is share false false own = refl
 
 rule_is : (share : Share) (was fixed : Bool) (own : Links) (s : ℕ) → rule_of (share_moved was fixed own s share) ≡ rule_of share
 rule_is share true true own s = refl
@@ -172,6 +179,14 @@ module _ (es : List (Option Held)) (cs ls : List Links) (heads : List (Option �
       subst (λ o. HoldsAny (set es s (renewed (entry_at es s) place last)) o) (sym last_left_is)
       (subst (λ xs. HoldsAny xs (line_at share' fixed).last) (sym entries_are)
       (holds_more gone s entry' (line_at share' fixed).last lt' (holds_last (line_key v fixed) refl lines' gone _ _ (lines.list fixed) (lines.thread fixed))))
+
+  -- and has both its ends, or neither
+  pub renew_ends : HasEndsLeft (share_at shares v) (is_fixed_in (entry_at es s)) fixed own
+  renew_ends =
+      let lines = left.lined v share' here' in
+      subst (λ (o : Option Held). HasEndsLeft (share_at shares v) (is_fixed_in o) fixed own) (sym k.at_slot)
+      (subst (λ (o : Option Share). HasEndsLeft o was fixed own) (sym k.here)
+      (subst (λ (x : Ends). AreEnds x) (line_is k.share was fixed own) (thread_ends lines' gone (line_key v fixed) _ _ (lines.list fixed) (lines.thread fixed))))
 
   pub renew_rules : map (option_map rule_of) (shares_moved shares v (is_fixed_in (entry_at es s)) fixed own s) ≡ map (option_map rule_of) shares
   renew_rules = ap (map (option_map rule_of)) moved_shares ∙ rules_stay shares v k.share (share_moved was fixed own s k.share) k.here (rule_is k.share was fixed own s)

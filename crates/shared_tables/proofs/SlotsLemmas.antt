@@ -7,15 +7,14 @@ use Rattle.std.proofs.Math.Seq.{map-set_same}
 use Rattle.std.proofs.lemmas.List.Sums.{sum_by-set}
 use Rattle.shared_tables.specs.declared.slots.Slot.{Slot}
 use Rattle.shared_tables.specs.declared.slots.Links.{Links}
-use Rattle.shared_tables.specs.declared.slots.Near.{Near}
 use Rattle.shared_tables.specs.declared.slots.Kind.{Kind}
 use Rattle.shared_tables.specs.declared.slots.Kind.TheVariants as kind
 use Rattle.shared_tables.specs.declared.slots.Thread.{Thread}
 use Rattle.shared_tables.specs.declared.slots.Thread.TheVariants.{Chain, Line}
 use Rattle.filter_db.specs.declared.place.Place.{Place}
 use Rattle.shared_tables.specs.Bucket.{vid_in, mac_in}
-use Rattle.shared_tables.specs.Pool.{Pool, Held, IfHeld, entry_at, links_at, column, with_column, vacancy, free_count, renewed, taken, freed, alone, free_pool}
-use Rattle.shared_tables.specs.Slots.{id_of, links_in, entry_in, entry_by, kind_of, moment_of, chain_of_slot, line_of, slot_with, near_on, pool_with, no_slot, IsAbsent, IsFreeList, IsFreeAll}
+use Rattle.shared_tables.specs.Pool.{Pool, Held, IfHeld, entry_at, links_at, column, with_column, vacancy, free_count, renewed, place_in, taken, freed, alone, free_pool}
+use Rattle.shared_tables.specs.Slots.{entry_in, entry_by, kind_of, moment_of, chain_of_slot, line_of, slot_with, links_on, pool_with, no_slot, IsAbsent, IsFreeList, IsFreeAll}
 
 pub same_pool : {es fs : List (Option Held)} {cs ds ls ms : List Links} (n v : ℕ) → es ≡ fs → cs ≡ ds → ls ≡ ms
     → ◌≡◌ {A = Pool} (record { entries = es; chains = cs; lines = ls; compared = n; visited = v }) (record { entries = fs; chains = ds; lines = ms; compared = n; visited = v })
@@ -26,9 +25,9 @@ read : (xs : List Slot) (i : ℕ) (old : Slot) → i < length xs → old ≡ get
 read xs i old lt is e = get_or-map entry_in xs i old e lt ∙ ap entry_in (sym is)
 
 -- an entry that is there, behind a slot's line
-line_held : (s : Slot) → IsSome (entry_in s) → line_of s ≡ links_in s.line
+line_held : (s : Slot) → IsSome (entry_in s) → line_of s ≡ s.line
 line_held s h = held (entry_in s) h where
-  held : (e : Option Held) → IsSome e → cond (is_some e) (links_in s.line) alone ≡ links_in s.line
+  held : (e : Option Held) → IsSome e → cond (is_some e) s.line alone ≡ s.line
   held (Some e) h = refl
   held None h = cc
 
@@ -36,29 +35,29 @@ held_old : (xs : List Slot) (i : ℕ) (old : Slot) → i < length xs → old ≡
 held_old xs i old lt is held = subst (λ (o : Option Held). IsSome o) (read xs i old lt is None) held
 
 -- what a slot has on a thread
-own_links : (xs : List Slot) (n v i : ℕ) (t : Thread) (old : Slot) → i < length xs → old ≡ get_or xs i old → IsSome (entry_in old) → links_in (near_on t old) ≡ links_at (column t (pool_with xs n v)) i
+own_links : (xs : List Slot) (n v i : ℕ) (t : Thread) (old : Slot) → i < length xs → old ≡ get_or xs i old → IsSome (entry_in old) → links_on t old ≡ links_at (column t (pool_with xs n v)) i
 own_links xs n v i Chain old lt is held = sym (get_or-map chain_of_slot xs i old alone lt ∙ ap chain_of_slot (sym is))
 own_links xs n v i Line old lt is held = sym (line_held old held) ∙ sym (get_or-map line_of xs i old alone lt ∙ ap line_of (sym is))
 
 -- a write of other neighbours
-pub pool-set_links : (xs : List Slot) (n v i : ℕ) (t : Thread) (near : Near) (links : Links) (old : Slot) → i < length xs → old ≡ get_or xs i old → IsSome (entry_in old) → links_in near ≡ links
-    → pool_with (set xs i (slot_with t old near)) n v ≡ with_column t (pool_with xs n v) (set (column t (pool_with xs n v)) i links)
-pool-set_links xs n v i Chain near links old lt is held e =
-    same_pool n v (map-set_same entry_in xs i (slot_with Chain old near) old (ap entry_in is))
-    (map-set chain_of_slot xs i (slot_with Chain old near) ∙ ap (set (map chain_of_slot xs) i) e)
-    (map-set_same line_of xs i (slot_with Chain old near) old (ap line_of is))
-pool-set_links xs n v i Line near links old lt is held e =
-    same_pool n v (map-set_same entry_in xs i (slot_with Line old near) old (ap entry_in is))
-    (map-set_same chain_of_slot xs i (slot_with Line old near) old (ap chain_of_slot is))
-    (map-set line_of xs i (slot_with Line old near) ∙ ap (set (map line_of xs) i) (line_held (slot_with Line old near) held ∙ e))
+pub pool-set_links : (xs : List Slot) (n v i : ℕ) (t : Thread) (links : Links) (old : Slot) → i < length xs → old ≡ get_or xs i old → IsSome (entry_in old)
+    → pool_with (set xs i (slot_with t old links)) n v ≡ with_column t (pool_with xs n v) (set (column t (pool_with xs n v)) i links)
+pool-set_links xs n v i Chain links old lt is held =
+    same_pool n v (map-set_same entry_in xs i (slot_with Chain old links) old (ap entry_in is))
+    (map-set chain_of_slot xs i (slot_with Chain old links))
+    (map-set_same line_of xs i (slot_with Chain old links) old (ap line_of is))
+pool-set_links xs n v i Line links old lt is held =
+    same_pool n v (map-set_same entry_in xs i (slot_with Line old links) old (ap entry_in is))
+    (map-set_same chain_of_slot xs i (slot_with Line old links) old (ap chain_of_slot is))
+    (map-set line_of xs i (slot_with Line old links) ∙ ap (set (map line_of xs) i) (line_held (slot_with Line old links) held))
 
 -- a write of another entry beside the same neighbours
 pub pool-set_entry : (xs : List Slot) (n v i : ℕ) (s old : Slot) → i < length xs → old ≡ get_or xs i old → s.chain ≡ old.chain → s.line ≡ old.line → is_some (entry_in s) ≡ is_some (entry_in old)
     → pool_with (set xs i s) n v ≡ record (pool_with xs n v) { entries = set (map entry_in xs) i (entry_in s) }
 pool-set_entry xs n v i s old lt is chain line same =
     same_pool n v (map-set entry_in xs i s)
-    (map-set_same chain_of_slot xs i s old (ap links_in chain ∙ ap chain_of_slot is))
-    (map-set_same line_of xs i s old (ap (λ l. cond (is_some (entry_in s)) (links_in l) alone) line ∙ ap (λ b. cond b (links_in old.line) alone) same ∙ ap line_of is))
+    (map-set_same chain_of_slot xs i s old (chain ∙ ap chain_of_slot is))
+    (map-set_same line_of xs i s old (ap (λ l. cond (is_some (entry_in s)) l alone) line ∙ ap (λ b. cond b old.line alone) same ∙ ap line_of is))
 
 -- a whole slot written
 pub pool-set : (xs : List Slot) (n v i : ℕ) (s : Slot)
@@ -82,7 +81,7 @@ module _ (xs : List Slot) where
         subst (λ n. j < n) (sym (length-set xs i s)) h.1,
         ap entry_in at_j ∙ h.2,
         h.3,
-        subst (λ (o : Option ℕ). IsFreeList (set xs i s) o is) (ap (λ (t : Slot). id_of t.line.next) (sym at_j)) (kept_list i s is _ a.1 h.4),
+        subst (λ (o : Option ℕ). IsFreeList (set xs i s) o is) (ap (λ (t : Slot). t.line.next) (sym at_j)) (kept_list i s is _ a.1 h.4),
       )
 
   -- how many are free after a write
@@ -107,7 +106,7 @@ module _ (xs : List Slot) where
   }
 
   -- an entry goes
-  pub frees : (i : ℕ) (s : Slot) (f : Option ℕ) (is : List ℕ) → i < length xs → IsSome (entry_in (get_or xs i no_slot)) → entry_in s ≡ None → id_of s.line.next ≡ f → IsFreeAll xs f is → IsFreeAll (set xs i s) (Some i) (i ∷ is)
+  pub frees : (i : ℕ) (s : Slot) (f : Option ℕ) (is : List ℕ) → i < length xs → IsSome (entry_in (get_or xs i no_slot)) → entry_in s ≡ None → s.line.next ≡ f → IsFreeAll xs f is → IsFreeAll (set xs i s) (Some i) (i ∷ is)
   frees i s f is lt held none next h =
       let off : IsAbsent i is = off_list i held is f h.list in
       let at_i : get_or (set xs i s) i no_slot ≡ s = get_or-set_same xs i s no_slot lt in
@@ -117,14 +116,14 @@ module _ (xs : List Slot) where
           subst (λ n. i < n) (sym (length-set xs i s)) lt,
           ap entry_in at_i ∙ none,
           off,
-          subst (λ (o : Option ℕ). IsFreeList (set xs i s) o is) (sym (ap (λ (t : Slot). id_of t.line.next) at_i ∙ next)) (kept_list i s is f off h.list),
+          subst (λ (o : Option ℕ). IsFreeList (set xs i s) o is) (sym (ap (λ (t : Slot). t.line.next) at_i ∙ next)) (kept_list i s is f off h.list),
         );
         all = omega (arith, h.all, counted i s lt, vacancy_some _ held, ap vacancy none);
         few = omega (arith, h.few, length-set xs i s);
       }
 
   -- an entry comes
-  pub takes : (i : ℕ) (s : Slot) (is : List ℕ) → IsSome (entry_in s) → IsFreeAll xs (Some i) (i ∷ is) → IsFreeAll (set xs i s) (id_of (get_or xs i no_slot).line.next) is
+  pub takes : (i : ℕ) (s : Slot) (is : List ℕ) → IsSome (entry_in s) → IsFreeAll xs (Some i) (i ∷ is) → IsFreeAll (set xs i s) (get_or xs i no_slot).line.next is
   takes i s is some h = record {
     list = kept_list i s is _ h.list.3 h.list.4;
     all = omega (arith, h.all, counted i s h.list.1, vacancy_some _ some, ap vacancy h.list.2);
@@ -148,7 +147,7 @@ module _ (xs : List Slot) (n v i slot : ℕ) (now : Pool) (e : pool_with xs n v 
   pub entry_read : (old : Slot) → old ≡ get_or xs i old → slot < length now.entries → entry_in old ≡ entry_at now.entries slot
   entry_read old is lt = sym (read xs i old (in_range lt) is None) ∙ forth (λ w s. entry_at (map entry_in xs) i ≡ entry_at w.entries s) refl
 
-  pub links_read : (t : Thread) (old : Slot) → old ≡ get_or xs i old → slot < length now.entries → IsSome (entry_at now.entries slot) → links_in (near_on t old) ≡ links_at (column t now) slot
+  pub links_read : (t : Thread) (old : Slot) → old ≡ get_or xs i old → slot < length now.entries → IsSome (entry_at now.entries slot) → links_on t old ≡ links_at (column t now) slot
   links_read t old is lt h =
       own_links xs n v i t old (in_range lt) is (held_old xs i old (in_range lt) is (back (λ w s. IsSome (entry_at w.entries s)) h)) ∙ forth (λ w s. links_at (column t (pool_with xs n v)) i ≡ links_at (column t w) s) refl
 
@@ -170,6 +169,13 @@ pool-renew xs n v i place last s old lt is chain line e =
     pool-set_entry xs n v i s old lt is chain line (ap is_some e ∙ is_some-renewed (entry_in old) place last)
     ∙ ap (λ o. record (pool_with xs n v) { entries = set (map entry_in xs) i o }) (e ∙ ap (λ o. renewed o place last) (sym (read xs i old lt is None)))
 
+-- a write of another moment
+pub pool-see : (xs : List Slot) (n v i last : ℕ) (s old : Slot) → i < length xs → old ≡ get_or xs i old → s.chain ≡ old.chain → s.line ≡ old.line → entry_in s ≡ renewed (entry_in old) (place_in (entry_in old)) (Some last)
+    → pool_with (set xs i s) n v ≡ record (pool_with xs n v) { entries = set (map entry_in xs) i (renewed (entry_at (map entry_in xs) i) (place_in (entry_at (map entry_in xs) i)) (Some last)) }
+pool-see xs n v i last s old lt is chain line e =
+    pool-renew xs n v i (place_in (entry_in old)) (Some last) s old lt is chain line e
+    ∙ ap (λ o. record (pool_with xs n v) { entries = set (map entry_in xs) i (renewed (entry_at (map entry_in xs) i) (place_in o) (Some last)) }) (sym (read xs i old lt is None))
+
 -- the fields of a renewed slot
 pub renewed_entry : (kind : Kind) (key was : ℕ) (before place : Place) (last : Option ℕ) → IsSome (entry_by kind key was before) → entry_by (kind_of last) key (moment_of last) place ≡ renewed (entry_by kind key was before) place last
 renewed_entry kind.Free key was before place last h = cc
@@ -185,20 +191,20 @@ held_by kind.Free key last place vid mac h = cc
 held_by kind.Learned key last place vid mac h = (λ x. x, λ x. x)
 held_by kind.Fixed key last place vid mac h = (λ x. x, λ x. x)
 
-pub slot_with_entry : (t : Thread) (s : Slot) (near : Near) → entry_in (slot_with t s near) ≡ entry_in s
-slot_with_entry Chain s near = refl
-slot_with_entry Line s near = refl
+pub slot_with_entry : (t : Thread) (s : Slot) (links : Links) → entry_in (slot_with t s links) ≡ entry_in s
+slot_with_entry Chain s links = refl
+slot_with_entry Line s links = refl
 
 -- a slot that an entry takes, and one that it leaves
-pub pool-taken : (xs : List Slot) (n v i : ℕ) (s : Slot) (e : Held) → entry_in s ≡ Some e → links_in s.chain ≡ alone → links_in s.line ≡ alone → pool_with (set xs i s) n v ≡ taken (pool_with xs n v) i e
+pub pool-taken : (xs : List Slot) (n v i : ℕ) (s : Slot) (e : Held) → entry_in s ≡ Some e → s.chain ≡ alone → s.line ≡ alone → pool_with (set xs i s) n v ≡ taken (pool_with xs n v) i e
 pool-taken xs n v i s e entry chain line =
     pool-set xs n v i s
-    ∙ same_pool n v (ap (set (map entry_in xs) i) entry) (ap (set (map chain_of_slot xs) i) chain) (ap (set (map line_of xs) i) (ap (λ o. cond (is_some o) (links_in s.line) alone) entry ∙ line))
+    ∙ same_pool n v (ap (set (map entry_in xs) i) entry) (ap (set (map chain_of_slot xs) i) chain) (ap (set (map line_of xs) i) (ap (λ o. cond (is_some o) s.line alone) entry ∙ line))
 
-pub pool-freed : (xs : List Slot) (n v i : ℕ) (s : Slot) → entry_in s ≡ None → links_in s.chain ≡ alone → pool_with (set xs i s) n v ≡ freed (pool_with xs n v) i
+pub pool-freed : (xs : List Slot) (n v i : ℕ) (s : Slot) → entry_in s ≡ None → s.chain ≡ alone → pool_with (set xs i s) n v ≡ freed (pool_with xs n v) i
 pool-freed xs n v i s entry chain =
     pool-set xs n v i s
-    ∙ same_pool n v (ap (set (map entry_in xs) i) entry) (ap (set (map chain_of_slot xs) i) chain) (ap (set (map line_of xs) i) (ap (λ o. cond (is_some o) (links_in s.line) alone) entry))
+    ∙ same_pool n v (ap (set (map entry_in xs) i) entry) (ap (set (map chain_of_slot xs) i) chain) (ap (set (map line_of xs) i) (ap (λ o. cond (is_some o) s.line alone) entry))
 
 -- what the free list says where a slot is taken
 pub not_empty : (xs : List Slot) (f : Option ℕ) (is : List ℕ) → IsFreeAll xs f is → 0 < free_count (map entry_in xs) → f ≡ None → ⊥
@@ -224,15 +230,15 @@ first_taken xs f i (j ∷ is) h e =
 -- a free slot, with another behind it on the free list
 pub record IsVacant (s : Slot) (next : Option ℕ) : Type 0 where
   pub entry : entry_in s ≡ None
-  pub chain : links_in s.chain ≡ alone
-  pub next_is : id_of s.line.next ≡ next
+  pub chain : s.chain ≡ alone
+  pub next_is : s.line.next ≡ next
 
 pub pool-push : (xs : List Slot) (n : ℕ) (s : Slot) (next : Option ℕ) → IsVacant s next → pool_with xs 0 0 ≡ free_pool n → pool_with (xs ++ s ∷ []) 0 0 ≡ free_pool (n + 1)
 pool-push xs n s next is e =
     same_pool 0 0
     (map-append entry_in xs (s ∷ []) ∙ ap (λ o. map entry_in xs ++ o ∷ []) is.entry ∙ ap (λ (p : Pool). p.entries ++ None ∷ []) e ∙ replicate-append-replicate n 1 None)
     (map-append chain_of_slot xs (s ∷ []) ∙ ap (λ l. map chain_of_slot xs ++ l ∷ []) is.chain ∙ ap (λ (p : Pool). p.chains ++ alone ∷ []) e ∙ replicate-append-replicate n 1 alone)
-    (map-append line_of xs (s ∷ []) ∙ ap (λ o. map line_of xs ++ cond (is_some o) (links_in s.line) alone ∷ []) is.entry ∙ ap (λ (p : Pool). p.lines ++ alone ∷ []) e ∙ replicate-append-replicate n 1 alone)
+    (map-append line_of xs (s ∷ []) ∙ ap (λ o. map line_of xs ++ cond (is_some o) s.line alone ∷ []) is.entry ∙ ap (λ (p : Pool). p.lines ++ alone ∷ []) e ∙ replicate-append-replicate n 1 alone)
 
 -- the free list is of slots that are there
 free_absent : (xs : List Slot) (is : List ℕ) (f : Option ℕ) → IsFreeList xs f is → IsAbsent (length xs) is
@@ -248,7 +254,7 @@ free_behind xs ys (j ∷ is) f h =
       omega (arith, h.1, length-append xs ys),
       ap entry_in at_j ∙ h.2,
       h.3,
-      subst (λ (o : Option ℕ). IsFreeList (xs ++ ys) o is) (ap (λ (t : Slot). id_of t.line.next) (sym at_j)) (free_behind xs ys is _ h.4),
+      subst (λ (o : Option ℕ). IsFreeList (xs ++ ys) o is) (ap (λ (t : Slot). t.line.next) (sym at_j)) (free_behind xs ys is _ h.4),
     )
 
 pub frees-push : (xs : List Slot) (n : ℕ) (s : Slot) (f : Option ℕ) (is : List ℕ) → IsVacant s f → length xs ≡ n → n < 65536 → IsFreeAll xs f is → IsFreeAll (xs ++ s ∷ []) (Some n) (n ∷ is)
@@ -260,7 +266,7 @@ frees-push xs n s f is vacant size below h =
         omega (arith, size, length-append xs (s ∷ [])),
         ap entry_in at_n ∙ vacant.entry,
         subst (λ k. IsAbsent k is) size (free_absent xs is f h.list),
-        subst (λ (o : Option ℕ). IsFreeList (xs ++ s ∷ []) o is) (sym (ap (λ (t : Slot). id_of t.line.next) at_n ∙ vacant.next_is)) (free_behind xs (s ∷ []) is f h.list),
+        subst (λ (o : Option ℕ). IsFreeList (xs ++ s ∷ []) o is) (sym (ap (λ (t : Slot). t.line.next) at_n ∙ vacant.next_is)) (free_behind xs (s ∷ []) is f h.list),
       );
       all = omega (arith, h.all, ap free_count (map-append entry_in xs (s ∷ [])), ap (λ o. free_count (o ∷ [])) vacant.entry, sum_by-append vacancy (map entry_in xs) (entry_in s ∷ []));
       few = omega (arith, size, below, length-append xs (s ∷ []));

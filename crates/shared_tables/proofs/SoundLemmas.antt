@@ -102,6 +102,13 @@ module _ (key : Option Held → Bool) (none : key None ≡ false) (links : List 
     at [] k = tt
     at (i ∷ is) k = k i (first_on i is)
 
+-- both its ends are there, or neither is
+pub thread_ends : (links : List Links) (es : List (Option Held)) (key : Option Held → Bool) (f l : Option ℕ) (is : List ℕ) → IsThread links es key f l is → is_none f ≡ is_none l
+thread_ends links es key f l is h = ap is_none h.begins ∙ at is ∙ sym (ap is_none h.ends) where
+  at : (is : List ℕ) → is_none (first_of is None) ≡ is_none (last_of is None)
+  at [] = refl
+  at (i ∷ is) = sym (ap is_none (last_of-cons is i))
+
 -- and do so when one more has come
 pub holds_more : (es : List (Option Held)) (s : ℕ) (e : Held) (o : Option ℕ) → s < length es → HoldsAny es o → HoldsAny (set es s (Some e)) o
 holds_more es s e None lt h = tt
@@ -164,6 +171,18 @@ has_share shares v h = from (share_at shares v) (subst (λ (o : Option Rule). Is
     from : (o : Option Share) → IsSome (option_map rule_of o) → IsSome o
     from None h = let bad : false ≡ true = h in cc
     from (Some share) h = refl
+
+-- the share of a segment that has room
+pub record IsShare (shares : List (Option Share)) (v : ℕ) : Type 0 where
+  pub share : Share
+  pub here : share_at shares v ≡ Some share
+
+pub share_with_room : (shares : List (Option Share)) (v n : ℕ) → HasRoom (rule_at (map (option_map rule_of) shares) v) n → IsShare shares v
+share_with_room shares v n room = from (share_at shares v) refl (subst (λ (o : Option Rule). HasRoom o n) (get_or-map (option_map rule_of) shares v None) room)
+  where
+    from : (o : Option Share) → share_at shares v ≡ o → HasRoom (option_map rule_of o) n → IsShare shares v
+    from None e h = absurd h
+    from (Some share) e h = record { share = share; here = e }
 
 -- the share of a rule
 pub record HasShare (shares : List (Option Share)) (v : ℕ) (rule : Rule) : Type 0 where

@@ -1,5 +1,6 @@
 pub mod Bucket
 pub mod Line
+pub mod Link
 pub mod Listing
 pub mod Opened
 pub mod Pool

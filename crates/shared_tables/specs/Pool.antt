@@ -5,6 +5,7 @@ use Rattle.shared_tables.specs.declared.slots.Links.{Links}
 use Rattle.shared_tables.specs.declared.slots.Thread.{Thread}
 use Rattle.shared_tables.specs.declared.slots.Thread.TheVariants.{Chain, Line}
 use Rattle.filter_db.specs.declared.place.Place.{Place}
+use Rattle.filter_db.specs.Place.{no_place}
 use Rattle.filter_db.specs.Table.{is_young}
 use Rattle.shared_tables.specs.Bucket.{bucket_of, chain_of}
 
@@ -64,6 +65,11 @@ bucket_in (Some e) = bucket_of e.vid e.mac
 abbrev pub chain_in : Option Held → ℕ
 chain_in None = 0
 chain_in (Some e) = chain_of e.vid e.mac
+
+-- where it stands
+abbrev pub place_in : Option Held → Place
+place_in None = no_place
+place_in (Some e) = e.place
 
 -- a slot holds a fixed entry
 abbrev pub is_fixed_in : Option Held → Bool

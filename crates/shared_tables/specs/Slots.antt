@@ -1,9 +1,8 @@
 -- What the slots stand for, and their free list. It serves proofs.
-use Rattle.std.specs.Prelude.{◌≡◌, ◌≢◌, ℕ, ◌<◌, ◌≤◌, List, [], ◌∷◌, length, map, Option, Some, None, slice_index_or, is_some, nat_eq, if◌then◌else◌}
+use Rattle.std.specs.Prelude.{◌≡◌, ◌≢◌, ℕ, ◌<◌, ◌≤◌, List, [], ◌∷◌, length, map, Option, Some, None, slice_index_or, is_some, if◌then◌else◌}
 use Rattle.filter_db.specs.declared.place.Place.{Place}
 use Rattle.filter_db.specs.Place.{no_place}
 use Rattle.shared_tables.specs.declared.slots.Slot.{Slot}
-use Rattle.shared_tables.specs.declared.slots.Near.{Near}
 use Rattle.shared_tables.specs.declared.slots.Kind.{Kind}
 use Rattle.shared_tables.specs.declared.slots.Kind.TheVariants as kind
 use Rattle.shared_tables.specs.declared.slots.Thread.{Thread}
@@ -12,27 +11,6 @@ use Rattle.shared_tables.specs.declared.slots.Links.{Links}
 use Rattle.shared_tables.specs.declared.slots.Slots.TheInside.{Inside}
 use Rattle.shared_tables.specs.Bucket.{vid_in, mac_in}
 use Rattle.shared_tables.specs.Pool.{Pool, Held, free_count, alone}
-
--- the slot of a number; the greatest of 32 bits is no slot's
-abbrev pub id_of : ℕ → Option ℕ
-id_of number = if nat_eq number 4294967295 then None else Some number
-
--- the number of a slot, or of none
-abbrev pub number_of : Option ℕ → ℕ
-number_of None = 4294967295
-number_of (Some number) = number
-
--- neighbours by their numbers, and the numbers of neighbours
-abbrev pub links_in : Near → Links
-links_in near = record { previous = id_of near.previous; next = id_of near.next }
-
--- neighbours by their numbers
-abbrev pub near_of : Links → Near
-near_of links = record { previous = number_of links.previous; next = number_of links.next }
-
--- nobody beside it
-abbrev pub far : Near
-far = record { previous = 4294967295; next = 4294967295 }
 
 -- what a slot of a kind holds, by its key, its moment and its place
 abbrev pub entry_by : Kind → ℕ → ℕ → Place → Option Held
@@ -56,21 +34,21 @@ moment_of (Some last) = last
 
 -- a slot's neighbours on its chain
 abbrev pub chain_of_slot : Slot → Links
-chain_of_slot slot = links_in slot.chain
+chain_of_slot slot = slot.chain
 
 -- a free slot has no neighbours; its place on the free list is nobody's business
 abbrev pub line_of : Slot → Links
-line_of slot = if is_some (entry_in slot) then links_in slot.line else alone
+line_of slot = if is_some (entry_in slot) then slot.line else alone
 
 -- a slot with other neighbours on a thread
-abbrev pub slot_with : Thread → Slot → Near → Slot
-slot_with Chain slot near = record slot { chain = near }
-slot_with Line slot near = record slot { line = near }
+abbrev pub slot_with : Thread → Slot → Links → Slot
+slot_with Chain slot links = record slot { chain = links }
+slot_with Line slot links = record slot { line = links }
 
--- the neighbours on a thread, as they are kept
-abbrev pub near_on : Thread → Slot → Near
-near_on Chain slot = slot.chain
-near_on Line slot = slot.line
+-- the neighbours on a thread
+abbrev pub links_on : Thread → Slot → Links
+links_on Chain slot = slot.chain
+links_on Line slot = slot.line
 
 -- the slots, column by column
 abbrev pub pool_with : List Slot → ℕ → ℕ → Pool
@@ -88,7 +66,7 @@ pool_of a = pool_with a.slots.items a.compared.total a.visited.total
 
 -- a slot that stands for none
 abbrev pub no_slot : Slot
-no_slot = record { key = 0; last = 0; chain = far; line = far; place = no_place; kind = kind.Free }
+no_slot = record { key = 0; last = 0; chain = alone; line = alone; place = no_place; kind = kind.Free }
 
 -- the slot isn't on the list
 abbrev pub IsAbsent : ℕ → List ℕ → Type 0
@@ -99,7 +77,8 @@ IsAbsent i (j ∷ is) = (j ≢ i) × IsAbsent i is
 abbrev pub IsFreeList : List Slot → Option ℕ → List ℕ → Type 0
 IsFreeList slots first [] = first ≡ None
 IsFreeList slots first (i ∷ is) =
-    (first ≡ Some i) × (i < length slots) × (entry_in (slice_index_or slots i no_slot) ≡ None) × IsAbsent i is × IsFreeList slots (id_of (slice_index_or slots i no_slot).line.next) is
+    (first ≡ Some i) × (i < length slots) × (entry_in (slice_index_or slots i no_slot) ≡ None) × IsAbsent i is
+    × IsFreeList slots (slice_index_or slots i no_slot).line.next is
 
 -- the free list has each free slot, of at most 65,536 slots
 pub record IsFreeAll (slots : List Slot) (first : Option ℕ) (is : List ℕ) : Type 0 where

@@ -7,7 +7,7 @@ use Rattle.shared_tables.specs.declared.slots.Links.{Links}
 use Rattle.shared_tables.specs.declared.threads.Ends.{Ends}
 use Rattle.shared_tables.specs.declared.share.Share.{Share}
 use Rattle.shared_tables.specs.Pool.{free_count}
-use Rattle.shared_tables.specs.Threads.{ends_without, ends_with}
+use Rattle.shared_tables.specs.Threads.{ends_without, ends_with, AreEnds}
 use Rattle.shared_tables.specs.Line.{last_of, IsThread}
 use Rattle.shared_tables.specs.Shared.{Rule, chain_key, line_key, last_at, IsUnique}
 
@@ -48,6 +48,16 @@ abbrev pub CountsSome : Option Share → Type 0
 CountsSome None = ⊥
 CountsSome (Some share) = 0 < share.count
 
+-- a line of the share has both its ends, or neither
+abbrev pub HasEnds : Option Share → Bool → Type 0
+HasEnds None fixed = Unit {0}
+HasEnds (Some share) fixed = AreEnds (line_at share fixed)
+
+-- the share may count one more
+abbrev pub CountsMore : Option Share → Type 0
+CountsMore None = ⊥
+CountsMore (Some share) = share.count < share.limit
+
 -- a share without an entry that had these neighbours on its line
 abbrev pub share_without : Bool → Links → Share → Share
 share_without fixed own share = record (with_line share fixed (ends_without (line_at share fixed) own)) { count = share.count - 1 }
@@ -57,14 +67,22 @@ abbrev pub share_written : List (Option Share) → ℕ → Option Share → List
 share_written shares vid None = shares
 share_written shares vid (Some share) = slice_set shares vid (Some share)
 
--- the shares when one has another line and another count
-abbrev pub shares_with_line : List (Option Share) → ℕ → Bool → Ends → ℕ → List (Option Share)
-shares_with_line shares vid fixed ends count =
-    share_written shares vid (option_map (λ share. record (with_line share fixed ends) { count = count }) (share_at shares vid))
-
 -- the shares when an entry has left its line
 abbrev pub shares_without : List (Option Share) → ℕ → Bool → Links → List (Option Share)
 shares_without shares vid fixed own = share_written shares vid (option_map (share_without fixed own) (share_at shares vid))
+
+-- a share with another entry behind the last of a line
+abbrev pub share_with : Bool → ℕ → Share → Share
+share_with fixed slot share = record (with_line share fixed (ends_with (line_at share fixed) slot)) { count = share.count + 1 }
+
+-- the shares then
+abbrev pub shares_with : List (Option Share) → ℕ → Bool → ℕ → List (Option Share)
+shares_with shares vid fixed slot = share_written shares vid (option_map (share_with fixed slot) (share_at shares vid))
+
+-- the last slot of a line
+abbrev pub last_in : Option Share → Bool → Option ℕ
+last_in None fixed = None
+last_in (Some share) fixed = (line_at share fixed).last
 
 -- a share when an entry that had these neighbours has left one of its lines for the end of the other, or of the same
 abbrev pub share_moved : Bool → Bool → Links → ℕ → Share → Share
@@ -80,6 +98,11 @@ shares_moved shares vid was fixed own slot = share_written shares vid (option_ma
 abbrev pub last_left : Option Share → Bool → Bool → Links → Option ℕ
 last_left None was fixed own = None
 last_left (Some share) was fixed own = (line_at (with_line share was (ends_without (line_at share was) own)) fixed).last
+
+-- that line has both its ends then, or neither
+abbrev pub HasEndsLeft : Option Share → Bool → Bool → Links → Type 0
+HasEndsLeft None was fixed own = Unit {0}
+HasEndsLeft (Some share) was fixed own = AreEnds (line_at (with_line share was (ends_without (line_at share was) own)) fixed)
 
 -- the entries were last seen in this order, from one moment to another
 abbrev pub IsAged : List (Option Held) → ℕ → List ℕ → ℕ → Type 0

@@ -1,5 +1,5 @@
 -- What the steps on a thread do to the slots' links. It serves proofs.
-use Rattle.std.specs.Prelude.{ℕ, ◌<◌, List, length, Option, Some, None, IsSome, IfSome, slice_set, is_none, if◌then◌else◌}
+use Rattle.std.specs.Prelude.{◌≡◌, ℕ, ◌<◌, List, length, Option, Some, None, IsSome, IfSome, slice_set, is_none, if◌then◌else◌}
 use Rattle.shared_tables.specs.declared.slots.Links.{Links}
 use Rattle.shared_tables.specs.Pool.{Held}
 use Rattle.filter_db.specs.declared.place.Place.{Place}
@@ -38,6 +38,10 @@ pushed_back links last slot = next_set (slice_set links slot (record { previous 
 -- with a slot before the first
 abbrev pub pushed_front : List Links → Option ℕ → ℕ → List Links
 pushed_front links first slot = previous_set (slice_set links slot (record { previous = None; next = first })) first (Some slot)
+
+-- both ends are there, or neither is
+abbrev pub AreEnds : Ends → Type 0
+AreEnds ends = is_none ends.first ≡ is_none ends.last
 
 -- the ends without a slot that had these neighbours
 abbrev pub ends_without : Ends → Links → Ends

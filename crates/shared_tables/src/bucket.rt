@@ -22,8 +22,9 @@ fn joined(vid: u16, a: u8, b: u8, c: u8, d: u8, e: u8, f: u8) -> u64
     ensures vid { vid_in result ≡ vid }
     ensures mac { mac_in result ≡ a ∷ b ∷ c ∷ d ∷ e ∷ f ∷ [] }
 {
-    let [high, low] = vid.to_be_bytes();
-    u64::from_be_bytes([high, low, a, b, c, d, e, f])
+    let upper = u64::from(u32::from_be_bytes([a, b, c, d]));
+    let lower = u64::from(u16::from_be_bytes([e, f]));
+    u64::from(vid) * 0x1_0000_0000_0000 + upper * 0x1_0000 + lower
 }
 
 /// A VID and an address as one number.

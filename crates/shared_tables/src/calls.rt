@@ -45,7 +45,7 @@ impl Tables for SharedTables {
         ensures paid { Pays self.old self.new }
     {
         self.count_call();
-        let ageing = self.ageing(vid);
+        let ageing = self.span(vid);
         let chain = chain(vid, mac);
         match self.find(chain, vid, mac) {
             Some(slot) => self.place_if_live(slot, ageing, now),
@@ -75,7 +75,7 @@ impl Tables for SharedTables {
         match self.find(chain, vid, mac) {
             Some(slot) => learning::relearn(self, vid, slot, &place),
             None => {
-                if learning::admit(self, chain, vid, mac, place, Some(now)) {
+                if learning::admit(self, chain, vid, &mac, &place, Some(now)) {
                     Learned::New
                 } else {
                     Learned::Full
@@ -109,7 +109,7 @@ impl Tables for SharedTables {
                 Ok(())
             }
             None => {
-                if learning::admit(self, chain, vid, mac, place, None) {
+                if learning::admit(self, chain, vid, &mac, &place, None) {
                     Ok(())
                 } else {
                     Err(TableFull)

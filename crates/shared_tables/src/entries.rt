@@ -1,11 +1,11 @@
-//! Entries that are renewed, and entries that go.
+//! Entries that come to their segment, entries that are renewed, and entries that go.
 ghost use Rattle.std.specs.Prelude.{◌≡◌, ℕ, ◌<◌, Some, None, Option, IfSome, IsSome, vec_len, is_none, false, slice_set};
-ghost use Rattle.shared_tables.specs.Pool.{Pool, links_at, entry_at, is_fixed_in, chain_in, renewed};
-ghost use Rattle.shared_tables.specs.Threads.{IsHeld, HoldsAny, heads_without, dropped, moved};
-ghost use Rattle.shared_tables.specs.Sound.{share_at, share_moved, CountsSome, shares_without, shares_moved, last_left};
+ghost use Rattle.shared_tables.specs.Pool.{Pool, links_at, entry_at, is_fixed_in, chain_in, renewed, place_in};
+ghost use Rattle.shared_tables.specs.Threads.{IsHeld, HoldsAny, heads_without, dropped, moved, pushed_back};
+ghost use Rattle.shared_tables.specs.Sound.{share_at, share_moved, CountsSome, CountsMore, HasEnds, HasEndsLeft, share_without, shares_without, shares_moved, shares_with, last_left, last_in};
 
 use crate::share::{self, Share};
-use crate::slots::{SlotId, Slots};
+use crate::slots::{Link, SlotId, Slots};
 use crate::threads;
 use filter_db::Place;
 use frame_view::Vid;
@@ -27,33 +27,17 @@ pub fn renew_entry(
     requires there { IsSome (share_at shares.old.items vid) }
     requires last { let e = entry_at slots.old.entries slot in
         HoldsAny (slice_set slots.old.entries slot (renewed e place.now last)) (last_left (share_at shares.old.items vid) (is_fixed_in e) (is_none last) (links_at slots.old.lines slot)) }
+    requires ends { let e = entry_at slots.old.entries slot in
+        HasEndsLeft (share_at shares.old.items vid) (is_fixed_in e) (is_none last) (links_at slots.old.lines slot) }
     ensures pool { let was = is_fixed_in (entry_at slots.old.entries slot) in
         slots.new ≡ moved slots.old slot place.now last (last_left (share_at shares.old.items vid) was (is_none last) (links_at slots.old.lines slot)) }
     ensures shares { let was = is_fixed_in (entry_at slots.old.entries slot) in
         shares.new.items ≡ shares_moved shares.old.items vid was (is_none last) (links_at slots.old.lines slot) slot }
 {
-    if let Some(share) = &mut shares[usize::from(vid.get())] {
-        match last {
-            Some(now) if !slots.is_fixed(slot) => see_in(slots, share, slot, place, now),
-            _ => renew_in(slots, share, slot, place, last),
-        }
-    }
-}
-
-/// The same in the segment's share, of a learned entry that is seen at a moment.
-#[inline(always)]
-fn see_in(slots: &mut Slots, share: &mut Share, slot: SlotId, place: &Place, now: u64)
-    requires held { IsHeld slots.old.entries slot }
-    requires previous { HoldsAny slots.old.entries (links_at slots.old.lines slot).previous }
-    requires next { HoldsAny slots.old.entries (links_at slots.old.lines slot).next }
-    requires last { let e = entry_at slots.old.entries slot in
-        HoldsAny (slice_set slots.old.entries slot (renewed e place.now (Some now))) (last_left (Some share.old) false false (links_at slots.old.lines slot)) }
-    ensures pool { slots.new ≡ moved slots.old slot place.now (Some now) (last_left (Some share.old) false false (links_at slots.old.lines slot)) }
-    ensures share { share.new ≡ share_moved false false (links_at slots.old.lines slot) slot share.old }
-{
-    let ends = threads::leave(slots, share.queue, slot);
-    slots.renew(slot, place, Some(now));
-    share.queue = threads::push_back(slots, ends, slot);
+    let Some(share) = &mut shares[usize::from(vid.get())] else {
+        unreachable!();
+    };
+    renew_in(slots, share, slot, place, last);
 }
 
 /// The same in the segment's share.
@@ -63,24 +47,100 @@ fn renew_in(slots: &mut Slots, share: &mut Share, slot: SlotId, place: &Place, l
     requires next { HoldsAny slots.old.entries (links_at slots.old.lines slot).next }
     requires last { let e = entry_at slots.old.entries slot in
         HoldsAny (slice_set slots.old.entries slot (renewed e place.now last)) (last_left (Some share.old) (is_fixed_in e) (is_none last) (links_at slots.old.lines slot)) }
+    requires ends { let e = entry_at slots.old.entries slot in
+        HasEndsLeft (Some share.old) (is_fixed_in e) (is_none last) (links_at slots.old.lines slot) }
     ensures pool { let was = is_fixed_in (entry_at slots.old.entries slot) in
         slots.new ≡ moved slots.old slot place.now last (last_left (Some share.old) was (is_none last) (links_at slots.old.lines slot)) }
     ensures share { let was = is_fixed_in (entry_at slots.old.entries slot) in
         share.new ≡ share_moved was (is_none last) (links_at slots.old.lines slot) slot share.old }
 {
     let was_fixed = slots.is_fixed(slot);
-    let fixed = last.is_none();
-    let ends = threads::leave(slots, share::line_of(share, was_fixed), slot);
-    share::set_line(share, was_fixed, ends);
+    share::leave_line(slots, share, was_fixed, slot);
     slots.renew(slot, place, last);
-    let ends = threads::push_back(slots, share::line_of(share, fixed), slot);
-    share::set_line(share, fixed, ends);
+    share::join_line(slots, share, last.is_none(), slot);
+}
+
+/// Gives a learned entry of a segment another last moment, at its place. It goes to the end of the age queue.
+#[inline(always)]
+pub fn see_entry(
+    slots: &mut Slots,
+    shares: &mut Vec<Option<Share>>,
+    vid: Vid,
+    slot: SlotId,
+    last: u64,
+)
+    requires held { IsHeld slots.old.entries slot }
+    requires learned { is_fixed_in (entry_at slots.old.entries slot) ≡ false }
+    requires previous { HoldsAny slots.old.entries (links_at slots.old.lines slot).previous }
+    requires next { HoldsAny slots.old.entries (links_at slots.old.lines slot).next }
+    requires shares { vec_len shares.old ≡ 4096 }
+    requires there { IsSome (share_at shares.old.items vid) }
+    requires last { let e = entry_at slots.old.entries slot in
+        let behind = last_left (share_at shares.old.items vid) false false (links_at slots.old.lines slot) in
+        HoldsAny (slice_set slots.old.entries slot (renewed e (place_in e) (Some last))) behind }
+    requires ends { HasEndsLeft (share_at shares.old.items vid) false false (links_at slots.old.lines slot) }
+    ensures pool { let e = entry_at slots.old.entries slot in
+        let behind = last_left (share_at shares.old.items vid) false false (links_at slots.old.lines slot) in
+        slots.new ≡ moved slots.old slot (place_in e) (Some last) behind }
+    ensures shares { shares.new.items ≡ shares_moved shares.old.items vid false false (links_at slots.old.lines slot) slot }
+{
+    let Some(share) = &mut shares[usize::from(vid.get())] else {
+        unreachable!();
+    };
+    see_in(slots, share, slot, last);
+}
+
+/// The same in the segment's share.
+#[inline(always)]
+fn see_in(slots: &mut Slots, share: &mut Share, slot: SlotId, last: u64)
+    requires held { IsHeld slots.old.entries slot }
+    requires learned { is_fixed_in (entry_at slots.old.entries slot) ≡ false }
+    requires previous { HoldsAny slots.old.entries (links_at slots.old.lines slot).previous }
+    requires next { HoldsAny slots.old.entries (links_at slots.old.lines slot).next }
+    requires last { let e = entry_at slots.old.entries slot in
+        let behind = last_left (Some share.old) false false (links_at slots.old.lines slot) in
+        HoldsAny (slice_set slots.old.entries slot (renewed e (place_in e) (Some last))) behind }
+    requires ends { HasEndsLeft (Some share.old) false false (links_at slots.old.lines slot) }
+    ensures pool { let e = entry_at slots.old.entries slot in
+        let behind = last_left (Some share.old) false false (links_at slots.old.lines slot) in
+        slots.new ≡ moved slots.old slot (place_in e) (Some last) behind }
+    ensures share { share.new ≡ share_moved false false (links_at slots.old.lines slot) slot share.old }
+{
+    threads::leave(slots, &mut share.queue, slot);
+    slots.see(slot, last);
+    threads::push_back(slots, &mut share.queue, slot);
+}
+
+/// Puts the slot of a new entry at the end of a line of its segment, which counts it.
+pub fn join_share(
+    slots: &mut Slots,
+    shares: &mut Vec<Option<Share>>,
+    vid: Vid,
+    fixed: bool,
+    slot: SlotId,
+)
+    requires held { IsHeld slots.old.entries slot }
+    requires shares { vec_len shares.old ≡ 4096 }
+    requires room { CountsMore (share_at shares.old.items vid) }
+    requires last { HoldsAny slots.old.entries (last_in (share_at shares.old.items vid) fixed) }
+    requires ends { HasEnds (share_at shares.old.items vid) fixed }
+    ensures pool { let behind = last_in (share_at shares.old.items vid) fixed in
+        slots.new ≡ record slots.old { lines = pushed_back slots.old.lines behind slot } }
+    ensures shares { shares.new.items ≡ shares_with shares.old.items vid fixed slot }
+{
+    let Some(share) = &mut shares[usize::from(vid.get())] else {
+        unreachable!();
+    };
+    prove!(share.count < share.limit);
+    let count = share.count + 1;
+    share::join_line(slots, share, fixed, slot);
+    share.count = count;
 }
 
 /// Takes an entry of a segment off its chain and its line, and frees its slot.
 pub fn drop_entry(
     slots: &mut Slots,
-    heads: &mut Vec<Option<SlotId>>,
+    heads: &mut Vec<Link>,
     shares: &mut Vec<Option<Share>>,
     vid: Vid,
     slot: SlotId,
@@ -99,16 +159,31 @@ pub fn drop_entry(
     ensures shares { let e = entry_at slots.old.entries slot in
         shares.new.items ≡ shares_without shares.old.items vid (is_fixed_in e) (links_at slots.old.lines slot) }
 {
-    match share::share_at(shares, vid) {
-        Some(share) => {
-            let fixed = slots.is_fixed(slot);
-            let chain = slots.chain(slot);
-            let line = share::line_of(&share, fixed);
-            threads::unchain(slots, heads, chain, slot);
-            let ends = threads::leave(slots, line, slot);
-            share::set_line_of(shares, vid, fixed, ends, share.count - 1);
-            slots.free(slot);
-        }
-        None => unreachable!(),
-    }
+    let Some(share) = &mut shares[usize::from(vid.get())] else {
+        unreachable!();
+    };
+    drop_in(slots, heads, share, slot);
+}
+
+/// The same in the segment's share.
+fn drop_in(slots: &mut Slots, heads: &mut Vec<Link>, share: &mut Share, slot: SlotId)
+    requires held { IsHeld slots.old.entries slot }
+    requires chain_previous { HoldsAny slots.old.entries (links_at slots.old.chains slot).previous }
+    requires chain_next { HoldsAny slots.old.entries (links_at slots.old.chains slot).next }
+    requires line_previous { HoldsAny slots.old.entries (links_at slots.old.lines slot).previous }
+    requires line_next { HoldsAny slots.old.entries (links_at slots.old.lines slot).next }
+    requires heads { vec_len heads.old ≡ 65536 }
+    requires counted { 0 < share.old.count }
+    ensures pool { slots.new ≡ dropped slots.old slot }
+    ensures heads { let e = entry_at slots.old.entries slot in
+        heads.new.items ≡ heads_without heads.old.items (chain_in e) (links_at slots.old.chains slot) }
+    ensures share { let e = entry_at slots.old.entries slot in
+        share.new ≡ share_without (is_fixed_in e) (links_at slots.old.lines slot) share.old }
+{
+    let fixed = slots.is_fixed(slot);
+    let chain = slots.chain(slot);
+    threads::unchain(slots, heads, chain, slot);
+    share::leave_line(slots, share, fixed, slot);
+    share.count -= 1;
+    slots.free(slot);
 }

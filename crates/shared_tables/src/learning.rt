@@ -1,9 +1,9 @@
 //! How entries come, stay and go: each step over the slots of one segment.
-ghost use Rattle.std.specs.Prelude.{◌≡◌, ℕ, ◌<◌, ◌≤◌, IsSome, Some, None, Option};
+ghost use Rattle.std.specs.Prelude.{◌≡◌, ℕ, ◌<◌, ◌≤◌, IsSome, Some, None, Option, false};
 ghost use Rattle.shared_tables.specs.Bucket.{chain_of};
-ghost use Rattle.shared_tables.specs.Pool.{entry_at};
+ghost use Rattle.shared_tables.specs.Pool.{entry_at, is_fixed_in};
 ghost use Rattle.shared_tables.specs.Threads.{IsHeld};
-ghost use Rattle.shared_tables.specs.Shared.{rule_at, Lacks, IsNow, span_of, Sweeps, IsOf, Admits, Relearns, Flushes, kept_count};
+ghost use Rattle.shared_tables.specs.Shared.{rule_at, Lacks, IsNow, span_of, Sweeps, IsOf, Admits, Relearns, Refreshes, Flushes, kept_count, stands_at};
 ghost use Rattle.shared_tables.specs.Standing.{Empties};
 
 use crate::SharedTables;
@@ -16,7 +16,7 @@ pub fn sweep(tables: &mut SharedTables, vid: Vid)
     requires { IsSome (rule_at tables.old.rules vid) }
     ensures { Sweeps tables.old tables.new vid (span_of (rule_at tables.old.rules vid)) }
 {
-    let ageing = tables.ageing(vid);
+    let ageing = tables.span(vid);
     while let Some(slot) = tables.oldest(vid) {
         if !tables.dead(slot, ageing) {
             return;
@@ -58,20 +58,22 @@ pub fn fit(tables: &mut SharedTables, vid: Vid, limit: u32)
 }
 
 /// Makes an entry for an address on this chain that no slot holds; false where the segment has no room for it.
+#[inline(always)]
 pub fn admit(
     tables: &mut SharedTables,
     chain: usize,
     vid: Vid,
-    mac: Mac,
-    place: Place,
+    mac: &Mac,
+    place: &Place,
     last: Option<u64>,
 ) -> bool
-    requires chain { chain ≡ chain_of vid mac }
+    requires chain { chain ≡ chain_of vid mac.now }
     requires in_range { chain < 65536 }
     requires rule { IsSome (rule_at tables.old.rules vid) }
-    requires absent { Lacks tables.old.entries vid mac }
+    requires absent { Lacks tables.old.entries vid mac.now }
     requires now { IsNow last tables.old.moment }
-    ensures { Admits tables.old tables.new vid (span_of (rule_at tables.old.rules vid)) (record { vid = vid; mac = mac; place = place; last = last }) result }
+    ensures { let span = span_of (rule_at tables.old.rules vid) in
+        Admits tables.old tables.new vid span (record { vid = vid; mac = mac.now; place = place.now; last = last }) result }
 {
     sweep(tables, vid);
     if tables.kept(vid) >= tables.most(vid) {
@@ -79,6 +81,23 @@ pub fn admit(
     }
     tables.enter(chain, vid, mac, place, last);
     true
+}
+
+/// Gives a learned entry a place, at which it may stand already, and the tables' moment as its last one.
+#[inline(always)]
+fn see_at(tables: &mut SharedTables, vid: Vid, slot: SlotId, place: &Place, stays: bool)
+    requires held { IsOf (entry_at tables.old.entries slot) vid }
+    requires learned { is_fixed_in (entry_at tables.old.entries slot) ≡ false }
+    requires rule { IsSome (rule_at tables.old.rules vid) }
+    requires stays { stays ≡ stands_at place.now (entry_at tables.old.entries slot) }
+    ensures { Refreshes tables.old tables.new slot place.now (Some tables.old.moment) }
+{
+    if stays {
+        tables.see(vid, slot);
+    } else {
+        let now = tables.moment();
+        tables.refresh(vid, slot, place, Some(now));
+    }
 }
 
 /// Learns an address that a slot holds.
@@ -91,11 +110,10 @@ pub fn relearn(tables: &mut SharedTables, vid: Vid, slot: SlotId, place: &Place)
     if tables.is_fixed(slot) {
         return Learned::Fixed;
     }
-    let ageing = tables.ageing(vid);
+    let ageing = tables.span(vid);
     let stays = tables.stands_at(slot, place);
     let dead = tables.dead(slot, ageing);
-    let now = tables.moment();
-    tables.refresh(vid, slot, place, Some(now));
+    see_at(tables, vid, slot, place, stays);
     if dead {
         Learned::New
     } else if stays {

@@ -5,16 +5,16 @@ ghost use Rattle.shared_tables.specs.Opened.{AreOpened};
 
 use crate::bucket::CHAINS;
 use crate::share::{self, Share, VIDS};
-use crate::slots::SlotId;
+use crate::slots::Link;
 use crate::threads::NO_ENDS;
 use filter_db::TableRule;
 use std::alloc::{AllocError, Global};
 
 /// The heads of empty chains.
-pub fn no_heads(alloc: Global) -> Result<Vec<Option<SlotId>>, AllocError>
+pub fn no_heads(alloc: Global) -> Result<Vec<Link>, AllocError>
     ensures { IfOk result (λ v. v.items ≡ replicate 65536 None) }
 {
-    let heads = vec![in alloc; None; CHAINS]?;
+    let heads = vec![in alloc; Link::NONE; CHAINS]?;
     Ok(heads)
 }
 

@@ -1,8 +1,11 @@
 //! What the pool keeps of each segment.
 ghost use Rattle.std.specs.Prelude.{◌≡◌, ℕ, ◌<◌, Some, None, Option, length, slice_set, vec_len};
-ghost use Rattle.shared_tables.specs.Sound.{line_at, with_line, share_at, shares_with_line};
+ghost use Rattle.shared_tables.specs.Pool.{Pool, links_at};
+ghost use Rattle.shared_tables.specs.Threads.{IsHeld, HoldsAny, unlinked, pushed_back, AreEnds, ends_without, ends_with};
+ghost use Rattle.shared_tables.specs.Sound.{line_at, with_line, share_at};
 
-use crate::threads::Ends;
+use crate::slots::{SlotId, Slots};
+use crate::threads::{self, Ends};
 use frame_view::Vid;
 
 /// As many as there are values of 12 bits.
@@ -24,21 +27,34 @@ pub struct Share {
     pub fixed: Ends,
 }
 
-/// The list of the fixed entries, or the age queue.
-pub fn line_of(share: &Share, fixed: bool) -> Ends
-    ensures { result ≡ line_at share.now fixed }
-{
-    if fixed { share.fixed } else { share.queue }
-}
-
-/// Gives a share another line.
-pub fn set_line(share: &mut Share, fixed: bool, ends: Ends)
-    ensures { share.new ≡ with_line share.old fixed ends }
+/// Takes a slot out of the list of the fixed entries, or out of the age queue.
+pub fn leave_line(slots: &mut Slots, share: &mut Share, fixed: bool, slot: SlotId)
+    requires held { IsHeld slots.old.entries slot }
+    requires previous { HoldsAny slots.old.entries (links_at slots.old.lines slot).previous }
+    requires next { HoldsAny slots.old.entries (links_at slots.old.lines slot).next }
+    ensures share { let left = ends_without (line_at share.old fixed) (links_at slots.old.lines slot) in
+        share.new ≡ with_line share.old fixed left }
+    ensures pool { slots.new ≡ record slots.old { lines = unlinked slots.old.lines slot } }
 {
     if fixed {
-        share.fixed = ends;
+        threads::leave(slots, &mut share.fixed, slot);
     } else {
-        share.queue = ends;
+        threads::leave(slots, &mut share.queue, slot);
+    }
+}
+
+/// Puts a slot at the end of the list of the fixed entries, or of the age queue.
+pub fn join_line(slots: &mut Slots, share: &mut Share, fixed: bool, slot: SlotId)
+    requires held { IsHeld slots.old.entries slot }
+    requires last { HoldsAny slots.old.entries (line_at share.old fixed).last }
+    requires ends { AreEnds (line_at share.old fixed) }
+    ensures share { share.new ≡ with_line share.old fixed (ends_with (line_at share.old fixed) slot) }
+    ensures pool { slots.new ≡ record slots.old { lines = pushed_back slots.old.lines (line_at share.old fixed).last slot } }
+{
+    if fixed {
+        threads::push_back(slots, &mut share.fixed, slot);
+    } else {
+        threads::push_back(slots, &mut share.queue, slot);
     }
 }
 
@@ -57,15 +73,4 @@ pub fn set_share(shares: &mut Vec<Option<Share>>, vid: Vid, share: Share)
     ensures in_range { vid < 4096 }
 {
     shares[usize::from(vid.get())] = Some(share);
-}
-
-/// Gives the share of a VID's segment another line and another count, where there is one.
-pub fn set_line_of(shares: &mut Vec<Option<Share>>, vid: Vid, fixed: bool, ends: Ends, count: u32)
-    requires { vec_len shares.old ≡ 4096 }
-    ensures { shares.new.items ≡ shares_with_line shares.old.items vid fixed ends count }
-{
-    if let Some(share) = &mut shares[usize::from(vid.get())] {
-        set_line(share, fixed, ends);
-        share.count = count;
-    }
 }

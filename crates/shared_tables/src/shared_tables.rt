@@ -1,10 +1,10 @@
 //! The tables of all segments in one pool of slots.
-ghost use Rattle.std.specs.Prelude.{◌≡◌, ℕ, ◌+◌, ◌<◌, ◌≤◌, ◌↔◌, IsTrue, IfOk, IfSome, IfNone, IsSome, Some, None, Option, List, All, length, replicate, slice_set};
+ghost use Rattle.std.specs.Prelude.{◌≡◌, ℕ, ◌+◌, ◌<◌, ◌≤◌, ◌↔◌, IsTrue, IfOk, IfSome, IfNone, IsSome, Some, None, Option, List, All, false, length, replicate, slice_set};
 ghost use Rattle.std.specs.List.{sum_by};
 ghost use Rattle.filter_db.specs.declared.tables.TableRule.{TableRule};
 ghost use Rattle.filter_db.specs.Place.{same_place};
 ghost use Rattle.filter_db.specs.Segment.{IsRule, AreForDistinctVids, new_segments};
-ghost use Rattle.shared_tables.specs.Pool.{entry_at, IfHeld, is_dead_in, is_fixed_in};
+ghost use Rattle.shared_tables.specs.Pool.{entry_at, IfHeld, is_dead_in, is_fixed_in, place_in};
 ghost use Rattle.shared_tables.specs.Threads.{IsHeld};
 ghost use Rattle.shared_tables.specs.Shared.{rule_at, Lacks, kept_count, bucket_count, IsNow, HasRoom, Enters, Refreshes, IsOf, span_of, NoneAges, IsOldest, IsOrderly, live_place, with_ageing, DropsPlace, stands_at};
 ghost use Rattle.shared_tables.specs.Segments.{segments_of};
@@ -12,10 +12,10 @@ ghost use Rattle.shared_tables.specs.Bucket.{bucket_of, chain_of};
 ghost use Rattle.shared_tables.specs.Work.{IsPaid};
 
 use crate::chains::find_in;
-use crate::entries::{drop_entry, renew_entry};
+use crate::entries::{drop_entry, join_share, renew_entry, see_entry};
 use crate::opening::{no_heads, open_shares};
 use crate::share::{self, Share};
-use crate::slots::{SlotId, Slots, Thread};
+use crate::slots::{Link, SlotId, Slots, Thread};
 use crate::threads;
 use filter_db::{Place, TableRule};
 use frame_view::{Mac, Vid};
@@ -32,7 +32,7 @@ pub struct SharedTables {
     slots: Slots,
     /// For each chain its first slot: an entry is put before the others when it comes, and leaves when
     /// it goes.
-    heads: Vec<Option<SlotId>>,
+    heads: Vec<Link>,
     /// At the place of each VID the share of its segment.
     shares: Vec<Option<Share>>,
     moment: u64,
@@ -130,28 +130,20 @@ impl SharedTables {
         &mut self,
         chain: usize,
         vid: Vid,
-        mac: Mac,
-        place: Place,
+        mac: &Mac,
+        place: &Place,
         last: Option<u64>,
     )
-        requires chain { chain ≡ chain_of vid mac }
+        requires chain { chain ≡ chain_of vid mac.now }
         requires in_range { chain < 65536 }
         requires room { HasRoom (rule_at self.old.rules vid) (kept_count vid self.old.entries) }
-        requires absent { Lacks self.old.entries vid mac }
+        requires absent { Lacks self.old.entries vid mac.now }
         requires now { IsNow last self.old.moment }
-        ensures { Enters self.old self.new (record { vid = vid; mac = mac; place = place; last = last }) }
+        ensures { Enters self.old self.new (record { vid = vid; mac = mac.now; place = place.now; last = last }) }
     {
-        let fixed = last.is_none();
-        match share::share_at(&self.shares, vid) {
-            Some(share) => {
-                let slot = self.slots.take(vid, mac, place, last);
-                threads::enchain(&mut self.slots, &mut self.heads, chain, slot);
-                let line = share::line_of(&share, fixed);
-                let ends = threads::push_back(&mut self.slots, line, slot);
-                share::set_line_of(&mut self.shares, vid, fixed, ends, share.count + 1);
-            }
-            None => unreachable!(),
-        }
+        let slot = self.slots.take(vid, mac, place, last);
+        threads::enchain(&mut self.slots, &mut self.heads, chain, slot);
+        join_share(&mut self.slots, &mut self.shares, vid, last.is_none(), slot);
     }
 
     /// Gives an entry another place and another last moment, in its slot: it keeps its place on its chain, and goes to
@@ -163,6 +155,16 @@ impl SharedTables {
         ensures { Refreshes self.old self.new slot place.now last }
     {
         renew_entry(&mut self.slots, &mut self.shares, vid, slot, place, last);
+    }
+
+    /// Gives a learned entry the tables' moment as its last one, where it stands: it goes to the end of the age queue.
+    pub(crate) fn see(&mut self, vid: Vid, slot: SlotId)
+        requires held { IsOf (entry_at self.old.entries slot) vid }
+        requires learned { is_fixed_in (entry_at self.old.entries slot) ≡ false }
+        requires rule { IsSome (rule_at self.old.rules vid) }
+        ensures { Refreshes self.old self.new slot (place_in (entry_at self.old.entries slot)) (Some self.old.moment) }
+    {
+        see_entry(&mut self.slots, &mut self.shares, vid, slot, self.moment);
     }
 
     /// Lets an entry go.
@@ -189,7 +191,7 @@ impl SharedTables {
     {
         match share::share_at(&self.shares, vid) {
             Some(share) => share.count,
-            None => 0,
+            None => unreachable!(),
         }
     }
 
@@ -200,7 +202,7 @@ impl SharedTables {
     {
         match share::share_at(&self.shares, vid) {
             Some(share) => share.limit,
-            None => 0,
+            None => unreachable!(),
         }
     }
 
@@ -211,6 +213,18 @@ impl SharedTables {
         match share::share_at(&self.shares, vid) {
             Some(share) => u64::from(share.ageing) * 1_000_000_000,
             None => 0,
+        }
+    }
+
+    /// The ageing of a segment that is there, in nanoseconds.
+    #[inline(always)]
+    pub(crate) fn span(&self, vid: Vid) -> u64
+        requires { IsSome (rule_at self.now.rules vid) }
+        ensures { result ≡ span_of (rule_at self.now.rules vid) }
+    {
+        match share::share_at(&self.shares, vid) {
+            Some(share) => u64::from(share.ageing) * 1_000_000_000,
+            None => unreachable!(),
         }
     }
 
@@ -274,8 +288,8 @@ impl SharedTables {
         ensures some { IfSome result (IsOldest self.now.entries vid) }
     {
         match share::share_at(&self.shares, vid) {
-            Some(share) => share.queue.first,
-            None => None,
+            Some(share) => share.queue.first.slot(),
+            None => unreachable!(),
         }
     }
 
@@ -289,7 +303,7 @@ impl SharedTables {
         };
         let mut cursor = share.queue.first;
         for _entry in 0..share.count {
-            if let Some(slot) = cursor {
+            if let Some(slot) = cursor.slot() {
                 cursor = self.slots.links(Thread::Line, slot).next;
                 if self.slots.place(slot).is_same(place) {
                     drop_entry(

@@ -1,9 +1,9 @@
 //! The slots of a pool. An address is compared, and an entry's age is told, by this module alone.
-ghost use Rattle.std.specs.Prelude.{◌≡◌, ℕ, ◌+◌, ◌<◌, ◌≤◌, ◌↔◌, IsTrue, IfOk, IfSome, IsSome, Some, None, Option, length, replicate, slice_set};
-ghost use Rattle.shared_tables.specs.Pool.{Pool, Held, entry_at, links_at, column, with_column, free_count, chain_in, is_fixed_in, is_dead_in, alone, IfHeld, taken, freed, renewed, free_pool};
+ghost use Rattle.std.specs.Prelude.{◌≡◌, ℕ, ◌+◌, ◌<◌, ◌≤◌, ◌↔◌, IsTrue, IfOk, IfSome, IsSome, Some, None, Option, is_none, false, length, replicate, slice_set};
+ghost use Rattle.shared_tables.specs.Pool.{Pool, Held, entry_at, links_at, column, with_column, free_count, chain_in, is_fixed_in, is_dead_in, alone, IfHeld, taken, freed, renewed, place_in, free_pool};
 ghost use Rattle.filter_db.specs.Place.{same_place};
 ghost use Rattle.shared_tables.specs.Threads.{next_set, previous_set};
-ghost use Rattle.shared_tables.specs.Slots.{id_of, number_of, links_in, near_of, entry_in, kind_of, moment_of, slot_with, near_on};
+ghost use Rattle.shared_tables.specs.Slots.{entry_in, kind_of, moment_of, slot_with, links_on};
 
 use crate::bucket::{chain_by_key, is_key_of, key};
 use filter_db::Place;
@@ -32,12 +32,72 @@ impl Model for SlotId {
     ghost inverse = { λ n. record { number = n } };
 }
 
-/// A slot's neighbours on a thread: None at an end, and on a thread that the slot isn't on.
+/// The number of a slot, if there is one, seen by contracts as that: a word, which says by the greatest number of all
+/// that there is none.
+#[derive(Clone, Copy)]
+pub struct Link {
+    word: u32,
+}
+
+impl Model for Link {
+    ghost use Rattle.std.specs.Prelude.{Option, ℕ};
+    ghost use Rattle.shared_tables.specs.Link.{slot_in, word_of};
+
+    ghost Value = { Option ℕ };
+
+    ghost view = { λ l. slot_in l.word };
+
+    ghost inverse = { λ slot. record { word = word_of slot } };
+}
+
+/// The number of no slot.
+const NOBODY: u32 = u32::MAX;
+
+impl Link {
+    /// No slot.
+    pub const NONE: Link = Link { word: NOBODY };
+
+    /// To a slot.
+    #[inline(always)]
+    pub fn to(slot: SlotId) -> Link
+        ensures { result ≡ Some slot }
+    {
+        Link { word: slot.number }
+    }
+
+    /// The slot, if there is one.
+    #[inline(always)]
+    pub fn slot(self) -> Option<SlotId>
+        ensures { result ≡ self }
+    {
+        if self.word == NOBODY {
+            None
+        } else {
+            Some(SlotId { number: self.word })
+        }
+    }
+
+    /// Whether there is no slot.
+    #[inline(always)]
+    pub fn is_none(self) -> bool
+        ensures { result ≡ is_none self }
+    {
+        self.word == NOBODY
+    }
+}
+
+/// A slot's neighbours on a thread: none at an end, and on a thread that the slot isn't on.
 #[derive(Clone, Copy)]
 pub struct Links {
-    pub previous: Option<SlotId>,
-    pub next: Option<SlotId>,
+    pub previous: Link,
+    pub next: Link,
 }
+
+/// No neighbours.
+const ALONE: Links = Links {
+    previous: Link::NONE,
+    next: Link::NONE,
+};
 
 /// The two threads that run through each slot.
 #[derive(Clone, Copy)]
@@ -59,13 +119,6 @@ pub enum Kind {
     Fixed,
 }
 
-/// A slot's neighbours by their numbers, as they are kept; NOBODY stands for none.
-#[derive(Clone, Copy)]
-pub struct Near {
-    previous: u32,
-    next: u32,
-}
-
 /// A slot. A slot that holds an entry is on the chain of its address, in which the entry that came last stands first,
 /// and on one line of its segment: the age queue, in the order in which the entries were last seen, or the list of the
 /// fixed entries, in the order in which they were fixed. It leaves both when its entry goes. A free slot is on the free
@@ -76,27 +129,18 @@ pub struct Slot {
     key: u64,
     /// The last moment at which the address was seen there; 0 where the entry is fixed.
     last: u64,
-    chain: Near,
-    line: Near,
+    chain: Links,
+    line: Links,
     place: Place,
     kind: Kind,
 }
-
-/// The number of no slot.
-const NOBODY: u32 = u32::MAX;
-
-/// No neighbours.
-const FAR: Near = Near {
-    previous: NOBODY,
-    next: NOBODY,
-};
 
 /// The slots of a pool, and the free ones among them.
 #[derive(Drop)]
 pub struct Slots {
     slots: Vec<Slot>,
     /// The first slot of the free list: the one that was freed last.
-    free: Option<SlotId>,
+    free: Link,
     /// How often an address was compared with a slot's.
     compared: Count,
     /// How often an entry's age was told.
@@ -115,49 +159,6 @@ impl Model for Slots {
     ghost invariant = { HasFreeList };
 }
 
-/// The slot of a number.
-fn slot_id(number: u32) -> Option<SlotId>
-    ensures { result ≡ id_of number }
-{
-    if number == NOBODY {
-        None
-    } else {
-        Some(SlotId { number })
-    }
-}
-
-/// The number of a slot, or of none.
-fn number(slot: Option<SlotId>) -> u32
-    ensures value { result ≡ number_of slot }
-    ensures back { id_of result ≡ slot }
-{
-    match slot {
-        Some(slot) => slot.number,
-        None => NOBODY,
-    }
-}
-
-/// Neighbours by their numbers.
-fn by_numbers(links: Links) -> Near
-    ensures value { result ≡ near_of links }
-    ensures back { links_in result ≡ links }
-{
-    Near {
-        previous: number(links.previous),
-        next: number(links.next),
-    }
-}
-
-/// The neighbours of these numbers.
-fn links_of(near: &Near) -> Links
-    ensures { result ≡ links_in near.now }
-{
-    Links {
-        previous: slot_id(near.previous),
-        next: slot_id(near.next),
-    }
-}
-
 /// The kind of an entry that was last seen at this moment.
 fn kind_of(last: Option<u64>) -> Kind
     ensures { result ≡ kind_of last }
@@ -169,37 +170,18 @@ fn kind_of(last: Option<u64>) -> Kind
 }
 
 /// A free slot, with the next one behind it.
-fn vacant(next: Option<SlotId>) -> Slot
+fn vacant(next: Link) -> Slot
     ensures entry { entry_in result ≡ None }
-    ensures chain { links_in result.chain ≡ alone }
-    ensures next { id_of result.line.next ≡ next }
+    ensures chain { result.chain ≡ alone }
+    ensures next { result.line.next ≡ next }
 {
     Slot {
         key: 0,
         last: 0,
-        chain: FAR,
-        line: Near {
-            previous: NOBODY,
-            next: number(next),
-        },
+        chain: ALONE,
+        line: Links { next, ..ALONE },
         place: Place::Local(0),
         kind: Kind::Free,
-    }
-}
-
-/// A slot that holds an entry.
-fn filled(vid: Vid, mac: Mac, place: Place, last: Option<u64>) -> Slot
-    ensures entry { entry_in result ≡ Some (record { vid = vid; mac = mac; place = place; last = last }) }
-    ensures chain { links_in result.chain ≡ alone }
-    ensures line { links_in result.line ≡ alone }
-{
-    Slot {
-        key: key(vid, mac),
-        last: last.unwrap_or(0),
-        chain: FAR,
-        line: FAR,
-        place,
-        kind: kind_of(last),
     }
 }
 
@@ -252,19 +234,52 @@ fn renew(slot: &mut Slot, place: &Place, last: Option<u64>)
     slot.kind = kind_of(last);
 }
 
-/// Gives it other neighbours on a thread.
-fn set_near(slot: &mut Slot, thread: Thread, near: Near)
-    ensures { slot.new ≡ slot_with thread slot.old near }
+/// Puts an entry into it, on no thread yet.
+#[inline(always)]
+fn fill(slot: &mut Slot, vid: Vid, mac: &Mac, place: &Place, last: Option<u64>)
+    ensures entry { entry_in slot.new ≡ Some (record { vid = vid; mac = mac.now; place = place.now; last = last }) }
+    ensures chain { slot.new.chain ≡ alone }
+    ensures line { slot.new.line ≡ alone }
+{
+    slot.key = key(vid, *mac);
+    slot.chain = ALONE;
+    slot.line = ALONE;
+    slot.place = *place;
+    slot.last = last.unwrap_or(0);
+    slot.kind = kind_of(last);
+}
+
+/// Gives its entry, which was learned, another last moment.
+fn see(slot: &mut Slot, last: u64)
+    requires held { IsSome (entry_in slot.old) }
+    requires learned { is_fixed_in (entry_in slot.old) ≡ false }
+    ensures entry { entry_in slot.new ≡ renewed (entry_in slot.old) (place_in (entry_in slot.old)) (Some last) }
+    ensures chain { slot.new.chain ≡ slot.old.chain }
+    ensures line { slot.new.line ≡ slot.old.line }
+{
+    slot.last = last;
+}
+
+/// Gives it other neighbours on a thread, each written by itself.
+#[inline(always)]
+fn set_links(slot: &mut Slot, thread: Thread, links: Links)
+    ensures { slot.new ≡ slot_with thread slot.old links }
 {
     match thread {
-        Thread::Chain => slot.chain = near,
-        Thread::Line => slot.line = near,
+        Thread::Chain => {
+            slot.chain.previous = links.previous;
+            slot.chain.next = links.next;
+        }
+        Thread::Line => {
+            slot.line.previous = links.previous;
+            slot.line.next = links.next;
+        }
     }
 }
 
 /// Gives it another next one on a thread.
-fn set_next(slot: &mut Slot, thread: Thread, next: u32)
-    ensures { slot.new ≡ slot_with thread slot.old (record (near_on thread slot.old) { next = next }) }
+fn set_next(slot: &mut Slot, thread: Thread, next: Link)
+    ensures { slot.new ≡ slot_with thread slot.old (record (links_on thread slot.old) { next = next }) }
 {
     match thread {
         Thread::Chain => slot.chain.next = next,
@@ -273,8 +288,8 @@ fn set_next(slot: &mut Slot, thread: Thread, next: u32)
 }
 
 /// Gives it another previous one on a thread.
-fn set_previous(slot: &mut Slot, thread: Thread, previous: u32)
-    ensures { slot.new ≡ slot_with thread slot.old (record (near_on thread slot.old) { previous = previous }) }
+fn set_previous(slot: &mut Slot, thread: Thread, previous: Link)
+    ensures { slot.new ≡ slot_with thread slot.old (record (links_on thread slot.old) { previous = previous }) }
 {
     match thread {
         Thread::Chain => slot.chain.previous = previous,
@@ -282,13 +297,20 @@ fn set_previous(slot: &mut Slot, thread: Thread, previous: u32)
     }
 }
 
-/// Its neighbours on a thread.
+/// Its neighbours on a thread, each read by itself.
+#[inline(always)]
 fn links_on(slot: &Slot, thread: Thread) -> Links
-    ensures { result ≡ links_in (near_on thread slot.now) }
+    ensures { result ≡ links_on thread slot.now }
 {
     match thread {
-        Thread::Chain => links_of(&slot.chain),
-        Thread::Line => links_of(&slot.line),
+        Thread::Chain => Links {
+            previous: slot.chain.previous,
+            next: slot.chain.next,
+        },
+        Thread::Line => Links {
+            previous: slot.line.previous,
+            next: slot.line.next,
+        },
     }
 }
 
@@ -299,10 +321,10 @@ impl Slots {
         ensures { IfOk result (λ p. p ≡ free_pool size) }
     {
         let mut slots = Vec::with_capacity(alloc, size as usize)?;
-        let mut free = None;
+        let mut free = Link::NONE;
         for number in 0..size {
             slots.push_reserved(vacant(free));
-            free = Some(SlotId { number });
+            free = Link::to(SlotId { number });
         }
         Ok(Slots {
             slots,
@@ -361,6 +383,7 @@ impl Slots {
     }
 
     /// The slot's neighbours on a thread.
+    #[inline(always)]
     pub fn links(&self, thread: Thread, slot: SlotId) -> Links
         requires in_pool { slot < length self.now.entries }
         requires held { IsSome (entry_at self.now.entries slot) }
@@ -375,7 +398,7 @@ impl Slots {
         requires held { IsSome (entry_at self.now.entries slot) }
         ensures { result ≡ (links_at self.now.chains slot).next }
     {
-        slot_id(self.slots[slot.number as usize].chain.next)
+        self.slots[slot.number as usize].chain.next.slot()
     }
 
     /// Where the slot's entry stands.
@@ -396,50 +419,45 @@ impl Slots {
     }
 
     /// Gives the slot other neighbours on a thread.
+    #[inline(always)]
     pub fn set_links(&mut self, thread: Thread, slot: SlotId, links: Links)
         requires in_pool { slot < length self.old.entries }
         requires held { IsSome (entry_at self.old.entries slot) }
         ensures { self.new ≡ with_column thread self.old (slice_set (column thread self.old) slot links) }
     {
-        set_near(
-            &mut self.slots[slot.number as usize],
-            thread,
-            by_numbers(links),
-        );
+        set_links(&mut self.slots[slot.number as usize], thread, links);
     }
 
     /// Gives the slot another next one on a thread.
-    pub fn set_next(&mut self, thread: Thread, slot: SlotId, next: Option<SlotId>)
+    #[inline(always)]
+    pub fn set_next(&mut self, thread: Thread, slot: SlotId, next: Link)
         requires in_pool { slot < length self.old.entries }
         requires held { IsSome (entry_at self.old.entries slot) }
         ensures { self.new ≡ with_column thread self.old (next_set (column thread self.old) (Some slot) next) }
     {
-        set_next(&mut self.slots[slot.number as usize], thread, number(next));
+        set_next(&mut self.slots[slot.number as usize], thread, next);
     }
 
     /// Gives the slot another previous one on a thread.
-    pub fn set_previous(&mut self, thread: Thread, slot: SlotId, previous: Option<SlotId>)
+    #[inline(always)]
+    pub fn set_previous(&mut self, thread: Thread, slot: SlotId, previous: Link)
         requires in_pool { slot < length self.old.entries }
         requires held { IsSome (entry_at self.old.entries slot) }
         ensures { self.new ≡ with_column thread self.old (previous_set (column thread self.old) (Some slot) previous) }
     {
-        set_previous(
-            &mut self.slots[slot.number as usize],
-            thread,
-            number(previous),
-        );
+        set_previous(&mut self.slots[slot.number as usize], thread, previous);
     }
 
     /// Takes a free slot for an entry.
-    pub fn take(&mut self, vid: Vid, mac: Mac, place: Place, last: Option<u64>) -> SlotId
+    pub fn take(&mut self, vid: Vid, mac: &Mac, place: &Place, last: Option<u64>) -> SlotId
         requires { 0 < free_count self.old.entries }
         ensures free { (result < length self.old.entries) × (entry_at self.old.entries result ≡ None) }
-        ensures pool { self.new ≡ taken self.old result (record { vid = vid; mac = mac; place = place; last = last }) }
+        ensures pool { self.new ≡ taken self.old result (record { vid = vid; mac = mac.now; place = place.now; last = last }) }
     {
-        match self.free {
+        match self.free.slot() {
             Some(slot) => {
-                self.free = slot_id(self.slots[slot.number as usize].line.next);
-                self.slots[slot.number as usize] = filled(vid, mac, place, last);
+                self.free = self.slots[slot.number as usize].line.next;
+                fill(&mut self.slots[slot.number as usize], vid, mac, place, last);
                 slot
             }
             None => unreachable!(),
@@ -455,6 +473,18 @@ impl Slots {
         renew(&mut self.slots[slot.number as usize], place, last);
     }
 
+    /// Gives the slot's entry, which was learned, another last moment.
+    #[inline(always)]
+    pub fn see(&mut self, slot: SlotId, last: u64)
+        requires in_pool { slot < length self.old.entries }
+        requires held { IsSome (entry_at self.old.entries slot) }
+        requires learned { is_fixed_in (entry_at self.old.entries slot) ≡ false }
+        ensures { let e = entry_at self.old.entries slot in
+            self.new ≡ record self.old { entries = slice_set self.old.entries slot (renewed e (place_in e) (Some last)) } }
+    {
+        see(&mut self.slots[slot.number as usize], last);
+    }
+
     /// Frees a slot.
     pub fn free(&mut self, slot: SlotId)
         requires in_pool { slot < length self.old.entries }
@@ -462,6 +492,6 @@ impl Slots {
         ensures { self.new ≡ freed self.old slot }
     {
         self.slots[slot.number as usize] = vacant(self.free);
-        self.free = Some(slot);
+        self.free = Link::to(slot);
     }
 }

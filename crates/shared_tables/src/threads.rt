@@ -1,37 +1,41 @@
 //! Threads through the slots: chains and lines, linked both ways.
-ghost use Rattle.std.specs.Prelude.{◌≡◌, ℕ, ◌<◌, Some, None, Option, length, slice_set, slice_index_or, vec_len};
+ghost use Rattle.std.specs.Prelude.{◌≡◌, ℕ, ◌<◌, Some, None, Option, length, slice_set, slice_index_or, vec_len, is_none, if◌then◌else◌};
 ghost use Rattle.shared_tables.specs.Pool.{Pool, column, with_column, links_at, entry_at};
-ghost use Rattle.shared_tables.specs.Threads.{IsHeld, HoldsAny, next_set, previous_set, unlinked, pushed_back, pushed_front, ends_without, ends_with, heads_without};
+ghost use Rattle.shared_tables.specs.Threads.{IsHeld, HoldsAny, next_set, previous_set, unlinked, pushed_back, pushed_front, AreEnds, ends_without, ends_with, heads_without};
 
-use crate::slots::{Links, SlotId, Slots, Thread};
+use crate::slots::{Link, Links, SlotId, Slots, Thread};
 
-/// The two ends of a line; both None where it has no slots.
+/// The two ends of a line; both none where it has no slots.
 #[derive(Clone, Copy)]
 pub struct Ends {
-    pub first: Option<SlotId>,
-    pub last: Option<SlotId>,
+    pub first: Link,
+    pub last: Link,
 }
 
 /// The ends of a line of nothing.
 pub const NO_ENDS: Ends = Ends {
-    first: None,
-    last: None,
+    first: Link::NONE,
+    last: Link::NONE,
 };
 
-fn set_next(slots: &mut Slots, thread: Thread, slot: Option<SlotId>, next: Option<SlotId>)
+/// Gives a slot, where there is one, another next one on a thread.
+#[inline(always)]
+fn set_next(slots: &mut Slots, thread: Thread, slot: Link, next: Link)
     requires { HoldsAny slots.old.entries slot }
     ensures { slots.new ≡ with_column thread slots.old (next_set (column thread slots.old) slot next) }
 {
-    if let Some(slot) = slot {
+    if let Some(slot) = slot.slot() {
         slots.set_next(thread, slot, next);
     }
 }
 
-fn set_previous(slots: &mut Slots, thread: Thread, slot: Option<SlotId>, previous: Option<SlotId>)
+/// Gives a slot, where there is one, another previous one on a thread.
+#[inline(always)]
+fn set_previous(slots: &mut Slots, thread: Thread, slot: Link, previous: Link)
     requires { HoldsAny slots.old.entries slot }
     ensures { slots.new ≡ with_column thread slots.old (previous_set (column thread slots.old) slot previous) }
 {
-    if let Some(slot) = slot {
+    if let Some(slot) = slot.slot() {
         slots.set_previous(thread, slot, previous);
     }
 }
@@ -51,58 +55,70 @@ pub fn unlink(slots: &mut Slots, thread: Thread, slot: SlotId) -> Links
     links
 }
 
-/// Takes a slot out of a line.
+/// Gives a slot of a line another next one; where there is no slot, the line has another first one.
 #[inline(always)]
-pub fn leave(slots: &mut Slots, ends: Ends, slot: SlotId) -> Ends
-    requires held { IsHeld slots.old.entries slot }
-    requires previous { HoldsAny slots.old.entries (links_at slots.old.lines slot).previous }
-    requires next { HoldsAny slots.old.entries (links_at slots.old.lines slot).next }
-    ensures ends { result ≡ ends_without ends (links_at slots.old.lines slot) }
-    ensures pool { slots.new ≡ record slots.old { lines = unlinked slots.old.lines slot } }
+fn set_next_or_first(slots: &mut Slots, ends: &mut Ends, slot: Link, next: Link)
+    requires { HoldsAny slots.old.entries slot }
+    ensures pool { slots.new ≡ record slots.old { lines = next_set slots.old.lines slot next } }
+    ensures ends { ends.new ≡ record ends.old { first = if is_none slot then next else ends.old.first } }
 {
-    let links = unlink(slots, Thread::Line, slot);
-    Ends {
-        first: if links.previous.is_none() {
-            links.next
-        } else {
-            ends.first
-        },
-        last: if links.next.is_none() {
-            links.previous
-        } else {
-            ends.last
-        },
+    match slot.slot() {
+        Some(slot) => slots.set_next(Thread::Line, slot, next),
+        None => ends.first = next,
     }
 }
 
-/// Puts a slot at the end of a line.
-pub fn push_back(slots: &mut Slots, ends: Ends, slot: SlotId) -> Ends
-    requires held { IsHeld slots.old.entries slot }
-    requires last { HoldsAny slots.old.entries ends.last }
-    ensures ends { result ≡ ends_with ends slot }
-    ensures pool { slots.new ≡ record slots.old { lines = pushed_back slots.old.lines ends.last slot } }
+/// Gives a slot of a line another previous one; where there is no slot, the line has another last one.
+#[inline(always)]
+fn set_previous_or_last(slots: &mut Slots, ends: &mut Ends, slot: Link, previous: Link)
+    requires { HoldsAny slots.old.entries slot }
+    ensures pool { slots.new ≡ record slots.old { lines = previous_set slots.old.lines slot previous } }
+    ensures ends { ends.new ≡ record ends.old { last = if is_none slot then previous else ends.old.last } }
 {
+    match slot.slot() {
+        Some(slot) => slots.set_previous(Thread::Line, slot, previous),
+        None => ends.last = previous,
+    }
+}
+
+/// Takes a slot out of a line.
+#[inline(always)]
+pub fn leave(slots: &mut Slots, ends: &mut Ends, slot: SlotId)
+    requires held { IsHeld slots.old.entries slot }
+    requires previous { HoldsAny slots.old.entries (links_at slots.old.lines slot).previous }
+    requires next { HoldsAny slots.old.entries (links_at slots.old.lines slot).next }
+    ensures ends { ends.new ≡ ends_without ends.old (links_at slots.old.lines slot) }
+    ensures pool { slots.new ≡ record slots.old { lines = unlinked slots.old.lines slot } }
+{
+    let links = slots.links(Thread::Line, slot);
+    set_next_or_first(slots, ends, links.previous, links.next);
+    set_previous_or_last(slots, ends, links.next, links.previous);
+}
+
+/// Puts a slot at the end of a line.
+#[inline(always)]
+pub fn push_back(slots: &mut Slots, ends: &mut Ends, slot: SlotId)
+    requires held { IsHeld slots.old.entries slot }
+    requires last { HoldsAny slots.old.entries ends.old.last }
+    requires ends { AreEnds ends.old }
+    ensures ends { ends.new ≡ ends_with ends.old slot }
+    ensures pool { slots.new ≡ record slots.old { lines = pushed_back slots.old.lines ends.old.last slot } }
+{
+    let last = ends.last;
     slots.set_links(
         Thread::Line,
         slot,
         Links {
-            previous: ends.last,
-            next: None,
+            previous: last,
+            next: Link::NONE,
         },
     );
-    set_next(slots, Thread::Line, ends.last, Some(slot));
-    Ends {
-        first: if ends.first.is_none() {
-            Some(slot)
-        } else {
-            ends.first
-        },
-        last: Some(slot),
-    }
+    set_next_or_first(slots, ends, last, Link::to(slot));
+    ends.last = Link::to(slot);
 }
 
 /// Takes a slot out of a chain.
-pub fn unchain(slots: &mut Slots, heads: &mut Vec<Option<SlotId>>, chain: usize, slot: SlotId)
+pub fn unchain(slots: &mut Slots, heads: &mut Vec<Link>, chain: usize, slot: SlotId)
     requires held { IsHeld slots.old.entries slot }
     requires previous { HoldsAny slots.old.entries (links_at slots.old.chains slot).previous }
     requires next { HoldsAny slots.old.entries (links_at slots.old.chains slot).next }
@@ -117,38 +133,39 @@ pub fn unchain(slots: &mut Slots, heads: &mut Vec<Option<SlotId>>, chain: usize,
 }
 
 /// The first slot of a chain.
-pub fn head(heads: &[Option<SlotId>], chain: usize) -> Option<SlotId>
+pub fn head(heads: &[Link], chain: usize) -> Option<SlotId>
     requires { chain < length heads.now }
     ensures { result ≡ slice_index_or heads.now chain None }
 {
-    heads[chain]
+    heads[chain].slot()
 }
 
-fn push_front(slots: &mut Slots, first: Option<SlotId>, slot: SlotId)
+/// Puts a slot before the first of a chain.
+fn push_front(slots: &mut Slots, first: Link, slot: SlotId)
     requires held { IsHeld slots.old.entries slot }
     requires first { HoldsAny slots.old.entries first }
     ensures pool { slots.new ≡ record slots.old { chains = pushed_front slots.old.chains first slot } }
 {
-    let ends = Ends { first, last: None };
     slots.set_links(
         Thread::Chain,
         slot,
         Links {
-            previous: None,
-            next: ends.first,
+            previous: Link::NONE,
+            next: first,
         },
     );
-    set_previous(slots, Thread::Chain, ends.first, Some(slot));
+    set_previous(slots, Thread::Chain, first, Link::to(slot));
 }
 
 /// Puts a slot at the front of a chain.
-pub fn enchain(slots: &mut Slots, heads: &mut Vec<Option<SlotId>>, chain: usize, slot: SlotId)
+pub fn enchain(slots: &mut Slots, heads: &mut Vec<Link>, chain: usize, slot: SlotId)
     requires held { IsHeld slots.old.entries slot }
     requires first { HoldsAny slots.old.entries (slice_index_or heads.old.items chain None) }
     requires chain { chain < vec_len heads.old }
     ensures heads { heads.new.items ≡ slice_set heads.old.items chain (Some slot) }
     ensures pool { slots.new ≡ record slots.old { chains = pushed_front slots.old.chains (slice_index_or heads.old.items chain None) slot } }
 {
-    push_front(slots, head(heads, chain), slot);
-    heads[chain] = Some(slot);
+    let head = &mut heads[chain];
+    push_front(slots, *head, slot);
+    *head = Link::to(slot);
 }

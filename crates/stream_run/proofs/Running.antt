@@ -22,7 +22,9 @@ use Rattle.stream_run.specs.Read.{AreQuiet, GivesUpAt, failures_of}
 use Rattle.stream_run.specs.Sights.{Sight, sight_among, sights, state_among}
 use Rattle.stream_run.specs.Stage.{Drains, StandAt, StandBetween}
 use Rattle.stream_run.specs.Steps.{AreFirst, AreRead, AreReadBehind, AreReady, EndsIn, Fetches, IsAt, IsNextEvent, IsRunOn, IsStep, Run, StopInFront, changes_of, texts_behind}
-use Rattle.stream_run.specs.Watched.{IsWatchedRun, IsWatchedStep, state_behind}
+use Rattle.stream_run.specs.Watched.{IsPut, IsWatchedRun, IsWatchedStep, state_behind}
+use Rattle.stream_run.specs.Fault.{stopped}
+use Rattle.stream_run.specs.declared.fault.Halt.{Halt}
 use Rattle.stream_run.specs.declared.fault.StreamFault.{StreamFault}
 use Rattle.stream_run.specs.declared.fault.StreamFault.TheVariants as stream
 use Rattle.stream_run.specs.declared.turn.First.{First}
@@ -397,6 +399,12 @@ module _ (segments : Segments) where
       seen = runs_out sees changes old.state (so.has.es ++ step.step.e ∷ []) old_watch new_watch (sees_more now so.has step.step.e now_watch new_watch so.seen step.seen);
       state = state_more now new first (Err (stream.Read place)) so.has step.step ∙ ap (state_behind segments changes old.state) (sym (append-nil (so.has.es ++ step.step.e ∷ [])));
     }
+
+    pub shown_halts : (now new : Run) (first : First) (now_watch new_watch : T) (h : Halt) (told : StreamFault) (tap : Tap) (t : Turn) → HasShown sees changes old now old_watch now_watch
+        → IsPut segments sees changes now new first now_watch new_watch (Err h) → (first.index ≢ 0 → IsAt (length now.ports) first.index tap)
+        → told ≡ stopped tap ((slice_index_or now.turns first.index t).done + 1 + 1) h → IsWatchedRun segments sees changes old new old_watch new_watch (Err told)
+    shown_halts now new first now_watch new_watch h told tap t so put at is =
+        shown_stops now new first now_watch new_watch told so (subst (λ (f : StreamFault). IsWatchedStep segments sees changes now new first now_watch new_watch (Err f)) (sym is) (put tap t at))
 
     pub shown_ends : (now : Run) (now_watch : T) → HasShown sees changes old now old_watch now_watch → ((t : Turn) (k : ℕ) → k < length now.turns → (slice_index_or now.turns k t).next ≡ None)
         → IsWatchedRun segments sees changes old now old_watch now_watch (Ok tt)

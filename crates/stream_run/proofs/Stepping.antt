@@ -2,7 +2,6 @@
 use Rattle.std.proofs.Common.{◌≡◌, ◌≤◌, ◌∙◌, refl, sym, ap, subst, ℕ, ◌+◌, List, length, ◌∷◌, slice_set, slice_index_or, arith, None, Result, Ok, Err}
 use Rattle.pcap_stream.specs.Source.{Stream}
 use Rattle.overlay_settings.specs.declared.change.TimedChange.{TimedChange}
-use Rattle.std.specs.List.{FoldsTo}
 use Rattle.endpoint_core.specs.Step.{State, answer}
 use Rattle.capture_run.specs.Outputs.{Outputs, event_of, named_by}
 use Rattle.capture_run.specs.Among.{with_event_among}

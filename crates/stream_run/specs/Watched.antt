@@ -1,8 +1,8 @@
 -- What a run over streams shows to whoever looks on; it serves the contract of the run.
---     IsWatchedTake, IsWatchedStep, IsWatchedRun      each event is seen, taken, and its answer heard, where it is told
+--     IsWatchedTake, IsWatchedStep, IsPut, IsWatchedRun      each event is seen, taken, and its answer heard, where it is told
 --     IsShown      a whole run: the events of which the outputs hold texts, and the end
 --     IsWatchedOver      the same by the octets of its captures: all events and the end, or the first events
-use Rattle.std.specs.Prelude.{◌≡◌, ◌⊎◌, ◌==◌, ℕ, ◌+◌, ◌-◌, List, [], ◌∷◌, ◌++◌, length, take, MatchBool, Vec, Result, Ok, Err}
+use Rattle.std.specs.Prelude.{◌≡◌, ◌≢◌, ◌⊎◌, ◌==◌, ℕ, ◌+◌, ◌-◌, List, [], ◌∷◌, ◌++◌, length, take, MatchBool, slice_index_or, Vec, Result, Ok, Err}
 use Rattle.std.specs.List.{FoldsTo}
 use Rattle.std.specs.declared.alloc.Global.{Global}
 use Rattle.pcap_stream.specs.Source.{Stream}
@@ -12,6 +12,7 @@ use Rattle.overlay_settings.specs.declared.change.TimedChange.{TimedChange}
 use Rattle.endpoint_state.specs.Opened.{settings_told}
 use Rattle.timeline.specs.declared.event.Event.{Event}
 use Rattle.timeline.specs.declared.timeline.Cut.{Cut}
+use Rattle.timeline.specs.declared.source.Tap.{Tap}
 use Rattle.endpoint_core.specs.Step.{State, opened}
 use Rattle.capture_run.specs.Outputs.{Outputs}
 use Rattle.capture_run.specs.declared.fault.RunFault.TheVariants as faults
@@ -19,11 +20,14 @@ use Rattle.stream_run.specs.Left.{texts_of}
 use Rattle.stream_run.specs.Over.{StandsAmong, StandsBefore, StandsSomewhere, whole_records}
 use Rattle.stream_run.specs.Sights.{Sight, sight_among, sights, state_among}
 use Rattle.stream_run.specs.Stage.{Drains, StandAt, StandBetween, no_texts}
-use Rattle.stream_run.specs.Steps.{IsRunOn, IsStep, IsTaken, Run, changes_of}
+use Rattle.stream_run.specs.Steps.{IsAt, IsRunOn, IsStep, IsTaken, Run, changes_of}
+use Rattle.stream_run.specs.Fault.{stopped}
+use Rattle.stream_run.specs.declared.fault.Halt.{Halt}
 use Rattle.stream_run.specs.declared.fault.StreamFault.{StreamFault}
 use Rattle.stream_run.specs.declared.fault.StreamFault.TheVariants as stream
 use Rattle.stream_run.specs.declared.fault.Target.{Target}
 use Rattle.stream_run.specs.declared.turn.First.{First}
+use Rattle.stream_run.specs.declared.turn.Turn.{Turn}
 use Rattle.segment_set.specs.Segments.{Segments, All}
 
 -- how an endpoint stands behind some events
@@ -42,6 +46,14 @@ module _ (segments : Segments) {T : Type 0} (sees : T → Sight → T → Type 0
   pub record IsWatchedStep (changes : List TimedChange) (old new : Run) (first : First) (old_watch new_watch : T) (result : Result (Unit {0}) StreamFault) : Type 0 where
     pub step : IsStep segments changes old new first result
     pub seen : sees old_watch (sight_among segments (changes_of changes) old.state (old.number + 1) step.e) new_watch
+
+  -- the same by why the event stopped the run, if it did: it is told of where the event's source stands, and of the record
+  -- that comes behind
+  abbrev pub IsPut : List TimedChange → Run → Run → First → T → T → Result (Unit {0}) Halt → Type 0
+  IsPut changes old new first old_watch new_watch (Ok done) = IsWatchedStep changes old new first old_watch new_watch (Ok done)
+  IsPut changes old new first old_watch new_watch (Err h) =
+      (tap : Tap) (t : Turn) → (first.index ≢ 0 → IsAt (length old.ports) first.index tap) →
+      IsWatchedStep changes old new first old_watch new_watch (Err (stopped tap ((slice_index_or old.turns first.index t).done + 1 + 1) h))
 
   -- some events came, one after another, and each was seen before it was taken; where a write failed, so was the event
   -- of which a part was written

@@ -1,6 +1,6 @@
 //! Why a run over streams stopped.
 ghost use Rattle.std.specs.Prelude.{◌≡◌, Some};
-ghost use Rattle.stream_run.specs.Fault.{fault_of};
+ghost use Rattle.stream_run.specs.Fault.{fault_of, stopped};
 ghost use Rattle.stream_run.specs.Words.{target_word};
 
 use capture_run::RunFault;
@@ -45,6 +45,25 @@ pub enum StreamFault {
     /// A write to this output failed, or took none of some octets.
     #[error("write {0}")]
     Write(Target),
+}
+
+/// Why a run stopped at an event: a few octets, where a [`StreamFault`] is moved with all that it may hold.
+#[derive(Clone, Copy, Debug, PartialEq, Eq)]
+pub enum Halt {
+    /// A write to this output failed.
+    Write(Target),
+    /// The next record of the event's source isn't to be had.
+    Source(SourceFault),
+}
+
+/// The fault of a run that stopped at an event of this source, behind which its record of this number, from 1, was asked for.
+pub fn stopped_at(tap: Tap, number: u64, halt: Halt) -> StreamFault
+    ensures { result ≡ stopped tap number halt }
+{
+    match halt {
+        Halt::Write(target) => StreamFault::Write(target),
+        Halt::Source(fault) => fault_at(tap, number, fault),
+    }
 }
 
 /// The fault of a source at its record of this number, from 1, as one of the run.

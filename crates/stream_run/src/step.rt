@@ -1,12 +1,12 @@
 //! The events of a run, one after another.
-ghost use Rattle.std.specs.Prelude.{◌≡◌, ◌≤◌, ◌<◌, ◌+◌, ◌^◌, length};
+ghost use Rattle.std.specs.Prelude.{◌≡◌, ◌≤◌, ◌<◌, ◌+◌, ◌^◌, OnErr, length};
 ghost use Rattle.endpoint_core.specs.Kept.{state_of};
 ghost use Rattle.stream_run.specs.Stage.{drains};
 ghost use Rattle.stream_run.specs.Steps.{AreReady, run_at};
 ghost use Rattle.stream_run.specs.Turns.{IsFirst};
-ghost use Rattle.stream_run.specs.Watched.{IsWatchedRun, IsWatchedStep};
+ghost use Rattle.stream_run.specs.Watched.{IsPut, IsWatchedRun};
 
-use crate::fault::{StreamFault, fault_at};
+use crate::fault::{Halt, StreamFault, stopped_at};
 use crate::fetch::{fetch_at, tap_at};
 use crate::order::find_first;
 use crate::take::take_at;
@@ -34,16 +34,17 @@ fn put_first<R: Input, W: Output, T: Watch>(
     first: First,
     segments: &SegmentSet,
     watch: &mut T,
-) -> Result<(), StreamFault>
+) -> Result<(), Halt>
     requires few { desk.old.number + 2 < 2 ^ 64 }
     requires first { IsFirst turns.old (length turns.old) first }
     requires ready { AreReady changes.now (run_at ports.old underlay.old turns.old (state_of endpoint.old) desk.old.number
         (drains port_sinks.old underlay_sink.old (W.written decisions.old) (W.failures decisions.old))) }
-    ensures { IsWatchedStep segments.now T.sees changes.now
+    ensures step { IsPut segments.now T.sees changes.now
         (run_at ports.old underlay.old turns.old (state_of endpoint.old) desk.old.number
         (drains port_sinks.old underlay_sink.old (W.written decisions.old) (W.failures decisions.old)))
         (run_at ports.new underlay.new turns.new (state_of endpoint.new) desk.new.number
         (drains port_sinks.new underlay_sink.new (W.written decisions.new) (W.failures decisions.new))) first watch.old watch.new result }
+    ensures turns { OnErr result (turns.new ≡ turns.old) }
 {
     let Turn { done, .. } = turns[first.index];
     desk.number.add_one();
@@ -62,7 +63,7 @@ fn put_first<R: Input, W: Output, T: Watch>(
         segments,
         watch,
     ) {
-        return Err(StreamFault::Write(target));
+        return Err(Halt::Write(target));
     }
     let done = done + 1;
     let mut next = None;
@@ -75,8 +76,7 @@ fn put_first<R: Input, W: Output, T: Watch>(
         first.moment,
         &mut next,
     ) {
-        let tap = tap_at(turns.len() - 2, first.index);
-        return Err(fault_at(tap, done + 1, fault));
+        return Err(Halt::Source(fault));
     }
     turns[first.index] = Turn {
         done,
@@ -114,7 +114,7 @@ pub fn put_events<R: Input, W: Output, T: Watch>(
         let Some(first) = find_first(turns) else {
             return Ok(());
         };
-        if let Err(fault) = put_first(
+        if let Err(halt) = put_first(
             changes,
             ports,
             underlay,
@@ -128,7 +128,9 @@ pub fn put_events<R: Input, W: Output, T: Watch>(
             segments,
             watch,
         ) {
-            return Err(fault);
+            let tap = tap_at(turns.len() - 2, first.index);
+            let done = turns[first.index].done + 1;
+            return Err(stopped_at(tap, done + 1, halt));
         }
     }
     Err(StreamFault::Run(RunFault::OutOfMemory))

@@ -25,7 +25,7 @@ use crate::fault::Target;
 use crate::put::{put_course, put_line};
 use crate::watch::Watch;
 use decision_lines::Desk;
-use endpoint_core::{Course, Endpoint, segment_of};
+use endpoint_core::{Course, Endpoint, segment_of, unset};
 use overlay_config::{Change, TimedChange};
 use pcap_stream::{Input, Output, Sink, Source};
 use segment_set::SegmentSet;
@@ -137,7 +137,8 @@ pub fn take_frame<R: Input, W: Output, T: Watch>(
         → T.sees watch.old (seen_among segments.now (state_of endpoint.old) desk.old.number (record_event (Port port) count moment r) (frame_at moment port r.original r.octets)) watch.new }
 {
     let record = source.head().unwrap();
-    let mut came = endpoint.frame_from(port, record.original, record.octets);
+    let mut came = unset();
+    endpoint.bring_frame(port, record.original, record.octets, &mut came);
     let event = Event {
         moment,
         number: count + 1,
@@ -198,7 +199,8 @@ pub fn take_packet<R: Input, W: Output, T: Watch>(
         → T.sees watch.old (seen_among segments.now (state_of endpoint.old) desk.old.number (record_event Underlay count moment r) (packet_at moment r.original r.octets)) watch.new }
 {
     let record = source.head().unwrap();
-    let mut brought = endpoint.frame_in(record.original, record.octets);
+    let mut brought = unset();
+    endpoint.bring_packet(record.original, record.octets, &mut brought);
     let event = Event {
         moment,
         number: count + 1,

@@ -1,3 +1,4 @@
 pub mod Bridge
 pub mod Once
+pub mod Outlets
 pub mod Verdict

@@ -1,6 +1,6 @@
 //! One segment's configuration, as its bridge sees it.
 ghost use Rattle.std.specs.Prelude.{◌≡◌, ◌≤◌, IsTrue, length};
-ghost use Rattle.tunnel_learning.specs.Bridge.{config_of, is_up_at, serves, group_of, in_one_group, is_shut, is_local_outlet};
+ghost use Rattle.tunnel_learning.specs.Bridge.{config_of, is_up_at, serves, group_of, in_one_group, is_shut};
 
 use filter_db::Place;
 use flood_lists::FloodList;
@@ -65,13 +65,6 @@ impl<'s> Bridge<'s> {
             }
             _ => false,
         }
-    }
-
-    /// Whether a flood of a frame from a place goes to a local place.
-    pub(crate) fn is_local_outlet(&self, from: &Place, to: &Place) -> bool
-        ensures { result ≡ is_local_outlet (config_of self.now) from.now to.now }
-    {
-        !self.is_shut(to) && *to != *from
     }
 
     /// Whether a place is a local port where no frame of the segment leaves.

@@ -7,9 +7,11 @@
 
 mod bridge;
 pub mod laws;
+mod outlets;
 mod step;
 mod verdict;
 
 pub use bridge::Bridge;
-pub use step::{Outlets, bridge_step, bridge_step_into};
+pub use outlets::Outlets;
+pub use step::{bridge_step, bridge_step_into};
 pub use verdict::Verdict;

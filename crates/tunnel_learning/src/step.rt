@@ -1,14 +1,16 @@
 //! One step.
-ghost use Rattle.std.specs.Prelude.{◌≡◌, ◌≤◌, IsSome, OnErr, [], ◌++◌, if◌then◌else◌};
+ghost use Rattle.std.specs.Prelude.{◌≡◌, ◌≤◌, IsSome, OnErr, [], ◌++◌, if◌then◌else◌, length};
 ghost use Rattle.filter_db.specs.Segment.{segment_at, aged_all};
-ghost use Rattle.arrayvec.specs.ArrayVec.{array_vec_len};
-ghost use Rattle.tunnel_learning.specs.Bridge.{config_of, to_place, everywhere, local_places, remote_places, outlets, learned};
+ghost use Rattle.tunnel_learning.specs.Bridge.{config_of, to_place, everywhere, local_places, remote_places, is_local_outlet, outlets, learned};
+ghost use Rattle.vlan_ports.specs.Row.{row_at};
+ghost use Rattle.tunnel_learning.specs.declared.bridge.Bridge.{Bridge as ABridge};
+ghost use Rattle.filter_db.specs.declared.place.Place.TheVariants.{Local};
 ghost use Rattle.tunnel_learning.specs.Verdict.{seen, put_or};
 
-use crate::{Bridge, Verdict};
-use arrayvec::ArrayVec;
+use crate::{Bridge, Outlets, Verdict};
 use filter_db::{Place, Tables};
 use frame_view::{BridgeFrame, Reason};
+use vlan_ports::Row;
 
 /// A frame came from a place at a moment: learns where its source stands, where the segment learns (IEEE 802.1Q, 8.7),
 /// and then answers where it goes (8.6 and 8.8, with split horizon among the remotes of a group).
@@ -31,45 +33,42 @@ pub fn bridge_step<T: Tables>(
     ensures pool { T.pool tables.new ≡ T.pool tables.old }
 {
     let mut places = Outlets::new();
-    match bridge_step_into(tables, bridge, now, from, frame, &mut places) {
+    match bridge_step_into(tables, bridge, now, &from, frame, &mut places) {
         Ok(()) => Verdict::Outlets(places),
         Err(reason) => Verdict::Dropped(reason),
     }
 }
-
-/// The places that a frame leaves by, in order, none of them twice: at most 16 local ports and 16 remotes.
-pub type Outlets = ArrayVec<Place, 32>;
 
 /// The same into a list that is emptied first. After an `Err`, one of SamePlace, Horizon, Unreachable and NoOutlet, it is empty.
 pub fn bridge_step_into<T: Tables>(
     tables: &mut T,
     bridge: &Bridge,
     now: u64,
-    from: Place,
+    from: &Place,
     frame: &BridgeFrame,
     places: &mut Outlets,
 ) -> Result<(), Reason>
     requires has { IsSome (T.segments tables.old bridge.now.vid) }
     requires time { T.moment tables.old ≤ now }
     ensures verdict { let entries = (segment_at bridge.now.vid (aged_all now (T.segments tables.new))).entries in
-        put_or places.new.items result ≡ outlets (config_of bridge.now) from frame.now entries }
+        put_or places.new.items result ≡ outlets (config_of bridge.now) from.now frame.now entries }
     ensures empty { OnErr result (places.new.items ≡ []) }
     ensures tables { let c = config_of bridge.now in
-        T.segments tables.new ≡ learned c bridge.now.vid now from frame.now (T.segments tables.old) }
+        T.segments tables.new ≡ learned c bridge.now.vid now from.now frame.now (T.segments tables.old) }
     // A step that learns moves the tables' moment on, and a look-up doesn't.
     ensures moment { T.moment tables.new ≡ (if bridge.now.learning then now else T.moment tables.old) }
     ensures pool { T.pool tables.new ≡ T.pool tables.old }
 {
     places.clear();
     if bridge.learning {
-        let _ = tables.learn(bridge.vid, frame.src(), from, now);
+        let _ = tables.learn(bridge.vid, frame.src(), *from, now);
     }
     if frame.dst().is_group() {
-        return everywhere(bridge, &from, places);
+        return everywhere(bridge, from, places);
     }
     match tables.look(bridge.vid, frame.dst(), now) {
-        Some(to) => to_place(bridge, &from, &to, places),
-        None => everywhere(bridge, &from, places),
+        Some(to) => to_place(bridge, from, &to, places),
+        None => everywhere(bridge, from, places),
     }
 }
 
@@ -110,22 +109,37 @@ fn everywhere(bridge: &Bridge, from: &Place, places: &mut Outlets) -> Result<(),
 
 /// Puts the up members but the port that the frame came from, rising.
 fn put_local(bridge: &Bridge, from: &Place, places: &mut Outlets)
-    requires { array_vec_len places.old ≤ 0 }
+    requires { length places.old.items ≤ 0 }
     ensures items { places.new.items ≡ places.old.items ++ local_places (config_of bridge.now) from.now }
-    ensures few { array_vec_len places.new ≤ 16 }
+    ensures few { length places.new.items ≤ 16 }
 {
+    let row = bridge.ports.row(bridge.vid);
     for number in 0..bridge.ports.ports() {
         let port = number + 1;
-        let to = Place::Local(port);
-        if bridge.is_local_outlet(from, &to) {
-            places.push(to);
+        if is_local_outlet(&row, from, port) {
+            places.push(Place::Local(port));
         }
     }
 }
 
+/// Whether a flood of a frame from a place goes to a local port, by the row of the bridge's segment. The port is 1 to how many
+/// there are.
+#[inline(always)]
+fn is_local_outlet(row: &Row, from: &Place, port: u8) -> bool
+    requires low { 1 ≤ port }
+    requires high { port ≤ length row.now.ports }
+    requires few { port ≤ 16 }
+    ensures { (bridge : ABridge) → row.now ≡ row_at bridge.ports.now bridge.vid → result ≡ is_local_outlet (config_of bridge) from.now (Local port) }
+{
+    if !row.serves(port) {
+        return false;
+    }
+    !Place::Local(port).is_same(*from)
+}
+
 /// Puts the remotes of the flood list but those of the horizon group that the frame came from, in its order.
 fn put_remote(bridge: &Bridge, from: &Place, places: &mut Outlets)
-    requires { array_vec_len places.old ≤ 16 }
+    requires { length places.old.items ≤ 16 }
     ensures { places.new.items ≡ places.old.items ++ remote_places (config_of bridge.now) from.now }
 {
     for target in bridge.flood.targets() {

@@ -4,4 +4,5 @@ pub mod Ingress
 pub mod Octets
 pub mod Places
 pub mod Ports
+pub mod Row
 pub mod Setters

@@ -17,6 +17,7 @@ const RESERVED_VID: u16 = 4095;
 ///
 /// A frame with VID 0 in its tag takes the port's VID and keeps its priority; one without a tag takes the port's VID
 /// and priority 0. At every port a frame enters only segments that the port is a member of (ingress filtering).
+#[inline(always)]
 pub fn classify<'a>(
     ports: &PortSet,
     port: u8,

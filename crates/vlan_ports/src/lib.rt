@@ -11,8 +11,10 @@ mod member;
 mod member_set;
 mod port;
 mod port_set;
+mod row;
 
 pub use ingress::classify;
 pub use member::{Egress, MemberRule, PortList};
 pub use port::{Accept, PortRule};
 pub use port_set::PortSet;
+pub use row::Row;

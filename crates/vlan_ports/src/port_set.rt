@@ -2,9 +2,10 @@
 ghost use Rattle.std.specs.Prelude.{◌≡◌, ◌≤◌, ◌<◌, length, IfOk, IsTrue, not};
 ghost use Rattle.std.specs.List.{list_all};
 ghost use Rattle.vlan_ports.specs.Ports.{told, with_rule, lists_ports, port_at, is_up, members_at, has_segment, egress_at, with_up, with_member, with_segment, without_segment};
+ghost use Rattle.vlan_ports.specs.Row.{row_at};
 
 use crate::member_set::MemberSet;
-use crate::{Egress, MemberRule, PortRule};
+use crate::{Egress, MemberRule, PortRule, Row};
 use frame_view::Vid;
 use std::alloc::{AllocError, Global};
 use std::marker::Model;
@@ -111,6 +112,18 @@ impl PortSet {
         ensures { result ≡ has_segment self.now vid }
     {
         self.segments[usize::from(vid.get())].is_some()
+    }
+
+    /// The ports, and the members of a segment.
+    #[inline(always)]
+    pub fn row(&self, vid: Vid) -> Row<'_>
+        ensures value { result ≡ row_at self.now vid }
+        ensures few { length result.ports ≤ 16 }
+    {
+        Row {
+            ports: self.ports.as_slice(),
+            members: &self.segments[usize::from(vid.get())],
+        }
     }
 
     /// How the frames of a segment leave at a port; None where the port is no member, or there is no such segment. The

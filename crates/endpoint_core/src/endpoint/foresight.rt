@@ -9,7 +9,7 @@ ghost use Rattle.endpoint_core.specs.Event.{frame_at, packet_at};
 ghost use Rattle.endpoint_core.specs.Step.{Decided, answer, decided, decided_in};
 
 use crate::arrival::{Came, come_at, come_by};
-use crate::{Decision, Endpoint};
+use crate::{Course, Decision, Endpoint, unset};
 use endpoint_state::EndpointState;
 use frame_view::Refused;
 use std::alloc::{AllocError, Global};
@@ -28,12 +28,7 @@ impl Endpoint {
 
     /// The frame that these octets at a local port would be, in its segment; or the first reason, of 1 to 11, why it would
     /// come to none. The port is 1 to `ports()`.
-    pub fn frame_from<'a>(
-        &self,
-        port: u8,
-        original: u32,
-        octets: &'a [u8],
-    ) -> Result<Came<'a>, Refused>
+    pub fn frame_from<'a>(&self, port: u8, original: u32, octets: &'a [u8]) -> Course<'a>
         requires low { 1 ≤ port }
         requires high { port ≤ length (state_of self.now).bridges.settings.ports.ports }
         ensures value { result ≡ came_at (state_of self.now).bridges.settings.ports port original octets.now }
@@ -41,18 +36,52 @@ impl Endpoint {
         ensures short { IfOk result (λ x. length x.frame.body ≤ 65549) }
         ensures reached { IfOk result (λ x. is_reached (state_of self.now).bridges.settings.overlay x.vid x.from ≡ true) }
     {
-        come_at(self.state.ports(), port, original, octets)
+        let mut course = unset();
+        self.bring_frame(port, original, octets, &mut course);
+        course
+    }
+
+    /// Sets a course to what [`Endpoint::frame_from`] answers, whatever it was.
+    #[inline(always)]
+    pub fn bring_frame<'a>(
+        &self,
+        port: u8,
+        original: u32,
+        octets: &'a [u8],
+        course: &mut Course<'a>,
+    )
+        requires low { 1 ≤ port }
+        requires high { port ≤ length (state_of self.now).bridges.settings.ports.ports }
+        ensures value { course.new ≡ came_at (state_of self.now).bridges.settings.ports port original octets.now }
+        ensures there { IfOk course.new (λ x. IsSome (segment_at (state_of self.now).bridges.settings x.vid)) }
+        ensures short { IfOk course.new (λ x. length x.frame.body ≤ 65549) }
+        ensures reached { IfOk course.new (λ x. is_reached (state_of self.now).bridges.settings.overlay x.vid x.from ≡ true) }
+    {
+        come_at(self.state.ports(), port, original, octets, course);
     }
 
     /// The frame that an outer packet would bring, in its segment; or the first reason, of 1 to 3, 5, 6 and 12 to 34, why
     /// it would bring none.
-    pub fn frame_in<'a>(&self, original: u32, octets: &'a [u8]) -> Result<Came<'a>, Refused>
+    pub fn frame_in<'a>(&self, original: u32, octets: &'a [u8]) -> Course<'a>
         ensures value { result ≡ came_by (state_of self.now).bridges.settings.overlay original octets.now }
         ensures there { IfOk result (λ x. IsSome (segment_at (state_of self.now).bridges.settings x.vid)) }
         ensures short { IfOk result (λ x. length x.frame.body ≤ 65549) }
         ensures reached { IfOk result (λ x. is_reached (state_of self.now).bridges.settings.overlay x.vid x.from ≡ true) }
     {
-        come_by(self.state.under(), original, octets)
+        let mut course = unset();
+        self.bring_packet(original, octets, &mut course);
+        course
+    }
+
+    /// Sets a course to what [`Endpoint::frame_in`] answers, whatever it was.
+    #[inline(always)]
+    pub fn bring_packet<'a>(&self, original: u32, octets: &'a [u8], course: &mut Course<'a>)
+        ensures value { course.new ≡ came_by (state_of self.now).bridges.settings.overlay original octets.now }
+        ensures there { IfOk course.new (λ x. IsSome (segment_at (state_of self.now).bridges.settings x.vid)) }
+        ensures short { IfOk course.new (λ x. length x.frame.body ≤ 65549) }
+        ensures reached { IfOk course.new (λ x. is_reached (state_of self.now).bridges.settings.overlay x.vid x.from ≡ true) }
+    {
+        come_by(self.state.under(), original, octets, course);
     }
 
     /// What would be decided of a frame at a local port, as [`Endpoint::frame`] decides it; the endpoint stays as it is.
@@ -71,7 +100,7 @@ impl Endpoint {
         requires high { port ≤ length (state_of self.now).bridges.settings.ports.ports }
         ensures { IfOk result (λ d. Decided (octets_of d) ≡ answer (state_of self.now) (frame_at now port original octets.now)) }
     {
-        let came = come_at(self.state.ports(), port, original, octets);
+        let came = self.frame_from(port, original, octets);
         let decision = foreseen(&self.state, alloc, now, came)?;
         Ok(decision)
     }
@@ -88,7 +117,7 @@ impl Endpoint {
         requires { (state_of self.now).moment ≤ now }
         ensures { IfOk result (λ d. Decided (octets_of d) ≡ answer (state_of self.now) (packet_at now original octets.now)) }
     {
-        let came = come_by(self.state.under(), original, octets);
+        let came = self.frame_in(original, octets);
         let decision = foreseen(&self.state, alloc, now, came)?;
         Ok(decision)
     }

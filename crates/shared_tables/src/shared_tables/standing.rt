@@ -82,7 +82,7 @@ impl SharedTables {
         ensures some { IfSome result (IsFixedOf self.now.entries vid) }
     {
         match share::share_at(&self.shares, vid) {
-            Some(share) => share.fixed.first,
+            Some(share) => share.fixed.first.slot(),
             None => None,
         }
     }

@@ -1,33 +1,22 @@
-use Rattle.std.proofs.Common.{◌≡◌, ◌∙◌, ◌++◌, ◌+◌, ap, arith, refl, ℕ, List, OnErr, OnOk, length, length-append, subst}
+use Rattle.std.proofs.Common.{◌≡◌, ◌∙◌, ◌++◌, ap, arith, rules, ℕ, List, OnErr, OnOk, subst}
 use Rattle.std.specs.Io.KnownBytes.{Appends}
-use Rattle.pcap_io.specs.Written.{record_header_of, whole_frame, written_record}
+use Rattle.pcap_io.specs.Written.{whole_frame, written_record}
 use Rattle.pcap_stream.specs.Sink.{AppendsPart}
+use Rattle.pcap_stream.proofs.Records.{text_is}
 use Rattle.pcap_stream.proofs.write.write_record.Goals as goal
 
--- a record's header and four slices side by side are the record's text
-text_is : (moment size : ℕ) (header a b d e : List ℕ) → header ≡ record_header_of moment size size → size ≡ length a + length b + length d + length e
-    → header ++ (a ++ (b ++ (d ++ e))) ≡ written_record (whole_frame moment (a ++ (b ++ (d ++ e))))
-unfolding written_record
-text_is moment size header a b d e header_is size_is =
-    let all : size ≡ length (a ++ (b ++ (d ++ e))) = simp length-append (omega arith) in
-    ap (λ h. h ++ (a ++ (b ++ (d ++ e)))) (header_is ∙ ap (λ n. record_header_of moment n n) all)
-
-pub returns-then-head-addresses-gt-FRONT-clause-ok : goal.returns-then-head-addresses-gt-FRONT-clause-ok
-returns-then-head-addresses-gt-FRONT-clause-ok g c =
-    let is = text_is c.args.moment _ _ c.args.head.now c.args.addresses.now c.args.tag.now c.args.body.now c.record_header.ensures refl in
-    subst (λ (t : List ℕ). OnOk c.write_five.result (Appends (g.W.Output.written c.args.output.now) (g.W.Output.written c.write_five.new.output) t)) is c.write_five.ensures.ok
-
-pub returns-then-head-addresses-gt-FRONT-clause-err : goal.returns-then-head-addresses-gt-FRONT-clause-err
-returns-then-head-addresses-gt-FRONT-clause-err g c =
-    let is = text_is c.args.moment _ _ c.args.head.now c.args.addresses.now c.args.tag.now c.args.body.now c.record_header.ensures refl in
-    subst (λ (t : List ℕ). OnErr c.write_five.result (AppendsPart (g.W.Output.written c.args.output.now) (g.W.Output.written c.write_five.new.output) t)) is c.write_five.ensures.err
-
-pub returns-clause-ok : goal.returns-clause-ok
-returns-clause-ok g c =
-    let is = text_is c.args.moment _ _ c.args.head.now c.args.addresses.now c.args.tag.now c.args.body.now c.record_header.ensures refl in
+pub returns-then-head-tag-le-FRONT-clause-ok : goal.returns-then-head-tag-le-FRONT-clause-ok
+returns-then-head-tag-le-FRONT-clause-ok g c =
+    let pair : c.in-Some.pair.now ≡ c.args.addresses.now = search rules in
+    let same = ap (λ (p : List ℕ). c.args.head.now ++ (p ++ (c.args.tag.now ++ c.args.body.now))) pair in
+    let is = text_is c.args.moment _ _ c.args.head.now c.in-Some.pair.now c.args.tag.now c.args.body.now c.record_header.ensures (omega arith)
+    ∙ ap (λ (t : List ℕ). written_record (whole_frame c.args.moment t)) same in
     subst (λ (t : List ℕ). OnOk c.write_gathered.result (Appends (g.W.Output.written c.args.output.now) (g.W.Output.written c.write_gathered.new.self) t)) is c.write_gathered.ensures.ok
 
-pub returns-clause-err : goal.returns-clause-err
-returns-clause-err g c =
-    let is = text_is c.args.moment _ _ c.args.head.now c.args.addresses.now c.args.tag.now c.args.body.now c.record_header.ensures refl in
+pub returns-then-head-tag-le-FRONT-clause-err : goal.returns-then-head-tag-le-FRONT-clause-err
+returns-then-head-tag-le-FRONT-clause-err g c =
+    let pair : c.in-Some.pair.now ≡ c.args.addresses.now = search rules in
+    let same = ap (λ (p : List ℕ). c.args.head.now ++ (p ++ (c.args.tag.now ++ c.args.body.now))) pair in
+    let is = text_is c.args.moment _ _ c.args.head.now c.in-Some.pair.now c.args.tag.now c.args.body.now c.record_header.ensures (omega arith)
+    ∙ ap (λ (t : List ℕ). written_record (whole_frame c.args.moment t)) same in
     subst (λ (t : List ℕ). OnErr c.write_gathered.result (AppendsPart (g.W.Output.written c.args.output.now) (g.W.Output.written c.write_gathered.new.self) t)) is c.write_gathered.ensures.err

@@ -1,4 +1,4 @@
-use Rattle.std.proofs.Common.{◌∙◌, sym, map, length, take, ap, List, ℕ, Bor, arith}
+use Rattle.std.proofs.Common.{◌∙◌, sym, map, ap, List, ℕ, Bor, arith}
 use Rattle.std.proofs.lemmas.List.{length-map, length-set, take_all}
 use Rattle.run_reports.specs.Report.{is_asked}
 use Rattle.run_reports.proofs.Asking.{asked_more, found_all, left_more, marked_more}

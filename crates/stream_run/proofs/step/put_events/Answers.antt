@@ -1,5 +1,8 @@
-use Rattle.std.proofs.Common.{arith, ap, refl, ◌∙◌, ◌+◌}
-use Rattle.stream_run.proofs.Running.{shown_begins, shown_breaks, shown_ends, shown_steps, shown_stops}
+use Rattle.std.proofs.Common.{◌≡◌, ◌+◌, ◌-◌, ◌∙◌, List, ℕ, ap, arith, length, refl, slice_index_or, subst}
+use Rattle.stream_run.specs.Fault.{stopped}
+use Rattle.stream_run.specs.Steps.{IsAt}
+use Rattle.stream_run.specs.declared.turn.Turn.{Turn}
+use Rattle.stream_run.proofs.Running.{shown_begins, shown_breaks, shown_ends, shown_halts, shown_steps}
 use Rattle.stream_run.proofs.step.put_events.Goals as goal
 
 pub loop-count-init : goal.loop-count-init
@@ -16,7 +19,7 @@ find_first-requires g c = c.loop-count.invariant.run.has.ready.moments
 
 pub loop-count-preserved : goal.loop-count-preserved
 loop-count-preserved g c =
-    let step = c.in_default-put_first.ensures in
+    let step = c.in_default-put_first.ensures.step in
     record {
       count = step.step.number ∙ ap (λ n. n + 1) c.loop-count.invariant.count;
       run = shown_steps c.args.segments.now g.T.Watch.sees c.args.changes.now _ c.args.watch.now _ _ c.in-Some.first _ _ c.loop-count.invariant.run step;
@@ -26,7 +29,12 @@ pub returns-in_default : goal.returns-in_default
 returns-in_default g c = shown_ends c.args.segments.now g.T.Watch.sees c.args.changes.now _ c.args.watch.now _ _ c.loop-count.invariant.run c.in_default.ensures
 
 pub returns-in-Err : goal.returns-in-Err
-returns-in-Err g c = shown_stops c.args.segments.now g.T.Watch.sees c.args.changes.now _ c.args.watch.now _ _ _ _ _ c.in-Err.fault c.loop-count.invariant.run c.in-Err.ensures
+returns-in-Err g c =
+    let t = c.index-turns-first.result in
+    let many : length c.put_first.new.turns - 2 ≡ length c.loop-count.ports = omega (arith, ap length c.in-Err.ensures.turns, c.loop-count.invariant.run.has.ready.size) in
+    shown_halts c.args.segments.now g.T.Watch.sees c.args.changes.now _ c.args.watch.now _ _ _ _ _ c.in-Err.halt c.stopped_at.result c.tap_at-tap.result t c.loop-count.invariant.run c.in-Err.ensures.step
+    (λ there. subst (λ (n : ℕ). IsAt n c.in-Some.first.index c.tap_at-tap.result) many (c.tap_at-tap.ensures there))
+    (c.stopped_at.ensures ∙ ap (λ (turns : List Turn). stopped c.tap_at-tap.result ((slice_index_or turns c.in-Some.first.index t).done + 1 + 1) c.in-Err.halt) c.in-Err.ensures.turns)
 
 pub returns : goal.returns
 returns g c = shown_breaks c.args.segments.now g.T.Watch.sees c.args.changes.now _ c.args.watch.now _ _ c.loop-count.invariant.run

@@ -25,7 +25,7 @@ pub returns-then-not-has-clause-state : goal.returns-then-not-has-clause-state
 returns-then-not-has-clause-state g c r told =
     let s = state_of c.args.endpoint.now in
     let same : c.unwrap-record.result ≡ r = cc (c.unwrap-record.ensures, c.head.ensures.record, told) in
-    let came = c.frame_from-came.ensures.value ∙ ap (λ (r : Record). came_at (state_of c.args.endpoint.now).bridges.settings.ports c.args.port r.original r.octets) (c.record.view_is ∙ same) in
+    let came = c.bring_frame.ensures.value ∙ ap (λ (r : Record). came_at (state_of c.args.endpoint.now).bridges.settings.ports c.args.port r.original r.octets) (c.record.view_is ∙ same) in
     let away : is_told c.args.segments.now s (frame_at c.args.moment c.args.port r.original r.octets) ≡ false = sym (ap (λ (r : Result Came Refused). holds c.args.segments.now (segment_of r)) came) ∙ sym (ap (holds c.args.segments.now) c.segment_of.ensures) ∙ sym c.has.ensures ∙ c.if-not-has.true in
     c.pass.ensures ∙ sym (after_not_told c.args.segments.now s (frame_at c.args.moment c.args.port r.original r.octets) away)
 
@@ -33,7 +33,7 @@ pub returns-then-not-has-clause-outputs : goal.returns-then-not-has-clause-outpu
 returns-then-not-has-clause-outputs g c r start o told at =
     let s = state_of c.args.endpoint.now in
     let same : c.unwrap-record.result ≡ r = cc (c.unwrap-record.ensures, c.head.ensures.record, told) in
-    let came = c.frame_from-came.ensures.value ∙ ap (λ (r : Record). came_at (state_of c.args.endpoint.now).bridges.settings.ports c.args.port r.original r.octets) (c.record.view_is ∙ same) in
+    let came = c.bring_frame.ensures.value ∙ ap (λ (r : Record). came_at (state_of c.args.endpoint.now).bridges.settings.ports c.args.port r.original r.octets) (c.record.view_is ∙ same) in
     let away : is_told c.args.segments.now s (frame_at c.args.moment c.args.port r.original r.octets) ≡ false = sym (ap (λ (r : Result Came Refused). holds c.args.segments.now (segment_of r)) came) ∙ sym (ap (holds c.args.segments.now) c.segment_of.ensures) ∙ sym c.has.ensures ∙ c.if-not-has.true in
     puts_nothing c.args.segments.now s (frame_at c.args.moment c.args.port r.original r.octets) c.args.desk.now.number None (record_event (Port c.args.port) c.args.count c.args.moment r) start _ o away at
 
@@ -41,7 +41,7 @@ pub returns-then-not-has-clause-seen : goal.returns-then-not-has-clause-seen
 returns-then-not-has-clause-seen g c r told =
     let s = state_of c.args.endpoint.now in
     let same : c.unwrap-record.result ≡ r = cc (c.unwrap-record.ensures, c.head.ensures.record, told) in
-    let came = c.frame_from-came.ensures.value ∙ ap (λ (r : Record). came_at (state_of c.args.endpoint.now).bridges.settings.ports c.args.port r.original r.octets) (c.record.view_is ∙ same) in
+    let came = c.bring_frame.ensures.value ∙ ap (λ (r : Record). came_at (state_of c.args.endpoint.now).bridges.settings.ports c.args.port r.original r.octets) (c.record.view_is ∙ same) in
     let away : is_told c.args.segments.now s (frame_at c.args.moment c.args.port r.original r.octets) ≡ false = sym (ap (λ (r : Result Came Refused). holds c.args.segments.now (segment_of r)) came) ∙ sym (ap (holds c.args.segments.now) c.segment_of.ensures) ∙ sym c.has.ensures ∙ c.if-not-has.true in
     let e : Event = record { moment = c.args.moment; number = c.args.count + 1; happening = happenings.Record (Port c.args.port) (record { original = c.record.inside.original; octets = c.record.inside.octets.now }) } in
     seen_untold c.args.segments.now s (frame_at c.args.moment c.args.port r.original r.octets) g.T.Watch.sees c.args.desk.now.number (record_event (Port c.args.port) c.args.count c.args.moment r) c.args.watch.now c.pass_over.new.self away
@@ -52,7 +52,7 @@ pub returns-clause-state : goal.returns-clause-state
 returns-clause-state g c r told =
     let s = state_of c.args.endpoint.now in
     let same : c.unwrap-record.result ≡ r = cc (c.unwrap-record.ensures, c.head.ensures.record, told) in
-    let came = c.frame_from-came.ensures.value ∙ ap (λ (r : Record). came_at (state_of c.args.endpoint.now).bridges.settings.ports c.args.port r.original r.octets) (c.record.view_is ∙ same) in
+    let came = c.bring_frame.ensures.value ∙ ap (λ (r : Record). came_at (state_of c.args.endpoint.now).bridges.settings.ports c.args.port r.original r.octets) (c.record.view_is ∙ same) in
     let here : is_told c.args.segments.now s (frame_at c.args.moment c.args.port r.original r.octets) ≡ true = sym (ap (λ (r : Result Came Refused). holds c.args.segments.now (segment_of r)) came) ∙ sym (ap (holds c.args.segments.now) c.segment_of.ensures) ∙ sym c.has.ensures ∙ c.if-not-has.false in
     c.take_came.ensures.state ∙ ap (λ (r : Result Came Refused). after_coming c.args.moment r s) came ∙ sym (after_told c.args.segments.now s (frame_at c.args.moment c.args.port r.original r.octets) here)
 
@@ -60,7 +60,7 @@ pub returns-clause-outputs : goal.returns-clause-outputs
 returns-clause-outputs g c r start o told at =
     let s = state_of c.args.endpoint.now in
     let same : c.unwrap-record.result ≡ r = cc (c.unwrap-record.ensures, c.head.ensures.record, told) in
-    let came = c.frame_from-came.ensures.value ∙ ap (λ (r : Record). came_at (state_of c.args.endpoint.now).bridges.settings.ports c.args.port r.original r.octets) (c.record.view_is ∙ same) in
+    let came = c.bring_frame.ensures.value ∙ ap (λ (r : Record). came_at (state_of c.args.endpoint.now).bridges.settings.ports c.args.port r.original r.octets) (c.record.view_is ∙ same) in
     let here : is_told c.args.segments.now s (frame_at c.args.moment c.args.port r.original r.octets) ≡ true = sym (ap (λ (r : Result Came Refused). holds c.args.segments.now (segment_of r)) came) ∙ sym (ap (holds c.args.segments.now) c.segment_of.ensures) ∙ sym c.has.ensures ∙ c.if-not-has.false in
     let new = drains c.take_came.new.port_sinks c.take_came.new.underlay_sink (g.W.Output.written c.take_came.new.decisions) (g.W.Output.failures c.take_came.new.decisions) in
     let e : Event = record { moment = c.args.moment; number = c.args.count + 1; happening = happenings.Record (Port c.args.port) (record { original = c.record.inside.original; octets = c.record.inside.octets.now }) } in
@@ -72,7 +72,7 @@ pub returns-clause-order : goal.returns-clause-order
 returns-clause-order g c r start o told at =
     let s = state_of c.args.endpoint.now in
     let same : c.unwrap-record.result ≡ r = cc (c.unwrap-record.ensures, c.head.ensures.record, told) in
-    let came = c.frame_from-came.ensures.value ∙ ap (λ (r : Record). came_at (state_of c.args.endpoint.now).bridges.settings.ports c.args.port r.original r.octets) (c.record.view_is ∙ same) in
+    let came = c.bring_frame.ensures.value ∙ ap (λ (r : Record). came_at (state_of c.args.endpoint.now).bridges.settings.ports c.args.port r.original r.octets) (c.record.view_is ∙ same) in
     let new = drains c.take_came.new.port_sinks c.take_came.new.underlay_sink (g.W.Output.written c.take_came.new.decisions) (g.W.Output.failures c.take_came.new.decisions) in
     let e : Event = record { moment = c.args.moment; number = c.args.count + 1; happening = happenings.Record (Port c.args.port) (record { original = c.record.inside.original; octets = c.record.inside.octets.now }) } in
     (subst (λ (q : Record). PutsInOrder {T = Unit {0}} start new c.args.desk.now.number None o (record_event (Port c.args.port) c.args.count c.args.moment q) (answer s (frame_at c.args.moment c.args.port r.original r.octets)) c.take_came.result) (c.record.view_is ∙ same)
@@ -82,7 +82,7 @@ pub returns-clause-seen : goal.returns-clause-seen
 returns-clause-seen g c r told =
     let s = state_of c.args.endpoint.now in
     let same : c.unwrap-record.result ≡ r = cc (c.unwrap-record.ensures, c.head.ensures.record, told) in
-    let came = c.frame_from-came.ensures.value ∙ ap (λ (r : Record). came_at (state_of c.args.endpoint.now).bridges.settings.ports c.args.port r.original r.octets) (c.record.view_is ∙ same) in
+    let came = c.bring_frame.ensures.value ∙ ap (λ (r : Record). came_at (state_of c.args.endpoint.now).bridges.settings.ports c.args.port r.original r.octets) (c.record.view_is ∙ same) in
     let here : is_told c.args.segments.now s (frame_at c.args.moment c.args.port r.original r.octets) ≡ true = sym (ap (λ (r : Result Came Refused). holds c.args.segments.now (segment_of r)) came) ∙ sym (ap (holds c.args.segments.now) c.segment_of.ensures) ∙ sym c.has.ensures ∙ c.if-not-has.false in
     let e : Event = record { moment = c.args.moment; number = c.args.count + 1; happening = happenings.Record (Port c.args.port) (record { original = c.record.inside.original; octets = c.record.inside.octets.now }) } in
     seen_told c.args.segments.now s (frame_at c.args.moment c.args.port r.original r.octets) g.T.Watch.sees c.args.desk.now.number (record_event (Port c.args.port) c.args.count c.args.moment r) c.args.watch.now c.take_came.new.watch here

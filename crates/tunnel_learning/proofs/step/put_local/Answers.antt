@@ -1,11 +1,11 @@
-use Rattle.std.proofs.Common.{arith, ◌≡◌, ◌+◌, ◌++◌, ◌∙◌, List, ◌∷◌, [], map, cond, sym, ap, append_assoc, append-nil}
+use Rattle.std.proofs.Common.{arith, ◌≡◌, ◌+◌, ◌++◌, ◌∙◌, List, ◌∷◌, [], map, cond, sym, ap, length, append_assoc, append-nil}
 use Rattle.std.specs.List.{filter, range_with_len}
 use Rattle.std.proofs.lemmas.Bool.{cond-true, cond-false}
 use Rattle.std.proofs.lemmas.List.FromFn.{filter_of_map_range_with_len_more}
-use Rattle.arrayvec.specs.ArrayVec.{ArrayVec, array_vec_len}
 use Rattle.filter_db.specs.declared.place.Place.{Place}
 use Rattle.filter_db.specs.declared.place.Place.TheVariants.{Local}
 use Rattle.tunnel_learning.specs.Bridge.{config_of, is_local_outlet}
+use Rattle.tunnel_learning.specs.Outlets.{Outlets}
 use Rattle.tunnel_learning.proofs.step.put_local.Goals as goal
 use Rattle.tunnel_learning.proofs.step.put_local.Goals.{then-is_local_outlet, else-is_local_outlet}
 
@@ -22,11 +22,11 @@ loop-number-preserved c =
     ∙ ap (λ (z : List Place). c.args.places.now.items ++ z) (ap (λ (z : List Place). so_far ++ z) (sym e) ∙ sym more) in
     elim c.if-is_local_outlet.branch [
       | then-is_local_outlet w ↦ record {
-        items = ap (λ (z : ArrayVec Place). z.items) w.places-is ∙ w.push.ensures.items ∙ grown (to ∷ []) (cond-true (p to) (to ∷ []) [] (sym c.is_local_outlet.ensures ∙ w.if-is_local_outlet.true));
-        few = omega (arith, ap array_vec_len w.places-is, w.push.ensures.len, c.loop-number.invariant.few);
+        items = ap (λ (z : Outlets). z.items) w.places-is ∙ w.push.ensures.items ∙ grown (to ∷ []) (cond-true (p to) (to ∷ []) [] (sym (c.is_local_outlet.ensures c.args.bridge.now c.row-row.ensures.value) ∙ w.if-is_local_outlet.true));
+        few = omega (arith, ap (λ (z : Outlets). length z.items) w.places-is, w.push.ensures.len, c.loop-number.invariant.few);
       }
       | else-is_local_outlet w ↦ record {
-        items = ap (λ (z : ArrayVec Place). z.items) w.places-is ∙ sym (append-nil c.loop-number.places.items) ∙ grown [] (cond-false (p to) (to ∷ []) [] (sym c.is_local_outlet.ensures ∙ w.if-is_local_outlet.false));
-        few = omega (arith, ap array_vec_len w.places-is, c.loop-number.invariant.few);
+        items = ap (λ (z : Outlets). z.items) w.places-is ∙ sym (append-nil c.loop-number.places.items) ∙ grown [] (cond-false (p to) (to ∷ []) [] (sym (c.is_local_outlet.ensures c.args.bridge.now c.row-row.ensures.value) ∙ w.if-is_local_outlet.false));
+        few = omega (arith, ap (λ (z : Outlets). length z.items) w.places-is, c.loop-number.invariant.few);
       }
     ]

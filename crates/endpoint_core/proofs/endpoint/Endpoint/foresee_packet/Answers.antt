@@ -1,10 +1,9 @@
-use Rattle.std.proofs.Common.{◌≤◌, sym, ap, ◌∙◌, subst}
-use Rattle.underlay.specs.Overlay.{Overlay}
+use Rattle.std.proofs.Common.{◌≡◌, ◌≤◌, sym, ap, ◌∙◌, subst}
 use Rattle.endpoint_state.specs.Held.{state_at}
 use Rattle.endpoint_state.specs.State.{State as Bridges, aged}
 use Rattle.endpoint_core.specs.Arrival.{came_by}
 use Rattle.endpoint_core.specs.Decision.{octets_of}
-use Rattle.endpoint_core.specs.Kept.{Kept}
+use Rattle.endpoint_core.specs.Kept.{Kept, state_of}
 use Rattle.endpoint_core.specs.Step.{Decided, decided}
 use Rattle.endpoint_core.proofs.StepsLemmas.{told-earlier}
 use Rattle.endpoint_core.proofs.endpoint.Endpoint.foresee_packet.Goals as goal
@@ -14,6 +13,6 @@ returns c =
     let held = c.self.inside.state in
     let now = c.args.now in
     let later = subst (λ (k : Kept). k.moment ≤ now) (sym c.self.view_is) c.requires in
-    let same = c.come_by-came.ensures.value ∙ ap (λ (over : Overlay). came_by over c.args.original c.args.octets.now) c.under.ensures.value in
-    let told = told-earlier (λ (B : Bridges). decided now B c.come_by-came.result) held c.self.inside.moment now (octets_of c.in_ok-decision.decision) later c.in_ok-decision.ensures in
+    let same = subst (λ (k : Kept). c.frame_in-came.result ≡ came_by (state_of k).bridges.settings.overlay c.args.original c.args.octets.now) (sym c.self.view_is) c.frame_in-came.ensures.value in
+    let told = told-earlier (λ (B : Bridges). decided now B c.frame_in-came.result) held c.self.inside.moment now (octets_of c.in_ok-decision.decision) later c.in_ok-decision.ensures in
     rw (← c.self.view_is) (ap Decided (told ∙ ap (decided now (aged now (state_at c.self.inside.moment held))) same))

@@ -26,7 +26,7 @@ returns-clause-after g c =
     let segments = g.T.Tables.segments parts.tables in
     let new = g.T.Tables.segments c.bridge_step_into.new.tables in
     let it = stands parts.ports parts.under parts.learning segments c.args.vid c.requires.sound c.requires.there in
-    after-learned c.args.now c.args.vid c.args.from c.args.frame.now parts.ports parts.under parts.learning (g.T.Tables.pool parts.tables) (g.T.Tables.pool c.bridge_step_into.new.tables) segments new it c.get.result (sym c.get.ensures) c.bridge_step_into.ensures.tables
+    after-learned c.args.now c.args.vid c.args.from.now c.args.frame.now parts.ports parts.under parts.learning (g.T.Tables.pool parts.tables) (g.T.Tables.pool c.bridge_step_into.new.tables) segments new it c.get.result (sym c.get.ensures) c.bridge_step_into.ensures.tables
     (settled c.args.now _ _ c.get.result new c.bridge_step_into.ensures.moment (g.met.T.Tables.settled c.bridge_step_into.new.tables))
     c.bridge_step_into.ensures.pool
 
@@ -43,14 +43,14 @@ returns-clause-verdict g c =
     let config = config-told parts.ports parts.under parts.learning segments vid it c.get.result c.segment-segment.result.now c.groups_of.result c.get.ensures c.segment-segment.ensures c.groups_of.ensures in
     let after = returns-clause-after g c in
     c.bridge_step_into.ensures.verdict
-    ∙ ap (λ (x : Config). outlets x c.args.from f (tables_at now new vid)) config
-    ∙ ap (λ (x : State). outlets (config_of parts.ports own) c.args.from f (x.tables vid)) after
-    ∙ sym (ap (λ (o : Option SegmentSettings). verdict_in parts.ports o c.args.from f ((after_frame now vid c.args.from f (state_of g.T.Tables.segments g.T.Tables.pool now parts)).tables vid)) it.settings)
+    ∙ ap (λ (x : Config). outlets x c.args.from.now f (tables_at now new vid)) config
+    ∙ ap (λ (x : State). outlets (config_of parts.ports own) c.args.from.now f (x.tables vid)) after
+    ∙ sym (ap (λ (o : Option SegmentSettings). verdict_in parts.ports o c.args.from.now f ((after_frame now vid c.args.from.now f (state_of g.T.Tables.segments g.T.Tables.pool now parts)).tables vid)) it.settings)
 
 pub returns-clause-sound : goal.returns-clause-sound
 returns-clause-sound g c =
     let parts = c.args.self.now in
-    sound-learned c.args.now c.args.vid c.args.from c.args.frame.now parts.ports parts.under (g.T.Tables.segments parts.tables) (g.T.Tables.segments c.bridge_step_into.new.tables) c.get.result c.requires.reached c.requires.sound c.bridge_step_into.ensures.tables
+    sound-learned c.args.now c.args.vid c.args.from.now c.args.frame.now parts.ports parts.under (g.T.Tables.segments parts.tables) (g.T.Tables.segments c.bridge_step_into.new.tables) c.get.result c.requires.reached c.requires.sound c.bridge_step_into.ensures.tables
 
 pub returns-clause-leaves : goal.returns-clause-leaves
 returns-clause-leaves g c =
@@ -65,5 +65,5 @@ returns-clause-leaves g c =
     let sound = returns-clause-sound g c in
     let flood = ap (λ (o : Option Segment). list_all (λ r. reaches parts.under vid r.tunnel r.addr) (option_map_or (λ h. h.flood) o [])) (sym it.has_tunnels) ∙ c.requires.sound.flood vid in
     subst (λ (r : Result (List Place) Reason). IfOk r (λ places. IsTrue (list_all (can_leave (settings_of g.T.Tables.segments g.T.Tables.pool parts) vid) places)))
-    (sym (c.bridge_step_into.ensures.verdict ∙ ap (λ (x : Config). outlets x c.args.from f (tables_at c.args.now new vid)) config))
-    (outlets-leave (settings_of g.T.Tables.segments g.T.Tables.pool parts) vid own it.has_members c.args.from f (tables_at c.args.now new vid) flood (aged-reached parts.under vid c.args.now (new vid) (sound.tables vid)))
+    (sym (c.bridge_step_into.ensures.verdict ∙ ap (λ (x : Config). outlets x c.args.from.now f (tables_at c.args.now new vid)) config))
+    (outlets-leave (settings_of g.T.Tables.segments g.T.Tables.pool parts) vid own it.has_members c.args.from.now f (tables_at c.args.now new vid) flood (aged-reached parts.under vid c.args.now (new vid) (sound.tables vid)))

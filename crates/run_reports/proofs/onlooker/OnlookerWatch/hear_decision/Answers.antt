@@ -1,6 +1,4 @@
-use Rattle.run_counts.specs.Keeping.{Expects, Sees}
-use Rattle.endpoint_core.specs.Step.{Answer}
-use Rattle.stream_run.specs.Sights.{answered}
+use Rattle.run_counts.specs.Keeping.{Expects}
 use Rattle.run_reports.proofs.Onlooking.{counting_more}
 use Rattle.run_reports.proofs.onlooker.OnlookerWatch.hear_decision.Goals as goal
 

@@ -16,7 +16,7 @@ returns-in-Some-clause-answer c =
     let held = subst (λ (w : Shared). IfHeld (entry_at w.entries slot) v mac) (sym c.in-Some.ensures.same) c.in-Some.ensures.found in
     let in_pool = subst (λ (w : Shared). IsHeld w.entries slot) (sym c.in-Some.ensures.same) c.in-Some.ensures.held in
     c.place_if_live.ensures.place
-    ∙ ap (λ n. live_place (entry_at f.entries slot) n now) (c.ageing-ageing.ensures ∙ sym (ap (λ (w : Shared). span_of (rule_at w.rules v)) c.in-Some.ensures.same) ∙ span_is old f now v k le has)
+    ∙ ap (λ n. live_place (entry_at f.entries slot) n now) (c.span-ageing.ensures ∙ sym (ap (λ (w : Shared). span_of (rule_at w.rules v)) c.in-Some.ensures.same) ∙ span_is old f now v k le has)
     ∙ look_found old f now v k le has mac slot held in_pool
     ∙ sym (ap (λ (s : Segment). stands mac s.entries) (own_is old f now v k le has))
 

@@ -5,7 +5,7 @@ use Rattle.shared_tables.specs.Shared.{Shared, rule_at, IsOf, IsNow}
 use Rattle.shared_tables.specs.Sound.{rule_of}
 use Rattle.shared_tables.proofs.SoundLemmas.{sound_at, same_shared, has_share}
 use Rattle.shared_tables.proofs.Dropping.{stays, drop_held, drop_line_previous, drop_line_next}
-use Rattle.shared_tables.proofs.Renewing.{renew_sound, renew_last, renew_rules}
+use Rattle.shared_tables.proofs.Renewing.{renew_sound, renew_last, renew_ends, renew_rules}
 use Rattle.shared_tables.proofs.shared_tables.SharedTables.refresh.Goals as goal
 
 pub renew_entry-requires-clause-held : goal.renew_entry-requires-clause-held
@@ -41,6 +41,14 @@ renew_entry-requires-clause-last c =
     let some = has_share i.shares.items v (subst (λ (w : Shared). IsSome (rule_at w.rules v)) (sym c.self.view_is) c.requires.rule) in
     let now = subst (λ (w : Shared). IsNow c.args.last w.moment) (sym c.self.view_is) c.requires.now in
     renew_last i.slots.entries i.slots.chains i.slots.lines i.heads.items i.shares.items i.moment c.self.invariant v s (stays i.slots.entries i.shares.items v s of some) c.args.place.now c.args.last now
+
+pub renew_entry-requires-clause-ends : goal.renew_entry-requires-clause-ends
+renew_entry-requires-clause-ends c =
+    let i = c.self.inside in let s = c.args.slot in let v = c.args.vid in
+    let of : IsOf (entry_at i.slots.entries s) v = subst (λ (w : Shared). IsOf (entry_at w.entries s) v) (sym c.self.view_is) c.requires.held in
+    let some = has_share i.shares.items v (subst (λ (w : Shared). IsSome (rule_at w.rules v)) (sym c.self.view_is) c.requires.rule) in
+    let now = subst (λ (w : Shared). IsNow c.args.last w.moment) (sym c.self.view_is) c.requires.now in
+    renew_ends i.slots.entries i.slots.chains i.slots.lines i.heads.items i.shares.items i.moment c.self.invariant v s (stays i.slots.entries i.shares.items v s of some) c.args.place.now c.args.last now
 
 pub invariant_of-self : goal.invariant_of-self
 invariant_of-self c =

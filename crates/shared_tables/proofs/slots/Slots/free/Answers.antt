@@ -1,4 +1,4 @@
-use Rattle.std.proofs.Common.{◌≡◌, set, Some, subst, ◌∷◌}
+use Rattle.std.proofs.Common.{◌≡◌, ℕ, set, Option, Some, ap, sym, ◌∙◌, subst, ◌∷◌}
 use Rattle.shared_tables.specs.Pool.{freed}
 use Rattle.shared_tables.specs.Slots.{pool_with, IsFreeAll}
 use Rattle.shared_tables.proofs.SlotsLemmas.{pool-freed, frees, forth, in_range, held_at}
@@ -10,7 +10,7 @@ invariant_of-self c =
     let n = c.self.inside.compared.total in let v = c.self.inside.visited.total in
     let e = c.self.view_is in let q = c.slot.view_is in (
       i ∷ c.self.invariant.0,
-      subst (λ s. IsFreeAll (set xs i c.vacant.result) (Some s) (i ∷ c.self.invariant.0)) q
+      subst (λ (o : Option ℕ). IsFreeAll (set xs i c.vacant.result) o (i ∷ c.self.invariant.0)) (ap Some q ∙ sym c.to-self-inside.ensures)
           (frees xs i c.vacant.result c.self.inside.free c.self.invariant.0 (in_range xs n v i _ _ e q c.requires.in_pool) (held_at xs n v i _ _ e q c.requires.in_pool c.requires.held) c.vacant.ensures.entry c.vacant.ensures.next c.self.invariant.1),
     )
 

@@ -11,8 +11,8 @@ invariant_of-self c =
     let n = c.self.inside.compared.total in let v = c.self.inside.visited.total in
     let e = c.self.view_is in let q = c.slot.view_is in
     let old = c.index_mut.result.now in
-    let some : IsSome (entry_in c.set_near.new.slot) = subst (λ (o : Option Held). IsSome o) (sym (ap entry_in c.set_near.ensures ∙ slot_with_entry c.args.thread old c.by_numbers.result)) (held_old_at xs n v i _ _ e q old c.index_mut.ensures.value c.requires.in_pool c.requires.held) in
-    (c.self.invariant.0, keeps_free xs i c.set_near.new.slot c.self.inside.free c.self.invariant.0 (in_range xs n v i _ _ e q c.requires.in_pool) (held_at xs n v i _ _ e q c.requires.in_pool c.requires.held) some c.self.invariant.1)
+    let some : IsSome (entry_in c.set_links.new.slot) = subst (λ (o : Option Held). IsSome o) (sym (ap entry_in c.set_links.ensures ∙ slot_with_entry c.args.thread old c.args.links)) (held_old_at xs n v i _ _ e q old c.index_mut.ensures.value c.requires.in_pool c.requires.held) in
+    (c.self.invariant.0, keeps_free xs i c.set_links.new.slot c.self.inside.free c.self.invariant.0 (in_range xs n v i _ _ e q c.requires.in_pool) (held_at xs n v i _ _ e q c.requires.in_pool c.requires.held) some c.self.invariant.1)
 
 pub returns : goal.returns
 returns c =
@@ -20,6 +20,6 @@ returns c =
     let n = c.self.inside.compared.total in let v = c.self.inside.visited.total in
     let e = c.self.view_is in let q = c.slot.view_is in
     let old = c.index_mut.result.now in
-    ap (λ (s : Slot). pool_with (set xs i s) n v) c.set_near.ensures
-    ∙ forth xs n v i _ _ e q (λ w s. pool_with (set xs i (slot_with c.args.thread old c.by_numbers.result)) n v ≡ with_column c.args.thread w (set (column c.args.thread w) s c.args.links))
-    (pool-set_links xs n v i c.args.thread c.by_numbers.result c.args.links old (in_range xs n v i _ _ e q c.requires.in_pool) c.index_mut.ensures.value (held_old_at xs n v i _ _ e q old c.index_mut.ensures.value c.requires.in_pool c.requires.held) c.by_numbers.ensures.back)
+    ap (λ (s : Slot). pool_with (set xs i s) n v) c.set_links.ensures
+    ∙ forth xs n v i _ _ e q (λ w s. pool_with (set xs i (slot_with c.args.thread old c.args.links)) n v ≡ with_column c.args.thread w (set (column c.args.thread w) s c.args.links))
+    (pool-set_links xs n v i c.args.thread c.args.links old (in_range xs n v i _ _ e q c.requires.in_pool) c.index_mut.ensures.value (held_old_at xs n v i _ _ e q old c.index_mut.ensures.value c.requires.in_pool c.requires.held))

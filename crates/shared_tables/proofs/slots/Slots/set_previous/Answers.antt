@@ -1,9 +1,8 @@
 use Rattle.std.proofs.Common.{◌≡◌, set, Option, IsSome, sym, ap, ◌∙◌, subst}
 use Rattle.shared_tables.specs.declared.slots.Links.{Links}
-use Rattle.shared_tables.specs.declared.slots.Near.{Near}
 use Rattle.shared_tables.specs.declared.slots.Slot.{Slot}
-use Rattle.shared_tables.specs.Pool.{Held, column, links_at, with_column}
-use Rattle.shared_tables.specs.Slots.{pool_with, entry_in, links_in, near_on, slot_with}
+use Rattle.shared_tables.specs.Pool.{Held, column, with_column}
+use Rattle.shared_tables.specs.Slots.{pool_with, entry_in, links_on, slot_with}
 use Rattle.shared_tables.proofs.SlotsLemmas.{pool-set_links, keeps_free, forth, in_range, held_at, held_old_at, links_read, slot_with_entry}
 use Rattle.shared_tables.proofs.slots.Slots.set_previous.Goals as goal
 
@@ -13,7 +12,7 @@ invariant_of-self c =
     let n = c.self.inside.compared.total in let v = c.self.inside.visited.total in
     let e = c.self.view_is in let q = c.slot.view_is in
     let old = c.index_mut.result.now in
-    let some : IsSome (entry_in c.set_previous.new.slot) = subst (λ (o : Option Held). IsSome o) (sym (ap entry_in c.set_previous.ensures ∙ slot_with_entry c.args.thread old (record (near_on c.args.thread old) { previous = c.number.result }))) (held_old_at xs n v i _ _ e q old c.index_mut.ensures.value c.requires.in_pool c.requires.held) in
+    let some : IsSome (entry_in c.set_previous.new.slot) = subst (λ (o : Option Held). IsSome o) (sym (ap entry_in c.set_previous.ensures ∙ slot_with_entry c.args.thread old (record (links_on c.args.thread old) { previous = c.args.previous }))) (held_old_at xs n v i _ _ e q old c.index_mut.ensures.value c.requires.in_pool c.requires.held) in
     (c.self.invariant.0, keeps_free xs i c.set_previous.new.slot c.self.inside.free c.self.invariant.0 (in_range xs n v i _ _ e q c.requires.in_pool) (held_at xs n v i _ _ e q c.requires.in_pool c.requires.held) some c.self.invariant.1)
 
 pub returns : goal.returns
@@ -22,10 +21,9 @@ returns c =
     let n = c.self.inside.compared.total in let v = c.self.inside.visited.total in
     let e = c.self.view_is in let q = c.slot.view_is in
     let old = c.index_mut.result.now in
-    let near : Near = record (near_on c.args.thread old) { previous = c.number.result } in
+    let links : Links = record (links_on c.args.thread old) { previous = c.args.previous } in
     let own = links_read xs n v i _ _ e q c.args.thread old c.index_mut.ensures.value c.requires.in_pool c.requires.held in
-    let links : Links = record (links_at (column c.args.thread c.args.self.now) c.args.slot) { previous = c.args.previous } in
-    let back : links_in near ≡ links = λ j. record { next = (own j).next; previous = c.number.ensures.back j } in
     ap (λ (s : Slot). pool_with (set xs i s) n v) c.set_previous.ensures
-    ∙ forth xs n v i _ _ e q (λ w s. pool_with (set xs i (slot_with c.args.thread old near)) n v ≡ with_column c.args.thread w (set (column c.args.thread w) s links))
-    (pool-set_links xs n v i c.args.thread near links old (in_range xs n v i _ _ e q c.requires.in_pool) c.index_mut.ensures.value (held_old_at xs n v i _ _ e q old c.index_mut.ensures.value c.requires.in_pool c.requires.held) back)
+    ∙ forth xs n v i _ _ e q (λ w s. pool_with (set xs i (slot_with c.args.thread old links)) n v ≡ with_column c.args.thread w (set (column c.args.thread w) s links))
+    (pool-set_links xs n v i c.args.thread links old (in_range xs n v i _ _ e q c.requires.in_pool) c.index_mut.ensures.value (held_old_at xs n v i _ _ e q old c.index_mut.ensures.value c.requires.in_pool c.requires.held))
+    ∙ ap (λ (own : Links). with_column c.args.thread c.args.self.now (set (column c.args.thread c.args.self.now) c.args.slot (record own { previous = c.args.previous }))) own

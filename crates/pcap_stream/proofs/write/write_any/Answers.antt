@@ -1,0 +1,25 @@
+use Rattle.std.proofs.Common.{refl, ℕ, List, OnErr, OnOk, subst}
+use Rattle.std.specs.Io.KnownBytes.{Appends}
+use Rattle.pcap_stream.specs.Sink.{AppendsPart}
+use Rattle.pcap_stream.proofs.Records.{text_is}
+use Rattle.pcap_stream.proofs.write.write_any.Goals as goal
+
+pub returns-then-head-addresses-gt-FRONT-clause-ok : goal.returns-then-head-addresses-gt-FRONT-clause-ok
+returns-then-head-addresses-gt-FRONT-clause-ok g c =
+    let is = text_is c.args.moment _ _ c.args.head.now c.args.addresses.now c.args.tag.now c.args.body.now c.record_header.ensures refl in
+    subst (λ (t : List ℕ). OnOk c.write_five.result (Appends (g.W.Output.written c.args.output.now) (g.W.Output.written c.write_five.new.output) t)) is c.write_five.ensures.ok
+
+pub returns-then-head-addresses-gt-FRONT-clause-err : goal.returns-then-head-addresses-gt-FRONT-clause-err
+returns-then-head-addresses-gt-FRONT-clause-err g c =
+    let is = text_is c.args.moment _ _ c.args.head.now c.args.addresses.now c.args.tag.now c.args.body.now c.record_header.ensures refl in
+    subst (λ (t : List ℕ). OnErr c.write_five.result (AppendsPart (g.W.Output.written c.args.output.now) (g.W.Output.written c.write_five.new.output) t)) is c.write_five.ensures.err
+
+pub returns-clause-ok : goal.returns-clause-ok
+returns-clause-ok g c =
+    let is = text_is c.args.moment _ _ c.args.head.now c.args.addresses.now c.args.tag.now c.args.body.now c.record_header.ensures refl in
+    subst (λ (t : List ℕ). OnOk c.write_gathered.result (Appends (g.W.Output.written c.args.output.now) (g.W.Output.written c.write_gathered.new.self) t)) is c.write_gathered.ensures.ok
+
+pub returns-clause-err : goal.returns-clause-err
+returns-clause-err g c =
+    let is = text_is c.args.moment _ _ c.args.head.now c.args.addresses.now c.args.tag.now c.args.body.now c.record_header.ensures refl in
+    subst (λ (t : List ℕ). OnErr c.write_gathered.result (AppendsPart (g.W.Output.written c.args.output.now) (g.W.Output.written c.write_gathered.new.self) t)) is c.write_gathered.ensures.err

@@ -1,0 +1,20 @@
+-- The ports, and the members of one segment (IEEE 802.1Q, 8.8.10).
+use Rattle.std.specs.Prelude.{ℕ, ◌-◌, Bool, ◌&&◌, is_some, List, Option, slice_index_or}
+use Rattle.std.specs.Option.{option_and_then}
+use Rattle.std.specs.FinMap.{get}
+use Rattle.vlan_ports.specs.declared.port.PortRule.{PortRule}
+use Rattle.vlan_ports.specs.Ports.{Members, Ports, members_at, no_port}
+
+-- the ports, and the members of a segment, where there is one
+pub record Row : Type 0 where
+  -- port 1, port 2 and so on
+  pub ports : List PortRule
+  pub members : Option Members
+
+-- that of the segment with this VID
+abbrev pub row_at : Ports → ℕ → Row
+row_at s vid = record { ports = s.ports; members = members_at s vid }
+
+-- frames of the segment may leave by this port: it is up, and a member
+abbrev pub serves : Row → ℕ → Bool
+serves r port = (slice_index_or r.ports (port - 1) no_port).up && is_some (option_and_then (λ members. get members port) r.members)

@@ -9,28 +9,8 @@ use ip_udp_view::{Addr, Tunnel};
 use overlay_config::settings_of;
 use std::alloc::Global;
 use std::test::Fail;
+use test_inputs::settings::ENDPOINT;
 use timeline::{Captured, Cut, Event, Happening, Source, Tap};
-
-/// Three ports in a segment that floods to 192.0.2.2 by VXLAN; port 3 has it tagged.
-const SETTINGS: &str = r#"version = 1
-[underlay]
-mac = "02:00:00:00:aa:01"
-next_hop = "02:00:00:00:aa:fe"
-ip4 = "192.0.2.1"
-[[port]]
-pvid = 10
-[[port]]
-pvid = 10
-[[port]]
-pvid = 10
-[[segment]]
-vid = 10
-vni = 5000
-tunnel = "vxlan"
-untagged = [1, 2]
-tagged = [3]
-flood = ["192.0.2.2"]
-"#;
 
 const SECOND: u64 = 1_000_000_000;
 
@@ -39,9 +19,9 @@ fn longest<'a>() -> &'a str {
     "1000 18446744073709551615 p16 18446744073709551615 4094 p1=110 p2=110 p3=110 p4=110 p5=110 p6=110 p7=110 p8=110 p9=110 p10=110 p11=110 p12=110 p13=110 p14=110 p15=110 p16=110 vxlan:2001:0db8:0000:0000:0000:0000:0000:0001=110 geneve:2001:0db8:0000:0000:0000:0000:0000:0002=110 vxlan:2001:0db8:0000:0000:0000:0000:0000:0003=110 geneve:2001:0db8:0000:0000:0000:0000:0000:0004=110 vxlan:2001:0db8:0000:0000:0000:0000:0000:0005=110 geneve:2001:0db8:0000:0000:0000:0000:0000:0006=110 vxlan:2001:0db8:0000:0000:0000:0000:0000:0007=110 geneve:2001:0db8:0000:0000:0000:0000:0000:0008=110 vxlan:2001:0db8:0000:0000:0000:0000:0000:0009=110 geneve:2001:0db8:0000:0000:0000:0000:0000:000a=110 vxlan:2001:0db8:0000:0000:0000:0000:0000:000b=110 geneve:2001:0db8:0000:0000:0000:0000:0000:000c=110 vxlan:2001:0db8:0000:0000:0000:0000:0000:000d=110 geneve:2001:0db8:0000:0000:0000:0000:0000:000e=110 vxlan:2001:0db8:0000:0000:0000:0000:0000:000f=110 geneve:2001:0db8:0000:0000:0000:0000:0000:0010=110\n"
 }
 
-/// The endpoint of these settings.
+/// An endpoint with three ports in a segment that floods to 192.0.2.2 by VXLAN; port 3 has it tagged.
 fn endpoint(alloc: Global) -> Result<Endpoint, Fail> {
-    let settings = settings_of(alloc, SETTINGS.as_bytes())?;
+    let settings = settings_of(alloc, ENDPOINT.as_bytes())?;
     Ok(Endpoint::open(alloc, settings)?)
 }
 

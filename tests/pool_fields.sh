@@ -17,12 +17,12 @@ fields() {
 diff - <(fields) <<'TEXT' || { echo "tests/pool_fields.sh: the pool keeps something else"; exit 1; }
 enum Kind { Free, Learned, Fixed, }
 enum Thread { Chain, Line, }
-struct Ends { first: Option<SlotId>, last: Option<SlotId>, }
-struct Links { previous: Option<SlotId>, next: Option<SlotId>, }
-struct Near { previous: u32, next: u32, }
+struct Ends { first: Link, last: Link, }
+struct Link { word: u32, }
+struct Links { previous: Link, next: Link, }
 struct Share { limit: u32, ageing: u32, count: u32, queue: Ends, fixed: Ends, }
-struct SharedTables { slots: Slots, heads: Vec<Option<SlotId>>, shares: Vec<Option<Share>>, moment: u64, calls: Count, }
-struct Slot { key: u64, last: u64, chain: Near, line: Near, place: Place, kind: Kind, }
+struct SharedTables { slots: Slots, heads: Vec<Link>, shares: Vec<Option<Share>>, moment: u64, calls: Count, }
+struct Slot { key: u64, last: u64, chain: Links, line: Links, place: Place, kind: Kind, }
 struct SlotId { number: u32, }
-struct Slots { slots: Vec<Slot>, free: Option<SlotId>, compared: Count, visited: Count, }
+struct Slots { slots: Vec<Slot>, free: Link, compared: Count, visited: Count, }
 TEXT

@@ -192,35 +192,6 @@ impl<W: Output> BlockOutput<W> {
         self.put_gathered(before, head, addresses, tag, body);
         Ok(())
     }
-
-    /// The same of a write of a record, of whose header and tag copies go on: so where nothing does, they need not stand in
-    /// memory.
-    #[inline(always)]
-    fn write_record_on(
-        &mut self,
-        header: &[u8; RECORD_HEADER_LENGTH],
-        head: &[u8],
-        addresses: &[u8],
-        tag: &[u8],
-        body: &[u8],
-    ) -> Result<(), WriteFault>
-        requires { length header.now + length head.now + length addresses.now + length tag.now ≤ 102 }
-        ensures ok { OnOk result (Appends (told self.old) (told self.new)
-            (header.now ++ (head.now ++ (addresses.now ++ (tag.now ++ body.now))))) }
-        ensures err { OnErr result (AppendsPart (told self.old) (told self.new)
-            (header.now ++ (head.now ++ (addresses.now ++ (tag.now ++ body.now))))) }
-        ensures quiet { OnOk result (self.new.failures ≡ self.old.failures) }
-        ensures cause { OnErr result (GoesOnBy 1 self.old.failures self.new.failures) }
-    {
-        let before = *header;
-        match tag.as_array::<4>() {
-            Some(tag) => {
-                let tag = *tag;
-                self.write_gathered_on(&before, head, addresses, &tag, body)
-            }
-            None => self.write_gathered_on(&before, head, addresses, tag, body),
-        }
-    }
 }
 
 impl<W: Output> Output for BlockOutput<W> {
@@ -259,8 +230,10 @@ impl<W: Output> Output for BlockOutput<W> {
     ) -> Result<(), WriteFault> {
         let size = before.len() + head.len() + addresses.len() + tag.len() + body.len();
         if size > self.block.len() - self.held {
+            // a copy of a record's header goes on: so where none does, it need not stand in memory
             if let Some(header) = before.as_array::<RECORD_HEADER_LENGTH>() {
-                return self.write_record_on(header, head, addresses, tag, body);
+                let header = *header;
+                return self.write_gathered_on(&header, head, addresses, tag, body);
             }
             return self.write_gathered_on(before, head, addresses, tag, body);
         }

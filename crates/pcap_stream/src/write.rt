@@ -208,35 +208,6 @@ fn write_any<W: Output>(
     output.write_gathered(before, head, addresses, tag, body)
 }
 
-/// The same, where a copy of the tag goes on: so where the record is of the form that most have, the tag need not stand in
-/// memory.
-#[inline(always)]
-fn write_apart<W: Output>(
-    output: &mut W,
-    moment: u64,
-    head: &[u8],
-    addresses: &[u8],
-    tag: &[u8],
-    body: &[u8],
-) -> Result<(), WriteFault>
-    requires moment { moment ≤ last_moment }
-    requires size { length head.now + length addresses.now + length tag.now + length body.now ≤ longest }
-    ensures ok { OnOk result (Appends (W.written output.old) (W.written output.new)
-        (written_record (whole_frame moment (head.now ++ (addresses.now ++ (tag.now ++ body.now)))))) }
-    ensures err { OnErr result (AppendsPart (W.written output.old) (W.written output.new)
-        (written_record (whole_frame moment (head.now ++ (addresses.now ++ (tag.now ++ body.now)))))) }
-    ensures quiet { OnOk result (W.failures output.new ≡ W.failures output.old) }
-    ensures cause { OnErr result (GoesOnBy 1 (W.failures output.old) (W.failures output.new)) }
-{
-    match tag.as_array::<4>() {
-        Some(tag) => {
-            let tag = *tag;
-            write_any(output, moment, head, addresses, &tag, body)
-        }
-        None => write_any(output, moment, head, addresses, tag, body),
-    }
-}
-
 /// Writes a record that holds a whole frame, the four slices side by side. It takes least where the addresses have twelve
 /// octets and the front is short.
 #[inline(always)]
@@ -264,5 +235,5 @@ pub fn write_record<W: Output>(
             return output.write_gathered(before, head, pair, tag, body);
         }
     }
-    write_apart(output, moment, head, addresses, tag, body)
+    write_any(output, moment, head, addresses, tag, body)
 }

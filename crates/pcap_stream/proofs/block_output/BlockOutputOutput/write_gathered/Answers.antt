@@ -6,5 +6,5 @@ use Rattle.pcap_stream.proofs.block_output.BlockOutputOutput.write_gathered.Goal
 pub returns-in-Some-clause-err : goal.returns-in-Some-clause-err
 returns-in-Some-clause-err g c =
     let same : c.in-Some.header.now ≡ c.args.before.now = search rules in
-    subst (λ (t : List ℕ). OnErr c.write_record_on.result (AppendsPart (told c.args.self.now) (told c.write_record_on.new.self)
-    (t ++ (c.args.head.now ++ (c.args.addresses.now ++ (c.args.tag.now ++ c.args.body.now)))))) same c.write_record_on.ensures.err
+    subst (λ (t : List ℕ). OnErr c.write_gathered_on.result (AppendsPart (told c.args.self.now) (told c.write_gathered_on.new.self)
+    (t ++ (c.args.head.now ++ (c.args.addresses.now ++ (c.args.tag.now ++ c.args.body.now)))))) same c.write_gathered_on.ensures.err

@@ -1,9 +1,9 @@
 -- What comes next in a text, by the header that stands in front.
 use Rattle.std.proofs.Common.{◌≡◌, ◌∙◌, refl, sym, ap, ℕ, ◌+◌, ◌<◌, ◌≤◌, Bool, true, false, List, [], ◌∷◌, length, take, drop, arith, Option, Some, None, Result, Ok, Err}
 use Rattle.std.specs.Prelude.{◌==◌, nat_lt, nat_le, if◌then◌else◌}
-use Rattle.std.proofs.lemmas.Bool.{le-ltb, lt-ltb, ne_eqb}
+use Rattle.std.proofs.lemmas.Bool.{cond-false, cond-true, le-ltb, lt-ltb, ne_eqb}
 use Rattle.pcap_io.specs.Next.{End, Whole, Cut, Faulty, Another, Ends, ending, first_row, next_of, next_unless, readable, record_by, behind_by, unless_faulty}
-use Rattle.pcap_io.specs.Record.{longest}
+use Rattle.pcap_io.specs.Record.{Record, longest}
 use Rattle.pcap_io.specs.RecordText.{moment_of, record_header_in}
 use Rattle.pcap_io.specs.Style.{fractions_of}
 use Rattle.pcap_io.specs.declared.record.RecordFault.{RecordFault}
@@ -58,34 +58,30 @@ next_of-faulty style text fault long is =
     (nat_lt (length text) (16 + h.captured)) h fault (ne_eqb _ 0 (λ e. omega arith)) (le-ltb _ _ long) is in
     ap (λ end. next_unless end (record_by style h text) (behind_by h text)) found
 
-by_readable : (style : Style) (text : List ℕ) (header : RecordHeader) → 16 ≤ length text → readable style (record_header_in style.order text) ≡ Ok header
-    → (record_header_in style.order text ≡ header) × (ending style text ≡ if nat_lt (length text) (16 + (record_header_in style.order text).captured) then Some Cut else None)
-unfolding readable
-by_readable style text header long is =
+-- behind a header without one it is the text's length that decides: fewer octets than captured are a cut rest
+by_length : (style : Style) (text : List ℕ) (header : RecordHeader) → 16 ≤ length text → readable style (record_header_in style.order text) ≡ Ok header
+    → next_of style text ≡ if nat_lt (length text) (16 + header.captured) then Ends Cut else Another (record_by style header text) (behind_by header text)
+unfolding next_of readable
+by_length style text header long is =
     let h = record_header_in style.order text in
-    whole_first (length text == 0) (nat_lt (length text) 16) (nat_lt longest h.captured) (nat_le (fractions_of style.precision) h.fraction)
-    (nat_lt (length text) (16 + h.captured)) h header (ne_eqb _ 0 (λ e. omega arith)) (le-ltb _ _ long) is
+    let found = whole_first (length text == 0) (nat_lt (length text) 16) (nat_lt longest h.captured) (nat_le (fractions_of style.precision) h.fraction)
+    (nat_lt (length text) (16 + h.captured)) h header (ne_eqb _ 0 (λ e. omega arith)) (le-ltb _ _ long) is in
+    next_where _ _ _ _ found.1
+    ∙ ap (λ k. if nat_lt (length text) (16 + k.captured) then Ends Cut else Another (record_by style k text) (behind_by k text)) found.0
+  where
+    next_where : (cut : Bool) (end : Option End) (r : Record) (rest : List ℕ) → end ≡ (if cut then Some Cut else None)
+        → next_unless end r rest ≡ if cut then Ends Cut else Another r rest
+    next_where true end r rest e = ap (λ end. next_unless end r rest) e
+    next_where false end r rest e = ap (λ end. next_unless end r rest) e
 
--- behind a header without one, fewer octets than captured are a cut rest
 pub next_of-cut : (style : Style) (text : List ℕ) (header : RecordHeader) → 16 ≤ length text → readable style (record_header_in style.order text) ≡ Ok header
     → length text < 16 + header.captured → next_of style text ≡ Ends Cut
-unfolding next_of
-next_of-cut style text header long is short =
-    let h = record_header_in style.order text in
-    let found = by_readable style text header long is in
-    let less : nat_lt (length text) (16 + h.captured) ≡ true = lt-ltb _ _ (rw found.0 short) in
-    ap (λ end. next_unless end (record_by style h text) (behind_by h text)) (found.1 ∙ ap (λ b. if b then Some Cut else None) less)
+next_of-cut style text header long is short = by_length style text header long is ∙ cond-true _ _ _ (lt-ltb _ _ short)
 
 -- and otherwise the record stands there
 pub next_of-another : (style : Style) (text : List ℕ) (header : RecordHeader) → 16 ≤ length text → readable style (record_header_in style.order text) ≡ Ok header
     → 16 + header.captured ≤ length text → next_of style text ≡ Another (record_by style header text) (behind_by header text)
-unfolding next_of
-next_of-another style text header long is fits =
-    let h = record_header_in style.order text in
-    let found = by_readable style text header long is in
-    let all : nat_lt (length text) (16 + h.captured) ≡ false = le-ltb _ _ (rw found.0 fits) in
-    ap (λ end. next_unless end (record_by style h text) (behind_by h text)) (found.1 ∙ ap (λ b. if b then Some Cut else None) all)
-    ∙ ap (λ k. Another (record_by style k text) (behind_by k text)) found.0
+next_of-another style text header long is fits = by_length style text header long is ∙ cond-false _ _ _ (le-ltb _ _ fits)
 
 -- a record that has the parts that stand there, with what is behind it, is what comes next
 pub next_of-found : (style : Style) (text : List ℕ) (header : RecordHeader) (moment original : ℕ) (octets rest : List ℕ) → 16 ≤ length text

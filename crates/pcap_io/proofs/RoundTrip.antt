@@ -11,7 +11,7 @@ use Rattle.pcap_io.specs.Style.{octets_of}
 use Rattle.pcap_io.specs.Written.{written, written_record, written_style}
 use Rattle.pcap_io.specs.declared.style.Order.TheVariants.{Little}
 
-record_text : (r : Record) → IsWithinLimits r → IsRecordText written_style r (written_record r)
+pub record_text : (r : Record) → IsWithinLimits r → IsRecordText written_style r (written_record r)
 unfolding written_record
 record_text r fits = record {
   header = record { seconds = r.moment / 1000000000; fraction = r.moment % 1000000000; captured = length r.octets; original = r.original };

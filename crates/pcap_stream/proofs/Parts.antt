@@ -1,10 +1,10 @@
 -- Texts that are read or written part by part.
-use Rattle.std.proofs.Common.{◌≡◌, ◌∙◌, sym, ap, subst, ℕ, suc, ◌+◌, ◌<◌, ◌≤◌, ◌≢◌, List, ◌∷◌, ◌++◌, length, length-take-le, take, drop, get_or, arith, append_assoc, length-append, Option, None, Some, IfSome, OnErr, Result, Ok, Err}
+use Rattle.std.proofs.Common.{◌≡◌, ◌∙◌, sym, ap, subst, ℕ, suc, ◌+◌, ◌<◌, ◌≤◌, ◌≢◌, List, ◌∷◌, ◌++◌, length, length-take-le, take, drop, get_or, arith, append_assoc, length-append, Option, None, Some, IfSome, OnErr, OnOk, Result, Ok, Err}
 use Rattle.std.proofs.KnownBytes.{Appends-trans, Consumes-kept, Consumes-trans}
 use Rattle.std.proofs.Math.Seq.{drop-cons, take-add, take-append-add}
 use Rattle.std.proofs.lemmas.Bool.{ne_eqb}
 use Rattle.std.proofs.lemmas.Grind.{flat_map-append}
-use Rattle.std.proofs.lemmas.List.{take-append-drop, take-append-le}
+use Rattle.std.proofs.lemmas.List.{take-append-drop, take-append-le, take_all}
 use Rattle.std.proofs.lemmas.List.Concat.{flat_map-cons}
 use Rattle.std.specs.Io.KnownBytes.{Appends, Consumes, Keeps}
 use Rattle.std.specs.List.{flat_map}
@@ -27,6 +27,18 @@ Spends-trans a b c p q = record { fewer = omega (arith, p.fewer, q.fewer); calls
 -- a longer front of a text was written
 pub written_more : (a b c : Option (List ℕ)) (text : List ℕ) (at n : ℕ) → Appends a b (take at text) → Appends b c (take n (drop at text)) → Appends a c (take (at + n) text)
 written_more a b c text at n before more = subst (Appends a c) (sym (take-add at n text)) (Appends-trans a b c _ _ before more)
+
+-- where all of a text was taken, it was written
+pub all_taken : {T E : Type 0} (a b : Option (List ℕ)) (text : List ℕ) (n : ℕ) (result : Result T E) → OnOk result (n ≡ length text) → Appends a b (take n text)
+    → OnOk result (Appends a b text)
+all_taken a b text n (Ok x) all taken = subst (Appends a b) (take_all n text (omega (arith, all))) taken
+all_taken a b text n (Err e) all taken = tt
+
+-- and otherwise a part of it
+pub part_taken : {T E : Type 0} (a b : Option (List ℕ)) (text : List ℕ) (n : ℕ) (result : Result T E) → OnErr result (n < length text) → Appends a b (take n text)
+    → OnErr result (AppendsPart a b text)
+part_taken a b text n (Ok x) short taken = tt
+part_taken a b text n (Err e) short taken = (n, short, taken)
 
 -- a write that took something is no refusal
 pub took_some : (old new n size : ℕ) → n ≢ 0 → MatchBool (n == 0 && nat_lt 0 size) (GoesOnBy 1 old new) (new ≡ old) → new ≡ old

@@ -13,6 +13,10 @@ pub record Supply : Type 0 where
   pub ends : ℕ
   pub reads : ℕ
 
+-- an input that so many reads may be made of, with its octets and its counts: no read found the end yet
+abbrev pub untouched : Option (List ℕ) → ℕ → ℕ → ℕ → Supply
+untouched rest calls failures reads = record { rest = rest; calls = calls; failures = failures; ends = 0; reads = reads }
+
 -- the same input, with octets that were read ahead in front of what it has left
 abbrev pub with_ahead : List ℕ → Supply → Supply
 with_ahead octets s = record s { rest = prepend_known octets s.rest }

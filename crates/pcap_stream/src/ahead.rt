@@ -3,7 +3,7 @@ ghost use Rattle.std.specs.Prelude.{◌≡◌, ◌<◌, ◌≤◌, ◌+◌, ◌-
 ghost use Rattle.std.specs.Io.KnownBytes.{Consumes, IsAtEnd};
 ghost use Rattle.pcap_io.specs.Record.{longest};
 ghost use Rattle.pcap_stream.specs.Ahead.{left_of, most_in};
-ghost use Rattle.pcap_stream.specs.Supply.{GivesUp, IsThrifty, Spends, StopsShort, TakesOneEach};
+ghost use Rattle.pcap_stream.specs.Supply.{GivesUp, IsThrifty, Spends, StopsShort, TakesOneEach, untouched};
 
 use crate::device::DeviceFault;
 use crate::input::Input;
@@ -51,13 +51,7 @@ impl<R: Input> ReadAhead<R> {
     where
         R: Drop,
         ensures { IfOk result (λ made. made ≡ record {
-          input = record {
-            rest = R.remaining input;
-            calls = R.calls input;
-            failures = R.failures input;
-            ends = 0;
-            reads = reads;
-          };
+          input = untouched (R.remaining input) (R.calls input) (R.failures input) reads;
           ahead = [];
           taken = [];
         }) }

@@ -71,7 +71,7 @@ impl<W: Output> BlockOutput<W> {
         ensures quiet { OnOk result (self.new.failures ≡ self.old.failures) }
         ensures cause { OnErr result (GoesOnBy 1 self.old.failures self.new.failures) }
     {
-        let (handed, result) = hand_on(&mut self.output, &self.block[..self.held]);
+        let (handed, result) = self.output.hand_on(&self.block[..self.held]);
         self.forget(handed);
         result
     }
@@ -250,25 +250,4 @@ fn shift(octets: &mut [u8], count: usize, held: usize)
     ensures size { length octets.new ≡ length octets.old }
 {
     octets.copy_within(count..held, 0);
-}
-
-/// Writes octets to an output as far as it takes them, and says how many it took.
-fn hand_on<W: Output>(output: &mut W, octets: &[u8]) -> (usize, Result<(), WriteFault>)
-    ensures bound { result.0 ≤ length octets.now }
-    ensures all { OnOk result.1 (result.0 ≡ length octets.now) }
-    ensures taken { Appends (W.written output.old) (W.written output.new) (take result.0 octets.now) }
-    ensures quiet { OnOk result.1 (W.failures output.new ≡ W.failures output.old) }
-    ensures cause { OnErr result.1 (GoesOnBy 1 (W.failures output.old) (W.failures output.new)) }
-{
-    let mut at = 0;
-    while at < octets.len() {
-        let Ok(n) = output.write(&octets[at..]) else {
-            return (at, Err(WriteFault));
-        };
-        if n == 0 {
-            return (at, Err(WriteFault));
-        }
-        at += n;
-    }
-    (at, Ok(()))
 }

@@ -1,5 +1,5 @@
 //! Where octets come from.
-ghost use Rattle.std.specs.Prelude.{◌≡◌, ◌<◌, ℕ, List, Option, length, take, IfOk, OnErr};
+ghost use Rattle.std.specs.Prelude.{◌≡◌, ◌<◌, ◌≤◌, ◌+◌, ℕ, List, Option, drop, length, take, IfOk, OnErr};
 ghost use Rattle.std.specs.Io.{ReadsAtMost};
 ghost use Rattle.std.specs.Io.KnownBytes.{Consumes, IsAtEnd, Keeps, ReadConsumes};
 ghost use Rattle.pcap_stream.specs.Counts.{CountsFaults, GoesOnBy};
@@ -25,6 +25,24 @@ pub trait Input {
         ensures taken { ReadConsumes (remaining self.old) (remaining self.new) result octets.new }
         ensures calls { GoesOnBy 1 (calls self.old) (calls self.new) }
         ensures failures { CountsFaults (failures self.old) (failures self.new) result };
+}
+
+/// One read, into what is behind the first `at` octets.
+pub fn read_behind<R: Input>(
+    input: &mut R,
+    octets: &mut [u8],
+    at: usize,
+) -> Result<usize, DeviceFault>
+    requires { at < length octets.old }
+    ensures front { take at octets.new ≡ take at octets.old }
+    ensures fits { IfOk result (λ n. at + n ≤ length octets.new) }
+    ensures taken { IfOk result (λ n. Consumes (R.remaining input.old) (R.remaining input.new) (take n (drop at octets.new))) }
+    ensures end { IfOk result (λ n. n ≡ 0 → IsAtEnd (R.remaining input.new)) }
+    ensures none { OnErr result (Keeps (R.remaining input.old) (R.remaining input.new)) }
+    ensures calls { GoesOnBy 1 (R.calls input.old) (R.calls input.new) }
+    ensures failures { CountsFaults (R.failures input.old) (R.failures input.new) result }
+{
+    input.read(&mut octets[at..])
 }
 
 /// A reader of std's, as an input.

@@ -22,7 +22,7 @@ mod write;
 pub use block_output::BlockOutput;
 pub use device::DeviceFault;
 pub use fault::{SourceFault, WriteFault};
-pub use input::{Input, StdInput};
+pub use input::{Input, StdInput, read_behind};
 pub use output::{Output, StdOutput};
 pub use sink::Sink;
 pub use source::Source;

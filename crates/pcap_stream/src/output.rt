@@ -1,5 +1,5 @@
 //! Where octets go.
-ghost use Rattle.std.specs.Prelude.{◌≡◌, ◌≤◌, ◌+◌, ◌++◌, ℕ, List, Option, length, take, IfOk, OnErr, OnOk};
+ghost use Rattle.std.specs.Prelude.{◌≡◌, ◌≤◌, ◌<◌, ◌+◌, ◌++◌, ℕ, List, Option, length, take, IfOk, OnErr, OnOk};
 ghost use Rattle.std.specs.Io.{WritesAtMost};
 ghost use Rattle.std.specs.Io.KnownBytes.{Appends, Keeps, WriteAppends};
 ghost use Rattle.pcap_stream.specs.Counts.{CountsRefusals, GoesOnBy};
@@ -24,6 +24,29 @@ pub trait Output {
         ensures appended { WriteAppends (written self.old) (written self.new) result octets.now }
         ensures failures { CountsRefusals (failures self.old) (failures self.new) result (length octets.now) };
 
+    /// Appends `octets` in as many writes as it takes, and says how many were appended. A fault comes where a write fails
+    /// or takes none of some octets: then they are not all.
+    fn hand_on(&mut self, octets: &[u8]) -> (usize, Result<(), WriteFault>)
+        ensures bound { result.0 ≤ length octets.now }
+        ensures all { OnOk result.1 (result.0 ≡ length octets.now) }
+        ensures part { OnErr result.1 (result.0 < length octets.now) }
+        ensures taken { Appends (written self.old) (written self.new) (take result.0 octets.now) }
+        ensures quiet { OnOk result.1 (failures self.new ≡ failures self.old) }
+        ensures cause { OnErr result.1 (GoesOnBy 1 (failures self.old) (failures self.new)) }
+    {
+        let mut at = 0;
+        while at < octets.len() {
+            let Ok(n) = self.write(&octets[at..]) else {
+                return (at, Err(WriteFault));
+            };
+            if n == 0 {
+                return (at, Err(WriteFault));
+            }
+            at += n;
+        }
+        (at, Ok(()))
+    }
+
     /// Appends all of `octets`, in as many writes as it takes. A fault comes where a write fails or takes none of some
     /// octets: then a part of them was appended, and not all.
     fn write_all(&mut self, octets: &[u8]) -> Result<(), WriteFault>
@@ -32,17 +55,8 @@ pub trait Output {
         ensures quiet { OnOk result (failures self.new ≡ failures self.old) }
         ensures cause { OnErr result (GoesOnBy 1 (failures self.old) (failures self.new)) }
     {
-        let mut at = 0;
-        while at < octets.len() {
-            let Ok(n) = self.write(&octets[at..]) else {
-                return Err(WriteFault);
-            };
-            if n == 0 {
-                return Err(WriteFault);
-            }
-            at += n;
-        }
-        Ok(())
+        let (_, result) = self.hand_on(octets);
+        result
     }
 
     /// Appends five texts, one behind another, of which all but the last are short, as [`Output::write_all`] appends one.

@@ -4,7 +4,7 @@ ghost use Rattle.std.specs.Io.KnownBytes.{prepend_known};
 ghost use Rattle.pcap_io.specs.Record.{IsWithinLimits};
 ghost use Rattle.pcap_stream.specs.Source.{FillsToTheBound, IsFilled, IsOpened, New, OpensToTheBound, ReadsWhatLacks, answer, below, ends_cut, lent, most_left, style_at};
 ghost use Rattle.pcap_stream.specs.State.{standing_of};
-ghost use Rattle.pcap_stream.specs.Supply.{IsThrifty, Spends};
+ghost use Rattle.pcap_stream.specs.Supply.{IsThrifty, Spends, untouched};
 
 use crate::ahead::ReadAhead;
 use crate::fault::SourceFault;
@@ -50,13 +50,7 @@ impl<R: Input> Source<R> {
         R: Drop,
         ensures { IfOk result (λ source. source ≡ record {
           standing = New;
-          supply = record {
-            rest = R.remaining input;
-            calls = R.calls input;
-            failures = R.failures input;
-            ends = 0;
-            reads = reads;
-          };
+          supply = untouched (R.remaining input) (R.calls input) (R.failures input) reads;
           ahead = [];
         }) }
     {

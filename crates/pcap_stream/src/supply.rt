@@ -3,7 +3,7 @@ ghost use Rattle.std.specs.Prelude.{◌≡◌, ◌≢◌, ◌<◌, ◌≤◌, �
 ghost use Rattle.std.specs.Io.KnownBytes.{Consumes, IsAtEnd, Keeps, prepend_known};
 ghost use Rattle.pcap_io.specs.Record.{longest};
 ghost use Rattle.pcap_stream.specs.Counts.{GoesOnBy};
-ghost use Rattle.pcap_stream.specs.Supply.{GivesUp, IsThrifty, Spends, StopsShort, with_ahead};
+ghost use Rattle.pcap_stream.specs.Supply.{GivesUp, IsThrifty, Spends, StopsShort, untouched, with_ahead};
 
 use crate::device::DeviceFault;
 use crate::input::Input;
@@ -37,13 +37,7 @@ impl<R: Input> Model for Supply<R> {
 
 impl<R: Input> Supply<R> {
     pub fn new(input: R, reads: u64) -> Supply<R>
-        ensures { result ≡ record {
-          rest = R.remaining input;
-          calls = R.calls input;
-          failures = R.failures input;
-          ends = 0;
-          reads = reads;
-        } }
+        ensures { result ≡ untouched (R.remaining input) (R.calls input) (R.failures input) reads }
     {
         Supply {
             input,

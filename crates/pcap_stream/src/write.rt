@@ -25,8 +25,8 @@ fn write_parts<W: Output>(output: &mut W, parts: &[&[u8]]) -> Result<(), WriteFa
     Ok(())
 }
 
-/// Writes five texts that lie in different places, one behind another. They share a lifetime, so that they can stand in
-/// one array.
+/// Writes five texts that lie in different places, one behind another, gathered where those before the last are short.
+/// They share a lifetime, so that they can stand in one array.
 #[cold]
 #[inline(never)]
 fn write_five<'p, W: Output>(
@@ -37,6 +37,7 @@ fn write_five<'p, W: Output>(
     tag: &'p [u8],
     body: &'p [u8],
 ) -> Result<(), WriteFault>
+    requires { length before.now + length head.now + length addresses.now + length tag.now ≤ 16 + longest }
     ensures ok { OnOk result (Appends (W.written output.old) (W.written output.new)
         (before.entry.now ++ (head.entry.now ++ (addresses.entry.now ++ (tag.entry.now ++ body.entry.now))))) }
     ensures err { OnErr result (AppendsPart (W.written output.old) (W.written output.new)
@@ -44,7 +45,10 @@ fn write_five<'p, W: Output>(
     ensures quiet { OnOk result (W.failures output.new ≡ W.failures output.old) }
     ensures cause { OnErr result (GoesOnBy 1 (W.failures output.old) (W.failures output.new)) }
 {
-    write_parts(output, &[before, head, addresses, tag, body])
+    if before.len() + head.len() + addresses.len() + tag.len() > FRONT {
+        return write_parts(output, &[before, head, addresses, tag, body]);
+    }
+    output.write_gathered(before, head, addresses, tag, body)
 }
 
 /// The octets that stand before a frame's body at most: a record's header, outer headers of 70, two addresses and a tag.
@@ -180,34 +184,6 @@ pub(crate) fn put_five(
     put_behind(room, front_end, body)
 }
 
-/// The same as [`write_record`], for a record of any form.
-#[cold]
-#[inline(never)]
-fn write_any<W: Output>(
-    output: &mut W,
-    moment: u64,
-    head: &[u8],
-    addresses: &[u8],
-    tag: &[u8],
-    body: &[u8],
-) -> Result<(), WriteFault>
-    requires moment { moment ≤ last_moment }
-    requires size { length head.now + length addresses.now + length tag.now + length body.now ≤ longest }
-    ensures ok { OnOk result (Appends (W.written output.old) (W.written output.new)
-        (written_record (whole_frame moment (head.now ++ (addresses.now ++ (tag.now ++ body.now)))))) }
-    ensures err { OnErr result (AppendsPart (W.written output.old) (W.written output.new)
-        (written_record (whole_frame moment (head.now ++ (addresses.now ++ (tag.now ++ body.now)))))) }
-    ensures quiet { OnOk result (W.failures output.new ≡ W.failures output.old) }
-    ensures cause { OnErr result (GoesOnBy 1 (W.failures output.old) (W.failures output.new)) }
-{
-    let size = (head.len() + addresses.len() + tag.len() + body.len()) as u32;
-    let before = &record_header(moment, size);
-    if RECORD_HEADER_LENGTH + head.len() + addresses.len() + tag.len() > FRONT {
-        return write_five(output, before, head, addresses, tag, body);
-    }
-    output.write_gathered(before, head, addresses, tag, body)
-}
-
 /// Writes a record that holds a whole frame, the four slices side by side. It takes least where the addresses have twelve
 /// octets and the front is short.
 #[inline(always)]
@@ -235,5 +211,13 @@ pub fn write_record<W: Output>(
             return output.write_gathered(before, head, pair, tag, body);
         }
     }
-    write_any(output, moment, head, addresses, tag, body)
+    let size = (head.len() + addresses.len() + tag.len() + body.len()) as u32;
+    write_five(
+        output,
+        &record_header(moment, size),
+        head,
+        addresses,
+        tag,
+        body,
+    )
 }

@@ -2,7 +2,7 @@ use Rattle.std.proofs.Common.{◌≡◌, ◌-◌, ◌∙◌, ℕ, List, rules, a
 use Rattle.std.proofs.lemmas.List.{take_all}
 use Rattle.std.specs.Io.KnownBytes.{Appends}
 use Rattle.pcap_stream.proofs.Parts.{took_some, written_more}
-use Rattle.pcap_stream.proofs.output.Output.write_all.Goals as goal
+use Rattle.pcap_stream.proofs.output.Output.hand_on.Goals as goal
 
 pub loop-at-preserved : goal.loop-at-preserved
 loop-at-preserved g c =

@@ -1,25 +1,12 @@
 //! A look at the first octets of an input.
-ghost use Rattle.std.specs.Prelude.{◌≡◌, ◌≤◌, ◌<◌, ◌+◌, drop, length, take, IfErr, IfOk};
+ghost use Rattle.std.specs.Prelude.{◌≡◌, ◌≤◌, ◌<◌, length, IfErr, IfOk};
 ghost use Rattle.std.specs.Io.KnownBytes.{Consumes, IsAtEnd, Keeps};
 ghost use Rattle.pcap_stream.specs.Counts.{CountsFaults, GoesOnBy};
 ghost use Rattle.file_kind.specs.Head.{IsHeadOf, ahead, octets_in};
 
 use crate::head::{HEAD_LENGTH, Head};
 use crate::peeked::Peeked;
-use pcap_stream::{DeviceFault, Input};
-
-/// One read, into what is behind the first `at` octets.
-fn read_behind<R: Input>(input: &mut R, octets: &mut [u8], at: usize) -> Result<usize, DeviceFault>
-    requires { at < length octets.old }
-    ensures front { take at octets.new ≡ take at octets.old }
-    ensures fits { IfOk result (λ n. at + n ≤ length octets.new) }
-    ensures taken { IfOk result (λ n. Consumes (R.remaining input.old) (R.remaining input.new) (take n (drop at octets.new))) }
-    ensures end { IfOk result (λ n. n ≡ 0 → IsAtEnd (R.remaining input.new)) }
-    ensures failures { CountsFaults (R.failures input.old) (R.failures input.new) result }
-{
-    let n = input.read(&mut octets[at..])?;
-    Ok(n)
-}
+use pcap_stream::{DeviceFault, Input, read_behind};
 
 /// Takes the first octets from an input.
 fn take_head<R: Input>(input: &mut R) -> Result<Head, DeviceFault>

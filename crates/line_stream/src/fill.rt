@@ -7,7 +7,7 @@ ghost use Rattle.line_stream.specs.Lines.{longest_line};
 
 use crate::fault::LinesFault;
 use crate::find::end_of_line;
-use pcap_stream::{DeviceFault, Input};
+use pcap_stream::{Input, read_behind};
 
 /// Where the first line in a room ends, and where what was read ends.
 #[derive(Clone, Copy)]
@@ -22,19 +22,6 @@ pub(crate) struct Lent {
     pub begin: usize,
     pub end: usize,
     pub read: usize,
-}
-
-/// One read, into what is behind the first `at` octets.
-fn read_behind<R: Input>(input: &mut R, octets: &mut [u8], at: usize) -> Result<usize, DeviceFault>
-    requires { at < length octets.old }
-    ensures front { take at octets.new ≡ take at octets.old }
-    ensures fits { IfOk result (λ n. at + n ≤ length octets.new) }
-    ensures taken { IfOk result (λ n. Consumes (R.remaining input.old) (R.remaining input.new) (take n (drop at octets.new))) }
-    ensures end { IfOk result (λ n. n ≡ 0 → IsAtEnd (R.remaining input.new)) }
-    ensures quiet { OnOk result (R.failures input.new ≡ R.failures input.old) }
-    ensures failed { OnErr result (GoesOnBy 1 (R.failures input.old) (R.failures input.new)) }
-{
-    input.read(&mut octets[at..])
 }
 
 /// Moves what was read behind a line to the front, and says how much it is.

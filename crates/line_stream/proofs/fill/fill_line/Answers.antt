@@ -19,7 +19,7 @@ loop-read-preserved g c =
     record {
       fits = omega arith;
       same = omega arith;
-      quiet = read.quiet ∙ before.quiet;
+      quiet = read.failures ∙ before.quiet;
       text = read_more _ _ _ (take at c.loop-read.room) (take (at + c.in-Ok.more) new) (take c.in-Ok.more (drop at new)) before.text read.taken
           (take-add at c.in-Ok.more new ∙ ap (λ l. l ++ take c.in-Ok.more (drop at new)) read.front);
     }
@@ -32,7 +32,7 @@ returns-then-more-eq0-clause-filled g c =
     let new = c.read_behind.new.octets in
     let none : at ≡ at + 0 = omega arith in
     let consumed = subst (λ n. Consumes (g.R.Input.remaining c.loop-read.input) (g.R.Input.remaining c.read_behind.new.input) (take n (drop at new))) c.if-more-eq0.true read.taken in (
-      read.quiet ∙ before.quiet,
+      read.failures ∙ before.quiet,
       ended _ _ at new (read_more _ _ _ (take at c.loop-read.room) (take at new) (take 0 (drop at new)) before.text consumed (read.front ∙ sym (append-nil (take at c.loop-read.room)))) (read.end c.if-more-eq0.true)
           (subst HasNoEnd (sym read.front) c.in_default.ensures) (ap (λ n. drop at (take n new)) none ∙ drop-take at 0 new),
     )

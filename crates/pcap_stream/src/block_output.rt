@@ -9,7 +9,7 @@ ghost use Rattle.pcap_stream.specs.Sink.{AppendsPart};
 use crate::device::DeviceFault;
 use crate::fault::WriteFault;
 use crate::output::Output;
-use crate::write::put_five;
+use crate::write::{put_behind, put_four};
 use pcap_io::RECORD_HEADER_LENGTH;
 use std::alloc::{AllocError, Global};
 use std::marker::Model;
@@ -123,7 +123,8 @@ impl<W: Output> BlockOutput<W> {
         ensures { self.new ≡ record self.old { held = self.old.held ++ (before.now ++ (head.now ++ (addresses.now ++ (tag.now ++ body.now)))) } }
     {
         let room = self.block.as_mut_slice();
-        self.held = put_five(room, self.held, before, head, addresses, tag, body);
+        let front_end = put_four(room, self.held, before, head, addresses, tag);
+        self.held = put_behind(room, front_end, body);
     }
 
     /// A write that the block has no room for: the block goes on first, and then what is longer than it.

@@ -56,7 +56,7 @@ pub(crate) const FRONT: usize = 102;
 
 /// Puts a text behind the first `at` octets of a room, and says where it ends.
 #[inline(always)]
-fn put_behind(room: &mut [u8], at: usize, text: &[u8]) -> usize
+pub(crate) fn put_behind(room: &mut [u8], at: usize, text: &[u8]) -> usize
     requires { at + length text.now ≤ length room.old }
     ensures end { result ≡ at + length text.now }
     ensures text { take result room.new ≡ take at room.old ++ text.now }
@@ -103,28 +103,16 @@ fn put_array<const N: usize>(room: &mut [u8], at: usize, octets: &[u8; N]) -> us
     end
 }
 
-/// The same of a text that mostly has sixteen octets, as a record's header has.
+/// The same of a text that mostly has so many octets, at most 16.
 #[inline(always)]
-fn put_header(room: &mut [u8], at: usize, text: &[u8]) -> usize
-    requires { at + length text.now ≤ length room.old }
+fn put_mostly<const N: usize>(room: &mut [u8], at: usize, text: &[u8]) -> usize
+    requires few { N ≤ 16 }
+    requires fits { at + length text.now ≤ length room.old }
     ensures end { result ≡ at + length text.now }
     ensures text { take result room.new ≡ take at room.old ++ text.now }
 {
-    match text.as_array::<RECORD_HEADER_LENGTH>() {
-        Some(header) => put_array(room, at, header),
-        None => put_behind(room, at, text),
-    }
-}
-
-/// The same of a text that mostly has twelve octets, as two addresses have.
-#[inline(always)]
-fn put_addresses(room: &mut [u8], at: usize, text: &[u8]) -> usize
-    requires { at + length text.now ≤ length room.old }
-    ensures end { result ≡ at + length text.now }
-    ensures text { take result room.new ≡ take at room.old ++ text.now }
-{
-    match text.as_array::<12>() {
-        Some(addresses) => put_array(room, at, addresses),
+    match text.as_array::<N>() {
+        Some(octets) => put_array(room, at, octets),
         None => put_behind(room, at, text),
     }
 }
@@ -139,13 +127,11 @@ fn put_tag(room: &mut [u8], at: usize, text: &[u8]) -> usize
     if text.is_empty() {
         return at;
     }
-    match text.as_array::<4>() {
-        Some(tag) => put_array(room, at, tag),
-        None => put_behind(room, at, text),
-    }
+    put_mostly::<4>(room, at, text)
 }
 
-/// Puts four texts behind the first `at` octets of a room, one behind another, and says where they end.
+/// Puts four texts behind the first `at` octets of a room, one behind another, and says where they end. A record's header
+/// has sixteen octets, and two addresses have twelve.
 #[inline(always)]
 pub(crate) fn put_four(
     room: &mut [u8],
@@ -159,29 +145,10 @@ pub(crate) fn put_four(
     ensures end { result ≡ at + (length before.now + length head.now + length addresses.now + length tag.now) }
     ensures texts { take result room.new ≡ take at room.old ++ (before.now ++ (head.now ++ (addresses.now ++ tag.now))) }
 {
-    let before_end = put_header(room, at, before);
+    let before_end = put_mostly::<RECORD_HEADER_LENGTH>(room, at, before);
     let head_end = put_head(room, before_end, head);
-    let addresses_end = put_addresses(room, head_end, addresses);
+    let addresses_end = put_mostly::<12>(room, head_end, addresses);
     put_tag(room, addresses_end, tag)
-}
-
-/// The same of four texts and one more.
-#[inline(always)]
-pub(crate) fn put_five(
-    room: &mut [u8],
-    at: usize,
-    before: &[u8],
-    head: &[u8],
-    addresses: &[u8],
-    tag: &[u8],
-    body: &[u8],
-) -> usize
-    requires { at + (length before.now + length head.now + length addresses.now + length tag.now + length body.now) ≤ length room.old }
-    ensures end { result ≡ at + (length before.now + length head.now + length addresses.now + length tag.now + length body.now) }
-    ensures texts { take result room.new ≡ take at room.old ++ (before.now ++ (head.now ++ (addresses.now ++ (tag.now ++ body.now)))) }
-{
-    let front_end = put_four(room, at, before, head, addresses, tag);
-    put_behind(room, front_end, body)
 }
 
 /// Writes a record that holds a whole frame, the four slices side by side. It takes least where the addresses have twelve

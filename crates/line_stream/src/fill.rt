@@ -1,7 +1,6 @@
 //! Octets of an input, as far as the end of a line.
-ghost use Rattle.std.specs.Prelude.{◌≡◌, ◌≢◌, ◌≤◌, ◌<◌, ◌+◌, ◌-◌, ℕ, List, Option, length, take, drop, IfOk, OnOk, OnErr, Some, IfSome};
-ghost use Rattle.std.specs.Io.KnownBytes.{Consumes, IsAtEnd, prepend_known};
-ghost use Rattle.pcap_stream.specs.Counts.{GoesOnBy};
+ghost use Rattle.std.specs.Prelude.{◌≡◌, ◌≢◌, ◌≤◌, ◌<◌, ◌+◌, ◌-◌, ℕ, List, Option, length, take, drop, IfOk, Some, IfSome};
+ghost use Rattle.std.specs.Io.KnownBytes.{prepend_known};
 ghost use Rattle.line_stream.specs.Filled.{IsFilled, IsLent, IsNext};
 ghost use Rattle.line_stream.specs.Lines.{longest_line};
 

@@ -117,21 +117,8 @@ fn put_mostly<const N: usize>(room: &mut [u8], at: usize, text: &[u8]) -> usize
     }
 }
 
-/// The same of a text that mostly is empty or has four octets, as a tag has.
-#[inline(always)]
-fn put_tag(room: &mut [u8], at: usize, text: &[u8]) -> usize
-    requires { at + length text.now ≤ length room.old }
-    ensures end { result ≡ at + length text.now }
-    ensures text { take result room.new ≡ take at room.old ++ text.now }
-{
-    if text.is_empty() {
-        return at;
-    }
-    put_mostly::<4>(room, at, text)
-}
-
 /// Puts four texts behind the first `at` octets of a room, one behind another, and says where they end. A record's header
-/// has sixteen octets, and two addresses have twelve.
+/// has sixteen octets, two addresses have twelve, and a tag has four.
 #[inline(always)]
 pub(crate) fn put_four(
     room: &mut [u8],
@@ -148,7 +135,10 @@ pub(crate) fn put_four(
     let before_end = put_mostly::<RECORD_HEADER_LENGTH>(room, at, before);
     let head_end = put_head(room, before_end, head);
     let addresses_end = put_mostly::<12>(room, head_end, addresses);
-    put_tag(room, addresses_end, tag)
+    if tag.is_empty() {
+        return addresses_end;
+    }
+    put_mostly::<4>(room, addresses_end, tag)
 }
 
 /// Writes a record that holds a whole frame, the four slices side by side. It takes least where the addresses have twelve

@@ -16,6 +16,7 @@ fields() {
 
 diff - <(fields) <<'TEXT' || { echo "tests/pool_fields.sh: the pool keeps something else"; exit 1; }
 enum Kind { Free, Learned, Fixed, }
+enum Side { Previous, Next, }
 enum Thread { Chain, Line, }
 struct Ends { first: Link, last: Link, }
 struct Link { word: u32, }

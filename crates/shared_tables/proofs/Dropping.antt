@@ -4,7 +4,7 @@ use Rattle.std.proofs.lemmas.Bool.{cases_lt}
 use Rattle.std.proofs.lemmas.List.{get_or-set_same, get_or_past}
 use Rattle.std.specs.Option.{option_map}
 use Rattle.shared_tables.specs.Pool.{Held}
-use Rattle.shared_tables.specs.declared.slots.Links.{Links}
+use Rattle.shared_tables.specs.declared.links.Links.{Links}
 use Rattle.shared_tables.specs.declared.share.Share.{Share}
 use Rattle.shared_tables.specs.Pool.{entry_at, links_at, alone, is_fixed_in, chain_in, IfHeld}
 use Rattle.shared_tables.specs.Threads.{IsHeld, HoldsAny, unlinked, heads_without, ends_without}

@@ -6,7 +6,7 @@ use Rattle.std.proofs.lemmas.List.{get_or-set_same, get_or-set_other, length-set
 use Rattle.std.proofs.lemmas.List.Sums.{sum_by-set, sum_by-cons}
 use Rattle.std.specs.List.{sum_by}
 use Rattle.shared_tables.specs.Bucket.{chain_of}
-use Rattle.shared_tables.specs.declared.slots.Links.{Links}
+use Rattle.shared_tables.specs.declared.links.Links.{Links}
 use Rattle.shared_tables.specs.Pool.{Held}
 use Rattle.shared_tables.specs.declared.share.Share.{Share}
 use Rattle.shared_tables.specs.Pool.{entry_at, alone, vacancy, free_count, IfHeld}

@@ -14,7 +14,7 @@ use Rattle.filter_db.specs.Segment.{Segment, AreForDistinctVids, new_segments, a
 use Rattle.filter_db.specs.Database.{slot}
 use Rattle.filter_db.proofs.DatabaseLemmas.{slot-new, aged-new}
 use Rattle.shared_tables.specs.Pool.{Held}
-use Rattle.shared_tables.specs.declared.slots.Links.{Links}
+use Rattle.shared_tables.specs.declared.links.Links.{Links}
 use Rattle.shared_tables.specs.declared.share.Share.{Share}
 use Rattle.shared_tables.specs.Pool.{alone, vacancy}
 use Rattle.shared_tables.specs.Line.{weight, IsThread}

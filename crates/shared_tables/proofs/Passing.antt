@@ -5,7 +5,7 @@ use Rattle.std.specs.Option.{option_map}
 use Rattle.filter_db.specs.declared.place.Place.{Place}
 use Rattle.filter_db.specs.Place.{same_place}
 use Rattle.shared_tables.specs.Pool.{Held}
-use Rattle.shared_tables.specs.declared.slots.Links.{Links}
+use Rattle.shared_tables.specs.declared.links.Links.{Links}
 use Rattle.shared_tables.specs.declared.share.Share.{Share}
 use Rattle.shared_tables.specs.Pool.{Pool, entry_at, links_at, alone, is_fixed_in, chain_in}
 use Rattle.shared_tables.specs.Threads.{IsHeld, unlinked, heads_without, ends_without, dropped}

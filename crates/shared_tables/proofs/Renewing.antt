@@ -5,7 +5,7 @@ use Rattle.std.proofs.Common.{inl, inr, ◌⊎◌, ◌≡◌, ℕ, ◌+◌, ◌-
 use Rattle.std.proofs.lemmas.List.{get_or-set_same, length-set, get_or_past, set-set}
 use Rattle.std.specs.Option.{option_map}
 use Rattle.filter_db.specs.declared.place.Place.{Place}
-use Rattle.shared_tables.specs.declared.slots.Links.{Links}
+use Rattle.shared_tables.specs.declared.links.Links.{Links}
 use Rattle.shared_tables.specs.declared.threads.Ends.{Ends}
 use Rattle.shared_tables.specs.Pool.{Held}
 use Rattle.shared_tables.specs.declared.share.Share.{Share}

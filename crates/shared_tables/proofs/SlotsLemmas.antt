@@ -6,7 +6,8 @@ use Rattle.std.proofs.lemmas.List.{map-append, replicate-append-replicate, get_o
 use Rattle.std.proofs.Math.Seq.{map-set_same}
 use Rattle.std.proofs.lemmas.List.Sums.{sum_by-set}
 use Rattle.shared_tables.specs.declared.slots.Slot.{Slot}
-use Rattle.shared_tables.specs.declared.slots.Links.{Links}
+use Rattle.shared_tables.specs.declared.links.Links.{Links}
+use Rattle.shared_tables.specs.declared.slots.Slots.TheInside.{Inside}
 use Rattle.shared_tables.specs.declared.slots.Kind.{Kind}
 use Rattle.shared_tables.specs.declared.slots.Kind.TheVariants as kind
 use Rattle.shared_tables.specs.declared.slots.Thread.{Thread}
@@ -14,7 +15,7 @@ use Rattle.shared_tables.specs.declared.slots.Thread.TheVariants.{Chain, Line}
 use Rattle.filter_db.specs.declared.place.Place.{Place}
 use Rattle.shared_tables.specs.Bucket.{vid_in, mac_in}
 use Rattle.shared_tables.specs.Pool.{Pool, Held, IfHeld, entry_at, links_at, column, with_column, vacancy, free_count, renewed, place_in, taken, freed, alone, free_pool}
-use Rattle.shared_tables.specs.Slots.{entry_in, entry_by, kind_of, moment_of, chain_of_slot, line_of, slot_with, links_on, pool_with, no_slot, IsAbsent, IsFreeList, IsFreeAll}
+use Rattle.shared_tables.specs.Slots.{entry_in, entry_by, kind_of, moment_of, chain_of_slot, line_of, slot_with, links_on, pool_with, pool_of, no_slot, IsAbsent, IsFreeList, IsFreeAll, HasFreeList}
 
 pub same_pool : {es fs : List (Option Held)} {cs ds ls ms : List Links} (n v : ℕ) → es ≡ fs → cs ≡ ds → ls ≡ ms
     → ◌≡◌ {A = Pool} (record { entries = es; chains = cs; lines = ls; compared = n; visited = v }) (record { entries = fs; chains = ds; lines = ms; compared = n; visited = v })
@@ -169,13 +170,6 @@ pool-renew xs n v i place last s old lt is chain line e =
     pool-set_entry xs n v i s old lt is chain line (ap is_some e ∙ is_some-renewed (entry_in old) place last)
     ∙ ap (λ o. record (pool_with xs n v) { entries = set (map entry_in xs) i o }) (e ∙ ap (λ o. renewed o place last) (sym (read xs i old lt is None)))
 
--- a write of another moment
-pub pool-see : (xs : List Slot) (n v i last : ℕ) (s old : Slot) → i < length xs → old ≡ get_or xs i old → s.chain ≡ old.chain → s.line ≡ old.line → entry_in s ≡ renewed (entry_in old) (place_in (entry_in old)) (Some last)
-    → pool_with (set xs i s) n v ≡ record (pool_with xs n v) { entries = set (map entry_in xs) i (renewed (entry_at (map entry_in xs) i) (place_in (entry_at (map entry_in xs) i)) (Some last)) }
-pool-see xs n v i last s old lt is chain line e =
-    pool-renew xs n v i (place_in (entry_in old)) (Some last) s old lt is chain line e
-    ∙ ap (λ o. record (pool_with xs n v) { entries = set (map entry_in xs) i (renewed (entry_at (map entry_in xs) i) (place_in o) (Some last)) }) (sym (read xs i old lt is None))
-
 -- the fields of a renewed slot
 pub renewed_entry : (kind : Kind) (key was : ℕ) (before place : Place) (last : Option ℕ) → IsSome (entry_by kind key was before) → entry_by (kind_of last) key (moment_of last) place ≡ renewed (entry_by kind key was before) place last
 renewed_entry kind.Free key was before place last h = cc
@@ -194,6 +188,49 @@ held_by kind.Fixed key last place vid mac h = (λ x. x, λ x. x)
 pub slot_with_entry : (t : Thread) (s : Slot) (links : Links) → entry_in (slot_with t s links) ≡ entry_in s
 slot_with_entry Chain s links = refl
 slot_with_entry Line s links = refl
+
+-- A slot that a method writes, which holds an entry before and after: is says that it was read there, e and q are as above.
+module _ (a : Inside) (i slot : ℕ) (now : Pool) (e : pool_of a ≡ now) (q : i ≡ slot) (lt : slot < length now.entries) (held : IsSome (entry_at now.entries slot)) (old s : Slot) (is : old ≡ get_or a.slots.items i old) where
+  abbrev xs : List Slot
+  xs = a.slots.items
+
+  abbrev n : ℕ
+  n = a.compared.total
+
+  abbrev v : ℕ
+  v = a.visited.total
+
+  -- the free list is the same
+  written_free : IsSome (entry_in s) → HasFreeList a → (free : List ℕ) × IsFreeAll (set a.slots.items i s) a.free free
+  written_free some h = (h.0, keeps_free xs i s a.free h.0 (in_range xs n v i slot now e q lt) (held_at xs n v i slot now e q lt held) some h.1)
+
+  held_before : IsSome (entry_in old)
+  held_before = held_old_at xs n v i slot now e q old is lt held
+
+  -- it has another place and another moment
+  module _ (place : Place) (last : Option ℕ) (entry : entry_in s ≡ renewed (entry_in old) place last) where
+    pub renewed_free : HasFreeList a → (free : List ℕ) × IsFreeAll (set a.slots.items i s) a.free free
+    renewed_free = written_free (subst (λ (o : Option Held). IsSome o) (sym entry) (some_renewed (entry_in old) place last held_before))
+
+    pub renewed_pool : s.chain ≡ old.chain → s.line ≡ old.line
+        → pool_with (set a.slots.items i s) a.compared.total a.visited.total ≡ record now { entries = set now.entries slot (renewed (entry_at now.entries slot) place last) }
+    renewed_pool chain line =
+        forth xs n v i slot now e q (λ w k. pool_with (set xs i s) n v ≡ record w { entries = set w.entries k (renewed (entry_at w.entries k) place last) })
+        (pool-renew xs n v i place last s old (in_range xs n v i slot now e q lt) is chain line entry)
+
+  pub place_read : place_in (entry_in old) ≡ place_in (entry_at now.entries slot)
+  place_read = ap place_in (entry_read xs n v i slot now e q old is lt)
+
+  -- it has other neighbours on a thread
+  module _ (t : Thread) (links : Links) (linked : s ≡ slot_with t old links) where
+    pub linked_free : HasFreeList a → (free : List ℕ) × IsFreeAll (set a.slots.items i s) a.free free
+    linked_free = written_free (subst (λ (o : Option Held). IsSome o) (sym (ap entry_in linked ∙ slot_with_entry t old links)) held_before)
+
+    pub linked_pool : pool_with (set a.slots.items i s) a.compared.total a.visited.total ≡ with_column t now (set (column t now) slot links)
+    linked_pool =
+        ap (λ (x : Slot). pool_with (set xs i x) n v) linked
+        ∙ forth xs n v i slot now e q (λ w k. pool_with (set xs i (slot_with t old links)) n v ≡ with_column t w (set (column t w) k links))
+        (pool-set_links xs n v i t links old (in_range xs n v i slot now e q lt) is held_before)
 
 -- a slot that an entry takes, and one that it leaves
 pub pool-taken : (xs : List Slot) (n v i : ℕ) (s : Slot) (e : Held) → entry_in s ≡ Some e → s.chain ≡ alone → s.line ≡ alone → pool_with (set xs i s) n v ≡ taken (pool_with xs n v) i e

@@ -17,7 +17,7 @@ use Rattle.filter_db.specs.Standing.{limit_in, sum_of_limits, segment_count, num
 use Rattle.filter_db.specs.Ageing.{same_table, sifted, get-kept}
 use Rattle.filter_db.proofs.TableLemmas.{get-none, kept-empty}
 use Rattle.filter_db.proofs.StandingLemmas.{sum_of_limits-same}
-use Rattle.shared_tables.specs.declared.slots.Links.{Links}
+use Rattle.shared_tables.specs.declared.links.Links.{Links}
 use Rattle.shared_tables.specs.declared.share.Share.{Share}
 use Rattle.shared_tables.specs.Pool.{Held, entry_at, vacancy, free_count}
 use Rattle.shared_tables.specs.Line.{weight, IsThread, first_of, is_on}

@@ -1,7 +1,9 @@
 -- What contracts see of the slots of a pool. It states no standard.
 use Rattle.std.specs.Prelude.{◌≡◌, ℕ, Bool, false, List, Option, Some, None, slice_index_or, slice_set, not, is_none, replicate}
 use Rattle.std.specs.List.{sum_by}
-use Rattle.shared_tables.specs.declared.slots.Links.{Links}
+use Rattle.shared_tables.specs.declared.links.Links.{Links}
+use Rattle.shared_tables.specs.declared.links.Side.{Side}
+use Rattle.shared_tables.specs.declared.links.Side.TheVariants.{Previous, Next}
 use Rattle.shared_tables.specs.declared.slots.Thread.{Thread}
 use Rattle.shared_tables.specs.declared.slots.Thread.TheVariants.{Chain, Line}
 use Rattle.filter_db.specs.declared.place.Place.{Place}
@@ -28,6 +30,11 @@ pub record Pool : Type 0 where
 -- no neighbours
 abbrev pub alone : Links
 alone = record { previous = None; next = None }
+
+-- the neighbours with another one on one side
+abbrev pub links_with : Side → Links → Option ℕ → Links
+links_with Previous own slot = record own { previous = slot }
+links_with Next own slot = record own { next = slot }
 
 -- what a slot holds
 abbrev pub entry_at : List (Option Held) → ℕ → Option Held

@@ -7,7 +7,7 @@ use Rattle.shared_tables.specs.declared.slots.Kind.{Kind}
 use Rattle.shared_tables.specs.declared.slots.Kind.TheVariants as kind
 use Rattle.shared_tables.specs.declared.slots.Thread.{Thread}
 use Rattle.shared_tables.specs.declared.slots.Thread.TheVariants.{Chain, Line}
-use Rattle.shared_tables.specs.declared.slots.Links.{Links}
+use Rattle.shared_tables.specs.declared.links.Links.{Links}
 use Rattle.shared_tables.specs.declared.slots.Slots.TheInside.{Inside}
 use Rattle.shared_tables.specs.Bucket.{vid_in, mac_in}
 use Rattle.shared_tables.specs.Pool.{Pool, Held, free_count, alone}
@@ -32,7 +32,7 @@ abbrev pub moment_of : Option ℕ → ℕ
 moment_of None = 0
 moment_of (Some last) = last
 
--- a slot's neighbours on its chain
+-- a slot's neighbours on the chain of its address
 abbrev pub chain_of_slot : Slot → Links
 chain_of_slot slot = slot.chain
 

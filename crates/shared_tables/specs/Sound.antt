@@ -3,7 +3,7 @@ use Rattle.std.specs.Prelude.{◌≡◌, ℕ, ◌+◌, ◌-◌, ◌<◌, ◌≤�
 use Rattle.std.specs.Option.{option_map}
 use Rattle.std.specs.List.{sum_by}
 use Rattle.shared_tables.specs.Pool.{Held}
-use Rattle.shared_tables.specs.declared.slots.Links.{Links}
+use Rattle.shared_tables.specs.declared.links.Links.{Links}
 use Rattle.shared_tables.specs.declared.threads.Ends.{Ends}
 use Rattle.shared_tables.specs.declared.share.Share.{Share}
 use Rattle.shared_tables.specs.Pool.{free_count}
@@ -75,7 +75,7 @@ shares_without shares vid fixed own = share_written shares vid (option_map (shar
 abbrev pub share_with : Bool → ℕ → Share → Share
 share_with fixed slot share = record (with_line share fixed (ends_with (line_at share fixed) slot)) { count = share.count + 1 }
 
--- the shares then
+-- the shares when an entry has come to the end of a line of its segment
 abbrev pub shares_with : List (Option Share) → ℕ → Bool → ℕ → List (Option Share)
 shares_with shares vid fixed slot = share_written shares vid (option_map (share_with fixed slot) (share_at shares vid))
 
@@ -90,7 +90,7 @@ share_moved was fixed own slot share =
     let left = with_line share was (ends_without (line_at share was) own) in
     with_line left fixed (ends_with (line_at left fixed) slot)
 
--- the shares then
+-- the shares when an entry that had these neighbours has left a line of its segment for the end of a line
 abbrev pub shares_moved : List (Option Share) → ℕ → Bool → Bool → Links → ℕ → List (Option Share)
 shares_moved shares vid was fixed own slot = share_written shares vid (option_map (share_moved was fixed own slot) (share_at shares vid))
 

@@ -1,10 +1,12 @@
 -- What the steps on a thread do to the slots' links. It serves proofs.
 use Rattle.std.specs.Prelude.{◌≡◌, ℕ, ◌<◌, List, length, Option, Some, None, IsSome, IfSome, slice_set, is_none, if◌then◌else◌}
-use Rattle.shared_tables.specs.declared.slots.Links.{Links}
+use Rattle.shared_tables.specs.declared.links.Links.{Links}
+use Rattle.shared_tables.specs.declared.links.Side.{Side}
+use Rattle.shared_tables.specs.declared.links.Side.TheVariants.{Previous, Next}
 use Rattle.shared_tables.specs.Pool.{Held}
 use Rattle.filter_db.specs.declared.place.Place.{Place}
 use Rattle.shared_tables.specs.declared.threads.Ends.{Ends}
-use Rattle.shared_tables.specs.Pool.{Pool, links_at, entry_at, alone, renewed}
+use Rattle.shared_tables.specs.Pool.{Pool, links_at, links_with, entry_at, alone, renewed}
 
 -- a slot of the pool that holds an entry
 pub record IsHeld (entries : List (Option Held)) (slot : ℕ) : Type 0 where
@@ -15,15 +17,18 @@ pub record IsHeld (entries : List (Option Held)) (slot : ℕ) : Type 0 where
 abbrev pub HoldsAny : List (Option Held) → Option ℕ → Type 0
 HoldsAny entries slot = IfSome slot (IsHeld entries)
 
--- another next one
-abbrev pub next_set : List Links → Option ℕ → Option ℕ → List Links
-next_set links None next = links
-next_set links (Some slot) next = slice_set links slot (record { previous = (links_at links slot).previous; next = next })
+-- the slot, where there is one, has another neighbour on one side
+abbrev pub link_set : Side → List Links → Option ℕ → Option ℕ → List Links
+link_set side links None other = links
+link_set side links (Some slot) other = slice_set links slot (links_with side (links_at links slot) other)
 
--- another previous one
+-- it has another next one
+abbrev pub next_set : List Links → Option ℕ → Option ℕ → List Links
+next_set = link_set Next
+
+-- it has another previous one
 abbrev pub previous_set : List Links → Option ℕ → Option ℕ → List Links
-previous_set links None previous = links
-previous_set links (Some slot) previous = slice_set links slot (record { previous = previous; next = (links_at links slot).next })
+previous_set = link_set Previous
 
 -- without a slot: its neighbours are each other's
 abbrev pub unlinked : List Links → ℕ → List Links
@@ -42,6 +47,12 @@ pushed_front links first slot = previous_set (slice_set links slot (record { pre
 -- both ends are there, or neither is
 abbrev pub AreEnds : Ends → Type 0
 AreEnds ends = is_none ends.first ≡ is_none ends.last
+
+-- the ends when a slot has another neighbour on one side: where there is no slot, another next one is the first, and
+-- another previous one is the last
+abbrev pub ends_set : Side → Ends → Option ℕ → Option ℕ → Ends
+ends_set Previous ends slot other = record ends { last = if is_none slot then other else ends.last }
+ends_set Next ends slot other = record ends { first = if is_none slot then other else ends.first }
 
 -- the ends without a slot that had these neighbours
 abbrev pub ends_without : Ends → Links → Ends

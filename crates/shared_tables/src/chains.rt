@@ -6,7 +6,8 @@ ghost use Rattle.shared_tables.specs.Shared.{Lacks, bucket_count};
 ghost use Rattle.shared_tables.specs.Sound.{IsChain};
 ghost use Rattle.shared_tables.specs.Bucket.{bucket_of, chain_of};
 
-use crate::slots::{SlotId, Slots};
+use crate::links::SlotId;
+use crate::slots::Slots;
 use frame_view::{Mac, Vid};
 
 /// The slot of an address, from the first slot of its chain on.

@@ -4,8 +4,9 @@ ghost use Rattle.shared_tables.specs.Pool.{Pool, links_at, entry_at, is_fixed_in
 ghost use Rattle.shared_tables.specs.Threads.{IsHeld, HoldsAny, heads_without, dropped, moved, pushed_back};
 ghost use Rattle.shared_tables.specs.Sound.{share_at, share_moved, CountsSome, CountsMore, HasEnds, HasEndsLeft, share_without, shares_without, shares_moved, shares_with, last_left, last_in};
 
+use crate::links::{Link, SlotId};
 use crate::share::{self, Share};
-use crate::slots::{Link, SlotId, Slots};
+use crate::slots::Slots;
 use crate::threads;
 use filter_db::Place;
 use frame_view::Vid;

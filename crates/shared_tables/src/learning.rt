@@ -7,7 +7,7 @@ ghost use Rattle.shared_tables.specs.Shared.{rule_at, Lacks, IsNow, span_of, Swe
 ghost use Rattle.shared_tables.specs.Standing.{Empties};
 
 use crate::SharedTables;
-use crate::slots::SlotId;
+use crate::links::SlotId;
 use filter_db::{Learned, Place};
 use frame_view::{Mac, Vid};
 

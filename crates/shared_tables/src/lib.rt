@@ -14,6 +14,7 @@ mod chains;
 mod entries;
 pub mod laws;
 mod learning;
+mod links;
 mod opening;
 mod pool_calls;
 mod share;

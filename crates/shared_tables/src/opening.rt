@@ -4,9 +4,8 @@ ghost use Rattle.filter_db.specs.Segment.{IsRule, AreForDistinctVids};
 ghost use Rattle.shared_tables.specs.Opened.{AreOpened};
 
 use crate::bucket::CHAINS;
+use crate::links::Link;
 use crate::share::{self, Share, VIDS};
-use crate::slots::Link;
-use crate::threads::NO_ENDS;
 use filter_db::TableRule;
 use std::alloc::{AllocError, Global};
 
@@ -26,17 +25,7 @@ pub fn open_shares(alloc: Global, rules: &[TableRule]) -> Result<Vec<Option<Shar
 {
     let mut shares = vec![in alloc; None; VIDS]?;
     for rule in rules {
-        share::set_share(
-            &mut shares,
-            rule.vid,
-            Share {
-                limit: u32::from(rule.limit),
-                ageing: rule.ageing,
-                count: 0,
-                queue: NO_ENDS,
-                fixed: NO_ENDS,
-            },
-        );
+        share::open_share(&mut shares, rule);
     }
     Ok(shares)
 }

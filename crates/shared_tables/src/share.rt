@@ -3,9 +3,12 @@ ghost use Rattle.std.specs.Prelude.{◌≡◌, ℕ, ◌<◌, Some, None, Option,
 ghost use Rattle.shared_tables.specs.Pool.{Pool, links_at};
 ghost use Rattle.shared_tables.specs.Threads.{IsHeld, HoldsAny, unlinked, pushed_back, AreEnds, ends_without, ends_with};
 ghost use Rattle.shared_tables.specs.Sound.{line_at, with_line, share_at};
+ghost use Rattle.shared_tables.specs.Opened.{new_share};
 
-use crate::slots::{SlotId, Slots};
-use crate::threads::{self, Ends};
+use crate::links::SlotId;
+use crate::slots::Slots;
+use crate::threads::{self, Ends, NO_ENDS};
+use filter_db::TableRule;
 use frame_view::Vid;
 
 /// As many as there are values of 12 bits.
@@ -73,4 +76,20 @@ pub fn set_share(shares: &mut Vec<Option<Share>>, vid: Vid, share: Share)
     ensures in_range { vid < 4096 }
 {
     shares[usize::from(vid.get())] = Some(share);
+}
+
+/// Gives a new segment its share, without entries.
+pub fn open_share(shares: &mut Vec<Option<Share>>, rule: &TableRule)
+    requires { vec_len shares.old ≡ 4096 }
+    ensures items { shares.new.items ≡ slice_set shares.old.items rule.now.vid (Some (new_share rule.now)) }
+    ensures in_range { rule.now.vid < 4096 }
+{
+    let share = Share {
+        limit: u32::from(rule.limit),
+        ageing: rule.ageing,
+        count: 0,
+        queue: NO_ENDS,
+        fixed: NO_ENDS,
+    };
+    set_share(shares, rule.vid, share);
 }

@@ -13,9 +13,10 @@ ghost use Rattle.shared_tables.specs.Work.{IsPaid};
 
 use crate::chains::find_in;
 use crate::entries::{drop_entry, join_share, renew_entry, see_entry};
+use crate::links::{Link, SlotId};
 use crate::opening::{no_heads, open_shares};
 use crate::share::{self, Share};
-use crate::slots::{Link, SlotId, Slots, Thread};
+use crate::slots::{Slots, Thread};
 use crate::threads;
 use filter_db::{Place, TableRule};
 use frame_view::{Mac, Vid};
@@ -210,9 +211,10 @@ impl SharedTables {
     pub fn ageing(&self, vid: Vid) -> u64
         ensures { result ≡ span_of (rule_at self.now.rules vid) }
     {
-        match share::share_at(&self.shares, vid) {
-            Some(share) => u64::from(share.ageing) * 1_000_000_000,
-            None => 0,
+        if self.has_share(vid) {
+            self.span(vid)
+        } else {
+            0
         }
     }
 

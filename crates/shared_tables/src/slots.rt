@@ -1,11 +1,12 @@
 //! The slots of a pool. An address is compared, and an entry's age is told, by this module alone.
-ghost use Rattle.std.specs.Prelude.{◌≡◌, ℕ, ◌+◌, ◌<◌, ◌≤◌, ◌↔◌, IsTrue, IfOk, IfSome, IsSome, Some, None, Option, is_none, false, length, replicate, slice_set};
-ghost use Rattle.shared_tables.specs.Pool.{Pool, Held, entry_at, links_at, column, with_column, free_count, chain_in, is_fixed_in, is_dead_in, alone, IfHeld, taken, freed, renewed, place_in, free_pool};
+ghost use Rattle.std.specs.Prelude.{◌≡◌, ℕ, ◌+◌, ◌<◌, ◌≤◌, ◌↔◌, IsTrue, IfOk, IfSome, IsSome, Some, None, Option, false, length, replicate, slice_set};
+ghost use Rattle.shared_tables.specs.Pool.{Pool, Held, entry_at, links_at, column, with_column, free_count, chain_in, is_fixed_in, is_dead_in, alone, links_with, IfHeld, taken, freed, renewed, place_in, free_pool};
 ghost use Rattle.filter_db.specs.Place.{same_place};
-ghost use Rattle.shared_tables.specs.Threads.{next_set, previous_set};
+ghost use Rattle.shared_tables.specs.Threads.{link_set};
 ghost use Rattle.shared_tables.specs.Slots.{entry_in, kind_of, moment_of, slot_with, links_on};
 
 use crate::bucket::{chain_by_key, is_key_of, key};
+use crate::links::{ALONE, Link, Links, Side, SlotId};
 use filter_db::Place;
 use frame_view::{Mac, Vid};
 use std::alloc::{AllocError, Global};
@@ -13,91 +14,6 @@ use std::marker::Model;
 use work_count::Count;
 
 mod listing;
-
-/// The number of a slot.
-#[derive(Clone, Copy)]
-pub struct SlotId {
-    number: u32,
-}
-
-impl Model for SlotId {
-    ghost use Rattle.std.specs.Prelude.{ℕ, ◌<◌};
-
-    ghost Value = { ℕ };
-
-    ghost view = { λ s. s.number };
-
-    ghost invariant = { λ s. s.number < 4294967295 };
-
-    ghost inverse = { λ n. record { number = n } };
-}
-
-/// The number of a slot, if there is one, seen by contracts as that: a word, which says by the greatest number of all
-/// that there is none.
-#[derive(Clone, Copy)]
-pub struct Link {
-    word: u32,
-}
-
-impl Model for Link {
-    ghost use Rattle.std.specs.Prelude.{Option, ℕ};
-    ghost use Rattle.shared_tables.specs.Link.{slot_in, word_of};
-
-    ghost Value = { Option ℕ };
-
-    ghost view = { λ l. slot_in l.word };
-
-    ghost inverse = { λ slot. record { word = word_of slot } };
-}
-
-/// The number of no slot.
-const NOBODY: u32 = u32::MAX;
-
-impl Link {
-    /// No slot.
-    pub const NONE: Link = Link { word: NOBODY };
-
-    /// To a slot.
-    #[inline(always)]
-    pub fn to(slot: SlotId) -> Link
-        ensures { result ≡ Some slot }
-    {
-        Link { word: slot.number }
-    }
-
-    /// The slot, if there is one.
-    #[inline(always)]
-    pub fn slot(self) -> Option<SlotId>
-        ensures { result ≡ self }
-    {
-        if self.word == NOBODY {
-            None
-        } else {
-            Some(SlotId { number: self.word })
-        }
-    }
-
-    /// Whether there is no slot.
-    #[inline(always)]
-    pub fn is_none(self) -> bool
-        ensures { result ≡ is_none self }
-    {
-        self.word == NOBODY
-    }
-}
-
-/// A slot's neighbours on a thread: none at an end, and on a thread that the slot isn't on.
-#[derive(Clone, Copy)]
-pub struct Links {
-    pub previous: Link,
-    pub next: Link,
-}
-
-/// No neighbours.
-const ALONE: Links = Links {
-    previous: Link::NONE,
-    next: Link::NONE,
-};
 
 /// The two threads that run through each slot.
 #[derive(Clone, Copy)]
@@ -277,23 +193,16 @@ fn set_links(slot: &mut Slot, thread: Thread, links: Links)
     }
 }
 
-/// Gives it another next one on a thread.
-fn set_next(slot: &mut Slot, thread: Thread, next: Link)
-    ensures { slot.new ≡ slot_with thread slot.old (record (links_on thread slot.old) { next = next }) }
+/// Gives it another neighbour on one side of a thread.
+#[inline(always)]
+fn set_link(slot: &mut Slot, thread: Thread, side: Side, link: Link)
+    ensures { slot.new ≡ slot_with thread slot.old (links_with side (links_on thread slot.old) link) }
 {
-    match thread {
-        Thread::Chain => slot.chain.next = next,
-        Thread::Line => slot.line.next = next,
-    }
-}
-
-/// Gives it another previous one on a thread.
-fn set_previous(slot: &mut Slot, thread: Thread, previous: Link)
-    ensures { slot.new ≡ slot_with thread slot.old (record (links_on thread slot.old) { previous = previous }) }
-{
-    match thread {
-        Thread::Chain => slot.chain.previous = previous,
-        Thread::Line => slot.line.previous = previous,
+    match (thread, side) {
+        (Thread::Chain, Side::Previous) => slot.chain.previous = link,
+        (Thread::Chain, Side::Next) => slot.chain.next = link,
+        (Thread::Line, Side::Previous) => slot.line.previous = link,
+        (Thread::Line, Side::Next) => slot.line.next = link,
     }
 }
 
@@ -428,24 +337,14 @@ impl Slots {
         set_links(&mut self.slots[slot.number as usize], thread, links);
     }
 
-    /// Gives the slot another next one on a thread.
+    /// Gives the slot another neighbour on one side of a thread.
     #[inline(always)]
-    pub fn set_next(&mut self, thread: Thread, slot: SlotId, next: Link)
+    pub fn set_link(&mut self, thread: Thread, side: Side, slot: SlotId, link: Link)
         requires in_pool { slot < length self.old.entries }
         requires held { IsSome (entry_at self.old.entries slot) }
-        ensures { self.new ≡ with_column thread self.old (next_set (column thread self.old) (Some slot) next) }
+        ensures { self.new ≡ with_column thread self.old (link_set side (column thread self.old) (Some slot) link) }
     {
-        set_next(&mut self.slots[slot.number as usize], thread, next);
-    }
-
-    /// Gives the slot another previous one on a thread.
-    #[inline(always)]
-    pub fn set_previous(&mut self, thread: Thread, slot: SlotId, previous: Link)
-        requires in_pool { slot < length self.old.entries }
-        requires held { IsSome (entry_at self.old.entries slot) }
-        ensures { self.new ≡ with_column thread self.old (previous_set (column thread self.old) (Some slot) previous) }
-    {
-        set_previous(&mut self.slots[slot.number as usize], thread, previous);
+        set_link(&mut self.slots[slot.number as usize], thread, side, link);
     }
 
     /// Takes a free slot for an entry.

@@ -1,9 +1,10 @@
 //! Threads through the slots: chains and lines, linked both ways.
-ghost use Rattle.std.specs.Prelude.{◌≡◌, ℕ, ◌<◌, Some, None, Option, length, slice_set, slice_index_or, vec_len, is_none, if◌then◌else◌};
+ghost use Rattle.std.specs.Prelude.{◌≡◌, ℕ, ◌<◌, Some, None, Option, length, slice_set, slice_index_or, vec_len};
 ghost use Rattle.shared_tables.specs.Pool.{Pool, column, with_column, links_at, entry_at};
-ghost use Rattle.shared_tables.specs.Threads.{IsHeld, HoldsAny, next_set, previous_set, unlinked, pushed_back, pushed_front, AreEnds, ends_without, ends_with, heads_without};
+ghost use Rattle.shared_tables.specs.Threads.{IsHeld, HoldsAny, link_set, ends_set, unlinked, pushed_back, pushed_front, AreEnds, ends_without, ends_with, heads_without};
 
-use crate::slots::{Link, Links, SlotId, Slots, Thread};
+use crate::links::{Link, Links, Side, SlotId};
+use crate::slots::{Slots, Thread};
 
 /// The two ends of a line; both none where it has no slots.
 #[derive(Clone, Copy)]
@@ -18,25 +19,14 @@ pub const NO_ENDS: Ends = Ends {
     last: Link::NONE,
 };
 
-/// Gives a slot, where there is one, another next one on a thread.
+/// Gives a slot, where there is one, another neighbour on one side of a thread.
 #[inline(always)]
-fn set_next(slots: &mut Slots, thread: Thread, slot: Link, next: Link)
+fn set_link(slots: &mut Slots, thread: Thread, side: Side, slot: Link, link: Link)
     requires { HoldsAny slots.old.entries slot }
-    ensures { slots.new ≡ with_column thread slots.old (next_set (column thread slots.old) slot next) }
+    ensures { slots.new ≡ with_column thread slots.old (link_set side (column thread slots.old) slot link) }
 {
     if let Some(slot) = slot.slot() {
-        slots.set_next(thread, slot, next);
-    }
-}
-
-/// Gives a slot, where there is one, another previous one on a thread.
-#[inline(always)]
-fn set_previous(slots: &mut Slots, thread: Thread, slot: Link, previous: Link)
-    requires { HoldsAny slots.old.entries slot }
-    ensures { slots.new ≡ with_column thread slots.old (previous_set (column thread slots.old) slot previous) }
-{
-    if let Some(slot) = slot.slot() {
-        slots.set_previous(thread, slot, previous);
+        slots.set_link(thread, side, slot, link);
     }
 }
 
@@ -50,34 +40,23 @@ pub fn unlink(slots: &mut Slots, thread: Thread, slot: SlotId) -> Links
     ensures pool { slots.new ≡ with_column thread slots.old (unlinked (column thread slots.old) slot) }
 {
     let links = slots.links(thread, slot);
-    set_next(slots, thread, links.previous, links.next);
-    set_previous(slots, thread, links.next, links.previous);
+    set_link(slots, thread, Side::Next, links.previous, links.next);
+    set_link(slots, thread, Side::Previous, links.next, links.previous);
     links
 }
 
-/// Gives a slot of a line another next one; where there is no slot, the line has another first one.
+/// Gives a slot of a line another neighbour on one side. Where there is no slot, nothing stands before what comes next,
+/// or behind what comes previous: it is the line's first, or last.
 #[inline(always)]
-fn set_next_or_first(slots: &mut Slots, ends: &mut Ends, slot: Link, next: Link)
+fn set_link_or_end(slots: &mut Slots, ends: &mut Ends, side: Side, slot: Link, link: Link)
     requires { HoldsAny slots.old.entries slot }
-    ensures pool { slots.new ≡ record slots.old { lines = next_set slots.old.lines slot next } }
-    ensures ends { ends.new ≡ record ends.old { first = if is_none slot then next else ends.old.first } }
+    ensures pool { slots.new ≡ record slots.old { lines = link_set side slots.old.lines slot link } }
+    ensures ends { ends.new ≡ ends_set side ends.old slot link }
 {
-    match slot.slot() {
-        Some(slot) => slots.set_next(Thread::Line, slot, next),
-        None => ends.first = next,
-    }
-}
-
-/// Gives a slot of a line another previous one; where there is no slot, the line has another last one.
-#[inline(always)]
-fn set_previous_or_last(slots: &mut Slots, ends: &mut Ends, slot: Link, previous: Link)
-    requires { HoldsAny slots.old.entries slot }
-    ensures pool { slots.new ≡ record slots.old { lines = previous_set slots.old.lines slot previous } }
-    ensures ends { ends.new ≡ record ends.old { last = if is_none slot then previous else ends.old.last } }
-{
-    match slot.slot() {
-        Some(slot) => slots.set_previous(Thread::Line, slot, previous),
-        None => ends.last = previous,
+    match (slot.slot(), side) {
+        (Some(slot), _) => slots.set_link(Thread::Line, side, slot, link),
+        (None, Side::Previous) => ends.last = link,
+        (None, Side::Next) => ends.first = link,
     }
 }
 
@@ -91,8 +70,8 @@ pub fn leave(slots: &mut Slots, ends: &mut Ends, slot: SlotId)
     ensures pool { slots.new ≡ record slots.old { lines = unlinked slots.old.lines slot } }
 {
     let links = slots.links(Thread::Line, slot);
-    set_next_or_first(slots, ends, links.previous, links.next);
-    set_previous_or_last(slots, ends, links.next, links.previous);
+    set_link_or_end(slots, ends, Side::Next, links.previous, links.next);
+    set_link_or_end(slots, ends, Side::Previous, links.next, links.previous);
 }
 
 /// Puts a slot at the end of a line.
@@ -113,7 +92,7 @@ pub fn push_back(slots: &mut Slots, ends: &mut Ends, slot: SlotId)
             next: Link::NONE,
         },
     );
-    set_next_or_first(slots, ends, last, Link::to(slot));
+    set_link_or_end(slots, ends, Side::Next, last, Link::to(slot));
     ends.last = Link::to(slot);
 }
 
@@ -154,7 +133,7 @@ fn push_front(slots: &mut Slots, first: Link, slot: SlotId)
             next: first,
         },
     );
-    set_previous(slots, Thread::Chain, first, Link::to(slot));
+    set_link(slots, Thread::Chain, Side::Previous, first, Link::to(slot));
 }
 
 /// Puts a slot at the front of a chain.

@@ -7,11 +7,10 @@ ghost use Rattle.shared_tables.specs.Shared.{rule_at, kept_count};
 ghost use Rattle.shared_tables.specs.Segments.{segments_of};
 ghost use Rattle.shared_tables.specs.Standing.{NoneFixed, IsFixedOf, with_limit};
 
+use crate::links::SlotId;
 use crate::share::{self, Share};
 use crate::shared_tables::SharedTables;
-use crate::slots::SlotId;
 use crate::standing;
-use crate::threads::NO_ENDS;
 use filter_db::TableRule;
 use frame_view::Vid;
 
@@ -38,17 +37,7 @@ impl SharedTables {
         ensures segments { segments_of self.new ≡ added rule (segments_of self.old) }
         ensures same { self.new ≡ record self.old { rules = self.new.rules } }
     {
-        share::set_share(
-            &mut self.shares,
-            rule.vid,
-            Share {
-                limit: u32::from(rule.limit),
-                ageing: rule.ageing,
-                count: 0,
-                queue: NO_ENDS,
-                fixed: NO_ENDS,
-            },
-        );
+        share::open_share(&mut self.shares, &rule);
     }
 
     /// Takes the share of a segment out, which has no entries left.

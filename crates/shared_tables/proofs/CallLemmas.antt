@@ -16,7 +16,9 @@ use Rattle.filter_db.specs.Ageing.{sifted}
 use Rattle.shared_tables.specs.Pool.{Held}
 use Rattle.shared_tables.specs.Pool.{entry_at, IfHeld, is_dead_in, is_fixed_in}
 use Rattle.shared_tables.specs.Threads.{IsHeld}
-use Rattle.shared_tables.specs.Shared.{Shared, Rule, rule_at, span_of, vid_key, kept_count, Lacks, IsOrderly, IsAtLimit, HasRoom, Sweeps, Admits, Relearns, Refreshes, Enters, answer_of, live_place}
+use Rattle.shared_tables.specs.Shared.{Shared, Rule, rule_at, span_of, bucket_count, vid_key, kept_count, Lacks, IsOrderly, IsAtLimit, HasRoom, Sweeps, Admits, Relearns, Refreshes, Enters, answer_of, live_place}
+use Rattle.shared_tables.specs.Bucket.{bucket_of}
+use Rattle.shared_tables.specs.Work.{ComparesFew}
 use Rattle.shared_tables.specs.Segments.{entry_of, segments_of}
 use Rattle.shared_tables.proofs.Linked.{nat_eq_refl}
 use Rattle.shared_tables.proofs.SegmentsLemmas.{begun, own_segment, HasRule, has_rule, ruled, adjusted_same, own_table, get_found, get_lacks, dead_room, sweep_segments, swept_len, swept_lacks, swept_rules, swept_moment, enter_segments, refresh_segments, release_segments, put, taken_out}
@@ -26,28 +28,67 @@ pub record Begins (old f : Shared) (now : ℕ) : Type 0 where
   pub entries : f.entries ≡ old.entries
   pub rules : f.rules ≡ old.rules
   pub moment : f.moment ≡ now
+  pub calls : f.calls ≡ old.calls + 1
   pub visited : f.visited ≡ old.visited
   pub orderly : IsOrderly f
 
-pub begins : (old b f : Shared) (now calls compared : ℕ) → b ≡ record old { calls = calls; moment = now } → IsOrderly b → f ≡ record b { compared = compared } → Begins old f now
-begins old b f now calls compared e orderly k =
+pub begins : (old b f : Shared) (now compared : ℕ) → b ≡ record old { calls = old.calls + 1; moment = now } → IsOrderly b → f ≡ record b { compared = compared } → Begins old f now
+begins old b f now compared e orderly k =
     subst (λ (w : Shared). Begins old w now) (sym k) (record {
       entries = ap (λ (w : Shared). w.entries) e;
       rules = ap (λ (w : Shared). w.rules) e;
       moment = ap (λ (w : Shared). w.moment) e;
+      calls = ap (λ (w : Shared). w.calls) e;
       visited = ap (λ (w : Shared). w.visited) e;
       orderly = record { unique = orderly.unique; some_time = orderly.some_time; few = orderly.few };
     })
 
 -- the same where no address is looked for
-pub begins_plain : (old b : Shared) (now calls : ℕ) → b ≡ record old { calls = calls; moment = now } → IsOrderly b → Begins old b now
-begins_plain old b now calls e orderly = begins old b b now calls b.compared e orderly refl
+pub begins_plain : (old b : Shared) (now : ℕ) → b ≡ record old { calls = old.calls + 1; moment = now } → IsOrderly b → Begins old b now
+begins_plain old b now e orderly = begins old b b now b.compared e orderly refl
 
 -- a look at a moment leaves the tables at theirs
-pub looks : (old b f : Shared) (now calls compared : ℕ) → b ≡ record old { calls = calls } → IsOrderly b → f ≡ record b { compared = compared } → Begins old (record f { moment = now }) now
-looks old b f now calls compared e orderly k =
-    begins old (record b { moment = now }) (record f { moment = now }) now calls compared (ap (λ (w : Shared). record w { moment = now }) e)
+pub looks : (old b f : Shared) (now compared : ℕ) → b ≡ record old { calls = old.calls + 1 } → IsOrderly b → f ≡ record b { compared = compared } → Begins old (record f { moment = now }) now
+looks old b f now compared e orderly k =
+    begins old (record b { moment = now }) (record f { moment = now }) now compared (ap (λ (w : Shared). record w { moment = now }) e)
     (record { unique = orderly.unique; some_time = orderly.some_time; few = orderly.few }) (ap (λ (w : Shared). record w { moment = now }) k)
+
+-- a call has looked for an address, and compared few
+pub record Searches (old f : Shared) (now v : ℕ) (mac : List ℕ) : Type 0 where
+  pub begun : Begins old f now
+  pub compared : ComparesFew old f v mac
+  pub counted : old.compared ≤ f.compared
+
+searches : (old b f : Shared) (now v : ℕ) (mac : List ℕ) (compared : ℕ) → b ≡ record old { calls = old.calls + 1; moment = now } → IsOrderly b → f ≡ record b { compared = compared }
+    → b.compared ≤ f.compared → f.compared ≤ b.compared + bucket_count (bucket_of v mac) b.entries → Searches old f now v mac
+searches old b f now v mac compared e orderly k more few = record {
+  begun = begins old b f now compared e orderly k;
+  compared = subst (λ (w : Shared). f.compared ≤ w.compared + bucket_count (bucket_of v mac) w.entries) e few;
+  counted = subst (λ (w : Shared). w.compared ≤ f.compared) e more;
+}
+
+-- it found the address in a slot
+pub record Finds (old f : Shared) (now v : ℕ) (mac : List ℕ) (slot : ℕ) : Type 0 where
+  pub search : Searches old f now v mac
+  pub held : IfHeld (entry_at f.entries slot) v mac
+  pub in_pool : IsHeld f.entries slot
+
+pub finds : (old b f : Shared) (now v : ℕ) (mac : List ℕ) (slot compared : ℕ) → b ≡ record old { calls = old.calls + 1; moment = now } → IsOrderly b → f ≡ record b { compared = compared }
+    → b.compared ≤ f.compared → f.compared ≤ b.compared + bucket_count (bucket_of v mac) b.entries → IfHeld (entry_at b.entries slot) v mac → IsHeld b.entries slot → Finds old f now v mac slot
+finds old b f now v mac slot compared e orderly k more few held in_pool = record {
+  search = searches old b f now v mac compared e orderly k more few;
+  held = subst (λ (w : Shared). IfHeld (entry_at w.entries slot) v mac) (sym k) held;
+  in_pool = subst (λ (w : Shared). IsHeld w.entries slot) (sym k) in_pool;
+}
+
+-- it found it in no slot
+pub record Misses (old f : Shared) (now v : ℕ) (mac : List ℕ) : Type 0 where
+  pub search : Searches old f now v mac
+  pub lacks : Lacks f.entries v mac
+
+pub misses : (old b f : Shared) (now v : ℕ) (mac : List ℕ) (compared : ℕ) → b ≡ record old { calls = old.calls + 1; moment = now } → IsOrderly b → f ≡ record b { compared = compared }
+    → b.compared ≤ f.compared → f.compared ≤ b.compared + bucket_count (bucket_of v mac) b.entries → Lacks b.entries v mac → Misses old f now v mac
+misses old b f now v mac compared e orderly k more few lacks = record { search = searches old b f now v mac compared e orderly k more few; lacks = subst (λ (w : Shared). Lacks w.entries v mac) (sym k) lacks }
 
 -- two changes that do the same to the segment
 pub alike : (v : ℕ) (change other : Segment → Segment) (segments : Segments) → change (segment_at v segments) ≡ other (segment_at v segments) → adjusted v change segments ≡ adjusted v other segments

@@ -1,16 +1,17 @@
 -- What holds when an entry has gone, told by what its slot held.
-use Rattle.std.proofs.Common.{inl, inr, ◌⊎◌, ◌≡◌, ℕ, ◌-◌, ◌<◌, ◌≤◌, List, length, map, set, Option, Some, None, IsSome, Bool, true, false, is_none, refl, sym, ap, ◌∙◌, subst}
-use Rattle.std.proofs.lemmas.Bool.{cases_lt}
-use Rattle.std.proofs.lemmas.List.{get_or-set_same, get_or_past}
+use Rattle.std.proofs.Common.{◌≡◌, ℕ, ◌-◌, List, map, set, Option, Some, None, IsSome, Bool, true, false, is_none, refl, sym, ap, ◌∙◌, subst}
+use Rattle.std.proofs.lemmas.List.{get_or-set_same}
 use Rattle.std.specs.Option.{option_map}
 use Rattle.shared_tables.specs.Pool.{Held}
 use Rattle.shared_tables.specs.declared.links.Links.{Links}
 use Rattle.shared_tables.specs.declared.share.Share.{Share}
+use Rattle.shared_tables.specs.declared.shared_tables.SharedTables.TheInside.{Inside}
 use Rattle.shared_tables.specs.Pool.{entry_at, links_at, alone, is_fixed_in, chain_in, IfHeld}
 use Rattle.shared_tables.specs.Threads.{IsHeld, HoldsAny, unlinked, heads_without, ends_without}
-use Rattle.shared_tables.specs.Shared.{rule_at, HasRoom, kept_count, Lacks, IsOf, line_key}
+use Rattle.shared_tables.specs.SharedInside.{shared_of}
+use Rattle.shared_tables.specs.Shared.{Shared, rule_at, HasRoom, kept_count, Lacks, IsOf, line_key}
 use Rattle.shared_tables.specs.Sound.{share_at, shares_without, share_without, share_written, CountsSome, rule_of, line_at, IsSound}
-use Rattle.shared_tables.proofs.SoundLemmas.{holds_previous, holds_next, rules_stay, rule_of-with_line, HoldsOf, holds_of, rule_is}
+use Rattle.shared_tables.proofs.SoundLemmas.{holds_previous, holds_next, rules_stay, rule_of-with_line, HoldsOf, holds_of, has_share, share_in_range, rule_is}
 use Rattle.shared_tables.proofs.Leaving.{leave_lt, leave_count, leave_sound, leave_lacks, leave_few, chain_previous, chain_next, line_on}
 
 -- a slot that holds an entry of a segment
@@ -31,34 +32,52 @@ stays es shares v s of some = from (share_at shares v) refl some
     from None e h = let bad : false ≡ true = h in cc
     from (Some share) e h = record { share = share; here = e; entry = own.entry; at_slot = own.here; is_of = own.is_of }
 
+-- the same of what a method sees of the tables
+pub stays_inside : (i : Inside) (now : Shared) (v s : ℕ) → shared_of i ≡ now → IsOf (entry_at now.entries s) v → IsSome (rule_at now.rules v) → Stays i.slots.entries i.shares.items v s
+stays_inside i now v s e of ruled =
+    stays i.slots.entries i.shares.items v s (subst (λ (w : Shared). IsOf (entry_at w.entries s) v) (sym e) of)
+    (has_share i.shares.items v (subst (λ (w : Shared). IsSome (rule_at w.rules v)) (sym e) ruled))
+
+-- its entry can leave its chain and its line: its neighbours there hold entries, and its segment counts it
+pub record IsThreaded (es : List (Option Held)) (cs ls : List Links) (shares : List (Option Share)) (v s : ℕ) : Type 0 where
+  pub held : IsHeld es s
+  pub chain_previous : HoldsAny es (links_at cs s).previous
+  pub chain_next : HoldsAny es (links_at cs s).next
+  pub line_previous : HoldsAny es (links_at ls s).previous
+  pub line_next : HoldsAny es (links_at ls s).next
+  pub counted : CountsSome (share_at shares v)
+
 module _ (es : List (Option Held)) (cs ls : List Links) (heads : List (Option ℕ)) (shares : List (Option Share)) (moment : ℕ) (h : IsSound es cs ls heads shares moment)
     (v s : ℕ) (k : Stays es shares v s) where
-  pub drop_held : IsHeld es s
+  drop_held : IsHeld es s
   drop_held = record { in_pool = leave_lt es cs ls heads shares moment h v k.share k.here k.entry k.is_of s k.at_slot; held = subst (λ (o : Option Held). IsSome o) (sym k.at_slot) refl }
 
-  pub drop_chain_previous : HoldsAny es (links_at cs s).previous
+  drop_chain_previous : HoldsAny es (links_at cs s).previous
   drop_chain_previous = chain_previous es cs ls heads shares moment h v k.share k.here k.entry k.is_of s k.at_slot
 
-  pub drop_chain_next : HoldsAny es (links_at cs s).next
+  drop_chain_next : HoldsAny es (links_at cs s).next
   drop_chain_next = chain_next es cs ls heads shares moment h v k.share k.here k.entry k.is_of s k.at_slot
 
   abbrev fixed : Bool
   fixed = is_none k.entry.last
 
-  pub drop_line_previous : HoldsAny es (links_at ls s).previous
+  drop_line_previous : HoldsAny es (links_at ls s).previous
   drop_line_previous =
       let lines = h.lined v k.share k.here in
       holds_previous (line_key v fixed) refl ls es _ _ s (lines.list fixed) (lines.thread fixed) (line_on es cs ls heads shares moment h v k.share k.here k.entry k.is_of s k.at_slot)
 
-  pub drop_line_next : HoldsAny es (links_at ls s).next
+  drop_line_next : HoldsAny es (links_at ls s).next
   drop_line_next =
       let lines = h.lined v k.share k.here in
       holds_next (line_key v fixed) refl ls es _ _ s (lines.list fixed) (lines.thread fixed) (line_on es cs ls heads shares moment h v k.share k.here k.entry k.is_of s k.at_slot)
 
-  pub drop_counted : CountsSome (share_at shares v)
+  drop_counted : CountsSome (share_at shares v)
   drop_counted = subst CountsSome (sym k.here) (leave_count es cs ls heads shares moment h v k.share k.here k.entry k.is_of s k.at_slot)
 
-  -- the shares then
+  pub threaded : IsThreaded es cs ls shares v s
+  threaded = record { held = drop_held; chain_previous = drop_chain_previous; chain_next = drop_chain_next; line_previous = drop_line_previous; line_next = drop_line_next; counted = drop_counted }
+
+  -- the shares when it has left
   shares_are : shares_without shares v (is_fixed_in (entry_at es s)) (links_at ls s) ≡ set shares v (Some (share_without fixed (links_at ls s) k.share))
   shares_are =
       ap (λ o. shares_without shares v (is_fixed_in o) (links_at ls s)) k.at_slot
@@ -83,11 +102,4 @@ module _ (es : List (Option Held)) (cs ls : List Links) (heads : List (Option �
 
   -- the segment keeps its share
   pub drop_share : IsSome (share_at (shares_without shares v (is_fixed_in (entry_at es s)) (links_at ls s)) v)
-  drop_share = subst (λ xs. IsSome (share_at xs v)) (sym shares_are) (subst (λ (o : Option Share). IsSome o) (sym (get_or-set_same shares v (Some (share_without fixed (links_at ls s) k.share)) None in_range)) refl)
-    where
-      in_range : v < length shares
-      in_range = from (cases_lt v (length shares))
-        where
-          from : (v < length shares) ⊎ (length shares ≤ v) → v < length shares
-          from (inl lt) = lt
-          from (inr le) = let bad : None ≡ Some k.share = sym (get_or_past shares v None le) ∙ k.here in cc
+  drop_share = subst (λ xs. IsSome (share_at xs v)) (sym shares_are) (subst (λ (o : Option Share). IsSome o) (sym (get_or-set_same shares v (Some (share_without fixed (links_at ls s) k.share)) None (share_in_range shares v k.share k.here))) refl)

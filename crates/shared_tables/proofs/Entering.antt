@@ -1,7 +1,5 @@
 -- What holds of the slots, the heads and the segments together holds when an entry has come.
-use Rattle.std.proofs.lemmas.Bool.{cases_lt}
-use Rattle.std.proofs.lemmas.List.{get_or_past}
-use Rattle.std.proofs.Common.{suc, inl, inr, ◌⊎◌, ◌≡◌, ◌≢◌, ℕ, ◌+◌, ◌<◌, ◌≤◌, Bool, true, false, cond, not, ◌||◌, ◌&&◌, List, [], ◌∷◌, ◌++◌, length, set, Option, Some, None, is_none, nat_eq, refl, sym, ap, ◌∙◌, subst, arith, length-append}
+use Rattle.std.proofs.Common.{suc, ◌≡◌, ◌≢◌, ℕ, ◌+◌, ◌<◌, ◌≤◌, Bool, true, false, cond, not, ◌||◌, ◌&&◌, List, [], ◌∷◌, ◌++◌, length, set, Option, Some, None, is_none, nat_eq, refl, sym, ap, ◌∙◌, subst, arith, length-append}
 use Rattle.std.proofs.lemmas.List.{get_or-set_same, get_or-set_other, length-set}
 use Rattle.std.proofs.lemmas.List.Sums.{sum_by-set, sum_by-cons}
 use Rattle.std.specs.List.{sum_by}
@@ -17,6 +15,7 @@ use Rattle.shared_tables.specs.Sound.{IsLines, IsChain, IsSound, IsAged, share_a
 use Rattle.shared_tables.proofs.Buckets.{chain_small}
 use Rattle.shared_tables.proofs.Linked.{by_bool, equal, nat_eq_refl, nat_eq_sym, length-pushed_back, length-pushed_front}
 use Rattle.shared_tables.proofs.Threaded.{thread_back, thread_front, thread_same, thread_links, apart_by_keys, back_frame, front_frame, back_over, front_over}
+use Rattle.shared_tables.proofs.SoundLemmas.{share_in_range}
 
 -- no entry is on two chains, nor on two lines
 pub chain_excl : (b c : ℕ) → nat_eq c b ≡ false → (o : Option Held) → chain_key b o ≡ true → chain_key c o ≡ false
@@ -100,15 +99,11 @@ pub enter_free : (es : List (Option Held)) (cs ls : List Links) (heads : List (O
     → IsSound es cs ls heads shares moment → share_at shares v ≡ Some share → share.count < share.limit → 0 < free_count es
 enter_free es cs ls heads shares moment v share h here room =
     let more : Option Share = Some (record share { count = share.count + 1 }) in
-    let lt : v < length shares = from (cases_lt v (length shares)) in
+    let lt = share_in_range shares v share here in
     let sums : sum_by share_count (set shares v more) ≤ sum_by share_limit (set shares v more) = few (set shares v more) (λ w sh at. by_bool (nat_eq w v)
     (λ yes. (let p : more ≡ Some sh = sym (get_or-set_same shares v more None lt) ∙ subst (λ k. share_at (set shares v more) k ≡ Some sh) (equal w v yes) at in let q : record share { count = share.count + 1 } ≡ sh = cc in subst (λ (x : Share). x.count ≤ x.limit) q (omega (arith, room))))
     (λ apart. (h.lined w sh (sym (get_or-set_other shares v w more None (λ q. let yes : nat_eq w v ≡ true = subst (λ k. nat_eq w k ≡ true) q (nat_eq_refl w) in let bad : true ≡ false = sym yes ∙ apart in cc)) ∙ at)).limit)) in
     omega (arith, sums, h.free, h.room, sum_by-set share_count shares v more None lt, sum_by-set share_limit shares v more None lt, ap share_count here, ap share_limit here)
-  where
-    from : (v < length shares) ⊎ (length shares ≤ v) → v < length shares
-    from (inl k) = k
-    from (inr k) = let bad : None ≡ Some share = sym (get_or_past shares v None k) ∙ here in cc
 
 module _ (es : List (Option Held)) (cs ls : List Links) (heads : List (Option ℕ)) (shares : List (Option Share)) (moment : ℕ) (h : IsSound es cs ls heads shares moment)
     (v : ℕ) (share : Share) (here : share_at shares v ≡ Some share) (room : share.count < share.limit)
@@ -264,10 +259,7 @@ module _ (es : List (Option Held)) (cs ls : List Links) (heads : List (Option �
       }
 
   share_lt : v < length shares
-  share_lt = from (cases_lt v (length shares)) where
-    from : (v < length shares) ⊎ (length shares ≤ v) → v < length shares
-    from (inl k) = k
-    from (inr k) = let bad : None ≡ Some share = sym (get_or_past shares v None k) ∙ here in cc
+  share_lt = share_in_range shares v share here
 
   lined : (w : ℕ) (old : Share) → share_at shares' w ≡ Some old → IsLines es' ls' w old moment
   lined w old at = by_bool (nat_eq w v) (λ yes. mine (equal w v yes)) (λ apart. lines_other w old apart (h.lined w old (sym (get_or-set_other shares v w (Some share') None (λ q. let yes : nat_eq w v ≡ true = subst (λ k. nat_eq w k ≡ true) q (nat_eq_refl w) in let bad : true ≡ false = sym yes ∙ apart in cc)) ∙ at)))

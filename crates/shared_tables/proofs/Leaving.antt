@@ -1,7 +1,6 @@
 -- What holds of the slots, the heads and the segments together holds when an entry has gone.
-use Rattle.std.proofs.lemmas.Bool.{cases_lt}
-use Rattle.std.proofs.Common.{inl, inr, ◌⊎◌, ◌≡◌, ℕ, ◌+◌, ◌-◌, ◌<◌, ◌≤◌, Bool, true, false, cond, ◌&&◌, List, [], ◌∷◌, ◌++◌, length, set, Option, Some, None, is_none, nat_eq, refl, sym, ap, ◌∙◌, subst, arith, length-append}
-use Rattle.std.proofs.lemmas.List.{get_or-set_same, get_or-set_other, length-set, get_or_past}
+use Rattle.std.proofs.Common.{◌≡◌, ℕ, ◌+◌, ◌-◌, ◌<◌, ◌≤◌, Bool, true, false, cond, ◌&&◌, List, [], ◌∷◌, ◌++◌, length, set, Option, Some, None, is_none, nat_eq, refl, sym, ap, ◌∙◌, subst, arith, length-append}
+use Rattle.std.proofs.lemmas.List.{get_or-set_same, get_or-set_other, length-set}
 use Rattle.std.proofs.lemmas.List.Sums.{sum_by-set}
 use Rattle.shared_tables.specs.Bucket.{chain_of}
 use Rattle.shared_tables.specs.declared.links.Links.{Links}
@@ -15,7 +14,7 @@ use Rattle.shared_tables.specs.Sound.{IsLines, IsChain, IsSound, IsAged, share_a
 use Rattle.shared_tables.proofs.Buckets.{chain_small}
 use Rattle.shared_tables.proofs.Linked.{by_bool, equal, nat_eq_refl, nat_eq_sym, length-unlinked, Around, around, off_without, unlinked_frame, linked_frame}
 use Rattle.shared_tables.proofs.Threaded.{thread_without, thread_same, thread_links, apart_by_keys, in_entries}
-use Rattle.shared_tables.proofs.SoundLemmas.{holds_previous, holds_next, kept_is}
+use Rattle.shared_tables.proofs.SoundLemmas.{holds_previous, holds_next, kept_is, share_in_range}
 use Rattle.shared_tables.proofs.Entering.{chain_excl, line_excl_kind, line_excl_vid, same_bool_refl, aged_frame}
 
 -- the order of a queue without one of its slots
@@ -227,10 +226,7 @@ module _ (es : List (Option Held)) (cs ls : List Links) (heads : List (Option �
       }
 
   share_lt : v < length shares
-  share_lt = from (cases_lt v (length shares)) where
-    from : (v < length shares) ⊎ (length shares ≤ v) → v < length shares
-    from (inl k) = k
-    from (inr k) = let bad : None ≡ Some share = sym (get_or_past shares v None k) ∙ here in cc
+  share_lt = share_in_range shares v share here
 
   -- the segment counts the entry
   pub leave_count : 0 < share.count

@@ -14,8 +14,9 @@ pub mod Tabled
 pub mod SegmentsLemmas
 pub mod CallLemmas
 pub mod WorkLemmas
+pub mod Steps
+pub mod Answering
 pub mod Passing
 pub mod Sweeping
-pub mod Sizes
 pub mod StandingLemmas
 pub mod ListingLemmas

@@ -7,6 +7,7 @@ use Rattle.filter_db.specs.Place.{same_place}
 use Rattle.shared_tables.specs.Pool.{Held}
 use Rattle.shared_tables.specs.declared.links.Links.{Links}
 use Rattle.shared_tables.specs.declared.share.Share.{Share}
+use Rattle.shared_tables.specs.declared.shared_tables.SharedTables.TheInside.{Inside}
 use Rattle.shared_tables.specs.Pool.{Pool, entry_at, links_at, alone, is_fixed_in, chain_in}
 use Rattle.shared_tables.specs.Threads.{IsHeld, unlinked, heads_without, ends_without, dropped}
 use Rattle.shared_tables.specs.declared.threads.Ends.{Ends}
@@ -78,6 +79,11 @@ at_slot old now heads was shares moment v place slot steps count w =
     from [] e = let bad : Some slot ≡ None = e in cc
     from (i ∷ rest) e = let q : i ≡ slot = (let p : Some slot ≡ Some i = e in cc) in (rest, ap (λ k. k ∷ rest) q)
 
+-- whether an entry stands at a place, by where it stands
+stands_is : (o : Option Held) (stands place : Place) (same : Bool) → IsSome o → IfSome o (λ e. stands ≡ e.place) → same ≡ same_place stands place → stands_at place o ≡ same
+stands_is None stands place same some is e = let bad : false ≡ true = some in cc
+stands_is (Some h) stands place same some is e = sym (e ∙ ap (λ p. same_place p place) is)
+
 module _ (old now : Pool) (heads : List (Option ℕ)) (was shares : List (Option Share)) (moment v : ℕ) (place : Place) (slot steps count : ℕ) (w : Passes old now heads was shares moment v place (Some slot) steps count) where
   abbrev a : AtSlot old now heads was shares moment v place slot steps count
   a = at_slot old now heads was shares moment v place slot steps count w
@@ -93,6 +99,9 @@ module _ (old now : Pool) (heads : List (Option ℕ)) (was shares : List (Option
 
   pub pass_held : IsHeld now.entries slot
   pass_held = holds (line_key v false) refl now.lines now.entries a.whole.first a.whole.last (a.whole.done ++ slot ∷ a.behind) thread slot on
+
+  pub pass_stands : (there : Place) (same : Bool) → IfSome (entry_at now.entries slot) (λ e. there ≡ e.place) → same ≡ same_place there place → stands_at place (entry_at now.entries slot) ≡ same
+  pass_stands there same is e = stands_is (entry_at now.entries slot) there place same pass_held.held is e
 
   pub pass_stays : Stays now.entries shares v slot
   pass_stays = stays now.entries shares v slot (of_ages v (entry_at now.entries slot) pass_ages) a.whole.has
@@ -168,10 +177,12 @@ module _ (old now : Pool) (heads : List (Option ℕ)) (was shares : List (Option
       still : IsSome (share_at (shares_without shares v (is_fixed_in (entry_at now.entries slot)) (links_at now.lines slot)) v)
       still = drop_share now.entries now.chains now.lines heads shares moment a.whole.sound v slot pass_stays
 
--- whether an entry stands at a place, by where it stands
-pub stands_is : (o : Option Held) (stands place : Place) (same : Bool) → IsSome o → IfSome o (λ e. stands ≡ e.place) → same ≡ same_place stands place → stands_at place o ≡ same
-stands_is None stands place same some is e = let bad : false ≡ true = some in cc
-stands_is (Some h) stands place same some is e = sym (e ∙ ap (λ p. same_place p place) is)
+-- the same of the fields that a loop has behind its step
+pub pass_at : (old : Pool) (was : List (Option Share)) (v : ℕ) (place : Place) (i j : Inside) (cursor next : Option ℕ) (steps count : ℕ) → cursor ≡ next → i ≡ j → Passes old j.slots j.heads.items was j.shares.items j.moment v place next steps count
+    → Passes old i.slots i.heads.items was i.shares.items i.moment v place cursor steps count
+pass_at old was v place i j cursor next steps count q e w =
+    subst (λ (o : Option ℕ). Passes old i.slots i.heads.items was i.shares.items i.moment v place o steps count) (sym q)
+    (subst (λ (x : Inside). Passes old x.slots x.heads.items was x.shares.items x.moment v place next steps count) (sym e) w)
 
 -- nothing is left of the queue
 pub pass_none : (old now : Pool) (heads : List (Option ℕ)) (was shares : List (Option Share)) (moment v : ℕ) (place : Place) (steps count : ℕ) → steps < count → Passes old now heads was shares moment v place None steps count → Passes old now heads was shares moment v place None (steps + 1) count

@@ -1,25 +1,26 @@
 -- What holds of the slots, the heads and the segments together holds when an entry has been renewed in its slot: it
 -- leaves its line and comes behind the last of a line, and on its chain it stays.
-use Rattle.std.proofs.lemmas.Bool.{cases_lt}
-use Rattle.std.proofs.Common.{inl, inr, ◌⊎◌, ◌≡◌, ℕ, ◌+◌, ◌-◌, ◌<◌, ◌≤◌, Bool, true, false, List, length, map, set, Option, Some, None, is_none, refl, sym, ap, ◌∙◌, subst, arith}
-use Rattle.std.proofs.lemmas.List.{get_or-set_same, length-set, get_or_past, set-set}
+use Rattle.std.proofs.Common.{◌≡◌, ℕ, ◌+◌, ◌-◌, ◌<◌, Bool, true, false, List, length, map, set, Option, Some, None, IsSome, is_none, refl, sym, ap, ◌∙◌, subst, arith}
+use Rattle.std.proofs.lemmas.List.{get_or-set_same, length-set, set-set}
 use Rattle.std.specs.Option.{option_map}
 use Rattle.filter_db.specs.declared.place.Place.{Place}
 use Rattle.shared_tables.specs.declared.links.Links.{Links}
 use Rattle.shared_tables.specs.declared.threads.Ends.{Ends}
+use Rattle.shared_tables.specs.declared.shared_tables.SharedTables.TheInside.{Inside}
 use Rattle.shared_tables.specs.Pool.{Held}
 use Rattle.shared_tables.specs.declared.share.Share.{Share}
 use Rattle.shared_tables.specs.Bucket.{chain_of}
-use Rattle.shared_tables.specs.Pool.{links_at, entry_at, alone, is_fixed_in, renewed}
-use Rattle.shared_tables.specs.Threads.{HoldsAny, AreEnds, unlinked, pushed_back, pushed_front, ends_without, ends_with, heads_without}
+use Rattle.shared_tables.specs.Pool.{Pool, links_at, entry_at, alone, is_fixed_in, renewed}
+use Rattle.shared_tables.specs.Threads.{IsHeld, HoldsAny, moved, AreEnds, unlinked, pushed_back, pushed_front, ends_without, ends_with, heads_without}
 use Rattle.shared_tables.specs.Line.{last_of}
-use Rattle.shared_tables.specs.Shared.{chain_key, line_key, IsNow}
+use Rattle.shared_tables.specs.Shared.{Shared, rule_at, chain_key, line_key, IsNow, IsOf}
+use Rattle.shared_tables.specs.SharedInside.{shared_of, IsSoundInside}
 use Rattle.shared_tables.specs.Sound.{IsChain, IsSound, share_at, head_at, line_at, with_line, share_moved, shares_moved, share_written, last_left, HasEndsLeft, rule_of}
 use Rattle.shared_tables.proofs.Threaded.{thread_same, back_over}
-use Rattle.shared_tables.proofs.SoundLemmas.{sound_at, thread_ends, holds_last, holds_more, rules_stay}
+use Rattle.shared_tables.proofs.SoundLemmas.{sound_at, same_shared, thread_ends, holds_last, holds_more, rules_stay, share_in_range}
 use Rattle.shared_tables.proofs.Entering.{enter_sound}
 use Rattle.shared_tables.proofs.Leaving.{leave_sound, leave_lacks, leave_lt, leave_count}
-use Rattle.shared_tables.proofs.Dropping.{Stays}
+use Rattle.shared_tables.proofs.Dropping.{Stays, stays_inside, IsThreaded, threaded}
 
 -- a share whose line loses an entry and gains it again
 abbrev without : Share → Bool → Links → Share
@@ -105,10 +106,7 @@ module _ (es : List (Option Held)) (cs ls : List Links) (heads : List (Option �
   lt = leave_lt es cs ls heads shares moment h v k.share k.here k.entry k.is_of s k.at_slot
 
   share_lt : v < length shares
-  share_lt = from (cases_lt v (length shares)) where
-    from : (v < length shares) ⊎ (length shares ≤ v) → v < length shares
-    from (inl q) = q
-    from (inr q) = let bad : None ≡ Some k.share = sym (get_or_past shares v None q) ∙ k.here in cc
+  share_lt = share_in_range shares v k.share k.here
 
   some : 0 < k.share.count
   some = leave_count es cs ls heads shares moment h v k.share k.here k.entry k.is_of s k.at_slot
@@ -159,7 +157,7 @@ module _ (es : List (Option Held)) (cs ls : List Links) (heads : List (Option �
             (ap (λ o. chain_key c (renewed o place last)) k.at_slot ∙ sym (ap (chain_key c) k.at_slot));
       }
 
-  pub renew_sound : IsSound (set es s (renewed (entry_at es s) place last)) cs (pushed_back (unlinked ls s) (last_left (share_at shares v) (is_fixed_in (entry_at es s)) fixed own) s) heads (shares_moved shares v (is_fixed_in (entry_at es s)) fixed own s) moment
+  renew_sound : IsSound (set es s (renewed (entry_at es s) place last)) cs (pushed_back (unlinked ls s) (last_left (share_at shares v) (is_fixed_in (entry_at es s)) fixed own) s) heads (shares_moved shares v (is_fixed_in (entry_at es s)) fixed own s) moment
   renew_sound = record {
     chain_links = h.chain_links ∙ sym (length-set es s (renewed (entry_at es s) place last));
     line_links = renewed_sound.line_links;
@@ -173,7 +171,7 @@ module _ (es : List (Option Held)) (cs ls : List Links) (heads : List (Option �
   }
 
   -- the line that it comes to ends with an entry
-  pub renew_last : HoldsAny (set es s (renewed (entry_at es s) place last)) (last_left (share_at shares v) (is_fixed_in (entry_at es s)) fixed own)
+  renew_last : HoldsAny (set es s (renewed (entry_at es s) place last)) (last_left (share_at shares v) (is_fixed_in (entry_at es s)) fixed own)
   renew_last =
       let lines = left.lined v share' here' in
       subst (λ o. HoldsAny (set es s (renewed (entry_at es s) place last)) o) (sym last_left_is)
@@ -181,12 +179,58 @@ module _ (es : List (Option Held)) (cs ls : List Links) (heads : List (Option �
       (holds_more gone s entry' (line_at share' fixed).last lt' (holds_last (line_key v fixed) refl lines' gone _ _ (lines.list fixed) (lines.thread fixed))))
 
   -- and has both its ends, or neither
-  pub renew_ends : HasEndsLeft (share_at shares v) (is_fixed_in (entry_at es s)) fixed own
+  renew_ends : HasEndsLeft (share_at shares v) (is_fixed_in (entry_at es s)) fixed own
   renew_ends =
       let lines = left.lined v share' here' in
       subst (λ (o : Option Held). HasEndsLeft (share_at shares v) (is_fixed_in o) fixed own) (sym k.at_slot)
       (subst (λ (o : Option Share). HasEndsLeft o was fixed own) (sym k.here)
       (subst (λ (x : Ends). AreEnds x) (line_is k.share was fixed own) (thread_ends lines' gone (line_key v fixed) _ _ (lines.list fixed) (lines.thread fixed))))
 
-  pub renew_rules : map (option_map rule_of) (shares_moved shares v (is_fixed_in (entry_at es s)) fixed own s) ≡ map (option_map rule_of) shares
+  renew_rules : map (option_map rule_of) (shares_moved shares v (is_fixed_in (entry_at es s)) fixed own s) ≡ map (option_map rule_of) shares
   renew_rules = ap (map (option_map rule_of)) moved_shares ∙ rules_stay shares v k.share (share_moved was fixed own s k.share) k.here (rule_is k.share was fixed own s)
+
+-- an entry can leave its line for the end of a line of its segment
+pub record IsRenewable (es : List (Option Held)) (ls : List Links) (shares : List (Option Share)) (v s : ℕ) (place : Place) (last : Option ℕ) : Type 0 where
+  pub held : IsHeld es s
+  pub previous : HoldsAny es (links_at ls s).previous
+  pub next : HoldsAny es (links_at ls s).next
+  pub there : IsSome (share_at shares v)
+  pub behind : HoldsAny (set es s (renewed (entry_at es s) place last)) (last_left (share_at shares v) (is_fixed_in (entry_at es s)) (is_none last) (links_at ls s))
+  pub ends : HasEndsLeft (share_at shares v) (is_fixed_in (entry_at es s)) (is_none last) (links_at ls s)
+
+-- a method that renews an entry, by what it sees of the tables
+module _ (i : Inside) (now : Shared) (e : shared_of i ≡ now) (h : IsSoundInside i) (v s : ℕ) (of : IsOf (entry_at now.entries s) v) (ruled : IsSome (rule_at now.rules v))
+    (place : Place) (last : Option ℕ) (when : IsNow last now.moment) where
+  abbrev k : Stays i.slots.entries i.shares.items v s
+  k = stays_inside i now v s e of ruled
+
+  at : IsNow last i.moment
+  at = subst (λ (w : Shared). IsNow last w.moment) (sym e) when
+
+  pub renewable : IsRenewable i.slots.entries i.slots.lines i.shares.items v s place last
+  renewable =
+      let t : IsThreaded i.slots.entries i.slots.chains i.slots.lines i.shares.items v s = threaded i.slots.entries i.slots.chains i.slots.lines i.heads.items i.shares.items i.moment h v s k in
+      record {
+        held = t.held;
+        previous = t.line_previous;
+        next = t.line_next;
+        there = subst (λ (o : Option Share). IsSome o) (sym k.here) refl;
+        behind = renew_last i.slots.entries i.slots.chains i.slots.lines i.heads.items i.shares.items i.moment h v s k place last at;
+        ends = renew_ends i.slots.entries i.slots.chains i.slots.lines i.heads.items i.shares.items i.moment h v s k place last at;
+      }
+
+  module _ (pool : Pool) (shares : List (Option Share))
+      (pool_is : pool ≡ moved i.slots s place last (last_left (share_at i.shares.items v) (is_fixed_in (entry_at i.slots.entries s)) (is_none last) (links_at i.slots.lines s)))
+      (shares_is : shares ≡ shares_moved i.shares.items v (is_fixed_in (entry_at i.slots.entries s)) (is_none last) (links_at i.slots.lines s) s) where
+    pub renewed_inside : IsSound pool.entries pool.chains pool.lines i.heads.items shares i.moment
+    renewed_inside =
+        sound_at i.moment (ap (λ (p : Pool). p.entries) pool_is) (ap (λ (p : Pool). p.chains) pool_is) (ap (λ (p : Pool). p.lines) pool_is) refl shares_is
+        (renew_sound i.slots.entries i.slots.chains i.slots.lines i.heads.items i.shares.items i.moment h v s k place last at)
+
+    pub renewed_seen : ◌≡◌ {A = Shared} (record { entries = pool.entries; rules = map (option_map rule_of) shares; moment = i.moment; calls = i.calls.total; compared = pool.compared; visited = pool.visited })
+        (record now { entries = set now.entries s (renewed (entry_at now.entries s) place last) })
+    renewed_seen =
+        same_shared i.moment i.calls.total (ap (λ (p : Pool). p.entries) pool_is)
+        (ap (map (option_map rule_of)) shares_is ∙ renew_rules i.slots.entries i.slots.chains i.slots.lines i.heads.items i.shares.items i.moment h v s k place last at)
+        (ap (λ (p : Pool). p.compared) pool_is) (ap (λ (p : Pool). p.visited) pool_is)
+        ∙ ap (λ (w : Shared). record w { entries = set w.entries s (renewed (entry_at w.entries s) place last) }) e

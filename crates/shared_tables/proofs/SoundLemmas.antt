@@ -1,8 +1,9 @@
 -- What holds of the slots, the heads and the segments together, and what follows.
-use Rattle.std.proofs.Common.{◌≡◌, ℕ, ◌+◌, ◌<◌, ◌≤◌, Bool, true, false, cond, not, ◌&&◌, List, [], ◌∷◌, ◌++◌, length, map, set, Option, Some, None, IsSome, is_some, is_none, nat_eq, refl, sym, ap, ◌∙◌, subst, arith}
+use Rattle.std.proofs.Common.{inl, inr, ◌⊎◌, ◌≡◌, ℕ, ◌+◌, ◌<◌, ◌≤◌, Bool, true, false, cond, not, ◌&&◌, List, [], ◌∷◌, ◌++◌, length, map, set, Option, Some, None, IsSome, is_some, is_none, nat_eq, refl, sym, ap, ◌∙◌, subst, arith}
 use Rattle.std.proofs.lemmas.List.Sums.{sum_by-cons}
 use Rattle.std.proofs.Math.ListN.{get_or-map}
-use Rattle.std.proofs.lemmas.List.{get_or-set_same, get_or-set_other, length-set}
+use Rattle.std.proofs.lemmas.Bool.{cases_lt}
+use Rattle.std.proofs.lemmas.List.{get_or-set_same, get_or-set_other, get_or_past, length-set}
 use Rattle.std.specs.Option.{option_map}
 use Rattle.std.specs.List.{sum_by}
 use Rattle.shared_tables.specs.declared.links.Links.{Links}
@@ -14,6 +15,8 @@ use Rattle.shared_tables.specs.Shared.{vid_key, line_key, kept_count, same_bool,
 use Rattle.shared_tables.specs.Threads.{IsHeld, HoldsAny}
 use Rattle.shared_tables.specs.Line.{first_of, last_of, is_on, IsThread}
 use Rattle.shared_tables.specs.Shared.{Rule, Shared, HasRoom, rule_at, IsOf, IsOrderly}
+use Rattle.shared_tables.specs.declared.shared_tables.SharedTables.TheInside.{Inside}
+use Rattle.shared_tables.specs.SharedInside.{shared_of, IsSoundInside}
 use Rattle.shared_tables.specs.Sound.{with_line, IsAged}
 use Rattle.std.proofs.Math.Seq.{map-set_same}
 use Rattle.shared_tables.specs.declared.threads.Ends.{Ends}
@@ -43,6 +46,14 @@ kept_is es lines vid share moment h = omega (arith, h.count, (h.thread true).siz
 -- the rule of a segment that is there
 pub rule_is : (shares : List (Option Share)) (v : ℕ) (share : Share) → share_at shares v ≡ Some share → rule_at (map (option_map rule_of) shares) v ≡ Some (rule_of share)
 rule_is shares v share here = get_or-map (option_map rule_of) shares v None ∙ ap (option_map rule_of) here
+
+-- the VID of a segment that is there
+pub share_in_range : (shares : List (Option Share)) (v : ℕ) (share : Share) → share_at shares v ≡ Some share → v < length shares
+share_in_range shares v share here = from (cases_lt v (length shares))
+  where
+    from : (v < length shares) ⊎ (length shares ≤ v) → v < length shares
+    from (inl lt) = lt
+    from (inr le) = let bad : None ≡ Some share = sym (get_or_past shares v None le) ∙ here in cc
 
 -- the share that was read in the same shares
 pub share_read : (xs ys : List (Option Share)) (v : ℕ) (o : Option Share) (share : Share) → xs ≡ ys → o ≡ share_at xs v → o ≡ Some share → share_at ys v ≡ Some share
@@ -183,6 +194,18 @@ share_with_room shares v n room = from (share_at shares v) refl (subst (λ (o : 
     from : (o : Option Share) → share_at shares v ≡ o → HasRoom (option_map rule_of o) n → IsShare shares v
     from None e h = absurd h
     from (Some share) e h = record { share = share; here = e }
+
+-- the same of what a method sees of the tables
+pub record HasPlace (i : Inside) (v : ℕ) : Type 0 where
+  pub share : Share
+  pub here : share_at i.shares.items v ≡ Some share
+  pub below : share.count < share.limit
+
+pub has_place : (i : Inside) (now : Shared) (v : ℕ) → shared_of i ≡ now → IsSoundInside i → HasRoom (rule_at now.rules v) (kept_count v now.entries) → HasPlace i v
+has_place i now v e h room =
+    let inside = subst (λ (s : Shared). HasRoom (rule_at s.rules v) (kept_count v s.entries)) (sym e) room in
+    let k = share_with_room i.shares.items v _ inside in
+    record { share = k.share; here = k.here; below = room_is i.slots.entries i.slots.chains i.slots.lines i.heads.items i.shares.items i.moment v k.share h k.here inside }
 
 -- the share of a rule
 pub record HasShare (shares : List (Option Share)) (v : ℕ) (rule : Rule) : Type 0 where

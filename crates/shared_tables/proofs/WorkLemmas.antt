@@ -1,20 +1,19 @@
 -- The work that a call does.
-use Rattle.std.proofs.Common.{suc, inl, inr, ◌⊎◌, ◌≡◌, ℕ, ◌+◌, ◌-◌, ◌<◌, ◌≤◌, Bool, true, false, cond, not, List, [], ◌∷◌, length, set, Option, Some, None, nat_eq, sym, ap, ◌∙◌, subst, arith}
+use Rattle.std.proofs.Common.{suc, inl, inr, ◌⊎◌, ◌≡◌, ℕ, ◌+◌, ◌-◌, ◌<◌, ◌≤◌, Bool, true, false, cond, not, List, [], ◌∷◌, length, set, Option, Some, None, IsSome, nat_eq, refl, sym, ap, ◌∙◌, subst, arith}
 use Rattle.std.proofs.lemmas.Bool.{lt-ltb}
 use Rattle.std.proofs.lemmas.List.Sums.{sum_by-set, sum_by-cons}
 use Rattle.filter_db.specs.declared.place.Place.{Place}
 use Rattle.filter_db.specs.declared.tables.Learned.{Learned}
 use Rattle.shared_tables.specs.Pool.{Held}
 use Rattle.shared_tables.specs.Pool.{entry_at, IfHeld, is_dead_in, is_fixed_in, renewed}
-use Rattle.shared_tables.specs.Threads.{IsHeld}
 use Rattle.shared_tables.specs.Line.{weight}
-use Rattle.shared_tables.specs.Shared.{Shared, Rule, rule_at, span_of, is_held, held_count, HasRoom, IsAtLimit, kept_count, Sweeps, KeepsOrFrees, KeepsOrDrops, Drops, Enters, Lacks, Refreshes, Admits, Relearns}
-use Rattle.shared_tables.specs.Work.{is_dead, dead_count, VisitsFew, TellsAtMost, Pays, IsPaid, PaysForAllWork}
+use Rattle.shared_tables.specs.Shared.{Shared, Rule, rule_at, span_of, is_held, held_count, HasRoom, IsAtLimit, kept_count, Sweeps, KeepsOrFrees, Enters, Lacks, Refreshes, Admits, Relearns}
+use Rattle.shared_tables.specs.Work.{is_dead, dead_count, VisitsFew, TellsAtMost, IsPaid, PaysForAllWork}
 use Rattle.shared_tables.proofs.Linked.{by_bool, equal}
 use Rattle.shared_tables.proofs.Entering.{and_first}
-use Rattle.shared_tables.proofs.Sweeping.{refresh_held}
 use Rattle.shared_tables.proofs.Tabled.{renewed_is}
-use Rattle.shared_tables.proofs.CallLemmas.{Begins}
+use Rattle.shared_tables.specs.Segments.{segments_of}
+use Rattle.shared_tables.proofs.CallLemmas.{Begins, span_is, some_time}
 
 -- dead entries that have gone are no longer dead
 fewer_dead : (rules : List (Option Rule)) (now v : ℕ) (es es' : List (Option Held)) → length es' ≡ length es → ((i : ℕ) → KeepsOrFrees (entry_at es i) (entry_at es' i) v (span_of (rule_at rules v)) now)
@@ -68,6 +67,9 @@ refresh_dead rules now old new slot v mac place last lt held lives r =
     let fewer = entered_dead rules now old.entries slot (renewed (entry_at old.entries slot) place last) lt (ap (is_dead rules now) (renewed_is (entry_at old.entries slot) v mac place last held) ∙ lives) in
     omega (arith, fewer, ap (λ (w : Shared). dead_count rules now w.entries) r)
 
+pub refresh_visits : (f new : Shared) (slot v : ℕ) (mac : List ℕ) (place : Place) → slot < length f.entries → IfHeld (entry_at f.entries slot) v mac → Refreshes f new slot place None → Visits f new
+refresh_visits f new slot v mac place lt held r = let fewer = refresh_dead f.rules f.moment f new slot v mac place None lt held refl r in omega (arith, fewer, ap (λ (w : Shared). w.visited) r)
+
 pub relearn_visits : (f new : Shared) (slot ageing v : ℕ) (mac : List ℕ) (place : Place) (answer : Learned) → slot < length f.entries → IfHeld (entry_at f.entries slot) v mac
     → is_dead f.rules f.moment (Some (record { vid = v; mac = mac; place = place; last = Some f.moment })) ≡ false → Relearns f new slot ageing place answer → Visits f new
 relearn_visits f new slot ageing v mac place answer lt held lives h = by_bool (is_fixed_in (entry_at f.entries slot))
@@ -75,26 +77,6 @@ relearn_visits f new slot ageing v mac place answer lt held lives h = by_bool (i
     (λ ages. let r = h.moves ages in
     let fewer = refresh_dead f.rules f.moment (record f { visited = f.visited + 1 }) new slot v mac place (Some f.moment) lt held lives r in
     omega (arith, fewer, ap (λ (w : Shared). w.visited) r))
-
-pub relearn_pays : (f new : Shared) (slot ageing : ℕ) (place : Place) (answer : Learned) → IsHeld f.entries slot → Relearns f new slot ageing place answer → Pays f new
-relearn_pays f new slot ageing place answer held h = by_bool (is_fixed_in (entry_at f.entries slot))
-    (λ so. subst (Pays f) (sym (h.stays so).1) (omega arith))
-    (λ ages. let r = h.moves ages in
-    omega (arith, refresh_held (record f { visited = f.visited + 1 }) new slot place (Some f.moment) held.in_pool r, ap (λ (w : Shared). w.visited) r))
-
--- ---- what was done stays counted
-
-pub admit_counted : (f new : Shared) (v ageing : ℕ) (e : Held) (answer : Bool) → Admits f new v ageing e answer → f.visited ≤ new.visited
-admit_counted f new v ageing e answer h = from h.done
-  where
-    from : ((answer ≡ false) × (new ≡ h.mid) × IsAtLimit (rule_at h.mid.rules v) (kept_count v h.mid.entries)) ⊎ ((answer ≡ true) × HasRoom (rule_at h.mid.rules v) (kept_count v h.mid.entries) × Enters h.mid new e) → f.visited ≤ new.visited
-    from (inl d) = subst (λ (w : Shared). f.visited ≤ w.visited) (sym d.1) h.swept.counted
-    from (inr d) = subst (λ (w : Shared). f.visited ≤ w.visited) (sym d.2.same) h.swept.counted
-
-pub relearn_counted : (f new : Shared) (slot ageing : ℕ) (place : Place) (answer : Learned) → Relearns f new slot ageing place answer → f.visited ≤ new.visited
-relearn_counted f new slot ageing place answer h = by_bool (is_fixed_in (entry_at f.entries slot))
-    (λ so. omega (arith, ap (λ (w : Shared). w.visited) (h.stays so).1))
-    (λ ages. omega (arith, ap (λ (w : Shared). w.visited) (h.moves ages)))
 
 -- one age is told where the address stands, and none where it has to be fixed
 relearn_tells : (f new : Shared) (slot ageing : ℕ) (place : Place) (answer : Learned) → Relearns f new slot ageing place answer → new.visited ≤ f.visited + 1
@@ -111,9 +93,6 @@ fix_tells old f new now v mac slot place last k h at held = omega (arith, ap (λ
 pub none_tells : (few : ℕ) (old f new : Shared) (now v : ℕ) (mac : List ℕ) → Begins old f now → Lacks f.entries v mac → TellsAtMost few old new v mac
 none_tells few old f new now v mac k lacks at held = absurd (lacks at (subst (λ es. IfHeld (entry_at es at) v mac) (sym k.entries) held))
 
-pub counted_of : (old f new : Shared) (now : ℕ) → Begins old f now → f.visited ≤ new.visited → old.visited ≤ new.visited
-counted_of old f new now k h = omega (arith, h, k.visited)
-
 -- from the state that a call finds
 pub visits_of : (old f new : Shared) (now : ℕ) → Begins old f now → Visits f new → VisitsFew old new now
 visits_of old f new now k h =
@@ -121,29 +100,17 @@ visits_of old f new now k h =
     let behind : dead_count f.rules f.moment new.entries ≡ dead_count old.rules now new.entries = ap (λ rs. dead_count rs f.moment new.entries) k.rules ∙ ap (λ t. dead_count old.rules t new.entries) k.moment in
     omega (arith, h, before, behind, k.visited)
 
-pub pays_of : (old f new : Shared) (now : ℕ) → Begins old f now → Pays f new → Pays old new
-pays_of old f new now k h = omega (arith, h, k.visited, ap held_count k.entries)
-
 -- an entry that is seen now isn't dead
-pub seen_lives : (f : Shared) (v : ℕ) (mac : List ℕ) (place : Place) → 0 < span_of (rule_at f.rules v) → is_dead f.rules f.moment (Some (record { vid = v; mac = mac; place = place; last = Some f.moment })) ≡ false
+seen_lives : (f : Shared) (v : ℕ) (mac : List ℕ) (place : Place) → 0 < span_of (rule_at f.rules v) → is_dead f.rules f.moment (Some (record { vid = v; mac = mac; place = place; last = Some f.moment })) ≡ false
 seen_lives f v mac place some_time = ap not (lt-ltb (f.moment - f.moment) (span_of (rule_at f.rules v)) (omega (arith, some_time)))
 
--- entries that go are fewer
-fewer_held : (test : Option Held → Bool) (es es' : List (Option Held)) → length es' ≡ length es → ((i : ℕ) → KeepsOrDrops test (entry_at es i) (entry_at es' i)) → held_count es' ≤ held_count es
-fewer_held test [] [] n k = omega arith
-fewer_held test [] (o' ∷ es') n k = absurd (omega (arith, n))
-fewer_held test (o ∷ es) [] n k = absurd (omega (arith, n))
-fewer_held test (o ∷ es) (o' ∷ es') n k =
-    let rest = fewer_held test es es' (omega (arith, n)) (λ i. k (suc i)) in
-    let first = one (k 0) in
-    omega (arith, rest, first, sum_by-cons (weight is_held) o es, sum_by-cons (weight is_held) o' es')
-  where
-    one : KeepsOrDrops test o o' → weight is_held o' ≤ weight is_held o
-    one (inl e) = omega (arith, ap (weight is_held) e)
-    one (inr h) = let went : weight is_held o' ≡ 0 = ap (weight is_held) h.0 in omega (arith, went)
+-- nor is one that is seen in a call
+module _ (old f : Shared) (now v : ℕ) (k : Begins old f now) (le : old.moment ≤ now) (has : IsSome (segments_of old v)) (mac : List ℕ) (place : Place) where
+  pub seen_now : is_dead f.rules f.moment (Some (record { vid = v; mac = mac; place = place; last = Some f.moment })) ≡ false
+  seen_now = seen_lives f v mac place (subst (λ n. 0 < n) (sym (span_is old f now v k le has)) (some_time old f now v k le has))
 
-pub drops_pay : (f new : Shared) (test : Option Held → Bool) → Drops f new test → Pays f new
-drops_pay f new test h = let fewer = fewer_held test f.entries new.entries h.size h.each in omega (arith, fewer, ap (λ (w : Shared). w.visited) h.same)
+  pub learned_now : is_dead f.rules f.moment (Some (record { vid = v; mac = mac; place = place; last = Some now })) ≡ false
+  learned_now = subst (λ t. is_dead f.rules f.moment (Some (record { vid = v; mac = mac; place = place; last = Some t })) ≡ false) k.moment seen_now
 
 -- ---- any number of calls
 

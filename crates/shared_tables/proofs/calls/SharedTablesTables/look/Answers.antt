@@ -11,7 +11,7 @@ pub returns-in-Some-clause-answer : goal.returns-in-Some-clause-answer
 returns-in-Some-clause-answer c =
     let old = c.args.self.now in let b = c.count_call.new.self in let now = c.args.now in let v = c.args.vid in let mac = c.args.mac in
     let f : Shared = record c.find.new.self { moment = now } in
-    let k : Begins old f now = looks old b c.find.new.self now _ _ c.count_call.ensures.after c.count_call.ensures.orderly c.in-Some.ensures.same in
+    let k : Begins old f now = looks old b c.find.new.self now _ c.count_call.ensures.after c.count_call.ensures.orderly c.in-Some.ensures.same in
     let le = c.requires.time in let has = c.requires.has in let slot = c.in-Some.slot in
     let held = subst (λ (w : Shared). IfHeld (entry_at w.entries slot) v mac) (sym c.in-Some.ensures.same) c.in-Some.ensures.found in
     let in_pool = subst (λ (w : Shared). IsHeld w.entries slot) (sym c.in-Some.ensures.same) c.in-Some.ensures.held in
@@ -24,7 +24,7 @@ pub returns-in-None-clause-answer : goal.returns-in-None-clause-answer
 returns-in-None-clause-answer c =
     let old = c.args.self.now in let b = c.count_call.new.self in let now = c.args.now in let v = c.args.vid in let mac = c.args.mac in
     let f : Shared = record c.find.new.self { moment = now } in
-    let k : Begins old f now = looks old b c.find.new.self now _ _ c.count_call.ensures.after c.count_call.ensures.orderly c.in-None.ensures.same in
+    let k : Begins old f now = looks old b c.find.new.self now _ c.count_call.ensures.after c.count_call.ensures.orderly c.in-None.ensures.same in
     let le = c.requires.time in let has = c.requires.has in
     let lacks = subst (λ (w : Shared). Lacks w.entries v mac) (sym c.in-None.ensures.same) c.in-None.ensures.none in
     look_none old f now v k le has mac lacks ∙ sym (ap (λ (s : Segment). stands mac s.entries) (own_is old f now v k le has))

@@ -1,78 +1,25 @@
-use Rattle.std.proofs.Common.{refl, sym, ap, ◌∙◌, subst}
+use Rattle.std.proofs.Common.{refl, sym, ◌∙◌}
 use Rattle.std.proofs.lemmas.Bool.{false≢true}
-use Rattle.filter_db.specs.Table.{has_fixed}
-use Rattle.filter_db.specs.Segment.{Segment}
-use Rattle.shared_tables.specs.Pool.{entry_at, IfHeld}
-use Rattle.shared_tables.specs.Threads.{IsHeld}
-use Rattle.shared_tables.specs.Shared.{Shared, Lacks}
-use Rattle.shared_tables.proofs.CallLemmas.{Begins, begins, own_is, unfix_none, unfix_fixed, unfix_learned}
-use Rattle.shared_tables.proofs.Sizes.{slots_of, release_slots}
+use Rattle.shared_tables.proofs.CallLemmas.{finds, misses}
+use Rattle.shared_tables.proofs.Answering.{unfixes, unfixes_learned, unfixes_none}
 use Rattle.shared_tables.proofs.calls.SharedTablesTables.unfix.Goals as goal
 
-pub returns-in-Some-clause-there : goal.returns-in-Some-clause-there
-returns-in-Some-clause-there c =
+pub returns-in-Some : goal.returns-in-Some
+returns-in-Some c =
     let old = c.args.self.now in let b = c.begin.new.self in let f = c.find.new.self in let v = c.args.vid in let mac = c.args.mac in let now = c.args.now in
-    let k : Begins old f now = begins old b f now _ _ c.begin.ensures.after c.begin.ensures.orderly c.in-Some.ensures.same in
-    let le = c.requires.time in let has = c.requires.has in
-    let own = own_is old f now v k le has in
-    let slot = c.in-Some.slot in
-    let held = subst (λ (w : Shared). IfHeld (entry_at w.entries slot) v mac) (sym c.in-Some.ensures.same) c.in-Some.ensures.found in
-    let in_pool = subst (λ (w : Shared). IsHeld w.entries slot) (sym c.in-Some.ensures.same) c.in-Some.ensures.held in
-    (λ _. ap (λ (s : Segment). has_fixed mac s.entries) own ∙ (unfix_fixed old f now v k le has mac slot held in_pool c.release.new.self (sym c.is_fixed.ensures ∙ c.if-is_fixed.true) c.release.ensures.same).0, λ _. refl)
+    let k = finds old b f now v mac c.in-Some.slot _ c.begin.ensures.after c.begin.ensures.orderly c.in-Some.ensures.same c.in-Some.ensures.counted c.in-Some.ensures.compared c.in-Some.ensures.found c.in-Some.ensures.held in
+    let l = unfixes old f now v c.requires.time c.requires.has mac c.release.new.self c.in-Some.slot k (sym c.is_fixed.ensures ∙ c.if-is_fixed.true) c.release.ensures.same in
+    record { there = (λ _. l.answers, λ _. refl); after = l.after; moment = l.left.left.moment; calls = l.left.left.calls; pool = l.left.left.pool; compared = l.left.compared; visited = l.visited; comparisons_stay_counted = l.left.counted; paid = l.left.left.paid }
 
-pub returns-in-Some-clause-after : goal.returns-in-Some-clause-after
-returns-in-Some-clause-after c =
+pub returns-in_default : goal.returns-in_default
+returns-in_default c =
     let old = c.args.self.now in let b = c.begin.new.self in let f = c.find.new.self in let v = c.args.vid in let mac = c.args.mac in let now = c.args.now in
-    let k : Begins old f now = begins old b f now _ _ c.begin.ensures.after c.begin.ensures.orderly c.in-Some.ensures.same in
-    let le = c.requires.time in let has = c.requires.has in
-    let own = own_is old f now v k le has in
-    let slot = c.in-Some.slot in
-    let held = subst (λ (w : Shared). IfHeld (entry_at w.entries slot) v mac) (sym c.in-Some.ensures.same) c.in-Some.ensures.found in
-    let in_pool = subst (λ (w : Shared). IsHeld w.entries slot) (sym c.in-Some.ensures.same) c.in-Some.ensures.held in
-    (unfix_fixed old f now v k le has mac slot held in_pool c.release.new.self (sym c.is_fixed.ensures ∙ c.if-is_fixed.true) c.release.ensures.same).1
+    let k = finds old b f now v mac c.in-Some.slot _ c.begin.ensures.after c.begin.ensures.orderly c.in-Some.ensures.same c.in-Some.ensures.counted c.in-Some.ensures.compared c.in-Some.ensures.found c.in-Some.ensures.held in
+    let l = unfixes_learned old f now v c.requires.time c.requires.has mac c.in-Some.slot k (sym c.is_fixed.ensures ∙ c.if-is_fixed.false) in
+    record { there = (λ bad. absurd (false≢true bad), λ there. absurd (false≢true (sym l.answers ∙ there))); after = l.after; moment = l.left.left.moment; calls = l.left.left.calls; pool = l.left.left.pool; compared = l.left.compared; visited = l.visited; comparisons_stay_counted = l.left.counted; paid = l.left.left.paid }
 
-pub returns-in_default-clause-there : goal.returns-in_default-clause-there
-returns-in_default-clause-there c =
+pub returns-in_default-2 : goal.returns-in_default-2
+returns-in_default-2 c =
     let old = c.args.self.now in let b = c.begin.new.self in let f = c.find.new.self in let v = c.args.vid in let mac = c.args.mac in let now = c.args.now in
-    let k : Begins old f now = begins old b f now _ _ c.begin.ensures.after c.begin.ensures.orderly c.in-Some.ensures.same in
-    let le = c.requires.time in let has = c.requires.has in
-    let own = own_is old f now v k le has in
-    let slot = c.in-Some.slot in
-    let held = subst (λ (w : Shared). IfHeld (entry_at w.entries slot) v mac) (sym c.in-Some.ensures.same) c.in-Some.ensures.found in
-    let in_pool = subst (λ (w : Shared). IsHeld w.entries slot) (sym c.in-Some.ensures.same) c.in-Some.ensures.held in
-    (λ bad. absurd (false≢true bad), λ full. absurd (false≢true (sym (ap (λ (s : Segment). has_fixed mac s.entries) own ∙ (unfix_learned old f now v k le has mac slot held in_pool f (sym c.is_fixed.ensures ∙ c.if-is_fixed.false) refl).0) ∙ full)))
-
-pub returns-in_default-clause-after : goal.returns-in_default-clause-after
-returns-in_default-clause-after c =
-    let old = c.args.self.now in let b = c.begin.new.self in let f = c.find.new.self in let v = c.args.vid in let mac = c.args.mac in let now = c.args.now in
-    let k : Begins old f now = begins old b f now _ _ c.begin.ensures.after c.begin.ensures.orderly c.in-Some.ensures.same in
-    let le = c.requires.time in let has = c.requires.has in
-    let own = own_is old f now v k le has in
-    let slot = c.in-Some.slot in
-    let held = subst (λ (w : Shared). IfHeld (entry_at w.entries slot) v mac) (sym c.in-Some.ensures.same) c.in-Some.ensures.found in
-    let in_pool = subst (λ (w : Shared). IsHeld w.entries slot) (sym c.in-Some.ensures.same) c.in-Some.ensures.held in
-    (unfix_learned old f now v k le has mac slot held in_pool f (sym c.is_fixed.ensures ∙ c.if-is_fixed.false) refl).1
-
-pub returns-in_default-2-clause-there : goal.returns-in_default-2-clause-there
-returns-in_default-2-clause-there c =
-    let old = c.args.self.now in let b = c.begin.new.self in let f = c.find.new.self in let v = c.args.vid in let mac = c.args.mac in let now = c.args.now in
-    let k : Begins old f now = begins old b f now _ _ c.begin.ensures.after c.begin.ensures.orderly c.in_default.ensures.same in
-    let le = c.requires.time in let has = c.requires.has in
-    let own = own_is old f now v k le has in
-    let lacks = subst (λ (w : Shared). Lacks w.entries v mac) (sym c.in_default.ensures.same) c.in_default.ensures.none in
-    (λ bad. absurd (false≢true bad), λ full. absurd (false≢true (sym (ap (λ (s : Segment). has_fixed mac s.entries) own ∙ (unfix_none old f now v k le has mac lacks f refl).0) ∙ full)))
-
-pub returns-in_default-2-clause-after : goal.returns-in_default-2-clause-after
-returns-in_default-2-clause-after c =
-    let old = c.args.self.now in let b = c.begin.new.self in let f = c.find.new.self in let v = c.args.vid in let mac = c.args.mac in let now = c.args.now in
-    let k : Begins old f now = begins old b f now _ _ c.begin.ensures.after c.begin.ensures.orderly c.in_default.ensures.same in
-    let le = c.requires.time in let has = c.requires.has in
-    let own = own_is old f now v k le has in
-    let lacks = subst (λ (w : Shared). Lacks w.entries v mac) (sym c.in_default.ensures.same) c.in_default.ensures.none in
-    (unfix_none old f now v k le has mac lacks f refl).1
-
-pub returns-in-Some-clause-pool : goal.returns-in-Some-clause-pool
-returns-in-Some-clause-pool c =
-    let old = c.args.self.now in let b = c.begin.new.self in let f = c.find.new.self in let now = c.args.now in
-    let k : Begins old f now = begins old b f now _ _ c.begin.ensures.after c.begin.ensures.orderly c.in-Some.ensures.same in
-    slots_of old f c.release.new.self now k (release_slots f c.release.new.self c.in-Some.slot c.release.ensures.same)
+    let l = unfixes_none old f now v c.requires.time c.requires.has mac (misses old b f now v mac _ c.begin.ensures.after c.begin.ensures.orderly c.in_default.ensures.same c.in_default.ensures.counted c.in_default.ensures.compared c.in_default.ensures.none) in
+    record { there = (λ bad. absurd (false≢true bad), λ there. absurd (false≢true (sym l.answers ∙ there))); after = l.after; moment = l.left.left.moment; calls = l.left.left.calls; pool = l.left.left.pool; compared = l.left.compared; visited = l.visited; comparisons_stay_counted = l.left.counted; paid = l.left.left.paid }

@@ -8,11 +8,11 @@ use Rattle.shared_tables.proofs.pool_calls.SharedTablesPoolTables.add.Goals as g
 pub begin_share-requires-clause-room : goal.begin_share-requires-clause-room
 begin_share-requires-clause-room c =
     let old = c.args.self.now in let f = c.begin.new.self in let now = c.args.now in
-    let k : Begins old f now = begins_plain old f now _ c.begin.ensures.after c.begin.ensures.orderly in
+    let k : Begins old f now = begins_plain old f now c.begin.ensures.after c.begin.ensures.orderly in
     omega (arith, c.requires.room, rules_limits f old k.rules, ap length k.entries)
 
 pub returns-clause-after : goal.returns-clause-after
 returns-clause-after c =
     let old = c.args.self.now in let f = c.begin.new.self in let now = c.args.now in
-    let k : Begins old f now = begins_plain old f now _ c.begin.ensures.after c.begin.ensures.orderly in
+    let k : Begins old f now = begins_plain old f now c.begin.ensures.after c.begin.ensures.orderly in
     c.begin_share.ensures.segments ∙ ap (added c.args.rule) (begun old f now c.requires.time k.entries k.rules k.moment)

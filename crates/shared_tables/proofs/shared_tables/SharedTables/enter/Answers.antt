@@ -4,19 +4,17 @@ use Rattle.shared_tables.specs.Bucket.{chain_of}
 use Rattle.shared_tables.specs.Pool.{Pool, Held, entry_at, alone}
 use Rattle.shared_tables.specs.declared.share.Share.{Share}
 use Rattle.shared_tables.specs.Threads.{HoldsAny, pushed_back, pushed_front, ends_with}
-use Rattle.shared_tables.specs.Shared.{Shared, HasRoom, rule_at, kept_count, Lacks, IsNow, chain_key, line_key}
+use Rattle.shared_tables.specs.Shared.{Shared, Lacks, IsNow, chain_key, line_key}
 use Rattle.shared_tables.specs.Sound.{share_at, share_written, share_with, rule_of, line_at, last_in, head_at, CountsMore, HasEnds}
-use Rattle.shared_tables.proofs.SoundLemmas.{none_is, room_is, holds_first, holds_last, holds_more, sound_at, same_shared, rules_stay, rule_of-with_line, share_with_room, thread_ends}
+use Rattle.shared_tables.proofs.SoundLemmas.{none_is, has_place, holds_first, holds_last, holds_more, sound_at, same_shared, rules_stay, rule_of-with_line, thread_ends}
 use Rattle.shared_tables.proofs.Entering.{enter_free, enter_sound}
 use Rattle.shared_tables.proofs.shared_tables.SharedTables.enter.Goals as goal
 
 pub take-slot-requires : goal.take-slot-requires
 take-slot-requires c =
     let i = c.self.inside in
-    let room = subst (λ (s : Shared). HasRoom (rule_at s.rules c.args.vid) (kept_count c.args.vid s.entries)) (sym c.self.view_is) c.requires.room in
-    let k = share_with_room i.shares.items c.args.vid _ room in
-    enter_free i.slots.entries i.slots.chains i.slots.lines i.heads.items i.shares.items i.moment c.args.vid k.share c.self.invariant k.here
-    (room_is i.slots.entries i.slots.chains i.slots.lines i.heads.items i.shares.items i.moment c.args.vid k.share c.self.invariant k.here room)
+    let k = has_place i c.args.self.now c.args.vid c.self.view_is c.self.invariant c.requires.room in
+    enter_free i.slots.entries i.slots.chains i.slots.lines i.heads.items i.shares.items i.moment c.args.vid k.share c.self.invariant k.here k.below
 
 pub enchain-requires-clause-first : goal.enchain-requires-clause-first
 enchain-requires-clause-first c =
@@ -29,17 +27,13 @@ enchain-requires-clause-first c =
 pub join_share-requires-clause-room : goal.join_share-requires-clause-room
 join_share-requires-clause-room c =
     let i = c.self.inside in
-    let room = subst (λ (s : Shared). HasRoom (rule_at s.rules c.args.vid) (kept_count c.args.vid s.entries)) (sym c.self.view_is) c.requires.room in
-    let k = share_with_room i.shares.items c.args.vid _ room in
-    subst (λ (o : Option Share). CountsMore o) (sym k.here)
-    (room_is i.slots.entries i.slots.chains i.slots.lines i.heads.items i.shares.items i.moment c.args.vid k.share c.self.invariant k.here room)
+    let k = has_place i c.args.self.now c.args.vid c.self.view_is c.self.invariant c.requires.room in
+    subst (λ (o : Option Share). CountsMore o) (sym k.here) k.below
 
 pub join_share-requires-clause-last : goal.join_share-requires-clause-last
 join_share-requires-clause-last c =
-    let i = c.self.inside in
-    let room = subst (λ (s : Shared). HasRoom (rule_at s.rules c.args.vid) (kept_count c.args.vid s.entries)) (sym c.self.view_is) c.requires.room in
-    let k = share_with_room i.shares.items c.args.vid _ room in
-    let fixed = c.is_none.result in
+    let i = c.self.inside in let fixed = c.is_none.result in
+    let k = has_place i c.args.self.now c.args.vid c.self.view_is c.self.invariant c.requires.room in
     let lines = c.self.invariant.lined c.args.vid k.share k.here in
     subst (λ es. HoldsAny es (last_in (share_at i.shares.items c.args.vid) fixed)) (sym (ap (λ (p : Pool). p.entries) c.enchain.ensures.pool ∙ ap (λ (p : Pool). p.entries) c.take-slot.ensures.pool))
     (subst (λ (o : Option Share). HoldsAny (set i.slots.entries c.take-slot.result (Some (record { vid = c.args.vid; mac = c.args.mac.now; place = c.args.place.now; last = c.args.last }))) (last_in o fixed)) (sym k.here)
@@ -48,23 +42,19 @@ join_share-requires-clause-last c =
 
 pub join_share-requires-clause-ends : goal.join_share-requires-clause-ends
 join_share-requires-clause-ends c =
-    let i = c.self.inside in
-    let room = subst (λ (s : Shared). HasRoom (rule_at s.rules c.args.vid) (kept_count c.args.vid s.entries)) (sym c.self.view_is) c.requires.room in
-    let k = share_with_room i.shares.items c.args.vid _ room in
-    let fixed = c.is_none.result in
+    let i = c.self.inside in let fixed = c.is_none.result in
+    let k = has_place i c.args.self.now c.args.vid c.self.view_is c.self.invariant c.requires.room in
     let lines = c.self.invariant.lined c.args.vid k.share k.here in
     subst (λ (o : Option Share). HasEnds o fixed) (sym k.here) (thread_ends i.slots.lines i.slots.entries (line_key c.args.vid fixed) _ _ (lines.list fixed) (lines.thread fixed))
 
 pub invariant_of-self : goal.invariant_of-self
 invariant_of-self c =
     let i = c.self.inside in
-    let room = subst (λ (s : Shared). HasRoom (rule_at s.rules c.args.vid) (kept_count c.args.vid s.entries)) (sym c.self.view_is) c.requires.room in
-    let k = share_with_room i.shares.items c.args.vid _ room in
+    let k = has_place i c.args.self.now c.args.vid c.self.view_is c.self.invariant c.requires.room in
     let share = k.share in
-    let below : share.count < share.limit = room_is i.slots.entries i.slots.chains i.slots.lines i.heads.items i.shares.items i.moment c.args.vid share c.self.invariant k.here room in
     let e : Held = record { vid = c.args.vid; mac = c.args.mac.now; place = c.args.place.now; last = c.args.last } in
     let s = c.take-slot.result in
-    let sound = enter_sound i.slots.entries i.slots.chains i.slots.lines i.heads.items i.shares.items i.moment c.self.invariant c.args.vid share k.here below e refl
+    let sound = enter_sound i.slots.entries i.slots.chains i.slots.lines i.heads.items i.shares.items i.moment c.self.invariant c.args.vid share k.here k.below e refl
     (subst (λ (w : Shared). Lacks w.entries c.args.vid c.args.mac.now) (sym c.self.view_is) c.requires.absent)
     (subst (λ (w : Shared). IsNow c.args.last w.moment) (sym c.self.view_is) c.requires.now) s c.take-slot.ensures.free.0 c.take-slot.ensures.free.1 in
     let fixed = c.is_none.result in
@@ -85,8 +75,7 @@ invariant_of-self c =
 pub returns : goal.returns
 returns c =
     let i = c.self.inside in
-    let room = subst (λ (s : Shared). HasRoom (rule_at s.rules c.args.vid) (kept_count c.args.vid s.entries)) (sym c.self.view_is) c.requires.room in
-    let k = share_with_room i.shares.items c.args.vid _ room in
+    let k = has_place i c.args.self.now c.args.vid c.self.view_is c.self.invariant c.requires.room in
     let share = k.share in
     let fixed = c.is_none.result in
     let e : Held = record { vid = c.args.vid; mac = c.args.mac.now; place = c.args.place.now; last = c.args.last } in

@@ -1,5 +1,5 @@
 -- What holds of the slots, the heads and the segments together, and what follows.
-use Rattle.std.proofs.Common.{inl, inr, ◌⊎◌, ◌≡◌, ℕ, ◌+◌, ◌<◌, ◌≤◌, Bool, true, false, cond, not, ◌&&◌, List, [], ◌∷◌, ◌++◌, length, map, set, Option, Some, None, IsSome, is_some, is_none, nat_eq, refl, sym, ap, ◌∙◌, subst, arith}
+use Rattle.std.proofs.Common.{inl, inr, ◌⊎◌, ◌≡◌, ℕ, ◌+◌, ◌<◌, ◌≤◌, Bool, true, false, cond, not, ◌&&◌, List, [], ◌∷◌, ◌++◌, length, map, set, Option, Some, None, IsSome, IfNone, IfSome, is_some, is_none, nat_eq, refl, sym, ap, ◌∙◌, subst, arith}
 use Rattle.std.proofs.lemmas.List.Sums.{sum_by-cons}
 use Rattle.std.proofs.Math.ListN.{get_or-map}
 use Rattle.std.proofs.lemmas.Bool.{cases_lt}
@@ -58,6 +58,13 @@ share_in_range shares v share here = from (cases_lt v (length shares))
 -- the share that was read in the same shares
 pub share_read : (xs ys : List (Option Share)) (v : ℕ) (o : Option Share) (share : Share) → xs ≡ ys → o ≡ share_at xs v → o ≡ Some share → share_at ys v ≡ Some share
 share_read xs ys v o share same read is = sym (read ∙ ap (λ (zs : List (Option Share)). share_at zs v) same) ∙ is
+
+-- what is said of the first slot of a line is said of the slot that a method answers
+pub first_seen : (P : List (Option Held) → Type 0) (Q : List (Option Held) → ℕ → Type 0) (i : Inside) (now : Shared) (first result : Option ℕ) → shared_of i ≡ now → result ≡ first
+    → IfNone first (P i.slots.entries) → IfSome first (Q i.slots.entries) → IfNone result (P now.entries) × IfSome result (Q now.entries)
+first_seen P Q i now first result e is none some =
+    subst (λ (o : Option ℕ). IfNone o (P now.entries) × IfSome o (Q now.entries)) (sym is)
+    (subst (λ (w : Shared). IfNone first (P w.entries) × IfSome first (Q w.entries)) e (none, some))
 
 -- a segment that has room counts less than its limit
 pub room_is : (es : List (Option Held)) (cs ls : List Links) (heads : List (Option ℕ)) (shares : List (Option Share)) (moment v : ℕ) (share : Share)

@@ -24,8 +24,6 @@ use Rattle.shared_tables.specs.Line.{weight, IsThread, first_of, is_on}
 use Rattle.shared_tables.specs.Shared.{Shared, Rule, rule_at, vid_key, line_key, same_bool, kept_count, IsOf, NoneAges, Drops, Flushes, KeepsOrDrops, IsUnique, is_held, held_count}
 use Rattle.shared_tables.specs.Work.{is_dead, dead_count}
 use Rattle.shared_tables.specs.Threads.{IsHeld}
-use Rattle.shared_tables.specs.declared.shared_tables.SharedTables.TheInside.{Inside}
-use Rattle.shared_tables.specs.SharedInside.{shared_of}
 use Rattle.shared_tables.specs.Sound.{IsSound, IsLines, share_at, share_count, share_limit, rule_of, line_at}
 use Rattle.shared_tables.specs.Opened.{new_share}
 use Rattle.shared_tables.specs.Segments.{rows_of, kept_table, kept_segment, segments_of}
@@ -100,7 +98,7 @@ no_share shares v h = from (share_at shares v) (sym (get_or-map (option_map rule
 
 -- ---- the first of the fixed entries
 
-fixed_if_none : (es : List (Option Held)) (ls : List Links) (v : ℕ) (share : Share) (moment : ℕ) → IsLines es ls v share moment → IfNone share.fixed.first (NoneFixed es v)
+pub fixed_if_none : (es : List (Option Held)) (ls : List Links) (v : ℕ) (share : Share) (moment : ℕ) → IsLines es ls v share moment → IfNone share.fixed.first (NoneFixed es v)
 fixed_if_none es ls v share moment h = at share.fixed.first (λ e i. sym ((h.thread true).members i) ∙ nowhere (h.list true) (sym (h.thread true).begins ∙ e) i)
   where
     nowhere : (is : List ℕ) → first_of is None ≡ None → (i : ℕ) → is_on i is ≡ false
@@ -111,7 +109,7 @@ fixed_if_none es ls v share moment h = at share.fixed.first (λ e i. sym ((h.thr
     at None k = k refl
     at (Some s) k = tt
 
-fixed_if_some : (es : List (Option Held)) (ls : List Links) (v : ℕ) (share : Share) (moment : ℕ) → IsLines es ls v share moment → IfSome share.fixed.first (IsFixedOf es v)
+pub fixed_if_some : (es : List (Option Held)) (ls : List Links) (v : ℕ) (share : Share) (moment : ℕ) → IsLines es ls v share moment → IfSome share.fixed.first (IsFixedOf es v)
 fixed_if_some es ls v share moment h = at share.fixed.first (λ s e. sym ((h.thread true).members s) ∙ first (h.list true) s (sym (h.thread true).begins ∙ e))
   where
     first : (is : List ℕ) (s : ℕ) → first_of is None ≡ Some s → is_on s is ≡ true
@@ -121,14 +119,6 @@ fixed_if_some es ls v share moment h = at share.fixed.first (λ s e. sym ((h.thr
     at : (o : Option ℕ) → ((s : ℕ) → o ≡ Some s → IsFixedOf es v s) → IfSome o (IsFixedOf es v)
     at None k = tt
     at (Some s) k = k s refl
-
--- the same of the slot that a method answers
-pub fixed_first : (i : Inside) (now : Shared) (v : ℕ) (share : Share) (result : Option ℕ) → shared_of i ≡ now → IsLines i.slots.entries i.slots.lines v share i.moment → result ≡ share.fixed.first
-    → IfNone result (NoneFixed now.entries v) × IfSome result (IsFixedOf now.entries v)
-fixed_first i now v share result e lines is =
-    subst (λ (o : Option ℕ). IfNone o (NoneFixed now.entries v) × IfSome o (IsFixedOf now.entries v)) (sym is)
-    (subst (λ (w : Shared). IfNone share.fixed.first (NoneFixed w.entries v) × IfSome share.fixed.first (IsFixedOf w.entries v)) e
-    (fixed_if_none i.slots.entries i.slots.lines v share i.moment lines, fixed_if_some i.slots.entries i.slots.lines v share i.moment lines))
 
 -- there are no more segments than places
 pub few_there : (shares : List (Option Share)) → sum_by one_there shares ≤ length shares

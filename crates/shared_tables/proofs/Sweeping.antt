@@ -11,8 +11,6 @@ use Rattle.filter_db.specs.Table.{is_young}
 use Rattle.shared_tables.specs.Pool.{entry_at, is_dead_in, renewed}
 use Rattle.shared_tables.specs.Line.{first_of, is_on, weight}
 use Rattle.shared_tables.specs.Shared.{Shared, line_key, last_at, last_in_entry, last_seen, NoneAges, IsOldest, Sweeps, KeepsOrFrees, IsOf, is_held, held_count, same_bool, Refreshes, Drops, KeepsOrDrops}
-use Rattle.shared_tables.specs.declared.shared_tables.SharedTables.TheInside.{Inside}
-use Rattle.shared_tables.specs.SharedInside.{shared_of}
 use Rattle.shared_tables.specs.Sound.{IsLines, IsAged}
 use Rattle.shared_tables.proofs.Linked.{by_bool, equal, nat_eq_refl, first_on}
 use Rattle.shared_tables.proofs.Threaded.{in_entries}
@@ -55,25 +53,17 @@ module _ (es : List (Option Held)) (ls : List Links) (v : ℕ) (share : Share) (
           }
 
 -- the first slot of the queue, if there is one
-oldest_if_none : (es : List (Option Held)) (ls : List Links) (v : ℕ) (share : Share) (moment : ℕ) → IsLines es ls v share moment → IfNone share.queue.first (NoneAges es v)
+pub oldest_if_none : (es : List (Option Held)) (ls : List Links) (v : ℕ) (share : Share) (moment : ℕ) → IsLines es ls v share moment → IfNone share.queue.first (NoneAges es v)
 oldest_if_none es ls v share moment h = at share.queue.first (oldest_none es ls v share moment h) where
   at : (o : Option ℕ) → (o ≡ None → NoneAges es v) → IfNone o (NoneAges es v)
   at None k = k refl
   at (Some s) k = tt
 
-oldest_if_some : (es : List (Option Held)) (ls : List Links) (v : ℕ) (share : Share) (moment : ℕ) → IsLines es ls v share moment → IfSome share.queue.first (IsOldest es v)
+pub oldest_if_some : (es : List (Option Held)) (ls : List Links) (v : ℕ) (share : Share) (moment : ℕ) → IsLines es ls v share moment → IfSome share.queue.first (IsOldest es v)
 oldest_if_some es ls v share moment h = at share.queue.first (oldest_some es ls v share moment h) where
   at : (o : Option ℕ) → ((s : ℕ) → o ≡ Some s → IsOldest es v s) → IfSome o (IsOldest es v)
   at None k = tt
   at (Some s) k = k s refl
-
--- the same of the slot that a method answers
-pub oldest_first : (i : Inside) (now : Shared) (v : ℕ) (share : Share) (result : Option ℕ) → shared_of i ≡ now → IsLines i.slots.entries i.slots.lines v share i.moment → result ≡ share.queue.first
-    → IfNone result (NoneAges now.entries v) × IfSome result (IsOldest now.entries v)
-oldest_first i now v share result e lines is =
-    subst (λ (o : Option ℕ). IfNone o (NoneAges now.entries v) × IfSome o (IsOldest now.entries v)) (sym is)
-    (subst (λ (w : Shared). IfNone share.queue.first (NoneAges w.entries v) × IfSome share.queue.first (IsOldest w.entries v)) e
-    (oldest_if_none i.slots.entries i.slots.lines v share i.moment lines, oldest_if_some i.slots.entries i.slots.lines v share i.moment lines))
 
 -- an entry that ages is of its segment
 pub of_ages : (v : ℕ) (o : Option Held) → line_key v false o ≡ true → IsOf o v

@@ -10,13 +10,14 @@ use Rattle.ip_udp_view.specs.declared.addr.Addr.{Addr}
 use Rattle.ip_udp_view.specs.declared.addr.Addr.TheVariants.{V4, V6}
 use Rattle.ip_udp_view.specs.declared.addr.Tunnel.{Tunnel}
 use Rattle.ip_udp_view.specs.Addr.{IsAddr}
+use Rattle.flood_lists.specs.Flood.{own_of}
 use Rattle.underlay.specs.declared.settings.Underlay.{Underlay}
 use Rattle.underlay.specs.declared.tunnels.SegmentTunnel.{SegmentTunnel}
 use Rattle.underlay.specs.Overlay.{Overlay, tunnel_at}
-use Rattle.underlay.specs.Settings.{port_of}
+use Rattle.underlay.specs.Settings.{own, port_of}
 use Rattle.encapsulate.specs.Flow.{source_port}
 use Rattle.encapsulate.specs.Packet.{tunnelled}
-use Rattle.encapsulate.specs.Remote.{largest, drops_tags_at, admits, remote_text}
+use Rattle.encapsulate.specs.Remote.{largest, drops_tags_at, admits, packet_from, remote_text}
 use Rattle.encapsulate.specs.Sender.{own_addr, IsOwnAddr, IsUnderlay}
 use Rattle.encapsulate.specs.Fitting.{TooBigAboveTheMtu}
 use Rattle.encapsulate.proofs.Sending.{length-tunnelled, length-packet4, length-packet6}
@@ -27,6 +28,14 @@ abbrev headers : Addr → ℕ
 headers (V4 b) = 50
 headers (V6 b) = 70
 
+-- by the packet from the own address of these octets
+length-by : (S : Overlay) (vid : ℕ) (kind : Tunnel) (t : SegmentTunnel) (a : Addr) (src : List ℕ) (f : Frame) (n : ℕ)
+    → tunnel_at S vid kind ≡ Some t → own_of (own S.underlay) a ≡ Some src → IsFrame f
+    → length (packet_from S.underlay kind t.vni src a f) ≡ n + length (tunnelled kind t.vni f) → length (remote_text S vid kind a f) ≡ 8 + n + size f
+length-by S vid kind t a src f n there owned h long =
+    let len : length (remote_text S vid kind a f) ≡ n + length (tunnelled kind t.vni f) = ap (λ (b : List ℕ). length b) (packet-sent S vid kind t a src f there owned) ∙ long in
+    omega (arith, len, length-tunnelled kind t.vni f h)
+
 length-text : (S : Overlay) (vid : ℕ) (kind : Tunnel) (t : SegmentTunnel) (a c : Addr) (f : Frame)
     → IsUnderlay S.underlay → tunnel_at S vid kind ≡ Some t → IsAddr a → own_addr S.underlay a ≡ Some c → IsFrame f
     → length (remote_text S vid kind a f) ≡ headers a + size f
@@ -34,18 +43,12 @@ length-text S vid kind t (V4 dst) c f s there is_addr from h =
     let U = S.underlay in
     let o = own-octets U.ip4 V4 c from in
     let owned : IsOwnAddr (V4 o.0) = subst IsOwnAddr (sym o.2) (own-is U (V4 dst) c s from) in
-    let d = tunnelled kind t.vni f in
-    let len : length (remote_text S vid kind (V4 dst) f) ≡ 42 + length d =
-    ap (λ (b : List ℕ). length b) (packet-sent S vid kind t (V4 dst) o.0 f there o.1) ∙ length-packet4 U o.0 dst (source_port f) (port_of U kind) d s is_addr owned.is_addr.0 in
-    omega (arith, len, length-tunnelled kind t.vni f h)
+    length-by S vid kind t (V4 dst) o.0 f 42 there o.1 h (length-packet4 U o.0 dst (source_port f) (port_of U kind) (tunnelled kind t.vni f) s is_addr owned.is_addr.0)
 length-text S vid kind t (V6 dst) c f s there is_addr from h =
     let U = S.underlay in
     let o = own-octets U.ip6 V6 c from in
     let owned : IsOwnAddr (V6 o.0) = subst IsOwnAddr (sym o.2) (own-is U (V6 dst) c s from) in
-    let d = tunnelled kind t.vni f in
-    let len : length (remote_text S vid kind (V6 dst) f) ≡ 62 + length d =
-    ap (λ (b : List ℕ). length b) (packet-sent S vid kind t (V6 dst) o.0 f there o.1) ∙ length-packet6 U o.0 dst (source_port f) (port_of U kind) d s is_addr owned.is_addr.0 in
-    omega (arith, len, length-tunnelled kind t.vni f h)
+    length-by S vid kind t (V6 dst) o.0 f 62 there o.1 h (length-packet6 U o.0 dst (source_port f) (port_of U kind) (tunnelled kind t.vni f) s is_addr owned.is_addr.0)
 
 above : (U : Underlay) (a : Addr) (n : ℕ) → largest U a < n → 14 + U.mtu < headers a + n
 above U (V4 b) n h = omega (arith, h)

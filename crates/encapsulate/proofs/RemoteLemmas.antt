@@ -1,10 +1,9 @@
 -- The packet of a head from a template.
-use Rattle.std.proofs.Common.{◌≡◌, ℕ, List, [], ◌++◌, Option, Some, None, true, refl, sym, ap, ◌∙◌}
-use Rattle.std.specs.Prelude.{is_some}
+use Rattle.std.proofs.Common.{◌≡◌, ℕ, Bool, List, [], Option, Some, None, sym, ap, ◌∙◌}
 use Rattle.std.specs.Option.{option_map, option_map_or, option_and_then}
 use Rattle.std.proofs.lemmas.Option.{none-some, same_Some}
-use Rattle.frame_view.specs.Frame.{Frame, plain}
-use Rattle.ip_udp_view.specs.declared.addr.Addr.TheVariants.{V4, V6}
+use Rattle.frame_view.specs.Frame.{Frame}
+use Rattle.ip_udp_view.specs.declared.addr.Addr.{Addr}
 use Rattle.ip_udp_view.specs.declared.addr.Tunnel.{Tunnel}
 use Rattle.outer_head.specs.Template.{Fixed}
 use Rattle.underlay.specs.declared.settings.Underlay.{Underlay}
@@ -12,29 +11,20 @@ use Rattle.underlay.specs.declared.tunnels.SegmentTunnel.{SegmentTunnel}
 use Rattle.underlay.specs.Heads.{fixed}
 use Rattle.underlay.specs.Settings.{hop_to}
 use Rattle.encapsulate.specs.Flow.{source_port}
-use Rattle.encapsulate.specs.Packet.{packet4, packet6}
 use Rattle.encapsulate.specs.Remote.{packet_from}
 
-pub text4 : (U : Underlay) (kind : Tunnel) (tunnel : Option SegmentTunnel) (own : Option (List ℕ)) (dst : List ℕ) (f : Frame) (t : Fixed) (x : List ℕ)
+-- what was written with what the settings tell, of a head that tells t, is what is sent to the address
+pub written : (U V : Underlay) (kind : Tunnel) (tunnel : Option SegmentTunnel) (own : Option (List ℕ)) (a : Addr) (computed : Underlay → Bool) (f : Frame) (t : Fixed)
+    (hop : List ℕ) (b : Bool) (port : ℕ) (x : List ℕ) (text : List ℕ → Bool → ℕ → Fixed → List ℕ)
+    → ((vni : ℕ) (src : List ℕ) → text (hop_to U a) (computed U) (source_port f) (fixed U kind vni src) ≡ packet_from U kind vni src a f)
     → option_and_then (λ s. option_map (fixed U kind s.vni) own) tunnel ≡ Some t
-    → x ≡ packet4 (hop_to U (V4 dst)) t.mac t.ttl U.sum4 t.src dst (source_port f) t.dport (t.tunnel ++ plain f)
-    → x ≡ elim tunnel [ Some s ↦ option_map_or (λ src. packet_from U kind s.vni src (V4 dst) f) own [] | None ↦ [] ]
-text4 U kind None own dst f t x there is = absurd (none-some t there)
-text4 U kind (Some s) None dst f t x there is = absurd (none-some t there)
-text4 U kind (Some s) (Some src) dst f t x there is =
-    is ∙ ap (λ (u : Fixed). packet4 (hop_to U (V4 dst)) u.mac u.ttl U.sum4 u.src dst (source_port f) u.dport (u.tunnel ++ plain f)) (sym (same_Some (fixed U kind s.vni src) t there))
-
-pub text6 : (U : Underlay) (kind : Tunnel) (tunnel : Option SegmentTunnel) (own : Option (List ℕ)) (dst : List ℕ) (f : Frame) (t : Fixed) (x : List ℕ)
-    → option_and_then (λ s. option_map (fixed U kind s.vni) own) tunnel ≡ Some t
-    → x ≡ packet6 (hop_to U (V6 dst)) t.mac t.ttl U.sum6 t.src dst (source_port f) t.dport (t.tunnel ++ plain f)
-    → x ≡ elim tunnel [ Some s ↦ option_map_or (λ src. packet_from U kind s.vni src (V6 dst) f) own [] | None ↦ [] ]
-text6 U kind None own dst f t x there is = absurd (none-some t there)
-text6 U kind (Some s) None dst f t x there is = absurd (none-some t there)
-text6 U kind (Some s) (Some src) dst f t x there is =
-    is ∙ ap (λ (u : Fixed). packet6 (hop_to U (V6 dst)) u.mac u.ttl U.sum6 u.src dst (source_port f) u.dport (u.tunnel ++ plain f)) (sym (same_Some (fixed U kind s.vni src) t there))
-
--- a template is there where the tunnel and the own address are
-pub there4 : (U : Underlay) (kind : Tunnel) (tunnel : Option SegmentTunnel) (own : Option (List ℕ)) → is_some tunnel ≡ true → is_some own ≡ true → is_some (option_and_then (λ s. option_map (fixed U kind s.vni) own) tunnel) ≡ true
-there4 U kind None own h k = absurd cc
-there4 U kind (Some s) None h k = absurd cc
-there4 U kind (Some s) (Some src) h k = refl
+    → V ≡ U → hop ≡ hop_to V a → b ≡ computed V → port ≡ source_port f → x ≡ text hop b port t
+    → x ≡ elim tunnel [ Some s ↦ option_map_or (λ src. packet_from U kind s.vni src a f) own [] | None ↦ [] ]
+written U V kind None own a computed f t hop b port x text packet there settings hop_is b_is port_is is = absurd (none-some t there)
+written U V kind (Some s) None a computed f t hop b port x text packet there settings hop_is b_is port_is is = absurd (none-some t there)
+written U V kind (Some s) (Some src) a computed f t hop b port x text packet there settings hop_is b_is port_is is =
+    is ∙ ap (λ (h : List ℕ). text h b port t) (hop_is ∙ ap (λ (W : Underlay). hop_to W a) settings)
+    ∙ ap (λ (c : Bool). text (hop_to U a) c port t) (b_is ∙ ap computed settings)
+    ∙ ap (λ (n : ℕ). text (hop_to U a) (computed U) n t) port_is
+    ∙ ap (text (hop_to U a) (computed U) (source_port f)) (sym (same_Some (fixed U kind s.vni src) t there))
+    ∙ packet s.vni src

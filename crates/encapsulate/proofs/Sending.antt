@@ -14,7 +14,7 @@ use Rattle.ip_udp_view.specs.declared.addr.Addr.TheVariants.{V4, V6}
 use Rattle.ip_udp_view.specs.declared.addr.Tunnel.{Tunnel}
 use Rattle.ip_udp_view.specs.declared.addr.Tunnel.TheVariants.{Vxlan, Geneve}
 use Rattle.ip_udp_view.specs.Addr.{IsAddr, address, is_group, group_mac}
-use Rattle.ip_udp_view.specs.Ip.{Ip4, Ip6}
+use Rattle.ip_udp_view.specs.Ip.{Family, Ip4, Ip6}
 use Rattle.ip_udp_view.specs.Udp.{udp_header, pseudo}
 use Rattle.ip_udp_view.specs.Datagram.{IsUdpCarrier, Datagram, ether_type}
 use Rattle.underlay.specs.declared.settings.Underlay.{Underlay}
@@ -93,79 +93,58 @@ length-tunnelled Geneve vni f h = omega (arith, length-append f.dst (f.src ++ f.
 no_tail : (u d : List ℕ) → u ++ d ≡ (u ++ (d ++ [])) ++ []
 no_tail u d = sym (append-nil (u ++ (d ++ [])) ∙ ap (λ (x : List ℕ). u ++ x) (append-nil d))
 
-pub Datagram4 : (U : Underlay) (src dst : List ℕ) (sport dport : ℕ) (d : List ℕ) → IsUnderlay U → IsAddr (V4 dst) → length src ≡ 4 → sport < 2 ^ 16 → dport < 2 ^ 16 → 28 + length d < 2 ^ 16
-    → Datagram (packet U src (V4 dst) sport dport d) (V4 src) (V4 dst) sport dport (sum_sent U.sum4 (V4 src) (V4 dst) sport dport d) d
-Datagram4 U src dst sport dport d s a len h k room =
-    let c = sum_sent U.sum4 (V4 src) (V4 dst) sport dport d in
-    let front = hop_to U (V4 dst) ++ U.mac in
-    let head = ip4_sent U.ttl src dst (28 + length d) in
+datagram : (U : Underlay) (family : Family) (head : List ℕ) (src dst : Addr) (sport dport c : ℕ) (d : List ℕ) → IsUnderlay U → IsAddr dst → IsUdpCarrier family head src dst (8 + length d + 0)
+    → sport < 2 ^ 16 → dport < 2 ^ 16 → c < 2 ^ 16 → 8 + length d < 2 ^ 16
+    → Datagram ((hop_to U dst ++ U.mac) ++ (ether_type family ++ (head ++ (udp_header sport dport c d ++ d)))) src dst sport dport c d
+datagram U family head src dst sport dport c d s a carries h k l room =
+    let front = hop_to U dst ++ U.mac in
     record {
-      family = Ip4;
+      family = family;
       addresses = front;
       tags = [];
       head = head;
       tail = [];
       trailer = [];
-      twelve = omega (arith, length-append (hop_to U (V4 dst)) U.mac, length-hop_to U (V4 dst) s a, s.mac);
+      twelve = omega (arith, length-append (hop_to U dst) U.mac, length-hop_to U dst s a, s.mac);
       at_most_two = omega arith;
       are_tags = tt;
-      is_carrier = ip4-carries U.ttl src dst (28 + length d) (8 + length d + 0) len a.0 (omega arith) room;
-      fits = (h, k, sum_sent-below U.sum4 (V4 src) (V4 dst) sport dport d, omega arith);
-      whole = ap (λ (x : List ℕ). front ++ (ether_type Ip4 ++ (head ++ x))) (no_tail (udp_header sport dport c d) d);
+      is_carrier = carries;
+      fits = (h, k, l, room);
+      whole = ap (λ (x : List ℕ). front ++ (ether_type family ++ (head ++ x))) (no_tail (udp_header sport dport c d) d);
     }
+
+pub Datagram4 : (U : Underlay) (src dst : List ℕ) (sport dport : ℕ) (d : List ℕ) → IsUnderlay U → IsAddr (V4 dst) → length src ≡ 4 → sport < 2 ^ 16 → dport < 2 ^ 16 → 28 + length d < 2 ^ 16
+    → Datagram (packet U src (V4 dst) sport dport d) (V4 src) (V4 dst) sport dport (sum_sent U.sum4 (V4 src) (V4 dst) sport dport d) d
+Datagram4 U src dst sport dport d s a len h k room =
+    datagram U Ip4 (ip4_sent U.ttl src dst (28 + length d)) (V4 src) (V4 dst) sport dport (sum_sent U.sum4 (V4 src) (V4 dst) sport dport d) d s a
+    (ip4-carries U.ttl src dst (28 + length d) (8 + length d + 0) len a.0 (omega arith) room) h k (sum_sent-below U.sum4 (V4 src) (V4 dst) sport dport d) (omega arith)
 
 pub Datagram6 : (U : Underlay) (src dst : List ℕ) (sport dport : ℕ) (d : List ℕ) → IsUnderlay U → IsAddr (V6 dst) → length src ≡ 16 → sport < 2 ^ 16 → dport < 2 ^ 16 → 48 + length d < 2 ^ 16
     → Datagram (packet U src (V6 dst) sport dport d) (V6 src) (V6 dst) sport dport (sum_sent U.sum6 (V6 src) (V6 dst) sport dport d) d
 Datagram6 U src dst sport dport d s a len h k room =
-    let c = sum_sent U.sum6 (V6 src) (V6 dst) sport dport d in
-    let front = hop_to U (V6 dst) ++ U.mac in
-    let head = ip6_sent U.ttl src dst (8 + length d) in
-    record {
-      family = Ip6;
-      addresses = front;
-      tags = [];
-      head = head;
-      tail = [];
-      trailer = [];
-      twelve = omega (arith, length-append (hop_to U (V6 dst)) U.mac, length-hop_to U (V6 dst) s a, s.mac);
-      at_most_two = omega arith;
-      are_tags = tt;
-      is_carrier = ip6-carries U.ttl src dst (8 + length d) (8 + length d + 0) len a.0 (omega arith) (omega arith);
-      fits = (h, k, sum_sent-below U.sum6 (V6 src) (V6 dst) sport dport d, omega arith);
-      whole = ap (λ (x : List ℕ). front ++ (ether_type Ip6 ++ (head ++ x))) (no_tail (udp_header sport dport c d) d);
-    }
+    datagram U Ip6 (ip6_sent U.ttl src dst (8 + length d)) (V6 src) (V6 dst) sport dport (sum_sent U.sum6 (V6 src) (V6 dst) sport dport d) d s a
+    (ip6-carries U.ttl src dst (8 + length d) (8 + length d + 0) len a.0 (omega arith) (omega arith)) h k (sum_sent-below U.sum6 (V6 src) (V6 dst) sport dport d) (omega arith)
 
 -- ---- what is admitted fits
 
+length-around : (U : Underlay) (a : Addr) (family : Family) (head rest : List ℕ) → IsUnderlay U → IsAddr a → length ((hop_to U a ++ U.mac) ++ (ether_type family ++ (head ++ rest))) ≡ 14 + length head + length rest
+length-around U a family head rest s h =
+    let front = hop_to U a ++ U.mac in
+    omega (arith, length-append (hop_to U a) U.mac, length-hop_to U a s h, s.mac, length-append front (ether_type family ++ (head ++ rest)), length-append (ether_type family) (head ++ rest), length-append head rest, two family)
+  where
+    two : (family : Family) → length (ether_type family) ≡ 2
+    two Ip4 = refl
+    two Ip6 = refl
+
 pub length-packet4 : (U : Underlay) (src dst : List ℕ) (sport dport : ℕ) (d : List ℕ) → IsUnderlay U → IsAddr (V4 dst) → length src ≡ 4 → length (packet U src (V4 dst) sport dport d) ≡ 42 + length d
 length-packet4 U src dst sport dport d s a len =
-    let front = hop_to U (V4 dst) ++ U.mac in
-    let rest = udp_sent U.sum4 (V4 src) (V4 dst) sport dport d ++ d in
-    omega (
-      arith,
-      length-append (hop_to U (V4 dst)) U.mac,
-      length-hop_to U (V4 dst) s a,
-      s.mac,
-      length-append src dst,
-      a.0,
-      length-append front (ether_type Ip4 ++ (ip4_sent U.ttl src dst (28 + length d) ++ rest)),
-      length-append (src ++ dst) rest,
-    )
+    let around = length-around U (V4 dst) Ip4 (ip4_sent U.ttl src dst (28 + length d)) (udp_sent U.sum4 (V4 src) (V4 dst) sport dport d ++ d) s a in
+    omega (arith, around, length-append src dst, a.0, len)
 
 pub length-packet6 : (U : Underlay) (src dst : List ℕ) (sport dport : ℕ) (d : List ℕ) → IsUnderlay U → IsAddr (V6 dst) → length src ≡ 16 → length (packet U src (V6 dst) sport dport d) ≡ 62 + length d
 length-packet6 U src dst sport dport d s a len =
-    let front = hop_to U (V6 dst) ++ U.mac in
-    let rest = udp_sent U.sum6 (V6 src) (V6 dst) sport dport d ++ d in
-    omega (
-      arith,
-      length-append (hop_to U (V6 dst)) U.mac,
-      length-hop_to U (V6 dst) s a,
-      s.mac,
-      length-append src dst,
-      a.0,
-      length-append front (ether_type Ip6 ++ (ip6_sent U.ttl src dst (8 + length d) ++ rest)),
-      length-append (src ++ dst) rest,
-    )
+    let around = length-around U (V6 dst) Ip6 (ip6_sent U.ttl src dst (8 + length d)) (udp_sent U.sum6 (V6 src) (V6 dst) sport dport d ++ d) s a in
+    omega (arith, around, length-append src dst, a.0, len)
 
 pub fits4 : (S : Overlay) (vid : ℕ) (dst : List ℕ) (f : Frame) → IsUnderlay S.underlay → IsFrame f → admits S vid (V4 dst) f ≡ None → (kind : Tunnel) (vni : ℕ) → 28 + length (tunnelled kind vni f) < 2 ^ 16
 fits4 S vid dst f s h e kind vni =

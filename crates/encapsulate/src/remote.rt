@@ -5,7 +5,6 @@ ghost use Rattle.flood_lists.specs.Flood.{has_family};
 ghost use Rattle.underlay.specs.Overlay.{has_segment, tunnel_at};
 ghost use Rattle.underlay.specs.Settings.{own};
 ghost use Rattle.encapsulate.specs.Emission.{around};
-ghost use Rattle.ip_udp_view.specs.declared.addr.Addr.TheVariants.{V4, V6};
 ghost use Rattle.frame_view.specs.Frame.{plain};
 ghost use Rattle.encapsulate.specs.Remote.{largest, drops_tags_at, remote_text, sending, text_behind, texts, admits};
 ghost use Rattle.encapsulate.specs.Remote.{sending_parts};
@@ -96,57 +95,40 @@ pub fn put_head(
     if let Some(reason) = unsent(under, vid, addr, frame) {
         return Err(reason);
     }
-    match addr {
-        Addr::V4(dst) => put_head4(under, vid, kind, dst, frame, sums, head),
-        Addr::V6(dst) => put_head6(under, vid, kind, dst, frame, sums, head),
-    }
+    write_head(under, vid, kind, addr, frame, sums, head);
     Ok(())
 }
 
-/// Writes the headers of the packet to an IPv4 address over a head.
-fn put_head4(
+/// Writes the headers of the packet to an address that the frame is sent to over a head.
+fn write_head(
     under: &Under,
     vid: Vid,
     kind: Tunnel,
-    dst: [u8; 4],
+    addr: Addr,
     frame: &BridgeFrame,
     sums: &FrameSums,
     head: &mut Head,
 )
     requires tunnel { IsTrue (is_some (tunnel_at under.now vid kind)) }
-    requires family { IsTrue (has_family (own under.now.underlay) (V4 dst)) }
+    requires family { IsTrue (has_family (own under.now.underlay) addr) }
     requires sums { AreSums frame.now sums.now }
     requires fits { 48 + length frame.now.body ≤ 65535 }
-    ensures { head.new.items ++ plain frame.now ≡ remote_text under.now vid kind (V4 dst) frame.now }
+    ensures { head.new.items ++ plain frame.now ≡ remote_text under.now vid kind addr frame.now }
 {
     let underlay = under.settings();
-    let template = under.head4(vid, kind).unwrap();
-    let hop = underlay.hop_to(Addr::V4(dst));
-    let sum = sums.for_checksum(underlay.sum4, frame);
-    template.write(hop, dst, frame, sums.port, sum, head);
-}
-
-/// Writes the headers of the packet to an IPv6 address over a head.
-fn put_head6(
-    under: &Under,
-    vid: Vid,
-    kind: Tunnel,
-    dst: [u8; 16],
-    frame: &BridgeFrame,
-    sums: &FrameSums,
-    head: &mut Head,
-)
-    requires tunnel { IsTrue (is_some (tunnel_at under.now vid kind)) }
-    requires family { IsTrue (has_family (own under.now.underlay) (V6 dst)) }
-    requires sums { AreSums frame.now sums.now }
-    requires fits { 48 + length frame.now.body ≤ 65535 }
-    ensures { head.new.items ++ plain frame.now ≡ remote_text under.now vid kind (V6 dst) frame.now }
-{
-    let underlay = under.settings();
-    let template = under.head6(vid, kind).unwrap();
-    let hop = underlay.hop_to(Addr::V6(dst));
-    let sum = sums.for_checksum(underlay.sum6, frame);
-    template.write(hop, dst, frame, sums.port, sum, head);
+    let hop = underlay.hop_to(addr);
+    match addr {
+        Addr::V4(dst) => {
+            let template = under.head4(vid, kind).unwrap();
+            let sum = sums.for_checksum(underlay.sum4, frame);
+            template.write(hop, dst, frame, sums.port, sum, head);
+        }
+        Addr::V6(dst) => {
+            let template = under.head6(vid, kind).unwrap();
+            let sum = sums.for_checksum(underlay.sum6, frame);
+            template.write(hop, dst, frame, sums.port, sum, head);
+        }
+    }
 }
 
 /// Why a frame of a segment isn't sent to an address.

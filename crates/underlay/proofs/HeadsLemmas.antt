@@ -1,22 +1,18 @@
 -- The heads of segments that come, go and change.
 use Rattle.std.proofs.Common.{◌≡◌, ℕ, Bool, true, false, cond, eqb, Option, None, Some, Result, Ok, Err, refl, sym, ap, ◌∙◌}
 use Rattle.std.specs.Prelude.{OnOk, OnErr}
-use Rattle.std.specs.Option.{option_map, option_map_or, option_and_then}
+use Rattle.std.specs.Option.{option_map, option_map_or}
 use Rattle.std.specs.Ordering.{nat_cmp}
 use Rattle.std.specs.FinMap.{FinMap, empty, get, insert, remove, get-empty}
 use Rattle.std.proofs.lemmas.Bool.{eqb-true}
-use Rattle.std.proofs.lemmas.Option.{none-some, same_Some}
 use Rattle.vlan_ports.proofs.PlacesLemmas.{get-insert_at, get-remove_at}
-use Rattle.ip_udp_view.specs.declared.addr.Tunnel.{Tunnel}
-use Rattle.ip_udp_view.specs.declared.addr.Tunnel.TheVariants.{Vxlan, Geneve}
 use Rattle.underlay.specs.declared.heads.SegmentHeads.{SegmentHeads}
 use Rattle.underlay.specs.declared.segment.Segment.{Segment}
 use Rattle.underlay.specs.declared.settings.Underlay.{Underlay}
 use Rattle.underlay.specs.Flood.{Entries}
-use Rattle.underlay.specs.Heads.{AreHeads, fixed, segment_heads, heads_of, head4_at, head6_at}
+use Rattle.underlay.specs.Heads.{AreHeads, segment_heads}
 use Rattle.underlay.specs.Overlay.{Segments, flooding}
 use Rattle.underlay.specs.Seats.{Seats}
-use Rattle.underlay.specs.Tunnels.{of_kind}
 
 abbrev heads_by : Underlay → Segment → SegmentHeads
 heads_by U g = segment_heads U g.tunnels
@@ -67,48 +63,3 @@ heads-flood (Ok x) U s n vid flood are changed same heads q =
     ap (λ (m : FinMap nat_cmp SegmentHeads). get m q) heads ∙ are q ∙ sym (ap (λ (m : Segments). option_map (heads_by U) (get m q)) changed ∙ flooded U s.segments vid flood q)
 heads-flood (Err e) U s n vid flood are changed same heads q =
     ap (λ (m : FinMap nat_cmp SegmentHeads). get m q) heads ∙ are q ∙ sym (ap (λ (m : Segments). option_map (heads_by U) (get m q)) same)
-
--- ---- the head in a tunnel
-
-head4-of : (U : Underlay) (g : Segment) (kind : Tunnel) → (heads_of (heads_by U g) kind).v4 ≡ option_and_then (λ t. option_map (fixed U kind t.vni) U.ip4) (of_kind kind g.tunnels)
-head4-of U g Vxlan = refl
-head4-of U g Geneve = refl
-
-head6-of : (U : Underlay) (g : Segment) (kind : Tunnel) → (heads_of (heads_by U g) kind).v6 ≡ option_and_then (λ t. option_map (fixed U kind t.vni) U.ip6) (of_kind kind g.tunnels)
-head6-of U g Vxlan = refl
-head6-of U g Geneve = refl
-
--- what stands for a segment's heads, and what the settings say
-pub head4-there : (U : Underlay) (s : Seats) (vid : ℕ) (kind : Tunnel) (h : SegmentHeads) → AreHeads U s → get s.heads vid ≡ Some h → (heads_of h kind).v4 ≡ head4_at (record { underlay = U; segments = s.segments }) vid kind
-head4-there U s vid kind h are there = by (get s.segments vid) refl
-  where
-    by : (x : Option Segment) → get s.segments vid ≡ x → (heads_of h kind).v4 ≡ head4_at (record { underlay = U; segments = s.segments }) vid kind
-    by None absent = absurd (none-some h (sym (ap (option_map (heads_by U)) absent) ∙ sym (are vid) ∙ there))
-    by (Some g) here =
-        let same : heads_by U g ≡ h = same_Some (heads_by U g) h (sym (ap (option_map (heads_by U)) here) ∙ sym (are vid) ∙ there) in
-        ap (λ (x : SegmentHeads). (heads_of x kind).v4) (sym same) ∙ head4-of U g kind
-        ∙ sym (ap (λ (x : Option Segment). option_and_then (λ t. option_map (fixed U kind t.vni) U.ip4) (option_and_then (λ k. of_kind kind k.tunnels) x)) here)
-
-pub head6-there : (U : Underlay) (s : Seats) (vid : ℕ) (kind : Tunnel) (h : SegmentHeads) → AreHeads U s → get s.heads vid ≡ Some h → (heads_of h kind).v6 ≡ head6_at (record { underlay = U; segments = s.segments }) vid kind
-head6-there U s vid kind h are there = by (get s.segments vid) refl
-  where
-    by : (x : Option Segment) → get s.segments vid ≡ x → (heads_of h kind).v6 ≡ head6_at (record { underlay = U; segments = s.segments }) vid kind
-    by None absent = absurd (none-some h (sym (ap (option_map (heads_by U)) absent) ∙ sym (are vid) ∙ there))
-    by (Some g) here =
-        let same : heads_by U g ≡ h = same_Some (heads_by U g) h (sym (ap (option_map (heads_by U)) here) ∙ sym (are vid) ∙ there) in
-        ap (λ (x : SegmentHeads). (heads_of x kind).v6) (sym same) ∙ head6-of U g kind
-        ∙ sym (ap (λ (x : Option Segment). option_and_then (λ t. option_map (fixed U kind t.vni) U.ip6) (option_and_then (λ k. of_kind kind k.tunnels) x)) here)
-
-pub head4-absent : (U : Underlay) (s : Seats) (vid : ℕ) (kind : Tunnel) → AreHeads U s → get s.heads vid ≡ None → None ≡ head4_at (record { underlay = U; segments = s.segments }) vid kind
-head4-absent U s vid kind are absent = by (get s.segments vid) refl
-  where
-    by : (x : Option Segment) → get s.segments vid ≡ x → None ≡ head4_at (record { underlay = U; segments = s.segments }) vid kind
-    by None gone = sym (ap (λ (x : Option Segment). option_and_then (λ t. option_map (fixed U kind t.vni) U.ip4) (option_and_then (λ k. of_kind kind k.tunnels) x)) gone)
-    by (Some g) here = absurd (none-some (heads_by U g) (sym absent ∙ are vid ∙ ap (option_map (heads_by U)) here))
-
-pub head6-absent : (U : Underlay) (s : Seats) (vid : ℕ) (kind : Tunnel) → AreHeads U s → get s.heads vid ≡ None → None ≡ head6_at (record { underlay = U; segments = s.segments }) vid kind
-head6-absent U s vid kind are absent = by (get s.segments vid) refl
-  where
-    by : (x : Option Segment) → get s.segments vid ≡ x → None ≡ head6_at (record { underlay = U; segments = s.segments }) vid kind
-    by None gone = sym (ap (λ (x : Option Segment). option_and_then (λ t. option_map (fixed U kind t.vni) U.ip6) (option_and_then (λ k. of_kind kind k.tunnels) x)) gone)
-    by (Some g) here = absurd (none-some (heads_by U g) (sym absent ∙ are vid ∙ ap (option_map (heads_by U)) here))

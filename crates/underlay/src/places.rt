@@ -74,24 +74,29 @@ impl SegmentPlaces {
         Ok(SegmentPlaces { index, rows })
     }
 
+    /// The row of the segment with this VID.
+    fn row(&self, vid: Vid) -> Option<&Row>
+        ensures segment { option_map (λ r. r.segment) (option_copied result) ≡ get self.now.segments vid }
+        ensures heads { option_map (λ r. r.heads) (option_copied result) ≡ get self.now.heads vid }
+    {
+        match self.index[usize::from(vid.get())] {
+            Some(place) => self.rows[usize::from(place)].as_ref(),
+            None => None,
+        }
+    }
+
     /// The segment with this VID.
     pub(crate) fn get(&self, vid: Vid) -> Option<&Segment>
         ensures { option_copied result ≡ get self.now.segments vid }
     {
-        match self.index[usize::from(vid.get())] {
-            Some(place) => segment_in(&self.rows[usize::from(place)]),
-            None => None,
-        }
+        Some(&self.row(vid)?.segment)
     }
 
     /// The heads of the packets of the segment with this VID.
     pub(crate) fn heads(&self, vid: Vid) -> Option<&SegmentHeads>
         ensures { option_copied result ≡ get self.now.heads vid }
     {
-        match self.index[usize::from(vid.get())] {
-            Some(place) => heads_in(&self.rows[usize::from(place)]),
-            None => None,
-        }
+        Some(&self.row(vid)?.heads)
     }
 
     /// How many segments there are.
@@ -164,26 +169,6 @@ impl SegmentPlaces {
         let place = usize::from(self.index[usize::from(vid.get())].unwrap());
         let row = self.rows[place].as_mut().unwrap();
         row.segment.flood.remove(kind, addr)
-    }
-}
-
-/// The segment in a row.
-fn segment_in(row: &Option<Row>) -> Option<&Segment>
-    ensures { option_copied result ≡ option_map (λ r. r.segment) row.now }
-{
-    match row {
-        Some(row) => Some(&row.segment),
-        None => None,
-    }
-}
-
-/// The heads in a row.
-fn heads_in(row: &Option<Row>) -> Option<&SegmentHeads>
-    ensures { option_copied result ≡ option_map (λ r. r.heads) row.now }
-{
-    match row {
-        Some(row) => Some(&row.heads),
-        None => None,
     }
 }
 

@@ -5,6 +5,9 @@ use Rattle.underlay.specs.declared.places.Row.{Row}
 use Rattle.underlay.proofs.SeatLemmas.{seated-put, keeps-put}
 use Rattle.underlay.proofs.places.SegmentPlaces.put.Goals as goal
 
+free : (c : goal.After-self-2-1) → get_or c.self.inside.rows.items c.free_place-place.result None ≡ None
+free c = ap (λ (l : List (Option Row)). get_or l c.free_place-place.result None) (sym c.deref.ensures.value) ∙ c.free_place-place.ensures.free
+
 pub invariant_of-self : goal.invariant_of-self
 invariant_of-self c =
     let rows = c.self.inside.rows.items in
@@ -12,9 +15,8 @@ invariant_of-self c =
     let j = c.free_place-place.result in
     let row : Row = record { vid = c.args.vid; segment = c.args.segment; heads = c.args.heads } in
     let same : c.from.result ≡ c.args.vid = omega arith in
-    let free : get_or rows j None ≡ None = ap (λ (l : List (Option Row)). get_or l j None) (sym c.deref.ensures.value) ∙ c.free_place-place.ensures.free in
     let new = ap (λ (s : Seats). get s.segments c.args.vid) c.self.view_is ∙ c.requires.new in
-    rw same (keeps-put (λ r. r.vid) (λ r. r.segment) rows index c.args.vid j row c.self.invariant refl free (omega (arith, ap length c.deref.ensures.value, c.free_place-place.ensures.there)) (omega arith) new)
+    rw same (keeps-put (λ r. r.vid) (λ r. r.segment) rows index c.args.vid j row c.self.invariant refl (free c) (omega (arith, ap length c.deref.ensures.value, c.free_place-place.ensures.there)) (omega arith) new)
 
 pub returns : goal.returns
 returns c =
@@ -23,11 +25,10 @@ returns c =
     let j = c.free_place-place.result in
     let row : Row = record { vid = c.args.vid; segment = c.args.segment; heads = c.args.heads } in
     let same : c.from.result ≡ c.args.vid = omega arith in
-    let free : get_or rows j None ≡ None = ap (λ (l : List (Option Row)). get_or l j None) (sym c.deref.ensures.value) ∙ c.free_place-place.ensures.free in
     let lt : j < length rows = omega (arith, ap length c.deref.ensures.value, c.free_place-place.ensures.there) in
     let lt' : c.args.vid < length index = omega arith in
     ap (λ (k : ℕ). let s : Seats = record { segments = seated (λ r. r.segment) (set rows j (Some row)) (set index k (Some j)); heads = seated (λ r. r.heads) (set rows j (Some row)) (set index k (Some j)) } in s) same
     ∙ rw (
-      seated-put (λ r. r.vid) (λ r. r.segment) rows index c.args.vid j row c.self.invariant.2 free lt lt',
-      seated-put (λ r. r.vid) (λ r. r.heads) rows index c.args.vid j row c.self.invariant.2 free lt lt',
+      seated-put (λ r. r.vid) (λ r. r.segment) rows index c.args.vid j row c.self.invariant.2 (free c) lt lt',
+      seated-put (λ r. r.vid) (λ r. r.heads) rows index c.args.vid j row c.self.invariant.2 (free c) lt lt',
     ) (ap (λ (s : Seats). let n : Seats = record { segments = insert s.segments c.args.vid c.args.segment; heads = insert s.heads c.args.vid c.args.heads } in n) c.self.view_is)

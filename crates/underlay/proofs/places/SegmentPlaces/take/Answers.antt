@@ -1,24 +1,11 @@
-use Rattle.std.proofs.Common.{◌≡◌, ◌<◌, ◌∙◌, ap, sym, refl, arith, ℕ, None, Some, List, Option, set, get_or, length}
+use Rattle.std.proofs.Common.{◌≡◌, ◌<◌, ◌∙◌, ap, sym, refl, arith, ℕ, None, Some, Option, set, get_or, length}
 use Rattle.std.specs.Option.{option_map}
 use Rattle.std.specs.FinMap.{get, remove}
 use Rattle.underlay.specs.declared.places.Row.{Row}
-use Rattle.underlay.specs.Seats.{Seats, seated}
+use Rattle.underlay.specs.Seats.{Seats}
+use Rattle.underlay.proofs.FloodLemmas.{shown}
 use Rattle.underlay.proofs.SeatLemmas.{read_at, found, absent, seated-take, seated-nothing_there, keeps-taken}
 use Rattle.underlay.proofs.places.SegmentPlaces.take.Goals as goal
-
--- what rows and an index show
-abbrev shown : List (Option Row) → List (Option ℕ) → Seats
-shown rows index = record { segments = seated (λ r. r.segment) rows index; heads = seated (λ r. r.heads) rows index }
-
-pub returns-in-Some-clause-taken : goal.returns-in-Some-clause-taken
-returns-in-Some-clause-taken c =
-    let index = c.self.inside.index.items in
-    let rows = c.self.inside.rows.items in
-    let j = c.in-Some.place in
-    let at : get_or index c.args.vid None ≡ Some j = sym (read_at index c.from.result c.args.vid c.index_mut.result.now c.index_mut.ensures.value (omega arith) (omega arith)) ∙ sym c.take.ensures.value ∙ c.in-Some.is in
-    let row : c.index_mut-in-Some.result.now ≡ get_or rows j None = read_at rows c.from-in-Some.result j c.index_mut-in-Some.result.now c.index_mut-in-Some.ensures.value (omega arith) (omega arith) in
-    c.segment_of.ensures ∙ ap (option_map (λ r. r.segment)) (c.take-in-Some.ensures.value ∙ row) ∙ found (λ r. r.segment) rows index c.args.vid j (get_or rows j None) refl at
-    ∙ ap (λ (s : Seats). get s.segments c.args.vid) c.self.view_is
 
 pub invariant_of-self : goal.invariant_of-self
 invariant_of-self c =
@@ -26,14 +13,12 @@ invariant_of-self c =
     let rows = c.self.inside.rows.items in
     let j = c.in-Some.place in
     let at : get_or index c.args.vid None ≡ Some j = sym (read_at index c.from.result c.args.vid c.index_mut.result.now c.index_mut.ensures.value (omega arith) (omega arith)) ∙ sym c.take.ensures.value ∙ c.in-Some.is in
-    let row : c.index_mut-in-Some.result.now ≡ get_or rows j None = read_at rows c.from-in-Some.result j c.index_mut-in-Some.result.now c.index_mut-in-Some.ensures.value (omega arith) (omega arith) in
     let place : c.from-in-Some.result ≡ j = omega arith in
     let same : c.from.result ≡ c.args.vid = omega arith in
-    let lt : c.args.vid < length index = omega arith in
-    rw (c.take.ensures.after, c.take-in-Some.ensures.after, same, place) (keeps-taken (λ r. r.vid) (λ r. r.segment) rows index c.args.vid j c.self.invariant at lt)
+    rw (c.take.ensures.after, c.take-in-Some.ensures.after, same, place) (keeps-taken (λ r. r.vid) (λ r. r.segment) rows index c.args.vid j c.self.invariant at (omega arith))
 
-pub returns-in-Some-clause-left : goal.returns-in-Some-clause-left
-returns-in-Some-clause-left c =
+pub returns-in-Some : goal.returns-in-Some
+returns-in-Some c =
     let index = c.self.inside.index.items in
     let rows = c.self.inside.rows.items in
     let j = c.in-Some.place in
@@ -41,28 +26,30 @@ returns-in-Some-clause-left c =
     let row : c.index_mut-in-Some.result.now ≡ get_or rows j None = read_at rows c.from-in-Some.result j c.index_mut-in-Some.result.now c.index_mut-in-Some.ensures.value (omega arith) (omega arith) in
     let place : c.from-in-Some.result ≡ j = omega arith in
     let same : c.from.result ≡ c.args.vid = omega arith in
-    let lt : c.args.vid < length index = omega arith in
-    ap (λ (x : Option ℕ). shown (set rows c.from-in-Some.result c.take-in-Some.new.self) (set index c.from.result x)) c.take.ensures.after
-    ∙ ap (λ (x : Option Row). shown (set rows c.from-in-Some.result x) (set index c.from.result None)) c.take-in-Some.ensures.after
-    ∙ ap (λ (k : ℕ). shown (set rows c.from-in-Some.result None) (set index k None)) same
-    ∙ ap (λ (k : ℕ). shown (set rows k None) (set index c.args.vid None)) place
-    ∙ rw (seated-take (λ r. r.vid) (λ r. r.segment) rows index c.args.vid j c.self.invariant.2 at lt, seated-take (λ r. r.vid) (λ r. r.heads) rows index c.args.vid j c.self.invariant.2 at lt)
-    (ap (λ (s : Seats). let n : Seats = record { segments = remove s.segments c.args.vid; heads = remove s.heads c.args.vid } in n) c.self.view_is)
+    let lt : c.args.vid < length index = omega arith in record {
+      taken =
+          c.segment_of.ensures ∙ ap (option_map (λ r. r.segment)) (c.take-in-Some.ensures.value ∙ row) ∙ found (λ r. r.segment) rows index c.args.vid j (get_or rows j None) refl at
+          ∙ ap (λ (s : Seats). get s.segments c.args.vid) c.self.view_is;
+      left =
+          ap (λ (x : Option ℕ). shown (set rows c.from-in-Some.result c.take-in-Some.new.self) (set index c.from.result x)) c.take.ensures.after
+          ∙ ap (λ (x : Option Row). shown (set rows c.from-in-Some.result x) (set index c.from.result None)) c.take-in-Some.ensures.after
+          ∙ ap (λ (k : ℕ). shown (set rows c.from-in-Some.result None) (set index k None)) same
+          ∙ ap (λ (k : ℕ). shown (set rows k None) (set index c.args.vid None)) place
+          ∙ rw (seated-take (λ r. r.vid) (λ r. r.segment) rows index c.args.vid j c.self.invariant.2 at lt, seated-take (λ r. r.vid) (λ r. r.heads) rows index c.args.vid j c.self.invariant.2 at lt)
+          (ap (λ (s : Seats). let n : Seats = record { segments = remove s.segments c.args.vid; heads = remove s.heads c.args.vid } in n) c.self.view_is);
+    }
 
-pub returns-in-None-clause-taken : goal.returns-in-None-clause-taken
-returns-in-None-clause-taken c =
-    let index = c.self.inside.index.items in
-    let at : get_or index c.args.vid None ≡ None = sym (read_at index c.from.result c.args.vid c.index_mut.result.now c.index_mut.ensures.value (omega arith) (omega arith)) ∙ sym c.take.ensures.value ∙ c.in-None.is in
-    sym (absent (λ r. r.segment) c.self.inside.rows.items index c.args.vid at) ∙ ap (λ (s : Seats). get s.segments c.args.vid) c.self.view_is
-
-pub returns-in-None-clause-left : goal.returns-in-None-clause-left
-returns-in-None-clause-left c =
+pub returns-in-None : goal.returns-in-None
+returns-in-None c =
     let index = c.self.inside.index.items in
     let rows = c.self.inside.rows.items in
     let at : get_or index c.args.vid None ≡ None = sym (read_at index c.from.result c.args.vid c.index_mut.result.now c.index_mut.ensures.value (omega arith) (omega arith)) ∙ sym c.take.ensures.value ∙ c.in-None.is in
     let same : c.from.result ≡ c.args.vid = omega arith in
-    let lt : c.args.vid < length index = omega arith in
-    ap (λ (x : Option ℕ). shown rows (set index c.from.result x)) c.take.ensures.after
-    ∙ ap (λ (k : ℕ). shown rows (set index k None)) same
-    ∙ rw (seated-nothing_there (λ r. r.vid) (λ r. r.segment) rows index c.args.vid at lt, seated-nothing_there (λ r. r.vid) (λ r. r.heads) rows index c.args.vid at lt)
-    (ap (λ (s : Seats). let n : Seats = record { segments = remove s.segments c.args.vid; heads = remove s.heads c.args.vid } in n) c.self.view_is)
+    let lt : c.args.vid < length index = omega arith in record {
+      taken = sym (absent (λ r. r.segment) rows index c.args.vid at) ∙ ap (λ (s : Seats). get s.segments c.args.vid) c.self.view_is;
+      left =
+          ap (λ (x : Option ℕ). shown rows (set index c.from.result x)) c.take.ensures.after
+          ∙ ap (λ (k : ℕ). shown rows (set index k None)) same
+          ∙ rw (seated-nothing_there (λ r. r.vid) (λ r. r.segment) rows index c.args.vid at lt, seated-nothing_there (λ r. r.vid) (λ r. r.heads) rows index c.args.vid at lt)
+          (ap (λ (s : Seats). let n : Seats = record { segments = remove s.segments c.args.vid; heads = remove s.heads c.args.vid } in n) c.self.view_is);
+    }

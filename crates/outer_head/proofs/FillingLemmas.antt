@@ -9,7 +9,7 @@ use Rattle.ip_udp_view.specs.declared.addr.Addr.TheVariants.{V4, V6}
 use Rattle.header_sums.specs.Sum.{check}
 use Rattle.outer_head.specs.Packet.{ip4_header, ip6_sent, sum_sent, packet4, packet6}
 use Rattle.outer_head.specs.Template.{Fixed, blank4, blank6}
-use Rattle.outer_head.proofs.TemplateLemmas.{cells, cells-is}
+use Rattle.outer_head.proofs.TemplateLemmas.{cells, cells-is, by_cells}
 
 -- ---- octets written into a head, the last first
 
@@ -65,6 +65,15 @@ written6 t hop payload dst sport len sum hop' payload' dst' sport' len' sum' lon
 
 -- ---- what a blank head becomes
 
+-- what holds of the octets one by one, of a head's parts and of a next hop and an address
+by_all : (n : ℕ) (P : List ℕ → List ℕ → List ℕ → List ℕ → List ℕ → List ℕ → Type 0) (t : Fixed) (hop dst : List ℕ) → length hop ≡ 6 → length dst ≡ n
+    → length t.next_hop ≡ 6 → length t.mac ≡ 6 → length t.src ≡ n → length t.tunnel ≡ 8
+    → P (cells 6 t.next_hop) (cells 6 t.mac) (cells n t.src) (cells 8 t.tunnel) (cells 6 hop) (cells n dst) → P t.next_hop t.mac t.src t.tunnel hop dst
+by_all n P t hop dst h d e m s u one =
+    subst (λ (y : List ℕ). P t.next_hop t.mac t.src t.tunnel hop y) (cells-is n dst d)
+    (subst (λ (x : List ℕ). P t.next_hop t.mac t.src t.tunnel x (cells n dst)) (cells-is 6 hop h)
+    (by_cells n (λ a b c e. P a b c e (cells 6 hop) (cells n dst)) t.next_hop t.mac t.src t.tunnel e m s u one))
+
 pub head4 : (t : Fixed) (hop dst f : List ℕ) (total check sport len sum : ℕ) → length hop ≡ 6 → length dst ≡ 4
     → length t.next_hop ≡ 6 → length t.mac ≡ 6 → length t.src ≡ 4 → length t.tunnel ≡ 8
     → filled4 (blank4 t) hop (octets 2 total) (octets 2 check) dst (octets 2 sport) (octets 2 len) (octets 2 sum) ++ f
@@ -75,13 +84,7 @@ head4 t hop dst f total check sport len sum h d n m s u =
     λ a b c e x y.
     filled4 (blank4 (of a b c e)) x (octets 2 total) (octets 2 check) y (octets 2 sport) (octets 2 len) (octets 2 sum) ++ f
     ≡ (x ++ b) ++ (ether_type Ip4 ++ (ip4_header t.ttl c y total check ++ ((octets 2 sport ++ (octets 2 t.dport ++ (octets 2 len ++ octets 2 sum))) ++ (e ++ f)))) in
-    let plain : P (cells 6 t.next_hop) (cells 6 t.mac) (cells 4 t.src) (cells 8 t.tunnel) (cells 6 hop) (cells 4 dst) = refl in
-    subst (λ (y : List ℕ). P t.next_hop t.mac t.src t.tunnel hop y) (cells-is 4 dst d)
-    (subst (λ (x : List ℕ). P t.next_hop t.mac t.src t.tunnel x (cells 4 dst)) (cells-is 6 hop h)
-    (subst (λ (e : List ℕ). P t.next_hop t.mac t.src e (cells 6 hop) (cells 4 dst)) (cells-is 8 t.tunnel u)
-    (subst (λ (c : List ℕ). P t.next_hop t.mac c (cells 8 t.tunnel) (cells 6 hop) (cells 4 dst)) (cells-is 4 t.src s)
-    (subst (λ (b : List ℕ). P t.next_hop b (cells 4 t.src) (cells 8 t.tunnel) (cells 6 hop) (cells 4 dst)) (cells-is 6 t.mac m)
-    (subst (λ (a : List ℕ). P a (cells 6 t.mac) (cells 4 t.src) (cells 8 t.tunnel) (cells 6 hop) (cells 4 dst)) (cells-is 6 t.next_hop n) plain)))))
+    by_all 4 P t hop dst h d n m s u refl
 
 pub head6 : (t : Fixed) (hop dst f : List ℕ) (sport len sum : ℕ) → length hop ≡ 6 → length dst ≡ 16
     → length t.next_hop ≡ 6 → length t.mac ≡ 6 → length t.src ≡ 16 → length t.tunnel ≡ 8
@@ -93,13 +96,7 @@ head6 t hop dst f sport len sum h d n m s u =
     λ a b c e x y.
     filled6 (blank6 (of a b c e)) x (octets 2 len) y (octets 2 sport) (octets 2 len) (octets 2 sum) ++ f
     ≡ (x ++ b) ++ (ether_type Ip6 ++ (ip6_sent t.ttl c y len ++ ((octets 2 sport ++ (octets 2 t.dport ++ (octets 2 len ++ octets 2 sum))) ++ (e ++ f)))) in
-    let plain : P (cells 6 t.next_hop) (cells 6 t.mac) (cells 16 t.src) (cells 8 t.tunnel) (cells 6 hop) (cells 16 dst) = refl in
-    subst (λ (y : List ℕ). P t.next_hop t.mac t.src t.tunnel hop y) (cells-is 16 dst d)
-    (subst (λ (x : List ℕ). P t.next_hop t.mac t.src t.tunnel x (cells 16 dst)) (cells-is 6 hop h)
-    (subst (λ (e : List ℕ). P t.next_hop t.mac t.src e (cells 6 hop) (cells 16 dst)) (cells-is 8 t.tunnel u)
-    (subst (λ (c : List ℕ). P t.next_hop t.mac c (cells 8 t.tunnel) (cells 6 hop) (cells 16 dst)) (cells-is 16 t.src s)
-    (subst (λ (b : List ℕ). P t.next_hop b (cells 16 t.src) (cells 8 t.tunnel) (cells 6 hop) (cells 16 dst)) (cells-is 6 t.mac m)
-    (subst (λ (a : List ℕ). P a (cells 6 t.mac) (cells 16 t.src) (cells 8 t.tunnel) (cells 6 hop) (cells 16 dst)) (cells-is 6 t.next_hop n) plain)))))
+    by_all 16 P t hop dst h d n m s u refl
 
 -- the packet, where lengths and checksums are its own
 pub packet4-filled : (t : Fixed) (hop dst f : List ℕ) (is_computed : Bool) (sport len c sum : ℕ) → length hop ≡ 6 → length dst ≡ 4

@@ -1,12 +1,14 @@
 -- Sums of heads from the sums of what is fixed in them.
-use Rattle.std.proofs.Common.{◌≡◌, ℕ, ◌+◌, ◌*◌, ◌-◌, ◌<◌, List, [], ◌∷◌, ◌++◌, length, sym, ap, ◌∙◌, arith}
+use Rattle.std.proofs.Common.{◌≡◌, ℕ, Option, Some, None, ◌+◌, ◌*◌, ◌-◌, ◌<◌, List, [], ◌∷◌, ◌++◌, length, sym, ap, ◌∙◌, arith}
+use Rattle.std.specs.Prelude.{IfSome, is_some}
+use Rattle.std.specs.Option.{option_map_or}
 use Rattle.std.proofs.lemmas.List.{length-append}
 use Rattle.header_sums.specs.Sum.{total, folded, complement, sent_of, sent, check}
-use Rattle.header_sums.proofs.SumLemmas.{total-append_even, total-pseudo4, total-pseudo6}
+use Rattle.header_sums.proofs.SumLemmas.{total-append_even}
 use Rattle.header_sums.proofs.FoldLemmas.{folded-added}
-use Rattle.ip_udp_view.specs.declared.addr.Addr.TheVariants.{V4, V6}
+use Rattle.ip_udp_view.specs.declared.addr.Addr.{Addr}
 use Rattle.ip_udp_view.specs.Udp.{pseudo, udp_header}
-use Rattle.outer_head.specs.Packet.{ip4_header}
+use Rattle.outer_head.specs.Packet.{ip4_header, sum_sent}
 use Rattle.outer_head.specs.Template.{Fixed, ip4_part, udp_part}
 
 -- the words of an IPv4 header
@@ -24,25 +26,28 @@ total-udp : (sport dport : ℕ) (tunnel f : List ℕ) → sport < 65536 → dpor
 total-udp sport dport tunnel f h k eight fits =
     omega (arith, length-append tunnel f, total-append_even tunnel f (omega arith))
 
--- the checksum from the sum of what is fixed, and the folded sum of the frame
-pub sent-udp4 : (t : Fixed) (dst f : List ℕ) (sport x : ℕ) → length t.src ≡ 4 → length dst ≡ 4 → length t.tunnel ≡ 8 → sport < 65536 → t.dport < 65536 → 16 + length f < 65536
+-- the checksum from the sum of what is fixed, and the folded sum of the frame, over a family whose pseudo header has such a sum
+sent-udp : (of : List ℕ → Addr) (t : Fixed) (dst f : List ℕ) (sport x : ℕ)
+    → ((rest : List ℕ) (len : ℕ) → len < 65536 → total (pseudo (of t.src) (of dst) len ++ rest) ≡ total t.src + total dst + 17 + len + total rest)
+    → length t.tunnel ≡ 8 → sport < 65536 → t.dport < 65536 → 16 + length f < 65536
     → x ≡ sent_of (complement (udp_part t + total dst + 2 * (16 + length f) + sport + folded (total f)))
-    → x ≡ sent (pseudo (V4 t.src) (V4 dst) (8 + length (t.tunnel ++ f)) ++ (udp_header sport t.dport 0 (t.tunnel ++ f) ++ (t.tunnel ++ f)))
-sent-udp4 t dst f sport x src4 dst4 eight h k fits is =
+    → x ≡ sent (pseudo (of t.src) (of dst) (8 + length (t.tunnel ++ f)) ++ (udp_header sport t.dport 0 (t.tunnel ++ f) ++ (t.tunnel ++ f)))
+sent-udp of t dst f sport x total-pseudo eight h k fits is =
     let d = t.tunnel ++ f in
     let len = length-append t.tunnel f in
     let rest = udp_header sport t.dport 0 d ++ d in
-    let whole : udp_part t + total dst + 2 * (16 + length f) + sport + total f ≡ total (pseudo (V4 t.src) (V4 dst) (8 + length d) ++ rest) =
-    omega (arith, len, total-pseudo4 t.src dst rest (8 + length d) src4 dst4 (omega (arith, len)), total-udp sport t.dport t.tunnel f h k eight fits) in
+    let whole : udp_part t + total dst + 2 * (16 + length f) + sport + total f ≡ total (pseudo (of t.src) (of dst) (8 + length d) ++ rest) =
+    omega (arith, len, total-pseudo rest (8 + length d) (omega (arith, len)), total-udp sport t.dport t.tunnel f h k eight fits) in
     is ∙ ap (λ (n : ℕ). sent_of (65535 - n)) (folded-added (udp_part t + total dst + 2 * (16 + length f) + sport) (total f) ∙ ap folded whole)
 
-pub sent-udp6 : (t : Fixed) (dst f : List ℕ) (sport x : ℕ) → length t.src ≡ 16 → length dst ≡ 16 → length t.tunnel ≡ 8 → sport < 65536 → t.dport < 65536 → 16 + length f < 65536
-    → x ≡ sent_of (complement (udp_part t + total dst + 2 * (16 + length f) + sport + folded (total f)))
-    → x ≡ sent (pseudo (V6 t.src) (V6 dst) (8 + length (t.tunnel ++ f)) ++ (udp_header sport t.dport 0 (t.tunnel ++ f) ++ (t.tunnel ++ f)))
-sent-udp6 t dst f sport x src16 dst16 eight h k fits is =
-    let d = t.tunnel ++ f in
-    let len = length-append t.tunnel f in
-    let rest = udp_header sport t.dport 0 d ++ d in
-    let whole : udp_part t + total dst + 2 * (16 + length f) + sport + total f ≡ total (pseudo (V6 t.src) (V6 dst) (8 + length d) ++ rest) =
-    omega (arith, len, total-pseudo6 t.src dst rest (8 + length d) src16 dst16 (omega (arith, len)), total-udp sport t.dport t.tunnel f h k eight fits) in
-    is ∙ ap (λ (n : ℕ). sent_of (65535 - n)) (folded-added (udp_part t + total dst + 2 * (16 + length f) + sport) (total f) ∙ ap folded whole)
+-- the checksum that is sent, from what the code adds up
+pub sum-sent : (of : List ℕ → Addr) (t : Fixed) (dst f : List ℕ) (sport x fixed len : ℕ) (asked : Option ℕ)
+    → ((rest : List ℕ) (len : ℕ) → len < 65536 → total (pseudo (of t.src) (of dst) len ++ rest) ≡ total t.src + total dst + 17 + len + total rest)
+    → length t.tunnel ≡ 8 → sport < 65536 → t.dport < 65536 → 16 + length f < 65536
+    → fixed ≡ udp_part t → len ≡ 16 + length f → IfSome asked (λ s. s ≡ folded (total f))
+    → x ≡ option_map_or (λ s. sent_of (complement (fixed + total dst + 2 * len + sport + s))) asked 0
+    → x ≡ sum_sent (is_some asked) (of t.src) (of dst) sport t.dport (t.tunnel ++ f)
+sum-sent of t dst f sport x fixed len None total-pseudo eight h k fits fixed_is len_is sum_is is = is
+sum-sent of t dst f sport x fixed len (Some s) total-pseudo eight h k fits fixed_is len_is sum_is is =
+    let same : fixed + total dst + 2 * len + sport + s ≡ udp_part t + total dst + 2 * (16 + length f) + sport + folded (total f) = omega (arith, fixed_is, len_is, sum_is) in
+    sent-udp of t dst f sport x total-pseudo eight h k fits (is ∙ ap (λ (n : ℕ). sent_of (complement n)) same)

@@ -1,10 +1,14 @@
 //! Heads, and the parts that both families share.
-ghost use Rattle.std.specs.Prelude.{◌≡◌, ◌≤◌, length};
+ghost use Rattle.std.specs.Prelude.{◌≡◌, ◌≤◌, ◌+◌, ◌*◌, ◌^◌, length};
+ghost use Rattle.std.specs.Option.{option_map_or};
+ghost use Rattle.header_sums.specs.Sum.{total, sent_of, complement};
 ghost use Rattle.outer_head.specs.Packet.{tunnel_header};
 ghost use Rattle.outer_head.specs.Template.{blank_udp};
 
 use arrayvec::ArrayVec;
+use frame_view::BridgeFrame;
 use geneve_head::gn_head;
+use header_sums::{sent_sum, words};
 use ip_udp_view::Tunnel;
 use vxlan_head::{Vni, vx_head};
 
@@ -30,6 +34,29 @@ pub(crate) fn blank_udp(dport: u16) -> [u8; 8]
 {
     let [high, low] = dport.to_be_bytes();
     [0, 0, high, low, 0, 0, 0, 0]
+}
+
+/// The UDP checksum that is sent with a frame to an address, of a head whose fixed words have this sum: computed where the
+/// frame's folded sum is handed in, or 0 for none (RFC 768; RFC 8200, 8.1; RFC 6935, 5).
+#[inline(always)]
+pub(crate) fn udp_sum(
+    fixed: u64,
+    dst: &[u8],
+    frame: &BridgeFrame,
+    sport: u16,
+    sum: Option<u16>,
+) -> u16
+    requires small { fixed ≤ 2 ^ 24 }
+    requires address { length dst.now ≤ 16 }
+    requires fits { 28 + length frame.now.body ≤ 65535 }
+    ensures { result
+        ≡ option_map_or (λ s. sent_of (complement (fixed + total dst.now + 2 * (28 + length frame.now.body) + sport + s))) sum 0 }
+{
+    let Some(sum) = sum else {
+        return 0;
+    };
+    let len = (BEFORE_BODY + frame.body.len()) as u64;
+    sent_sum(fixed + words(dst) + 2 * len + u64::from(sport) + u64::from(sum))
 }
 
 /// Puts octets in place of what a head has.

@@ -1,14 +1,13 @@
 //! Heads over IPv4.
 ghost use Rattle.std.specs.Prelude.{◌≡◌, ◌≤◌, ◌+◌, ◌++◌, length, replicate, is_some, IfSome};
-ghost use Rattle.ip_udp_view.specs.declared.addr.Addr.TheVariants.{V4};
 ghost use Rattle.header_sums.specs.Octets.{octets, part};
 ghost use Rattle.header_sums.specs.Sum.{check};
 ghost use Rattle.frame_view.specs.Frame.{plain};
-ghost use Rattle.outer_head.specs.Packet.{ip4_header, sum_sent, frame_sum, packet4};
+ghost use Rattle.outer_head.specs.Packet.{ip4_header, frame_sum, packet4};
 
-use crate::head::{BEFORE_BODY, Head, blank_udp, copy};
+use crate::head::{BEFORE_BODY, Head, blank_udp, copy, udp_sum};
 use frame_view::{BridgeFrame, Mac};
-use header_sums::{fold, sent_sum, words};
+use header_sums::{fold, words};
 use ip_udp_view::{IP4_TYPE, UDP};
 use std::marker::Model;
 
@@ -92,7 +91,7 @@ impl Template4 {
     {
         let len = (BEFORE_BODY + frame.body.len()) as u16;
         let check = self.ip_sum(dst, IP4_HEADER + len);
-        let sum = self.udp_sum(dst, frame, sport, sum);
+        let sum = udp_sum(self.udp, &dst, frame, sport, sum);
         copy(&self.octets, head);
         fill(head.as_mut_slice(), hop, dst, len, check, sport, sum);
     }
@@ -102,19 +101,6 @@ impl Template4 {
         ensures { let t = self.now in result ≡ check (ip4_header t.ttl t.src dst len 0) }
     {
         65535 - fold(self.ip + u64::from(len) + words(&dst))
-    }
-
-    /// The UDP checksum that is sent: computed, or 0 for none (RFC 768).
-    fn udp_sum(&self, dst: [u8; 4], frame: &BridgeFrame, sport: u16, sum: Option<u16>) -> u16
-        requires fits { 48 + length frame.now.body ≤ 65535 }
-        requires sum { IfSome sum (λ s. s ≡ frame_sum frame.now) }
-        ensures { let t = self.now in result ≡ sum_sent (is_some sum) (V4 t.src) (V4 dst) sport t.dport (t.tunnel ++ plain frame.now) }
-    {
-        let Some(sum) = sum else {
-            return 0;
-        };
-        let len = (BEFORE_BODY + frame.body.len()) as u64;
-        sent_sum(self.udp + words(&dst) + 2 * len + u64::from(sport) + u64::from(sum))
     }
 }
 

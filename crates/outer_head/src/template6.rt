@@ -1,13 +1,12 @@
 //! Heads over IPv6, whose own header has no checksum.
 ghost use Rattle.std.specs.Prelude.{◌≡◌, ◌≤◌, ◌+◌, ◌++◌, length, replicate, is_some, IfSome};
-ghost use Rattle.ip_udp_view.specs.declared.addr.Addr.TheVariants.{V6};
 ghost use Rattle.header_sums.specs.Octets.{octets, part};
 ghost use Rattle.frame_view.specs.Frame.{plain};
-ghost use Rattle.outer_head.specs.Packet.{ip6_sent, sum_sent, frame_sum, packet6};
+ghost use Rattle.outer_head.specs.Packet.{ip6_sent, frame_sum, packet6};
 
-use crate::head::{BEFORE_BODY, Head, blank_udp, copy};
+use crate::head::{BEFORE_BODY, Head, blank_udp, copy, udp_sum};
 use frame_view::{BridgeFrame, Mac};
-use header_sums::{sent_sum, words};
+use header_sums::words;
 use ip_udp_view::{IP6_TYPE, UDP};
 use std::marker::Model;
 
@@ -80,22 +79,9 @@ impl Template6 {
             head.new.items ++ f ≡ packet6 hop t.mac t.ttl (is_some sum) t.src dst sport t.dport (t.tunnel ++ f) }
     {
         let len = (BEFORE_BODY + frame.body.len()) as u16;
-        let sum = self.udp_sum(dst, frame, sport, sum);
+        let sum = udp_sum(self.udp, &dst, frame, sport, sum);
         copy(&self.octets, head);
         fill(head.as_mut_slice(), hop, dst, len, sport, sum);
-    }
-
-    /// The UDP checksum that is sent: computed, or 0 for none (RFC 8200, 8.1; RFC 6935, 5).
-    fn udp_sum(&self, dst: [u8; 16], frame: &BridgeFrame, sport: u16, sum: Option<u16>) -> u16
-        requires fits { 28 + length frame.now.body ≤ 65535 }
-        requires sum { IfSome sum (λ s. s ≡ frame_sum frame.now) }
-        ensures { let t = self.now in result ≡ sum_sent (is_some sum) (V6 t.src) (V6 dst) sport t.dport (t.tunnel ++ plain frame.now) }
-    {
-        let Some(sum) = sum else {
-            return 0;
-        };
-        let len = (BEFORE_BODY + frame.body.len()) as u64;
-        sent_sum(self.udp + words(&dst) + 2 * len + u64::from(sport) + u64::from(sum))
     }
 }
 

@@ -120,6 +120,10 @@ pub found-ip : (f : Family) (r : List ℕ) → is_bad_ip f r ≡ false → Split
 found-ip Ip4 r good = found4 r (IsGood4-from r good)
 found-ip Ip6 r good = found6 r (IsGood6-from r good)
 
+-- and so are parts that are the same
+pub split-as : (f : Family) (r : List ℕ) (v : Parts) → is_bad_ip f r ≡ false → v ≡ packet_parts f r → SplitsIp f r v
+split-as f r v good is = subst (λ (w : Parts). SplitsIp f r w) (sym is) (found-ip f r good)
+
 -- ---- a split of a packet is the one by its lengths
 
 only4 : (v : Parts) → IsHeader4 v.head (length v.payload) → (is_bad_ip Ip4 (joined v) ≡ false) × (packet_parts Ip4 (joined v) ≡ v)

@@ -45,6 +45,9 @@ found-udp p good =
       whole = sym (joined-cut 8 m p behind);
     }
 
+pub split-as : (p : List ℕ) (v : Parts) → is_bad_udp p ≡ false → v ≡ udp_parts p → SplitsUdp p v
+split-as p v good is = subst (λ (w : Parts). SplitsUdp p w) (sym is) (found-udp p good)
+
 -- a split of a datagram is the one by its length
 only_joined : (v : Parts) → IsUdpHeader v.head (length v.payload) → (is_bad_udp (joined v) ≡ false) × (udp_parts (joined v) ≡ v)
 only_joined v k =

@@ -1,9 +1,9 @@
-use Rattle.std.proofs.Common.{arith, ◌≡◌, ◌*◌, ℕ, ap, ◌∙◌, subst, sym}
+use Rattle.std.proofs.Common.{arith, ◌≡◌, ◌*◌, ℕ, ap, ◌∙◌}
 use Rattle.header_sums.proofs.OctetsLemmas.{field-slice}
-use Rattle.ip_udp_view.specs.Parts.{Parts, cut}
-use Rattle.ip_udp_view.specs.Ip.{Ip4, header_length, total_length, packet_parts, SplitsIp}
+use Rattle.ip_udp_view.specs.Parts.{cut}
+use Rattle.ip_udp_view.specs.Ip.{Ip4, header_length, total_length, packet_parts}
 use Rattle.ip_udp_view.proofs.CutLemmas.{sliced, sliced-cut}
-use Rattle.ip_udp_view.proofs.IpLemmas.{IsGood4, IsGood4-to, found-ip}
+use Rattle.ip_udp_view.proofs.IpLemmas.{IsGood4-to, split-as}
 use Rattle.ip_udp_view.proofs.ip4_view.Ip4View.read.Goals as goal
 
 header_is : (c : goal.After-result-2-1) → c.from-header.result * 4 ≡ header_length Ip4 c.args.octets.now
@@ -24,14 +24,6 @@ returns-clause-parts c = parts c
 
 pub returns-clause-split : goal.returns-clause-split
 returns-clause-split c =
-    let b = c.args.octets.now in
     let header = header_is c in
     let total = total_is c in
-    let good : IsGood4 b = record {
-      room = omega arith;
-      version_is = omega arith;
-      shortest = omega arith;
-      behind = omega arith;
-      there = omega arith;
-    } in
-    subst (λ (v : Parts). SplitsIp Ip4 b v) (sym (parts c)) (found-ip Ip4 b (IsGood4-to b good))
+    split-as Ip4 c.args.octets.now _ (IsGood4-to c.args.octets.now (record { room = omega arith; version_is = omega arith; shortest = omega arith; behind = omega arith; there = omega arith })) (parts c)

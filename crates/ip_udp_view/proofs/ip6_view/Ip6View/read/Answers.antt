@@ -1,9 +1,9 @@
-use Rattle.std.proofs.Common.{arith, ◌≡◌, ◌+◌, ℕ, ap, ◌∙◌, subst, sym}
+use Rattle.std.proofs.Common.{arith, ◌≡◌, ◌+◌, ℕ, ap, ◌∙◌}
 use Rattle.header_sums.proofs.OctetsLemmas.{field-slice}
-use Rattle.ip_udp_view.specs.Parts.{Parts, cut}
+use Rattle.ip_udp_view.specs.Parts.{cut}
 use Rattle.ip_udp_view.specs.Ip.{Ip6, packet_length, packet_parts, SplitsIp}
 use Rattle.ip_udp_view.proofs.CutLemmas.{sliced, sliced-cut}
-use Rattle.ip_udp_view.proofs.IpLemmas.{IsGood6, IsGood6-to, found-ip}
+use Rattle.ip_udp_view.proofs.IpLemmas.{IsGood6-to, split-as}
 use Rattle.ip_udp_view.proofs.ip6_view.Ip6View.read.Goals as goal
 
 end_is : (c : goal.After-result-2-1) → 40 + c.from-end.result ≡ packet_length Ip6 c.args.octets.now
@@ -16,14 +16,8 @@ parts c =
 
 split : (c : goal.After-result-2-1) → SplitsIp Ip6 c.args.octets.now (sliced 40 (40 + c.from-end.result) c.args.octets.now)
 split c =
-    let b = c.args.octets.now in
     let end = end_is c in
-    let good : IsGood6 b = record {
-      room = omega arith;
-      version_is = omega arith;
-      there = omega arith;
-    } in
-    subst (λ (v : Parts). SplitsIp Ip6 b v) (sym (parts c)) (found-ip Ip6 b (IsGood6-to b good))
+    split-as Ip6 c.args.octets.now _ (IsGood6-to c.args.octets.now (record { room = omega arith; version_is = omega arith; there = omega arith })) (parts c)
 
 pub invariant_of-result : goal.invariant_of-result
 invariant_of-result c = (split c).header

@@ -1,9 +1,9 @@
-use Rattle.std.proofs.Common.{arith, ◌≡◌, ℕ, ap, ◌∙◌, subst, sym}
+use Rattle.std.proofs.Common.{arith, ◌≡◌, ℕ, ap, ◌∙◌}
 use Rattle.header_sums.proofs.OctetsLemmas.{field-slice}
-use Rattle.ip_udp_view.specs.Parts.{Parts, cut}
-use Rattle.ip_udp_view.specs.Udp.{udp_length, udp_parts, SplitsUdp}
+use Rattle.ip_udp_view.specs.Parts.{cut}
+use Rattle.ip_udp_view.specs.Udp.{udp_length, udp_parts}
 use Rattle.ip_udp_view.proofs.CutLemmas.{sliced, sliced-cut}
-use Rattle.ip_udp_view.proofs.UdpLemmas.{IsGoodUdp, IsGoodUdp-to, found-udp}
+use Rattle.ip_udp_view.proofs.UdpLemmas.{IsGoodUdp-to, split-as}
 use Rattle.ip_udp_view.proofs.udp_view.UdpView.read.Goals as goal
 
 end_is : (c : goal.After-result-2-1) → c.from-end.result ≡ udp_length c.args.octets.now
@@ -19,11 +19,5 @@ returns-clause-parts c = parts c
 
 pub returns-clause-split : goal.returns-clause-split
 returns-clause-split c =
-    let p = c.args.octets.now in
     let end = end_is c in
-    let good : IsGoodUdp p = record {
-      room = omega arith;
-      behind = omega arith;
-      there = omega arith;
-    } in
-    subst (λ (v : Parts). SplitsUdp p v) (sym (parts c)) (found-udp p (IsGoodUdp-to p good))
+    split-as c.args.octets.now _ (IsGoodUdp-to c.args.octets.now (record { room = omega arith; behind = omega arith; there = omega arith })) (parts c)

@@ -43,12 +43,13 @@ pub record HasUdp (S : Overlay) (b : List ℕ) : Type 0 where
 
 -- ---- what the code has in its hands
 
--- what it took off up to UDP, and the packet that it read
-pub record CameToUdp (S : Overlay) (a u : Apart) (p : Packet) : Type 0 where
+-- what it took off up to UDP, the packet that it read, and the tunnel kind of the port in it
+pub record CameToUdp (S : Overlay) (a u : Apart) (p : Packet) (k : Option Tunnel) : Type 0 where
   pub none : HasUdp S a.payload.octets
   pub udp_is : u ≡ at_udp a
   pub packet_is : p ≡ packet_in a.payload.octets
   pub data_is : u.payload.octets ≡ data_of p.payload
+  pub kind_is : k ≡ kind_to S.underlay (packet_in a.payload.octets)
 
 pub ip-reason : (S : Overlay) (b t : List ℕ) (o : Option Reason) → t ≡ behind_tags b → o ≡ first (typed_reasons t) → refusal S NotIp BadIpSum b ≡ o
 ip-reason S b t o t_is told = refusal-ip S b ∙ ap (λ (x : List ℕ). first (typed_reasons x)) (sym t_is) ∙ sym told
@@ -66,11 +67,19 @@ ip-is b t a e i t_is e_is i_is =
 pub packet-is : (b t : List ℕ) (p : Packet) → t ≡ behind_tags b → p ≡ packet_at (family_named t) (drop 2 t) → p ≡ packet_in b
 packet-is b t p t_is p_is = p_is ∙ ap (λ (x : List ℕ). packet_at (family_named x) (drop 2 x)) t_is
 
-pub CameToUdp-from : (S : Overlay) (a e i u : Apart) (t : List ℕ) (p : Packet)
+-- the port that a view of the datagram tells
+kind-is : (S : Overlay) (b : List ℕ) (p : Packet) (v : Parts) (port : ℕ) (k : Option Tunnel) → p ≡ packet_in b → SplitsUdp p.payload v → port ≡ dport v.head → k ≡ kind_at S.underlay port
+    → k ≡ kind_to S.underlay (packet_in b)
+kind-is S b p v port k p_is splits port_is k_is =
+    k_is
+    ∙ ap (kind_at S.underlay) (port_is ∙ sym (ReadsAs-from p.payload v splits).dport_is)
+    ∙ ap (kind_to S.underlay) p_is
+
+pub CameToUdp-from : (S : Overlay) (a e i u : Apart) (t : List ℕ) (p : Packet) (v : Parts) (port : ℕ) (k : Option Tunnel)
     → None ≡ first (rows Runt Runt (frame_reasons a.payload.octets)) → e ≡ at_ether a → t ≡ behind_tags a.payload.octets
     → None ≡ first (typed_reasons t) → i ≡ split (ip_kind (family_named t)) (packet_parts (family_named t) e.payload.octets) e → p ≡ packet_at (family_named t) (drop 2 t) → p.payload ≡ i.payload.octets
-    → None ≡ first (udp_reasons p) → u ≡ udp_off i → CameToUdp S a u p
-CameToUdp-from S a e i u t p runt e_is t_is ip i_is p_is left udp u_is =
+    → None ≡ first (udp_reasons p) → u ≡ udp_off i → SplitsUdp p.payload v → port ≡ dport v.head → k ≡ kind_at S.underlay port → CameToUdp S a u p k
+CameToUdp-from S a e i u t p v port k runt e_is t_is ip i_is p_is left udp u_is splits port_is k_is =
     let b = a.payload.octets in
     let packet = packet-is b t p t_is p_is in
     record {
@@ -78,15 +87,8 @@ CameToUdp-from S a e i u t p runt e_is t_is ip i_is p_is left udp u_is =
       udp_is = u_is ∙ ap udp_off (ip-is b t a e i t_is e_is i_is);
       packet_is = packet;
       data_is = ap (λ (x : Apart). x.payload.octets) u_is ∙ ap data_of (sym left);
+      kind_is = kind-is S b p v port k packet splits port_is k_is;
     }
-
--- the port that a view of the datagram tells
-pub kind-is : (S : Overlay) (b : List ℕ) (p : Packet) (v : Parts) (port : ℕ) (k : Option Tunnel) → p ≡ packet_in b → SplitsUdp p.payload v → port ≡ dport v.head → k ≡ kind_at S.underlay port
-    → k ≡ kind_to S.underlay (packet_in b)
-kind-is S b p v port k p_is splits port_is k_is =
-    k_is
-    ∙ ap (kind_at S.underlay) (port_is ∙ sym (ReadsAs-from p.payload v splits).dport_is)
-    ∙ ap (kind_to S.underlay) p_is
 
 pub port-none : (S : Overlay) (b : List ℕ) → None ≡ kind_to S.underlay (packet_in b) → refusal S NotTunnel NotTunnel b ≡ Some NotTunnel
 port-none S b h = refusal-port S b ∙ ap (λ (k : Option Tunnel). first ((NotTunnel, is_none k) ∷ [])) (sym h)

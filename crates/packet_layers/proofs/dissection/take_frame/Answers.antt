@@ -8,7 +8,7 @@ use Rattle.packet_layers.specs.Apart.{Apart}
 use Rattle.packet_layers.specs.Dissection.{Taken, stopped, tunnel_off}
 use Rattle.packet_layers.proofs.RefusalLemmas.{refusal-runt}
 use Rattle.packet_layers.proofs.EtherLemmas.{left-ether}
-use Rattle.packet_layers.proofs.FrameLemmas.{ip-reason, udp-reason, ip-is, packet-is, CameToUdp-from, kind-is, port-none, port-some, sum-reason, tunnel-reason, frame-runt, frame-ip, frame-udp, frame-port, frame-deep, frame-tunnel, frame-on, at_udp}
+use Rattle.packet_layers.proofs.FrameLemmas.{ip-reason, udp-reason, ip-is, packet-is, CameToUdp-from, port-none, port-some, sum-reason, tunnel-reason, frame-runt, frame-ip, frame-udp, frame-port, frame-deep, frame-tunnel, frame-on, at_udp}
 use Rattle.packet_layers.proofs.dissection.take_frame.Goals as goal
 
 pub returns-in_err-typed-clause-taken : goal.returns-in_err-typed-clause-taken
@@ -59,11 +59,8 @@ pub returns-in_default-clause-taken : goal.returns-in_default-clause-taken
 returns-in_default-clause-taken c =
     let S = c.args.under.now in
     let a = c.args.apart.now in
-    let came = CameToUdp-from S a c.take_ether.new.apart c.take_ip.new.apart c.take_udp.new.apart c.in_ok-typed.typed.now c.in_ok-packet.packet c.in_ok-typed.ensures.fault c.in_ok-typed.ensures.taken c.in_ok-typed.ensures.typed c.in_ok-packet.ensures.fault c.in_ok-packet.ensures.taken c.in_ok-packet.ensures.packet c.in_ok-packet.ensures.payload c.in_ok-view.ensures.fault c.in_ok-view.ensures.taken in
-    let b = a.payload.octets in
-    let p = c.in_ok-packet.packet in
-    let kind_is = kind-is S b p c.in_ok-view.view c.dport.result c.kind_at.result came.packet_is c.in_ok-view.ensures.split c.dport.ensures c.kind_at.ensures in
-    frame-port S c.args.left a NotTunnel came.none (port-none S b (sym (none c.kind_at.result c.in_default.not-Some) ∙ kind_is))
+    let came = CameToUdp-from S a c.take_ether.new.apart c.take_ip.new.apart c.take_udp.new.apart c.in_ok-typed.typed.now c.in_ok-packet.packet c.in_ok-view.view c.dport.result c.kind_at.result c.in_ok-typed.ensures.fault c.in_ok-typed.ensures.taken c.in_ok-typed.ensures.typed c.in_ok-packet.ensures.fault c.in_ok-packet.ensures.taken c.in_ok-packet.ensures.packet c.in_ok-packet.ensures.payload c.in_ok-view.ensures.fault c.in_ok-view.ensures.taken c.in_ok-view.ensures.split c.dport.ensures c.kind_at.ensures in
+    frame-port S c.args.left a NotTunnel came.none (port-none S a.payload.octets (sym (none c.kind_at.result c.in_default.not-Some) ∙ came.kind_is))
     ∙ ap (stopped (At NotTunnel)) (sym came.udp_is)
   where
     none : (k : Option Tunnel) → ((x : Tunnel) → k ≡ Some x → ⊥) → k ≡ None
@@ -74,56 +71,44 @@ pub returns-then-left-eq0-clause-taken : goal.returns-then-left-eq0-clause-taken
 returns-then-left-eq0-clause-taken c =
     let S = c.args.under.now in
     let a = c.args.apart.now in
-    let came = CameToUdp-from S a c.take_ether.new.apart c.take_ip.new.apart c.take_udp.new.apart c.in_ok-typed.typed.now c.in_ok-packet.packet c.in_ok-typed.ensures.fault c.in_ok-typed.ensures.taken c.in_ok-typed.ensures.typed c.in_ok-packet.ensures.fault c.in_ok-packet.ensures.taken c.in_ok-packet.ensures.packet c.in_ok-packet.ensures.payload c.in_ok-view.ensures.fault c.in_ok-view.ensures.taken in
-    let b = a.payload.octets in
-    let p = c.in_ok-packet.packet in
-    let kind_is = kind-is S b p c.in_ok-view.view c.dport.result c.kind_at.result came.packet_is c.in_ok-view.ensures.split c.dport.ensures c.kind_at.ensures in
-    frame-deep S c.args.left a came.none (port-some S b c.in-Some.kind (sym c.in-Some.is ∙ kind_is)) c.if-left-eq0.true
+    let came = CameToUdp-from S a c.take_ether.new.apart c.take_ip.new.apart c.take_udp.new.apart c.in_ok-typed.typed.now c.in_ok-packet.packet c.in_ok-view.view c.dport.result c.kind_at.result c.in_ok-typed.ensures.fault c.in_ok-typed.ensures.taken c.in_ok-typed.ensures.typed c.in_ok-packet.ensures.fault c.in_ok-packet.ensures.taken c.in_ok-packet.ensures.packet c.in_ok-packet.ensures.payload c.in_ok-view.ensures.fault c.in_ok-view.ensures.taken c.in_ok-view.ensures.split c.dport.ensures c.kind_at.ensures in
+    frame-deep S c.args.left a came.none (port-some S a.payload.octets c.in-Some.kind (sym c.in-Some.is ∙ came.kind_is)) c.if-left-eq0.true
     ∙ ap (stopped Deep) (sym came.udp_is)
 
 pub returns-in_err-check_sum-clause-taken : goal.returns-in_err-check_sum-clause-taken
 returns-in_err-check_sum-clause-taken c =
     let S = c.args.under.now in
     let a = c.args.apart.now in
-    let came = CameToUdp-from S a c.take_ether.new.apart c.take_ip.new.apart c.take_udp.new.apart c.in_ok-typed.typed.now c.in_ok-packet.packet c.in_ok-typed.ensures.fault c.in_ok-typed.ensures.taken c.in_ok-typed.ensures.typed c.in_ok-packet.ensures.fault c.in_ok-packet.ensures.taken c.in_ok-packet.ensures.packet c.in_ok-packet.ensures.payload c.in_ok-view.ensures.fault c.in_ok-view.ensures.taken in
-    let b = a.payload.octets in
-    let p = c.in_ok-packet.packet in
-    let kind_is = kind-is S b p c.in_ok-view.view c.dport.result c.kind_at.result came.packet_is c.in_ok-view.ensures.split c.dport.ensures c.kind_at.ensures in
+    let came = CameToUdp-from S a c.take_ether.new.apart c.take_ip.new.apart c.take_udp.new.apart c.in_ok-typed.typed.now c.in_ok-packet.packet c.in_ok-view.view c.dport.result c.kind_at.result c.in_ok-typed.ensures.fault c.in_ok-typed.ensures.taken c.in_ok-typed.ensures.typed c.in_ok-packet.ensures.fault c.in_ok-packet.ensures.taken c.in_ok-packet.ensures.packet c.in_ok-packet.ensures.payload c.in_ok-view.ensures.fault c.in_ok-view.ensures.taken c.in_ok-view.ensures.split c.dport.ensures c.kind_at.ensures in
     let reason = c.in_err-check_sum.field-0.0 in
     let stop = err_from_is_err_and c.from_residual-in_err-check_sum.result c.from_residual-in_err-check_sum.ensures.1 in
-    rw (stop.1, stop.2) (frame-tunnel S c.args.left a reason came.none (port-some S b c.in-Some.kind (sym c.in-Some.is ∙ kind_is)) c.if-left-eq0.false
-    (sum-reason S b p c.settings.result.now reason came.packet_is c.settings.ensures c.in_err-check_sum.ensures)
+    rw (stop.1, stop.2) (frame-tunnel S c.args.left a reason came.none (port-some S a.payload.octets c.in-Some.kind (sym c.in-Some.is ∙ came.kind_is)) c.if-left-eq0.false
+    (sum-reason S a.payload.octets c.in_ok-packet.packet c.settings.result.now reason came.packet_is c.settings.ensures c.in_err-check_sum.ensures)
     ∙ ap (stopped (At reason)) (sym came.udp_is))
 
 pub returns-in_err-take_tunnel-clause-taken : goal.returns-in_err-take_tunnel-clause-taken
 returns-in_err-take_tunnel-clause-taken c =
     let S = c.args.under.now in
     let a = c.args.apart.now in
-    let came = CameToUdp-from S a c.take_ether.new.apart c.take_ip.new.apart c.take_udp.new.apart c.in_ok-typed.typed.now c.in_ok-packet.packet c.in_ok-typed.ensures.fault c.in_ok-typed.ensures.taken c.in_ok-typed.ensures.typed c.in_ok-packet.ensures.fault c.in_ok-packet.ensures.taken c.in_ok-packet.ensures.packet c.in_ok-packet.ensures.payload c.in_ok-view.ensures.fault c.in_ok-view.ensures.taken in
-    let b = a.payload.octets in
-    let p = c.in_ok-packet.packet in
-    let kind_is = kind-is S b p c.in_ok-view.view c.dport.result c.kind_at.result came.packet_is c.in_ok-view.ensures.split c.dport.ensures c.kind_at.ensures in
+    let came = CameToUdp-from S a c.take_ether.new.apart c.take_ip.new.apart c.take_udp.new.apart c.in_ok-typed.typed.now c.in_ok-packet.packet c.in_ok-view.view c.dport.result c.kind_at.result c.in_ok-typed.ensures.fault c.in_ok-typed.ensures.taken c.in_ok-typed.ensures.typed c.in_ok-packet.ensures.fault c.in_ok-packet.ensures.taken c.in_ok-packet.ensures.packet c.in_ok-packet.ensures.payload c.in_ok-view.ensures.fault c.in_ok-view.ensures.taken c.in_ok-view.ensures.split c.dport.ensures c.kind_at.ensures in
     let k = c.in-Some.kind in
-    let k_is = sym c.in-Some.is ∙ kind_is in
+    let k_is = sym c.in-Some.is ∙ came.kind_is in
     let reason = c.in_err-take_tunnel.field-0.0 in
     let stop = err_from_is_err_and c.from_residual-in_err-take_tunnel.result c.from_residual-in_err-take_tunnel.ensures.1 in
-    rw (stop.1, stop.2) (frame-tunnel S c.args.left a reason came.none (port-some S b k k_is) c.if-left-eq0.false
-    (tunnel-reason S b p c.settings.result.now k c.known.result.now c.take_udp.new.apart.payload.octets (Some reason) came.packet_is c.settings.ensures c.in_ok-check_sum.ensures k_is c.known.ensures came.data_is c.in_err-take_tunnel.ensures.fault)
+    rw (stop.1, stop.2) (frame-tunnel S c.args.left a reason came.none (port-some S a.payload.octets k k_is) c.if-left-eq0.false
+    (tunnel-reason S a.payload.octets c.in_ok-packet.packet c.settings.result.now k c.known.result.now c.take_udp.new.apart.payload.octets (Some reason) came.packet_is c.settings.ensures c.in_ok-check_sum.ensures k_is c.known.ensures came.data_is c.in_err-take_tunnel.ensures.fault)
     ∙ ap (stopped (At reason)) (sym (c.in_err-take_tunnel.ensures.refused ∙ came.udp_is)))
 
 pub returns-clause-taken : goal.returns-clause-taken
 returns-clause-taken c =
     let S = c.args.under.now in
     let a = c.args.apart.now in
-    let came = CameToUdp-from S a c.take_ether.new.apart c.take_ip.new.apart c.take_udp.new.apart c.in_ok-typed.typed.now c.in_ok-packet.packet c.in_ok-typed.ensures.fault c.in_ok-typed.ensures.taken c.in_ok-typed.ensures.typed c.in_ok-packet.ensures.fault c.in_ok-packet.ensures.taken c.in_ok-packet.ensures.packet c.in_ok-packet.ensures.payload c.in_ok-view.ensures.fault c.in_ok-view.ensures.taken in
-    let b = a.payload.octets in
-    let p = c.in_ok-packet.packet in
-    let kind_is = kind-is S b p c.in_ok-view.view c.dport.result c.kind_at.result came.packet_is c.in_ok-view.ensures.split c.dport.ensures c.kind_at.ensures in
+    let came = CameToUdp-from S a c.take_ether.new.apart c.take_ip.new.apart c.take_udp.new.apart c.in_ok-typed.typed.now c.in_ok-packet.packet c.in_ok-view.view c.dport.result c.kind_at.result c.in_ok-typed.ensures.fault c.in_ok-typed.ensures.taken c.in_ok-typed.ensures.typed c.in_ok-packet.ensures.fault c.in_ok-packet.ensures.taken c.in_ok-packet.ensures.packet c.in_ok-packet.ensures.payload c.in_ok-view.ensures.fault c.in_ok-view.ensures.taken c.in_ok-view.ensures.split c.dport.ensures c.kind_at.ensures in
     let k = c.in-Some.kind in
-    let k_is = sym c.in-Some.is ∙ kind_is in
+    let k_is = sym c.in-Some.is ∙ came.kind_is in
     let on : Option Tunnel → Apart → Taken = λ o x. record { apart = tunnel_off o x; stop = None } in
-    frame-on S c.args.left a came.none (port-some S b k k_is) c.if-left-eq0.false
-    (tunnel-reason S b p c.settings.result.now k c.known.result.now c.take_udp.new.apart.payload.octets None came.packet_is c.settings.ensures c.in_ok-check_sum.ensures k_is c.known.ensures came.data_is c.in_ok-take_tunnel.ensures.fault)
+    frame-on S c.args.left a came.none (port-some S a.payload.octets k k_is) c.if-left-eq0.false
+    (tunnel-reason S a.payload.octets c.in_ok-packet.packet c.settings.result.now k c.known.result.now c.take_udp.new.apart.payload.octets None came.packet_is c.settings.ensures c.in_ok-check_sum.ensures k_is c.known.ensures came.data_is c.in_ok-take_tunnel.ensures.fault)
     ∙ ap (λ o. on o (at_udp a)) (sym k_is)
     ∙ ap (on (Some k)) (sym came.udp_is)
     ∙ ap (λ x. record { apart = x; stop = None }) (sym c.in_ok-take_tunnel.ensures.taken)

@@ -1,5 +1,5 @@
 -- What a walk over the options has found so far.
-use Rattle.std.proofs.Common.{◌≡◌, ℕ, ◌<◌, Bool, true, false, not, ◌&&◌, cond, List, [], ◌∷◌, Option, Some, None, length, refl, ap, ◌∙◌, arith}
+use Rattle.std.proofs.Common.{◌≡◌, ℕ, ◌<◌, Bool, true, false, not, ◌&&◌, cond, List, [], ◌∷◌, Option, Some, None, length, refl, sym, ap, ◌∙◌, arith}
 use Rattle.std.specs.Prelude.{is_none}
 use Rattle.frame_view.specs.First.{first}
 use Rattle.geneve_head.specs.declared.view.GnFault.{GnFault}
@@ -38,10 +38,15 @@ told-step known accepted text split e =
     ∙ told-with_option known accepted split.0 (options_in split.1)
 
 -- no option is left, at the end of the text and before it
-pub told-end : (known : List (ℕ × ℕ)) (accepted : Bool) (text : List ℕ) → length text ≡ 0 → told known accepted (options_in text) ≡ cond accepted None (Some CriticalOption)
+told-end : (known : List (ℕ × ℕ)) (accepted : Bool) (text : List ℕ) → length text ≡ 0 → told known accepted (options_in text) ≡ cond accepted None (Some CriticalOption)
 told-end known true [] e = refl
 told-end known false [] e = refl
 told-end known accepted (x ∷ text) e = absurd (omega arith)
+
+pub told-ended : (known : List (ℕ × ℕ)) (accepted : Bool) (text whole : List ℕ) (b : Bool) → length text ≡ 0 → accepted ≡ b → told known accepted (options_in text) ≡ told known true (options_in whole)
+    → cond b None (Some CriticalOption) ≡ first (option_faults known whole)
+told-ended known accepted text whole b none is so_far =
+    sym (told-end known accepted text none ∙ ap (λ (a : Bool). cond a None (Some CriticalOption)) is) ∙ so_far ∙ told-first known whole
 
 pub told-cut : (known : List (ℕ × ℕ)) (accepted : Bool) (text : List ℕ) → split_option text ≡ None → 0 < length text → told known accepted (options_in text) ≡ Some BadOptions
 told-cut known accepted [] e some = absurd (omega arith)

@@ -1,8 +1,7 @@
-use Rattle.std.proofs.Common.{rules, ◌≡◌, ◌<◌, ◌∙◌, ◌&&◌, Bool, cond, Some, None, length, sym, ap}
-use Rattle.geneve_head.specs.declared.view.GnFault.TheVariants.{CriticalOption}
+use Rattle.std.proofs.Common.{rules, ◌<◌, ◌∙◌, ◌&&◌, Bool, length, sym, ap}
 use Rattle.geneve_head.specs.Options.{options_in}
 use Rattle.geneve_head.specs.Seen.{split_seen}
-use Rattle.geneve_head.proofs.WalkLemmas.{told, told-first, told-step, told-end, told-cut}
+use Rattle.geneve_head.proofs.WalkLemmas.{told, told-first, told-step, told-ended, told-cut}
 use Rattle.geneve_head.proofs.view.check_options.Goals as goal
 
 pub loop-option-preserved : goal.loop-option-preserved
@@ -21,17 +20,7 @@ returns-then-not-is_empty c =
     ∙ c.loop-option.invariant ∙ told-first c.args.known.now c.args.text.now
 
 pub returns-then-not-is_accepted : goal.returns-then-not-is_accepted
-returns-then-not-is_accepted c =
-    let known = c.args.known.now in
-    let none : length c.loop-option.left.now ≡ 0 = search rules in
-    sym (ap (λ (b : Bool). cond b None (Some CriticalOption)) c.if-not-is_accepted.true)
-    ∙ sym (told-end known c.loop-option.is_accepted c.loop-option.left.now none)
-    ∙ c.loop-option.invariant ∙ told-first known c.args.text.now
+returns-then-not-is_accepted c = told-ended c.args.known.now c.loop-option.is_accepted c.loop-option.left.now c.args.text.now _ (search rules) c.if-not-is_accepted.true c.loop-option.invariant
 
 pub returns-else-not-is_accepted : goal.returns-else-not-is_accepted
-returns-else-not-is_accepted c =
-    let known = c.args.known.now in
-    let none : length c.loop-option.left.now ≡ 0 = search rules in
-    sym (ap (λ (b : Bool). cond b None (Some CriticalOption)) c.if-not-is_accepted.false)
-    ∙ sym (told-end known c.loop-option.is_accepted c.loop-option.left.now none)
-    ∙ c.loop-option.invariant ∙ told-first known c.args.text.now
+returns-else-not-is_accepted c = told-ended c.args.known.now c.loop-option.is_accepted c.loop-option.left.now c.args.text.now _ (search rules) c.if-not-is_accepted.false c.loop-option.invariant

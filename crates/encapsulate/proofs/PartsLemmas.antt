@@ -1,5 +1,6 @@
 -- The parts of a packet that is sent, from its text.
 use Rattle.std.proofs.Common.{◌≡◌, ◌∙◌, sym, ap, ◌-◌, List, ℕ, [], ◌++◌, length, take, arith, append_assoc, length-append, Option, Some, None, Result, Ok, Err}
+use Rattle.std.specs.Prelude.{IsErrAnd}
 use Rattle.std.proofs.Math.Seq.{take-append_seam}
 use Rattle.frame_view.specs.Frame.{Frame, plain}
 use Rattle.frame_view.specs.declared.reason.Reason.{Reason}
@@ -37,3 +38,9 @@ pub parts-sent : {A : Type 0} (S : Overlay) (vid : ℕ) (kind : Tunnel) (a : Add
     → text_behind head f r ≡ sending S vid kind a f → parts_behind head f r ≡ sending_parts S vid kind a f
 parts-sent S vid kind a f head (Ok x) h = sent (admits S vid a f) (remote_text S vid kind a f) head f h
 parts-sent S vid kind a f head (Err reason) h = unsent (admits S vid a f) (remote_text S vid kind a f) f reason h
+
+-- a refusal that is passed on
+pub parts-refused : (S : Overlay) (vid : ℕ) (kind : Tunnel) (a : Addr) (f : Frame) (reason : Reason) (x : Result Parts Reason)
+    → IsErrAnd x (λ other. other ≡ reason) → Err reason ≡ sending S vid kind a f → x ≡ sending_parts S vid kind a f
+parts-refused S vid kind a f reason (Ok parts) passed h = absurd passed
+parts-refused S vid kind a f reason (Err other) passed h = ap (λ (r : Reason). Err r) passed ∙ unsent (admits S vid a f) (remote_text S vid kind a f) f reason h

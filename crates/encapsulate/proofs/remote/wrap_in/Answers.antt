@@ -1,15 +1,12 @@
-use Rattle.std.proofs.Common.{◌∙◌, ap, Result, Ok, Err, List, ℕ, []}
-use Rattle.std.proofs.lemmas.Result.{err_from_is_err_and}
+use Rattle.std.proofs.Common.{◌∙◌, ap, Result, Ok, List, ℕ, []}
 use Rattle.frame_view.specs.declared.reason.Reason.{Reason}
 use Rattle.encapsulate.specs.Emission.{Parts, around}
-use Rattle.encapsulate.proofs.PartsLemmas.{parts-sent}
+use Rattle.encapsulate.proofs.PartsLemmas.{parts-sent, parts-refused}
 use Rattle.encapsulate.proofs.remote.wrap_in.Goals as goal
 
 pub returns-in_err-put_head-clause-exact : goal.returns-in_err-put_head-clause-exact
 returns-in_err-put_head-clause-exact c =
-    let r : Result (Unit {0}) Reason = Err c.in_err-put_head.field-0.0 in
-    let e = err_from_is_err_and c.from_residual.result c.from_residual.ensures.1 in
-    rw (e.1, e.2) (parts-sent c.args.under.now c.args.vid c.args.kind c.args.addr c.args.frame.now c.put_head.new.head.items r c.in_err-put_head.ensures.sent)
+    parts-refused c.args.under.now c.args.vid c.args.kind c.args.addr c.args.frame.now c.in_err-put_head.field-0.0 c.from_residual.result c.from_residual.ensures.1 c.in_err-put_head.ensures.sent
 
 pub returns-clause-exact : goal.returns-clause-exact
 returns-clause-exact c =

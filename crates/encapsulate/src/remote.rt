@@ -116,14 +116,15 @@ fn write_head(
     ensures { head.new.items ++ plain frame.now ≡ remote_text under.now vid kind addr frame.now }
 {
     let underlay = under.settings();
-    let hop = underlay.hop_to(addr);
     match addr {
         Addr::V4(dst) => {
+            let hop = underlay.hop_to(Addr::V4(dst));
             let template = under.head4(vid, kind).unwrap();
             let sum = sums.for_checksum(underlay.sum4, frame);
             template.write(hop, dst, frame, sums.port, sum, head);
         }
         Addr::V6(dst) => {
+            let hop = underlay.hop_to(Addr::V6(dst));
             let template = under.head6(vid, kind).unwrap();
             let sum = sums.for_checksum(underlay.sum6, frame);
             template.write(hop, dst, frame, sums.port, sum, head);

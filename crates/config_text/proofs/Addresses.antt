@@ -9,28 +9,9 @@ use Rattle.header_sums.specs.Octets.{IsText}
 use Rattle.ip_udp_view.specs.declared.addr.Addr.{Addr}
 use Rattle.ip_udp_view.specs.declared.addr.Addr.TheVariants.{V4, V6}
 use Rattle.ip_udp_view.specs.Addr.{IsAddr}
+use Rattle.config_text.proofs.Steps.{same_Some, map_some}
+pub use Rattle.config_text.proofs.Steps.{kept_some, then_some}
 use Rattle.config_text.specs.Address.{kept_if, exactly, cut, parts_in, joined, decimal_octet, has_leading_zero, number_of, decimal_digit, hex_pair, groups, side, filled, halves, ip6_groups, mac_of, ip4_of, ip6_of, or_else, addr_of}
-
--- ---- steps that didn't fail
-
-pub same_Some : {X : Type 0} (x y : X) → Some x ≡ Some y → x ≡ y
-same_Some x y h = cc
-
-pub kept_some : {A : Type 0} (test : A → Bool) (o : Option A) (x : A) → kept_if test o ≡ Some x → (o ≡ Some x) × (test x ≡ true)
-kept_some test None x e = absurd cc
-kept_some test (Some y) x e = by (test y) refl e
-  where
-    by : (b : Bool) → test y ≡ b → cond b (Some y) None ≡ Some x → (Some y ≡ Some x) × (test x ≡ true)
-    by true is h = (h, ap test (sym (same_Some y x h)) ∙ is)
-    by false is h = absurd cc
-
-pub then_some : {A B : Type 0} (f : A → Option B) (o : Option A) (x : B) → option_and_then f o ≡ Some x → (y : A) × (o ≡ Some y) × (f y ≡ Some x)
-then_some f None x e = absurd cc
-then_some f (Some y) x e = (y, refl, e)
-
-pub map_some : {A B : Type 0} (f : A → B) (o : Option A) (x : B) → option_map f o ≡ Some x → (y : A) × (o ≡ Some y) × (f y ≡ x)
-map_some f None x e = absurd cc
-map_some f (Some y) x e = (y, refl, same_Some (f y) x e)
 
 -- ---- parts with a separator between them
 

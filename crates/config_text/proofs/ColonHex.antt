@@ -12,7 +12,8 @@ use Rattle.std.specs.Net.Grammar.{IsDotted, IsGroup, IsGroupsAfter, IsGroups, Is
 use Rattle.std.specs.Result.{result_ok}
 use Rattle.std.specs.declared.net.ipv6_addr.Ipv6Addr.{Ipv6Addr}
 use Rattle.config_text.specs.Address.{is_within, hex_digit, hex_group, cut, parts_in, joined, exactly, groups, halves, side, filled, ip6_groups, ip6_of}
-use Rattle.config_text.proofs.Dotted.{same_Some, cond_kept, map_some, then_some, kept_some, number_sound, number_complete, cut_sound, dotted_splits}
+use Rattle.config_text.proofs.Steps.{same_Some, cond_kept, map_some, then_some, kept_some}
+use Rattle.config_text.proofs.Dotted.{number_sound, number_complete, cut_digits, cut_no_digits, cut_sound, dotted_splits}
 
 -- ---- one group
 
@@ -44,14 +45,6 @@ group_complete t n h =
 
 not_colon : (c : ℕ) → digit_value c < 16 → eqb c 58 ≡ false
 not_colon c h = ne_eqb c 58 (λ e. let big : digit_value 58 < 16 = rw e at h in omega arith)
-
-cut_group : (xs ys : List ℕ) → AllDigits 16 xs → cut 58 (xs ++ 58 ∷ ys) ≡ Some (xs, ys)
-cut_group [] ys h = refl
-cut_group (c ∷ cs) ys h = cond-false _ _ _ (not_colon c h.0) ∙ ap (option_map (λ k. (c ∷ k.0, k.1))) (cut_group cs ys h.1)
-
-cut_last : (xs : List ℕ) → AllDigits 16 xs → cut 58 xs ≡ None
-cut_last [] h = refl
-cut_last (c ∷ cs) h = cond-false _ _ _ (not_colon c h.0) ∙ ap (option_map (λ k. (c ∷ k.0, k.1))) (cut_last cs h.1)
 
 -- one group, or one with more behind a colon
 parts_sound : (ipv4 : Bool) (more : List ℕ → Option (List ℕ)) → ((t xs : List ℕ) → more t ≡ Some xs → IsGroupsAfter ipv4 (codes ":") (58 ∷ t) xs) → (lead t xs : List ℕ) (o : Option (List ℕ × List ℕ)) → cut 58 t ≡ o → parts_in hex_group more t o ≡ Some xs → IsGroupsAfter ipv4 lead (lead ++ t) xs
@@ -135,7 +128,7 @@ groups_complete ipv4 (suc n) lead text x [] (inl (group, rest, is, one, more)) n
     record {
       t = group;
       text_is = is ∙ ap (λ (r : List ℕ). lead ++ group ++ r) more ∙ simp append-nil;
-      read = ap (parts_in hex_group (joined hex_group 58 n) group) (cut_last group one.0.0.1) ∙ ap (option_map (λ y. y ∷ [])) (group_complete group x one);
+      read = ap (parts_in hex_group (joined hex_group 58 n) group) (cut_no_digits 16 58 not_colon group one.0.0.1) ∙ ap (option_map (λ y. y ∷ [])) (group_complete group x one);
     }
 groups_complete ipv4 (suc n) lead text x (y ∷ ys) (inl (group, rest, is, one, more)) none most =
     let split : text ≡ lead ++ (group ++ rest) = is ∙ simp append_assoc in
@@ -144,7 +137,7 @@ groups_complete ipv4 (suc n) lead text x (y ∷ ys) (inl (group, rest, is, one, 
     record {
       t = group ++ 58 ∷ k.t;
       text_is = split ∙ ap (λ (r : List ℕ). lead ++ (group ++ r)) k.text_is;
-      read = ap (parts_in hex_group (joined hex_group 58 n) (group ++ 58 ∷ k.t)) (cut_group group k.t one.0.0.1)
+      read = ap (parts_in hex_group (joined hex_group 58 n) (group ++ 58 ∷ k.t)) (cut_digits 16 58 not_colon group k.t one.0.0.1)
           ∙ ap (option_and_then (λ z. option_map (λ zs. z ∷ zs) (joined hex_group 58 n k.t))) (group_complete group x one)
           ∙ ap (option_map (λ zs. x ∷ zs)) k.read;
     }

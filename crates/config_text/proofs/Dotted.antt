@@ -1,5 +1,5 @@
 -- The texts of IPv4 addresses are those of std's grammar.
-use Rattle.std.proofs.Common.{◌≡◌, ℕ, zero, suc, ◌+◌, ◌-◌, ◌*◌, ◌^◌, ◌<◌, ◌≤◌, Bool, true, false, cond, nat_le, eqb, List, [], ◌∷◌, ◌++◌, length, get_or, Option, Some, None, Result, Ok, Err, option_map, option_and_then, decimal, refl, sym, ap, ◌∙◌, subst, arith, inl, inr, lit≤, le-leb, append_assoc}
+use Rattle.std.proofs.Common.{◌≡◌, ℕ, zero, suc, ◌+◌, ◌-◌, ◌*◌, ◌^◌, ◌<◌, ◌≤◌, true, false, nat_le, eqb, List, [], ◌∷◌, ◌++◌, length, get_or, Option, Some, None, Result, Ok, Err, option_map, option_and_then, decimal, refl, sym, ap, ◌∙◌, subst, arith, inl, inr, lit≤, le-leb, append_assoc}
 use Rattle.std.specs.Prelude.{◌==◌}
 use Rattle.std.proofs.lemmas.Bool.{cases_Bool, cases_lt, leb-true, eqb-true, eq-eqb, true≢false, ne_eqb, cond-true, cond-false, and_parts, and_from}
 use Rattle.std.proofs.lemmas.Fmt.{decimal_is_IsNumeral, decimal_digit as one_digit, first_decimal, length-decimal-le, decimal-digits_value}
@@ -12,36 +12,8 @@ use Rattle.std.specs.Net.Grammar.{IsDotted, IsIpv4Text, Parses}
 use Rattle.std.specs.Net.Addr.{ipv4_octets}
 use Rattle.std.specs.Result.{result_ok}
 use Rattle.std.specs.declared.net.ipv4_addr.Ipv4Addr.{Ipv4Addr}
+use Rattle.config_text.proofs.Steps.{same_Some, cond_some, cond_kept, cond_other, kept_some, then_some, map_some}
 use Rattle.config_text.specs.Address.{is_within, kept_if, decimal_digit, number_after, number_of, has_leading_zero, decimal_octet, cut, parts_in, joined, exactly, ip4_of}
-
--- ---- steps that answered
-
-pub same_Some : {X : Type 0} (x y : X) → Some x ≡ Some y → x ≡ y
-same_Some x y h = cc
-
-cond_some : {X : Type 0} (b : Bool) (x y : X) → cond b (Some x) None ≡ Some y → (b ≡ true) × (x ≡ y)
-cond_some true x y e = (refl, same_Some x y e)
-cond_some false x y e = absurd cc
-
-pub cond_kept : {X : Type 0} (b : Bool) (o : Option X) (y : X) → cond b o None ≡ Some y → (b ≡ true) × (o ≡ Some y)
-cond_kept true o y e = (refl, e)
-cond_kept false o y e = absurd cc
-
-cond_other : {X : Type 0} (b : Bool) (o : Option X) (y : X) → cond b None o ≡ Some y → (b ≡ false) × (o ≡ Some y)
-cond_other true o y e = absurd cc
-cond_other false o y e = (refl, e)
-
-pub kept_some : {A : Type 0} (test : A → Bool) (o : Option A) (x : A) → kept_if test o ≡ Some x → (o ≡ Some x) × (test x ≡ true)
-kept_some test None x e = absurd cc
-kept_some test (Some y) x e = let k = cond_some (test y) y x e in (ap Some k.1, ap test (sym k.1) ∙ k.0)
-
-pub then_some : {A B : Type 0} (f : A → Option B) (o : Option A) (x : B) → option_and_then f o ≡ Some x → (y : A) × (o ≡ Some y) × (f y ≡ Some x)
-then_some f None x e = absurd cc
-then_some f (Some y) x e = (y, refl, e)
-
-pub map_some : {A B : Type 0} (f : A → B) (o : Option A) (x : B) → option_map f o ≡ Some x → (y : A) × (o ≡ Some y) × (f y ≡ x)
-map_some f None x e = absurd cc
-map_some f (Some y) x e = (y, refl, same_Some (f y) x e)
 
 -- ---- one decimal
 
@@ -131,13 +103,15 @@ spelled (x ∷ y ∷ ys) = decimal x ++ 46 ∷ spelled (y ∷ ys)
 not_dot : (c : ℕ) → digit_value c < 10 → eqb c 46 ≡ false
 not_dot c h = let k = digit_from_value c h in ne_eqb c 46 (λ e. omega (arith, k.0, e))
 
-cut_digits : (xs ys : List ℕ) → AllDigits 10 xs → cut 46 (xs ++ 46 ∷ ys) ≡ Some (xs, ys)
-cut_digits [] ys h = refl
-cut_digits (c ∷ cs) ys h = cond-false _ _ _ (not_dot c h.0) ∙ ap (option_map (λ k. (c ∷ k.0, k.1))) (cut_digits cs ys h.1)
+-- a separator that is no digit of the base
+module _ (base s : ℕ) (other : (c : ℕ) → digit_value c < base → eqb c s ≡ false) where
+  pub cut_digits : (xs ys : List ℕ) → AllDigits base xs → cut s (xs ++ s ∷ ys) ≡ Some (xs, ys)
+  cut_digits [] ys h = cond-true _ _ _ (eq-eqb s s refl)
+  cut_digits (c ∷ cs) ys h = cond-false _ _ _ (other c h.0) ∙ ap (option_map (λ k. (c ∷ k.0, k.1))) (cut_digits cs ys h.1)
 
-cut_no_digits : (xs : List ℕ) → AllDigits 10 xs → cut 46 xs ≡ None
-cut_no_digits [] h = refl
-cut_no_digits (c ∷ cs) h = cond-false _ _ _ (not_dot c h.0) ∙ ap (option_map (λ k. (c ∷ k.0, k.1))) (cut_no_digits cs h.1)
+  pub cut_no_digits : (xs : List ℕ) → AllDigits base xs → cut s xs ≡ None
+  cut_no_digits [] h = refl
+  cut_no_digits (c ∷ cs) h = cond-false _ _ _ (other c h.0) ∙ ap (option_map (λ k. (c ∷ k.0, k.1))) (cut_no_digits cs h.1)
 
 pub cut_sound : (s : ℕ) (t : List ℕ) (h : List ℕ × List ℕ) → cut s t ≡ Some h → t ≡ h.0 ++ s ∷ h.1
 cut_sound s [] h e = absurd cc
@@ -184,11 +158,11 @@ joined_complete n [] most some h = absurd (omega arith)
 joined_complete zero (x ∷ xs) most some h = absurd (omega arith)
 joined_complete (suc n) (x ∷ []) most some h =
     let k = decimal_is_IsNumeral x (omega (arith, h.0)) in
-    ap (parts_in decimal_octet (joined decimal_octet 46 n) (decimal x)) (cut_no_digits (decimal x) k.0.1) ∙ ap (option_map (λ y. y ∷ [])) (octet_complete x h.0)
+    ap (parts_in decimal_octet (joined decimal_octet 46 n) (decimal x)) (cut_no_digits 10 46 not_dot (decimal x) k.0.1) ∙ ap (option_map (λ y. y ∷ [])) (octet_complete x h.0)
 joined_complete (suc n) (x ∷ y ∷ ys) most some h =
     let k = decimal_is_IsNumeral x (omega (arith, h.0)) in
     let rest = joined_complete n (y ∷ ys) (omega arith) (omega arith) h.1 in
-    ap (parts_in decimal_octet (joined decimal_octet 46 n) (spelled (x ∷ y ∷ ys))) (cut_digits (decimal x) (spelled (y ∷ ys)) k.0.1)
+    ap (parts_in decimal_octet (joined decimal_octet 46 n) (spelled (x ∷ y ∷ ys))) (cut_digits 10 46 not_dot (decimal x) (spelled (y ∷ ys)) k.0.1)
     ∙ ap (option_and_then (λ z. option_map (λ zs. z ∷ zs) (joined decimal_octet 46 n (spelled (y ∷ ys))))) (octet_complete x h.0)
     ∙ ap (option_map (λ zs. x ∷ zs)) rest
 

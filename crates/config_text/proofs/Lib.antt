@@ -1,6 +1,7 @@
+pub mod Steps
 mod Keys
 mod Items
-mod Cut
+mod Cuts
 mod Separated
 mod Dotted
 mod ColonHex

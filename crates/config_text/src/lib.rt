@@ -2,7 +2,8 @@
 //!
 //! [`Reader`] stands at one table and asks for its keys in order, each by a [`Column`] that says what its values mean;
 //! a list under one key is read by a [`ListColumn`], a list of tables by a [`Row`] for each. [`SettingsFault`] is what
-//! can be wrong, with its [`Key`]. [`mac_of`] and [`addr_of`] read addresses. The crate knows no key by name.
+//! can be wrong, with its [`Key`]. [`mac_of`] and [`addr_of`] read addresses, and [`cut`] parts
+//! a text at a separator. The crate knows no key by name.
 #![tactic(auto)]
 
 mod address;
@@ -23,5 +24,6 @@ pub use column::{
 pub use fault::SettingsFault;
 pub use key::Key;
 pub use list_column::{ListColumn, gather};
+pub use parts::cut;
 pub use reader::Reader;
 pub use row::{Row, read_rows};

@@ -1,5 +1,5 @@
 //! Texts of parts with a separator between them.
-ghost use Rattle.std.specs.Prelude.{◌≡◌, List, ℕ, Option, option_map};
+ghost use Rattle.std.specs.Prelude.{◌≡◌, ◌<◌, IfSome, List, ℕ, Option, length, option_map};
 ghost use Rattle.config_text.specs.Address.{cut, joined};
 
 use arrayvec::ArrayVec;
@@ -15,9 +15,10 @@ pub(crate) trait Part {
         ensures { result ≡ reads text.now };
 }
 
-/// What stands before the first separator, and what behind it.
-fn cut(separator: u8, text: &[u8]) -> Option<(&[u8], &[u8])>
-    ensures { option_map (λ h. (h.0.now, h.1.now)) result ≡ cut separator text.now }
+/// What stands before the first separator, and what behind it. None: the text has no separator.
+pub fn cut(separator: u8, text: &[u8]) -> Option<(&[u8], &[u8])>
+    ensures value { option_map (λ h. (h.0.now, h.1.now)) result ≡ cut separator text.now }
+    ensures shorter { IfSome result (λ h. length h.1.now < length text.now) }
 {
     let at = text.iter().position(|c| *c == separator)?;
     Some((&text[..at], &text[at + 1..]))

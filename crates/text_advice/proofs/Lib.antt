@@ -1,3 +1,3 @@
-mod Cut
+mod Splits
 mod Tables
 mod Texts

@@ -1,7 +1,7 @@
 -- Lines of a text, and the words and names in them. It states no standard.
 use Rattle.std.specs.Prelude.{ℕ, List, [], ◌∷◌, length, take, drop, nat_eq, nat_le, Bool, false, ◌&&◌, ◌||◌, ◌==◌, Option, Some, None, is_some, option_map, option_and_then, if◌then◌else◌}
 use Rattle.std.specs.Cmp.Lexicographic.{pointwise}
-use Rattle.text_advice.specs.Split.{cut}
+use Rattle.config_text.specs.Address.{cut}
 
 -- one text is the other
 abbrev pub same : List ℕ → List ℕ → Bool

@@ -1,10 +1,5 @@
 -- Texts of parts with a separator between them. It states no standard.
-use Rattle.std.specs.Prelude.{ℕ, List, [], ◌∷◌, ◌==◌, Option, Some, None, option_map, if◌then◌else◌}
-
--- what stands before the first separator, and what behind it
-abbrev pub cut : ℕ → List ℕ → Option (List ℕ × List ℕ)
-cut separator [] = None
-cut separator (c ∷ cs) = if c == separator then Some ([], cs) else option_map (λ h. (c ∷ h.0, h.1)) (cut separator cs)
+use Rattle.std.specs.Prelude.{ℕ, List, [], ◌∷◌, ◌==◌, if◌then◌else◌}
 
 -- parts, with one more character in front of the first
 abbrev pub onto : ℕ → List (List ℕ) → List (List ℕ)

@@ -2,7 +2,7 @@
 ghost use Rattle.std.specs.Prelude.{◌≡◌, ◌≤◌, length, option_map};
 ghost use Rattle.text_advice.specs.Line.{is_mark, is_blank, is_letter, past_blanks, is_bare, bare, word, dotted, is_name, header_name, is_text, opens, is_header, child, child_on, value, is_key_line};
 
-use crate::split::cut;
+use config_text::cut;
 
 /// Whether an octet is one of a byte order mark.
 fn is_mark(c: u8) -> bool

@@ -1,6 +1,6 @@
 use Rattle.std.proofs.Common.{map}
 use Rattle.std.proofs.lemmas.List.{map-append}
-use Rattle.text_advice.proofs.Cut.{split_kept, split_done}
+use Rattle.text_advice.proofs.Splits.{split_kept, split_done}
 use Rattle.text_advice.proofs.split.split.Goals as goal
 
 pub loop-front-preserved : goal.loop-front-preserved

@@ -94,6 +94,18 @@ tables-adjusted t vid f h s segments new table is settled gives = fun_ext (λ w.
 
 -- ---- the state
 
+-- the same parts
+pub state-same : (t : ℕ) (ports ports' : Ports) (overlay overlay' : Overlay) (learning : List Bool) (pool pool' : ℕ) (segments segments' : Segments) → ports' ≡ ports → overlay' ≡ overlay → pool' ≡ pool → segments' ≡ segments → ◌≡◌ {A = State} (record { settings = settings_by ports' overlay' learning pool' segments'; tables = tables_at t segments' }) (record { settings = settings_by ports overlay learning pool segments; tables = tables_at t segments })
+state-same t ports ports' overlay overlay' learning pool pool' segments segments' is_ports is_under is_pool is_tables =
+    ap (λ (P : Ports). let s : State = record { settings = settings_by P overlay' learning pool' segments'; tables = tables_at t segments' } in s) is_ports
+    ∙ ap (λ (O : Overlay). let s : State = record { settings = settings_by ports O learning pool' segments'; tables = tables_at t segments' } in s) is_under
+    ∙ ap (λ (n : ℕ). let s : State = record { settings = settings_by ports overlay learning n segments'; tables = tables_at t segments' } in s) is_pool
+    ∙ ap (λ (g : Segments). let s : State = record { settings = settings_by ports overlay learning pool g; tables = tables_at t g } in s) is_tables
+
+-- tables in which nothing is dead at their own moment, which is t
+pub settled-at : (t own : ℕ) (new : Segments) → own ≡ t → aged_all own new ≡ new → aged_all t new ≡ new
+settled-at t own new is settled = ap (λ (n : ℕ). aged_all n new) (sym is) ∙ settled
+
 -- the state after a change that the settings don't refuse
 pub after-accepted : (t : ℕ) (c : Change) (S : State) (settings : Settings) (tables : ℕ → Table) → refused S.settings c ≡ None → settings ≡ accepted S.settings c → tables ≡ (accepted_state t c S).tables → ◌≡◌ {A = State} (record { settings = settings; tables = tables }) (after_change t c S)
 after-accepted t c S settings tables none is_settings is_tables =
@@ -110,3 +122,7 @@ after-entries t vid c f ports ports' overlay overlay' learning pool pool' segmen
     (ap (λ (n : ℕ). settings_by ports' overlay' learning n new) stays
     ∙ ap (λ (b : ℕ → Option BridgeSettings). let s : Settings = record { ports = ports'; overlay = overlay'; bridges = b; pool = pool } in s) (bridges-adjusted learning t vid f segments new keeps is) ∙ settings)
     (tables-named t vid c f S own it.table segments new names it.settings it.has_table is settled gives)
+
+-- the same where it changes nothing else
+pub after-own : (t vid : ℕ) (c : Change) (f : Segment → Segment) (ports : Ports) (overlay : Overlay) (learning : List Bool) (pool pool' own : ℕ) (segments new : Segments) (it : Stands ports overlay learning segments vid) → named c ≡ Some vid → None ≡ refused (settings_by ports overlay learning pool segments) c → new ≡ adjusted vid f (aged_all t segments) → own ≡ t → aged_all own new ≡ new → pool' ≡ pool → ((b : Bool) (s : Segment) → bridge_of b (f s) ≡ bridge_of b s) → settings_by ports overlay learning pool segments ≡ accepted (settings_by ports overlay learning pool segments) c → (f (aged t it.table)).entries ≡ entries_changed t (joined (bridge_of (learns learning vid) it.table) it.tunneled it.members) c (aged t it.table).entries → ◌≡◌ {A = State} (record { settings = settings_by ports overlay learning pool' new; tables = tables_at t new }) (after_change t c (record { settings = settings_by ports overlay learning pool segments; tables = tables_at t segments }))
+after-own t vid c f ports overlay learning pool pool' own segments new it names none is moment settled stays keeps settings gives = after-entries t vid c f ports ports overlay overlay learning pool pool' segments new it names none is (settled-at t own new moment settled) stays keeps settings gives

@@ -19,6 +19,8 @@ use Rattle.filter_db.specs.Table.{Table, nanoseconds, is_live, stands}
 use Rattle.filter_db.specs.Segment.{Segments, no_segment, aged, new_segment, new_segments}
 use Rattle.filter_db.proofs.TableLemmas.{kept-empty, get-none}
 use Rattle.vlan_ports.specs.Ports as ports
+use Rattle.vlan_ports.specs.declared.member.MemberRule.{MemberRule}
+use Rattle.vlan_ports.specs.declared.port.PortRule.{PortRule}
 use Rattle.vlan_ports.proofs.PlacesLemmas.{get-insert_at}
 use Rattle.underlay.specs.Settings.{own}
 use Rattle.underlay.specs.Tunnels.{of_kind}
@@ -35,7 +37,8 @@ use Rattle.endpoint_state.specs.Opened.{settings_told, opened}
 use Rattle.endpoint_state.specs.Settings.{BridgeSettings}
 use Rattle.endpoint_state.specs.Sound.{reaches, is_reached_if, AreReached, AreSound}
 use Rattle.endpoint_state.specs.State.{State, bridge_of, settings_by, tables_at}
-use Rattle.endpoint_state.proofs.SoundLemmas.{family-added}
+use Rattle.endpoint_state.proofs.AfterLemmas.{state-same}
+use Rattle.endpoint_state.proofs.SoundLemmas.{family-added, sound-same}
 
 -- ---- the VIDs of the segments
 
@@ -201,16 +204,24 @@ state-opened s t learning same =
     ∙ ap (λ (x : ℕ → Table). let S : State = record { settings = settings_told s; tables = x } in S) (tables-new t (map table_rule s.segments))
 
 -- the same, of parts that are these
-pub sound-as : (s : Told) (p : ports.Ports) (u : overlay.Overlay) (g : Segments) → MeetsRules s → p ≡ ports-told s → u ≡ overlay-told s → g ≡ tables-told s → AreSound p u g
-sound-as s p u g rules is_p is_u is_g =
-    subst (λ (x : ports.Ports). AreSound x u g) (sym is_p)
-    (subst (λ (x : overlay.Overlay). AreSound (ports-told s) x g) (sym is_u)
-    (subst (λ (x : Segments). AreSound (ports-told s) (overlay-told s) x) (sym is_g) (sound-opened s rules)))
+-- layers are those that settings tell
+pub record AreTold (s : Told) (p : ports.Ports) (u : overlay.Overlay) (g : Segments) : Type 0 where
+  pub is_ports : p ≡ ports-told s
+  pub is_under : u ≡ overlay-told s
+  pub is_tables : g ≡ tables-told s
 
-pub state-as : (s : Told) (t : ℕ) (p : ports.Ports) (u : overlay.Overlay) (g : Segments) (learning : List Bool) (pool : ℕ) → p ≡ ports-told s → u ≡ overlay-told s → g ≡ tables-told s → pool ≡ s.pool → ((vid : ℕ) → learns learning vid ≡ tells_learning s.segments vid) → ◌≡◌ {A = State} (record { settings = settings_by p u learning pool g; tables = tables_at t g }) (opened s)
-state-as s t p u g learning pool is_p is_u is_g is_pool same =
-    ap (λ (n : ℕ). let S : State = record { settings = settings_by p u learning n g; tables = tables_at t g } in S) is_pool
-    ∙ ap (λ (x : ports.Ports). let S : State = record { settings = settings_by x u learning s.pool g; tables = tables_at t g } in S) is_p
-    ∙ ap (λ (x : overlay.Overlay). let S : State = record { settings = settings_by (ports-told s) x learning s.pool g; tables = tables_at t g } in S) is_u
-    ∙ ap (λ (x : Segments). let S : State = record { settings = settings_by (ports-told s) (overlay-told s) learning s.pool x; tables = tables_at t x } in S) is_g
+-- those that are opened with the rules that settings tell
+pub told-layers : (s told : Told) (numbered : List PortRule) (members : List MemberRule) (underlay : Underlay) (tunnels : List TunnelRule) (rules : List TableRule) (p : ports.Ports) (u : overlay.Overlay) (g : Segments) → told ≡ s → numbered ≡ told.ports → members ≡ map member_rule told.segments → underlay ≡ told.underlay → tunnels ≡ map tunnel_rule told.segments → rules ≡ map table_rule told.segments → p ≡ ports.told numbered members → u ≡ overlay.told underlay tunnels → g ≡ new_segments rules → AreTold s p u g
+told-layers s told numbered members underlay tunnels rules p u g same is_numbered is_members is_underlay is_tunnels is_rules p_is u_is g_is = record {
+  is_ports = p_is ∙ ap (λ (x : List PortRule). ports.told x members) is_numbered ∙ ap (λ (x : List MemberRule). ports.told told.ports x) is_members ∙ ap (λ (x : Told). ports-told x) same;
+  is_under = u_is ∙ ap (λ (x : Underlay). overlay.told x tunnels) is_underlay ∙ ap (λ (x : List TunnelRule). overlay.told told.underlay x) is_tunnels ∙ ap (λ (x : Told). overlay-told x) same;
+  is_tables = g_is ∙ ap new_segments is_rules ∙ ap (λ (x : Told). tables-told x) same;
+}
+
+pub sound-as : (s : Told) (p : ports.Ports) (u : overlay.Overlay) (g : Segments) → MeetsRules s → AreTold s p u g → AreSound p u g
+sound-as s p u g rules are = sound-same (ports-told s) p (overlay-told s) u (tables-told s) g are.is_ports are.is_under are.is_tables (sound-opened s rules)
+
+pub state-as : (s : Told) (t : ℕ) (p : ports.Ports) (u : overlay.Overlay) (g : Segments) (learning : List Bool) (pool : ℕ) → AreTold s p u g → pool ≡ s.pool → ((vid : ℕ) → learns learning vid ≡ tells_learning s.segments vid) → ◌≡◌ {A = State} (record { settings = settings_by p u learning pool g; tables = tables_at t g }) (opened s)
+state-as s t p u g learning pool are is_pool same =
+    state-same t (ports-told s) p (overlay-told s) u learning s.pool pool (tables-told s) g are.is_ports are.is_under is_pool are.is_tables
     ∙ state-opened s t learning same

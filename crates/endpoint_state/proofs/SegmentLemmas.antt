@@ -3,9 +3,9 @@ use Rattle.std.proofs.Common.{◌≡◌, ℕ, ◌≤◌, ◌==◌, Bool, true, f
 use Rattle.std.specs.Prelude.{is_some, nat_lt}
 use Rattle.std.specs.Option.{option_map, option_map_or, option_and_then, unwrap_or}
 use Rattle.std.specs.List.{list_all}
-use Rattle.std.specs.FinMap.{empty, get, len}
+use Rattle.std.specs.FinMap.{empty, len}
 use Rattle.std.proofs.Math.Path.{fun_ext}
-use Rattle.std.proofs.lemmas.Bool.{eqb-true, eq-eqb}
+use Rattle.std.proofs.lemmas.Bool.{eqb-true}
 use Rattle.ip_udp_view.specs.declared.addr.Addr.{Addr}
 use Rattle.ip_udp_view.specs.declared.addr.Tunnel.{Tunnel}
 use Rattle.flood_lists.specs.Flood.{Entries, has_family}
@@ -17,7 +17,7 @@ use Rattle.filter_db.specs.Table.{Table, stands}
 use Rattle.filter_db.specs.Segment.{Segment, Segments, no_segment, aged, aged_all, adjusted, new_segment}
 use Rattle.filter_db.specs.Standing.{added, removed, set_limit_in}
 use Rattle.filter_db.proofs.TableLemmas.{get-none}
-use Rattle.vlan_ports.specs.Ports.{Ports, Members, has_segment as has_members}
+use Rattle.vlan_ports.specs.Ports.{Ports, Members}
 use Rattle.vlan_ports.specs.Ports as ports
 use Rattle.vlan_ports.proofs.PlacesLemmas.{get-insert_at, get-remove_at}
 use Rattle.underlay.specs.Settings.{own}
@@ -30,8 +30,8 @@ use Rattle.overlay_settings.specs.declared.change.Change.TheVariants.{AddSegment
 use Rattle.endpoint_state.specs.Effect.{new_tunnels, new_bridge}
 use Rattle.endpoint_state.specs.Change.{is_about, refused, entries_changed}
 use Rattle.endpoint_state.specs.Learning.{learns}
-use Rattle.endpoint_state.specs.Settings.{Settings, BridgeSettings, SegmentSettings, joined, segment_at}
-use Rattle.endpoint_state.specs.Sound.{reaches, is_reached, is_reached_if, AreReached, AreSound}
+use Rattle.endpoint_state.specs.Settings.{BridgeSettings, SegmentSettings, joined, segment_at}
+use Rattle.endpoint_state.specs.Sound.{reaches, is_reached_if, AreReached, AreSound}
 use Rattle.endpoint_state.specs.State.{State, bridge_of, bridges_of, settings_by, tables_at, table_changed, after_change}
 use Rattle.endpoint_state.proofs.AfterLemmas.{after-accepted, changed-own, tables-named}
 use Rattle.endpoint_state.proofs.SoundLemmas.{aged-reached, sound-adjusted}

@@ -1,6 +1,6 @@
 -- What changes keep of what always holds.
 use Rattle.std.proofs.Common.{◌≡◌, ℕ, ◌==◌, Bool, true, false, cond, ◌&&◌, ◌||◌, not, List, [], ◌∷◌, ◌++◌, Option, Some, None, refl, sym, ap, ◌∙◌, subst}
-use Rattle.std.specs.Prelude.{is_some}
+use Rattle.std.specs.Prelude.{is_some, IsSome}
 use Rattle.std.specs.Option.{option_map, option_map_or, option_and_then, unwrap_or}
 use Rattle.std.specs.List.{list_all, filter}
 use Rattle.std.specs.Ordering.{eq_by_cmp}
@@ -36,6 +36,7 @@ use Rattle.filter_db.proofs.TableLemmas.{get-set}
 use Rattle.vlan_ports.specs.Ports.{Ports, has_segment as has_members}
 use Rattle.underlay.specs.Overlay.{Overlay, segment_at as under_at, flood_at, tunnel_of, with_flood}
 use Rattle.endpoint_state.specs.Sound.{reaches, is_reached, is_reached_if, AreReached, AreSound}
+use Rattle.endpoint_state.proofs.StandsLemmas.{stands as segment_stands}
 
 -- ---- tables
 
@@ -102,6 +103,13 @@ aged-reached S vid t (Some s) h = reached-kept S vid (is_live (nanoseconds s.age
 mapped-reached : (S : Overlay) (vid : ℕ) (f : Segment → Segment) (o : Option Segment) → ((s : Segment) → AreReached S vid s.entries → AreReached S vid (f s).entries) → AreReached S vid (entries_in o) → AreReached S vid (entries_in (option_map f o))
 mapped-reached S vid f None keeps h = h
 mapped-reached S vid f (Some s) keeps h = keeps s h
+
+-- the same parts
+pub sound-same : (ports ports' : Ports) (S S' : Overlay) (segments segments' : Segments) → ports' ≡ ports → S' ≡ S → segments' ≡ segments → AreSound ports S segments → AreSound ports' S' segments'
+sound-same ports ports' S S' segments segments' is_ports is_under is_tables sound =
+    subst (λ (P : Ports). AreSound P S' segments') (sym is_ports)
+    (subst (λ (O : Overlay). AreSound ports O segments') (sym is_under)
+    (subst (λ (g : Segments). AreSound ports S g) (sym is_tables) sound))
 
 pub sound-adjusted : (t vid : ℕ) (f : Segment → Segment) (ports : Ports) (S : Overlay) (segments new : Segments) → AreSound ports S segments → ((s : Segment) → AreReached S vid s.entries → AreReached S vid (f s).entries) → new ≡ adjusted vid f (aged_all t segments) → AreSound ports S new
 sound-adjusted t vid f ports S segments new sound keeps is = subst (λ (n : Segments). AreSound ports S n) (sym is) (record {
@@ -243,6 +251,12 @@ module _ (S : Overlay) (vid : ℕ) (g : Tunneled) (flood : Entries) (there : und
           by : (b : Bool) → (w == vid) ≡ b → list_all (reached_by S w) (option_map_or (λ h. h.flood) (cond b (Some (record g { flood = flood })) (under_at S w)) []) ≡ true
           by true own = ap (λ (v : ℕ). list_all (reached_by S v) flood) (eqb-true w vid own) ∙ all
           by false other = sound.flood w
+
+-- the same of a segment that has tables
+pub sound-relisted : (ports : Ports) (S : Overlay) (segments : Segments) (vid : ℕ) (flood : Entries) → AreSound ports S segments → IsSome (segments vid) → list_all (reached_by S vid) flood ≡ true → AreSound ports (with_flood S vid flood) segments
+sound-relisted ports S segments vid flood sound there all =
+    let it = segment_stands ports S [] segments vid sound there in
+    sound-flood S vid it.tunneled flood it.has_tunnels ports segments sound all
 
 -- ---- ports
 

@@ -119,25 +119,3 @@ impl From<flood_lists::NotThere> for ChangeFault {
         ChangeFault::NotThere
     }
 }
-
-impl From<filter_db::NotThere> for ChangeFault {
-    ghost use Rattle.endpoint_state.specs.declared.fault.ChangeFault.TheVariants.{NotThere};
-    ghost use Rattle.std.specs.Prelude.{◌≡◌};
-
-    ghost from_gives = { λ _ fault. fault ≡ NotThere };
-
-    fn from(_absent: filter_db::NotThere) -> ChangeFault {
-        ChangeFault::NotThere
-    }
-}
-
-impl From<filter_db::TableFull> for ChangeFault {
-    ghost use Rattle.endpoint_state.specs.declared.fault.ChangeFault.TheVariants.{TableFull};
-    ghost use Rattle.std.specs.Prelude.{◌≡◌};
-
-    ghost from_gives = { λ _ fault. fault ≡ TableFull };
-
-    fn from(_full: filter_db::TableFull) -> ChangeFault {
-        ChangeFault::TableFull
-    }
-}

@@ -8,35 +8,32 @@ use std::alloc::{AllocError, Global};
 use underlay::TunnelRule;
 use vlan_ports::MemberRule;
 
-/// What the tables of segments go by.
-pub(crate) fn table_rules(
+/// What the layers go by, each for the segments in their order.
+#[derive(Drop)]
+pub(crate) struct LayerRules {
+    pub(crate) tables: Vec<TableRule>,
+    pub(crate) members: Vec<MemberRule>,
+    pub(crate) tunnels: Vec<TunnelRule>,
+}
+
+/// What the tables, the ports and the underlay go by.
+pub(crate) fn layer_rules(
     alloc: Global,
-    segments: &[SegmentRule],
-) -> Result<Vec<TableRule>, AllocError>
-    ensures { IfOk result (λ rules. rules.items ≡ map table_rule segments.now) }
+    segments: Vec<SegmentRule>,
+) -> Result<LayerRules, AllocError>
+    ensures tables { IfOk result (λ rules. rules.tables.items ≡ map table_rule segments.items) }
+    ensures members { IfOk result (λ rules. rules.members.items ≡ map member_rule segments.items) }
+    ensures tunnels { IfOk result (λ rules. rules.tunnels.items ≡ map tunnel_rule segments.items) }
 {
-    let mut rules = Vec::new(alloc);
+    let mut tables = Vec::new(alloc);
+    let mut members = Vec::new(alloc);
+    let mut tunnels = Vec::new(alloc);
     for segment in segments {
-        rules.push(TableRule {
+        tables.push(TableRule {
             vid: segment.vid,
             limit: segment.limit,
             ageing: segment.ageing,
         })?;
-    }
-    Ok(rules)
-}
-
-/// What the ports and the underlay go by, for their segments.
-pub(crate) fn layer_rules(
-    alloc: Global,
-    segments: Vec<SegmentRule>,
-) -> Result<(Vec<MemberRule>, Vec<TunnelRule>), AllocError>
-    ensures members { IfOk result (λ rules. rules.0.items ≡ map member_rule segments.items) }
-    ensures tunnels { IfOk result (λ rules. rules.1.items ≡ map tunnel_rule segments.items) }
-{
-    let mut members = Vec::new(alloc);
-    let mut tunnels = Vec::new(alloc);
-    for segment in segments {
         members.push(MemberRule {
             vid: segment.vid,
             untagged: segment.untagged,
@@ -50,5 +47,9 @@ pub(crate) fn layer_rules(
             tags: segment.tags,
         })?;
     }
-    Ok((members, tunnels))
+    Ok(LayerRules {
+        tables,
+        members,
+        tunnels,
+    })
 }

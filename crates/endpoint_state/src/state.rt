@@ -12,7 +12,7 @@ ghost use Rattle.endpoint_state.specs.Sound.{reaches, is_reached};
 ghost use Rattle.endpoint_state.specs.State.{fault, after_change};
 ghost use Rattle.endpoint_state.specs.Step.{can_leave, after_frame, verdict};
 
-use crate::layers::{layer_rules, table_rules};
+use crate::layers::layer_rules;
 use crate::learning::Learning;
 use crate::parts::Parts;
 use crate::{Change, ChangeFault};
@@ -56,12 +56,11 @@ impl EndpointState {
         ensures slots { IfOk result (λ state. state.tables.entries ≡ replicate settings.pool None) }
     {
         let told = settings.into_parts();
-        let rules = table_rules(alloc, told.segments.as_slice())?;
-        let tables = SharedTables::open(alloc, rules.as_slice(), told.pool)?;
         let learning = Learning::open(alloc, told.segments.as_slice())?;
-        let (members, tunnels) = layer_rules(alloc, told.segments)?;
-        let ports = PortSet::open(alloc, told.ports.as_slice(), members.as_slice())?;
-        let under = Under::open(alloc, told.underlay, tunnels)?;
+        let rules = layer_rules(alloc, told.segments)?;
+        let tables = SharedTables::open(alloc, rules.tables.as_slice(), told.pool)?;
+        let ports = PortSet::open(alloc, told.ports.as_slice(), rules.members.as_slice())?;
+        let under = Under::open(alloc, told.underlay, rules.tunnels)?;
         Ok(EndpointState {
             parts: Parts {
                 ports,

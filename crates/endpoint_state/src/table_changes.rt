@@ -82,8 +82,9 @@ impl<T: Tables> Parts<T> {
         ensures time { T.moment self.new.tables ≤ now }
     {
         let place = self.place_for(vid, mac, target)?;
-        self.tables.fix(vid, mac, place, now)?;
-        Ok(())
+        self.tables
+            .fix(vid, mac, place, now)
+            .or(Err(ChangeFault::TableFull))
     }
 
     /// Takes the fixed entry of an address of a segment away.
@@ -96,8 +97,9 @@ impl<T: Tables> Parts<T> {
         ensures time { T.moment self.new.tables ≤ now }
     {
         self.check_segment(vid)?;
-        self.tables.unfix(vid, mac, now)?;
-        Ok(())
+        self.tables
+            .unfix(vid, mac, now)
+            .or(Err(ChangeFault::NotThere))
     }
 
     /// Sets for how many seconds a segment's learned entries are live.

@@ -1,8 +1,8 @@
-use Rattle.std.proofs.Common.{◌∙◌, refl, sym, ap}
-use Rattle.filter_db.specs.Segment.{aged_all, flush_in}
+use Rattle.std.proofs.Common.{refl}
+use Rattle.filter_db.specs.Segment.{flush_in}
 use Rattle.filter_db.specs.Table.{is_fixed}
 use Rattle.overlay_settings.specs.declared.change.Change.TheVariants.{Flush}
-use Rattle.endpoint_state.proofs.AfterLemmas.{after-entries}
+use Rattle.endpoint_state.proofs.AfterLemmas.{after-own}
 use Rattle.endpoint_state.proofs.SoundLemmas.{sound-adjusted, reached-kept}
 use Rattle.endpoint_state.proofs.StandsLemmas.{stands}
 use Rattle.endpoint_state.proofs.parts.Parts.flush.Goals as goal
@@ -11,13 +11,8 @@ pub returns-clause-after : goal.returns-clause-after
 returns-clause-after g c =
     let parts = c.args.self.now in
     let segments = g.T.Tables.segments parts.tables in
-    let new = g.T.Tables.segments c.flush.new.self in
-    after-entries c.args.now c.args.vid (Flush c.args.vid) flush_in parts.ports parts.ports parts.under parts.under parts.learning (g.T.Tables.pool parts.tables) (g.T.Tables.pool c.flush.new.self) segments new
-    (stands parts.ports parts.under parts.learning segments c.args.vid c.requires.sound c.in_ok-check_segment.ensures.there)
-    refl c.in_ok-check_segment.ensures.fault c.flush.ensures.after
-    (ap (λ t. aged_all t new) (sym c.flush.ensures.moment) ∙ g.met.T.Tables.settled c.flush.new.self)
-    c.flush.ensures.pool
-    (λ b s. refl) refl refl
+    after-own c.args.now c.args.vid (Flush c.args.vid) flush_in parts.ports parts.under parts.learning (g.T.Tables.pool parts.tables) _ _ segments (g.T.Tables.segments c.flush.new.self) (stands parts.ports parts.under parts.learning segments c.args.vid c.requires.sound c.in_ok-check_segment.ensures.there)
+    refl c.in_ok-check_segment.ensures.fault c.flush.ensures.after c.flush.ensures.moment (g.met.T.Tables.settled c.flush.new.self) c.flush.ensures.pool (λ b s. refl) refl refl
 
 pub returns-clause-sound : goal.returns-clause-sound
 returns-clause-sound g c =

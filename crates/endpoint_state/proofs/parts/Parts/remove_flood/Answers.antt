@@ -1,22 +1,21 @@
-use Rattle.std.proofs.Common.{◌≡◌, ◌∙◌, refl, sym, ap, subst, Bool, not, Option, None, Some, ◌∷◌, []}
+use Rattle.std.proofs.Common.{◌≡◌, ◌∙◌, refl, sym, ap, Bool, not, Option, None, Some, ◌∷◌, []}
 use Rattle.std.specs.Option.{option_map_or, unwrap_or}
 use Rattle.frame_view.specs.First.{first}
 use Rattle.ip_udp_view.specs.declared.addr.Tunnel.{Tunnel}
 use Rattle.ip_udp_view.specs.declared.addr.Tunnel.TheVariants.{Vxlan}
 use Rattle.filter_db.specs.declared.place.Place.TheVariants.{Remote}
-use Rattle.filter_db.specs.Segment.{aged, aged_all, flush_place_in}
+use Rattle.filter_db.specs.Segment.{aged, flush_place_in}
 use Rattle.filter_db.specs.Table.{is_seen_at, flush_place}
 use Rattle.flood_lists.specs.Flood.{Entries, holds, without}
 use Rattle.underlay.specs.declared.segment.Segment.{Segment}
-use Rattle.underlay.specs.Overlay.{Overlay, flood_at, with_flood}
+use Rattle.underlay.specs.Overlay.{flood_at, with_flood}
 use Rattle.overlay_settings.specs.declared.change.Change.TheVariants.{RemoveFlood}
 use Rattle.endpoint_state.specs.declared.fault.ChangeFault.TheVariants.{NotThere}
 use Rattle.endpoint_state.specs.Settings.{Settings, SegmentSettings, kind_named}
 use Rattle.endpoint_state.specs.Change.{refused, accepted, in_segment, at_tunnel, kind_in}
-use Rattle.endpoint_state.specs.Sound.{AreSound}
-use Rattle.endpoint_state.specs.State.{State, settings_by, tables_at}
-use Rattle.endpoint_state.proofs.AfterLemmas.{after-entries}
-use Rattle.endpoint_state.proofs.SoundLemmas.{sound-adjusted, sound-flood, reached-kept, reached-without}
+use Rattle.endpoint_state.specs.State.{settings_by}
+use Rattle.endpoint_state.proofs.AfterLemmas.{settled-at, state-same, after-entries}
+use Rattle.endpoint_state.proofs.SoundLemmas.{sound-adjusted, sound-same, sound-relisted, reached-kept, reached-without}
 use Rattle.endpoint_state.proofs.StandsLemmas.{stands}
 use Rattle.endpoint_state.proofs.TargetLemmas.{named-in}
 use Rattle.endpoint_state.proofs.parts.Parts.remove_flood.Goals as goal
@@ -47,10 +46,10 @@ returns-clause-after g c =
     ap (λ (f : Entries). let s : Settings = settings_by parts.ports (with_flood parts.under vid (without f kind addr)) parts.learning (g.T.Tables.pool parts.tables) segments in s) flood
     ∙ ap (λ (k : Tunnel). let s : Settings = settings_by parts.ports (with_flood parts.under vid (without it.tunneled.flood k addr)) parts.learning (g.T.Tables.pool parts.tables) segments in s) (sym kind_is)
     ∙ sym (ap (λ (o : Option SegmentSettings). option_map_or (λ s. let t : Settings = record S { overlay = with_flood parts.under vid (without s.flood (kind_in s.tunnels tunnel) addr) } in t) o S) it.settings) in
-    ap (λ (o : Overlay). let s : State = record { settings = settings_by parts.ports o parts.learning (g.T.Tables.pool c.flush_place.new.self) new; tables = tables_at now new } in s) c.in_ok-remove_flood.ensures.removed
+    state-same now _ parts.ports _ _ parts.learning _ _ _ new refl c.in_ok-remove_flood.ensures.removed refl refl
     ∙ after-entries now vid change (flush_place_in (Remote kind addr)) parts.ports parts.ports parts.under overlay parts.learning (g.T.Tables.pool parts.tables) (g.T.Tables.pool c.flush_place.new.self) segments new
     it refl (sym none) c.flush_place.ensures.after
-    (ap (λ t. aged_all t new) (sym c.flush_place.ensures.moment) ∙ g.met.T.Tables.settled c.flush_place.new.self)
+    (settled-at _ _ _ c.flush_place.ensures.moment (g.met.T.Tables.settled c.flush_place.new.self))
     c.flush_place.ensures.pool
     (λ b s. refl) settings
     (ap (λ (k : Tunnel). flush_place (Remote k addr) (aged now it.table).entries) (sym kind_is))
@@ -61,9 +60,8 @@ returns-clause-sound g c =
     let vid = c.args.vid in
     let kind = c.in_ok-kind.kind in
     let segments = g.T.Tables.segments parts.tables in
-    let it = stands parts.ports parts.under parts.learning segments vid c.requires.sound c.in_ok-kind.ensures.there in
     let flood = without (flood_at parts.under vid) kind c.args.addr in
-    let sound = sound-flood parts.under vid it.tunneled flood it.has_tunnels parts.ports segments c.requires.sound (reached-without parts.under vid (flood_at parts.under vid) kind c.args.addr (c.requires.sound.flood vid)) in
+    let sound = sound-relisted parts.ports parts.under segments vid flood c.requires.sound c.in_ok-kind.ensures.there (reached-without parts.under vid (flood_at parts.under vid) kind c.args.addr (c.requires.sound.flood vid)) in
     sound-adjusted c.args.now vid (flush_place_in (Remote kind c.args.addr)) parts.ports c.remove_flood.new.self segments (g.T.Tables.segments c.flush_place.new.self)
-    (subst (λ (S : Overlay). AreSound parts.ports S segments) (sym c.in_ok-remove_flood.ensures.removed) sound)
+    (sound-same _ _ _ _ _ _ refl c.in_ok-remove_flood.ensures.removed refl sound)
     (λ s h. reached-kept c.remove_flood.new.self vid (λ e. not (is_seen_at (Remote kind c.args.addr) e)) s.entries h) c.flush_place.ensures.after

@@ -1,5 +1,5 @@
 use Rattle.std.proofs.Common.{◌≡◌, ◌∙◌, ℕ, refl, sym, ap, Bool, not, Option, None, ◌∷◌, []}
-use Rattle.filter_db.specs.Segment.{aged_all, set_ageing_in}
+use Rattle.filter_db.specs.Segment.{set_ageing_in}
 use Rattle.filter_db.specs.Table.{is_live, nanoseconds}
 use Rattle.overlay_settings.specs.declared.change.Change.TheVariants.{SetAgeing}
 use Rattle.frame_view.specs.First.{first}
@@ -8,7 +8,7 @@ use Rattle.endpoint_state.specs.Change.{refused, in_segment, is_ageing}
 use Rattle.endpoint_state.specs.Settings.{SegmentSettings, joined}
 use Rattle.endpoint_state.specs.Learning.{learns}
 use Rattle.endpoint_state.specs.State.{bridge_of, settings_by, settings_of, state_of, tables_at}
-use Rattle.endpoint_state.proofs.AfterLemmas.{after-accepted, tables-named, settings-ageing}
+use Rattle.endpoint_state.proofs.AfterLemmas.{after-accepted, settled-at, tables-named, settings-ageing}
 use Rattle.endpoint_state.proofs.SoundLemmas.{sound-adjusted, reached-kept}
 use Rattle.endpoint_state.proofs.StandsLemmas.{stands}
 use Rattle.endpoint_state.proofs.parts.Parts.set_ageing.Goals as goal
@@ -28,7 +28,7 @@ returns-clause-after g c =
     (ap (λ (n : ℕ). settings_by parts.ports parts.under parts.learning n new) c.set_ageing.ensures.pool
     ∙ settings-ageing parts.ports parts.under parts.learning (g.T.Tables.pool parts.tables) now vid c.args.seconds segments new c.set_ageing.ensures.after)
     (tables-named now vid (SetAgeing vid c.args.seconds) (set_ageing_in now c.args.seconds) (settings_of g.T.Tables.segments g.T.Tables.pool parts) (joined (bridge_of (learns parts.learning vid) it.table) it.tunneled it.members) it.table segments new refl it.settings it.has_table c.set_ageing.ensures.after
-    (ap (λ t. aged_all t new) (sym c.set_ageing.ensures.moment) ∙ g.met.T.Tables.settled c.set_ageing.new.self) refl)
+    (settled-at _ _ _ c.set_ageing.ensures.moment (g.met.T.Tables.settled c.set_ageing.new.self)) refl)
 
 pub returns-clause-sound : goal.returns-clause-sound
 returns-clause-sound g c =

@@ -1,5 +1,4 @@
-use Rattle.std.proofs.Common.{◌∙◌, sym, ap}
-use Rattle.filter_db.specs.Segment.{aged_all}
+use Rattle.endpoint_state.proofs.AfterLemmas.{settled-at}
 use Rattle.endpoint_state.proofs.SegmentLemmas.{after-limited, sound-limited}
 use Rattle.endpoint_state.proofs.StandsLemmas.{stands}
 use Rattle.endpoint_state.proofs.parts.Parts.set_limit.Goals as goal
@@ -8,12 +7,8 @@ pub returns-clause-after : goal.returns-clause-after
 returns-clause-after g c =
     let parts = c.args.self.now in
     let segments = g.T.Tables.segments parts.tables in
-    let new = g.T.Tables.segments c.set_limit.new.self in
-    after-limited c.args.now c.args.vid c.args.limit parts.ports parts.under parts.learning (g.T.Tables.pool parts.tables) (g.T.Tables.pool c.set_limit.new.self) segments new
-    (stands parts.ports parts.under parts.learning segments c.args.vid c.requires.sound c.in_ok-check_limit.ensures.there)
-    c.in_ok-check_limit.ensures.fault c.set_limit.ensures.after
-    (ap (λ t. aged_all t new) (sym c.set_limit.ensures.moment) ∙ g.met.T.Tables.settled c.set_limit.new.self)
-    c.set_limit.ensures.pool
+    after-limited c.args.now c.args.vid c.args.limit parts.ports parts.under parts.learning (g.T.Tables.pool parts.tables) _ segments _ (stands parts.ports parts.under parts.learning segments c.args.vid c.requires.sound c.in_ok-check_limit.ensures.there)
+    c.in_ok-check_limit.ensures.fault c.set_limit.ensures.after (settled-at _ _ _ c.set_limit.ensures.moment (g.met.T.Tables.settled c.set_limit.new.self)) c.set_limit.ensures.pool
 
 pub returns-clause-sound : goal.returns-clause-sound
 returns-clause-sound g c =

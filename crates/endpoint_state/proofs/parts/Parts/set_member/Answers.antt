@@ -1,7 +1,7 @@
 use Rattle.std.proofs.Common.{◌≡◌, ◌∙◌, refl, sym, ap, not, false, length, Option, None, Some}
 use Rattle.std.specs.Prelude.{is_some}
 use Rattle.filter_db.specs.declared.place.Place.TheVariants.{Local}
-use Rattle.filter_db.specs.Segment.{Segment, aged, aged_all, flush_place_in}
+use Rattle.filter_db.specs.Segment.{Segment, aged, flush_place_in}
 use Rattle.filter_db.specs.Table.{is_seen_at}
 use Rattle.vlan_ports.specs.declared.member.Egress.{Egress}
 use Rattle.vlan_ports.specs.Ports.{Ports, has_segment, with_member}
@@ -9,8 +9,8 @@ use Rattle.overlay_settings.specs.declared.change.Change.TheVariants.{SetMember}
 use Rattle.endpoint_state.specs.Change.{in_segment, port_fault, entries_changed}
 use Rattle.endpoint_state.specs.Learning.{learns}
 use Rattle.endpoint_state.specs.Settings.{SegmentSettings, joined}
-use Rattle.endpoint_state.specs.State.{State, bridge_of, settings_by, tables_at}
-use Rattle.endpoint_state.proofs.AfterLemmas.{after-entries}
+use Rattle.endpoint_state.specs.State.{bridge_of}
+use Rattle.endpoint_state.proofs.AfterLemmas.{settled-at, state-same, after-entries}
 use Rattle.endpoint_state.proofs.SoundLemmas.{sound-adjusted, sound-ports, members-as_before, reached-kept}
 use Rattle.endpoint_state.proofs.StandsLemmas.{stands}
 use Rattle.endpoint_state.proofs.parts.Parts.set_member.Goals as goal
@@ -31,12 +31,12 @@ returns-then-is_none-clause-after g c =
     let it = stands parts.ports parts.under parts.learning segments vid c.requires.sound c.in_ok-check_segment.ensures.there in
     let own = joined (bridge_of (learns parts.learning vid) it.table) it.tunneled it.members in
     let ended : egress ≡ None = none_of egress c.if-is_none.ensures in
-    ap (λ (p : Ports). let s : State = record { settings = settings_by p parts.under parts.learning (g.T.Tables.pool c.flush_place.new.self) new; tables = tables_at now new } in s) c.set_member.ensures
+    state-same now _ _ _ _ parts.learning _ _ _ new c.set_member.ensures refl refl refl
     ∙ after-entries now vid (SetMember vid port egress) (flush_place_in (Local port)) parts.ports (with_member parts.ports vid port egress) parts.under parts.under parts.learning (g.T.Tables.pool parts.tables) (g.T.Tables.pool c.flush_place.new.self) segments new
     it refl
     (c.in_ok-check_port.ensures ∙ sym (ap (λ (o : Option SegmentSettings). in_segment o (λ s. port_fault (length parts.ports.ports) port)) it.settings))
     c.flush_place.ensures.after
-    (ap (λ t. aged_all t new) (sym c.flush_place.ensures.moment) ∙ g.met.T.Tables.settled c.flush_place.new.self)
+    (settled-at _ _ _ c.flush_place.ensures.moment (g.met.T.Tables.settled c.flush_place.new.self))
     c.flush_place.ensures.pool
     (λ b s. refl) refl
     (ap (λ (e : Option Egress). entries_changed now own (SetMember vid port e) (aged now it.table).entries) (sym ended))

@@ -1,39 +1,17 @@
-use Rattle.std.proofs.Common.{◌∙◌, refl, sym, ap}
-use Rattle.filter_db.specs.Segment.{aged_all, unfix_in}
+use Rattle.std.proofs.Common.{refl}
+use Rattle.filter_db.specs.Segment.{unfix_in}
 use Rattle.overlay_settings.specs.declared.change.Change.TheVariants.{Unfix}
-use Rattle.endpoint_state.proofs.AfterLemmas.{after-entries}
+use Rattle.endpoint_state.proofs.AfterLemmas.{after-own}
 use Rattle.endpoint_state.proofs.SoundLemmas.{sound-adjusted, reached-unfix}
 use Rattle.endpoint_state.proofs.StandsLemmas.{stands}
 use Rattle.endpoint_state.proofs.parts.Parts.unfix.Goals as goal
-
-pub returns-in_err-unfix-clause-after : goal.returns-in_err-unfix-clause-after
-returns-in_err-unfix-clause-after g c =
-    let parts = c.args.self.now in
-    let segments = g.T.Tables.segments parts.tables in
-    let new = g.T.Tables.segments c.unfix.new.self in
-    after-entries c.args.now c.args.vid (Unfix c.args.vid c.args.mac) (unfix_in c.args.mac) parts.ports parts.ports parts.under parts.under parts.learning (g.T.Tables.pool parts.tables) (g.T.Tables.pool c.unfix.new.self) segments new
-    (stands parts.ports parts.under parts.learning segments c.args.vid c.requires.sound c.in_ok-check_segment.ensures.there)
-    refl c.in_ok-check_segment.ensures.fault c.unfix.ensures.after
-    (ap (λ t. aged_all t new) (sym c.unfix.ensures.moment) ∙ g.met.T.Tables.settled c.unfix.new.self)
-    c.unfix.ensures.pool
-    (λ b s. refl) refl refl
 
 pub returns-clause-after : goal.returns-clause-after
 returns-clause-after g c =
     let parts = c.args.self.now in
     let segments = g.T.Tables.segments parts.tables in
-    let new = g.T.Tables.segments c.unfix.new.self in
-    after-entries c.args.now c.args.vid (Unfix c.args.vid c.args.mac) (unfix_in c.args.mac) parts.ports parts.ports parts.under parts.under parts.learning (g.T.Tables.pool parts.tables) (g.T.Tables.pool c.unfix.new.self) segments new
-    (stands parts.ports parts.under parts.learning segments c.args.vid c.requires.sound c.in_ok-check_segment.ensures.there)
-    refl c.in_ok-check_segment.ensures.fault c.unfix.ensures.after
-    (ap (λ t. aged_all t new) (sym c.unfix.ensures.moment) ∙ g.met.T.Tables.settled c.unfix.new.self)
-    c.unfix.ensures.pool
-    (λ b s. refl) refl refl
-
-pub returns-in_err-unfix-clause-sound : goal.returns-in_err-unfix-clause-sound
-returns-in_err-unfix-clause-sound g c =
-    let parts = c.args.self.now in
-    sound-adjusted c.args.now c.args.vid (unfix_in c.args.mac) parts.ports parts.under (g.T.Tables.segments parts.tables) (g.T.Tables.segments c.unfix.new.self) c.requires.sound (λ s h. reached-unfix parts.under c.args.vid c.args.mac s.entries h) c.unfix.ensures.after
+    after-own c.args.now c.args.vid (Unfix c.args.vid c.args.mac) (unfix_in c.args.mac) parts.ports parts.under parts.learning (g.T.Tables.pool parts.tables) _ _ segments (g.T.Tables.segments c.unfix.new.self) (stands parts.ports parts.under parts.learning segments c.args.vid c.requires.sound c.in_ok-check_segment.ensures.there)
+    refl c.in_ok-check_segment.ensures.fault c.unfix.ensures.after c.unfix.ensures.moment (g.met.T.Tables.settled c.unfix.new.self) c.unfix.ensures.pool (λ b s. refl) refl refl
 
 pub returns-clause-sound : goal.returns-clause-sound
 returns-clause-sound g c =

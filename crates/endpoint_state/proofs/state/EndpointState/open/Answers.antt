@@ -1,102 +1,78 @@
-use Rattle.std.proofs.Common.{◌≡◌, ◌∙◌, sym, ap, subst, ℕ, List, length, map, replicate, None, arith}
+use Rattle.std.proofs.Common.{◌∙◌, refl, sym, ap, subst, List, length, map, replicate, None, arith}
 use Rattle.std.proofs.lemmas.List.{length-replicate}
 use Rattle.std.specs.Prelude.{IsTrue, All}
 use Rattle.std.specs.List.{list_all, sum_by}
-use Rattle.filter_db.specs.Segment.{IsRule, AreForDistinctVids, new_segments}
+use Rattle.filter_db.specs.Segment.{IsRule, AreForDistinctVids}
 use Rattle.filter_db.specs.declared.tables.TableRule.{TableRule}
 use Rattle.shared_tables.specs.Segments.{segments_of}
-use Rattle.vlan_ports.specs.Ports as ports
 use Rattle.vlan_ports.specs.Ports.{lists_ports}
 use Rattle.vlan_ports.specs.declared.member.MemberRule.{MemberRule}
 use Rattle.vlan_ports.specs.declared.port.PortRule.{PortRule}
-use Rattle.underlay.specs.Overlay as overlay
 use Rattle.underlay.specs.Overlay.{AreApart}
-use Rattle.underlay.specs.declared.segment.TunnelRule.{TunnelRule}
-use Rattle.underlay.specs.declared.settings.Underlay.{Underlay}
 use Rattle.overlay_settings.specs.declared.segment.SegmentRule.{SegmentRule}
 use Rattle.overlay_settings.specs.Settings.{Settings, member_rule, table_rule, tunnel_rule}
 use Rattle.overlay_settings.proofs.Openers.{ports_listed, are_apart, are_distinct, are_rules, limits_are}
 use Rattle.endpoint_state.specs.Learning.{tells_learning}
-use Rattle.endpoint_state.proofs.OpenLemmas.{sound-as, state-as}
+use Rattle.endpoint_state.proofs.OpenLemmas.{told-layers, sound-as, state-as}
 use Rattle.endpoint_state.proofs.state.EndpointState.open.Goals as goal
 
-pub open-requires-clause-distinct : goal.open-requires-clause-distinct
-open-requires-clause-distinct c =
+pub open-requires-2-clause-distinct : goal.open-requires-2-clause-distinct
+open-requires-2-clause-distinct c =
     let same = c.told.view_is ∙ c.into_parts-told.ensures.value in
-    let segments = ap (λ (s : Settings). s.segments) same in
-    let rules = c.as_slice-2.ensures.value ∙ c.in_ok-rules.ensures ∙ ap (map table_rule) (c.as_slice.ensures.value ∙ segments) in
+    let rules = c.as_slice-2.ensures.value ∙ c.in_ok-rules.ensures.tables ∙ ap (λ (s : Settings). map table_rule s.segments) same in
     subst AreForDistinctVids (sym rules) (are_distinct c.args.settings c.into_parts-told.ensures.rules)
 
-pub open-requires-clause-in_range : goal.open-requires-clause-in_range
-open-requires-clause-in_range c =
+pub open-requires-2-clause-in_range : goal.open-requires-2-clause-in_range
+open-requires-2-clause-in_range c =
     let same = c.told.view_is ∙ c.into_parts-told.ensures.value in
-    let segments = ap (λ (s : Settings). s.segments) same in
-    let rules = c.as_slice-2.ensures.value ∙ c.in_ok-rules.ensures ∙ ap (map table_rule) (c.as_slice.ensures.value ∙ segments) in
+    let rules = c.as_slice-2.ensures.value ∙ c.in_ok-rules.ensures.tables ∙ ap (λ (s : Settings). map table_rule s.segments) same in
     subst (All IsRule) (sym rules) (are_rules c.args.settings c.into_parts-told.ensures.rules)
 
 pub open-requires-3-clause-listed : goal.open-requires-3-clause-listed
 open-requires-3-clause-listed c =
     let same = c.told.view_is ∙ c.into_parts-told.ensures.value in
-    let segments = ap (λ (s : Settings). s.segments) same in
-    let members = c.as_slice-5.ensures.value ∙ c.in_ok-members.ensures.members ∙ ap (map member_rule) segments in
-    let numbered = c.as_slice-4.ensures.value ∙ ap (λ (s : Settings). s.ports) same in
-    subst (λ (x : List PortRule). IsTrue (list_all (lists_ports (length x)) c.as_slice-5.result.now)) (sym numbered)
+    let members = c.as_slice-4.ensures.value ∙ c.in_ok-rules.ensures.members ∙ ap (λ (s : Settings). map member_rule s.segments) same in
+    let numbered = c.as_slice-3.ensures.value ∙ ap (λ (s : Settings). s.ports) same in
+    subst (λ (x : List PortRule). IsTrue (list_all (lists_ports (length x)) c.as_slice-4.result.now)) (sym numbered)
     (subst (λ (x : List MemberRule). IsTrue (list_all (lists_ports (length c.args.settings.ports)) x)) (sym members) (ports_listed c.args.settings c.into_parts-told.ensures.rules))
 
 pub open-requires-4-clause-apart : goal.open-requires-4-clause-apart
 open-requires-4-clause-apart c =
     let same = c.told.view_is ∙ c.into_parts-told.ensures.value in
-    let segments = ap (λ (s : Settings). s.segments) same in
-    let tunnels = c.in_ok-members.ensures.tunnels ∙ ap (map tunnel_rule) segments in
+    let tunnels = c.in_ok-rules.ensures.tunnels ∙ ap (λ (s : Settings). map tunnel_rule s.segments) same in
     subst AreApart (sym tunnels) (are_apart c.args.settings c.into_parts-told.ensures.rules)
 
 pub invariant_of-result : goal.invariant_of-result
 invariant_of-result c =
     let s = c.args.settings in
     let same = c.told.view_is ∙ c.into_parts-told.ensures.value in
-    let segments = ap (λ (s : Settings). s.segments) same in
-    let rules = c.as_slice-2.ensures.value ∙ c.in_ok-rules.ensures ∙ ap (map table_rule) (c.as_slice.ensures.value ∙ segments) in
-    let members = c.as_slice-5.ensures.value ∙ c.in_ok-members.ensures.members ∙ ap (map member_rule) segments in
-    let numbered = c.as_slice-4.ensures.value ∙ ap (λ (s : Settings). s.ports) same in
-    let tunnels = c.in_ok-members.ensures.tunnels ∙ ap (map tunnel_rule) segments in
-    let at_ports = c.in_ok-ports.ensures ∙ ap (λ (x : List PortRule). ports.told x c.as_slice-5.result.now) numbered ∙ ap (λ (x : List MemberRule). ports.told s.ports x) members in
-    let at_under = c.in_ok-under.ensures ∙ ap (λ (x : Underlay). overlay.told x c.in_ok-members.tunnels.items) (ap (λ (x : Settings). x.underlay) same) ∙ ap (λ (x : List TunnelRule). overlay.told s.underlay x) tunnels in
-    let at_tables = c.in_ok-tables.ensures.segments ∙ ap new_segments rules in
-    sound-as s c.in_ok-ports.ports c.in_ok-under.under (segments_of c.in_ok-tables.tables) c.into_parts-told.ensures.rules at_ports at_under at_tables
+    let are = told-layers s _ _ _ _ _ _ c.in_ok-ports.ports c.in_ok-under.under (segments_of c.in_ok-tables.tables) same c.as_slice-3.ensures.value (c.as_slice-4.ensures.value ∙ c.in_ok-rules.ensures.members) refl c.in_ok-rules.ensures.tunnels (c.as_slice-2.ensures.value ∙ c.in_ok-rules.ensures.tables) c.in_ok-ports.ensures c.in_ok-under.ensures c.in_ok-tables.ensures.segments in
+    sound-as s c.in_ok-ports.ports c.in_ok-under.under (segments_of c.in_ok-tables.tables) c.into_parts-told.ensures.rules are
 
 pub returns-clause-state : goal.returns-clause-state
 returns-clause-state c =
     let s = c.args.settings in
     let same = c.told.view_is ∙ c.into_parts-told.ensures.value in
-    let segments = ap (λ (s : Settings). s.segments) same in
-    let rules = c.as_slice-2.ensures.value ∙ c.in_ok-rules.ensures ∙ ap (map table_rule) (c.as_slice.ensures.value ∙ segments) in
-    let members = c.as_slice-5.ensures.value ∙ c.in_ok-members.ensures.members ∙ ap (map member_rule) segments in
-    let numbered = c.as_slice-4.ensures.value ∙ ap (λ (s : Settings). s.ports) same in
-    let tunnels = c.in_ok-members.ensures.tunnels ∙ ap (map tunnel_rule) segments in
-    let at_ports = c.in_ok-ports.ensures ∙ ap (λ (x : List PortRule). ports.told x c.as_slice-5.result.now) numbered ∙ ap (λ (x : List MemberRule). ports.told s.ports x) members in
-    let at_under = c.in_ok-under.ensures ∙ ap (λ (x : Underlay). overlay.told x c.in_ok-members.tunnels.items) (ap (λ (x : Settings). x.underlay) same) ∙ ap (λ (x : List TunnelRule). overlay.told s.underlay x) tunnels in
-    let at_tables = c.in_ok-tables.ensures.segments ∙ ap new_segments rules in
-    let pool : length c.in_ok-tables.tables.entries ≡ s.pool =
-    ap length c.in_ok-tables.ensures.slots ∙ length-replicate _ None ∙ ap (λ (s : Settings). s.pool) same in
-    λ t. state-as s t c.in_ok-ports.ports c.in_ok-under.under (segments_of c.in_ok-tables.tables) c.in_ok-learning.learning (length c.in_ok-tables.tables.entries) at_ports at_under at_tables pool
-    (λ vid. c.in_ok-learning.ensures vid ∙ ap (λ (x : List SegmentRule). tells_learning x vid) (c.as_slice-3.ensures.value ∙ segments))
+    let are = told-layers s _ _ _ _ _ _ c.in_ok-ports.ports c.in_ok-under.under (segments_of c.in_ok-tables.tables) same c.as_slice-3.ensures.value (c.as_slice-4.ensures.value ∙ c.in_ok-rules.ensures.members) refl c.in_ok-rules.ensures.tunnels (c.as_slice-2.ensures.value ∙ c.in_ok-rules.ensures.tables) c.in_ok-ports.ensures c.in_ok-under.ensures c.in_ok-tables.ensures.segments in
+    let pool = ap length c.in_ok-tables.ensures.slots ∙ length-replicate _ None ∙ ap (λ (s : Settings). s.pool) same in
+    λ t. state-as s t c.in_ok-ports.ports c.in_ok-under.under (segments_of c.in_ok-tables.tables) c.in_ok-learning.learning (length c.in_ok-tables.tables.entries) are pool
+    (λ vid. c.in_ok-learning.ensures vid ∙ ap (λ (x : List SegmentRule). tells_learning x vid) (c.as_slice.ensures.value ∙ ap (λ (s : Settings). s.segments) same))
 
 pub returns-clause-slots : goal.returns-clause-slots
 returns-clause-slots c =
     c.in_ok-tables.ensures.slots ∙ ap (λ (s : Settings). replicate s.pool None) (c.told.view_is ∙ c.into_parts-told.ensures.value)
 
-pub open-requires-clause-room : goal.open-requires-clause-room
-open-requires-clause-room c =
+pub open-requires-2-clause-room : goal.open-requires-2-clause-room
+open-requires-2-clause-room c =
     let same = c.told.view_is ∙ c.into_parts-told.ensures.value in
-    let segments = ap (λ (s : Settings). s.segments) same in
-    let rules = c.as_slice-2.ensures.value ∙ c.in_ok-rules.ensures ∙ ap (map table_rule) (c.as_slice.ensures.value ∙ segments) in
+    let rules = c.as_slice-2.ensures.value ∙ c.in_ok-rules.ensures.tables ∙ ap (λ (s : Settings). map table_rule s.segments) same in
     let limits = ap (sum_by (λ (r : TableRule). r.limit)) rules ∙ limits_are c.args.settings.segments in
     let pool = ap (λ (s : Settings). s.pool) same in
     let few = c.into_parts-told.ensures.rules.limits in
     omega (arith, limits, pool, few)
 
-pub open-requires-clause-size : goal.open-requires-clause-size
-open-requires-clause-size c =
+pub open-requires-2-clause-size : goal.open-requires-2-clause-size
+open-requires-2-clause-size c =
     let pool = ap (λ (s : Settings). s.pool) (c.told.view_is ∙ c.into_parts-told.ensures.value) in
     let few = c.into_parts-told.ensures.rules.pool.1 in
     omega (arith, pool, few)

@@ -9,9 +9,9 @@ use frame_view::{Reason, Refused};
 /// Where a frame or a packet goes: to each place that was put in a list, or nowhere, for this reason.
 pub type Course<'a> = Result<Came<'a>, Refused>;
 
-/// A course before anything came, which is there to be written over: a runt's, in no segment.
+/// A course while nothing came, which is there to be written over: a runt's, in no segment.
 #[inline]
-pub fn unset<'a>() -> Course<'a>
+pub fn nothing_came<'a>() -> Course<'a>
     ensures { result ≡ Err (nowhere Runt) }
 {
     Err(Refused::nowhere(Reason::Runt))

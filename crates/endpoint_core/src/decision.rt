@@ -1,5 +1,5 @@
 //! What is decided of a frame or a packet.
-ghost use Rattle.std.specs.Prelude.{◌≡◌, ◌≤◌, [], length, map, All, IsTrue, IsSome, Err};
+ghost use Rattle.std.specs.Prelude.{◌≡◌, ◌≤◌, [], length, map, All, IfOk, IsTrue, IsSome, Err};
 ghost use Rattle.std.specs.List.{list_all};
 ghost use Rattle.frame_view.specs.declared.reason.Reason.TheVariants.{NoOutlet};
 ghost use Rattle.filter_db.specs.Place.{no_place};
@@ -7,14 +7,14 @@ ghost use Rattle.endpoint_state.specs.Held.{settings_of};
 ghost use Rattle.endpoint_state.specs.Settings.{segment_at};
 ghost use Rattle.endpoint_state.specs.Step.{can_leave};
 ghost use Rattle.endpoint_core.specs.Course.{decision_of, outcomes_of, IsThere, IsShortFrame, CanLeave};
-ghost use Rattle.endpoint_core.specs.Decision.{refused_as, forwarded, octets_of, IsShort};
+ghost use Rattle.endpoint_core.specs.Decision.{refused_as, forwarded, octets_of, sent_of, IsShort};
 ghost use Rattle.endpoint_core.specs.Step.{sent_at, outcome_at, has_two_tunnels};
 
 use crate::Course;
 use crate::arrival::Came;
-use crate::emit::emit;
+use crate::emit::egress_at;
 use arrayvec::ArrayVec;
-use encapsulate::Emission;
+use encapsulate::{Emission, local, wrap};
 use endpoint_state::EndpointState;
 use filter_db::Place;
 use frame_view::{Reason, Refused, Vid};
@@ -36,6 +36,35 @@ impl<'a> Default for Outcome<'a> {
         Outcome {
             place: Place::default(),
             sent: Err(Reason::NoOutlet),
+        }
+    }
+}
+
+impl<'a> Outcome<'a> {
+    /// What is sent of a frame of a segment at a place where it can leave, or why nothing is.
+    #[tactic(auto, unfolding(crate::specs::Arrival::emitted, crate::specs::Arrival::emitted_parts))]
+    fn of(state: &EndpointState, came: &Came<'a>, place: Place) -> Outcome<'a>
+        requires { IsTrue (can_leave (settings_of state.now) came.now.vid place) }
+        ensures value { sent_of result ≡ sent_at (settings_of state.now) came.now.vid came.now.frame place }
+        ensures body { IfOk result.sent (λ e. e.body ≡ came.now.frame.body) }
+        ensures parts { result ≡ outcome_at (settings_of state.now) came.now.vid came.now.frame place }
+    {
+        match place {
+            Place::Local(port) => {
+                let egress = egress_at(state, came.vid, port);
+                Outcome {
+                    place,
+                    sent: Ok(local(came.vid, egress, &came.frame)),
+                }
+            }
+            Place::Remote(kind, addr) => {
+                let under = state.under();
+                let sums = came.sums();
+                Outcome {
+                    place,
+                    sent: wrap(under, came.vid, kind, addr, &came.frame, &sums),
+                }
+            }
         }
     }
 }
@@ -106,7 +135,7 @@ impl<'a> Decision<'a> {
     {
         let mut outcomes = ArrayVec::new();
         for place in places {
-            outcomes.push(emit(state, came, *place));
+            outcomes.push(Outcome::of(state, came, *place));
         }
         Decision {
             segment: Some(came.vid),

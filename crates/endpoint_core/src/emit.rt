@@ -1,25 +1,21 @@
 //! What is sent of a frame at an outlet.
-ghost use Rattle.std.specs.Prelude.{◌≡◌, ◌≤◌, ◌++◌, [], Ok, IfOk, IsSome, IsTrue, unwrap_or};
+ghost use Rattle.std.specs.Prelude.{◌≡◌, ◌≤◌, ◌++◌, [], Ok, Some, IfOk, IsSome, IsTrue, unwrap_or};
+ghost use Rattle.vlan_ports.specs.Ports.{egress_at};
 ghost use Rattle.filter_db.specs.declared.place.Place.TheVariants.{Local, Remote};
-ghost use Rattle.encapsulate.specs.Emission.{text};
 ghost use Rattle.encapsulate.specs.Remote.{text_behind, texts};
 ghost use Rattle.endpoint_state.specs.Held.{settings_of};
 ghost use Rattle.endpoint_state.specs.Settings.{segment_at};
 ghost use Rattle.endpoint_state.specs.Step.{can_leave};
-ghost use Rattle.endpoint_core.specs.Arrival.{local_octets, local_emission};
 ghost use Rattle.endpoint_core.specs.Counts.{number_sent};
-ghost use Rattle.endpoint_core.specs.Decision.{sent_of};
 ghost use Rattle.endpoint_core.specs.Step.{sent_at, outcome_at};
 
-use crate::Outcome;
 use crate::arrival::Came;
-use encapsulate::{
-    Emission, Head, Leaving, local, local_in, local_tag, put_head, unsent, wrap, wrap_in,
-};
+use encapsulate::{Head, Leaving, local_in, local_tag, put_head, unsent, wrap_in};
 use endpoint_state::EndpointState;
 use filter_db::Place;
 use frame_view::{BridgeFrame, Reason, Vid};
 use ip_udp_view::{Addr, Tunnel};
+use vlan_ports::Egress;
 
 /// What is sent of a frame of a segment at a place where it can leave, its head in a room, or why nothing is.
 #[tactic(auto, unfolding(crate::specs::Arrival::emitted, crate::specs::Arrival::emitted_parts))]
@@ -35,16 +31,15 @@ pub(crate) fn emit_in<'h, 'a>(
     ensures parts { result ≡ (outcome_at (settings_of state.now) came.now.vid came.now.frame place).sent }
 {
     match place {
-        Place::Local(port) => Ok(emit_local_in(state, came.vid, &came.frame, port)),
-        Place::Remote(kind, addr) => wrap_in(
-            state.under(),
-            came.vid,
-            kind,
-            addr,
-            &came.frame,
-            &came.sums(),
-            room,
-        ),
+        Place::Local(port) => {
+            let egress = egress_at(state, came.vid, port);
+            Ok(local_in(came.vid, egress, &came.frame))
+        }
+        Place::Remote(kind, addr) => {
+            let under = state.under();
+            let sums = came.sums();
+            wrap_in(under, came.vid, kind, addr, &came.frame, &sums, room)
+        }
     }
 }
 
@@ -61,7 +56,7 @@ pub(crate) fn tag_in(
     ensures { let f = frame.now in
         Ok ((f.dst ++ f.src) ++ (unwrap_or result [] ++ f.body)) ≡ (sent_at (settings_of state.now) vid f (Local port)).sent }
 {
-    let egress = state.ports().egress(vid, port).unwrap();
+    let egress = egress_at(state, vid, port);
     local_tag(vid, egress, frame)
 }
 
@@ -80,31 +75,18 @@ pub(crate) fn put_head_in(
     ensures { let f = came.now.frame in
         text_behind head.new.items f result ≡ (sent_at (settings_of state.now) came.now.vid f (Remote kind addr)).sent }
 {
-    put_head(
-        state.under(),
-        came.vid,
-        kind,
-        addr,
-        &came.frame,
-        &came.sums(),
-        head,
-    )
+    let under = state.under();
+    let sums = came.sums();
+    put_head(under, came.vid, kind, addr, &came.frame, &sums, head)
 }
 
-/// What is sent at a local port of the segment.
-fn emit_local_in<'h, 'a>(
-    state: &EndpointState,
-    vid: Vid,
-    frame: &BridgeFrame<'a>,
-    port: u8,
-) -> Leaving<'h, 'a>
+/// How the frames of a segment leave at a local port where they can.
+#[inline(always)]
+pub(crate) fn egress_at(state: &EndpointState, vid: Vid, port: u8) -> Egress
     requires { IsTrue (can_leave (settings_of state.now) vid (Local port)) }
-    ensures value { text result ≡ local_octets (settings_of state.now).ports vid frame.now port }
-    ensures body { result.body ≡ frame.now.body }
-    ensures parts { result ≡ local_emission (settings_of state.now).ports vid frame.now port }
+    ensures { Some result ≡ egress_at (settings_of state.now).ports vid port }
 {
-    let egress = state.ports().egress(vid, port).unwrap();
-    local_in(vid, egress, frame)
+    state.ports().egress(vid, port).unwrap()
 }
 
 /// The number under which what is sent of a frame at a place is counted.
@@ -121,47 +103,4 @@ pub(crate) fn number_at(state: &EndpointState, vid: Vid, frame: &BridgeFrame, pl
             None => 0,
         },
     }
-}
-
-/// What is sent of a frame of a segment at a place where it can leave, or why nothing is.
-#[tactic(auto, unfolding(crate::specs::Arrival::emitted, crate::specs::Arrival::emitted_parts))]
-pub(crate) fn emit<'a>(state: &EndpointState, came: &Came<'a>, place: Place) -> Outcome<'a>
-    requires { IsTrue (can_leave (settings_of state.now) came.now.vid place) }
-    ensures value { sent_of result ≡ sent_at (settings_of state.now) came.now.vid came.now.frame place }
-    ensures body { IfOk result.sent (λ e. e.body ≡ came.now.frame.body) }
-    ensures parts { result ≡ outcome_at (settings_of state.now) came.now.vid came.now.frame place }
-{
-    match place {
-        Place::Local(port) => Outcome {
-            place,
-            sent: Ok(emit_local(state, came.vid, &came.frame, port)),
-        },
-        Place::Remote(kind, addr) => Outcome {
-            place,
-            sent: wrap(
-                state.under(),
-                came.vid,
-                kind,
-                addr,
-                &came.frame,
-                &came.sums(),
-            ),
-        },
-    }
-}
-
-/// What is sent at a local port of the segment.
-fn emit_local<'a>(
-    state: &EndpointState,
-    vid: Vid,
-    frame: &BridgeFrame<'a>,
-    port: u8,
-) -> Emission<'a>
-    requires { IsTrue (can_leave (settings_of state.now) vid (Local port)) }
-    ensures value { text result ≡ local_octets (settings_of state.now).ports vid frame.now port }
-    ensures body { result.body ≡ frame.now.body }
-    ensures parts { result ≡ local_emission (settings_of state.now).ports vid frame.now port }
-{
-    let egress = state.ports().egress(vid, port).unwrap();
-    local(vid, egress, frame)
 }

@@ -19,7 +19,7 @@ pub mod laws;
 mod text;
 
 pub use arrival::{Came, segment_of};
-pub use course::{Course, unset};
+pub use course::{Course, nothing_came};
 pub use decision::{Decision, Outcome};
 pub use encapsulate::{Head, Leaving};
 pub use endpoint::Endpoint;

@@ -25,7 +25,7 @@ use crate::fault::Target;
 use crate::put::{put_course, put_line};
 use crate::watch::Watch;
 use decision_lines::Desk;
-use endpoint_core::{Course, Endpoint, segment_of, unset};
+use endpoint_core::{Course, Endpoint, nothing_came, segment_of};
 use overlay_config::{Change, TimedChange};
 use pcap_stream::{Input, Output, Sink, Source};
 use segment_set::SegmentSet;
@@ -137,7 +137,7 @@ pub fn take_frame<R: Input, W: Output, T: Watch>(
         → T.sees watch.old (seen_among segments.now (state_of endpoint.old) desk.old.number (record_event (Port port) count moment r) (frame_at moment port r.original r.octets)) watch.new }
 {
     let record = source.head().unwrap();
-    let mut came = unset();
+    let mut came = nothing_came();
     endpoint.bring_frame(port, record.original, record.octets, &mut came);
     let event = Event {
         moment,
@@ -199,7 +199,7 @@ pub fn take_packet<R: Input, W: Output, T: Watch>(
         → T.sees watch.old (seen_among segments.now (state_of endpoint.old) desk.old.number (record_event Underlay count moment r) (packet_at moment r.original r.octets)) watch.new }
 {
     let record = source.head().unwrap();
-    let mut brought = unset();
+    let mut brought = nothing_came();
     endpoint.bring_packet(record.original, record.octets, &mut brought);
     let event = Event {
         moment,

@@ -9,7 +9,7 @@ ghost use Rattle.endpoint_core.specs.Event.{frame_at, packet_at};
 ghost use Rattle.endpoint_core.specs.Step.{Decided, answer, decided, decided_in};
 
 use crate::arrival::{Came, come_at, come_by};
-use crate::{Course, Decision, Endpoint, unset};
+use crate::{Course, Decision, Endpoint, nothing_came};
 use endpoint_state::EndpointState;
 use frame_view::Refused;
 use std::alloc::{AllocError, Global};
@@ -36,7 +36,7 @@ impl Endpoint {
         ensures short { IfOk result (λ x. length x.frame.body ≤ 65549) }
         ensures reached { IfOk result (λ x. is_reached (state_of self.now).bridges.settings.overlay x.vid x.from ≡ true) }
     {
-        let mut course = unset();
+        let mut course = nothing_came();
         self.bring_frame(port, original, octets, &mut course);
         course
     }
@@ -68,7 +68,7 @@ impl Endpoint {
         ensures short { IfOk result (λ x. length x.frame.body ≤ 65549) }
         ensures reached { IfOk result (λ x. is_reached (state_of self.now).bridges.settings.overlay x.vid x.from ≡ true) }
     {
-        let mut course = unset();
+        let mut course = nothing_came();
         self.bring_packet(original, octets, &mut course);
         course
     }

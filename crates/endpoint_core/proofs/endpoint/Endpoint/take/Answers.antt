@@ -1,4 +1,4 @@
-use Rattle.std.proofs.Common.{◌≤◌, List, sym, ap, ◌∙◌, subst, refl}
+use Rattle.std.proofs.Common.{◌≤◌, List, sym, ap, ◌∙◌, subst, refl, rules}
 use Rattle.endpoint_state.specs.Held.{settings_of}
 use Rattle.filter_db.specs.declared.place.Place.{Place}
 use Rattle.endpoint_core.specs.Cells.{count_in}
@@ -8,16 +8,17 @@ use Rattle.endpoint_core.specs.Kept.{Kept}
 use Rattle.endpoint_core.proofs.StepsLemmas.{decided-then}
 use Rattle.endpoint_core.proofs.endpoint.Endpoint.take.Goals as goal
 
-pub returns-clause-answer : goal.returns-clause-answer
-returns-clause-answer c =
+pub returns : goal.returns
+returns c =
     let later = subst (λ (k : Kept). k.moment ≤ c.args.now) (sym c.self.view_is) c.requires.moment in
     let tallied = c.tally.ensures ∙ ap (λ (ps : List Place). counted (count_in c.self.inside.counts) (decision_of (settings_of c.decide.new.state) c.decide.new.course ps)) c.as_slice.ensures.value in
     let then = decided-then c.self.inside.state c.decide.new.state c.self.inside.counts c.tally.new.self c.self.inside.moment c.args.now (decision_of (settings_of c.decide.new.state) c.decide.new.course c.decide.new.places.items) c.args.course.now _ later refl c.decide.ensures.decision c.decide.ensures.after tallied in
-    rw (← c.self.view_is) then.0
-
-pub returns-clause-after : goal.returns-clause-after
-returns-clause-after c =
-    let later = subst (λ (k : Kept). k.moment ≤ c.args.now) (sym c.self.view_is) c.requires.moment in
-    let tallied = c.tally.ensures ∙ ap (λ (ps : List Place). counted (count_in c.self.inside.counts) (decision_of (settings_of c.decide.new.state) c.decide.new.course ps)) c.as_slice.ensures.value in
-    let then = decided-then c.self.inside.state c.decide.new.state c.self.inside.counts c.tally.new.self c.self.inside.moment c.args.now (decision_of (settings_of c.decide.new.state) c.decide.new.course c.decide.new.places.items) c.args.course.now _ later refl c.decide.ensures.decision c.decide.ensures.after tallied in
-    rw (← c.self.view_is) then.1
+    record {
+      answer = rw (← c.self.view_is) then.0;
+      after = rw (← c.self.view_is) then.1;
+      there = search rules;
+      short = search rules;
+      leave = search rules;
+      empty = search rules;
+      came = search rules;
+    }

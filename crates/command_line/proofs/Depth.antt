@@ -1,16 +1,17 @@
 -- The depth that the code reads is the depth that the matches mean.
-use Rattle.std.proofs.Common.{◌≡◌, ◌∙◌, ap, sym, refl, ℕ, Bool, true, false, List, Option, Some, None, arith, ◌&&◌, ◌≤◌}
+use Rattle.std.proofs.Common.{◌≡◌, ap, refl, ℕ, Bool, true, false, List, Option, Some, None, arith, ◌&&◌, ◌≤◌}
 use Rattle.std.specs.Prelude.{Result, Ok, Err, option_and_then, codes, nat_le}
 use Rattle.std.specs.Str.Parse.{ParsesUnsigned}
 use Rattle.std.proofs.lemmas.Bool.{leb-true, le-leb}
 use Rattle.clap.specs.Matches.{ReadsOne, one_text}
 use Rattle.clap.specs.ValueTests.{is_unsigned_in}
-use Rattle.clap.specs.Words.{one_of, rows_of}
+use Rattle.clap.specs.Words.{rows_of}
 use Rattle.clap.specs.declared.parser.matches.Found.{Found}
 use Rattle.clap.specs.declared.builder.ValueParser.TheVariants as vp
 use Rattle.clap.proofs.ValueTestLemmas.{Accepts-accepts, accepts-Accepts}
-use Rattle.clap.proofs.WalkLemmas.{both, one_text-rows}
+use Rattle.clap.proofs.WalkLemmas.{both}
 use Rattle.command_line.specs.Meaning.{depth_in, depth_of, small_depth}
+use Rattle.command_line.proofs.Reading.{value_read}
 use Rattle.command_line.proofs.Simple.{not_true}
 
 module _ {E : Type 0} (G : List ℕ → Result ℕ E → Type 0) (only : (t : List ℕ) (r : Result ℕ E) → G t r → ParsesUnsigned 8 10 t r) where
@@ -46,12 +47,5 @@ module _ {E : Type 0} (G : List ℕ → Result ℕ E → Type 0) (only : (t : Li
   pub depth_read : (f : Found) (r : Option ℕ) → (one_text f (codes "depth") ≡ None → r ≡ None)
       → ((t : List ℕ) → one_text f (codes "depth") ≡ Some t → ReadsOne G t r)
       → option_and_then small_depth r ≡ depth_in (rows_of f)
-  depth_read f r none some = go (one_text f (codes "depth")) refl
-    where
-      go : (o : Option (List ℕ)) → one_text f (codes "depth") ≡ o → option_and_then small_depth r ≡ depth_in (rows_of f)
-      go None e =
-          let row : one_of (codes "depth") (rows_of f) ≡ None = sym (one_text-rows f (codes "depth")) ∙ e in
-          rw (none e, row) refl
-      go (Some t) e =
-          let row : one_of (codes "depth") (rows_of f) ≡ Some t = sym (one_text-rows f (codes "depth")) ∙ e in
-          rw row (read t r (some t e))
+  depth_read f r none some =
+      value_read depth_of (codes "depth") f (option_and_then small_depth r) (λ e. ap (option_and_then small_depth) (none e)) (λ t e. read t r (some t e))

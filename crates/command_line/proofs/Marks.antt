@@ -1,5 +1,5 @@
 -- What `rsplit_once` gives at a character of one octet.
-use Rattle.std.proofs.Common.{◌≡◌, ℕ, zero, suc, ◌+◌, ◌-◌, ◌≤◌, ◌<◌, eqb, List, length, get_or, take, drop, Option, Some, None, MatchOption, refl, sym, ap, ◌∙◌, ⊎_elim, arith, Bor, eq-eqb, ne_eqb, length-drop, get_or-drop}
+use Rattle.std.proofs.Common.{◌≡◌, ℕ, zero, suc, ◌+◌, ◌-◌, ◌≤◌, ◌<◌, List, length, get_or, take, drop, Option, Some, None, MatchOption, refl, sym, ap, ◌∙◌, ⊎_elim, arith, Bor, eq-eqb, ne_eqb, length-drop, get_or-drop}
 use Rattle.std.specs.Prelude.{option_map}
 use Rattle.std.specs.Str.Pattern.{RFindsChar}
 use Rattle.std.specs.Path.{rfind_below, rsplit_once}

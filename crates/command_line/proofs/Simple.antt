@@ -1,6 +1,6 @@
 -- The program's command is simple, and what that says of a parse.
 use Rattle.std.proofs.Common.{◌≡◌, ◌∙◌, ap, sym, refl, Bool, true, false}
-use Rattle.std.proofs.Common.{List, Option, Some, None, [], ℕ, subst, inl, inr}
+use Rattle.std.proofs.Common.{List, Option, None, [], ℕ, subst, inl, inr}
 use Rattle.clap.specs.Words.{App, HasKind, HasMatchesOf, IsAmong, fault_of, is_simple, is_simple_and_free, kind_of, subcommand_of, subcommand_rows_of, takes}
 use Rattle.clap.specs.declared.parser.matches.ArgMatches.{ArgMatches}
 use Rattle.clap.specs.declared.error.Error.{Error}

@@ -3,6 +3,7 @@ ghost use Rattle.std.specs.Prelude.{◌≡◌, ◌≤◌, IfOk, IfErr, IfSome, S
 ghost use Rattle.clap.specs.Words.{all_of, first_of, found_of, rows_of, subcommand_rows_of};
 ghost use Rattle.clap.specs.Walk.{texts};
 ghost use Rattle.command_line.specs.Meaning.{HasDepth, LacksValue, check_meant, depth_in, digest_meant, explain_meant, is_set, line_meant, meaning_of, merge_meant, migrate_meant, moment_in, run_meant, small_depth};
+ghost use Rattle.command_line.specs.declared.line.LineFault.TheVariants.{OutOfMemory};
 
 use crate::line::{Line, LineFault};
 use clap::ArgMatches;
@@ -40,6 +41,17 @@ fn values<'m, 'a>(inner: &'m ArgMatches<'a>, id: &str) -> Option<&'m [&'a str]>
     ensures { option_map (λ s. texts s.now) result ≡ all_of id.now (rows_of (found_of inner.entry.now)) }
 {
     inner.get_raw(id)
+}
+
+/// A list of these values.
+fn listed<'a>(alloc: Global, given: &[&'a str]) -> Result<Vec<&'a str>, LineFault>
+    ensures ok { IfOk result (λ list. list.items ≡ given.now) }
+    ensures fault { IfErr result (λ fault. fault ≡ OutOfMemory) }
+{
+    match Vec::from_slice(alloc, given) {
+        Ok(list) => Ok(list),
+        Err(_) => Err(LineFault::OutOfMemory),
+    }
 }
 
 /// Whether a flag is set.
@@ -85,13 +97,9 @@ fn run_from<'a>(alloc: Global, inner: &ArgMatches<'a>) -> Result<Line<'a>, LineF
     let underlay = text(inner, "underlay").ok_or(LineFault::NoValue)?;
     let out = text(inner, "out").ok_or(LineFault::NoValue)?;
     let given = values(inner, "ports").ok_or(LineFault::NoValue)?;
-    let Ok(ports) = Vec::from_slice(alloc, given) else {
-        return Err(LineFault::OutOfMemory);
-    };
+    let ports = listed(alloc, given)?;
     let asked = values(inner, "why").unwrap_or(&[]);
-    let Ok(why) = Vec::from_slice(alloc, asked) else {
-        return Err(LineFault::OutOfMemory);
-    };
+    let why = listed(alloc, asked)?;
     Ok(Line::Run {
         settings,
         changes,
@@ -117,9 +125,7 @@ fn check_from<'a>(alloc: Global, inner: &ArgMatches<'a>) -> Result<Line<'a>, Lin
     let changes = text(inner, "changes");
     let underlay = text(inner, "underlay");
     let given = values(inner, "ports").unwrap_or(&[]);
-    let Ok(ports) = Vec::from_slice(alloc, given) else {
-        return Err(LineFault::OutOfMemory);
-    };
+    let ports = listed(alloc, given)?;
     Ok(Line::Check {
         settings,
         changes,
@@ -163,9 +169,7 @@ fn digest_from<'a>(alloc: Global, inner: &ArgMatches<'a>) -> Result<Line<'a>, Li
 {
     let underlay = text(inner, "underlay").ok_or(LineFault::NoValue)?;
     let given = values(inner, "ports").ok_or(LineFault::NoValue)?;
-    let Ok(ports) = Vec::from_slice(alloc, given) else {
-        return Err(LineFault::OutOfMemory);
-    };
+    let ports = listed(alloc, given)?;
     Ok(Line::Digest { underlay, ports })
 }
 
@@ -177,9 +181,7 @@ fn merge_from<'a>(alloc: Global, inner: &ArgMatches<'a>) -> Result<Line<'a>, Lin
 {
     let out = text(inner, "out").ok_or(LineFault::NoValue)?;
     let given = values(inner, "shards").ok_or(LineFault::NoValue)?;
-    let Ok(shards) = Vec::from_slice(alloc, given) else {
-        return Err(LineFault::OutOfMemory);
-    };
+    let shards = listed(alloc, given)?;
     let tables = is_set(inner, "tables");
     let summary = is_set(inner, "summary");
     Ok(Line::Merge {

@@ -24,6 +24,10 @@ mac_text (a ∷ b) = hex_octet a ++ behind_colons b
 abbrev pub place_text : Place → List ℕ
 place_text place = decision_place true place
 
+-- the port of a number
+abbrev pub port_text : ℕ → List ℕ
+port_text port = codes "port p" ++ decimal port
+
 -- a port's state
 abbrev pub up_word : Bool → List ℕ
 up_word true = codes "up"

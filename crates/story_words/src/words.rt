@@ -1,7 +1,7 @@
 //! Words, and the values among them.
-ghost use Rattle.std.specs.Prelude.{◌≡◌, ◌++◌, OnOk, codes, decimal, string_bytes};
+ghost use Rattle.std.specs.Prelude.{◌≡◌, ◌++◌, if◌then◌else◌, OnOk, codes, decimal, string_bytes};
 ghost use Rattle.endpoint_core.specs.Text.{hex_octet};
-ghost use Rattle.story_words.specs.Words.{behind_colons, mac_text, place_text, up_word, bit_word, tunnel_word, group_word, destination_word, takes_word, tagged_word, origin_word, member_word, other_word, receiver_word, sum_word, listed_word, last_text, egress_word, stood_text};
+ghost use Rattle.story_words.specs.Words.{behind_colons, mac_text, place_text, port_text, up_word, bit_word, tunnel_word, group_word, destination_word, takes_word, tagged_word, origin_word, member_word, other_word, receiver_word, sum_word, listed_word, last_text, egress_word, stood_text};
 
 use endpoint_core::put_place;
 use filter_db::{Entry, Place};
@@ -76,12 +76,35 @@ pub fn put_name(text: &mut String, front: &str, name: &str) -> Result<(), AllocE
     text.push_str(name)
 }
 
+/// Puts a port, and whether it is up. `AllocError`: there was no room for it.
+pub fn put_up(text: &mut String, port: u8, up: bool) -> Result<(), AllocError>
+    ensures { OnOk result (string_bytes text.new ≡ string_bytes text.old ++ (port_text port ++ codes " " ++ up_word up)) }
+{
+    let word = up_word(up);
+    write!(text, "port p{port} {word}")
+}
+
+/// Puts a port, whether it is a member, and how frames leave there. `AllocError`: there was no room for it.
+pub fn put_member(text: &mut String, port: u8, egress: Option<Egress>) -> Result<(), AllocError>
+    ensures { OnOk result (string_bytes text.new ≡ string_bytes text.old ++ (port_text port ++ member_word egress)) }
+{
+    let word = member_word(egress);
+    write!(text, "port p{port}{word}")
+}
+
 /// Puts whose address, a group's or a sender's, is on the flood list or isn't. `AllocError`: there was no room for it.
 pub fn put_listed(text: &mut String, whose: &str, listed: bool) -> Result<(), AllocError>
     ensures { OnOk result (string_bytes text.new ≡ string_bytes text.old ++ (whose.now ++ listed_word listed)) }
 {
     let word = listed_word(listed);
     write!(text, "{whose}{word}")
+}
+
+/// The one word where something holds, and else the other.
+pub fn either<'a>(holds: bool, one: &'a str, other: &'a str) -> &'a str
+    ensures { result.now ≡ (if holds then one.now else other.now) }
+{
+    if holds { one } else { other }
 }
 
 /// How frames leave at a port: a word behind a space.

@@ -1,5 +1,5 @@
 -- How a change is printed: its kind, and its keys with their values, as a changes file has them. It states no standard.
-use Rattle.std.specs.Prelude.{ℕ, Bool, true, false, List, [], ◌∷◌, ◌++◌, codes, decimal, Option, Some, None}
+use Rattle.std.specs.Prelude.{ℕ, if◌then◌else◌, List, [], ◌∷◌, ◌++◌, codes, decimal, Option, Some, None}
 use Rattle.ip_udp_view.specs.declared.addr.Tunnel.{Tunnel}
 use Rattle.ip_udp_view.specs.declared.addr.Tunnel.TheVariants.{Vxlan, Geneve}
 use Rattle.vlan_ports.specs.declared.member.Egress.{Egress}
@@ -27,11 +27,6 @@ abbrev pub target_text : Target → List ℕ
 target_text (target.Local port) = codes " port " ++ decimal port
 target_text (target.Remote addr tunnel) = codes " remote " ++ addr_text addr ++ named_text tunnel
 
--- whether a segment is to learn
-abbrev pub on_word : Bool → List ℕ
-on_word true = codes " on true"
-on_word false = codes " on false"
-
 -- how frames are to leave at a port
 abbrev pub egress_name : Option Egress → List ℕ
 egress_name None = codes " egress none"
@@ -58,7 +53,7 @@ change_text (RemoveFlood vid addr tunnel) = of_vid (codes "remove_flood") vid ++
 change_text (Fix vid mac target) = of_vid (codes "fix") vid ++ codes " mac " ++ mac_text mac ++ target_text target
 change_text (Unfix vid mac) = of_vid (codes "unfix") vid ++ codes " mac " ++ mac_text mac
 change_text (SetAgeing vid seconds) = of_vid (codes "set_ageing") vid ++ codes " seconds " ++ decimal seconds
-change_text (SetLearning vid on) = of_vid (codes "set_learning") vid ++ on_word on
+change_text (SetLearning vid on) = of_vid (codes "set_learning") vid ++ (if on then codes " on true" else codes " on false")
 change_text (SetMember vid port egress) = of_vid (codes "set_member") vid ++ codes " port " ++ decimal port ++ egress_name egress
 change_text (PortUp port) = codes "port_up port " ++ decimal port
 change_text (PortDown port) = codes "port_down port " ++ decimal port

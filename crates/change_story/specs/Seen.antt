@@ -2,45 +2,15 @@
 --       segment 10
 --       port p9 of 3
 --       mac at p2 seen at 5000000000, entries 3 of at most 1024
-use Rattle.std.specs.Prelude.{ℕ, ◌/◌, Bool, true, false, List, [], ◌∷◌, ◌++◌, codes, decimal, Option, Some, None}
+use Rattle.std.specs.Prelude.{ℕ, ◌/◌, if◌then◌else◌, List, [], ◌∷◌, ◌++◌, codes, decimal, Option, Some, None}
 use Rattle.std.specs.List.{flat_map}
 use Rattle.ip_udp_view.specs.declared.addr.Tunnel.{Tunnel}
 use Rattle.filter_db.specs.declared.entry.Entry.{Entry}
-use Rattle.story_words.specs.Words.{group_word, listed_word, member_word, stood_text, tunnel_word, up_word}
+use Rattle.story_words.specs.Words.{group_word, listed_word, member_word, port_text, stood_text, tunnel_word, up_word}
 use Rattle.change_story.specs.declared.seen.Seen.{Seen}
 use Rattle.change_story.specs.declared.seen.Seen.TheVariants as seen
 
--- ---- words
-
--- that a thing isn't there
-abbrev pub no_word : Bool → List ℕ
-no_word true = []
-no_word false = codes "no "
-
--- whether somebody can have an address
-abbrev pub usable_word : Bool → List ℕ
-usable_word true = codes "addr usable"
-usable_word false = codes "addr of nobody"
-
--- whose an address is
-abbrev pub own_word : Bool → List ℕ
-own_word true = codes "addr the endpoint's own"
-own_word false = codes "addr another endpoint's"
-
--- whether there is an own address of its family
-abbrev pub family_word : Bool → List ℕ
-family_word true = codes "own address of its family"
-family_word false = codes "no own address of its family"
-
--- whether VNIs are free
-abbrev pub free_word : Bool → List ℕ
-free_word true = codes "vnis free"
-free_word false = codes "vnis taken"
-
--- whether a segment learns
-abbrev pub learning_word : Bool → List ℕ
-learning_word true = codes "learning before on"
-learning_word false = codes "learning before off"
+-- ---- values
 
 -- the tunnel that is meant
 abbrev pub tunnel_text : Option Tunnel → Option Tunnel → List ℕ
@@ -61,13 +31,13 @@ entries_text entries limit = codes "entries " ++ decimal entries ++ codes " of a
 
 -- what a check saw
 abbrev pub words : Seen → List ℕ
-words (seen.Segment vid there) = no_word there ++ codes "segment " ++ decimal vid
-words (seen.Port port ports) = codes "port p" ++ decimal port ++ codes " of " ++ decimal ports
+words (seen.Segment vid there) = (if there then [] else codes "no ") ++ codes "segment " ++ decimal vid
+words (seen.Port port ports) = port_text port ++ codes " of " ++ decimal ports
 words (seen.Tunnel named found) = tunnel_text named found
-words (seen.Usable usable) = usable_word usable
+words (seen.Usable usable) = if usable then codes "addr usable" else codes "addr of nobody"
 words (seen.AddrGroup group) = codes "addr " ++ group_word group
-words (seen.Family there) = family_word there
-words (seen.Own own) = own_word own
+words (seen.Family there) = if there then codes "own address of its family" else codes "no own address of its family"
+words (seen.Own own) = if own then codes "addr the endpoint's own" else codes "addr another endpoint's"
 words (seen.Listed listed) = codes "addr" ++ listed_word listed
 words (seen.FloodRoom remotes) = codes "flood list has " ++ decimal remotes ++ codes ", at most 16"
 words (seen.MacGroup group) = codes "mac " ++ group_word group
@@ -75,13 +45,13 @@ words (seen.Room stood entries limit) = mac_stood stood ++ codes ", " ++ entries
 words (seen.Stood stood) = mac_stood stood
 words (seen.Ageing seconds) = codes "ageing " ++ decimal seconds ++ codes ", 10 to 1000000"
 words (seen.Limit limit) = codes "limit " ++ decimal limit ++ codes ", 1 to 8192"
-words (seen.Vnis free) = free_word free
+words (seen.Vnis free) = if free then codes "vnis free" else codes "vnis taken"
 words (seen.Segments segments) = codes "segments " ++ decimal segments ++ codes ", at most 256"
 words (seen.Pool room) = codes "pool has room for " ++ decimal room
 words (seen.AgeingBefore span) = codes "ageing before " ++ decimal (span / 1000000000)
-words (seen.Learning on) = learning_word on
-words (seen.Member port egress) = codes "port p" ++ decimal port ++ member_word egress
-words (seen.Up port up) = codes "port p" ++ decimal port ++ codes " " ++ up_word up
+words (seen.Learning on) = if on then codes "learning before on" else codes "learning before off"
+words (seen.Member port egress) = port_text port ++ member_word egress
+words (seen.Up port up) = port_text port ++ codes " " ++ up_word up
 words (seen.Entries entries limit) = entries_text entries limit
 
 -- a line of its own

@@ -2,7 +2,7 @@
 ghost use Rattle.std.specs.Prelude.{◌≡◌, ◌++◌, OnOk, codes, decimal, string_bytes};
 ghost use Rattle.endpoint_core.specs.Text.{addr_text};
 ghost use Rattle.story_words.specs.Words.{mac_text, tunnel_word};
-ghost use Rattle.change_story.specs.Change.{change_line, change_text, egress_name, named_text, numbers_text, of_vid, on_word, target_text, vni_text, vnis_text};
+ghost use Rattle.change_story.specs.Change.{change_line, change_text, egress_name, named_text, numbers_text, of_vid, target_text, vni_text, vnis_text};
 
 use endpoint_core::put_addr;
 use endpoint_state::{Change, NewSegment, Target};
@@ -10,7 +10,7 @@ use frame_view::{Mac, Vid};
 use ip_udp_view::{Addr, Tunnel};
 use std::alloc::AllocError;
 use std::fmt::Write;
-use story_words::{put_hop, put_name, tunnel_word};
+use story_words::{either, put_hop, put_name, tunnel_word};
 use underlay::{SegmentTunnel, Tunnels};
 use vlan_ports::Egress;
 
@@ -39,7 +39,14 @@ fn put_asked(text: &mut String, change: Change) -> Result<(), AllocError>
         Change::SetAgeing { vid, seconds } => {
             put_number(text, "set_ageing", vid, " seconds ", seconds)
         }
-        Change::SetLearning { vid, on } => put_word(text, "set_learning", vid, on_word(on)),
+        Change::SetLearning { vid, on } => {
+            put_word(
+                text,
+                "set_learning",
+                vid,
+                either(on, " on true", " on false"),
+            )
+        }
         Change::SetMember { vid, port, egress } => put_member(text, vid, port, egress),
         Change::PortUp { port } => put_of_port(text, "port_up", port),
         Change::PortDown { port } => put_of_port(text, "port_down", port),
@@ -221,12 +228,6 @@ fn put_vni_of(text: &mut String, kind: &str, vni: u32) -> Result<(), AllocError>
     ensures { OnOk result (string_bytes text.new ≡ string_bytes text.old ++ (codes " " ++ kind.now ++ codes " vni " ++ decimal vni)) }
 {
     write!(text, " {kind} vni {vni}")
-}
-
-fn on_word(on: bool) -> &'static str
-    ensures { result.now ≡ on_word on }
-{
-    if on { " on true" } else { " on false" }
 }
 
 fn egress_name(egress: Option<Egress>) -> &'static str

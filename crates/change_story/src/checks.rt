@@ -1,11 +1,12 @@
 //! The checks of a change, in their order.
-ghost use Rattle.std.specs.Prelude.{◌≡◌, ◌≤◌, ◌+◌, ◌++◌, ◌∷◌, [], length, nat_lt, IfOk, OnOk};
+ghost use Rattle.std.specs.Prelude.{◌≡◌, ◌≤◌, ◌+◌, ◌++◌, ◌∷◌, [], is_some, length, nat_lt, IfOk, OnOk};
 ghost use Rattle.filter_db.specs.Standing.{sum_of_limits};
 ghost use Rattle.underlay.specs.Settings.{own};
 ghost use Rattle.endpoint_state.specs.Change.{is_too_much};
 ghost use Rattle.endpoint_state.specs.Held.{moment_of, settings_of, state_at};
-ghost use Rattle.endpoint_state.specs.Settings.{tables_asked};
+ghost use Rattle.endpoint_state.specs.Settings.{kind_named, tables_asked};
 ghost use Rattle.change_story.specs.Checks as specs;
+ghost use Rattle.change_story.specs.Segment.{segment_in};
 
 use crate::check::{
     Check, absent_check, ageing_check, count_check, family_check, fixed_check, flood_check,
@@ -55,25 +56,59 @@ fn put_checks(
         Change::Fix { vid, mac, target } => put_fixing(checks, alloc, state, now, vid, mac, target),
         Change::Unfix { vid, mac } => put_unfixing(checks, alloc, state, now, vid, mac),
         Change::SetAgeing { vid, seconds } => put_ageing(checks, state, vid, seconds),
-        Change::SetLearning { vid, .. } => put_segment(checks, state, vid),
+        Change::SetLearning { vid, .. } => put_segment_alone(checks, state, vid),
         Change::SetMember { vid, port, .. } => put_membership(checks, state, vid, port),
         Change::PortUp { port } => put_port(checks, state, port),
         Change::PortDown { port } => put_port(checks, state, port),
-        Change::Flush { vid } => put_segment(checks, state, vid),
+        Change::Flush { vid } => put_segment_alone(checks, state, vid),
         Change::AddSegment(new) => put_new(checks, state, &new),
-        Change::RemoveSegment { vid } => put_segment(checks, state, vid),
+        Change::RemoveSegment { vid } => put_segment_alone(checks, state, vid),
         Change::SetLimit { vid, limit } => put_limit(checks, state, vid, limit),
     }
 }
 
+/// Puts whether there is a segment, and answers the one that is there.
+fn put_segment<'s>(
+    checks: &mut Vec<Check>,
+    state: &'s EndpointState,
+    vid: Vid,
+) -> Result<Option<Segment<'s>>, AllocError>
+    ensures checks { OnOk result (checks.new.items
+        ≡ checks.old.items ++ specs.segment_check vid (is_some (segment_in (settings_of state.now) vid)) ∷ []) }
+    ensures segment { IfOk result (λ segment. segment ≡ segment_in (settings_of state.now) vid) }
+{
+    let segment = segment_in(state, vid);
+    put(checks, segment_check(vid, segment.is_some()))?;
+    Ok(segment)
+}
+
 /// Whether there is a segment, and nothing else.
-fn put_segment(checks: &mut Vec<Check>, state: &EndpointState, vid: Vid) -> Result<(), AllocError>
+fn put_segment_alone(
+    checks: &mut Vec<Check>,
+    state: &EndpointState,
+    vid: Vid,
+) -> Result<(), AllocError>
     ensures { OnOk result (checks.new.items ≡ checks.old.items ++ specs.in_segment (settings_of state.now) vid (λ g. [])) }
 {
     match segment_in(state, vid) {
         None => put(checks, segment_check(vid, false)),
         Some(_) => put(checks, segment_check(vid, true)),
     }
+}
+
+/// Puts whether there is the tunnel that is named, or a first one where none is, and answers the kind of one that is there.
+fn put_tunnel(
+    checks: &mut Vec<Check>,
+    tunnels: &Tunnels,
+    named: Option<Tunnel>,
+) -> Result<Option<Tunnel>, AllocError>
+    ensures checks { OnOk result (checks.new.items
+        ≡ checks.old.items ++ specs.tunnel_check named (kind_named tunnels.now named) ∷ []) }
+    ensures kind { IfOk result (λ kind. kind ≡ kind_named tunnels.now named) }
+{
+    let kind = kind_of(tunnels, named);
+    put(checks, tunnel_check(named, kind))?;
+    Ok(kind)
 }
 
 /// Whether there is a port.
@@ -94,12 +129,9 @@ fn put_membership(
     ensures { let S = settings_of state.now in
         OnOk result (checks.new.items ≡ checks.old.items ++ specs.in_segment S vid (λ g. specs.port_check (length S.ports.ports) port ∷ [])) }
 {
-    match segment_in(state, vid) {
-        None => put(checks, segment_check(vid, false)),
-        Some(_) => {
-            let port = port_check(state.ports().ports(), port);
-            put_all(checks, &[segment_check(vid, true), port])
-        }
+    match put_segment(checks, state, vid)? {
+        None => Ok(()),
+        Some(_) => put_port(checks, state, port),
     }
 }
 
@@ -113,9 +145,9 @@ fn put_ageing(
     ensures { OnOk result (checks.new.items
         ≡ checks.old.items ++ specs.in_segment (settings_of state.now) vid (λ g. specs.ageing_check seconds ∷ [])) }
 {
-    match segment_in(state, vid) {
-        None => put(checks, segment_check(vid, false)),
-        Some(_) => { put_all(checks, &[segment_check(vid, true), ageing_check(seconds)]) }
+    match put_segment(checks, state, vid)? {
+        None => Ok(()),
+        Some(_) => put(checks, ageing_check(seconds)),
     }
 }
 
@@ -131,38 +163,18 @@ fn put_adding(
         OnOk result (checks.new.items
         ≡ checks.old.items ++ specs.in_segment S vid (λ g. specs.at_tunnel g.tunnels tunnel (specs.flood_checks (own S.overlay.underlay) g.flood addr))) }
 {
-    match segment_in(state, vid) {
-        None => put(checks, segment_check(vid, false)),
-        Some(segment) => {
-            put(checks, segment_check(vid, true))?;
-            let own = state.under().own();
-            put_adding_in(checks, &segment.tunnels, tunnel, &own, segment.flood, addr)
-        }
-    }
+    let Some(segment) = put_segment(checks, state, vid)? else {
+        return Ok(());
+    };
+    let Some(kind) = put_tunnel(checks, &segment.tunnels, tunnel)? else {
+        return Ok(());
+    };
+    let own = state.under().own();
+    put_flooding(checks, &own, segment.flood, addr, kind)
 }
 
-/// The same in a segment: the tunnel, and the address.
-fn put_adding_in(
-    checks: &mut Vec<Check>,
-    tunnels: &Tunnels,
-    tunnel: Option<Tunnel>,
-    own: &Own,
-    flood: &FloodList,
-    addr: Addr,
-) -> Result<(), AllocError>
-    ensures { OnOk result (checks.new.items
-        ≡ checks.old.items ++ specs.at_tunnel tunnels.now tunnel (specs.flood_checks own.now flood.now addr)) }
-{
-    let found = kind_of(tunnels, tunnel);
-    put(checks, tunnel_check(tunnel, found))?;
-    match found {
-        None => Ok(()),
-        Some(kind) => put_adding_by(checks, own, flood, addr, kind),
-    }
-}
-
-/// The same at a tunnel of this kind.
-fn put_adding_by(
+/// Of the address of a remote endpoint that is to come onto a flood list, at a tunnel of this kind.
+fn put_flooding(
     checks: &mut Vec<Check>,
     own: &Own,
     flood: &FloodList,
@@ -194,32 +206,13 @@ fn put_leaving(
     ensures { OnOk result (checks.new.items
         ≡ checks.old.items ++ specs.in_segment (settings_of state.now) vid (λ g. specs.at_tunnel g.tunnels tunnel (specs.leaving_checks g.flood addr))) }
 {
-    match segment_in(state, vid) {
-        None => put(checks, segment_check(vid, false)),
-        Some(segment) => {
-            put(checks, segment_check(vid, true))?;
-            put_leaving_in(checks, &segment.tunnels, tunnel, segment.flood, addr)
-        }
-    }
-}
-
-/// The same in a segment: the tunnel, and the flood list.
-fn put_leaving_in(
-    checks: &mut Vec<Check>,
-    tunnels: &Tunnels,
-    tunnel: Option<Tunnel>,
-    flood: &FloodList,
-    addr: Addr,
-) -> Result<(), AllocError>
-    ensures { OnOk result (checks.new.items
-        ≡ checks.old.items ++ specs.at_tunnel tunnels.now tunnel (specs.leaving_checks flood.now addr)) }
-{
-    let found = kind_of(tunnels, tunnel);
-    put(checks, tunnel_check(tunnel, found))?;
-    match found {
-        None => Ok(()),
-        Some(kind) => put(checks, listed_check(flood.holds(kind, addr))),
-    }
+    let Some(segment) = put_segment(checks, state, vid)? else {
+        return Ok(());
+    };
+    let Some(kind) = put_tunnel(checks, &segment.tunnels, tunnel)? else {
+        return Ok(());
+    };
+    put(checks, listed_check(segment.flood.holds(kind, addr)))
 }
 
 /// Of a fixed entry that is to come.
@@ -237,10 +230,10 @@ fn put_fixing(
         OnOk result (checks.new.items
         ≡ checks.old.items ++ specs.in_segment B.settings vid (specs.fix_checks B.settings mac target (B.tables vid))) }
 {
-    match segment_in(state, vid) {
-        None => put(checks, segment_check(vid, false)),
+    match put_segment(checks, state, vid)? {
+        None => Ok(()),
         Some(segment) => {
-            put_all(checks, &[segment_check(vid, true), mac_check(mac)])?;
+            put(checks, mac_check(mac))?;
             put_target(checks, state, &segment, target)?;
             let room = entry_room(alloc, state, now, vid, mac, segment.limit)?;
             put(checks, room)
@@ -295,9 +288,7 @@ fn put_remote(
     ensures { OnOk result (checks.new.items
         ≡ checks.old.items ++ specs.at_tunnel tunnels.now tunnel (specs.remote_checks own.now addr)) }
 {
-    let found = kind_of(tunnels, tunnel);
-    put(checks, tunnel_check(tunnel, found))?;
-    match found {
+    match put_tunnel(checks, tunnels, tunnel)? {
         None => Ok(()),
         Some(_) => put_all(
             checks,
@@ -325,11 +316,11 @@ fn put_unfixing(
         OnOk result (checks.new.items
         ≡ checks.old.items ++ specs.in_segment B.settings vid (λ g. specs.fixed_check mac (B.tables vid) ∷ [])) }
 {
-    match segment_in(state, vid) {
-        None => put(checks, segment_check(vid, false)),
+    match put_segment(checks, state, vid)? {
+        None => Ok(()),
         Some(_) => {
             let stood = state.entry(alloc, vid, mac, now)?;
-            put_all(checks, &[segment_check(vid, true), fixed_check(stood)])
+            put(checks, fixed_check(stood))
         }
     }
 }
@@ -365,17 +356,11 @@ fn put_limit(
     ensures { let S = settings_of state.now in
         OnOk result (checks.new.items ≡ checks.old.items ++ specs.in_segment S vid (specs.limit_checks S limit)) }
 {
-    match segment_in(state, vid) {
-        None => put(checks, segment_check(vid, false)),
+    match put_segment(checks, state, vid)? {
+        None => Ok(()),
         Some(segment) => {
-            put_all(
-                checks,
-                &[
-                    segment_check(vid, true),
-                    limit_check(limit),
-                    room_with(state, segment.limit, limit),
-                ],
-            )
+            let room = room_with(state, segment.limit, limit);
+            put_all(checks, &[limit_check(limit), room])
         }
     }
 }

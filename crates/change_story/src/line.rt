@@ -1,7 +1,6 @@
 //! What checks saw, as lines.
-ghost use Rattle.std.specs.Prelude.{◌≡◌, ◌/◌, ◌++◌, None, OnOk, codes, decimal, string_bytes};
-ghost use Rattle.story_words.specs.Words.{member_word, up_word};
-ghost use Rattle.change_story.specs.Seen.{entries_text, family_word, free_word, learning_word, mac_stood, no_word, own_word, seen_line, seen_text, tunnel_text, usable_word, words};
+ghost use Rattle.std.specs.Prelude.{◌≡◌, ◌/◌, ◌++◌, if◌then◌else◌, [], None, OnOk, codes, decimal, string_bytes};
+ghost use Rattle.change_story.specs.Seen.{entries_text, mac_stood, seen_line, seen_text, tunnel_text, words};
 ghost use Rattle.change_story.specs.Checks.{told};
 
 use crate::check::Check;
@@ -10,8 +9,9 @@ use filter_db::Entry;
 use ip_udp_view::Tunnel;
 use std::alloc::AllocError;
 use std::fmt::Write;
-use story_words::{group_word, member_word, put_listed, put_name, put_stood, tunnel_word, up_word};
-use vlan_ports::Egress;
+use story_words::{
+    either, group_word, put_listed, put_member, put_name, put_stood, put_up, tunnel_word,
+};
 
 /// Puts the lines of what checks saw, up to the one that refuses. `AllocError`: there was no room for them.
 pub(crate) fn put_told(text: &mut String, checks: &[Check]) -> Result<(), AllocError>
@@ -43,10 +43,18 @@ fn put_words(text: &mut String, seen: Seen) -> Result<(), AllocError>
         Seen::Segment { vid, there } => put_segment(text, vid, there),
         Seen::Port { port, ports } => put_port(text, port, ports),
         Seen::Tunnel { named, found } => put_tunnel(text, named, found),
-        Seen::Usable { usable } => text.push_str(usable_word(usable)),
+        Seen::Usable { usable } => text.push_str(either(usable, "addr usable", "addr of nobody")),
         Seen::AddrGroup { group } => put_name(text, "addr ", group_word(group)),
-        Seen::Family { there } => text.push_str(family_word(there)),
-        Seen::Own { own } => text.push_str(own_word(own)),
+        Seen::Family { there } => text.push_str(either(
+            there,
+            "own address of its family",
+            "no own address of its family",
+        )),
+        Seen::Own { own } => text.push_str(either(
+            own,
+            "addr the endpoint's own",
+            "addr another endpoint's",
+        )),
         Seen::Listed { listed } => put_listed(text, "addr", listed),
         Seen::FloodRoom { remotes } => {
             put_number(text, "flood list has ", remotes as u64, ", at most 16")
@@ -62,13 +70,15 @@ fn put_words(text: &mut String, seen: Seen) -> Result<(), AllocError>
             put_number(text, "ageing ", u64::from(seconds), ", 10 to 1000000")
         }
         Seen::Limit { limit } => put_number(text, "limit ", u64::from(limit), ", 1 to 8192"),
-        Seen::Vnis { free } => text.push_str(free_word(free)),
+        Seen::Vnis { free } => text.push_str(either(free, "vnis free", "vnis taken")),
         Seen::Segments { segments } => {
             put_number(text, "segments ", u64::from(segments), ", at most 256")
         }
         Seen::Pool { room } => put_pool(text, room),
         Seen::AgeingBefore { span } => put_ageing(text, span),
-        Seen::Learning { on } => text.push_str(learning_word(on)),
+        Seen::Learning { on } => {
+            text.push_str(either(on, "learning before on", "learning before off"))
+        }
         Seen::Member { port, egress } => put_member(text, port, egress),
         Seen::Up { port, up } => put_up(text, port, up),
         Seen::Entries { entries, limit } => put_entries(text, entries, limit),
@@ -96,9 +106,9 @@ fn put_pool(text: &mut String, room: u64) -> Result<(), AllocError>
 }
 
 fn put_segment(text: &mut String, vid: u16, there: bool) -> Result<(), AllocError>
-    ensures { OnOk result (string_bytes text.new ≡ string_bytes text.old ++ (no_word there ++ codes "segment " ++ decimal vid)) }
+    ensures { OnOk result (string_bytes text.new ≡ string_bytes text.old ++ ((if there then [] else codes "no ") ++ codes "segment " ++ decimal vid)) }
 {
-    let no = no_word(there);
+    let no = either(there, "", "no ");
     write!(text, "{no}segment {vid}")
 }
 
@@ -161,71 +171,4 @@ fn put_ageing(text: &mut String, span: u64) -> Result<(), AllocError>
 {
     let seconds = span / 1_000_000_000;
     write!(text, "ageing before {seconds}")
-}
-
-fn put_member(text: &mut String, port: u8, egress: Option<Egress>) -> Result<(), AllocError>
-    ensures { OnOk result (string_bytes text.new ≡ string_bytes text.old ++ (codes "port p" ++ decimal port ++ member_word egress)) }
-{
-    let word = member_word(egress);
-    write!(text, "port p{port}{word}")
-}
-
-fn put_up(text: &mut String, port: u8, up: bool) -> Result<(), AllocError>
-    ensures { OnOk result (string_bytes text.new ≡ string_bytes text.old ++ (codes "port p" ++ decimal port ++ codes " " ++ up_word up)) }
-{
-    let word = up_word(up);
-    write!(text, "port p{port} {word}")
-}
-
-/// That a thing isn't there.
-fn no_word(there: bool) -> &'static str
-    ensures { result.now ≡ no_word there }
-{
-    if there { "" } else { "no " }
-}
-
-fn usable_word(usable: bool) -> &'static str
-    ensures { result.now ≡ usable_word usable }
-{
-    if usable {
-        "addr usable"
-    } else {
-        "addr of nobody"
-    }
-}
-
-fn own_word(own: bool) -> &'static str
-    ensures { result.now ≡ own_word own }
-{
-    if own {
-        "addr the endpoint's own"
-    } else {
-        "addr another endpoint's"
-    }
-}
-
-fn family_word(there: bool) -> &'static str
-    ensures { result.now ≡ family_word there }
-{
-    if there {
-        "own address of its family"
-    } else {
-        "no own address of its family"
-    }
-}
-
-fn free_word(free: bool) -> &'static str
-    ensures { result.now ≡ free_word free }
-{
-    if free { "vnis free" } else { "vnis taken" }
-}
-
-fn learning_word(on: bool) -> &'static str
-    ensures { result.now ≡ learning_word on }
-{
-    if on {
-        "learning before on"
-    } else {
-        "learning before off"
-    }
 }

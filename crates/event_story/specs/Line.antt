@@ -2,7 +2,7 @@
 --       ether 02:00:00:00:00:01 > 02:00:00:00:00:02
 --       port p1 up
 --       source learned at p2, before at p1 seen at 5000000000
-use Rattle.std.specs.Prelude.{ℕ, List, [], ◌∷◌, ◌++◌, codes, decimal, Option, Some, None}
+use Rattle.std.specs.Prelude.{ℕ, if◌then◌else◌, List, [], ◌∷◌, ◌++◌, codes, decimal, Option, Some, None}
 use Rattle.std.specs.List.{flat_map}
 use Rattle.frame_view.specs.Reason.{name_of}
 use Rattle.frame_view.specs.declared.reason.Reason.{Reason}
@@ -11,7 +11,7 @@ use Rattle.filter_db.specs.declared.entry.Entry.{Entry}
 use Rattle.filter_db.specs.declared.place.Place.{Place}
 use Rattle.filter_db.specs.declared.place.Place.TheVariants.{Remote}
 use Rattle.endpoint_core.specs.Text.{addr_text}
-use Rattle.story_words.specs.Words.{mac_text, place_text, up_word, bit_word, tunnel_word, group_word, destination_word, takes_word, tagged_word, origin_word, member_word, egress_word, other_word, receiver_word, sum_word, listed_word, stood_text}
+use Rattle.story_words.specs.Words.{mac_text, place_text, port_text, up_word, tunnel_word, group_word, destination_word, origin_word, member_word, egress_word, receiver_word, sum_word, listed_word, stood_text}
 use Rattle.event_story.specs.declared.fact.Fact.{Fact}
 use Rattle.event_story.specs.declared.fact.Fact.TheVariants as facts
 
@@ -36,10 +36,6 @@ unsent_text (Some reason) = codes ", not sent " ++ name_of reason
 abbrev pub length_text : ℕ → ℕ → List ℕ
 length_text packet mtu = codes ", packet " ++ decimal packet ++ codes " of at most " ++ decimal mtu
 
--- the port of a number
-abbrev pub port_text : ℕ → List ℕ
-port_text port = codes "port p" ++ decimal port
-
 -- the kind of tunnels at a port
 abbrev pub tunnel_port_text : Option Tunnel → List ℕ
 tunnel_port_text None = codes "port of no tunnel"
@@ -56,11 +52,12 @@ words (facts.Ether source destination) = codes "ether " ++ mac_text source ++ co
 words (facts.Source group) = codes "source " ++ group_word group
 words (facts.Destination group reserved) = codes "destination " ++ destination_word group reserved
 words (facts.Port port up) = port_text port ++ codes " " ++ up_word up
-words (facts.Tag vid pcp dei) = codes "tag vid " ++ decimal vid ++ codes " pcp " ++ decimal pcp ++ codes " dei " ++ bit_word dei
+words (facts.Tag vid pcp dei) = codes "tag vid " ++ decimal vid ++ codes " pcp " ++ decimal pcp ++ codes " dei " ++ (if dei then codes "1" else codes "0")
 words facts.NoTag = codes "no tag"
 words facts.CutTag = codes "tag cut short"
 words facts.ReservedVid = codes "vid 4095 reserved"
-words (facts.Accepts port tagged taken) = port_text port ++ takes_word taken ++ tagged_word tagged
+words (facts.Accepts port tagged taken) =
+    port_text port ++ (if taken then codes " takes " else codes " refuses ") ++ (if tagged then codes "frames with a vid" else codes "frames without a vid")
 words (facts.Segment vid by_tag) = codes "segment " ++ decimal vid ++ codes " by the vid of " ++ origin_word by_tag
 words (facts.NoSegment vid by_tag) = codes "no segment " ++ decimal vid ++ codes " by the vid of " ++ origin_word by_tag
 words (facts.Member port egress) = port_text port ++ member_word egress
@@ -68,7 +65,7 @@ words facts.NotIp = codes "neither ip4 nor ip6"
 words facts.BadIp = codes "ip header cut, or a length wrong"
 words facts.BadIpSum = codes "ip4 header checksum wrong"
 words (facts.Ip source destination) = codes "ip " ++ addr_text source ++ codes " > " ++ addr_text destination
-words (facts.Sender other) = other_word other
+words (facts.Sender other) = if other then codes "sender another endpoint" else codes "sender no other endpoint"
 words (facts.Receiver group own) = receiver_word group own
 words facts.Fragment = codes "fragment"
 words (facts.Protocol number) = codes "protocol " ++ decimal number

@@ -15,6 +15,7 @@ mod line;
 mod local;
 mod outlets;
 mod packet;
+mod phrase;
 mod reading;
 mod refusal;
 mod story;

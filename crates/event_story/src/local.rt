@@ -11,8 +11,8 @@ use frame_view::{Reason, Refused, Vid};
 use std::alloc::AllocError;
 use vlan_ports::PortSet;
 
-/// Puts what each test saw of octets at a local port, which came so to a segment or to none, behind some facts. The port
-/// is 1 to [`PortSet::ports`]. `AllocError`: there was no room for them.
+/// Puts what each test saw of octets at a local port, up to the one that refuses, behind some facts. The octets came so to a
+/// segment or to none. The port is 1 to [`PortSet::ports`]. `AllocError`: there was no room for them.
 pub(crate) fn put_local_facts(
     facts: &mut Vec<Fact>,
     ports: &PortSet,

@@ -16,8 +16,8 @@ use frame_view::{Reason, Refused, Vid};
 use std::alloc::AllocError;
 use underlay::{PeerRule, Under};
 
-/// Puts what each test saw of a packet of the underlay, which came so to a segment or to none, behind some facts.
-/// `AllocError`: there was no room for them.
+/// Puts what each test saw of a packet of the underlay, up to the one that refuses, behind some facts. The packet came so to a
+/// segment or to none. `AllocError`: there was no room for them.
 pub(crate) fn put_packet_facts(
     facts: &mut Vec<Fact>,
     under: &Under,

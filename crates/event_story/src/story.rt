@@ -1,5 +1,5 @@
 //! The story of an event.
-ghost use Rattle.std.specs.Prelude.{◌≡◌, ◌≤◌, ◌++◌, length, IfOk, OnOk, IsSome, Ok};
+ghost use Rattle.std.specs.Prelude.{◌≡◌, ◌≤◌, ◌++◌, length, IfOk, OnOk, IsSome};
 ghost use Rattle.endpoint_state.specs.Held.{settings_of, state_at, moment_of};
 ghost use Rattle.endpoint_state.specs.Settings.{segment_at};
 ghost use Rattle.endpoint_state.specs.State.{aged};
@@ -41,23 +41,14 @@ pub fn story_of_event(
     }
     match &event.happening {
         Happening::Change(_) => Ok(Vec::new(alloc)),
-        Happening::Record(Tap::Port(port), captured) => frame_story(
-            alloc,
-            endpoint,
-            number,
-            event,
-            *port,
-            captured.original,
-            captured.octets,
-        ),
-        Happening::Record(Tap::Underlay, captured) => packet_story(
-            alloc,
-            endpoint,
-            number,
-            event,
-            captured.original,
-            captured.octets,
-        ),
+        Happening::Record(Tap::Port(port), captured) => {
+            let (original, octets) = (captured.original, captured.octets);
+            frame_story(alloc, endpoint, number, event, *port, original, octets)
+        }
+        Happening::Record(Tap::Underlay, captured) => {
+            let (original, octets) = (captured.original, captured.octets);
+            packet_story(alloc, endpoint, number, event, original, octets)
+        }
     }
 }
 
@@ -114,15 +105,12 @@ fn frame_story(
     ensures { let s = state_of endpoint.now in let t = event.now.moment in
         IfOk result (λ text. text.items ≡ told number event.now (frame_facts t s.bridges (aged t s.bridges) port original octets.now) (answer s (frame_at t port original octets.now))) }
 {
-    let now = event.moment;
-    let left = endpoint.now();
-    let state = endpoint.state();
     let came = endpoint.frame_from(port, original, octets);
-    let decision = endpoint.foresee_frame(alloc, now, port, original, octets)?;
+    let decision = endpoint.foresee_frame(alloc, event.moment, port, original, octets)?;
+    let ports = endpoint.state().ports();
     let mut facts = Vec::new(alloc);
-    put_local_facts(&mut facts, state.ports(), port, original, octets, &came)?;
-    put_came_facts(&mut facts, alloc, state, left, now, &came, &decision)?;
-    let text = told(alloc, number, event, &facts, &decision)?;
+    put_local_facts(&mut facts, ports, port, original, octets, &came)?;
+    let text = came_story(alloc, endpoint, number, event, facts, &came, &decision)?;
     Ok(text)
 }
 
@@ -139,15 +127,34 @@ fn packet_story(
     ensures { let s = state_of endpoint.now in let t = event.now.moment in
         IfOk result (λ text. text.items ≡ told number event.now (arrival_facts t s.bridges (aged t s.bridges) original octets.now) (answer s (packet_at t original octets.now))) }
 {
-    let now = event.moment;
+    let came = endpoint.frame_in(original, octets);
+    let decision = endpoint.foresee_packet(alloc, event.moment, original, octets)?;
+    let under = endpoint.state().under();
+    let mut facts = Vec::new(alloc);
+    put_packet_facts(&mut facts, under, original, octets, &came)?;
+    let text = came_story(alloc, endpoint, number, event, facts, &came, &decision)?;
+    Ok(text)
+}
+
+/// The story of what came so to a segment or to none, and of which this is decided, behind the facts of how it came.
+fn came_story(
+    alloc: Global,
+    endpoint: &Endpoint,
+    number: u64,
+    event: &Event,
+    mut facts: Vec<Fact>,
+    came: &Result<Came, Refused>,
+    decision: &Decision,
+) -> Result<Vec<u8>, AllocError>
+    requires time { (state_of endpoint.now).moment ≤ event.now.moment }
+    requires there { IfOk came.now (λ x. IsSome (segment_at (state_of endpoint.now).bridges.settings x.vid)) }
+    ensures { let s = state_of endpoint.now in let t = event.now.moment in let d = octets_of decision.now in
+        IfOk result (λ text. text.items ≡ told number event.now (facts.items ++ came_facts t s.bridges (aged t s.bridges) came.now d) (Decided d)) }
+{
     let left = endpoint.now();
     let state = endpoint.state();
-    let came = endpoint.frame_in(original, octets);
-    let decision = endpoint.foresee_packet(alloc, now, original, octets)?;
-    let mut facts = Vec::new(alloc);
-    put_packet_facts(&mut facts, state.under(), original, octets, &came)?;
-    put_came_facts(&mut facts, alloc, state, left, now, &came, &decision)?;
-    let text = told(alloc, number, event, &facts, &decision)?;
+    put_came_facts(&mut facts, alloc, state, left, event.moment, came, decision)?;
+    let text = told(alloc, number, event, &facts, decision)?;
     Ok(text)
 }
 
@@ -168,34 +175,13 @@ fn put_came_facts(
     ensures { OnOk result (facts.new.items ≡ facts.old.items ++ came_facts now (state_at left state.now) (state_at now state.now) came.now (octets_of decision.now)) }
 {
     match came {
-        Ok(came) => put_course_facts(facts, alloc, state, left, now, came, decision),
+        Ok(came) => {
+            put_bridge_facts(facts, alloc, state, left, now, came, decision.dropped())?;
+            let (segment, frame) = (came.segment(), came.frame());
+            put_outlet_facts(facts, state, segment, frame, decision.outcomes())
+        }
         Err(_) => Ok(()),
     }
-}
-
-/// The same of a frame that comes to a segment.
-fn put_course_facts(
-    facts: &mut Vec<Fact>,
-    alloc: Global,
-    state: &EndpointState,
-    left: u64,
-    now: u64,
-    came: &Came,
-    decision: &Decision,
-) -> Result<(), AllocError>
-    requires left { moment_of state.now ≤ left }
-    requires time { moment_of state.now ≤ now }
-    requires there { IsSome (segment_at (settings_of state.now) came.now.vid) }
-    ensures { OnOk result (facts.new.items ≡ facts.old.items ++ came_facts now (state_at left state.now) (state_at now state.now) (Ok came.now) (octets_of decision.now)) }
-{
-    put_bridge_facts(facts, alloc, state, left, now, came, decision.dropped())?;
-    put_outlet_facts(
-        facts,
-        state,
-        came.segment(),
-        came.frame(),
-        decision.outcomes(),
-    )
 }
 
 /// The lines of facts, and the decision line.

@@ -33,11 +33,6 @@ abbrev pub up_word : Bool → List ℕ
 up_word true = codes "up"
 up_word false = codes "down"
 
--- a bit
-abbrev pub bit_word : Bool → List ℕ
-bit_word true = codes "1"
-bit_word false = codes "0"
-
 -- a kind of tunnel
 abbrev pub tunnel_word : Tunnel → List ℕ
 tunnel_word Vxlan = codes "vxlan"
@@ -52,16 +47,6 @@ group_word false = codes "individual"
 abbrev pub destination_word : Bool → Bool → List ℕ
 destination_word group true = codes "reserved"
 destination_word group false = group_word group
-
--- whether frames are taken
-abbrev pub takes_word : Bool → List ℕ
-takes_word true = codes " takes "
-takes_word false = codes " refuses "
-
--- which frames
-abbrev pub tagged_word : Bool → List ℕ
-tagged_word true = codes "frames with a vid"
-tagged_word false = codes "frames without a vid"
 
 -- where a VID comes from
 abbrev pub origin_word : Bool → List ℕ
@@ -79,11 +64,6 @@ abbrev pub egress_word : Option Egress → List ℕ
 egress_word None = codes " no member"
 egress_word (Some Tagged) = codes " tagged"
 egress_word (Some Untagged) = codes " untagged"
-
--- of an outer source whether it is another endpoint's
-abbrev pub other_word : Bool → List ℕ
-other_word true = codes "sender another endpoint"
-other_word false = codes "sender no other endpoint"
 
 -- whose an outer destination is
 abbrev pub receiver_word : Bool → Bool → List ℕ

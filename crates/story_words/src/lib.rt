@@ -9,8 +9,7 @@ mod words;
 
 pub use front::put_line_front;
 pub use words::{
-    bit_word, destination_word, egress_word, either, group_word, listed_word, member_word,
-    origin_word, other_word, put_at, put_behind_place, put_hop, put_listed, put_mac, put_member,
-    put_name, put_stood, put_up, receiver_word, sum_word, tagged_word, takes_word, tunnel_word,
-    up_word,
+    destination_word, egress_word, either, group_word, listed_word, member_word, origin_word,
+    put_at, put_behind_place, put_hop, put_listed, put_mac, put_member, put_name, put_stood,
+    put_up, receiver_word, sum_word, tunnel_word, up_word,
 };

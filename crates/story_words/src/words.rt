@@ -1,7 +1,7 @@
 //! Words, and the values among them.
 ghost use Rattle.std.specs.Prelude.{◌≡◌, ◌++◌, if◌then◌else◌, OnOk, codes, decimal, string_bytes};
 ghost use Rattle.endpoint_core.specs.Text.{hex_octet};
-ghost use Rattle.story_words.specs.Words.{behind_colons, mac_text, place_text, port_text, up_word, bit_word, tunnel_word, group_word, destination_word, takes_word, tagged_word, origin_word, member_word, other_word, receiver_word, sum_word, listed_word, last_text, egress_word, stood_text};
+ghost use Rattle.story_words.specs.Words.{behind_colons, mac_text, place_text, port_text, up_word, tunnel_word, group_word, destination_word, origin_word, member_word, receiver_word, sum_word, listed_word, last_text, egress_word, stood_text};
 
 use endpoint_core::put_place;
 use filter_db::{Entry, Place};
@@ -125,13 +125,6 @@ pub fn up_word(up: bool) -> &'static str
     if up { "up" } else { "down" }
 }
 
-/// A bit as a digit.
-pub fn bit_word(bit: bool) -> &'static str
-    ensures { result.now ≡ bit_word bit }
-{
-    if bit { "1" } else { "0" }
-}
-
 /// The name of a kind of tunnel.
 pub fn tunnel_word(kind: Tunnel) -> &'static str
     ensures { result.now ≡ tunnel_word kind }
@@ -160,24 +153,6 @@ pub fn destination_word(group: bool, reserved: bool) -> &'static str
     }
 }
 
-/// Whether frames are taken: a word between spaces.
-pub fn takes_word(taken: bool) -> &'static str
-    ensures { result.now ≡ takes_word taken }
-{
-    if taken { " takes " } else { " refuses " }
-}
-
-/// Which frames: those with a VID in their tag, or those with none.
-pub fn tagged_word(tagged: bool) -> &'static str
-    ensures { result.now ≡ tagged_word tagged }
-{
-    if tagged {
-        "frames with a vid"
-    } else {
-        "frames without a vid"
-    }
-}
-
 /// Where a VID comes from: the tag, or the port.
 pub fn origin_word(by_tag: bool) -> &'static str
     ensures { result.now ≡ origin_word by_tag }
@@ -193,17 +168,6 @@ pub fn member_word(egress: Option<Egress>) -> &'static str
         None => " no member",
         Some(Egress::Tagged) => " member, tagged",
         Some(Egress::Untagged) => " member, untagged",
-    }
-}
-
-/// Whether an outer source is another endpoint's.
-pub fn other_word(other: bool) -> &'static str
-    ensures { result.now ≡ other_word other }
-{
-    if other {
-        "sender another endpoint"
-    } else {
-        "sender no other endpoint"
     }
 }
 

@@ -5,8 +5,4 @@
 #![tactic(auto)]
 
 #[cfg(test)]
-mod kind_tests;
-#[cfg(test)]
-mod peek_tests;
-#[cfg(test)]
-mod survey_tests;
+mod tests;

@@ -7,8 +7,4 @@
 #![tactic(auto)]
 
 #[cfg(test)]
-mod command_line_tests;
-#[cfg(test)]
-mod decision_lines_tests;
-#[cfg(test)]
-mod dissector_tests;
+mod tests;

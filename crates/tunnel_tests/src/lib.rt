@@ -6,10 +6,4 @@
 #![tactic(auto)]
 
 #[cfg(test)]
-mod emission_tests;
-#[cfg(test)]
-mod layer_values_tests;
-#[cfg(test)]
-mod packets;
-#[cfg(test)]
-mod underlay_tests;
+mod tests;

@@ -17,16 +17,4 @@
 #![tactic(auto)]
 
 #[cfg(test)]
-mod addr_tests;
-#[cfg(test)]
-mod checks;
-#[cfg(test)]
-mod frame_view_tests;
-#[cfg(test)]
-mod geneve_head_tests;
-#[cfg(test)]
-mod header_sums_tests;
-#[cfg(test)]
-mod ip_udp_view_tests;
-#[cfg(test)]
-mod vxlan_head_tests;
+mod tests;

@@ -1,5 +1,5 @@
 //! Groups, and addresses that nobody has.
-use crate::checks::check;
+use crate::tests::checks::check;
 use frame_view::Mac;
 use ip_udp_view::Addr;
 

@@ -1,4 +1,4 @@
-use crate::checks::check;
+use crate::tests::checks::check;
 use frame_view::Reason;
 use geneve_head::{GnFault, GnOption, GnView, Known, KnownFull, gn_head};
 use std::alloc::{AllocError, Global};

@@ -1,4 +1,4 @@
-use crate::checks::check;
+use crate::tests::checks::check;
 use ip_udp_view::{Addr, BadUdp, Ip4View, Ip6View, IpFault, SumState, UdpView};
 use std::alloc::{AllocError, Global};
 use std::test::Fail;

@@ -1,4 +1,4 @@
-use crate::checks::check;
+use crate::tests::checks::check;
 use frame_view::{EtherView, Mac, Reason, Tagging, Tci, Vid};
 use std::process::Abort;
 

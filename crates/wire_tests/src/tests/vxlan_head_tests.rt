@@ -1,4 +1,4 @@
-use crate::checks::check;
+use crate::tests::checks::check;
 use frame_view::Reason;
 use std::alloc::{AllocError, Global};
 use std::test::Fail;

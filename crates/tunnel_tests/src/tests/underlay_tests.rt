@@ -2,7 +2,7 @@
 ghost use Rattle.std.specs.Prelude.{◌≡◌, ◌≤◌, ◌<◌, ◌+◌, [], ◌∷◌};
 ghost use Rattle.std.specs.FinMap.{len};
 
-use crate::packets::{NEXT_HOP, host4, host6, octets6, tunnel, underlay};
+use crate::tests::packets::{NEXT_HOP, host4, host6, octets6, tunnel, underlay};
 use flood_lists::{FloodFault, FloodList, NotThere, Own};
 use frame_view::{Mac, Vid};
 use ip_udp_view::{Addr, Tunnel};

@@ -1,0 +1,3 @@
+mod kind_tests;
+mod peek_tests;
+mod survey_tests;

@@ -5,20 +5,4 @@
 #![tactic(auto)]
 
 #[cfg(test)]
-mod block_tests;
-#[cfg(test)]
-mod device_tests;
-#[cfg(test)]
-mod longest_tests;
-#[cfg(test)]
-mod reading_tests;
-#[cfg(test)]
-mod sink_tests;
-#[cfg(test)]
-mod slow;
-#[cfg(test)]
-mod source_tests;
-#[cfg(test)]
-mod timeline_tests;
-#[cfg(test)]
-mod writing_tests;
+mod tests;

@@ -1,8 +1,4 @@
 //! What a call answered.
-use std::alloc::Global;
-
-/// The number of the request that is refused, beyond all that a call's case makes.
-const MOST: u16 = 500;
 
 /// What a call answered where memory may be refused.
 #[derive(Clone, Copy)]
@@ -46,21 +42,4 @@ impl Answer {
             Answer::Wrong => "wrong",
         }
     }
-}
-
-/// Makes so many requests for memory.
-pub(crate) fn request(alloc: Global, count: u16) {
-    for _ in 0..count {
-        let _ = Vec::<u8>::with_capacity(alloc, 1);
-    }
-}
-
-/// How many requests for memory are granted before one is refused: 500 where none is.
-pub(crate) fn granted(alloc: Global) -> u16 {
-    for count in 0..MOST {
-        if Vec::<u8>::with_capacity(alloc, 1).is_err() {
-            return count;
-        }
-    }
-    MOST
 }

@@ -1,8 +1,9 @@
 //! The calls, by their names.
-use crate::answer::{Answer, request};
+use crate::answer::Answer;
 use crate::{captures, endpoints, inputs, openings, runs, texts};
 use std::alloc::Global;
 use std::test::Fail;
+use test_inputs::memory::request;
 
 /// Makes a call behind so many requests.
 pub(crate) fn make(alloc: Global, name: &str, count: u16) -> Result<Answer, Fail> {

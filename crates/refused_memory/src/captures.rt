@@ -1,11 +1,12 @@
 //! Calls that read and write captures.
-use crate::answer::{Answer, request};
+use crate::answer::Answer;
 use dissector::{TextFault, read_text};
 use pcap_io::{put_header, put_record};
 use pcap_stream::{Source, StdInput};
 use pcapng_input::{PcapngError, Selection, classic_of};
 use std::alloc::Global;
 use std::test::Fail;
+use test_inputs::memory::request;
 use timeline::{Timeline, TimelineFault};
 
 /// Puts a header behind an octet.

@@ -2,12 +2,13 @@
 ghost use Rattle.std.specs.Prelude.{◌≤◌, length};
 ghost use Rattle.endpoint_core.specs.Kept.{state_of};
 
-use crate::answer::{Answer, request};
+use crate::answer::Answer;
 use crate::inputs;
 use endpoint_core::{Decision, Endpoint, result_text};
 use overlay_config::{Settings, settings_of};
 use std::alloc::{AllocError, Global};
 use std::test::Fail;
+use test_inputs::memory::request;
 
 /// The settings of two segments.
 pub(crate) fn settings(alloc: Global) -> Result<Settings, Fail> {

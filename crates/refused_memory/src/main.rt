@@ -15,10 +15,10 @@ mod openings;
 mod runs;
 mod texts;
 
-use crate::answer::granted;
 use crate::calls::make;
 use std::io;
 use std::test::Fail;
+use test_inputs::memory::granted;
 
 fn main(rt: HostRuntime) -> Result<(), Fail> {
     let alloc = rt.alloc();

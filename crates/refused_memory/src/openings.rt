@@ -1,5 +1,5 @@
 //! What is opened with settings, each by itself.
-use crate::answer::{Answer, request};
+use crate::answer::Answer;
 use crate::endpoints::{opened, settings};
 use endpoint_state::EndpointState;
 use filter_db::{ListTables, TableRule};
@@ -7,6 +7,7 @@ use frame_view::Vid;
 use shared_tables::SharedTables;
 use std::alloc::Global;
 use std::test::Fail;
+use test_inputs::memory::request;
 use underlay::Under;
 use vlan_ports::PortSet;
 

@@ -3,7 +3,7 @@ ghost use Rattle.std.specs.Prelude.{◌≡◌, All, IfOk, None, length};
 ghost use Rattle.pcap_stream.specs.Source.{New};
 ghost use Rattle.stream_run.specs.Begun.{IsUnread};
 
-use crate::answer::{Answer, request};
+use crate::answer::Answer;
 use crate::inputs;
 use crate::texts::printed;
 use capture_run::{RunFault, run_bytes};
@@ -12,6 +12,7 @@ use pcap_stream::{DeviceFault, Output, Sink, Source, StdInput};
 use std::alloc::{AllocError, Global};
 use std::test::Fail;
 use stream_run::{StreamFault, Unwatched, run_streams};
+use test_inputs::memory::request;
 
 /// Runs the built-in sample.
 pub(crate) fn sampled(alloc: Global, count: u16) -> Answer {

@@ -9,17 +9,16 @@
 
 mod events;
 mod inputs;
-mod memory;
 mod steps;
 mod summary;
 
 use crate::inputs::{changes, endpoint, kinds, one_segment};
-use crate::memory::{granted, request};
 use crate::steps::{taken, taken_alone};
 use overlay_config::TimedChange;
 use std::alloc::Global;
 use std::io;
 use std::test::Fail;
+use test_inputs::memory::{granted, request};
 
 /// Whether an endpoint answers as its twin did before it, behind so many requests.
 fn compared(

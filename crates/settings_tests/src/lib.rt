@@ -6,16 +6,4 @@
 #![tactic(auto)]
 
 #[cfg(test)]
-mod change_texts;
-#[cfg(test)]
-mod fault_tests;
-#[cfg(test)]
-mod meaning_tests;
-#[cfg(test)]
-mod reading;
-#[cfg(test)]
-mod settings_texts;
-#[cfg(test)]
-mod spoilt_tests;
-#[cfg(test)]
-mod thrown_tests;
+mod tests;

@@ -5,12 +5,4 @@
 #![tactic(auto)]
 
 #[cfg(test)]
-mod devices;
-#[cfg(test)]
-mod failing;
-#[cfg(test)]
-mod rows;
-#[cfg(test)]
-mod run;
-#[cfg(test)]
-mod same;
+mod tests;

@@ -2,15 +2,21 @@
 //!
 //! [`settings`] has the settings of an endpoint, of its peer and of a learning bridge alone, and [`capture_texts`]
 //! captures octet for octet. [`Captures`] puts captures together from lines, with [`octets_of`] for the words in them.
-//! [`Pieces`] gives a text a few octets at a time. Tests alone, and programs that are tests, stand on this crate.
+//! [`Pieces`] gives a text a few octets at a time, [`GoingOn`] goes on behind an input, and [`Room`] takes a few octets at
+//! a time. [`memory`] asks for memory. Tests alone, and programs that are tests, stand on this crate.
 #![tactic(auto)]
 
 pub mod capture_texts;
 mod captures;
+mod endless;
+pub mod memory;
 mod octets;
 mod pieces;
+mod room;
 pub mod settings;
 
 pub use captures::Captures;
+pub use endless::{GoingOn, going_on};
 pub use octets::octets_of;
 pub use pieces::{Pieces, in_pieces};
+pub use room::Room;

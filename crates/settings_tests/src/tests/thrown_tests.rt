@@ -1,5 +1,5 @@
 //! Texts that are thrown together from pieces, always the same.
-use crate::reading::{Kind, said_of};
+use crate::tests::reading::{Kind, said_of};
 use std::alloc::{AllocError, Global};
 use std::test::Fail;
 use test_inputs::settings::ENDPOINT;

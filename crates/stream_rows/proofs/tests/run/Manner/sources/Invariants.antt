@@ -1,6 +1,6 @@
 use Rattle.std.proofs.Common.{◌≡◌, All, length}
 use Rattle.pcap_stream.specs.Source.{New, Stream}
-use Rattle.stream_rows.proofs.run.Manner.sources.Given as goal
+use Rattle.stream_rows.proofs.tests.run.Manner.sources.Given as goal
 
 abbrev pub invariant-loop-index : goal.invariant-loop-index
 invariant-loop-index l = record {

@@ -1,7 +1,7 @@
 use Rattle.std.proofs.Common.{◌≡◌, ◌∷◌, [], ◌++◌, All, ap, rules, sym, subst}
 use Rattle.std.proofs.lemmas.List.Elements.{All-push}
 use Rattle.pcap_stream.specs.Source.{New, Stream}
-use Rattle.stream_rows.proofs.run.Manner.sources.Goals as goal
+use Rattle.stream_rows.proofs.tests.run.Manner.sources.Goals as goal
 
 pub loop-index-preserved : goal.loop-index-preserved
 loop-index-preserved c =

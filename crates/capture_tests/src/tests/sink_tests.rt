@@ -1,8 +1,9 @@
 //! Captures written to outputs that take little, and to outputs that fail.
-use crate::slow::slowly;
 use pcap_io::put_record;
 use pcap_stream::{DeviceFault, Output, Sink, StdOutput, WriteFault};
+use std::alloc::Global;
 use std::test::Fail;
+use test_inputs::Room;
 use test_inputs::capture_texts::TWO_RECORDS;
 
 /// Puts the two records of `TWO_RECORDS`, behind the header.
@@ -13,19 +14,15 @@ pub fn put_two<W: Output>(sink: &mut Sink<W>) -> Result<(), WriteFault> {
 }
 
 /// Whether two records are written by at most so many octets a write.
-fn writes_two(most: usize) -> bool {
-    let mut sink = Sink::new(slowly(most, 0, false));
-    if put_two(&mut sink).is_err() {
-        return false;
-    }
-    let output = sink.into_inner();
-    &output.octets[..output.taken] == TWO_RECORDS
+fn writes_two(alloc: Global, most: usize) -> bool {
+    let mut sink = Sink::new(Room::new(alloc, most, 0, false));
+    put_two(&mut sink).is_ok() && sink.into_inner().octets.as_slice() == TWO_RECORDS
 }
 
 #[test]
 fn writes_through_an_output_that_takes_little(rt: HostRuntime) {
     for most in [1, 7, 4096] {
-        assert!(rt; writes_two(most), "by {most}");
+        assert!(rt; writes_two(rt.alloc(), most), "by {most}");
     }
 }
 
@@ -34,30 +31,28 @@ fn writes_through_an_output_that_takes_little(rt: HostRuntime) {
 const BEFORE: [usize; 12] = [0, 7, 14, 21, 24, 31, 38, 42, 43, 50, 57, 59];
 
 /// Whether a write that fails or takes nothing is told, and everything behind it, with so many octets written before it.
-fn tells_a_write(n: u64, fails: bool, before: usize) -> bool {
-    let mut sink = Sink::new(slowly(7, n, fails));
+fn tells_a_write(alloc: Global, n: u64, fails: bool, before: usize) -> bool {
+    let mut sink = Sink::new(Room::new(alloc, 7, n, fails));
     if put_two(&mut sink).is_ok() || sink.begin().is_ok() {
         return false;
     }
     if sink.put(0, &[1], &[], &[], &[]).is_ok() {
         return false;
     }
-    let output = sink.into_inner();
-    Some(&output.octets[..output.taken]) == TWO_RECORDS.get(..before)
+    Some(sink.into_inner().octets.as_slice()) == TWO_RECORDS.get(..before)
 }
 
 #[test]
 fn tells_each_write_that_fails(rt: HostRuntime) {
     let mut n = 1;
     for before in BEFORE {
-        assert!(rt; tells_a_write(n, true, before), "write {n} that fails");
-        assert!(rt;
-            tells_a_write(n, false, before),
-            "write {n} that takes nothing"
-        );
+        for (fails, what) in [(true, "fails"), (false, "takes nothing")] {
+            let is_told = tells_a_write(rt.alloc(), n, fails, before);
+            assert!(rt; is_told, "write {n} that {what}");
+        }
         n = n.saturating_add(1);
     }
-    let mut sink = Sink::new(slowly(7, 13, true));
+    let mut sink = Sink::new(Room::new(rt.alloc(), 7, 13, true));
     assert!(rt; put_two(&mut sink).is_ok());
 }
 

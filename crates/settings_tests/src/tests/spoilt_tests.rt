@@ -1,5 +1,5 @@
 //! Good texts that are cut at every length, or have one octet in place of another.
-use crate::reading::{Kind, said_of};
+use crate::tests::reading::{Kind, said_of};
 use std::alloc::{AllocError, Global};
 use std::test::Fail;
 use test_inputs::settings::ENDPOINT;

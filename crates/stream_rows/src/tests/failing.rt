@@ -1,12 +1,11 @@
 //! Runs over devices that fail: what they have written by then.
-use crate::rows::{AGEING, Row};
-use crate::run::{Manner, WHOLE};
+use crate::tests::rows::{AGEING, Row};
+use crate::tests::run::{Manner, WHOLE};
 use capture_run::Outputs;
 use std::alloc::Global;
 use std::process::Abort;
 use std::test::Fail;
 use stream_run::{StreamFault, Target};
-use test_inputs::settings::BRIDGE;
 use timeline::Tap;
 
 /// The decision lines of the row, which say what leaves where.
@@ -196,7 +195,7 @@ fn an_endless_capture_ends_at_its_bound(rt: HostRuntime) -> Result<(), Fail> {
         is_endless: true,
         ..WHOLE
     };
-    let row = Row::new(rt.alloc(), BRIDGE, &[])?;
+    let row = Row::bridge(rt.alloc(), &[])?;
     let (written, end) = manner.run(rt.alloc(), &row)?;
     assert!(rt; matches!(end, Err(StreamFault::Read(Tap::Port(1)))));
     let decisions = String::from_utf8(written.decisions)?;

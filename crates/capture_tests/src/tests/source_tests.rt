@@ -1,16 +1,16 @@
 //! Captures over memory, a few octets at a time, and over inputs that fail.
-ghost use Rattle.std.specs.Prelude.{◌≡◌, ◌≢◌, None};
+ghost use Rattle.std.specs.Prelude.{◌≡◌, ◌≢◌};
 ghost use Rattle.pcap_stream.specs.Source.{New};
 
 use pcap_io::Record;
-use pcap_stream::{DeviceFault, Input, Source, SourceFault};
+use pcap_stream::{Input, Source, SourceFault};
 use std::alloc::{AllocError, Global};
 use std::fmt::Write;
 use std::test::Fail;
 use test_inputs::capture_texts::{
     BIG_MICRO, BIG_RAW_IP, BIG_RECORD, LITTLE_NANO, LITTLE_RECORD, TWO_RECORDS,
 };
-use test_inputs::{Pieces, in_pieces};
+use test_inputs::{Pieces, going_on, in_pieces};
 
 /// Puts the moment, octets and original length of a record.
 fn put_lent(words: &mut String, record: Record<'_>) -> Result<(), AllocError> {
@@ -204,35 +204,6 @@ fn tells_each_read_that_fails(rt: HostRuntime) -> Result<(), Fail> {
     Ok(())
 }
 
-/// A global header, and then zero octets without end: records of length 0. It gives one octet a read.
-#[derive(Drop)]
-struct Endless {
-    calls: u64,
-    failures: u64,
-}
-
-impl Input for Endless {
-    ghost remaining = { λ _. None };
-
-    ghost calls = { λ s. s.calls };
-
-    ghost failures = { λ s. s.failures };
-
-    fn read(&mut self, octets: &mut [u8]) -> Result<usize, DeviceFault> {
-        let at = self.calls as usize;
-        self.calls = self.calls.wrapping_add(1);
-        if octets.is_empty() {
-            return Ok(0);
-        }
-        octets[0] = if at < LITTLE_NANO.len() {
-            LITTLE_NANO[at]
-        } else {
-            0
-        };
-        Ok(1)
-    }
-}
-
 /// How many records are lent before a read fails, 2,000 at most.
 fn lent_by<R: Input>(source: &mut Source<R>) -> u16
     requires { source.old.standing ≢ New }
@@ -246,12 +217,10 @@ fn lent_by<R: Input>(source: &mut Source<R>) -> u16
     2000
 }
 
-/// Whether so many records are lent in so many reads, and none behind them.
+/// Whether so many records are lent in so many reads, and none behind them, by a global header and zero octets without end
+/// behind it, which are records of length 0. It gives one octet a read.
 fn lends(alloc: Global, reads: u64, lent: u16) -> Result<bool, AllocError> {
-    let endless = Endless {
-        calls: 0,
-        failures: 0,
-    };
+    let endless = going_on(in_pieces(LITTLE_NANO, 1, 0), true);
     let mut source = Source::new(alloc, endless, reads)?;
     Ok(source.open().is_ok() && lent_by(&mut source) == lent && source.head().is_none())
 }

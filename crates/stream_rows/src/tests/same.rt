@@ -1,11 +1,11 @@
 //! Runs over devices that move few octets at a time, which write what a run over memory answers.
-use crate::rows::{AGEING, Row};
-use crate::run::{Manner, WHOLE};
+use crate::tests::rows::{AGEING, Row};
+use crate::tests::run::{Manner, WHOLE};
 use std::alloc::Global;
 use std::fmt::Display;
 use std::process::Abort;
 use std::test::Fail;
-use test_inputs::settings::{BRIDGE, ENDPOINT};
+use test_inputs::settings::ENDPOINT;
 
 /// The words for a fault, or `done`.
 fn words_of<E: Display + Drop>(alloc: Global, end: Result<(), E>) -> Result<String, Fail> {
@@ -64,7 +64,7 @@ fn frames_leave_the_same(rt: HostRuntime) -> Result<(), Fail> {
     let rows = [
         (
             "four frames among three ports",
-            Row::new(alloc, BRIDGE, &SAMPLE)?,
+            Row::bridge(alloc, &SAMPLE)?,
         ),
         (
             "a frame to a remote",
@@ -136,7 +136,7 @@ const CAPTURES: [(&str, &str); 9] = [
 #[test]
 fn captures_are_read_and_refused_the_same(rt: HostRuntime) -> Result<(), Fail> {
     for (name, line) in CAPTURES {
-        let row = Row::new(rt.alloc(), BRIDGE, &[line])?;
+        let row = Row::bridge(rt.alloc(), &[line])?;
         check_same(&rt, rt.alloc(), name, &row)?;
     }
     Ok(())

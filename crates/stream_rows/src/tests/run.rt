@@ -2,13 +2,16 @@
 ghost use Rattle.std.specs.Prelude.{◌≡◌, All, IfOk, length};
 ghost use Rattle.pcap_stream.specs.Source.{New, Stream};
 
-use crate::devices::{Pieces, Room};
-use crate::rows::Row;
+use crate::tests::rows::Row;
 use capture_run::Outputs;
 use pcap_stream::{Sink, Source};
 use std::alloc::{AllocError, Global};
 use std::test::Fail;
 use stream_run::{StreamFault, Unwatched, run_streams};
+use test_inputs::{GoingOn, Pieces, Room, going_on, in_pieces};
+
+/// An input of a run.
+type Device<'a> = GoingOn<Pieces<'a>>;
 
 /// How the devices of a run do their work. Captures, and the outputs of their sides, are counted from 0: the ports', the
 /// underlay's, and behind them the decision lines.
@@ -41,16 +44,13 @@ pub(crate) const WHOLE: Manner = Manner {
 
 impl Manner {
     /// The input over a capture.
-    fn input(self, index: usize, octets: &[u8]) -> Pieces<'_> {
+    fn input(self, index: usize, octets: &[u8]) -> Device<'_> {
         let (failing, number) = self.failing_read;
-        Pieces {
-            octets,
-            is_endless: self.is_endless && index == 0,
-            most: self.at_a_read,
-            fails_at: if failing == index { number } else { 0 },
-            calls: 0,
-            failures: 0,
-        }
+        let fails_at = if failing == index { number } else { 0 };
+        going_on(
+            in_pieces(octets, self.at_a_read, fails_at),
+            self.is_endless && index == 0,
+        )
     }
 
     /// The output of a side.
@@ -65,7 +65,7 @@ impl Manner {
         self,
         alloc: Global,
         captures: &'a [Vec<u8>],
-    ) -> Result<Vec<Source<Pieces<'a>>>, AllocError>
+    ) -> Result<Vec<Source<Device<'a>>>, AllocError>
         ensures count { IfOk result (λ sources. length sources.items ≡ length captures.now) }
         ensures fresh { IfOk result (λ sources. All (λ (source : Stream). source.standing ≡ New) sources.items) }
     {

@@ -3,7 +3,7 @@ use capture_run::{Outputs, RunFault, run_bytes};
 use std::alloc::Global;
 use std::test::Fail;
 use test_inputs::Captures;
-use test_inputs::settings::ENDPOINT;
+use test_inputs::settings::{ENDPOINT, bridge};
 
 /// An entry is dead at its ageing, ten seconds: three events.
 pub(crate) const AGEING: [&str; 3] = [
@@ -38,6 +38,11 @@ impl Row {
     pub(crate) fn ageing(alloc: Global, lines: &[&str]) -> Result<Row, Fail> {
         let settings = ENDPOINT.replacen(alloc, "vni = 5000\n", "vni = 5000\nageing = 10\n", 1)?;
         Row::new(alloc, settings.as_str(), lines)
+    }
+
+    /// A learning bridge of three ports without remotes.
+    pub(crate) fn bridge(alloc: Global, lines: &[&str]) -> Result<Row, Fail> {
+        Row::new(alloc, bridge(alloc)?.as_str(), lines)
     }
 
     /// What a run over memory answers.

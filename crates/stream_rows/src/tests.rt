@@ -1,0 +1,4 @@
+mod failing;
+mod rows;
+mod run;
+mod same;

@@ -6,16 +6,4 @@
 #![tactic(auto)]
 
 #[cfg(test)]
-mod calls;
-#[cfg(test)]
-mod checks;
-#[cfg(test)]
-mod filter_db_tests;
-#[cfg(test)]
-mod flood_lists_tests;
-#[cfg(test)]
-mod pool_tests;
-#[cfg(test)]
-mod shared_tables_tests;
-#[cfg(test)]
-mod tunnel_learning_tests;
+mod tests;

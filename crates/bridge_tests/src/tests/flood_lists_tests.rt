@@ -1,5 +1,5 @@
 //! Faults of flood lists by their names.
-use crate::checks::check;
+use crate::tests::checks::check;
 use flood_lists::{FloodFault, NotThere};
 use std::alloc::{AllocError, Global};
 use std::test::Fail;

@@ -1,24 +1,15 @@
 //! Segments that come, go and get other limits while others learn.
-use crate::calls::{
-    Answer, Call, Course, PORT_1, PORT_2, SECOND, add, agree, call_on, remove, set_limit,
+use crate::tests::calls::{
+    ABSENT, AT_PORT_1, AT_PORT_2, Answer, Call, Course, FIXED, NEW, PORT_1, PORT_2, SECOND, add,
+    agree, call_on, opened, remove, set_limit,
 };
-use crate::checks::{check, check_at};
-use filter_db::{Learned, ListTables, PoolTables, TableRule};
+use crate::tests::checks::{check, check_at};
+use filter_db::{ListTables, PoolTables, TableRule};
 use frame_view::Vid;
 use shared_tables::SharedTables;
 use std::alloc::{AllocError, Global};
 use std::process::Abort;
 use std::test::Fail;
-
-const NEW: Answer = Answer::Learned(Learned::New);
-
-const FIXED: Answer = Answer::Fixed(Ok(()));
-
-const ABSENT: Answer = Answer::Stands(None);
-
-const AT_PORT_1: Answer = Answer::Stands(Some(PORT_1));
-
-const AT_PORT_2: Answer = Answer::Stands(Some(PORT_2));
 
 /// A step of a pool, and what comes of it.
 #[derive(Clone, Copy)]
@@ -71,30 +62,35 @@ fn pool(alloc: Global, slots: u16) -> Result<SharedTables, AllocError> {
     SharedTables::open(alloc, &[], u32::from(slots))
 }
 
-/// Asks for what comes of each step of a pool.
-fn walk(rt: &impl Abort, alloc: Global, slots: u16, steps: &[Step]) -> Result<(), Fail> {
-    let mut tables = pool(alloc, slots)?;
+/// Asks for what comes of each step.
+fn go_on(rt: &impl Abort, tables: &mut SharedTables, steps: &[Step]) {
     for (number, step) in steps.iter().enumerate() {
-        check_at(rt, comes_of(&mut tables, *step), "step", number);
+        check_at(rt, comes_of(tables, *step), "step", number);
     }
+}
+
+/// The same of a pool without segments.
+fn walk(rt: &impl Abort, alloc: Global, slots: u16, steps: &[Step]) -> Result<(), Fail> {
+    go_on(rt, &mut pool(alloc, slots)?, steps);
     Ok(())
 }
 
-/// With limit 2 two addresses are learned. At limit 1 both are forgotten.
-const ALL: [Step; 6] = [
+/// With limit 2 two addresses are learned.
+const LEARNED: [Step; 3] = [
     Step::Adds(10, 2, true),
     Step::Calls(10, 0, Call::Learn(1, PORT_1), NEW),
     Step::Calls(10, 0, Call::Learn(2, PORT_2), NEW),
+];
+
+/// At limit 1 both are forgotten.
+const ALL: [Step; 3] = [
     Step::Limits(10, 0, 1, true),
     Step::Calls(10, 0, Call::Look(1), ABSENT),
     Step::Calls(10, 0, Call::Live, Answer::Count(0)),
 ];
 
 /// At limit 2 both stay.
-const NOTHING: [Step; 6] = [
-    Step::Adds(10, 2, true),
-    Step::Calls(10, 0, Call::Learn(1, PORT_1), NEW),
-    Step::Calls(10, 0, Call::Learn(2, PORT_2), NEW),
+const NOTHING: [Step; 3] = [
     Step::Limits(10, 0, 2, true),
     Step::Calls(10, 0, Call::Look(1), AT_PORT_1),
     Step::Calls(10, 0, Call::Live, Answer::Count(2)),
@@ -102,8 +98,12 @@ const NOTHING: [Step; 6] = [
 
 #[test]
 fn a_lower_limit_forgets_all_or_nothing(rt: HostRuntime) -> Result<(), Fail> {
-    walk(&rt, rt.alloc(), 2, &ALL)?;
-    walk(&rt, rt.alloc(), 2, &NOTHING)
+    for lowered in [&ALL, &NOTHING] {
+        let mut tables = pool(rt.alloc(), 2)?;
+        go_on(&rt, &mut tables, &LEARNED);
+        go_on(&rt, &mut tables, lowered);
+    }
+    Ok(())
 }
 
 /// A fixed entry goes too, and what is dead doesn't count: of two entries one is dead, so that limit 1 leaves the other.
@@ -182,25 +182,6 @@ fn three_segments() -> Result<Segments, Fail> {
     })
 }
 
-/// Lists for the two that stand, with limits 7 and 10.
-fn two_lists(alloc: Global) -> Result<ListTables, Fail> {
-    let nine = Vid::new(9).ok_or("VID 9")?;
-    let ten = Vid::new(10).ok_or("VID 10")?;
-    let rules = [
-        TableRule {
-            vid: nine,
-            limit: 7,
-            ageing: 10,
-        },
-        TableRule {
-            vid: ten,
-            limit: 10,
-            ageing: 10,
-        },
-    ];
-    Ok(ListTables::open(alloc, &rules)?)
-}
-
 /// A list for the one that comes, with limit 5.
 fn fresh_list(alloc: Global, vid: Vid) -> Result<ListTables, AllocError> {
     let rules = [TableRule {
@@ -238,7 +219,7 @@ fn agree_in_a_round(
 #[test]
 fn comes_and_goes_a_thousand_times(rt: HostRuntime) -> Result<(), Fail> {
     let segments = three_segments()?;
-    let mut lists = two_lists(rt.alloc())?;
+    let (mut lists, _shared) = opened(rt.alloc(), (7, 10), (10, 10))?;
     let mut shared = pool(rt.alloc(), 22)?;
     let added = add(&mut shared, rule(segments.nine, 7), 0)
         && add(&mut shared, rule(segments.ten, 10), 0);

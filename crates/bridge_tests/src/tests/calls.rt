@@ -1,7 +1,13 @@
 //! Calls of tables, and what they answer.
-use filter_db::{Learned, NotThere, Place, PoolTables, TableFull, TableRule, Tables};
+ghost use Rattle.std.specs.Prelude.{◌≡◌, IfOk};
+ghost use Rattle.filter_db.specs.Segment.{IsRule};
+
+use filter_db::{Learned, ListTables, NotThere, Place, PoolTables, TableFull, TableRule, Tables};
 use frame_view::{Mac, Vid};
 use ip_udp_view::{Addr, Tunnel};
+use shared_tables::SharedTables;
+use std::alloc::Global;
+use std::test::Fail;
 
 pub(crate) const SECOND: u64 = 1_000_000_000;
 
@@ -39,6 +45,16 @@ pub(crate) enum Answer {
     Done,
     Out,
 }
+
+pub(crate) const NEW: Answer = Answer::Learned(Learned::New);
+
+pub(crate) const FIXED: Answer = Answer::Fixed(Ok(()));
+
+pub(crate) const ABSENT: Answer = Answer::Stands(None);
+
+pub(crate) const AT_PORT_1: Answer = Answer::Stands(Some(PORT_1));
+
+pub(crate) const AT_PORT_2: Answer = Answer::Stands(Some(PORT_2));
 
 /// The address 02-00-00-00-00 and this octet.
 pub(crate) fn mac(last: u8) -> Mac {
@@ -110,6 +126,33 @@ pub(crate) fn set_limit<T: PoolTables>(tables: &mut T, vid: Vid, limit: u16, now
     }
     tables.set_limit(vid, limit, now);
     true
+}
+
+/// The rule of a segment, which must be in range.
+fn rule_of(vid: Vid, limit: u16, ageing: u32) -> Result<TableRule, Fail>
+    ensures in_range { IfOk result IsRule }
+    ensures vid { IfOk result (λ rule. rule.vid ≡ vid) }
+    ensures limit { IfOk result (λ rule. rule.limit ≡ limit) }
+{
+    if limit < 1 || limit > 8192 || ageing < 10 || ageing > 1_000_000 {
+        return Err(Fail::new("a limit or an ageing out of range"));
+    }
+    Ok(TableRule { vid, limit, ageing })
+}
+
+/// Both bodies of the trait, opened for VID 9 and VID 10, each with a limit and an ageing; the pool has room for no more.
+pub(crate) fn opened(
+    alloc: Global,
+    (nine, ten): (u16, u16),
+    ageings: (u32, u32),
+) -> Result<(ListTables, SharedTables), Fail> {
+    let rules = [
+        rule_of(Vid::new(9).ok_or("VID 9")?, nine, ageings.0)?,
+        rule_of(Vid::new(10).ok_or("VID 10")?, ten, ageings.1)?,
+    ];
+    let lists = ListTables::open(alloc, &rules)?;
+    let shared = SharedTables::open(alloc, &rules, u32::from(nine) + u32::from(ten))?;
+    Ok((lists, shared))
 }
 
 /// Whether two tables answer the same to a call, which isn't out of place.

@@ -1,6 +1,6 @@
 //! Frames among three ports and two remotes, over tables that are lists.
-use crate::calls::{PORT_1, PORT_2, PORT_3, VXLAN_2};
-use crate::checks::{check, check_at};
+use crate::tests::calls::{PORT_1, PORT_2, PORT_3, VXLAN_2};
+use crate::tests::checks::{check, check_at};
 use filter_db::{ListTables, Place, TableRule, Tables};
 use flood_lists::{FloodList, Own};
 use frame_view::{BridgeFrame, EtherView, Mac, Reason, Vid};
@@ -65,19 +65,15 @@ fn frame_of(dst: u8, src: u8) -> [u8; 14] {
 }
 
 /// A frame from a place, to and from addresses by their last octets, and where it goes, or why it doesn't.
-struct Came {
-    from: Place,
-    dst: u8,
-    src: u8,
-    goes: Result<&'static [Place], Reason>,
-}
+type Came = (Place, u8, u8, Result<&'static [Place], Reason>);
 
 /// What the bridge does with a frame that comes at a moment.
 fn verdict(tables: &mut ListTables, bridge: &Bridge, now: u64, came: &Came) -> Option<Verdict> {
     if !tables.has(bridge.vid) || now < tables.now() {
         return None;
     }
-    let octets = frame_of(came.dst, came.src);
+    let (from, dst, src, _goes) = *came;
+    let octets = frame_of(dst, src);
     let Ok(view) = EtherView::read(&octets) else {
         return None;
     };
@@ -87,12 +83,12 @@ fn verdict(tables: &mut ListTables, bridge: &Bridge, now: u64, came: &Came) -> O
         addresses: view.addresses(),
         body: view.after_addresses(),
     };
-    Some(bridge_step(tables, bridge, now, came.from, &frame))
+    Some(bridge_step(tables, bridge, now, from, &frame))
 }
 
 /// Whether a frame that comes at a moment goes where it should.
 fn is_answered(tables: &mut ListTables, bridge: &Bridge, now: u64, came: &Came) -> bool {
-    match (verdict(tables, bridge, now, came), came.goes) {
+    match (verdict(tables, bridge, now, came), came.3) {
         (Some(Verdict::Outlets(places)), Ok(wanted)) => places.as_slice() == wanted,
         (Some(Verdict::Dropped(reason)), Err(wanted)) => reason == wanted,
         _ => false,
@@ -129,30 +125,10 @@ fn walk_among(
 }
 
 const AMONG_PORTS: [Came; 4] = [
-    Came {
-        from: PORT_1,
-        dst: ALL,
-        src: 1,
-        goes: Ok(&[PORT_2, PORT_3]),
-    },
-    Came {
-        from: PORT_2,
-        dst: 1,
-        src: 2,
-        goes: Ok(&[PORT_1]),
-    },
-    Came {
-        from: PORT_1,
-        dst: 2,
-        src: 1,
-        goes: Ok(&[PORT_2]),
-    },
-    Came {
-        from: PORT_2,
-        dst: 2,
-        src: 2,
-        goes: Err(Reason::SamePlace),
-    },
+    (PORT_1, ALL, 1, Ok(&[PORT_2, PORT_3])),
+    (PORT_2, 1, 2, Ok(&[PORT_1])),
+    (PORT_1, 2, 1, Ok(&[PORT_2])),
+    (PORT_2, 2, 2, Err(Reason::SamePlace)),
 ];
 
 #[test]
@@ -173,63 +149,18 @@ fn two_remotes() -> Result<FloodList, Fail> {
 }
 
 const OF_ONE_GROUP: [Came; 6] = [
-    Came {
-        from: PORT_1,
-        dst: ALL,
-        src: 1,
-        goes: Ok(&[PORT_2, PORT_3, VXLAN_2, GENEVE_3]),
-    },
-    Came {
-        from: VXLAN_2,
-        dst: ALL,
-        src: 5,
-        goes: Ok(&[PORT_1, PORT_2, PORT_3]),
-    },
-    Came {
-        from: GENEVE_3,
-        dst: 5,
-        src: 6,
-        goes: Err(Reason::Horizon),
-    },
-    Came {
-        from: VXLAN_3,
-        dst: 5,
-        src: 6,
-        goes: Err(Reason::Horizon),
-    },
-    Came {
-        from: VXLAN_2,
-        dst: 5,
-        src: 7,
-        goes: Err(Reason::SamePlace),
-    },
-    Came {
-        from: PORT_1,
-        dst: 5,
-        src: 1,
-        goes: Ok(&[VXLAN_2]),
-    },
+    (PORT_1, ALL, 1, Ok(&[PORT_2, PORT_3, VXLAN_2, GENEVE_3])),
+    (VXLAN_2, ALL, 5, Ok(&[PORT_1, PORT_2, PORT_3])),
+    (GENEVE_3, 5, 6, Err(Reason::Horizon)),
+    (VXLAN_3, 5, 6, Err(Reason::Horizon)),
+    (VXLAN_2, 5, 7, Err(Reason::SamePlace)),
+    (PORT_1, 5, 1, Ok(&[VXLAN_2])),
 ];
 
 const OF_TWO_GROUPS: [Came; 3] = [
-    Came {
-        from: VXLAN_2,
-        dst: ALL,
-        src: 5,
-        goes: Ok(&[PORT_1, PORT_2, PORT_3, GENEVE_3]),
-    },
-    Came {
-        from: GENEVE_3,
-        dst: 5,
-        src: 6,
-        goes: Ok(&[VXLAN_2]),
-    },
-    Came {
-        from: VXLAN_3,
-        dst: 5,
-        src: 6,
-        goes: Err(Reason::Horizon),
-    },
+    (VXLAN_2, ALL, 5, Ok(&[PORT_1, PORT_2, PORT_3, GENEVE_3])),
+    (GENEVE_3, 5, 6, Ok(&[VXLAN_2])),
+    (VXLAN_3, 5, 6, Err(Reason::Horizon)),
 ];
 
 #[test]
@@ -241,24 +172,9 @@ fn remotes_of_one_group_and_of_two(rt: HostRuntime) -> Result<(), Fail> {
 
 /// Address 2 stands at port 2, which is down. A source is learned although its frame goes nowhere.
 const PORTS_DOWN: [Came; 3] = [
-    Came {
-        from: PORT_1,
-        dst: ALL,
-        src: 1,
-        goes: Err(Reason::NoOutlet),
-    },
-    Came {
-        from: PORT_1,
-        dst: 2,
-        src: 1,
-        goes: Err(Reason::Unreachable),
-    },
-    Came {
-        from: VXLAN_2,
-        dst: 1,
-        src: 3,
-        goes: Ok(&[PORT_1]),
-    },
+    (PORT_1, ALL, 1, Err(Reason::NoOutlet)),
+    (PORT_1, 2, 1, Err(Reason::Unreachable)),
+    (VXLAN_2, 1, 3, Ok(&[PORT_1])),
 ];
 
 /// Takes a port down; whether there is one.

@@ -1,15 +1,15 @@
 //! Calls of the tables of two segments, answered by both bodies of the trait: a list for each segment, and one pool of
 //! slots.
-use crate::calls::{Answer, Call, GENEVE_2, PORT_1, PORT_2, SECOND, VXLAN_2, call_on};
-use crate::checks::check_at;
-use filter_db::{Learned, ListTables, NotThere, TableFull, TableRule, Tables};
+use crate::tests::calls::{
+    ABSENT, AT_PORT_1, AT_PORT_2, Answer, Call, FIXED, GENEVE_2, NEW, PORT_1, PORT_2, SECOND,
+    VXLAN_2, call_on, opened,
+};
+use crate::tests::checks::check_at;
+use filter_db::{Learned, NotThere, TableFull, Tables};
 use frame_view::Vid;
-use shared_tables::SharedTables;
 use std::alloc::Global;
 use std::process::Abort;
 use std::test::Fail;
-
-const NEW: Answer = Answer::Learned(Learned::New);
 
 const REFRESHED: Answer = Answer::Learned(Learned::Refreshed);
 
@@ -19,19 +19,11 @@ const FULL: Answer = Answer::Learned(Learned::Full);
 
 const STAYS_FIXED: Answer = Answer::Learned(Learned::Fixed);
 
-const FIXED: Answer = Answer::Fixed(Ok(()));
-
 const NO_ROOM: Answer = Answer::Fixed(Err(TableFull));
 
 const UNFIXED: Answer = Answer::Unfixed(Ok(()));
 
 const NOT_THERE: Answer = Answer::Unfixed(Err(NotThere));
-
-const ABSENT: Answer = Answer::Stands(None);
-
-const AT_PORT_1: Answer = Answer::Stands(Some(PORT_1));
-
-const AT_PORT_2: Answer = Answer::Stands(Some(PORT_2));
 
 const AT_VXLAN_2: Answer = Answer::Stands(Some(VXLAN_2));
 
@@ -52,34 +44,11 @@ struct Run {
     calls: &'static [(u16, u64, Call, Answer)],
 }
 
-/// Both bodies of the trait, opened for VID 9 and VID 10 with this limit and ageing.
-fn opened(alloc: Global, limit: u16, ageing: u32) -> Result<(ListTables, SharedTables), Fail> {
-    if limit < 1 || limit > 8192 || ageing < 10 || ageing > 1_000_000 {
-        return Err(Fail::new("a limit or an ageing out of range"));
-    }
-    let nine = Vid::new(9).ok_or("VID 9")?;
-    let ten = Vid::new(10).ok_or("VID 10")?;
-    let rules = [
-        TableRule {
-            vid: nine,
-            limit,
-            ageing,
-        },
-        TableRule {
-            vid: ten,
-            limit,
-            ageing,
-        },
-    ];
-    let lists = ListTables::open(alloc, &rules)?;
-    let shared = SharedTables::open(alloc, &rules, 2 * u32::from(limit))?;
-    Ok((lists, shared))
-}
-
 /// Asks both bodies for the answers of runs.
 fn answer(rt: &impl Abort, alloc: Global, runs: &[Run]) -> Result<(), Fail> {
     for run in runs {
-        let (mut lists, mut shared) = opened(alloc, run.limit, run.ageing)?;
+        let (limits, ageings) = ((run.limit, run.limit), (run.ageing, run.ageing));
+        let (mut lists, mut shared) = opened(alloc, limits, ageings)?;
         for (number, told) in run.calls.iter().enumerate() {
             check_at(rt, is_answered(&mut lists, told), run.name, number);
             check_at(rt, is_answered(&mut shared, told), run.name, number);

@@ -5,10 +5,4 @@
 #![tactic(auto)]
 
 #[cfg(test)]
-mod classic_tests;
-#[cfg(test)]
-mod fault_tests;
-#[cfg(test)]
-mod input_tests;
-#[cfg(test)]
-mod texts;
+mod tests;

@@ -5,12 +5,4 @@
 #![tactic(auto)]
 
 #[cfg(test)]
-mod digest_tests;
-#[cfg(test)]
-mod lent_tests;
-#[cfg(test)]
-mod parting_tests;
-#[cfg(test)]
-mod record_tests;
-#[cfg(test)]
-mod texts;
+mod tests;

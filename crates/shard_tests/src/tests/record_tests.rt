@@ -1,5 +1,5 @@
 //! Records and their texts.
-use crate::texts::text_in_full;
+use crate::tests::texts::text_in_full;
 use shard_record::{Difference, ShardFault, record_of, same_run, text_of};
 use std::alloc::Global;
 use std::test::Fail;
@@ -119,10 +119,7 @@ const FAULTS: [(&str, ShardFault); 19] = [
 /// Whether a text is refused for this fault.
 fn is_refused(alloc: Global, short: &str, fault: ShardFault) -> Result<bool, Fail> {
     let text = text_in_full(alloc, short)?;
-    match record_of(text.as_str()) {
-        Ok(_) => Ok(false),
-        Err(found) => Ok(found == fault),
-    }
+    Ok(record_of(text.as_str()).err() == Some(fault))
 }
 
 #[test]

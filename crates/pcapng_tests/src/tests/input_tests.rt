@@ -1,8 +1,8 @@
 //! Inputs of pcapng texts, read piece by piece.
 ghost use Rattle.std.specs.Prelude.{◌≤◌, length, IfOk};
 
-use crate::classic_tests::is_classic_of;
-use crate::texts::{
+use crate::tests::classic_tests::is_classic_of;
+use crate::tests::texts::{
     EDITED, EDITED_CLASSIC, INTERFACE, PACKET, PACKET_CLASSIC, ROWS, SECTION, joined,
 };
 use pcap_stream::{DeviceFault, Input};
@@ -78,6 +78,23 @@ fn tells(
     Ok(is_whole == fault.is_empty() && told.as_slice() == expected && met.as_str() == fault)
 }
 
+/// Whether it tells that by each of these numbers of octets at a time.
+fn tells_by(
+    alloc: Global,
+    text: &[u8],
+    selection: Selection<'_>,
+    sizes: &[usize],
+    expected: &[u8],
+    fault: &str,
+) -> Result<bool, Fail> {
+    for size in sizes {
+        if !tells(alloc, text, selection, *size, expected, fault)? {
+            return Ok(false);
+        }
+    }
+    Ok(true)
+}
+
 /// Whether it tells that by 1, 7 and 4,096 octets at a time.
 fn always_tells(
     alloc: Global,
@@ -86,12 +103,25 @@ fn always_tells(
     expected: &[u8],
     fault: &str,
 ) -> Result<bool, Fail> {
-    for size in [1, 7, 4096] {
-        if !tells(alloc, text, selection, size, expected, fault)? {
-            return Ok(false);
-        }
-    }
-    Ok(true)
+    tells_by(alloc, text, selection, &[1, 7, 4096], expected, fault)
+}
+
+/// Whether a whole text tells that by so many octets at a time, and by a million.
+fn tells_long(
+    alloc: Global,
+    text: &[u8],
+    size: usize,
+    expected: &[u8],
+    fault: &str,
+) -> Result<bool, Fail> {
+    tells_by(
+        alloc,
+        text,
+        Selection::All,
+        &[size, 1_000_000],
+        expected,
+        fault,
+    )
 }
 
 /// In memory, and piece by piece.
@@ -181,18 +211,7 @@ fn passes_over_a_long_block(rt: HostRuntime) -> Result<(), Fail> {
         (400_004, LITTLE_NANO, fault),
     ] {
         let text = with_long_block(rt.alloc(), second_length)?;
-        for size in [4096, 1_000_000] {
-            assert!(rt;
-                tells(
-                    rt.alloc(),
-                    text.as_slice(),
-                    Selection::All,
-                    size,
-                    expected,
-                    fault
-                )?
-            );
-        }
+        assert!(rt; tells_long(rt.alloc(), text.as_slice(), 4096, expected, fault)?);
     }
     Ok(())
 }
@@ -225,18 +244,7 @@ fn takes_longer_packets_behind_shorter_ones(rt: HostRuntime) -> Result<(), Fail>
     for octets in [1500, 262_144] {
         let text = with_packet_of(rt.alloc(), octets)?;
         let expected = packet_of_classic(rt.alloc(), octets)?;
-        for size in [4093, 1_000_000] {
-            assert!(rt;
-                tells(
-                    rt.alloc(),
-                    text.as_slice(),
-                    Selection::All,
-                    size,
-                    expected.as_slice(),
-                    ""
-                )?
-            );
-        }
+        assert!(rt; tells_long(rt.alloc(), text.as_slice(), 4093, expected.as_slice(), "")?);
     }
     Ok(())
 }

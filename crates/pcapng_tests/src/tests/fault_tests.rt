@@ -1,5 +1,5 @@
 //! Texts that have a fault, and what is told of it.
-use crate::texts::{INTERFACE, PACKET, SECTION};
+use crate::tests::texts::{INTERFACE, PACKET, SECTION};
 use pcapng_input::{Selection, classic_of};
 use std::alloc::{AllocError, Global};
 use std::test::Fail;

@@ -1,5 +1,5 @@
 //! Texts of digests that are lent to the parts of a run, and octets that are counted on the way.
-use crate::texts::text_in_full;
+use crate::tests::texts::text_in_full;
 use pcap_stream::Input;
 use shard_record::{CountInput, DigestsFault, LentFault, digests_of, digests_text, see_octets};
 use std::alloc::Global;
@@ -69,10 +69,7 @@ const FAULTS: [(&str, DigestsFault); 12] = [
 /// Whether a text is refused for this fault.
 fn is_refused(alloc: Global, short: &str, fault: DigestsFault) -> Result<bool, Fail> {
     let text = text_in_full(alloc, short)?;
-    match digests_of(text.as_str()) {
-        Ok(_) => Ok(false),
-        Err(found) => Ok(found == fault),
-    }
+    Ok(digests_of(text.as_str()).err() == Some(fault))
 }
 
 #[test]

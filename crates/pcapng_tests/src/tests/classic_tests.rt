@@ -1,5 +1,5 @@
 //! Texts that are read, and their classic captures.
-use crate::texts::{EDITED, EDITED_CLASSIC, EDITED_CUT, ORDERS};
+use crate::tests::texts::{EDITED, EDITED_CLASSIC, EDITED_CUT, ORDERS};
 use pcap_io::Capture;
 use pcapng_input::{PcapngError, Selection, classic_of, is_pcapng};
 use std::alloc::Global;

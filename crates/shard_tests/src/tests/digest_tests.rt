@@ -1,5 +1,5 @@
 //! Digests and numbers of octets that are taken on the way.
-use crate::texts::{OF_ABC, OF_NOTHING};
+use crate::tests::texts::{OF_ABC, OF_NOTHING};
 use pcap_stream::Input;
 use shard_record::DigestInput;
 use std::alloc::Global;

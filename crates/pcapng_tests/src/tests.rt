@@ -1,0 +1,4 @@
+mod classic_tests;
+mod fault_tests;
+mod input_tests;
+mod texts;

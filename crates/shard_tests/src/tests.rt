@@ -1,0 +1,5 @@
+mod digest_tests;
+mod lent_tests;
+mod parting_tests;
+mod record_tests;
+mod texts;

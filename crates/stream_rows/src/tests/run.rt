@@ -47,10 +47,8 @@ impl Manner {
     fn input(self, index: usize, octets: &[u8]) -> Device<'_> {
         let (failing, number) = self.failing_read;
         let fails_at = if failing == index { number } else { 0 };
-        going_on(
-            in_pieces(octets, self.at_a_read, fails_at),
-            self.is_endless && index == 0,
-        )
+        let pieces = in_pieces(octets, self.at_a_read, fails_at);
+        going_on(pieces, self.is_endless && index == 0)
     }
 
     /// The output of a side.

@@ -1,37 +1,11 @@
--- The exit statuses of the faults of runs and of the program. It states no standard.
+-- The exit statuses of the faults of runs over streams. It states no standard.
 use Rattle.std.specs.Prelude.{ℕ}
-use Rattle.capture_run.specs.declared.fault.RunFault.{RunFault}
-use Rattle.capture_run.specs.declared.fault.RunFault.TheVariants as faults
 use Rattle.stream_run.specs.declared.fault.StreamFault.{StreamFault}
 use Rattle.stream_run.specs.declared.fault.StreamFault.TheVariants as streams
-use Rattle.dissector.specs.declared.failure.Failure.{Failure}
-use Rattle.dissector.specs.declared.failure.Failure.TheVariants as failures
+use Rattle.program_faults.specs.Status.{status_of}
 
--- 1 for what was refused, 3 for want of memory
-abbrev pub status_of : RunFault → ℕ
-status_of (faults.Settings fault) = 1
-status_of (faults.Changes fault) = 1
-status_of faults.PortCount = 1
-status_of (faults.Capture tap fault) = 1
-status_of (faults.Record tap number fault) = 1
-status_of faults.OutOfMemory = 3
-
--- of a run over streams: that of the run's own fault, 3 for a read or a write that failed
+-- that of the run's own fault, 3 for a read or a write that failed
 abbrev pub stream_status_of : StreamFault → ℕ
 stream_status_of (streams.Run fault) = status_of fault
 stream_status_of (streams.Read tap) = 3
 stream_status_of (streams.Write target) = 3
-
--- of what the program gives up for: 1 for a text, a capture, a part or digests that are refused or an event that isn't there,
--- 3 for want of memory, a failed read or a failed write
-abbrev pub failure_status_of : Failure → ℕ
-failure_status_of (failures.Run fault) = status_of fault
-failure_status_of (failures.Pcapng tap fault) = 1
-failure_status_of (failures.Read name) = 3
-failure_status_of (failures.Write output) = 3
-failure_status_of (failures.NoEvent name) = 1
-failure_status_of (failures.Segments fault) = 1
-failure_status_of (failures.ReadOnce name) = 1
-failure_status_of (failures.Digests name fault) = 1
-failure_status_of (failures.Shard folder fault) = 1
-failure_status_of (failures.Parting fault) = 1

@@ -1,7 +1,7 @@
 //! What the parts of a run told, as the whole run tells it.
-use dissector::{Failure, OutputFile, ShardFailure, read_text};
 use part_counts::{ReportFault, Summary};
 use part_tables::{TablesFault, rows_in, tables_of};
+use program_faults::{Failure, OutputFile, ShardFailure, read_text};
 use program_files::{open_part_file, path_of};
 use segment_set::SegmentSet;
 use std::alloc::AllocError;

@@ -2,8 +2,9 @@
 ghost use Rattle.std.specs.Prelude.{◌≤◌};
 
 use crate::merged_texts::{MergedTexts, TextsAsked, merge_texts};
-use dissector::{Failure, OutputFile, ShardFailure, read_text, tap_of};
+use dissector::tap_of;
 use pcap_stream::Source;
+use program_faults::{Failure, OutputFile, ShardFailure, read_text};
 use program_files::{
     PartInput, count_events, is_same, open_lines, open_outputs, open_part_file, path_of,
 };

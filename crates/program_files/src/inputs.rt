@@ -2,10 +2,11 @@
 ghost use Rattle.std.specs.Prelude.{◌≡◌, ◌<◌, ◌^◌, All, IfOk, length};
 ghost use Rattle.pcap_stream.specs.Source.{New, Stream, most_left};
 
-use dissector::{Failure, STANDARD_INPUT, capture_name, read_text};
+use command_line::{STANDARD_INPUT, capture_name};
 use file_kind::{FileKind, Peeked, peek};
 use pcap_stream::{Source, StdInput};
 use pcapng_input::{CaptureInput, Selection};
+use program_faults::{Failure, read_text};
 use shard_record::CountInput;
 use std::alloc::AllocError;
 use std::fs;

@@ -1,5 +1,5 @@
 //! The names of what a run reads, and which files they are.
-use dissector::{STANDARD_INPUT, capture_name};
+use command_line::{STANDARD_INPUT, capture_name};
 use std::fs::{self, Metadata};
 use std::os::unix::fs::{FileTypeExt, MetadataExt};
 use std::path::Path;

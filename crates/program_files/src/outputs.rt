@@ -2,8 +2,8 @@
 ghost use Rattle.std.specs.Prelude.{◌≡◌, IfOk, length};
 
 use crate::names::Names;
-use dissector::{Failure, OutputFile};
 use pcap_stream::{BlockOutput, Sink, StdOutput};
+use program_faults::{Failure, OutputFile};
 use std::alloc::{AllocError, Global};
 use std::fs::{OpenFile, OpenOptions};
 use std::io::{self, Write};

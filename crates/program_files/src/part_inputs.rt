@@ -1,8 +1,8 @@
 //! What is read of a part of a run: the files in its folder.
 use crate::outputs::path_of;
-use dissector::{Failure, OutputFile};
 use line_stream::{Lines, LinesFault};
 use pcap_stream::StdInput;
+use program_faults::{Failure, OutputFile};
 use shard_lines::{LineFacts, read_line};
 use shard_merge::PartFault;
 use std::alloc::AllocError;

@@ -1,6 +1,6 @@
 //! What a part of a run leaves of what it told: its tables at the end, and its counts.
 use crate::outputs::path_of;
-use dissector::{Failure, OutputFile};
+use program_faults::{Failure, OutputFile};
 use std::fs::{self, OpenOptions};
 use std::io::Write;
 use std::rt::Files;

@@ -1,5 +1,5 @@
 //! What is printed on standard output.
-use dissector::{Failure, OutputFile, is_lost};
+use program_faults::{Failure, OutputFile, is_lost};
 use std::io::{self, Write};
 
 /// Prints a text on standard output.

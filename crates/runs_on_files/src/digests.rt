@@ -1,7 +1,8 @@
 //! Digests of captures: taken, printed, and lent to the parts of a run.
 use arrayvec::ArrayVec;
 use capture_run::RunFault;
-use dissector::{DigestsFailure, Failure, tap_of};
+use dissector::tap_of;
+use program_faults::{DigestsFailure, Failure};
 use program_files::{CAPTURE_READS, open_named, print_text, read_file};
 use shard_record::{
     CaptureDigest, CaptureDigests, DigestInput, DigestsFault, LentFault, MOST_PORTS, digests_of,

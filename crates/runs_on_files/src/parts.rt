@@ -2,7 +2,7 @@
 use crate::digests::{lent_digests, take_digests};
 use crate::runs::{Done, Scope, Texts, run_on_files};
 use arrayvec::ArrayVec;
-use dissector::{DigestsFailure, Failure, OutputFile};
+use program_faults::{DigestsFailure, Failure, OutputFile};
 use program_files::{Names, count_events};
 use segment_set::SegmentSet;
 use sha2::{Digest, Sha256};

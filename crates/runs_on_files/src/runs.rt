@@ -3,9 +3,10 @@ ghost use Rattle.std.specs.Prelude.{◌≡◌, All, IfOk, length};
 ghost use Rattle.stream_run.specs.Begun.{IsUnread};
 
 use capture_run::{RunFault, of_changes, of_settings};
-use dissector::{Failure, tap_of};
+use dissector::{failure_of_run, tap_of};
 use overlay_config::{TimedChange, changes_of, settings_of};
 use pcapng_input::PcapngFault;
+use program_faults::Failure;
 use program_files::{
     Capture, Names, Outputs, drop_texts, open_capture, open_captures, open_outputs, read_file,
     read_if_given, spare_inputs,
@@ -233,7 +234,7 @@ fn failure_of<'a, F: Read + Drop, I: Read + Drop>(
             Some(fault) => Failure::Pcapng(tap, fault),
             None => Failure::Read(names.capture(tap)),
         },
-        fault => Failure::running(names.underlay, fault),
+        fault => failure_of_run(names.underlay, fault),
     }
 }
 

@@ -2,11 +2,12 @@
 use capture_run::{RunFault, of_changes, of_settings};
 use capture_survey::{Report, SurveyFault, survey_capture};
 use config_text::SettingsFault;
-use dissector::{Failure, check_text, tap_of};
+use dissector::{check_text, tap_of};
 use file_kind::FileKind;
 use foreseen_changes::foresee;
 use overlay_config::{changes_of, settings_of};
 use pcap_io::CaptureFault;
+use program_faults::Failure;
 use program_files::{SeenCapture, open_seen, print_text, read_file, read_if_given};
 use std::fmt::Write;
 use std::io::{Input, Read};

@@ -2,18 +2,16 @@
 ghost use Rattle.std.specs.Prelude.{◌≡◌, ◌≤◌};
 ghost use Rattle.clap.specs.Walk.{texts};
 ghost use Rattle.command_line.specs.Meaning.{HasDepth};
-ghost use Rattle.dissector.specs.Status.{failure_status_of};
+ghost use Rattle.program_faults.specs.Status.{failure_status_of};
 ghost use Rattle.tep_program.specs.Status.{IsStatusOf};
 
 use crate::checks::check;
 use capture_run::{RunFault, of_settings};
 use clap::error::ErrorKind as Refusal;
-use dissector::{
-    Failure, Line, LineFault, OutputFile, Values, explain_bytes, is_lost, line_of, sample,
-    segments_of,
-};
+use dissector::{Line, LineFault, Values, explain_bytes, line_of, sample, segments_of};
 use merge_on_files::{TextsAsked, merge};
 use overlay_config::{TimedChange, migrate};
+use program_faults::{Failure, OutputFile, is_lost};
 use program_files::{Names, leave_text, print_text, read_file, read_underlay};
 use run_counts::RunCounts;
 use run_reports::{Onlooker, Reports};

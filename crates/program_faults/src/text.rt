@@ -1,7 +1,7 @@
 //! A whole text from an input.
 ghost use Rattle.std.specs.Prelude.{◌≡◌, IfOk, IfSome, OnOk};
 ghost use Rattle.std.specs.Io.KnownBytes.{IsAtEnd};
-ghost use Rattle.dissector.specs.Text.{GivesUp, GoesOnByAtMost, MatchRead};
+ghost use Rattle.program_faults.specs.Text.{GivesUp, GoesOnByAtMost, MatchRead};
 
 use pcap_stream::Input;
 use std::alloc::Global;

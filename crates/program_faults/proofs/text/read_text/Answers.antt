@@ -1,5 +1,5 @@
 use Rattle.std.proofs.Common.{◌+◌, arith}
-use Rattle.dissector.proofs.text.read_text.Goals as goal
+use Rattle.program_faults.proofs.text.read_text.Goals as goal
 
 pub returns-in_default-clause-bound : goal.returns-in_default-clause-bound
 returns-in_default-clause-bound g c = (c.loop-made._made + 1, omega arith, omega arith)

@@ -1,8 +1,8 @@
 -- A text that is read from an input, in so many reads at most. It states no standard.
 use Rattle.std.specs.Prelude.{◌≡◌, ◌≤◌, ◌⊎◌, ℕ, List, length, Option, IfSome, Result, Ok, Err}
 use Rattle.pcap_stream.specs.Counts.{GoesOnBy}
-use Rattle.dissector.specs.declared.text.TextFault.{TextFault}
-use Rattle.dissector.specs.declared.text.TextFault.TheVariants as fault
+use Rattle.program_faults.specs.declared.text.TextFault.{TextFault}
+use Rattle.program_faults.specs.declared.text.TextFault.TheVariants as fault
 
 -- the count went on by no more than this
 abbrev pub GoesOnByAtMost : ℕ → ℕ → ℕ → Type 0

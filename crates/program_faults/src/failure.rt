@@ -1,10 +1,10 @@
 //! Why the program gives up.
 ghost use Rattle.std.specs.Prelude.{◌≡◌};
 ghost use Rattle.capture_run.specs.declared.fault.RunFault.TheVariants as run;
-ghost use Rattle.dissector.specs.Status.{failure_status_of, stream_status_of};
-ghost use Rattle.dissector.specs.declared.failure.Failure.TheVariants as failures;
-ghost use Rattle.dissector.specs.declared.failure.ShardFailure.TheVariants as shards;
-ghost use Rattle.dissector.specs.declared.text.TextFault.TheVariants.{OutOfMemory, Read};
+ghost use Rattle.program_faults.specs.Status.{failure_status_of};
+ghost use Rattle.program_faults.specs.declared.failure.Failure.TheVariants as failures;
+ghost use Rattle.program_faults.specs.declared.failure.ShardFailure.TheVariants as shards;
+ghost use Rattle.program_faults.specs.declared.text.TextFault.TheVariants.{OutOfMemory, Read};
 
 use crate::status::exit_code;
 use crate::text::TextFault;
@@ -15,7 +15,6 @@ use shard_merge::PartFault;
 use shard_record::{Difference, DigestsFault, LentFault, PartingFault, ShardFault};
 use std::alloc::AllocError;
 use std::fmt;
-use stream_run::{StreamFault, Target};
 use thiserror::Error;
 use timeline::Tap;
 
@@ -145,21 +144,6 @@ impl<'a> Failure<'a> {
         ensures { result ≡ failures.Shard folder.entry (shards.Part fault) }
     {
         Failure::Shard(folder, ShardFailure::Part(fault))
-    }
-
-    /// That a run stopped, of whose captures the one of this name is the one that a failed read was of.
-    pub fn running(name: &'a str, fault: StreamFault) -> Failure<'a>
-        ensures { failure_status_of result ≡ stream_status_of fault }
-    {
-        match fault {
-            StreamFault::Run(fault) => Failure::Run(fault),
-            StreamFault::Read(_) => Failure::Read(name),
-            StreamFault::Write(Target::Port(number)) => {
-                Failure::Write(OutputFile::Port(usize::from(number)))
-            }
-            StreamFault::Write(Target::Underlay) => Failure::Write(OutputFile::Underlay),
-            StreamFault::Write(Target::Decisions) => Failure::Write(OutputFile::Decisions),
-        }
     }
 
     /// The exit status: 1 for a text, a capture, a part or digests that are refused or an event that isn't there, 3 for want of

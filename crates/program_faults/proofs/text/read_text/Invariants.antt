@@ -1,7 +1,7 @@
 use Rattle.std.proofs.Common.{◌≡◌, ◌≤◌, length}
 use Rattle.std.specs.Io.KnownBytes.{Consumes}
 use Rattle.pcap_stream.specs.Counts.{GoesOnBy}
-use Rattle.dissector.proofs.text.read_text.Given as goal
+use Rattle.program_faults.proofs.text.read_text.Given as goal
 
 -- so many reads brought the text, each some of it, and none failed
 abbrev pub invariant-loop-made : goal.invariant-loop-made

@@ -47,8 +47,9 @@ module _ (segments : Segments) {T : Type 0} (sees : T → Sight → T → Type 0
     pub step : IsStep segments changes old new first result
     pub seen : sees old_watch (sight_among segments (changes_of changes) old.state (old.number + 1) step.e) new_watch
 
-  -- the same by why the event stopped the run, if it did: it is told of where the event's source stands, and of the record
-  -- that comes behind
+  -- the same, where the answer is short: a halt says why the event stopped the run, and not where. The run's fault is what the
+  -- halt means at the capture that the event came from, and at the record behind the event's; for a change, which comes from
+  -- no capture, that holds of any
   abbrev pub IsPut : List TimedChange → Run → Run → First → T → T → Result (Unit {0}) Halt → Type 0
   IsPut changes old new first old_watch new_watch (Ok done) = IsWatchedStep changes old new first old_watch new_watch (Ok done)
   IsPut changes old new first old_watch new_watch (Err h) =

@@ -1,5 +1,5 @@
 -- Lines of captures in the text of their digests: where two texts begin with one, both have the same.
-use Rattle.std.proofs.Common.{◌≡◌, ◌≢◌, ◌∙◌, sym, refl, ap, ℕ, zero, suc, ◌+◌, ◌^◌, ◌<◌, ◌≤◌, List, [], ◌∷◌, ◌++◌, length, get_or, take, codes, decimal, All, Option, None, Some, MatchOption, Bor, arith, add-zero, append_assoc, append-nil, length-append}
+use Rattle.std.proofs.Common.{◌≡◌, ◌≢◌, ◌∙◌, sym, refl, ap, ℕ, suc, ◌+◌, ◌^◌, ◌<◌, ◌≤◌, List, [], ◌∷◌, ◌++◌, length, get_or, take, codes, decimal, All, Option, None, Some, MatchOption, Bor, arith, add-zero, append_assoc, append-nil, length-append}
 use Rattle.std.proofs.lemmas.Fmt.{decimal_injective, digits_decimal}
 use Rattle.std.proofs.lemmas.List.{append_cancel_left, length-take, take_more}
 use Rattle.std.proofs.lemmas.List.Elements.{All-head, All-tail}
@@ -9,23 +9,9 @@ use Rattle.timeline.specs.declared.source.Tap.TheVariants as taps
 use Rattle.shard_record.specs.Digests.{AreDigests, IsDigest, Lacks, digest_line, digest_lines, digests_text, first_line, port_line, underlay_line}
 use Rattle.shard_record.specs.Record.{capture_word, sum_line}
 use Rattle.shard_record.specs.declared.digests.CaptureDigest.{CaptureDigest}
-use Rattle.shard_record.proofs.Lines.{line-append, same_sum_lines}
+use Rattle.shard_record.proofs.Lines.{same_sum_lines, same_word}
 
 -- ---- a word, and the space behind it
-
-lacks_tail : (c x : ℕ) (xs : List ℕ) → Lacks c (x ∷ xs) → Lacks c xs
-lacks_tail c x xs lacks = λ i h. lacks (suc i) (omega arith)
-
-pub same_word : (c : ℕ) (a b r q : List ℕ) → Lacks c a → Lacks c b → a ++ c ∷ r ≡ b ++ c ∷ q → (a ≡ b) × (r ≡ q)
-same_word c [] [] r q f g e = (refl, (cc))
-same_word c [] (y ∷ b) r q f g e = let h : y ≡ c = cc in absurd (g 0 (omega arith) h)
-same_word c (x ∷ a) [] r q f g e = let h : x ≡ c = cc in absurd (f 0 (omega arith) h)
-same_word c (x ∷ a) (y ∷ b) r q f g e =
-    let h : a ++ c ∷ r ≡ b ++ c ∷ q = cc in
-    let first : x ≡ y = cc in
-    let both = same_word c a b r q (lacks_tail c x a f) (lacks_tail c y b g) h in
-    let front : a ≡ b = both.0 in
-    ((cc), both.1)
 
 space_at : (told rest : List ℕ) → get_or (told ++ 32 ∷ rest) (length told) 0 ≡ 32
 space_at [] rest = refl
@@ -161,26 +147,26 @@ pub record IsReadTo (text told : List ℕ) (ports : List CaptureDigest) (under :
   pub few : length ports ≤ 16
   pub no_more : (d : CaptureDigest) (rest : List ℕ) → IsDigest d → length ports < 16 → under ≢ port_line (length ports + 1) d ++ rest
 
-pub front_is : (text told : List ℕ) (ports : List CaptureDigest) (under : List ℕ) → IsReadTo text told ports under → text ≡ first_line ++ (digest_lines 1 ports ++ under)
-front_is text told ports under r = r.first ∙ ap (λ (l : List ℕ). first_line ++ l) r.read
+module _ {text told : List ℕ} {ports : List CaptureDigest} {under : List ℕ} (read : IsReadTo text told ports under) where
+  pub front_is : text ≡ first_line ++ (digest_lines 1 ports ++ under)
+  front_is = read.first ∙ ap (λ (l : List ℕ). first_line ++ l) read.read
 
-pub under_is : (text told : List ℕ) (ports : List CaptureDigest) (under : List ℕ) → IsReadTo text told ports under
-    → (ps : List CaptureDigest) (u : CaptureDigest) → AreDigests ps u → text ≡ digests_text ps u → (ports ≡ ps) × (under ≡ underlay_line u ++ [])
-under_is text told ports under r ps u are e =
-    let at : 1 + length ports ≡ length ports + 1 = omega arith in
-    let most = are.few in
-    same_ports 1 ports ps under u [] r.digests are.each
-    (λ d rest is less h. r.no_more d rest is (omega arith) (h ∙ ap (λ (n : ℕ). port_line n d ++ rest) at))
-    (append_cancel_left first_line _ _ (sym (front_is text told ports under r) ∙ e) ∙ ap (λ (l : List ℕ). digest_lines 1 ps ++ l) (sym (append-nil (underlay_line u))))
+  pub under_is : (ps : List CaptureDigest) (u : CaptureDigest) → AreDigests ps u → text ≡ digests_text ps u → (ports ≡ ps) × (under ≡ underlay_line u ++ [])
+  under_is ps u are e =
+      let at : 1 + length ports ≡ length ports + 1 = omega arith in
+      let most = are.few in
+      same_ports 1 ports ps under u [] read.digests are.each
+      (λ d rest is less h. read.no_more d rest is (omega arith) (h ∙ ap (λ (n : ℕ). port_line n d ++ rest) at))
+      (append_cancel_left first_line _ _ (sym front_is ∙ e) ∙ ap (λ (l : List ℕ). digest_lines 1 ps ++ l) (sym (append-nil (underlay_line u))))
 
-pub rest_is : (text told : List ℕ) (ports : List CaptureDigest) (under : List ℕ) (last : CaptureDigest) (rest : List ℕ) → IsReadTo text told ports under
-    → IsDigest last → under ≡ underlay_line last ++ rest
-    → (ps : List CaptureDigest) (u : CaptureDigest) → AreDigests ps u → text ≡ digests_text ps u → rest ≡ []
-rest_is text told ports under last rest r is h ps u are e =
-    (same_lines (capture_word taps.Underlay) last u rest [] is are.last (sym h ∙ (under_is text told ports under r ps u are e).1)).1
+  pub rest_is : (last : CaptureDigest) (rest : List ℕ) → IsDigest last → under ≡ underlay_line last ++ rest
+      → (ps : List CaptureDigest) (u : CaptureDigest) → AreDigests ps u → text ≡ digests_text ps u → rest ≡ []
+  rest_is last rest is h ps u are e = (same_lines (capture_word taps.Underlay) last u rest [] is are.last (sym h ∙ (under_is ps u are e).1)).1
 
-pub whole_is : (text told : List ℕ) (ports : List CaptureDigest) (under : List ℕ) (last : CaptureDigest) (rest : List ℕ) → IsReadTo text told ports under
-    → under ≡ underlay_line last ++ rest → text ≡ digests_text ports last ++ rest
-whole_is text told ports under last rest r h =
-    front_is text told ports under r ∙ ap (λ (l : List ℕ). first_line ++ (digest_lines 1 ports ++ l)) h
-    ∙ ap (λ (l : List ℕ). first_line ++ l) (sym (append_assoc (digest_lines 1 ports) (underlay_line last) rest))
+  pub whole_is : (last : CaptureDigest) (rest : List ℕ) → under ≡ underlay_line last ++ rest → text ≡ digests_text ports last ++ rest
+  whole_is last rest h =
+      front_is ∙ ap (λ (l : List ℕ). first_line ++ (digest_lines 1 ports ++ l)) h
+      ∙ ap (λ (l : List ℕ). first_line ++ l) (sym (append_assoc (digest_lines 1 ports) (underlay_line last) rest))
+
+  pub digests_read : (last : CaptureDigest) → IsDigest last → AreDigests ports last
+  digests_read last is = record { each = read.digests; few = read.few; last = is }

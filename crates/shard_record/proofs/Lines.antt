@@ -1,5 +1,5 @@
 -- Lines of a word and of what it tells: where two texts begin with one, both have the same.
-use Rattle.std.proofs.Common.{◌≡◌, ◌≢◌, ◌∙◌, sym, refl, ap, ℕ, zero, suc, ◌^◌, ◌<◌, ◌/◌, ◌%◌, List, [], ◌∷◌, ◌++◌, length, get_or, codes, decimal, Option, None, Some, Result, Ok, Err, MatchOption, MatchResult, Bor, true, false, is_err, arith, lit<, append_assoc, length-append}
+use Rattle.std.proofs.Common.{◌≡◌, ◌≢◌, ◌∙◌, sym, refl, ap, ℕ, zero, suc, ◌^◌, ◌<◌, ◌/◌, ◌%◌, List, [], ◌∷◌, ◌++◌, length, get_or, codes, decimal, Option, None, Some, Result, Ok, Err, MatchOption, MatchResult, Bor, true, false, is_err, arith, rules, append_assoc, length-append}
 use Rattle.std.proofs.lemmas.Fmt.{decimal_injective, digits_decimal, parse-decimal}
 use Rattle.std.proofs.lemmas.List.{append_cancel_left}
 use Rattle.std.proofs.lemmas.Str.Parse.{numerals_by_value, tells_by_index}
@@ -8,24 +8,27 @@ use Rattle.std.specs.Str.Parse.{ParsesUnsigned}
 use Rattle.hex.specs.Hex.{decode_sized, encode_lower, encode_with, lower_digits}
 use Rattle.hex.proofs.HexLemmas.{decode_of-encode_lower, decode_of-ok, decode_of-same, decode_sized-encode_lower, decode_sized-ok, decode_sized-twice}
 use Rattle.hex.specs.declared.error.FromHexError.{FromHexError}
+use Rattle.shard_record.specs.Digests.{Lacks}
 use Rattle.shard_record.specs.Record.{IsOneLine, events_line, line, sum_line}
 use Rattle.shard_record.specs.Sum.{IsSum}
 
--- ---- lines
+-- ---- what stands in front of a character that it lacks
 
-one_line_tail : (x : ℕ) (xs : List ℕ) → IsOneLine (x ∷ xs) → IsOneLine xs
-one_line_tail x xs one = λ i h. one (suc i) (omega arith)
+lacks_tail : (c x : ℕ) (xs : List ℕ) → Lacks c (x ∷ xs) → Lacks c xs
+lacks_tail c x xs lacks = λ i h. lacks (suc i) (omega arith)
 
-pub same_front : (a b r q : List ℕ) → IsOneLine a → IsOneLine b → a ++ 10 ∷ r ≡ b ++ 10 ∷ q → (a ≡ b) × (r ≡ q)
-same_front [] [] r q f g e = (refl, (cc))
-same_front [] (y ∷ b) r q f g e = let h : y ≡ 10 = cc in absurd (g 0 (omega arith) h)
-same_front (x ∷ a) [] r q f g e = let h : x ≡ 10 = cc in absurd (f 0 (omega arith) h)
-same_front (x ∷ a) (y ∷ b) r q f g e =
-    let h : a ++ 10 ∷ r ≡ b ++ 10 ∷ q = cc in
+pub same_word : (c : ℕ) (a b r q : List ℕ) → Lacks c a → Lacks c b → a ++ c ∷ r ≡ b ++ c ∷ q → (a ≡ b) × (r ≡ q)
+same_word c [] [] r q f g e = (refl, (cc))
+same_word c [] (y ∷ b) r q f g e = let h : y ≡ c = cc in absurd (g 0 (omega arith) h)
+same_word c (x ∷ a) [] r q f g e = let h : x ≡ c = cc in absurd (f 0 (omega arith) h)
+same_word c (x ∷ a) (y ∷ b) r q f g e =
+    let h : a ++ c ∷ r ≡ b ++ c ∷ q = cc in
     let first : x ≡ y = cc in
-    let both = same_front a b r q (one_line_tail x a f) (one_line_tail y b g) h in
+    let both = same_word c a b r q (lacks_tail c x a f) (lacks_tail c y b g) h in
     let front : a ≡ b = both.0 in
     ((cc), both.1)
+
+-- ---- lines
 
 pub line-append : (word told rest : List ℕ) → line word told ++ rest ≡ word ++ (told ++ 10 ∷ rest)
 line-append word told rest = simp append_assoc
@@ -34,12 +37,9 @@ pub behind_word : (text word told rest behind : List ℕ) → text ≡ word ++ b
 behind_word text word told rest behind e h = append_cancel_left word _ _ (sym e ∙ h ∙ line-append word told rest)
 
 pub same_lines : (word a b r q : List ℕ) → IsOneLine a → IsOneLine b → line word a ++ r ≡ line word b ++ q → (a ≡ b) × (r ≡ q)
-same_lines word a b r q f g e = same_front a b r q f g (append_cancel_left word _ _ (sym (line-append word a r) ∙ e ∙ line-append word b q))
+same_lines word a b r q f g e = same_word 10 a b r q f g (append_cancel_left word _ _ (sym (line-append word a r) ∙ e ∙ line-append word b q))
 
 -- ---- digests
-
-not_ten : (x : ℕ) → 10 < x → x ≢ 10
-not_ten x h e = omega arith
 
 abbrev HasNoFeed : List ℕ → Type 0
 HasNoFeed [] = Unit {0}
@@ -52,43 +52,7 @@ no_feed_at (x ∷ xs) h zero = h.0
 no_feed_at (x ∷ xs) h (suc k) = no_feed_at xs h.1 k
 
 digits_no_feed : HasNoFeed lower_digits
-digits_no_feed = (
-  not_ten 48 (lit< tt),
-  (
-    not_ten 49 (lit< tt),
-    (
-      not_ten 50 (lit< tt),
-      (
-        not_ten 51 (lit< tt),
-        (
-          not_ten 52 (lit< tt),
-          (
-            not_ten 53 (lit< tt),
-            (
-              not_ten 54 (lit< tt),
-              (
-                not_ten 55 (lit< tt),
-                (
-                  not_ten 56 (lit< tt),
-                  (
-                    not_ten 57 (lit< tt),
-                    (
-                      not_ten 97 (lit< tt),
-                      (
-                        not_ten 98 (lit< tt),
-                        (not_ten 99 (lit< tt), (not_ten 100 (lit< tt), (not_ten 101 (lit< tt), (not_ten 102 (lit< tt), tt)))),
-                      ),
-                    ),
-                  ),
-                ),
-              ),
-            ),
-          ),
-        ),
-      ),
-    ),
-  ),
-)
+digits_no_feed = search rules
 
 hex_at : (sum : List ℕ) (i : ℕ) → i < length (encode_lower sum) → get_or (encode_lower sum) i 0 ≢ 10
 unfolding encode_with
@@ -130,7 +94,7 @@ hex_sum digits out result h ok = made (decode_sized digits 32) refl h
 pub no_sum : (text word behind digits rest : List ℕ) → text ≡ word ++ behind → behind ≡ digits ++ 10 ∷ rest → IsOneLine digits
     → ((sum : List ℕ) → IsSum sum → digits ≢ encode_lower sum) → (sum rest' : List ℕ) → IsSum sum → text ≢ sum_line word sum ++ rest'
 no_sum text word behind digits rest e h one none sum rest' is f =
-    none sum is (same_front digits (encode_lower sum) rest rest' one (one_line_hex sum) (sym h ∙ behind_word text word (encode_lower sum) rest' behind e f)).0
+    none sum is (same_word 10 digits (encode_lower sum) rest rest' one (one_line_hex sum) (sym h ∙ behind_word text word (encode_lower sum) rest' behind e f)).0
 
 -- ---- numbers
 
@@ -147,7 +111,7 @@ same_events m n r q f g e =
 pub no_number : (text word behind digits rest : List ℕ) → text ≡ word ++ behind → behind ≡ digits ++ 10 ∷ rest → IsOneLine digits
     → ((n : ℕ) → n < 2 ^ 64 → digits ≢ decimal n) → (n : ℕ) (rest' : List ℕ) → n < 2 ^ 64 → text ≢ line word (decimal n) ++ rest'
 no_number text word behind digits rest e h one none n rest' is f =
-    none n is (same_front digits (decimal n) rest rest' one (one_line_decimal n is) (sym h ∙ behind_word text word (decimal n) rest' behind e f)).0
+    none n is (same_word 10 digits (decimal n) rest rest' one (one_line_decimal n is) (sym h ∙ behind_word text word (decimal n) rest' behind e f)).0
 
 pub number_read : {E : Type 0} (digits : List ℕ) (n number : ℕ) (r : Result ℕ E) → n < 2 ^ 64 → digits ≡ decimal n → r ≡ Ok number → ParsesUnsigned 64 10 digits r → number ≡ n
 number_read digits n number r small e ok h = let read = parse-decimal 64 n digits r small small e h in cc

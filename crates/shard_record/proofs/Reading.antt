@@ -153,37 +153,8 @@ pub record IsReadTo (text segments settings : List ℕ) (changes : Option (List 
   pub no_more : (sum rest : List ℕ) → IsSum sum → length ports < 16 → under ≢ capture_line (taps.Port (length ports + 1)) sum ++ rest
   pub ports_read : captured ≡ port_lines 1 ports ++ under
 
-pub under_is : (text segments settings : List ℕ) (changes : Option (List ℕ)) (ports : List (List ℕ)) (under : List ℕ) → IsReadTo text segments settings changes ports under
-    → (f : Facts) → IsRecord f → text ≡ text_of f → under ≡ behind_ports f
-under_is text segments settings changes ports under read f is e =
-    let a = segments_are f is read.listed segments read.set read.one_line read.segments_read (first_is text read.listed f read.first e) in
-    let b = settings_are f is read.set settings read.changed read.settings_sum read.settings_read a.1 in
-    let c = changes_are f is read.changed changes read.captured read.changes_sum read.changes_none read.changes_read b.1 in
-    (ports_are f is read.captured ports under read.port_sums read.few read.no_more read.ports_read c.1).1
-
 front_parts : (a b c d e f : List ℕ) → a ++ (b ++ (c ++ (d ++ (e ++ f)))) ≡ a ++ b ++ c ++ d ++ e ++ f
 front_parts a b c d e f = sym (simp append_assoc)
-
-pub front_is : (text segments settings : List ℕ) (changes : Option (List ℕ)) (ports : List (List ℕ)) (under underlay : List ℕ) (events : ℕ)
-    → IsReadTo text segments settings changes ports under → text ≡ before_underlay (facts segments settings changes ports underlay events) ++ under
-front_is text segments settings changes ports under underlay events read =
-    read.first
-    ∙ ap (λ (l : List ℕ). first_line ++ l)
-    (read.segments_read ∙ ap (λ (l : List ℕ). segments_line segments ++ l)
-    (read.settings_read ∙ ap (λ (l : List ℕ). settings_line settings ++ l) (read.changes_read ∙ ap (λ (l : List ℕ). changes_line changes ++ l) read.ports_read)))
-    ∙ front_parts first_line (segments_line segments) (settings_line settings) (changes_line changes) (port_lines 1 ports) under
-
-pub made_record : (text segments settings : List ℕ) (changes : Option (List ℕ)) (ports : List (List ℕ)) (under underlay : List ℕ) (events : ℕ)
-    → IsReadTo text segments settings changes ports under → IsSum underlay → events < 2 ^ 64 → IsRecord (facts segments settings changes ports underlay events)
-made_record text segments settings changes ports under underlay events read of small = record {
-  segments = read.one_line;
-  settings = read.settings_sum;
-  changes = read.changes_sum;
-  ports = read.port_sums;
-  few = read.few;
-  underlay = of;
-  events = small;
-}
 
 lacks_changes : (changes : Option (List ℕ)) (ports : List (List ℕ)) (changed captured under : List ℕ)
     → IfNone changes ((sum rest : List ℕ) → IsSum sum → changed ≢ sum_line (codes "changes ") sum ++ rest)
@@ -193,46 +164,72 @@ lacks_changes None [] changed captured under none e h same empty sum rest is g =
 lacks_changes None (x ∷ ports) changed captured under none e h same empty sum rest is g = cc empty
 lacks_changes (Some x) ports changed captured under none e h same empty sum rest is g = cc same
 
--- where the underlay's capture isn't there
-pub capture_fault : (text segments settings : List ℕ) (changes : Option (List ℕ)) (ports : List (List ℕ)) (under : List ℕ) (fault : ShardFault)
-    → IsReadTo text segments settings changes ports under → IsNoCapture under fault
-    → ((sum rest : List ℕ) → IsSum sum → under ≢ capture_line taps.Underlay sum ++ rest) → IsFaultIn text fault
-capture_fault text segments settings changes ports under fault read told none =
-    let f = facts segments settings changes ports settings 0 in
-    let is = made_record text segments settings changes ports under settings 0 read read.settings_sum (lit< tt) in
-    let front = front_is text segments settings changes ports under settings 0 read in
-    let lacks : LacksNext f under = record {
-      changes = lacks_changes changes ports read.changed read.captured under read.changes_none read.changes_read read.ports_read;
-      port = read.no_more;
-      underlay = none;
-    } in
-    elim told [
-      | inl out ↦ rw out.2 (f, under, out.0, is, front, lacks, out.1)
-      | inr out ↦ rw out.1 (f, under, is, front, lacks, out.0)
-    ]
+module _ {text segments settings : List ℕ} {changes : Option (List ℕ)} {ports : List (List ℕ)} {under : List ℕ} (read : IsReadTo text segments settings changes ports under) where
+  pub under_is : (f : Facts) → IsRecord f → text ≡ text_of f → under ≡ behind_ports f
+  under_is f is e =
+      let a = segments_are f is read.listed segments read.set read.one_line read.segments_read (first_is text read.listed f read.first e) in
+      let b = settings_are f is read.set settings read.changed read.settings_sum read.settings_read a.1 in
+      let c = changes_are f is read.changed changes read.captured read.changes_sum read.changes_none read.changes_read b.1 in
+      (ports_are f is read.captured ports under read.port_sums read.few read.no_more read.ports_read c.1).1
 
--- and its line
-pub events_front : (text segments settings : List ℕ) (changes : Option (List ℕ)) (ports : List (List ℕ)) (under underlay : List ℕ) (events : ℕ) (counted : List ℕ)
-    → IsReadTo text segments settings changes ports under → under ≡ capture_line taps.Underlay underlay ++ counted
-    → text ≡ before_events (facts segments settings changes ports underlay events) ++ counted
-events_front text segments settings changes ports under underlay events counted read e =
-    front_is text segments settings changes ports under underlay events read
-    ∙ ap (λ (l : List ℕ). before_underlay (facts segments settings changes ports underlay events) ++ l) e
-    ∙ sym (append_assoc (before_underlay (facts segments settings changes ports underlay events)) (capture_line taps.Underlay underlay) counted)
+  -- the facts that were read, with these behind them
+  abbrev pub facts_read : List ℕ → ℕ → Facts
+  facts_read underlay events = facts segments settings changes ports underlay events
 
-pub counted_is : (text segments settings : List ℕ) (changes : Option (List ℕ)) (ports : List (List ℕ)) (under underlay counted : List ℕ) → IsReadTo text segments settings changes ports under
-    → IsSum underlay → under ≡ capture_line taps.Underlay underlay ++ counted → (f : Facts) → IsRecord f → text ≡ text_of f → counted ≡ behind_captures f
-counted_is text segments settings changes ports under underlay counted read of h f is e =
-    (underlay_is f is under underlay counted of h (under_is text segments settings changes ports under read f is e)).1
+  front_is : (underlay : List ℕ) (events : ℕ) → text ≡ before_underlay (facts_read underlay events) ++ under
+  front_is underlay events =
+      read.first
+      ∙ ap (λ (l : List ℕ). first_line ++ l)
+      (read.segments_read ∙ ap (λ (l : List ℕ). segments_line segments ++ l)
+      (read.settings_read ∙ ap (λ (l : List ℕ). settings_line settings ++ l) (read.changes_read ∙ ap (λ (l : List ℕ). changes_line changes ++ l) read.ports_read)))
+      ∙ front_parts first_line (segments_line segments) (settings_line settings) (changes_line changes) (port_lines 1 ports) under
 
--- and the last one
-pub whole_front : (text segments settings : List ℕ) (changes : Option (List ℕ)) (ports : List (List ℕ)) (under underlay : List ℕ) (events : ℕ) (counted rest : List ℕ)
-    → IsReadTo text segments settings changes ports under → under ≡ capture_line taps.Underlay underlay ++ counted → counted ≡ events_line events ++ rest
-    → text ≡ text_of (facts segments settings changes ports underlay events) ++ rest
-whole_front text segments settings changes ports under underlay events counted rest read e h =
-    events_front text segments settings changes ports under underlay events counted read e
-    ∙ ap (λ (l : List ℕ). before_events (facts segments settings changes ports underlay events) ++ l) h
-    ∙ sym (append_assoc (before_events (facts segments settings changes ports underlay events)) (events_line events) rest)
+  pub made_record : (underlay : List ℕ) (events : ℕ) → IsSum underlay → events < 2 ^ 64 → IsRecord (facts_read underlay events)
+  made_record underlay events of small = record {
+    segments = read.one_line;
+    settings = read.settings_sum;
+    changes = read.changes_sum;
+    ports = read.port_sums;
+    few = read.few;
+    underlay = of;
+    events = small;
+  }
+
+  -- where the underlay's capture isn't there
+  pub capture_fault : (fault : ShardFault) → IsNoCapture under fault → ((sum rest : List ℕ) → IsSum sum → under ≢ capture_line taps.Underlay sum ++ rest) → IsFaultIn text fault
+  capture_fault fault told none =
+      let f = facts_read settings 0 in
+      let is = made_record settings 0 read.settings_sum (lit< tt) in
+      let front = front_is settings 0 in
+      let lacks : LacksNext f under = record {
+        changes = lacks_changes changes ports read.changed read.captured under read.changes_none read.changes_read read.ports_read;
+        port = read.no_more;
+        underlay = none;
+      } in
+      elim told [
+        | inl out ↦ rw out.2 (f, under, out.0, is, front, lacks, out.1)
+        | inr out ↦ rw out.1 (f, under, is, front, lacks, out.0)
+      ]
+
+  -- and its line
+  pub events_front : (underlay : List ℕ) (events : ℕ) (counted : List ℕ) → under ≡ capture_line taps.Underlay underlay ++ counted
+      → text ≡ before_events (facts_read underlay events) ++ counted
+  events_front underlay events counted e =
+      front_is underlay events
+      ∙ ap (λ (l : List ℕ). before_underlay (facts_read underlay events) ++ l) e
+      ∙ sym (append_assoc (before_underlay (facts_read underlay events)) (capture_line taps.Underlay underlay) counted)
+
+  pub counted_is : (underlay counted : List ℕ) → IsSum underlay → under ≡ capture_line taps.Underlay underlay ++ counted
+      → (f : Facts) → IsRecord f → text ≡ text_of f → counted ≡ behind_captures f
+  counted_is underlay counted of h f is e = (underlay_is f is under underlay counted of h (under_is f is e)).1
+
+  -- and the last one
+  pub whole_front : (underlay : List ℕ) (events : ℕ) (counted rest : List ℕ) → under ≡ capture_line taps.Underlay underlay ++ counted → counted ≡ events_line events ++ rest
+      → text ≡ text_of (facts_read underlay events) ++ rest
+  whole_front underlay events counted rest e h =
+      events_front underlay events counted e
+      ∙ ap (λ (l : List ℕ). before_events (facts_read underlay events) ++ l) h
+      ∙ sym (append_assoc (before_events (facts_read underlay events)) (events_line events) rest)
 
 pub nonempty : (rest : List ℕ) → (length rest == 0) ≡ false → rest ≢ []
 nonempty [] h = cc h

@@ -6,7 +6,7 @@ ghost use Rattle.shard_record.specs.declared.digests.CaptureDigest.{CaptureDiges
 use crate::digests::CaptureDigest;
 use crate::facts::MOST_PORTS;
 use crate::steps::{behind, number_of, sum_behind};
-use crate::write::put_sum;
+use crate::write::{port_word, put_sum};
 use arrayvec::ArrayVec;
 use itoa::Buffer;
 use std::alloc::AllocError;
@@ -29,9 +29,7 @@ pub(crate) fn put_digest(
 fn put_port_digest(text: &mut Vec<u8>, port: u8, digest: &CaptureDigest) -> Result<(), AllocError>
     ensures { OnOk result (text.new.items ≡ text.old.items ++ port_line port digest.now) }
 {
-    let mut word = Vec::from_slice(*text.allocator(), b"capture p")?;
-    word.extend_from_slice(Buffer::new().format(port).as_bytes())?;
-    word.push(b' ')?;
+    let word = port_word(*text.allocator(), port)?;
     put_digest(text, word.as_slice(), digest)
 }
 

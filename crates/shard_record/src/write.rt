@@ -1,7 +1,7 @@
 //! The text of a record.
 ghost use Rattle.std.specs.Prelude.{◌≡◌, ◌≤◌, ◌++◌, length, IfOk, OnOk};
 ghost use Rattle.std.specs.Option.{option_copied};
-ghost use Rattle.shard_record.specs.Record.{capture_line, changes_line, facts_of, line, port_lines, sum_line, text_of};
+ghost use Rattle.shard_record.specs.Record.{capture_line, capture_word, changes_line, facts_of, line, port_lines, sum_line, text_of};
 ghost use Rattle.timeline.specs.declared.source.Tap.TheVariants.{Port};
 
 use crate::facts::ShardRecord;
@@ -55,13 +55,21 @@ fn put_changes(text: &mut Vec<u8>, sum: Option<&[u8; 32]>) -> Result<(), AllocEr
     }
 }
 
+/// The word of the line of a port's capture, with the space behind it.
+pub(crate) fn port_word(alloc: Global, port: u8) -> Result<Vec<u8>, AllocError>
+    ensures { IfOk result (λ word. word.items ≡ capture_word (Port port)) }
+{
+    let mut word = Vec::from_slice(alloc, b"capture p")?;
+    word.extend_from_slice(Buffer::new().format(port).as_bytes())?;
+    word.push(b' ')?;
+    Ok(word)
+}
+
 /// Puts the line of a port's capture behind a text.
 fn put_port(text: &mut Vec<u8>, port: u8, sum: &[u8; 32]) -> Result<(), AllocError>
     ensures { OnOk result (text.new.items ≡ text.old.items ++ capture_line (Port port) sum.now) }
 {
-    let mut word = Vec::from_slice(*text.allocator(), b"capture p")?;
-    word.extend_from_slice(Buffer::new().format(port).as_bytes())?;
-    word.push(b' ')?;
+    let word = port_word(*text.allocator(), port)?;
     put_sum(text, word.as_slice(), sum)
 }
 

@@ -20,7 +20,7 @@ use Rattle.ip_udp_view.specs.Udp.{pseudo, udp_header}
 use Rattle.vxlan_head.specs.Vxlan.{IsVni}
 use Rattle.vxlan_head.proofs.Reading.{vxlan-sent}
 use Rattle.geneve_head.proofs.PacketLemmas.{geneve-sent}
-use Rattle.flood_lists.specs.Flood.{is_there}
+use Rattle.flood_lists.specs.Flood.{is_there, own_of}
 use Rattle.underlay.specs.declared.segment.Segment.{Segment}
 use Rattle.underlay.specs.declared.settings.Underlay.{Underlay}
 use Rattle.underlay.specs.declared.tunnels.SegmentTunnel.{SegmentTunnel}
@@ -29,8 +29,8 @@ use Rattle.underlay.specs.Settings.{own, is_own, port_of}
 use Rattle.decapsulate.specs.declared.arrived.Arrived.{Arrived}
 use Rattle.decapsulate.specs.Arrival.{is_bad_source, IsTunnelled, IsSumTaken, Arrives, capture_reasons, arrival, arrival_of}
 use Rattle.encapsulate.specs.Flow.{source_port}
-use Rattle.encapsulate.specs.Packet.{tunnelled, sum_sent, packet}
-use Rattle.encapsulate.specs.Remote.{remote_text}
+use Rattle.encapsulate.specs.Packet.{tunnelled, sum_sent}
+use Rattle.encapsulate.specs.Remote.{packet_from, remote_text}
 use Rattle.encapsulate.specs.Sender.{IsOwnAddr, IsUnderlay}
 use Rattle.encapsulate.proofs.SenderLemmas.{own-is, own-octets, packet-sent}
 use Rattle.tunnel_peers.specs.Peer.{Sends, Receives, PeerGetsTheFrame}
@@ -131,56 +131,53 @@ pub record IsPacketOf (S R : Overlay) (vid w : ℕ) (kind : Tunnel) (a c : Addr)
   pub arrives : Arrives R (remote_text S vid kind a f) (brought w kind c f)
   pub short : length (remote_text S vid kind a f) ≤ 65549
 
-sent-from4 : (S R : Overlay) (vid w : ℕ) (h : Segment) (kind : Tunnel) (t : SegmentTunnel) (dst : List ℕ) (c : Addr) (f : Frame) → (src : List ℕ) → S.underlay.ip4 ≡ Some src → V4 src ≡ c
-    → Sends S vid kind t (V4 dst) c f → Receives R S w h kind t (V4 dst) c f → IsPacketOf S R vid w kind (V4 dst) c f
-sent-from4 S R vid w h kind t dst c f src there same s q =
-    let U = S.underlay in
-    let a = V4 dst in
-    let d = tunnelled kind t.vni f in
-    let from = source_port f in
-    let to = port_of U kind in
-    let sum = sum_sent U.sum4 (V4 src) a from to d in
-    let text = packet U src a from to d in
-    let owned : IsOwnAddr (V4 src) = subst IsOwnAddr (sym same) (own-is U a c s.settings s.from) in
-    let room = fits4 S vid dst f s.settings s.is_frame s.admitted kind t.vni in
-    let datagram = Datagram4 U src dst from to d s.settings s.is_addr owned.is_addr.0 (source_port-below f) (port-below U kind s.settings) room in
-    let taken = taken4 R.underlay U.sum4 src dst from to d owned.is_addr.0 s.is_addr.0 in
-    let e : remote_text S vid kind a f ≡ text = packet-sent S vid kind t a src f s.tunnel there in
+-- a packet that is a datagram whose checksum is taken
+sent-from : (S R : Overlay) (vid w : ℕ) (h : Segment) (kind : Tunnel) (t : SegmentTunnel) (a c : Addr) (f : Frame) (src : List ℕ) (sum : ℕ) (text : List ℕ)
+    → Sends S vid kind t a c f → Receives R S w h kind t a c f → own_of (own S.underlay) a ≡ Some src → text ≡ packet_from S.underlay kind t.vni src a f
+    → Datagram text c a (source_port f) (port_of S.underlay kind) sum (tunnelled kind t.vni f)
+    → IsSumTaken R.underlay c a (source_port f) (port_of S.underlay kind) sum (tunnelled kind t.vni f)
+    → length text ≤ 65549 → IsPacketOf S R vid w kind a c f
+sent-from S R vid w h kind t a c f src sum text s q there is datagram taken short =
+    let e : text ≡ remote_text S vid kind a f = is ∙ sym (packet-sent S vid kind t a src f s.tunnel there) in
     record {
-      arrives = subst (λ (b : List ℕ). Arrives R b (brought w kind c f)) (sym e)
-          (arrives S R vid w h kind t a c f text from sum s q
-          (subst (λ (x : Addr). Datagram text x a from to sum d) same datagram)
-          (subst (λ (x : Addr). IsSumTaken R.underlay x a from to sum d) same taken));
-      short = subst (λ (b : List ℕ). length b ≤ 65549) (sym e) (omega (arith, length-packet4 U src dst from to d s.settings s.is_addr owned.is_addr.0, room));
+      arrives = subst (λ (b : List ℕ). Arrives R b (brought w kind c f)) e (arrives S R vid w h kind t a c f text (source_port f) sum s q datagram taken);
+      short = subst (λ (b : List ℕ). length b ≤ 65549) e short;
     }
 
-sent-from6 : (S R : Overlay) (vid w : ℕ) (h : Segment) (kind : Tunnel) (t : SegmentTunnel) (dst : List ℕ) (c : Addr) (f : Frame) → (src : List ℕ) → S.underlay.ip6 ≡ Some src → V6 src ≡ c
-    → Sends S vid kind t (V6 dst) c f → Receives R S w h kind t (V6 dst) c f → IsPacketOf S R vid w kind (V6 dst) c f
-sent-from6 S R vid w h kind t dst c f src there same s q =
+sent-from4 : (S R : Overlay) (vid w : ℕ) (h : Segment) (kind : Tunnel) (t : SegmentTunnel) (dst src : List ℕ) (f : Frame) → S.underlay.ip4 ≡ Some src
+    → Sends S vid kind t (V4 dst) (V4 src) f → Receives R S w h kind t (V4 dst) (V4 src) f → IsPacketOf S R vid w kind (V4 dst) (V4 src) f
+sent-from4 S R vid w h kind t dst src f there s q =
     let U = S.underlay in
-    let a = V6 dst in
     let d = tunnelled kind t.vni f in
-    let from = source_port f in
-    let to = port_of U kind in
-    let sum = sum_sent U.sum6 (V6 src) a from to d in
-    let text = packet U src a from to d in
-    let owned : IsOwnAddr (V6 src) = subst IsOwnAddr (sym same) (own-is U a c s.settings s.from) in
+    let len : length src ≡ 4 = (own-is U (V4 dst) (V4 src) s.settings s.from).is_addr.0 in
+    let room = fits4 S vid dst f s.settings s.is_frame s.admitted kind t.vni in
+    sent-from S R vid w h kind t (V4 dst) (V4 src) f src _ _ s q there refl
+    (Datagram4 U src dst (source_port f) (port_of U kind) d s.settings s.is_addr len (source_port-below f) (port-below U kind s.settings) room)
+    (taken4 R.underlay U.sum4 src dst (source_port f) (port_of U kind) d len s.is_addr.0)
+    (omega (arith, length-packet4 U src dst (source_port f) (port_of U kind) d s.settings s.is_addr len, room))
+
+sent-from6 : (S R : Overlay) (vid w : ℕ) (h : Segment) (kind : Tunnel) (t : SegmentTunnel) (dst src : List ℕ) (f : Frame) → S.underlay.ip6 ≡ Some src
+    → Sends S vid kind t (V6 dst) (V6 src) f → Receives R S w h kind t (V6 dst) (V6 src) f → IsPacketOf S R vid w kind (V6 dst) (V6 src) f
+sent-from6 S R vid w h kind t dst src f there s q =
+    let U = S.underlay in
+    let d = tunnelled kind t.vni f in
+    let len : length src ≡ 16 = (own-is U (V6 dst) (V6 src) s.settings s.from).is_addr.0 in
     let room = fits6 S vid dst f s.settings s.is_frame s.admitted kind t.vni in
-    let datagram = Datagram6 U src dst from to d s.settings s.is_addr owned.is_addr.0 (source_port-below f) (port-below U kind s.settings) room in
-    let taken = taken6 R.underlay U.sum6 src dst from to d owned.is_addr.0 s.is_addr.0 q.sum in
-    let e : remote_text S vid kind a f ≡ text = packet-sent S vid kind t a src f s.tunnel there in
-    record {
-      arrives = subst (λ (b : List ℕ). Arrives R b (brought w kind c f)) (sym e)
-          (arrives S R vid w h kind t a c f text from sum s q
-          (subst (λ (x : Addr). Datagram text x a from to sum d) same datagram)
-          (subst (λ (x : Addr). IsSumTaken R.underlay x a from to sum d) same taken));
-      short = subst (λ (b : List ℕ). length b ≤ 65549) (sym e) (omega (arith, length-packet6 U src dst from to d s.settings s.is_addr owned.is_addr.0, room));
-    }
+    sent-from S R vid w h kind t (V6 dst) (V6 src) f src _ _ s q there refl
+    (Datagram6 U src dst (source_port f) (port_of U kind) d s.settings s.is_addr len (source_port-below f) (port-below U kind s.settings) room)
+    (taken6 R.underlay U.sum6 src dst (source_port f) (port_of U kind) d len s.is_addr.0 q.sum)
+    (omega (arith, length-packet6 U src dst (source_port f) (port_of U kind) d s.settings s.is_addr len, room))
 
 pub sent-to : (S R : Overlay) (vid w : ℕ) (h : Segment) (kind : Tunnel) (t : SegmentTunnel) (a c : Addr) (f : Frame)
     → Sends S vid kind t a c f → Receives R S w h kind t a c f → IsPacketOf S R vid w kind a c f
-sent-to S R vid w h kind t (V4 dst) c f s q = let o = own-octets S.underlay.ip4 V4 c s.from in sent-from4 S R vid w h kind t dst c f o.0 o.1 o.2 s q
-sent-to S R vid w h kind t (V6 dst) c f s q = let o = own-octets S.underlay.ip6 V6 c s.from in sent-from6 S R vid w h kind t dst c f o.0 o.1 o.2 s q
+sent-to S R vid w h kind t (V4 dst) c f =
+    λ s. let o = own-octets S.underlay.ip4 V4 c s.from in
+    subst (λ (c : Addr). Sends S vid kind t (V4 dst) c f → Receives R S w h kind t (V4 dst) c f → IsPacketOf S R vid w kind (V4 dst) c f) o.2
+    (sent-from4 S R vid w h kind t dst o.0 f o.1) s
+sent-to S R vid w h kind t (V6 dst) c f =
+    λ s. let o = own-octets S.underlay.ip6 V6 c s.from in
+    subst (λ (c : Addr). Sends S vid kind t (V6 dst) c f → Receives R S w h kind t (V6 dst) c f → IsPacketOf S R vid w kind (V6 dst) c f) o.2
+    (sent-from6 S R vid w h kind t dst o.0 f o.1) s
 
 -- a packet is whole where it is as long as it was
 whole : (R : Overlay) (b : List ℕ) (x : Arrived) → length b ≤ 65549 → arrival R b ≡ Ok x → arrival_of R (length b) b ≡ Ok x

@@ -63,48 +63,28 @@ flooding-tunnels segments v flood w = by (w == v) refl
 
 abbrev flooded_by : (SegmentSettings → Entries) → Option SegmentSettings → Seen → Seen
 flooded_by flood None x = x
-flooded_by flood (Some s) x = record {
-  underlay = x.underlay;
-  ports = x.ports;
-  pool = x.pool;
-  stands = x.stands;
-  tunnels = x.tunnels;
-  limits = x.limits;
-  members = x.members;
-  segment = option_map (flooded (flood s)) x.segment;
-  bridge = x.bridge;
-}
+flooded_by flood (Some s) x = record x { segment = option_map (flooded (flood s)) x.segment }
 
 abbrev flood_set : Settings → ℕ → (SegmentSettings → Entries) → Option SegmentSettings → Settings
 flood_set S v flood o = option_map_or (λ s. let left : Settings = record S { overlay = with_flood S.overlay v (flood s) } in left) o S
 
 seen-flooded : (S : Settings) (v : ℕ) (flood : SegmentSettings → Entries) (o : Option SegmentSettings) → seen v (flood_set S v flood o) ≡ flooded_by flood o (seen v S)
 seen-flooded S v flood None = refl
-seen-flooded S v flood (Some s) = λ i. record {
-  underlay = S.overlay.underlay;
-  ports = S.ports.ports;
-  pool = S.pool;
-  stands = (seen v S).stands;
-  tunnels = fun_ext (flooding-tunnels S.overlay.segments v (flood s)) i;
-  limits = (seen v S).limits;
-  members = (seen v S).members;
-  segment = flooding-own S.overlay.segments v (flood s) i;
-  bridge = S.bridges v;
-}
+seen-flooded S v flood (Some s) = λ i.
+    let x : Seen = seen v S in
+    record x {
+      tunnels = fun_ext (flooding-tunnels S.overlay.segments v (flood s)) i;
+      segment = flooding-own S.overlay.segments v (flood s) i;
+    }
 
 seen-flooded_other : (vid v : ℕ) (S : Settings) (flood : SegmentSettings → Entries) (o : Option SegmentSettings) → (vid == v) ≡ false → seen vid (flood_set S v flood o) ≡ seen vid S
 seen-flooded_other vid v S flood None other = refl
-seen-flooded_other vid v S flood (Some s) other = λ i. record {
-  underlay = S.overlay.underlay;
-  ports = S.ports.ports;
-  pool = S.pool;
-  stands = (seen vid S).stands;
-  tunnels = fun_ext (flooding-tunnels S.overlay.segments v (flood s)) i;
-  limits = (seen vid S).limits;
-  members = (seen vid S).members;
-  segment = flooding-other S.overlay.segments v (flood s) vid other i;
-  bridge = S.bridges vid;
-}
+seen-flooded_other vid v S flood (Some s) other = λ i.
+    let x : Seen = seen vid S in
+    record x {
+      tunnels = fun_ext (flooding-tunnels S.overlay.segments v (flood s)) i;
+      segment = flooding-other S.overlay.segments v (flood s) vid other i;
+    }
 
 -- ---- the rules of a bridge
 
@@ -118,17 +98,12 @@ limit-set change keeps true (Some b) = ap Some (keeps b)
 limit-set change keeps false o = refl
 
 seen-bridge : (vid v : ℕ) (S : Settings) (change : BridgeSettings → BridgeSettings) → ((b : BridgeSettings) → (change b).limit ≡ b.limit) → seen vid (with_bridge S v change) ≡ (let x : Seen = seen vid S in record x { bridge = bridge_set change v vid x.bridge })
-seen-bridge vid v S change keeps = λ i. record {
-  underlay = S.overlay.underlay;
-  ports = S.ports.ports;
-  pool = S.pool;
-  stands = (seen vid S).stands;
-  tunnels = (seen vid S).tunnels;
-  limits = fun_ext (λ w. limit-set change keeps (w == v) (S.bridges w)) i;
-  members = (seen vid S).members;
-  segment = (seen vid S).segment;
-  bridge = bridge_set change v vid (S.bridges vid);
-}
+seen-bridge vid v S change keeps = λ i.
+    let x : Seen = seen vid S in
+    record x {
+      limits = fun_ext (λ w. limit-set change keeps (w == v) (S.bridges w)) i;
+      bridge = bridge_set change v vid (S.bridges vid);
+    }
 
 -- ---- members
 
@@ -161,30 +136,20 @@ member-stands P v port egress there w = by (w == v) refl
     by false other = ap is_some (member-other P v port egress w other)
 
 seen-member : (v port : ℕ) (egress : Option Egress) (S : Settings) → is_some (members_at S.ports v) ≡ true → seen v (with_members S v port egress) ≡ joined_by port egress (seen v S)
-seen-member v port egress S there = λ i. record {
-  underlay = S.overlay.underlay;
-  ports = S.ports.ports;
-  pool = S.pool;
-  stands = fun_ext (member-stands S.ports v port egress there) i;
-  tunnels = (seen v S).tunnels;
-  limits = (seen v S).limits;
-  members = member-own S.ports v port egress i;
-  segment = (seen v S).segment;
-  bridge = S.bridges v;
-}
+seen-member v port egress S there = λ i.
+    let x : Seen = seen v S in
+    record x {
+      stands = fun_ext (member-stands S.ports v port egress there) i;
+      members = member-own S.ports v port egress i;
+    }
 
 member_other : (vid v port : ℕ) (egress : Option Egress) (S : Settings) → is_some (members_at S.ports v) ≡ true → (vid == v) ≡ false → seen vid (with_members S v port egress) ≡ seen vid S
-member_other vid v port egress S there other = λ i. record {
-  underlay = S.overlay.underlay;
-  ports = S.ports.ports;
-  pool = S.pool;
-  stands = fun_ext (member-stands S.ports v port egress there) i;
-  tunnels = (seen vid S).tunnels;
-  limits = (seen vid S).limits;
-  members = member-other S.ports v port egress vid other i;
-  segment = (seen vid S).segment;
-  bridge = S.bridges vid;
-}
+member_other vid v port egress S there other = λ i.
+    let x : Seen = seen vid S in
+    record x {
+      stands = fun_ext (member-stands S.ports v port egress there) i;
+      members = member-other S.ports v port egress vid other i;
+    }
 
 -- ---- ports
 
@@ -232,43 +197,36 @@ limited true limit (Some r) = refl
 limited false limit o = refl
 
 seen-limited : (vid v limit : ℕ) (S : Settings) → seen vid (applied (ToLimit v limit) S) ≡ see_applied vid (ToLimit v limit) (seen vid S)
-seen-limited vid v limit S = λ i. record {
-  underlay = S.overlay.underlay;
-  ports = S.ports.ports;
-  pool = S.pool;
-  stands = (seen vid S).stands;
-  tunnels = (seen vid S).tunnels;
-  limits = fun_ext (λ w. limited (w == v) limit (S.bridges w)) i;
-  members = (seen vid S).members;
-  segment = (seen vid S).segment;
-  bridge = bridge_set (λ b. record b { limit = limit }) v vid (S.bridges vid);
-}
+seen-limited vid v limit S = λ i.
+    let x : Seen = seen vid S in
+    record x {
+      limits = fun_ext (λ w. limited (w == v) limit (S.bridges w)) i;
+      bridge = bridge_set (λ b. record b { limit = limit }) v vid (S.bridges vid);
+    }
 
 seen-comes : (vid : ℕ) (new : NewSegment) (S : Settings) → seen vid (with_segment S new) ≡ see_applied vid (Comes new) (seen vid S)
-seen-comes vid new S = λ i. record {
-  underlay = S.overlay.underlay;
-  ports = S.ports.ports;
-  pool = S.pool;
-  stands = fun_ext (λ w. ap is_some (get-insert_at S.ports.segments new.vid empty w) ∙ chosen is_some (w == new.vid) (Some empty) (members_at S.ports w)) i;
-  tunnels = fun_ext (λ w. ap (option_map tunnels) (get-insert_at S.overlay.segments new.vid (segment_of (new_tunnels new)) w) ∙ chosen (option_map tunnels) (w == new.vid) (Some (segment_of (new_tunnels new))) (get S.overlay.segments w)) i;
-  limits = fun_ext (λ w. chosen limit_of (w == new.vid) (Some (new_bridge new)) (S.bridges w)) i;
-  members = get-insert_at S.ports.segments new.vid empty vid i;
-  segment = get-insert_at S.overlay.segments new.vid (segment_of (new_tunnels new)) vid i;
-  bridge = cond (vid == new.vid) (Some (new_bridge new)) (S.bridges vid);
-}
+seen-comes vid new S = λ i.
+    let x : Seen = seen vid S in
+    record x {
+      stands = fun_ext (λ w. ap is_some (get-insert_at S.ports.segments new.vid empty w) ∙ chosen is_some (w == new.vid) (Some empty) (members_at S.ports w)) i;
+      tunnels = fun_ext (λ w. ap (option_map tunnels) (get-insert_at S.overlay.segments new.vid (segment_of (new_tunnels new)) w) ∙ chosen (option_map tunnels) (w == new.vid) (Some (segment_of (new_tunnels new))) (get S.overlay.segments w)) i;
+      limits = fun_ext (λ w. chosen limit_of (w == new.vid) (Some (new_bridge new)) (S.bridges w)) i;
+      members = get-insert_at S.ports.segments new.vid empty vid i;
+      segment = get-insert_at S.overlay.segments new.vid (segment_of (new_tunnels new)) vid i;
+      bridge = cond (vid == new.vid) (Some (new_bridge new)) (S.bridges vid);
+    }
 
 seen-goes : (vid v : ℕ) (S : Settings) → seen vid (without_segment S v) ≡ see_applied vid (Goes v) (seen vid S)
-seen-goes vid v S = λ i. record {
-  underlay = S.overlay.underlay;
-  ports = S.ports.ports;
-  pool = S.pool;
-  stands = fun_ext (λ w. ap is_some (get-remove_at S.ports.segments v w) ∙ chosen is_some (w == v) None (members_at S.ports w)) i;
-  tunnels = fun_ext (λ w. ap (option_map tunnels) (get-remove_at S.overlay.segments v w) ∙ chosen (option_map tunnels) (w == v) None (get S.overlay.segments w)) i;
-  limits = fun_ext (λ w. chosen limit_of (w == v) None (S.bridges w)) i;
-  members = get-remove_at S.ports.segments v vid i;
-  segment = get-remove_at S.overlay.segments v vid i;
-  bridge = cond (vid == v) None (S.bridges vid);
-}
+seen-goes vid v S = λ i.
+    let x : Seen = seen vid S in
+    record x {
+      stands = fun_ext (λ w. ap is_some (get-remove_at S.ports.segments v w) ∙ chosen is_some (w == v) None (members_at S.ports w)) i;
+      tunnels = fun_ext (λ w. ap (option_map tunnels) (get-remove_at S.overlay.segments v w) ∙ chosen (option_map tunnels) (w == v) None (get S.overlay.segments w)) i;
+      limits = fun_ext (λ w. chosen limit_of (w == v) None (S.bridges w)) i;
+      members = get-remove_at S.ports.segments v vid i;
+      segment = get-remove_at S.overlay.segments v vid i;
+      bridge = cond (vid == v) None (S.bridges vid);
+    }
 
 seen-applied : (vid : ℕ) (e : Effect) (S : Settings) → IsThere S e → seen vid (applied e S) ≡ see_applied vid e (seen vid S)
 seen-applied vid (ToFlood v change) S there = by (vid == v) refl

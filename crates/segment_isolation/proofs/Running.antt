@@ -54,53 +54,44 @@ module _ (vid : ℕ) where
 
   -- ---- whole runs
 
-  pub told-same : (s r : State) (es : List Event) → IsRising s.moment es → Related vid s r → told r (only vid s es) ≡ told_in vid s es
-  told-same s r [] rising h = refl
-  told-same s r (e ∷ es) rising h =
-      by (λ own. told-same (after s e) (after r e) es rising.1 (Related-kept s r e rising.0 h own))
-      (λ other. told-same (after s e) r es rising.1 (Related-other s r e rising.0 h other))
+  -- what holds where no event is left holds of a whole run, if one that concerns the segment, which both runs have, passes it
+  -- on, and so does one that doesn't
+  along : (P : State → State → List Event → Type 0) → ((s r : State) → Related vid s r → P s r [])
+      → ((s r : State) (e : Event) (es : List Event) → s.moment ≤ e.at → Related vid s r → concerns vid s e ≡ true → P (after s e) (after r e) es → P s r (e ∷ es))
+      → ((s r : State) (e : Event) (es : List Event) → concerns vid s e ≡ false → P (after s e) r es → P s r (e ∷ es))
+      → (s r : State) (es : List Event) → IsRising s.moment es → Related vid s r → P s r es
+  along P none own other s r [] rising h = none s r h
+  along P none own other s r (e ∷ es) rising h =
+      by (λ is. along P none own other (after s e) (after r e) es rising.1 (Related-kept s r e rising.0 h is))
+      (λ is. along P none own other (after s e) r es rising.1 (Related-other s r e rising.0 h is))
       (concerns vid s e) refl
     where
-      by : (concerns vid s e ≡ true → told (after r e) (only vid (after s e) es) ≡ told_in vid (after s e) es)
-          → (concerns vid s e ≡ false → told r (only vid (after s e) es) ≡ told_in vid (after s e) es)
-          → (b : Bool) → concerns vid s e ≡ b
-          → told r (cond b (e ∷ only vid (after s e) es) (only vid (after s e) es)) ≡ cond b (told_of s e ∷ told_in vid (after s e) es) (told_in vid (after s e) es)
-      by own_it other_it true own =
-          let same : answer r e ≡ answer s e = sym (answers-same s r e rising.0 h own) in
-          λ i. (let first : Told = record { at = e.at; reply = same i } in first) ∷ own_it own i
-      by own_it other_it false other = other_it other
+      by : (concerns vid s e ≡ true → P (after s e) (after r e) es) → (concerns vid s e ≡ false → P (after s e) r es) → (b : Bool) → concerns vid s e ≡ b → P s r (e ∷ es)
+      by own_it other_it true is = own s r e es rising.0 h is (own_it is)
+      by own_it other_it false is = other s r e es is (other_it is)
+
+  pub told-same : (s r : State) (es : List Event) → IsRising s.moment es → Related vid s r → told r (only vid s es) ≡ told_in vid s es
+  told-same =
+      along (λ s r es. told r (only vid s es) ≡ told_in vid s es) (λ s r h. refl)
+      (λ s r e es later h own more.
+      let same : answer r e ≡ answer s e = sym (answers-same s r e later h own) in
+      rw own (λ i. (let first : Told = record { at = e.at; reply = same i } in first) ∷ more i))
+      (λ s r e es other more. rw other more)
 
   pub Related-run : (s r : State) (es : List Event) → IsRising s.moment es → Related vid s r → Related vid (state_after s es) (state_after r (only vid s es))
-  Related-run s r [] rising h = h
-  Related-run s r (e ∷ es) rising h =
-      by (λ own. Related-run (after s e) (after r e) es rising.1 (Related-kept s r e rising.0 h own))
-      (λ other. Related-run (after s e) r es rising.1 (Related-other s r e rising.0 h other))
-      (concerns vid s e) refl
-    where
-      by : (concerns vid s e ≡ true → Related vid (state_after (after s e) es) (state_after (after r e) (only vid (after s e) es)))
-          → (concerns vid s e ≡ false → Related vid (state_after (after s e) es) (state_after r (only vid (after s e) es)))
-          → (b : Bool) → concerns vid s e ≡ b
-          → Related vid (state_after (after s e) es) (state_after r (cond b (e ∷ only vid (after s e) es) (only vid (after s e) es)))
-      by own_it other_it true own = own_it own
-      by own_it other_it false other = other_it other
+  Related-run =
+      along (λ s r es. Related vid (state_after s es) (state_after r (only vid s es))) (λ s r h. h)
+      (λ s r e es later h own more. rw own more)
+      (λ s r e es other more. rw other more)
 
   -- what is left concerns the segment alone, too
   only-settled : (s r : State) (es : List Event) → IsRising s.moment es → Related vid s r → only vid r (only vid s es) ≡ only vid s es
-  only-settled s r [] rising h = refl
-  only-settled s r (e ∷ es) rising h =
-      by (λ own. only-settled (after s e) (after r e) es rising.1 (Related-kept s r e rising.0 h own))
-      (λ other. only-settled (after s e) r es rising.1 (Related-other s r e rising.0 h other))
-      (concerns vid s e) refl
-    where
-      by : (concerns vid s e ≡ true → only vid (after r e) (only vid (after s e) es) ≡ only vid (after s e) es)
-          → (concerns vid s e ≡ false → only vid r (only vid (after s e) es) ≡ only vid (after s e) es)
-          → (b : Bool) → concerns vid s e ≡ b
-          → only vid r (cond b (e ∷ only vid (after s e) es) (only vid (after s e) es)) ≡ cond b (e ∷ only vid (after s e) es) (only vid (after s e) es)
-      by own_it other_it true own =
-          ap (λ (b : Bool). cond b (e ∷ only vid (after r e) (only vid (after s e) es)) (only vid (after r e) (only vid (after s e) es)))
-          (ap (λ a. concerns_by vid a e.input) (sym (answers-same s r e rising.0 h own)) ∙ own)
-          ∙ ap (λ rest. e ∷ rest) (own_it own)
-      by own_it other_it false other = other_it other
+  only-settled =
+      along (λ s r es. only vid r (only vid s es) ≡ only vid s es) (λ s r h. refl)
+      (λ s r e es later h own more.
+      let again : concerns vid r e ≡ true = ap (λ a. concerns_by vid a e.input) (sym (answers-same s r e later h own)) ∙ own in
+      rw (own, again) (ap (λ rest. e ∷ rest) more))
+      (λ s r e es other more. rw other more)
 
   pub only-append : (s : State) (es others : List Event) → only vid s (es ++ others) ≡ only vid s es ++ only vid (state_after s es) others
   only-append s [] others = refl

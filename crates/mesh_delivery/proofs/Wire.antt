@@ -35,7 +35,7 @@ use Rattle.decapsulate.specs.declared.arrived.Arrived.{Arrived}
 use Rattle.decapsulate.specs.Arrival.{packet_in, kind_to, inner_of, is_bad_source, outer_reasons, inner_reasons, arrival_in, arrival_by, arrival, arrival_of, capture_reasons, IsTunnelled}
 use Rattle.decapsulate.proofs.ArrivalLemmas.{Reads, Reads-from, kind_at-port, frame_of-plain}
 use Rattle.encapsulate.specs.Flow.{source_port}
-use Rattle.encapsulate.specs.Packet.{tunnelled, sum_sent}
+use Rattle.encapsulate.specs.Packet.{tunnelled}
 use Rattle.encapsulate.specs.Remote.{admits, packet_from, sending, remote_text}
 use Rattle.encapsulate.specs.Sender.{IsOwnAddr, IsUnderlay}
 use Rattle.encapsulate.proofs.Sending.{source_port-below, Datagram4, Datagram6, fits4, fits6}
@@ -87,29 +87,24 @@ record Carries (S : Overlay) (kind : Tunnel) (c a : Addr) (d b : List ℕ) : Typ
   sum : ℕ
   datagram : Datagram b c a from (port_of S.underlay kind) sum d
 
+carries : (S : Overlay) (vid : ℕ) (kind : Tunnel) (t : SegmentTunnel) (a c : Addr) (src : List ℕ) (f : Frame) (sum : ℕ) → tunnel_at S vid kind ≡ Some t → own_of (own S.underlay) a ≡ Some src
+    → Datagram (packet_from S.underlay kind t.vni src a f) c a (source_port f) (port_of S.underlay kind) sum (tunnelled kind t.vni f) → Carries S kind c a (tunnelled kind t.vni f) (remote_text S vid kind a f)
+carries S vid kind t a c src f sum there owned datagram =
+    subst (Carries S kind c a (tunnelled kind t.vni f)) (sym (packet-sent S vid kind t a src f there owned)) (record { from = source_port f; sum = sum; datagram = datagram })
+
 carries4 : (S : Overlay) (vid : ℕ) (kind : Tunnel) (t : SegmentTunnel) (dst src : List ℕ) (f : Frame) → IsUnderlay S.underlay → IsAddr (V4 dst) → IsFrame f → tunnel_at S vid kind ≡ Some t → S.underlay.ip4 ≡ Some src → admits S vid (V4 dst) f ≡ None
     → Carries S kind (V4 src) (V4 dst) (tunnelled kind t.vni f) (remote_text S vid kind (V4 dst) f)
 carries4 S vid kind t dst src f s a h there owned let_out =
     let U = S.underlay in
-    let d = tunnelled kind t.vni f in
-    let to = port_of U kind in
-    subst (Carries S kind (V4 src) (V4 dst) d) (sym (packet-sent S vid kind t (V4 dst) src f there owned)) (record {
-      from = source_port f;
-      sum = sum_sent U.sum4 (V4 src) (V4 dst) (source_port f) to d;
-      datagram = Datagram4 U src dst (source_port f) to d s a (length-own U.ip4 V4 src s.ip4 owned).0 (source_port-below f) (port-below U kind s) (fits4 S vid dst f s h let_out kind t.vni);
-    })
+    carries S vid kind t (V4 dst) (V4 src) src f _ there owned
+    (Datagram4 U src dst (source_port f) (port_of U kind) (tunnelled kind t.vni f) s a (length-own U.ip4 V4 src s.ip4 owned).0 (source_port-below f) (port-below U kind s) (fits4 S vid dst f s h let_out kind t.vni))
 
 carries6 : (S : Overlay) (vid : ℕ) (kind : Tunnel) (t : SegmentTunnel) (dst src : List ℕ) (f : Frame) → IsUnderlay S.underlay → IsAddr (V6 dst) → IsFrame f → tunnel_at S vid kind ≡ Some t → S.underlay.ip6 ≡ Some src → admits S vid (V6 dst) f ≡ None
     → Carries S kind (V6 src) (V6 dst) (tunnelled kind t.vni f) (remote_text S vid kind (V6 dst) f)
 carries6 S vid kind t dst src f s a h there owned let_out =
     let U = S.underlay in
-    let d = tunnelled kind t.vni f in
-    let to = port_of U kind in
-    subst (Carries S kind (V6 src) (V6 dst) d) (sym (packet-sent S vid kind t (V6 dst) src f there owned)) (record {
-      from = source_port f;
-      sum = sum_sent U.sum6 (V6 src) (V6 dst) (source_port f) to d;
-      datagram = Datagram6 U src dst (source_port f) to d s a (length-own U.ip6 V6 src s.ip6 owned).0 (source_port-below f) (port-below U kind s) (fits6 S vid dst f s h let_out kind t.vni);
-    })
+    carries S vid kind t (V6 dst) (V6 src) src f _ there owned
+    (Datagram6 U src dst (source_port f) (port_of U kind) (tunnelled kind t.vni f) s a (length-own U.ip6 V6 src s.ip6 owned).0 (source_port-below f) (port-below U kind s) (fits6 S vid dst f s h let_out kind t.vni))
 
 -- ---- what is read
 

@@ -7,4 +7,5 @@ pub mod Running
 pub mod Parting
 pub mod Vids
 pub mod Merging
+pub mod ChangeRows
 pub mod ChangeTexts

@@ -2,7 +2,7 @@
 use Rattle.std.proofs.Common.{◌≡◌, ◌<◌, ℕ, ◌+◌, arith, Bool, true, false, cond, List, [], ◌∷◌, ◌++◌, map, filter, Option, None, refl, sym, ap, ◌∙◌}
 use Rattle.std.specs.Prelude.{nat_lt, count_by, sum}
 use Rattle.std.specs.List.{AllByRecursion}
-use Rattle.std.proofs.lemmas.Bool.{ltb-true, ltb-false}
+use Rattle.std.proofs.lemmas.Bool.{le-ltb, lt-ltb}
 use Rattle.std.proofs.lemmas.List.{append-nil}
 use Rattle.std.proofs.lemmas.List.Sums.{sum_by-cons}
 use Rattle.timeline.specs.declared.timeline.Cut.{Cut}
@@ -19,27 +19,13 @@ use Rattle.segment_shards.specs.Pieces.{Told, all_pieces, pieces_in}
 abbrev Behind : ℕ → List Piece → Type 0
 Behind k ps = AllByRecursion (λ (p : Piece). k < p.number) ps
 
-lt-true : (a b : ℕ) → a < b → nat_lt a b ≡ true
-lt-true a b h = by (nat_lt a b) refl
-  where
-    by : (c : Bool) → nat_lt a b ≡ c → c ≡ true
-    by true is = refl
-    by false is = absurd (omega (arith, h, ltb-false a b is))
-
-lt-false : (a b : ℕ) → a < b → nat_lt b a ≡ false
-lt-false a b h = by (nat_lt b a) refl
-  where
-    by : (c : Bool) → nat_lt b a ≡ c → c ≡ false
-    by true is = absurd (omega (arith, h, ltb-true b a is))
-    by false is = refl
-
 -- it stays in front of what is put in behind it
 put-behind : (p q : Piece) (ps : List Piece) → p.number < q.number → put_in q (p ∷ ps) ≡ p ∷ put_in q ps
-put-behind p q ps h = ap (λ (b : Bool). cond b (p ∷ put_in q ps) (q ∷ p ∷ ps)) (lt-true p.number q.number h)
+put-behind p q ps h = ap (λ (b : Bool). cond b (p ∷ put_in q ps) (q ∷ p ∷ ps)) (lt-ltb p.number q.number h)
 
 put-front : (p : Piece) (ps : List Piece) → Behind p.number ps → put_in p ps ≡ p ∷ ps
 put-front p [] h = refl
-put-front p (q ∷ qs) h = ap (λ (b : Bool). cond b (q ∷ put_in p qs) (p ∷ q ∷ qs)) (lt-false p.number q.number h.0)
+put-front p (q ∷ qs) h = ap (λ (b : Bool). cond b (q ∷ put_in p qs) (p ∷ q ∷ qs)) (le-ltb q.number p.number (omega (arith, h.0)))
 
 behind-put : (k : ℕ) (p : Piece) (ps : List Piece) → k < p.number → Behind k ps → Behind k (put_in p ps)
 behind-put k p [] h all = (h, tt)

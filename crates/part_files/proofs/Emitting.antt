@@ -62,23 +62,25 @@ data-short kind vni f is = omega (arith, length-append (tunnel_header kind vni) 
 abbrev text_by : Underlay → Tunnel → Addr → Frame → Option SegmentTunnel → Option (List ℕ) → List ℕ
 text_by U kind a f t o = elim t as (λ _. List ℕ) [ Some tunnel ↦ option_map_or (λ src. packet_from U kind tunnel.vni src a f) o [] | None ↦ [] ]
 
-packet4-short : (U : Underlay) (kind : Tunnel) (dst : List ℕ) (f : Frame) → IsUnderlay U → IsAddr (V4 dst) → IsShortFrame f → (t : Option SegmentTunnel) (o : Option (List ℕ)) → IfSome o (λ b. IsOwnAddr (V4 b)) → Fits (text_by U kind (V4 dst) f t o)
-packet4-short U kind dst f s a is None o own = omega arith
-packet4-short U kind dst f s a is (Some t) None own = omega arith
-packet4-short U kind dst f s a is (Some t) (Some src) own =
-    let addr = own.is_addr in
-    omega (arith, length-packet4 U src dst (source_port f) (port_of U kind) (tunnelled kind t.vni f) s a addr.0, data-short kind t.vni f is)
+by-short : (U : Underlay) (kind : Tunnel) (a : Addr) (f : Frame) (P : List ℕ → Type 0) → ((t : SegmentTunnel) (src : List ℕ) → P src → Fits (packet_from U kind t.vni src a f))
+    → (t : Option SegmentTunnel) (o : Option (List ℕ)) → IfSome o P → Fits (text_by U kind a f t o)
+by-short U kind a f P short None o own = omega arith
+by-short U kind a f P short (Some t) None own = omega arith
+by-short U kind a f P short (Some t) (Some src) own = short t src own
 
-packet6-short : (U : Underlay) (kind : Tunnel) (dst : List ℕ) (f : Frame) → IsUnderlay U → IsAddr (V6 dst) → IsShortFrame f → (t : Option SegmentTunnel) (o : Option (List ℕ)) → IfSome o (λ b. IsOwnAddr (V6 b)) → Fits (text_by U kind (V6 dst) f t o)
-packet6-short U kind dst f s a is None o own = omega arith
-packet6-short U kind dst f s a is (Some t) None own = omega arith
-packet6-short U kind dst f s a is (Some t) (Some src) own =
-    let addr = own.is_addr in
-    omega (arith, length-packet6 U src dst (source_port f) (port_of U kind) (tunnelled kind t.vni f) s a addr.0, data-short kind t.vni f is)
+packet4-short : (U : Underlay) (kind : Tunnel) (dst : List ℕ) (f : Frame) → IsUnderlay U → IsAddr (V4 dst) → IsShortFrame f → (t : SegmentTunnel) (src : List ℕ) → IsOwnAddr (V4 src) → Fits (packet_from U kind t.vni src (V4 dst) f)
+packet4-short U kind dst f s a is t src own =
+    omega (arith, length-packet4 U src dst (source_port f) (port_of U kind) (tunnelled kind t.vni f) s a own.is_addr.0, data-short kind t.vni f is)
+
+packet6-short : (U : Underlay) (kind : Tunnel) (dst : List ℕ) (f : Frame) → IsUnderlay U → IsAddr (V6 dst) → IsShortFrame f → (t : SegmentTunnel) (src : List ℕ) → IsOwnAddr (V6 src) → Fits (packet_from U kind t.vni src (V6 dst) f)
+packet6-short U kind dst f s a is t src own =
+    omega (arith, length-packet6 U src dst (source_port f) (port_of U kind) (tunnelled kind t.vni f) s a own.is_addr.0, data-short kind t.vni f is)
 
 remote-short : (O : Overlay) (vid : ℕ) (kind : Tunnel) (a : Addr) (f : Frame) → IsUnderlay O.underlay → IsAddr a → IsShortFrame f → Fits (remote_text O vid kind a f)
-remote-short O vid kind (V4 dst) f s a is = packet4-short O.underlay kind dst f s a is (tunnel_at O vid kind) O.underlay.ip4 s.ip4
-remote-short O vid kind (V6 dst) f s a is = packet6-short O.underlay kind dst f s a is (tunnel_at O vid kind) O.underlay.ip6 s.ip6
+remote-short O vid kind (V4 dst) f s a is =
+    by-short O.underlay kind (V4 dst) f (λ src. IsOwnAddr (V4 src)) (packet4-short O.underlay kind dst f s a is) (tunnel_at O vid kind) O.underlay.ip4 s.ip4
+remote-short O vid kind (V6 dst) f s a is =
+    by-short O.underlay kind (V6 dst) f (λ src. IsOwnAddr (V6 src)) (packet6-short O.underlay kind dst f s a is) (tunnel_at O vid kind) O.underlay.ip6 s.ip6
 
 sending-short : (O : Overlay) (vid : ℕ) (kind : Tunnel) (a : Addr) (f : Frame) → IsUnderlay O.underlay → IsAddr a → IsShortFrame f → IfOk (sending O vid kind a f) Fits
 sending-short O vid kind a f s addr is = by (admits O vid a f)

@@ -1,11 +1,11 @@
 -- What an endpoint's settings and tables keep to, whatever comes.
-use Rattle.std.proofs.Common.{◌≡◌, ◌∙◌, refl, sym, ap, subst, ℕ, ◌-◌, ◌==◌, ◌<◌, ◌≤◌, arith, Bool, true, false, cond, not, [], ◌∷◌, ◌++◌, length, length-append, filter, Option, Some, None, Result, Ok, Err}
+use Rattle.std.proofs.Common.{◌≡◌, ◌∙◌, refl, sym, ap, subst, ℕ, ◌-◌, ◌==◌, ◌<◌, arith, Bool, true, false, cond, not, [], ◌∷◌, ◌++◌, length, length-append, filter, Option, Some, None, Result, Ok, Err}
 use Rattle.std.specs.Prelude.{is_none, nat_lt}
 use Rattle.std.specs.Option.{option_map, option_map_or}
-use Rattle.std.specs.List.{AllByRecursion}
 use Rattle.std.specs.FinMap.{empty, get, insert, len, remove}
 use Rattle.std.proofs.lemmas.Bool.{leb-false}
 use Rattle.std.proofs.lemmas.List.{length-set}
+use Rattle.std.proofs.lemmas.List.Sums.{count_by-le-length, length-filter}
 use Rattle.timeline.proofs.KnownEvents.{all-append}
 use Rattle.frame_view.specs.Frame.{Frame}
 use Rattle.frame_view.specs.declared.reason.Refused.{Refused}
@@ -38,29 +38,15 @@ use Rattle.endpoint_state.specs.Step.{after_frame, table_learned}
 use Rattle.endpoint_core.specs.Came.{Came}
 use Rattle.endpoint_core.specs.Step.{after_came}
 use Rattle.mesh_delivery.proofs.Keeping.{is-of}
+use Rattle.noninterference.proofs.Lists.{all-filter}
 use Rattle.part_files.proofs.Remotes.{HasAddr, IsFar, IsFlood, IsTarget}
 use Rattle.part_files.proofs.Stations.{Stand, stand-either, stand-empty, stand-fix, stand-kept, stand-learn, stand-unfix}
 
 -- ---- flood lists
 
-fewer-left : (p : Endpoint → Bool) (flood : Entries) → length (filter p flood) ≤ length flood
-fewer-left p [] = omega arith
-fewer-left p (r ∷ rs) = by (p r) (fewer-left p rs)
-  where
-    by : (b : Bool) → length (filter p rs) ≤ length rs → length (cond b (r ∷ filter p rs) (filter p rs)) ≤ length (r ∷ rs)
-    by true le = omega (arith, le)
-    by false le = omega (arith, le)
-
-addrs-left : (p : Endpoint → Bool) (flood : Entries) → AllByRecursion (λ (r : Endpoint). IsAddr r.addr) flood → AllByRecursion (λ (r : Endpoint). IsAddr r.addr) (filter p flood)
-addrs-left p [] all = tt
-addrs-left p (r ∷ rs) all = by (p r) (addrs-left p rs all.1)
-  where
-    by : (b : Bool) → AllByRecursion (λ (x : Endpoint). IsAddr x.addr) (filter p rs) → AllByRecursion (λ (x : Endpoint). IsAddr x.addr) (cond b (r ∷ filter p rs) (filter p rs))
-    by true rest = (all.0, rest)
-    by false rest = rest
-
 flood-left : (p : Endpoint → Bool) (flood : Entries) → IsFlood flood → IsFlood (filter p flood)
-flood-left p flood is = (omega (arith, is.0, fewer-left p flood), addrs-left p flood is.1)
+flood-left p flood is =
+    (omega (arith, is.0, length-filter p flood, count_by-le-length p flood), all-filter (λ (r : Endpoint). IsAddr r.addr) p flood is.1)
 
 flood-more : (flood : Entries) (r : Endpoint) → IsFlood flood → length flood < 16 → IsAddr r.addr → IsFlood (flood ++ r ∷ [])
 flood-more flood r is room own = (omega (arith, room, length-append flood (r ∷ [])), all-append (λ (x : Endpoint). IsAddr x.addr) flood (r ∷ []) is.1 (own, tt))

@@ -1,10 +1,11 @@
 -- Where a frame goes: to ports that are there and to endpoints by addresses, and to no more than 32 of them.
-use Rattle.std.proofs.Common.{◌≡◌, refl, sym, ap, ℕ, zero, suc, ◌+◌, ◌<◌, ◌≤◌, arith, Bool, true, false, cond, not, ◌&&◌, List, [], ◌∷◌, ◌++◌, length, length-append, filter, map, slice_index_or, Option, Some, None, Ok, Err, IfOk}
+use Rattle.std.proofs.Common.{◌≡◌, refl, sym, ap, ℕ, zero, suc, ◌+◌, ◌<◌, ◌≤◌, arith, Bool, true, false, cond, not, ◌&&◌, List, [], ◌∷◌, ◌++◌, length, length-append, map, slice_index_or, Option, Some, None, Ok, Err, IfOk}
 use Rattle.std.specs.Prelude.{IfSome, is_some}
 use Rattle.std.specs.List.{AllByRecursion, range_with_len}
 use Rattle.std.specs.FinMap.{get}
 use Rattle.std.proofs.lemmas.Bool.{false≢true}
 use Rattle.std.proofs.lemmas.List.FromFn.{length-map-range_with_len}
+use Rattle.std.proofs.lemmas.List.Sums.{count_by-le-length, length-filter}
 use Rattle.timeline.proofs.KnownEvents.{all-append}
 use Rattle.frame_view.specs.Address.{is_group}
 use Rattle.frame_view.specs.Frame.{Frame}
@@ -17,6 +18,7 @@ use Rattle.filter_db.specs.Table.{Table, stands}
 use Rattle.filter_db.specs.declared.place.Place.{Place}
 use Rattle.filter_db.specs.declared.place.Place.TheVariants.{Local, Remote}
 use Rattle.tunnel_learning.specs.Bridge.{Config, everywhere, in_one_group, is_local_outlet, is_remote_outlet, is_shut, is_up_at, local_places, or_no_outlet, outlets, place_of, remote_places, serves, to_place, toward}
+use Rattle.noninterference.proofs.Lists.{all-filter}
 use Rattle.part_files.proofs.Remotes.{IsFar, IsFlood}
 use Rattle.part_files.proofs.Stations.{Stand, stands-at}
 
@@ -67,22 +69,6 @@ to-outlet c from to far = by (same_place to from) (in_one_group c from to) (is_s
 
 -- ---- everywhere
 
-filter-all : (P : Place → Type 0) (p : Place → Bool) (places : List Place) → AllByRecursion P places → AllByRecursion P (filter p places)
-filter-all P p [] all = tt
-filter-all P p (x ∷ xs) all = by (p x) (filter-all P p xs all.1)
-  where
-    by : (b : Bool) → AllByRecursion P (filter p xs) → AllByRecursion P (cond b (x ∷ filter p xs) (filter p xs))
-    by true rest = (all.0, rest)
-    by false rest = rest
-
-filter-fewer : (p : Place → Bool) (places : List Place) → length (filter p places) ≤ length places
-filter-fewer p [] = omega arith
-filter-fewer p (x ∷ xs) = by (p x) (filter-fewer p xs)
-  where
-    by : (b : Bool) → length (filter p xs) ≤ length xs → length (cond b (x ∷ filter p xs) (filter p xs)) ≤ length (x ∷ xs)
-    by true le = omega (arith, le)
-    by false le = omega (arith, le)
-
 ports-from : (n first count : ℕ) → 1 ≤ first → first + count ≤ n + 1 → AllByRecursion (IsOutlet n) (map Local (range_with_len first count))
 ports-from n first zero low high = tt
 ports-from n first (suc count) low high = ((low, omega (arith, high)), ports-from n (first + 1) count (omega arith) (omega (arith, high)))
@@ -106,15 +92,17 @@ everywhere-outlets c from few flood =
     let far = map place_of c.flood in
     or-none n (local_places c from ++ remote_places c from) (
       all-append (IsOutlet n) (local_places c from) (remote_places c from)
-          (filter-all (IsOutlet n) (is_local_outlet c from) near (ports-from n 1 n (omega arith) (omega arith)))
-          (filter-all (IsOutlet n) (is_remote_outlet c from) far (remotes-are n c.flood flood.1)),
+          (all-filter (IsOutlet n) (is_local_outlet c from) near (ports-from n 1 n (omega arith) (omega arith)))
+          (all-filter (IsOutlet n) (is_remote_outlet c from) far (remotes-are n c.flood flood.1)),
       omega (
         arith,
         few,
         flood.0,
         length-append (local_places c from) (remote_places c from),
-        filter-fewer (is_local_outlet c from) near,
-        filter-fewer (is_remote_outlet c from) far,
+        length-filter (is_local_outlet c from) near,
+        count_by-le-length (is_local_outlet c from) near,
+        length-filter (is_remote_outlet c from) far,
+        count_by-le-length (is_remote_outlet c from) far,
         length-map-range_with_len Local 1 n,
         length-remotes c.flood,
       ),

@@ -1,5 +1,5 @@
 -- The texts of a whole run are such as a merge reads back.
-use Rattle.std.proofs.Common.{◌≡◌, sym, subst, ℕ, ◌≤◌, arith, List, [], ◌∷◌, length, map, Vec, Ok}
+use Rattle.std.proofs.Common.{◌≡◌, sym, subst, ℕ, ◌≤◌, arith, List, [], length, map, Vec, Ok}
 use Rattle.std.specs.List.{AllByRecursion, zip}
 use Rattle.std.specs.declared.alloc.Global.{Global}
 use Rattle.timeline.specs.Timeline.{Timeline, told}
@@ -17,13 +17,15 @@ use Rattle.endpoint_core.proofs.Runs.{answers-decisions}
 use Rattle.capture_run.specs.Outputs.{event_of}
 use Rattle.capture_run.proofs.Growing.{rising_events}
 use Rattle.mesh_delivery.proofs.Underlays.{underlay-kept}
+use Rattle.noninterference.proofs.Lists.{all-map}
 use Rattle.shard_merge.specs.Coming.{AreTexts, IsPiece}
 use Rattle.segment_shards.specs.Pieces.{IsAsked, Told, all_pieces, pieces_of, told_from}
+use Rattle.segment_shards.proofs.ChangeRows.{IsTimed, all-changes}
 use Rattle.segment_shards.proofs.ChangeTexts.{text-names}
 use Rattle.segment_shards.proofs.Vids.{told-asked, vids-told}
 use Rattle.part_files.specs.Files.{AreCounted, AreOctets}
 use Rattle.part_files.proofs.Beginning.{knows-opened}
-use Rattle.part_files.proofs.ChangeTexts.{IsTimed, text-timed}
+use Rattle.part_files.proofs.ChangeTexts.{text-timed}
 use Rattle.part_files.proofs.Coming.{IsMoment, coming-told, cuts-coming, cuts-told, rising-told}
 use Rattle.part_files.proofs.Knowing.{Knows}
 use Rattle.part_files.proofs.Remotes.{HasAddr}
@@ -41,13 +43,8 @@ ReadsBack settings changes texts text =
     (s : Rules) (cs : List TimedChange) (timeline : Timeline) → settings_in settings ≡ Ok s → changes_in changes ≡ Ok cs
     → told (map (λ (c : TimedChange). c.at) cs) texts text ≡ Ok timeline → length texts ≡ length s.ports → AreReadable (length texts) s cs timeline
 
-have-addr : (cs : List TimedChange) → AllByRecursion IsTimed cs → AllByRecursion HasAddr (map (λ (c : TimedChange). c.change) cs)
-have-addr [] all = tt
-have-addr (c ∷ cs) all = (all.0.0, have-addr cs all.1)
-
-early : (cs : List TimedChange) → AllByRecursion IsTimed cs → AllByRecursion IsMoment (map (λ (c : TimedChange). c.at) cs)
-early [] all = tt
-early (c ∷ cs) all = (all.0.1, early cs all.1)
+early : (cs : List TimedChange) → AllByRecursion (IsTimed HasAddr) cs → AllByRecursion IsMoment (map (λ (c : TimedChange). c.at) cs)
+early = all-map (IsTimed HasAddr) IsMoment (λ (c : TimedChange). c.at) (λ c timed. timed.1)
 
 pub reads-back : (settings changes : List ℕ) (texts : List (Vec ℕ Global)) (text : List ℕ) → AreOctets texts text → AreCounted changes texts text → ReadsBack settings changes texts text
 reads-back settings changes texts text octets counted s cs timeline settings_are changes_are read many =
@@ -67,7 +64,7 @@ reads-back settings changes texts text octets counted s cs timeline settings_are
     record {
       texts = record {
         of_events = subst (λ (found : List Answer). AllByRecursion (IsPiece (length texts)) (all_pieces (told_from asked_changes 0 (zip es found)))) same
-            (pieces-read asked_changes (length texts) s.underlay (opened S) es few (underlay-kept s.underlay rules.underlay) fits (have-addr cs timed)
+            (pieces-read asked_changes (length texts) s.underlay (opened S) es few (underlay-kept s.underlay rules.underlay) fits (all-changes HasAddr cs timed)
             (subst (λ (n : ℕ). Knows n s.underlay (opened S).bridges) (sym many) (knows-opened s rules)) coming
             (subst (λ (found : List Answer). AllByRecursion (λ (t : Told). IsAsked t.segment) (told_from asked_changes 0 (zip es found))) (sym same) asked));
         of_cuts = cuts-read (length texts) (length es) timeline.cuts few fits (cuts-coming moments texts text timeline read octets.0 octets.1);

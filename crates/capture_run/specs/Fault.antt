@@ -12,12 +12,15 @@ of_timeline (timeline.Capture tap fault) = faults.Capture tap fault
 of_timeline (timeline.Record tap number fault) = faults.Record tap number fault
 of_timeline timeline.OutOfMemory = faults.OutOfMemory
 
--- a fault of the settings text, and one of the changes text
-abbrev pub of_settings : SettingsFault → RunFault
-of_settings text.OutOfMemory = faults.OutOfMemory
-of_settings fault = faults.Settings fault
+-- a fault of a text as one of the run, which names the text
+abbrev pub of_text : (SettingsFault → RunFault) → SettingsFault → RunFault
+of_text names text.OutOfMemory = faults.OutOfMemory
+of_text names fault = names fault
 
--- the same of a fault of the changes
+-- a fault of the settings text
+abbrev pub of_settings : SettingsFault → RunFault
+of_settings fault = of_text (λ f. faults.Settings f) fault
+
+-- a fault of the changes text
 abbrev pub of_changes : SettingsFault → RunFault
-of_changes text.OutOfMemory = faults.OutOfMemory
-of_changes fault = faults.Changes fault
+of_changes fault = of_text (λ f. faults.Changes f) fault

@@ -10,6 +10,7 @@ use Rattle.capture_run.specs.Fault.{of_timeline}
 use Rattle.capture_run.specs.Outputs.{outputs}
 use Rattle.capture_run.specs.Run.{Gives, run, by_timeline}
 use Rattle.capture_run.proofs.Faults.{settings_fault, changes_fault, timeline_fault, port_count_fault, ports_counted}
+use Rattle.capture_run.proofs.run.run_bytes.Goals.{After-read}
 use Rattle.capture_run.proofs.run.run_bytes.Goals as goal
 
 pub returns-in-Err : goal.returns-in-Err
@@ -33,30 +34,33 @@ returns-then-ports c =
     ∙ ap (λ m. run (Ok c.in-Ok.settings) m c.args.ports.now c.args.underlay.now) c.in-Ok-changes_of.ensures.value
     ∙ port_count_fault c.in-Ok.settings c.in-Ok-changes_of.changes.items c.args.ports.now c.args.underlay.now apart
 
+-- the run is that of the events that are read
+read_run : (c : After-read) → run (settings_in c.args.settings.now) (changes_in c.args.changes.now) c.args.ports.now c.args.underlay.now
+    ≡ by_timeline c.in-Ok.settings c.in-Ok-changes_of.changes.items (length c.args.ports.now) (told (map (λ (t : TimedChange). t.at) c.in-Ok-changes_of.changes.items) c.args.ports.now c.args.underlay.now)
+read_run c =
+    let same : (length c.args.ports.now == length c.in-Ok.settings.ports) ≡ true = eq-eqb _ _ (c.if-ports.false ∙ ap length c.ports.ensures.value) in
+    ap (λ m. run m (changes_in c.args.changes.now) c.args.ports.now c.args.underlay.now) c.in-Ok.ensures
+    ∙ ap (λ m. run (Ok c.in-Ok.settings) m c.args.ports.now c.args.underlay.now) c.in-Ok-changes_of.ensures.value
+    ∙ ports_counted c.in-Ok.settings c.in-Ok-changes_of.changes.items c.args.ports.now c.args.underlay.now same
+
+-- with the changes at their moments
+moments_are : (c : After-read) → c.as_slice-2.result.now ≡ map (λ (t : TimedChange). t.at) c.in-Ok-changes_of.changes.items
+moments_are c = c.as_slice-2.ensures.value ∙ c.in_ok-moments.ensures ∙ ap (map (λ (t : TimedChange). t.at)) c.as_slice.ensures.value
+
 pub returns-in-Err-read : goal.returns-in-Err-read
 returns-in-Err-read c =
+    let step = (goal.at.returns-in-Err-read c).After-read in
     let ports = c.args.ports.now in
     let underlay = c.args.underlay.now in
     let read = c.in-Ok-changes_of.changes.items in
-    let same : (length ports == length c.in-Ok.settings.ports) ≡ true = eq-eqb _ _ (c.if-ports.false ∙ ap length c.ports.ensures.value) in
-    let moments = c.as_slice-2.ensures.value ∙ c.in_ok-moments.ensures ∙ ap (map (λ (t : TimedChange). t.at)) c.as_slice.ensures.value in
-    let found = subst (λ ms. timeline.Gives (Err c.in-Err-read.fault) (told ms ports underlay)) moments c.in-Err-read.ensures.told in
+    let found = subst (λ ms. timeline.Gives (Err c.in-Err-read.fault) (told ms ports underlay)) (moments_are step) c.in-Err-read.ensures.told in
     subst (λ f. Gives (Err f) (run (settings_in c.args.settings.now) (changes_in c.args.changes.now) ports underlay)) (sym c.of_captures.ensures)
-    (subst (Gives (Err (of_timeline c.in-Err-read.fault)))
-    (sym (ap (λ m. run m (changes_in c.args.changes.now) ports underlay) c.in-Ok.ensures ∙ ap (λ m. run (Ok c.in-Ok.settings) m ports underlay) c.in-Ok-changes_of.ensures.value
-    ∙ ports_counted c.in-Ok.settings read ports underlay same))
+    (subst (Gives (Err (of_timeline c.in-Err-read.fault))) (sym (read_run step))
     (timeline_fault c.in-Err-read.fault c.in-Ok.settings read (length ports) (told (map (λ (t : TimedChange). t.at) read) ports underlay) found))
 
 pub returns : goal.returns
 returns c =
-    let ports = c.args.ports.now in
-    let underlay = c.args.underlay.now in
-    let read = c.in-Ok-changes_of.changes.items in
-    let same : (length ports == length c.in-Ok.settings.ports) ≡ true = eq-eqb _ _ (c.if-ports.false ∙ ap length c.ports.ensures.value) in
-    let moments = c.as_slice-2.ensures.value ∙ c.in_ok-moments.ensures ∙ ap (map (λ (t : TimedChange). t.at)) c.as_slice.ensures.value in
-    let found = subst (λ ms. timeline.Gives (Ok c.in-Ok-read.timeline) (told ms ports underlay)) moments c.in-Ok-read.ensures.told in
-    ap (λ m. run m (changes_in c.args.changes.now) ports underlay) c.in-Ok.ensures
-    ∙ ap (λ m. run (Ok c.in-Ok.settings) m ports underlay) c.in-Ok-changes_of.ensures.value
-    ∙ ports_counted c.in-Ok.settings read ports underlay same
-    ∙ ap (by_timeline c.in-Ok.settings read (length ports)) found
-    ∙ ap Ok (sym (c.in_ok-outputs.ensures ∙ ap (λ cs. outputs (settings_told c.in-Ok.settings) (map (λ (t : TimedChange). t.change) cs) (length ports) c.in-Ok-read.timeline) c.as_slice-3.ensures.value))
+    let step = (goal.at.returns c).After-read in
+    let found = subst (λ ms. timeline.Gives (Ok c.in-Ok-read.timeline) (told ms c.args.ports.now c.args.underlay.now)) (moments_are step) c.in-Ok-read.ensures.told in
+    read_run step ∙ ap (by_timeline c.in-Ok.settings c.in-Ok-changes_of.changes.items (length c.args.ports.now)) found
+    ∙ ap Ok (sym (c.in_ok-outputs.ensures ∙ ap (λ cs. outputs (settings_told c.in-Ok.settings) (map (λ (t : TimedChange). t.change) cs) (length c.args.ports.now) c.in-Ok-read.timeline) c.as_slice-3.ensures.value))

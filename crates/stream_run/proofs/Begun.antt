@@ -1,7 +1,7 @@
 -- The first record of each capture, fetched one after another.
 use Rattle.std.proofs.Common.{◌≡◌, ◌≢◌, ◌∙◌, refl, sym, ap, subst, ℕ, ◌+◌, ◌<◌, ◌≤◌, List, length, slice_set, slice_index_or, arith, Ok, Err, inl, inr}
 use Rattle.std.proofs.lemmas.List.{length-set}
-use Rattle.pcap_stream.specs.Source.{Stream, lent}
+use Rattle.pcap_stream.specs.Source.{Stream}
 use Rattle.timeline.specs.declared.source.Tap.{Tap}
 use Rattle.timeline.specs.declared.source.Tap.TheVariants.{Port, Underlay}
 use Rattle.overlay_settings.specs.declared.change.TimedChange.{TimedChange}
@@ -18,7 +18,7 @@ use Rattle.stream_run.specs.declared.fault.StreamFault.TheVariants as stream
 use Rattle.stream_run.specs.declared.turn.Turn.{Turn}
 use Rattle.stream_run.proofs.Firsts.{AreReadBelow, all_read, fault_below, none_read, read_below}
 use Rattle.stream_run.proofs.Opened.{reads_behind}
-use Rattle.stream_run.proofs.Readying.{IsAsked, changed_here, lends_where, no_sooner, ports_as_many, reads_fault, reads_turn, set_each, unchanged}
+use Rattle.stream_run.proofs.Readying.{IsAsked, asked_capture, reads_fault, reads_turn, set_each}
 use Rattle.stream_run.proofs.Running.{quiet_on}
 
 -- ---- one fetch
@@ -27,19 +27,7 @@ use Rattle.stream_run.proofs.Running.{quiet_on}
 pub asked_first : (changes : List TimedChange) (index : ℕ) (ports : List Stream) (underlay : Stream) (new : List Stream) (new_underlay : Stream) (turn : Turn)
     → 1 ≤ index → FetchesAt changes index 0 0 ports underlay new new_underlay (Ok turn) → IsAsked changes index 0 0 ports underlay new new_underlay turn
 asked_first changes index ports underlay new new_underlay turn first (inl h) = absurd (omega (arith, h.0, first))
-asked_first changes index ports underlay new new_underlay turn first (inr h) =
-    let place = h.0 in
-    let s = h.1 in
-    let fetch = h.4 in
-    record {
-      many = ports_as_many place ports new underlay new_underlay s h.3;
-      count = fetch.count;
-      soon = no_sooner turn.next 0 (lent s.standing) fetch.next;
-      moment = fetch.moment (omega arith);
-      change = λ zero. absurd (omega (arith, zero, first));
-      here = λ other at. rw (changed_here (length ports) index place other ports new underlay new_underlay s refl h.2 at h.3) (lends_where turn.next s 0 (lent s.standing) refl fetch.next);
-      elsewhere = λ other i at apart. unchanged (length ports) index i place other ports new underlay new_underlay s refl h.2 at apart h.3;
-    }
+asked_first changes index ports underlay new new_underlay turn first (inr h) = asked_capture changes index 0 0 ports underlay new new_underlay turn (omega arith) h
 
 ready_fetched : (changes : List TimedChange) (index : ℕ) (ports : List Stream) (underlay : Stream) (turns : List Turn) (state : State) (d : Drains) (new : List Stream) (new_underlay : Stream) (turn : Turn)
     → 1 ≤ index → index < length turns → state.moment ≡ 0 → IsAsked changes index 0 0 ports underlay new new_underlay turn → AreReady changes (run_at ports underlay turns state 0 d)

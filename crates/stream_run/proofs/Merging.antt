@@ -1,8 +1,7 @@
 -- The event that comes first is the first of those that are to come.
-use Rattle.std.proofs.Common.{◌≡◌, ◌∙◌, refl, sym, ap, subst, ℕ, zero, suc, ◌<◌, ◌≤◌, Bool, true, false, cond, List, [], ◌∷◌, ◌++◌, append_assoc, length, drop, slice_index_or, slice_set, arith, Option, Some, None}
+use Rattle.std.proofs.Common.{◌≡◌, ◌∙◌, refl, sym, ap, subst, ℕ, zero, suc, ◌<◌, ◌≤◌, cond, List, [], ◌∷◌, ◌++◌, append_assoc, length, drop, slice_index_or, slice_set, arith, Option, Some, None}
 use Rattle.std.specs.List.{AllByRecursion}
-use Rattle.std.specs.Prelude.{nat_lt}
-use Rattle.std.proofs.lemmas.Bool.{ltb-true, ltb-false}
+use Rattle.std.proofs.lemmas.Bool.{le-ltb, lt-ltb}
 use Rattle.timeline.proofs.KnownEvents.{all-append}
 use Rattle.timeline.proofs.Orders.{all_merged}
 use Rattle.timeline.specs.Order.{IsRising, merged, put_in}
@@ -13,30 +12,16 @@ use Rattle.stream_run.specs.declared.turn.Turn.{Turn}
 
 -- ---- an event with later ones in front of it and none before it behind it
 
-not_less : (m n : ℕ) → n ≤ m → nat_lt m n ≡ false
-not_less m n le = by (nat_lt m n) refl
-  where
-    by : (b : Bool) → nat_lt m n ≡ b → nat_lt m n ≡ false
-    by true is = absurd (omega (arith, ltb-true _ _ is))
-    by false is = is
-
-less : (m n : ℕ) → m < n → nat_lt m n ≡ true
-less m n lt = by (nat_lt m n) refl
-  where
-    by : (b : Bool) → nat_lt m n ≡ b → nat_lt m n ≡ true
-    by true is = is
-    by false is = absurd (omega (arith, ltb-false _ _ is))
-
 before_all : (e : Event) (es : List Event) → AllByRecursion (λ f. e.moment ≤ f.moment) es → put_in e es ≡ e ∷ es
 before_all e [] h = refl
-before_all e (f ∷ fs) h = ap (λ b. cond b (f ∷ put_in e fs) (e ∷ f ∷ fs)) (not_less f.moment e.moment h.0)
+before_all e (f ∷ fs) h = ap (λ b. cond b (f ∷ put_in e fs) (e ∷ f ∷ fs)) (le-ltb f.moment e.moment h.0)
 
 least_first : (before : List Event) (e : Event) (behind : List Event) → AllByRecursion (λ f. e.moment < f.moment) before → AllByRecursion (λ f. e.moment ≤ f.moment) behind
     → merged (before ++ e ∷ behind) ≡ e ∷ merged (before ++ behind)
 least_first [] e behind later no_sooner = before_all e (merged behind) (all_merged (λ f. e.moment ≤ f.moment) behind no_sooner)
 least_first (f ∷ before) e behind later no_sooner =
     ap (put_in f) (least_first before e behind later.1 no_sooner)
-    ∙ ap (λ b. cond b (e ∷ put_in f (merged (before ++ behind))) (f ∷ e ∷ merged (before ++ behind))) (less e.moment f.moment later.0)
+    ∙ ap (λ b. cond b (e ∷ put_in f (merged (before ++ behind))) (f ∷ e ∷ merged (before ++ behind))) (lt-ltb e.moment f.moment later.0)
 
 -- ---- one source
 

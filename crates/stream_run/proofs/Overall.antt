@@ -29,7 +29,7 @@ use Rattle.capture_run.proofs.Among.{no_cuts_among, ports_counted_among}
 use Rattle.capture_run.specs.Among.{by_timeline_among, cuts_among, outputs_among, with_events_among}
 use Rattle.config_text.specs.declared.fault.SettingsFault.{SettingsFault}
 use Rattle.config_text.specs.declared.fault.SettingsFault.TheVariants as refused_
-use Rattle.capture_run.specs.Fault.{of_changes, of_settings}
+use Rattle.capture_run.specs.Fault.{of_changes, of_settings, of_text}
 use Rattle.capture_run.specs.Outputs.{Outputs}
 use Rattle.overlay_config.specs.Fault.{Meaning}
 use Rattle.capture_run.specs.Run.{Gives, by_timeline, run}
@@ -141,23 +141,20 @@ abbrev pub IsRefusal : RunFault → Type 0
 IsRefusal (faults.Record place n f) = ⊥
 IsRefusal fault = ⊤
 
+text_refusal : (names : SettingsFault → RunFault) (fault : SettingsFault) → ((f : SettingsFault) → IsRefusal (names f)) → IsRefusal (of_text names fault)
+text_refusal names refused_.NotToml each = each refused_.NotToml
+text_refusal names (refused_.Missing key) each = each (refused_.Missing key)
+text_refusal names (refused_.BadValue key) each = each (refused_.BadValue key)
+text_refusal names (refused_.TwoSegments key) each = each (refused_.TwoSegments key)
+text_refusal names (refused_.NotRising key) each = each (refused_.NotRising key)
+text_refusal names (refused_.OverLimit key) each = each (refused_.OverLimit key)
+text_refusal names refused_.OutOfMemory each = tt
+
 pub settings_refusal : (fault : SettingsFault) → IsRefusal (of_settings fault)
-settings_refusal refused_.NotToml = tt
-settings_refusal (refused_.Missing key) = tt
-settings_refusal (refused_.BadValue key) = tt
-settings_refusal (refused_.TwoSegments key) = tt
-settings_refusal (refused_.NotRising key) = tt
-settings_refusal (refused_.OverLimit key) = tt
-settings_refusal refused_.OutOfMemory = tt
+settings_refusal fault = text_refusal (λ f. faults.Settings f) fault (λ f. tt)
 
 pub changes_refusal : (fault : SettingsFault) → IsRefusal (of_changes fault)
-changes_refusal refused_.NotToml = tt
-changes_refusal (refused_.Missing key) = tt
-changes_refusal (refused_.BadValue key) = tt
-changes_refusal (refused_.TwoSegments key) = tt
-changes_refusal (refused_.NotRising key) = tt
-changes_refusal (refused_.OverLimit key) = tt
-changes_refusal refused_.OutOfMemory = tt
+changes_refusal fault = text_refusal (λ f. faults.Changes f) fault (λ f. tt)
 
 module _ (segments : Segments) where
   stage_events : (S : Bridged) (cs : List Change) (n : ℕ) (t : Timeline) (es rest : List Event) → t.events ≡ es ++ rest

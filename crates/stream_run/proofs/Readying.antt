@@ -14,7 +14,7 @@ use Rattle.overlay_settings.specs.declared.change.Change.{Change}
 use Rattle.overlay_settings.specs.declared.change.TimedChange.{TimedChange}
 use Rattle.endpoint_core.specs.Step.{State}
 use Rattle.stream_run.specs.Amidst.{StepsInOrder}
-use Rattle.stream_run.specs.Fetched.{IsMoment, IsOpen}
+use Rattle.stream_run.specs.Fetched.{IsFetch, IsMoment, IsOpen}
 use Rattle.capture_run.specs.Outputs.{Outputs}
 use Rattle.stream_run.specs.Read.{AreQuiet, GivesUpAt, ReadsWith, failures_of}
 use Rattle.stream_run.specs.Stage.{Drains, StandAt}
@@ -120,6 +120,24 @@ pub never_change : (n : ℕ) (place : Tap) → IsAt n 0 place → ⊥
 never_change n (Port p) at = omega (arith, at.0, at.1)
 never_change n Underlay at = omega (arith, at)
 
+-- of a capture
+pub asked_capture : (changes : List TimedChange) (index done latest : ℕ) (ports : List Stream) (underlay : Stream) (new : List Stream) (new_underlay : Stream) (turn : Turn) → latest ≤ last_moment
+    → (place : Tap) × (s : Stream) × IsAt (length ports) index place × IsChangedAt place ports underlay new new_underlay s × IsFetch (source_at ports underlay place) s place done latest (Ok turn)
+    → IsAsked changes index done latest ports underlay new new_underlay turn
+asked_capture changes index done latest ports underlay new new_underlay turn le h =
+    let place = h.0 in
+    let s = h.1 in
+    let fetch = h.4 in
+    record {
+      many = ports_as_many place ports new underlay new_underlay s h.3;
+      count = fetch.count;
+      soon = no_sooner turn.next latest (lent s.standing) fetch.next;
+      moment = fetch.moment le;
+      change = λ zero. absurd (never_change (length ports) place (subst (λ i. IsAt (length ports) i place) zero h.2));
+      here = λ other at. rw (changed_here (length ports) index place other ports new underlay new_underlay s refl h.2 at h.3) (lends_where turn.next s latest (lent s.standing) refl fetch.next);
+      elsewhere = λ other i at apart. unchanged (length ports) index i place other ports new underlay new_underlay s refl h.2 at apart h.3;
+    }
+
 pub asked : (changes : List TimedChange) (index done latest : ℕ) (ports : List Stream) (underlay : Stream) (new : List Stream) (new_underlay : Stream) (turn : Turn)
     → AreTimely changes → latest ≤ last_moment → (index ≡ 0 → moment_at changes done ≡ Some latest) → FetchesAt changes index (done + 1) latest ports underlay new new_underlay (Ok turn)
     → IsAsked changes index (done + 1) latest ports underlay new new_underlay turn
@@ -135,19 +153,7 @@ asked changes index done latest ports underlay new new_underlay turn timely le t
       here = λ place at. absurd (never_change (length ports) place (subst (λ i. IsAt (length ports) i place) h.0 at));
       elsewhere = λ place i at apart. refl;
     })
-asked changes index done latest ports underlay new new_underlay turn timely le this (inr h) =
-    let place = h.0 in
-    let s = h.1 in
-    let fetch = h.4 in
-    record {
-      many = ports_as_many place ports new underlay new_underlay s h.3;
-      count = fetch.count;
-      soon = no_sooner turn.next latest (lent s.standing) fetch.next;
-      moment = fetch.moment le;
-      change = λ zero. absurd (never_change (length ports) place (subst (λ i. IsAt (length ports) i place) zero h.2));
-      here = λ other at. rw (changed_here (length ports) index place other ports new underlay new_underlay s refl h.2 at h.3) (lends_where turn.next s latest (lent s.standing) refl fetch.next);
-      elsewhere = λ other i at apart. unchanged (length ports) index i place other ports new underlay new_underlay s refl h.2 at apart h.3;
-    }
+asked changes index done latest ports underlay new new_underlay turn timely le this (inr h) = asked_capture changes index (done + 1) latest ports underlay new new_underlay turn le h
 
 pub ready_again : (changes : List TimedChange) (ports : List Stream) (underlay : Stream) (turns : List Turn) (state : State) (number : ℕ) (drains : Drains) (new : List Stream) (new_underlay : Stream) (new_state : State) (new_drains : Drains)
     (first : First) (turn : Turn) (done : ℕ) → AreReady changes (run_at ports underlay turns state number drains) → IsFirst turns (length turns) first → done ≤ number

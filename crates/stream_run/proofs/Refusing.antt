@@ -1,5 +1,5 @@
 -- What refuses a run before anything is read or written.
-use Rattle.std.proofs.Common.{◌≡◌, ◌∙◌, refl, sym, ℕ, ◌==◌, Bool, true, false, List, length, Vec, Global, Result, Ok, Err, inl, inr}
+use Rattle.std.proofs.Common.{◌≡◌, ◌⊎◌, ◌∙◌, refl, sym, ℕ, ◌==◌, Bool, true, false, List, length, Vec, Global, Result, Ok, Err, inl, inr}
 use Rattle.std.specs.Prelude.{MatchBool}
 use Rattle.std.proofs.lemmas.Bool.{eqb-true}
 use Rattle.config_text.specs.declared.fault.SettingsFault.{SettingsFault}
@@ -13,6 +13,7 @@ use Rattle.stream_run.specs.Left.{AnswersAmong, Ends, Leaves, Refuses}
 use Rattle.stream_run.specs.declared.fault.StreamFault.{StreamFault}
 use Rattle.stream_run.specs.declared.fault.StreamFault.TheVariants as stream
 use Rattle.capture_run.proofs.Among.{all_run}
+use Rattle.capture_run.proofs.Faults.{refused}
 use Rattle.stream_run.specs.Over.{IsRunOver, IsWholeRun}
 use Rattle.stream_run.specs.Stage.{Drains}
 use Rattle.stream_run.proofs.Framing.{none_at}
@@ -40,23 +41,19 @@ module _ (segments : Segments) where
 
   pub settings_refused : {A : Type 0} (view : A → Settings) (fault : SettingsFault) (s : Meaning Settings) (c : Meaning (List TimedChange)) (e : Ends) → length e.drains.ports ≡ length e.ports
       → GivesAs view (Err fault) s → AnswersAmong segments s c e e (Err (stream.Run (of_settings fault)))
-  settings_refused view text.NotToml s c e many h = rw h (inl refl, refl)
-  settings_refused view (text.Missing key) s c e many h = rw h (inl refl, refl)
-  settings_refused view (text.BadValue key) s c e many h = rw h (inl refl, refl)
-  settings_refused view (text.TwoSegments key) s c e many h = rw h (inl refl, refl)
-  settings_refused view (text.NotRising key) s c e many h = rw h (inl refl, refl)
-  settings_refused view (text.OverLimit key) s c e many h = rw h (inl refl, refl)
-  settings_refused view text.OutOfMemory s c e many h = out_of_memory s c e many
+  settings_refused view fault s c e many h = by (refused view fault s h)
+    where
+      by : (s ≡ Err fault) ⊎ (fault ≡ text.OutOfMemory) → AnswersAmong segments s c e e (Err (stream.Run (of_settings fault)))
+      by (inl is) = rw is (inl refl, refl)
+      by (inr none) = rw none (out_of_memory s c e many)
 
   pub changes_refused : {A : Type 0} (view : A → List TimedChange) (fault : SettingsFault) (s : Settings) (c : Meaning (List TimedChange)) (e : Ends) → length e.drains.ports ≡ length e.ports
       → GivesAs view (Err fault) c → AnswersAmong segments (Ok s) c e e (Err (stream.Run (of_changes fault)))
-  changes_refused view text.NotToml s c e many h = rw h (inl refl, refl)
-  changes_refused view (text.Missing key) s c e many h = rw h (inl refl, refl)
-  changes_refused view (text.BadValue key) s c e many h = rw h (inl refl, refl)
-  changes_refused view (text.TwoSegments key) s c e many h = rw h (inl refl, refl)
-  changes_refused view (text.NotRising key) s c e many h = rw h (inl refl, refl)
-  changes_refused view (text.OverLimit key) s c e many h = rw h (inl refl, refl)
-  changes_refused view text.OutOfMemory s c e many h = out_of_memory (Ok s) c e many
+  changes_refused view fault s c e many h = by (refused view fault c h)
+    where
+      by : (c ≡ Err fault) ⊎ (fault ≡ text.OutOfMemory) → AnswersAmong segments (Ok s) c e e (Err (stream.Run (of_changes fault)))
+      by (inl is) = rw is (inl refl, refl)
+      by (inr none) = rw none (out_of_memory (Ok s) c e many)
 
   -- another number of captures
   pub count_refused : (s : Settings) (changes : List TimedChange) (e : Ends) → (length e.ports == length s.ports) ≡ false → AnswersAmong segments (Ok s) (Ok changes) e e (Err (stream.Run faults.PortCount))

@@ -289,6 +289,19 @@ module _ (segments : Segments) where
 
   -- ---- where it ends
 
+  -- no event more comes
+  goes_no_further : (changes : List TimedChange) (old now : Run) (has : HasRun changes old now) (texts : List (List ℕ)) (text : List ℕ) → AreRead texts text old.turns old.ports old.underlay
+      → (result : Result (Unit {0}) StreamFault) → EndsIn texts text has.es (coming changes texts text now.turns) now result → AreFirst changes texts text old now has.es [] result
+  goes_no_further changes old now has texts text read result ends =
+      let up_to = has.told texts text read in
+      record {
+        rest = coming changes texts text now.turns;
+        first = up_to.first;
+        in_front = subst (StopInFront texts text) (sym (append-nil has.es)) (all_in_front texts text now.turns now.ports now.underlay has.es up_to.read has.counted);
+        read_on = all_so texts text now.turns now.ports now.underlay has.es up_to.read has.many result;
+        ends = ends;
+      }
+
   -- nothing of its sources is left
   run_ends : (changes : List TimedChange) (old now : Run) → HasRun changes old now → ((t : Turn) (k : ℕ) → k < length now.turns → (slice_index_or now.turns k t).next ≡ None) → IsRunOn segments changes old now (Ok tt)
   run_ends changes old now has none = record {
@@ -304,13 +317,7 @@ module _ (segments : Segments) where
     told = λ texts text read.
         let up_to = has.told texts text read in
         let ahead = are_ahead changes texts text now.turns now.ports now.underlay has.ready.size has.ready.timely has.ready.change up_to.read in
-        record {
-          rest = coming changes texts text now.turns;
-          first = up_to.first;
-          in_front = subst (StopInFront texts text) (sym (append-nil has.es)) (all_in_front texts text now.turns now.ports now.underlay has.es up_to.read has.counted);
-          read_on = all_so texts text now.turns now.ports now.underlay has.es up_to.read has.many (Ok tt);
-          ends = (ap merged (none_left now.turns (source_events changes texts text) ahead none), up_to.read);
-        };
+        goes_no_further changes old now has texts text read (Ok tt) (ap merged (none_left now.turns (source_events changes texts text) ahead none), up_to.read);
   }
 
   -- it may be the want of numbers
@@ -325,15 +332,7 @@ module _ (segments : Segments) where
     reads = has.quiet;
     over = tt;
     ready = tt;
-    told = λ texts text read.
-        let up_to = has.told texts text read in
-        record {
-          rest = coming changes texts text now.turns;
-          first = up_to.first;
-          in_front = subst (StopInFront texts text) (sym (append-nil has.es)) (all_in_front texts text now.turns now.ports now.underlay has.es up_to.read has.counted);
-          read_on = all_so texts text now.turns now.ports now.underlay has.es up_to.read has.many (Err (stream.Run faults.OutOfMemory));
-          ends = tt;
-        };
+    told = λ texts text read. goes_no_further changes old now has texts text read (Err (stream.Run faults.OutOfMemory)) tt;
   }
 
   -- ---- with what is seen

@@ -15,4 +15,5 @@ pub mod Left
 pub mod Over
 pub mod Reached
 pub mod Watched
+pub mod Done
 pub mod Upcoming

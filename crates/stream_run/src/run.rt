@@ -6,13 +6,14 @@ ghost use Rattle.overlay_config.specs.Settings.{settings_in};
 ghost use Rattle.overlay_settings.specs.Settings.{Settings};
 ghost use Rattle.endpoint_core.specs.Kept.{state_of};
 ghost use Rattle.stream_run.specs.Begun.{IsUnread, first_turns};
-ghost use Rattle.stream_run.specs.Left.{Answers, AnswersAmong, CanBegin, IsOpenedWith, Leaves, WritesWith, ends};
-ghost use Rattle.stream_run.specs.Over.{IsRunOver, IsRunOverAmong, IsWholeRun, LeavesOver, Tells};
-ghost use Rattle.stream_run.specs.Reached.{IsReachedOver, IsReachedOverAmong, ReachesOver};
+ghost use Rattle.stream_run.specs.Done.{IsDone};
+ghost use Rattle.stream_run.specs.Left.{Answers, AnswersAmong, CanBegin, IsOpenedWith, WritesWith, ends};
+ghost use Rattle.stream_run.specs.Over.{IsRunOver, IsRunOverAmong, IsWholeRun, Tells};
+ghost use Rattle.stream_run.specs.Reached.{IsReachedOver, IsReachedOverAmong};
 ghost use Rattle.stream_run.specs.Read.{ReadsWith};
 ghost use Rattle.stream_run.specs.Stage.{drains};
 ghost use Rattle.stream_run.specs.Steps.{AreTimely};
-ghost use Rattle.stream_run.specs.Watched.{IsShown, IsShownAmong, IsWatchedOver, IsWatchedOverAmong, SeesOver, Shows};
+ghost use Rattle.stream_run.specs.Watched.{IsShown, IsShownAmong, IsWatchedOver, IsWatchedOverAmong};
 
 use crate::begin::{begin_all, fetch_all, first_turns};
 use crate::cuts::put_cuts_among;
@@ -185,19 +186,7 @@ fn run_with<R: Input, W: Output, T: Watch>(
     requires timely { AreTimely changes.now }
     requires new_ports { All IsUnread ports.old }
     requires new_underlay { IsUnread underlay.old }
-    ensures outputs { Leaves segments.now settings changes.now
-        (drains port_sinks.old underlay_sink.old (W.written decisions.old) (W.failures decisions.old))
-        (drains port_sinks.new underlay_sink.new (W.written decisions.new) (W.failures decisions.new)) result }
-    ensures over { (texts : List (AVec ℕ AGlobal)) (text : List ℕ) → Tells ports.old underlay.old texts text → LeavesOver segments.now settings changes.now texts text
-        (drains port_sinks.old underlay_sink.old (W.written decisions.old) (W.failures decisions.old))
-        (drains port_sinks.new underlay_sink.new (W.written decisions.new) (W.failures decisions.new)) result }
-    ensures reached { (texts : List (AVec ℕ AGlobal)) (text : List ℕ) → Tells ports.old underlay.old texts text → ReachesOver segments.now settings changes.now texts text
-        (drains port_sinks.old underlay_sink.old (W.written decisions.old) (W.failures decisions.old))
-        (drains port_sinks.new underlay_sink.new (W.written decisions.new) (W.failures decisions.new)) ports.new underlay.new result }
-    ensures shown { Shows segments.now T.sees T.ends settings changes.now
-        (drains port_sinks.old underlay_sink.old (W.written decisions.old) (W.failures decisions.old))
-        (drains port_sinks.new underlay_sink.new (W.written decisions.new) (W.failures decisions.new)) watch.old watch.new result }
-    ensures watched { (texts : List (AVec ℕ AGlobal)) (text : List ℕ) → Tells ports.old underlay.old texts text → SeesOver segments.now T.sees T.ends settings changes.now texts text
+    ensures done { IsDone segments.now T.sees T.ends settings changes.now ports.old underlay.old ports.new underlay.new
         (drains port_sinks.old underlay_sink.old (W.written decisions.old) (W.failures decisions.old))
         (drains port_sinks.new underlay_sink.new (W.written decisions.new) (W.failures decisions.new)) watch.old watch.new result }
     ensures reads { ReadsWith ports.old underlay.old ports.new underlay.new result }
@@ -246,19 +235,8 @@ fn run_on<R: Input, W: Output, T: Watch>(
     requires timely { AreTimely changes.now }
     requires new_ports { All IsUnread ports.old }
     requires new_underlay { IsUnread underlay.old }
-    ensures outputs { (settings : Settings) → IsOpenedWith settings ports.old (state_of endpoint.old) → Leaves segments.now settings changes.now
-        (drains port_sinks.old underlay_sink.old (W.written decisions.old) (W.failures decisions.old))
-        (drains port_sinks.new underlay_sink.new (W.written decisions.new) (W.failures decisions.new)) result }
-    ensures over { (settings : Settings) → IsOpenedWith settings ports.old (state_of endpoint.old) → (texts : List (AVec ℕ AGlobal)) (text : List ℕ) → Tells ports.old underlay.old texts text → LeavesOver segments.now settings changes.now texts text
-        (drains port_sinks.old underlay_sink.old (W.written decisions.old) (W.failures decisions.old))
-        (drains port_sinks.new underlay_sink.new (W.written decisions.new) (W.failures decisions.new)) result }
-    ensures reached { (settings : Settings) → IsOpenedWith settings ports.old (state_of endpoint.old) → (texts : List (AVec ℕ AGlobal)) (text : List ℕ) → Tells ports.old underlay.old texts text → ReachesOver segments.now settings changes.now texts text
-        (drains port_sinks.old underlay_sink.old (W.written decisions.old) (W.failures decisions.old))
-        (drains port_sinks.new underlay_sink.new (W.written decisions.new) (W.failures decisions.new)) ports.new underlay.new result }
-    ensures shown { (settings : Settings) → IsOpenedWith settings ports.old (state_of endpoint.old) → Shows segments.now T.sees T.ends settings changes.now
-        (drains port_sinks.old underlay_sink.old (W.written decisions.old) (W.failures decisions.old))
-        (drains port_sinks.new underlay_sink.new (W.written decisions.new) (W.failures decisions.new)) watch.old watch.new result }
-    ensures watched { (settings : Settings) → IsOpenedWith settings ports.old (state_of endpoint.old) → (texts : List (AVec ℕ AGlobal)) (text : List ℕ) → Tells ports.old underlay.old texts text → SeesOver segments.now T.sees T.ends settings changes.now texts text
+    ensures done { (settings : Settings) → IsOpenedWith settings ports.old (state_of endpoint.old)
+        → IsDone segments.now T.sees T.ends settings changes.now ports.old underlay.old ports.new underlay.new
         (drains port_sinks.old underlay_sink.old (W.written decisions.old) (W.failures decisions.old))
         (drains port_sinks.new underlay_sink.new (W.written decisions.new) (W.failures decisions.new)) watch.old watch.new result }
     ensures reads { ReadsWith ports.old underlay.old ports.new underlay.new result }

@@ -1,53 +1,65 @@
-use Rattle.std.proofs.Common.{◌+◌, ◌<◌, drop, subst, arith, length, slice_index_or}
+use Rattle.std.proofs.Common.{◌≡◌, ◌∙◌, ap, ◌+◌, ◌<◌, drop, subst, arith, length, slice_index_or, List, Option}
 use Rattle.std.proofs.lemmas.List.{get_or_default}
+use Rattle.std.specs.List.{cons_option}
 use Rattle.std.specs.Option.{option_to_list}
+use Rattle.pcap_stream.specs.Sink.{Drain}
 use Rattle.pcap_stream.specs.Source.{Stream}
+use Rattle.timeline.specs.declared.timeline.Cut.{Cut}
 use Rattle.timeline.specs.declared.source.Tap.TheVariants.{Port, Underlay}
+use Rattle.capture_run.specs.Outputs.{Outputs}
 use Rattle.capture_run.specs.Writing.{with_cuts}
 use Rattle.stream_run.specs.Begun.{no_turn}
 use Rattle.stream_run.specs.Cuts.{cut_behind, cuts_at, cuts_from}
-use Rattle.stream_run.specs.Stage.{Lead, StandAt, StandBetween, drains}
+use Rattle.stream_run.specs.Stage.{Drains, Lead, StandAt, StandBetween, drains}
 use Rattle.stream_run.specs.declared.turn.Turn.{Turn}
 use Rattle.stream_run.proofs.Cutting.{CutSoFar, cut_failed, last_cut, left_at, left_last, none_cut, one_cut}
+use Rattle.stream_run.proofs.cuts.put_cuts.Given.{Over}
+use Rattle.stream_run.proofs.cuts.put_cuts.Goals.{After-put_cut}
 use Rattle.stream_run.proofs.cuts.put_cuts.Goals as goal
 
 pub loop-i-init : goal.loop-i-init
 loop-i-init g c start o sinks sink at = none_cut start (drains sinks sink (g.W.Output.written c.args.decisions.now) (g.W.Output.failures c.args.decisions.now)) o (cuts_at c.args.ports.now c.args.underlay.now c.args.turns.now) at
 
+-- the line that comes next, if one does, and those behind it
+module _ (g : Over) (c : After-put_cut g) where
+  abbrev next : Option Cut
+  next = cut_behind (Port (c.loop-i.i + 1)) (slice_index_or c.args.ports.now c.loop-i.i c.index-ports-i.result) (slice_index_or c.args.turns.now (c.loop-i.i + 1) no_turn).done
+
+  abbrev rest : List Cut
+  rest = cuts_from (c.loop-i.i + 1 + 1) (drop (c.loop-i.i + 1) c.args.ports.now) c.args.underlay.now c.args.turns.now
+
+  abbrev all : List Cut
+  all = cuts_at c.args.ports.now c.args.underlay.now c.args.turns.now
+
+  so_far : (start : Drains) (o : Outputs) (sinks : List Drain) (sink : Drain) → StandAt start (drains sinks sink (g.W.Output.written c.args.decisions.now) (g.W.Output.failures c.args.decisions.now)) o
+      → CutSoFar start (drains sinks sink (g.W.Output.written c.loop-i.decisions) (g.W.Output.failures c.loop-i.decisions)) o (cons_option next rest) all
+  so_far start o sinks sink at =
+      subst (λ l. CutSoFar start (drains sinks sink (g.W.Output.written c.loop-i.decisions) (g.W.Output.failures c.loop-i.decisions)) o l all)
+      (left_at c.args.ports.now c.args.underlay.now c.args.turns.now c.loop-i.i c.index-ports-i.result c.loop-i-test.true) (c.loop-i.invariant start o sinks sink at)
+
+  -- it is the one that was put
+  put_is : (d : Turn) → cut_behind (Port (c.loop-i.i + 1)) c.index-ports-i.result (slice_index_or c.args.turns.now (c.loop-i.i + 1) d).done ≡ next
+  put_is d =
+      let there : c.loop-i.i + 1 < length c.args.turns.now = omega (arith, c.requires.turns, c.loop-i-test.true) in
+      ap (λ (t : Turn). cut_behind (Port (c.loop-i.i + 1)) c.index-ports-i.result t.done) (get_or_default c.args.turns.now (c.loop-i.i + 1) d no_turn there)
+      ∙ ap (λ (x : Stream). cut_behind (Port (c.loop-i.i + 1)) x (slice_index_or c.args.turns.now (c.loop-i.i + 1) no_turn).done) c.index-ports-i.is
+
 pub returns-in-Err : goal.returns-in-Err
 returns-in-Err g c start o sinks sink at =
-    let ports = c.args.ports.now in
-    let underlay = c.args.underlay.now in
-    let turns = c.args.turns.now in
-    let i = c.loop-i.i in
-    let all = cuts_at ports underlay turns in
-    let s = slice_index_or ports i c.index-ports-i.result in
-    let there : i + 1 < length turns = omega (arith, c.requires.turns, c.loop-i-test.true) in
-    let now = drains sinks sink (g.W.Output.written c.loop-i.decisions) (g.W.Output.failures c.loop-i.decisions) in
+    let w = (goal.at.returns-in-Err g c).After-put_cut in
     let new = drains sinks sink (g.W.Output.written c.put_cut.new.decisions) (g.W.Output.failures c.put_cut.new.decisions) in
-    let here = subst (λ l. CutSoFar start now o l all) (left_at ports underlay turns i c.index-ports-i.result c.loop-i-test.true) (c.loop-i.invariant start o sinks sink at) in
+    let here = so_far g w start o sinks sink at in
     let lead = c.in-Err.ensures start here.mid sinks sink here.at in (
-      cut_failed start now new o (cut_behind (Port (i + 1)) s (slice_index_or turns (i + 1) no_turn).done) (cuts_from (i + 1 + 1) (drop (i + 1) ports) underlay turns) all here
-          (subst (λ (x : Stream). StandBetween start new here.mid (with_cuts here.mid (option_to_list (cut_behind (Port (i + 1)) x (slice_index_or turns (i + 1) no_turn).done)))) c.index-ports-i.is
-          (subst (λ (t : Turn). StandBetween start new here.mid (with_cuts here.mid (option_to_list (cut_behind (Port (i + 1)) c.index-ports-i.result t.done)))) (get_or_default turns (i + 1) _ no_turn there) lead.0)),
+      cut_failed start _ new o (next g w) (rest g w) (all g w) here (subst (λ (l : Option Cut). StandBetween start new here.mid (with_cuts here.mid (option_to_list l))) (put_is g w _) lead.0),
       lead.1,
     )
 
 pub loop-i-preserved : goal.loop-i-preserved
 loop-i-preserved g c start o sinks sink at =
-    let ports = c.args.ports.now in
-    let underlay = c.args.underlay.now in
-    let turns = c.args.turns.now in
-    let i = c.loop-i.i in
-    let all = cuts_at ports underlay turns in
-    let s = slice_index_or ports i c.index-ports-i.result in
-    let there : i + 1 < length turns = omega (arith, c.requires.turns, c.loop-i-test.true) in
-    let now = drains sinks sink (g.W.Output.written c.loop-i.decisions) (g.W.Output.failures c.loop-i.decisions) in
+    let w = (goal.at.loop-i-preserved g c).After-put_cut in
     let new = drains sinks sink (g.W.Output.written c.put_cut.new.decisions) (g.W.Output.failures c.put_cut.new.decisions) in
-    let here = subst (λ l. CutSoFar start now o l all) (left_at ports underlay turns i c.index-ports-i.result c.loop-i-test.true) (c.loop-i.invariant start o sinks sink at) in
-    one_cut start now new o (cut_behind (Port (i + 1)) s (slice_index_or turns (i + 1) no_turn).done) (cuts_from (i + 1 + 1) (drop (i + 1) ports) underlay turns) all here
-    (subst (λ (x : Stream). StandAt start new (with_cuts here.mid (option_to_list (cut_behind (Port (i + 1)) x (slice_index_or turns (i + 1) no_turn).done)))) c.index-ports-i.is
-    (subst (λ (t : Turn). StandAt start new (with_cuts here.mid (option_to_list (cut_behind (Port (i + 1)) c.index-ports-i.result t.done)))) (get_or_default turns (i + 1) _ no_turn there) (c.in_default.ensures start here.mid sinks sink here.at)))
+    let here = so_far g w start o sinks sink at in
+    one_cut start _ new o (next g w) (rest g w) (all g w) here (subst (λ (l : Option Cut). StandAt start new (with_cuts here.mid (option_to_list l))) (put_is g w _) (c.in_default.ensures start here.mid sinks sink here.at))
 
 pub returns : goal.returns
 returns g c start o sinks sink at =

@@ -1,23 +1,47 @@
-use Rattle.std.proofs.Common.{◌≡◌, ◌∙◌, ◌==◌, [], ap, arith, sym, subst, length, false, true, Vec, Global, Ok, Err}
+use Rattle.std.proofs.Common.{◌≡◌, ◌∙◌, ◌==◌, [], ap, arith, sym, subst, length, false, true, List, Vec, Global, Ok, Err}
 use Rattle.std.proofs.lemmas.Bool.{ne_eqb, eq-eqb}
 use Rattle.overlay_config.specs.Change.{IsRising, changes_in}
+use Rattle.overlay_config.specs.Fault.{Meaning}
 use Rattle.overlay_config.specs.Settings.{Settings, settings_in}
 use Rattle.overlay_settings.specs.Rules.{EachBehind}
 use Rattle.overlay_settings.specs.declared.change.TimedChange.{TimedChange}
 use Rattle.capture_run.proofs.Faults.{changes_fault, port_count_fault, settings_fault}
 use Rattle.capture_run.specs.Fault.{of_changes, of_settings}
 use Rattle.capture_run.specs.declared.fault.RunFault.TheVariants as faults
-use Rattle.stream_run.specs.Left.{AnswersAmong, Leaves, ends}
-use Rattle.stream_run.specs.Over.{IsRunOverAmong, LeavesOver}
-use Rattle.stream_run.specs.Reached.{IsReachedOverAmong, ReachesOver}
+use Rattle.stream_run.specs.Done.{IsDone}
+use Rattle.stream_run.specs.Left.{AnswersAmong, ends}
+use Rattle.stream_run.specs.Over.{IsRunOverAmong}
+use Rattle.stream_run.specs.Reached.{IsReachedOverAmong}
 use Rattle.stream_run.specs.Stage.{drains}
-use Rattle.stream_run.specs.Watched.{IsShownAmong, IsWatchedOverAmong, SeesOver, Shows}
+use Rattle.stream_run.specs.Watched.{IsShownAmong, IsWatchedOverAmong}
 use Rattle.stream_run.specs.declared.fault.StreamFault.TheVariants as stream
 use Rattle.stream_run.proofs.Framing.{none_at, timely, writes_by}
 use Rattle.stream_run.proofs.Overall.{changes_refusal, over_refusal, reach_refusal, seen_refusal, settings_refusal, tells_texts}
 use Rattle.stream_run.proofs.Refusing.{changes_refused, count_refused, counted, settings_refused}
 use Rattle.stream_run.proofs.Showing.{shows_counted, shows_refused}
+use Rattle.stream_run.proofs.run.run_segments.Given.{Over}
+use Rattle.stream_run.proofs.run.run_segments.Goals.{After-run_with}
 use Rattle.stream_run.proofs.run.run_segments.Goals as goal
+
+-- what holds of the settings and the changes that were read holds by what their texts mean
+meant : (g : Over) (c : After-run_with g) (P : Meaning Settings → Meaning (List TimedChange) → Type 0) → P (Ok c.in-Ok.settings) (Ok c.in-Ok-changes_of.changes.items) → P (settings_in c.args.settings.now) (changes_in c.args.changes.now)
+meant g c P h = subst (λ m. P m (changes_in c.args.changes.now)) (sym c.in-Ok.ensures) (subst (P (Ok c.in-Ok.settings)) (sym c.in-Ok-changes_of.ensures.value) h)
+
+-- as many captures as ports are there
+as_many : (g : Over) (c : After-run_with g) → (length c.args.ports.now == length c.in-Ok.settings.ports) ≡ true
+as_many g c = eq-eqb _ _ (c.if-ports.false ∙ ap length c.ports.ensures.value)
+
+-- the run with them is done
+done : (g : Over) (c : After-run_with g)
+    → IsDone c.args.segments.now g.T.Watch.sees g.T.Watch.ends c.in-Ok.settings c.in-Ok-changes_of.changes.items c.args.ports.now c.args.underlay.now c.run_with.new.ports c.run_with.new.underlay
+    (drains c.args.port_sinks.now c.args.underlay_sink.now (g.W.Output.written c.args.decisions.now) (g.W.Output.failures c.args.decisions.now))
+    (drains c.run_with.new.port_sinks c.run_with.new.underlay_sink (g.W.Output.written c.run_with.new.decisions) (g.W.Output.failures c.run_with.new.decisions))
+    c.args.watch.now c.run_with.new.watch c.run_with.result
+done g c =
+    subst (λ l. IsDone c.args.segments.now g.T.Watch.sees g.T.Watch.ends c.in-Ok.settings l c.args.ports.now c.args.underlay.now c.run_with.new.ports c.run_with.new.underlay
+    (drains c.args.port_sinks.now c.args.underlay_sink.now (g.W.Output.written c.args.decisions.now) (g.W.Output.failures c.args.decisions.now))
+    (drains c.run_with.new.port_sinks c.run_with.new.underlay_sink (g.W.Output.written c.run_with.new.decisions) (g.W.Output.failures c.run_with.new.decisions))
+    c.args.watch.now c.run_with.new.watch c.run_with.result) c.as_slice.ensures.value c.run_with.ensures.done
 
 pub returns-in-Err-clause-run : goal.returns-in-Err-clause-run
 returns-in-Err-clause-run g c =
@@ -51,17 +75,14 @@ run_with-requires-clause-timely g c = timely c.as_slice.result.now (subst (EachB
 
 pub returns-clause-run : goal.returns-clause-run
 returns-clause-run g c =
-    let changes = changes_in c.args.changes.now in
+    let w = (goal.at.returns-clause-run g c).After-run_with in
     let old = ends c.args.ports.now c.args.underlay.now (drains c.args.port_sinks.now c.args.underlay_sink.now (g.W.Output.written c.args.decisions.now) (g.W.Output.failures c.args.decisions.now)) in
     let new = ends c.run_with.new.ports c.run_with.new.underlay (drains c.run_with.new.port_sinks c.run_with.new.underlay_sink (g.W.Output.written c.run_with.new.decisions) (g.W.Output.failures c.run_with.new.decisions)) in
-    let same : (length c.args.ports.now == length c.in-Ok.settings.ports) ≡ true = eq-eqb _ _ (c.if-ports.false ∙ ap length c.ports.ensures.value) in
-    subst (λ m. AnswersAmong c.args.segments.now m changes old new c.run_with.result) (sym c.in-Ok.ensures)
-    (subst (λ m. AnswersAmong c.args.segments.now (Ok c.in-Ok.settings) m old new c.run_with.result) (sym c.in-Ok-changes_of.ensures.value)
-    (counted c.args.segments.now c.in-Ok.settings c.in-Ok-changes_of.changes.items old new c.run_with.result same
-    (subst (λ l. Leaves c.args.segments.now c.in-Ok.settings l old.drains new.drains c.run_with.result) c.as_slice.ensures.value c.run_with.ensures.outputs)))
+    meant g w (λ m k. AnswersAmong c.args.segments.now m k old new c.run_with.result)
+    (counted c.args.segments.now c.in-Ok.settings c.in-Ok-changes_of.changes.items old new c.run_with.result (as_many g w) (done g w).left)
 
 pub returns-clause-writes : goal.returns-clause-writes
-returns-clause-writes g c = writes_by c.args.segments.now c.in-Ok.settings c.as_slice.result.now _ _ c.run_with.result c.run_with.ensures.outputs
+returns-clause-writes g c = writes_by c.args.segments.now c.in-Ok.settings c.as_slice.result.now _ _ c.run_with.result c.run_with.ensures.done.left
 
 -- ---- by the octets of the captures
 
@@ -98,12 +119,8 @@ returns-then-ports-clause-over g c texts text tells =
 
 pub returns-clause-over : goal.returns-clause-over
 returns-clause-over g c texts text tells =
-    let changes = changes_in c.args.changes.now in
-    let old = drains c.args.port_sinks.now c.args.underlay_sink.now (g.W.Output.written c.args.decisions.now) (g.W.Output.failures c.args.decisions.now) in
-    let new = drains c.run_with.new.port_sinks c.run_with.new.underlay_sink (g.W.Output.written c.run_with.new.decisions) (g.W.Output.failures c.run_with.new.decisions) in
-    subst (λ m. IsRunOverAmong c.args.segments.now m changes texts text old new c.run_with.result) (sym c.in-Ok.ensures)
-    (subst (λ m. IsRunOverAmong c.args.segments.now (Ok c.in-Ok.settings) m texts text old new c.run_with.result) (sym c.in-Ok-changes_of.ensures.value)
-    (subst (λ l. LeavesOver c.args.segments.now c.in-Ok.settings l texts text old new c.run_with.result) c.as_slice.ensures.value (c.run_with.ensures.over texts text tells)))
+    let w = (goal.at.returns-clause-over g c).After-run_with in
+    meant g w (λ m k. IsRunOverAmong c.args.segments.now m k texts text (drains c.args.port_sinks.now c.args.underlay_sink.now (g.W.Output.written c.args.decisions.now) (g.W.Output.failures c.args.decisions.now)) (drains c.run_with.new.port_sinks c.run_with.new.underlay_sink (g.W.Output.written c.run_with.new.decisions) (g.W.Output.failures c.run_with.new.decisions)) c.run_with.result) ((done g w).over texts text tells).left
 
 -- ---- how far they are read
 
@@ -129,12 +146,8 @@ returns-then-ports-clause-reached g c texts text tells =
 
 pub returns-clause-reached : goal.returns-clause-reached
 returns-clause-reached g c texts text tells =
-    let changes = changes_in c.args.changes.now in
-    let old = drains c.args.port_sinks.now c.args.underlay_sink.now (g.W.Output.written c.args.decisions.now) (g.W.Output.failures c.args.decisions.now) in
-    let new = drains c.run_with.new.port_sinks c.run_with.new.underlay_sink (g.W.Output.written c.run_with.new.decisions) (g.W.Output.failures c.run_with.new.decisions) in
-    subst (λ m. IsReachedOverAmong c.args.segments.now m changes texts text old new c.run_with.new.ports c.run_with.new.underlay c.run_with.result) (sym c.in-Ok.ensures)
-    (subst (λ m. IsReachedOverAmong c.args.segments.now (Ok c.in-Ok.settings) m texts text old new c.run_with.new.ports c.run_with.new.underlay c.run_with.result) (sym c.in-Ok-changes_of.ensures.value)
-    (subst (λ l. ReachesOver c.args.segments.now c.in-Ok.settings l texts text old new c.run_with.new.ports c.run_with.new.underlay c.run_with.result) c.as_slice.ensures.value (c.run_with.ensures.reached texts text tells)))
+    let w = (goal.at.returns-clause-reached g c).After-run_with in
+    meant g w (λ m k. IsReachedOverAmong c.args.segments.now m k texts text (drains c.args.port_sinks.now c.args.underlay_sink.now (g.W.Output.written c.args.decisions.now) (g.W.Output.failures c.args.decisions.now)) (drains c.run_with.new.port_sinks c.run_with.new.underlay_sink (g.W.Output.written c.run_with.new.decisions) (g.W.Output.failures c.run_with.new.decisions)) c.run_with.new.ports c.run_with.new.underlay c.run_with.result) ((done g w).over texts text tells).reached
 
 -- ---- by who looks on
 
@@ -155,14 +168,9 @@ returns-then-ports-clause-shown g c =
 
 pub returns-clause-shown : goal.returns-clause-shown
 returns-clause-shown g c =
-    let changes = changes_in c.args.changes.now in
-    let old = drains c.args.port_sinks.now c.args.underlay_sink.now (g.W.Output.written c.args.decisions.now) (g.W.Output.failures c.args.decisions.now) in
-    let new = drains c.run_with.new.port_sinks c.run_with.new.underlay_sink (g.W.Output.written c.run_with.new.decisions) (g.W.Output.failures c.run_with.new.decisions) in
-    let same : (length c.args.ports.now == length c.in-Ok.settings.ports) ≡ true = eq-eqb _ _ (c.if-ports.false ∙ ap length c.ports.ensures.value) in
-    subst (λ m. IsShownAmong c.args.segments.now g.T.Watch.sees g.T.Watch.ends m changes c.args.ports.now old new c.args.watch.now c.run_with.new.watch c.run_with.result) (sym c.in-Ok.ensures)
-    (subst (λ m. IsShownAmong c.args.segments.now g.T.Watch.sees g.T.Watch.ends (Ok c.in-Ok.settings) m c.args.ports.now old new c.args.watch.now c.run_with.new.watch c.run_with.result) (sym c.in-Ok-changes_of.ensures.value)
-    (shows_counted c.args.segments.now c.args.ports.now old g.T.Watch.sees g.T.Watch.ends c.args.watch.now c.in-Ok.settings c.in-Ok-changes_of.changes.items new c.run_with.new.watch c.run_with.result same
-    (subst (λ l. Shows c.args.segments.now g.T.Watch.sees g.T.Watch.ends c.in-Ok.settings l old new c.args.watch.now c.run_with.new.watch c.run_with.result) c.as_slice.ensures.value c.run_with.ensures.shown)))
+    let w = (goal.at.returns-clause-shown g c).After-run_with in
+    meant g w (λ m k. IsShownAmong c.args.segments.now g.T.Watch.sees g.T.Watch.ends m k c.args.ports.now (drains c.args.port_sinks.now c.args.underlay_sink.now (g.W.Output.written c.args.decisions.now) (g.W.Output.failures c.args.decisions.now)) (drains c.run_with.new.port_sinks c.run_with.new.underlay_sink (g.W.Output.written c.run_with.new.decisions) (g.W.Output.failures c.run_with.new.decisions)) c.args.watch.now c.run_with.new.watch c.run_with.result)
+    (shows_counted c.args.segments.now c.args.ports.now (drains c.args.port_sinks.now c.args.underlay_sink.now (g.W.Output.written c.args.decisions.now) (g.W.Output.failures c.args.decisions.now)) g.T.Watch.sees g.T.Watch.ends c.args.watch.now c.in-Ok.settings c.in-Ok-changes_of.changes.items (drains c.run_with.new.port_sinks c.run_with.new.underlay_sink (g.W.Output.written c.run_with.new.decisions) (g.W.Output.failures c.run_with.new.decisions)) c.run_with.new.watch c.run_with.result (as_many g w) (done g w).shown)
 
 pub returns-in-Err-clause-watched : goal.returns-in-Err-clause-watched
 returns-in-Err-clause-watched g c texts text tells =
@@ -192,9 +200,5 @@ returns-then-ports-clause-watched g c texts text tells =
 
 pub returns-clause-watched : goal.returns-clause-watched
 returns-clause-watched g c texts text tells =
-    let changes = changes_in c.args.changes.now in
-    let old = drains c.args.port_sinks.now c.args.underlay_sink.now (g.W.Output.written c.args.decisions.now) (g.W.Output.failures c.args.decisions.now) in
-    let new = drains c.run_with.new.port_sinks c.run_with.new.underlay_sink (g.W.Output.written c.run_with.new.decisions) (g.W.Output.failures c.run_with.new.decisions) in
-    subst (λ m. IsWatchedOverAmong c.args.segments.now g.T.Watch.sees g.T.Watch.ends m changes texts text old new c.args.watch.now c.run_with.new.watch c.run_with.result) (sym c.in-Ok.ensures)
-    (subst (λ m. IsWatchedOverAmong c.args.segments.now g.T.Watch.sees g.T.Watch.ends (Ok c.in-Ok.settings) m texts text old new c.args.watch.now c.run_with.new.watch c.run_with.result) (sym c.in-Ok-changes_of.ensures.value)
-    (subst (λ l. SeesOver c.args.segments.now g.T.Watch.sees g.T.Watch.ends c.in-Ok.settings l texts text old new c.args.watch.now c.run_with.new.watch c.run_with.result) c.as_slice.ensures.value (c.run_with.ensures.watched texts text tells)))
+    let w = (goal.at.returns-clause-watched g c).After-run_with in
+    meant g w (λ m k. IsWatchedOverAmong c.args.segments.now g.T.Watch.sees g.T.Watch.ends m k texts text (drains c.args.port_sinks.now c.args.underlay_sink.now (g.W.Output.written c.args.decisions.now) (g.W.Output.failures c.args.decisions.now)) (drains c.run_with.new.port_sinks c.run_with.new.underlay_sink (g.W.Output.written c.run_with.new.decisions) (g.W.Output.failures c.run_with.new.decisions)) c.args.watch.now c.run_with.new.watch c.run_with.result) ((done g w).over texts text tells).seen

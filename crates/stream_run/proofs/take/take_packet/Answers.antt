@@ -1,8 +1,8 @@
-use Rattle.std.proofs.Common.{◌≡◌, ◌∙◌, ◌+◌, sym, ap, subst, None, true, false, ℕ}
+use Rattle.std.proofs.Common.{◌≡◌, ◌∙◌, ◌+◌, sym, ap, subst, None, Some, Result, ℕ}
 use Rattle.frame_view.specs.declared.reason.Refused.{Refused}
-use Rattle.std.proofs.Common.{Result}
 use Rattle.segment_set.specs.Segments.{holds}
 use Rattle.pcap_io.specs.Record.{Record}
+use Rattle.pcap_stream.specs.Source.{lent}
 use Rattle.timeline.specs.declared.event.Event.{Event}
 use Rattle.timeline.specs.declared.event.Happening.TheVariants as happenings
 use Rattle.timeline.specs.declared.source.Tap.TheVariants.{Underlay}
@@ -10,7 +10,7 @@ use Rattle.endpoint_state.specs.State.{aged}
 use Rattle.endpoint_core.specs.Among.{is_told, segment_of}
 use Rattle.endpoint_core.specs.Arrival.{came_by}
 use Rattle.endpoint_core.specs.Came.{Came}
-use Rattle.endpoint_core.specs.Event.{packet_at}
+use Rattle.endpoint_core.specs.Event.{Event as Asked, packet_at}
 use Rattle.endpoint_core.specs.Kept.{state_of}
 use Rattle.endpoint_core.specs.Step.{Decided, after_coming, answer, decided}
 use Rattle.capture_run.specs.Writing.{with_input}
@@ -19,72 +19,75 @@ use Rattle.stream_run.specs.Sights.{answered, due, untold}
 use Rattle.stream_run.specs.Stage.{Lead, drains}
 use Rattle.stream_run.specs.Steps.{record_event}
 use Rattle.stream_run.proofs.Taking.{after_not_told, after_told, puts_nothing, puts_told, seen_told, seen_untold}
+use Rattle.stream_run.proofs.take.take_packet.Given.{Over}
+use Rattle.stream_run.proofs.take.take_packet.Goals.{After-has}
 use Rattle.stream_run.proofs.take.take_packet.Goals as goal
 
+-- the record that is lent, and what it is to the endpoint
+module _ (g : Over) (c : After-has g) (r : Record) (lends : lent c.args.source.now.standing ≡ Some r) where
+  abbrev asked : Asked
+  asked = packet_at c.args.moment r.original r.octets
+
+  abbrev event : Event
+  event = record { moment = c.args.moment; number = c.args.count + 1; happening = happenings.Record Underlay (record { original = c.record.inside.original; octets = c.record.inside.octets.now }) }
+
+  same : c.unwrap-record.result ≡ r
+  same = cc (c.unwrap-record.ensures, c.head.ensures.record, lends)
+
+  came : c.bring_packet.new.course ≡ came_by (state_of c.args.endpoint.now).bridges.settings.overlay r.original r.octets
+  came = c.bring_packet.ensures.value ∙ ap (λ (r : Record). came_by (state_of c.args.endpoint.now).bridges.settings.overlay r.original r.octets) (c.record.view_is ∙ same)
+
+  -- whether it is told
+  told : is_told c.args.segments.now (state_of c.args.endpoint.now) asked ≡ c.has.result
+  told = sym (ap (λ (r : Result Came Refused). holds c.args.segments.now (segment_of r)) came) ∙ sym (ap (holds c.args.segments.now) c.segment_of.ensures) ∙ sym c.has.ensures
+
 pub returns-then-not-has-clause-state : goal.returns-then-not-has-clause-state
-returns-then-not-has-clause-state g c r told =
+returns-then-not-has-clause-state g c r lends =
+    let w = (goal.at.returns-then-not-has-clause-state g c).After-has in
     let s = state_of c.args.endpoint.now in
-    let same : c.unwrap-record.result ≡ r = cc (c.unwrap-record.ensures, c.head.ensures.record, told) in
-    let came = c.bring_packet.ensures.value ∙ ap (λ (r : Record). came_by (state_of c.args.endpoint.now).bridges.settings.overlay r.original r.octets) (c.record.view_is ∙ same) in
-    let away : is_told c.args.segments.now s (packet_at c.args.moment r.original r.octets) ≡ false = sym (ap (λ (r : Result Came Refused). holds c.args.segments.now (segment_of r)) came) ∙ sym (ap (holds c.args.segments.now) c.segment_of.ensures) ∙ sym c.has.ensures ∙ c.if-not-has.true in
-    c.pass.ensures ∙ sym (after_not_told c.args.segments.now s (packet_at c.args.moment r.original r.octets) away)
+    c.pass.ensures ∙ sym (after_not_told c.args.segments.now s (asked g w r lends) (told g w r lends ∙ c.if-not-has.true))
 
 pub returns-then-not-has-clause-outputs : goal.returns-then-not-has-clause-outputs
-returns-then-not-has-clause-outputs g c r start o told at =
+returns-then-not-has-clause-outputs g c r start o lends at =
+    let w = (goal.at.returns-then-not-has-clause-outputs g c).After-has in
     let s = state_of c.args.endpoint.now in
-    let same : c.unwrap-record.result ≡ r = cc (c.unwrap-record.ensures, c.head.ensures.record, told) in
-    let came = c.bring_packet.ensures.value ∙ ap (λ (r : Record). came_by (state_of c.args.endpoint.now).bridges.settings.overlay r.original r.octets) (c.record.view_is ∙ same) in
-    let away : is_told c.args.segments.now s (packet_at c.args.moment r.original r.octets) ≡ false = sym (ap (λ (r : Result Came Refused). holds c.args.segments.now (segment_of r)) came) ∙ sym (ap (holds c.args.segments.now) c.segment_of.ensures) ∙ sym c.has.ensures ∙ c.if-not-has.true in
-    puts_nothing c.args.segments.now s (packet_at c.args.moment r.original r.octets) c.args.desk.now.number None (record_event Underlay c.args.count c.args.moment r) start _ o away at
+    puts_nothing c.args.segments.now s (asked g w r lends) c.args.desk.now.number None (record_event Underlay c.args.count c.args.moment r) start _ o (told g w r lends ∙ c.if-not-has.true) at
 
 pub returns-then-not-has-clause-seen : goal.returns-then-not-has-clause-seen
-returns-then-not-has-clause-seen g c r told =
+returns-then-not-has-clause-seen g c r lends =
+    let w = (goal.at.returns-then-not-has-clause-seen g c).After-has in
     let s = state_of c.args.endpoint.now in
-    let same : c.unwrap-record.result ≡ r = cc (c.unwrap-record.ensures, c.head.ensures.record, told) in
-    let came = c.bring_packet.ensures.value ∙ ap (λ (r : Record). came_by (state_of c.args.endpoint.now).bridges.settings.overlay r.original r.octets) (c.record.view_is ∙ same) in
-    let away : is_told c.args.segments.now s (packet_at c.args.moment r.original r.octets) ≡ false = sym (ap (λ (r : Result Came Refused). holds c.args.segments.now (segment_of r)) came) ∙ sym (ap (holds c.args.segments.now) c.segment_of.ensures) ∙ sym c.has.ensures ∙ c.if-not-has.true in
-    let e : Event = record { moment = c.args.moment; number = c.args.count + 1; happening = happenings.Record Underlay (record { original = c.record.inside.original; octets = c.record.inside.octets.now }) } in
-    seen_untold c.args.segments.now s (packet_at c.args.moment r.original r.octets) g.T.Watch.sees c.args.desk.now.number (record_event Underlay c.args.count c.args.moment r) c.args.watch.now c.pass_over.new.self away
-    (subst (λ (q : Record). g.T.Watch.sees c.args.watch.now (untold (due s c.args.desk.now.number (record_event Underlay c.args.count c.args.moment q))) c.pass_over.new.self) (c.record.view_is ∙ same)
-    (subst (λ (n : ℕ). g.T.Watch.sees c.args.watch.now (untold (due s n e)) c.pass_over.new.self) c.value.ensures c.pass_over.ensures))
+    seen_untold c.args.segments.now s (asked g w r lends) g.T.Watch.sees c.args.desk.now.number (record_event Underlay c.args.count c.args.moment r) c.args.watch.now c.pass_over.new.self (told g w r lends ∙ c.if-not-has.true)
+    (subst (λ (q : Record). g.T.Watch.sees c.args.watch.now (untold (due s c.args.desk.now.number (record_event Underlay c.args.count c.args.moment q))) c.pass_over.new.self) (c.record.view_is ∙ same g w r lends)
+    (subst (λ (n : ℕ). g.T.Watch.sees c.args.watch.now (untold (due s n (event g w r lends))) c.pass_over.new.self) c.value.ensures c.pass_over.ensures))
 
 pub returns-clause-state : goal.returns-clause-state
-returns-clause-state g c r told =
+returns-clause-state g c r lends =
+    let w = (goal.at.returns-clause-state g c).After-has in
     let s = state_of c.args.endpoint.now in
-    let same : c.unwrap-record.result ≡ r = cc (c.unwrap-record.ensures, c.head.ensures.record, told) in
-    let came = c.bring_packet.ensures.value ∙ ap (λ (r : Record). came_by (state_of c.args.endpoint.now).bridges.settings.overlay r.original r.octets) (c.record.view_is ∙ same) in
-    let here : is_told c.args.segments.now s (packet_at c.args.moment r.original r.octets) ≡ true = sym (ap (λ (r : Result Came Refused). holds c.args.segments.now (segment_of r)) came) ∙ sym (ap (holds c.args.segments.now) c.segment_of.ensures) ∙ sym c.has.ensures ∙ c.if-not-has.false in
-    c.take_came.ensures.state ∙ ap (λ (r : Result Came Refused). after_coming c.args.moment r s) came ∙ sym (after_told c.args.segments.now s (packet_at c.args.moment r.original r.octets) here)
+    c.take_came.ensures.state ∙ ap (λ (x : Result Came Refused). after_coming c.args.moment x s) (came g w r lends) ∙ sym (after_told c.args.segments.now s (asked g w r lends) (told g w r lends ∙ c.if-not-has.false))
 
 pub returns-clause-outputs : goal.returns-clause-outputs
-returns-clause-outputs g c r start o told at =
+returns-clause-outputs g c r start o lends at =
+    let w = (goal.at.returns-clause-outputs g c).After-has in
     let s = state_of c.args.endpoint.now in
-    let same : c.unwrap-record.result ≡ r = cc (c.unwrap-record.ensures, c.head.ensures.record, told) in
-    let came = c.bring_packet.ensures.value ∙ ap (λ (r : Record). came_by (state_of c.args.endpoint.now).bridges.settings.overlay r.original r.octets) (c.record.view_is ∙ same) in
-    let here : is_told c.args.segments.now s (packet_at c.args.moment r.original r.octets) ≡ true = sym (ap (λ (r : Result Came Refused). holds c.args.segments.now (segment_of r)) came) ∙ sym (ap (holds c.args.segments.now) c.segment_of.ensures) ∙ sym c.has.ensures ∙ c.if-not-has.false in
     let new = drains c.take_came.new.port_sinks c.take_came.new.underlay_sink (g.W.Output.written c.take_came.new.decisions) (g.W.Output.failures c.take_came.new.decisions) in
-    let e : Event = record { moment = c.args.moment; number = c.args.count + 1; happening = happenings.Record Underlay (record { original = c.record.inside.original; octets = c.record.inside.octets.now }) } in
-    puts_told c.args.segments.now s (packet_at c.args.moment r.original r.octets) c.args.desk.now.number None (record_event Underlay c.args.count c.args.moment r) start new o c.take_came.result here
-    (subst (λ (q : Record). Lead {T = Unit {0}} start new o (with_input c.args.desk.now.number None o (record_event Underlay c.args.count c.args.moment q) (answer s (packet_at c.args.moment r.original r.octets))) c.take_came.result) (c.record.view_is ∙ same)
-    (subst (λ (x : Result Came Refused). Lead {T = Unit {0}} start new o (with_input c.args.desk.now.number None o e (Decided (decided c.args.moment (aged c.args.moment s.bridges) x))) c.take_came.result) came (c.take_came.ensures.outputs start o at)))
+    puts_told c.args.segments.now s (asked g w r lends) c.args.desk.now.number None (record_event Underlay c.args.count c.args.moment r) start new o c.take_came.result (told g w r lends ∙ c.if-not-has.false)
+    (subst (λ (q : Record). Lead {T = Unit {0}} start new o (with_input c.args.desk.now.number None o (record_event Underlay c.args.count c.args.moment q) (answer s (asked g w r lends))) c.take_came.result) (c.record.view_is ∙ same g w r lends)
+    (subst (λ (x : Result Came Refused). Lead {T = Unit {0}} start new o (with_input c.args.desk.now.number None o (event g w r lends) (Decided (decided c.args.moment (aged c.args.moment s.bridges) x))) c.take_came.result) (came g w r lends) (c.take_came.ensures.outputs start o at)))
 
 pub returns-clause-order : goal.returns-clause-order
-returns-clause-order g c r start o told at =
+returns-clause-order g c r start o lends at =
+    let w = (goal.at.returns-clause-order g c).After-has in
     let s = state_of c.args.endpoint.now in
-    let same : c.unwrap-record.result ≡ r = cc (c.unwrap-record.ensures, c.head.ensures.record, told) in
-    let came = c.bring_packet.ensures.value ∙ ap (λ (r : Record). came_by (state_of c.args.endpoint.now).bridges.settings.overlay r.original r.octets) (c.record.view_is ∙ same) in
     let new = drains c.take_came.new.port_sinks c.take_came.new.underlay_sink (g.W.Output.written c.take_came.new.decisions) (g.W.Output.failures c.take_came.new.decisions) in
-    let e : Event = record { moment = c.args.moment; number = c.args.count + 1; happening = happenings.Record Underlay (record { original = c.record.inside.original; octets = c.record.inside.octets.now }) } in
-    (subst (λ (q : Record). PutsInOrder {T = Unit {0}} start new c.args.desk.now.number None o (record_event Underlay c.args.count c.args.moment q) (answer s (packet_at c.args.moment r.original r.octets)) c.take_came.result) (c.record.view_is ∙ same)
-    (subst (λ (x : Result Came Refused). PutsInOrder {T = Unit {0}} start new c.args.desk.now.number None o e (Decided (decided c.args.moment (aged c.args.moment s.bridges) x)) c.take_came.result) came (c.take_came.ensures.order start o at)))
+    subst (λ (q : Record). PutsInOrder {T = Unit {0}} start new c.args.desk.now.number None o (record_event Underlay c.args.count c.args.moment q) (answer s (asked g w r lends)) c.take_came.result) (c.record.view_is ∙ same g w r lends)
+    (subst (λ (x : Result Came Refused). PutsInOrder {T = Unit {0}} start new c.args.desk.now.number None o (event g w r lends) (Decided (decided c.args.moment (aged c.args.moment s.bridges) x)) c.take_came.result) (came g w r lends) (c.take_came.ensures.order start o at))
 
 pub returns-clause-seen : goal.returns-clause-seen
-returns-clause-seen g c r told =
+returns-clause-seen g c r lends =
+    let w = (goal.at.returns-clause-seen g c).After-has in
     let s = state_of c.args.endpoint.now in
-    let same : c.unwrap-record.result ≡ r = cc (c.unwrap-record.ensures, c.head.ensures.record, told) in
-    let came = c.bring_packet.ensures.value ∙ ap (λ (r : Record). came_by (state_of c.args.endpoint.now).bridges.settings.overlay r.original r.octets) (c.record.view_is ∙ same) in
-    let here : is_told c.args.segments.now s (packet_at c.args.moment r.original r.octets) ≡ true = sym (ap (λ (r : Result Came Refused). holds c.args.segments.now (segment_of r)) came) ∙ sym (ap (holds c.args.segments.now) c.segment_of.ensures) ∙ sym c.has.ensures ∙ c.if-not-has.false in
-    let e : Event = record { moment = c.args.moment; number = c.args.count + 1; happening = happenings.Record Underlay (record { original = c.record.inside.original; octets = c.record.inside.octets.now }) } in
-    seen_told c.args.segments.now s (packet_at c.args.moment r.original r.octets) g.T.Watch.sees c.args.desk.now.number (record_event Underlay c.args.count c.args.moment r) c.args.watch.now c.take_came.new.watch here
-    (subst (λ (q : Record). g.T.Watch.sees c.args.watch.now (answered (due s c.args.desk.now.number (record_event Underlay c.args.count c.args.moment q)) (answer s (packet_at c.args.moment r.original r.octets))) c.take_came.new.watch) (c.record.view_is ∙ same)
-    (subst (λ (x : Result Came Refused). g.T.Watch.sees c.args.watch.now (answered (due s c.args.desk.now.number e) (Decided (decided c.args.moment (aged c.args.moment s.bridges) x))) c.take_came.new.watch) came c.take_came.ensures.seen))
+    seen_told c.args.segments.now s (asked g w r lends) g.T.Watch.sees c.args.desk.now.number (record_event Underlay c.args.count c.args.moment r) c.args.watch.now c.take_came.new.watch (told g w r lends ∙ c.if-not-has.false)
+    (subst (λ (q : Record). g.T.Watch.sees c.args.watch.now (answered (due s c.args.desk.now.number (record_event Underlay c.args.count c.args.moment q)) (answer s (asked g w r lends))) c.take_came.new.watch) (c.record.view_is ∙ same g w r lends)
+    (subst (λ (x : Result Came Refused). g.T.Watch.sees c.args.watch.now (answered (due s c.args.desk.now.number (event g w r lends)) (Decided (decided c.args.moment (aged c.args.moment s.bridges) x))) c.take_came.new.watch) (came g w r lends) c.take_came.ensures.seen))

@@ -2,7 +2,7 @@
 use Rattle.std.proofs.Common.{◌≡◌, ◌≢◌, ◌∙◌, refl, sym, ap, subst, ℕ, ◌+◌, ◌-◌, ◌%◌, ◌^◌, ◌<◌, ◌≤◌, Bool, true, false, List, [], ◌∷◌, ◌++◌, length, take, drop, arith, append_assoc, inl, inr, length-append, length-drop, length-take, Option, None, Some}
 use Rattle.std.specs.List.{find}
 use Rattle.std.specs.Prelude.{◌==◌, ◌&&◌, ◌||◌, IsTrue, MatchBool, nat_lt, not, if◌then◌else◌}
-use Rattle.std.proofs.lemmas.Bool.{cases_lt, le-ltb, ltb-false, ne_eqb, eqb-true, eqb-false, eq-eqb}
+use Rattle.std.proofs.lemmas.Bool.{cases_lt, le-ltb, ltb-false, ne_eqb, eqb-true, eqb-false, eq-eqb, not-false, or_parts}
 use Rattle.std.proofs.Math.Seq.{take-append-add}
 use Rattle.header_sums.specs.Octets.{IsText}
 use Rattle.header_sums.proofs.OctetsLemmas.{IsText-drop}
@@ -120,14 +120,6 @@ reads_block_texts section block text behind is =
 
 -- ---- and nothing else is read as a block
 
-first_false : (a b : Bool) → (a || b) ≡ false → (a ≡ false) × (b ≡ false)
-first_false true b is = absurd cc
-first_false false b is = (refl, is)
-
-not_false : (b : Bool) → not b ≡ false → b ≡ true
-not_false true is = refl
-not_false false is = absurd cc
-
 no_more : (read b : Bool) → (read && b) ≡ false → IsTrue read → b ≡ false
 no_more true b is h = is
 no_more false b is h = absurd cc
@@ -159,9 +151,9 @@ checked_text : (section : Option Order) (order : Order) (size : ℕ) (text : Lis
     → IsInFront section (block_at order size text) text (drop size text)
 checked_text section order size text h is =
     let o = order in
-    let fine = first_false _ _ is.fine in
+    let fine = or_parts _ _ is.fine in
     let twelve : 12 ≤ size = ltb-false size 12 fine.0 in
-    let aligned : size % 4 ≡ 0 = eqb-true _ _ (not_false _ fine.1) in
+    let aligned : size % 4 ≡ 0 = eqb-true _ _ (not-false _ fine.1) in
     let long : size ≤ length text = ltb-false (length text) size is.whole in
     let kind = number_of o 4 text in
     let body = take (size - 12) (drop 8 text) in

@@ -1,8 +1,8 @@
 -- The octets of a block tell the same with more behind them.
 use Rattle.std.proofs.Common.{◌≡◌, ◌∙◌, refl, sym, ap, subst, ℕ, ◌+◌, ◌-◌, ◌<◌, ◌≤◌, Bool, true, false, List, [], ◌++◌, length, take, drop, arith, length-append, length-drop, Option, None, Some, inl, inr}
-use Rattle.std.specs.Prelude.{◌==◌, ◌&&◌, ◌||◌, nat_lt, not, if◌then◌else◌, ⊤}
+use Rattle.std.specs.Prelude.{◌==◌, ◌&&◌, nat_lt, if◌then◌else◌, ⊤}
 use Rattle.std.proofs.Math.ListN.{drop_of_length-le}
-use Rattle.std.proofs.lemmas.Bool.{cases_lt, le-ltb, lt-ltb, ltb-false, ltb-true}
+use Rattle.std.proofs.lemmas.Bool.{cases_lt, le-ltb, lt-ltb, ltb-false, ltb-true, or_parts}
 use Rattle.std.proofs.lemmas.List.{drop-append-le, take-append-le}
 use Rattle.byteorder.specs.Numbers.{big_from-append, little_from-append}
 use Rattle.pcap_io.specs.Style.{number_of}
@@ -59,16 +59,8 @@ by_checked order size text a b c d p q r s =
     ∙ ap (λ x. checked order size text a b x (number_of order 4 (drop (size - 4) text) == size)) r
     ∙ ap (λ x. checked order size text a b c x) s
 
-first_no : (a b : Bool) → (a || b) ≡ false → (a ≡ false) × (b ≡ false)
-first_no true b is = absurd cc
-first_no false b is = (refl, is)
-
-not_no : (b : Bool) → not b ≡ false → b ≡ true
-not_no true is = refl
-not_no false is = absurd cc
-
 pub twelve : (size : ℕ) → is_no_length size ≡ false → 12 ≤ size
-twelve size is = ltb-false size 12 (first_no _ _ is).0
+twelve size is = ltb-false size 12 (or_parts _ _ is).0
 
 kind_front : (order : Order) (size : ℕ) (held rest : List ℕ) → 12 ≤ length held
     → (is_read (number_of order 4 (held ++ rest)) && nat_lt longest_block size) ≡ (is_read (number_of order 4 held) && nat_lt longest_block size)

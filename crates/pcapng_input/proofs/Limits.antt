@@ -9,9 +9,9 @@ use Rattle.pcap_io.proofs.Numbers.{number_of-fits}
 use Rattle.pcap_io.specs.Record.{IsWithinLimits, Record, last_moment, longest}
 use Rattle.pcap_io.specs.Style.{number_of, second}
 use Rattle.pcap_io.specs.declared.style.Order.{Order}
-use Rattle.pcapng_input.specs.Block.{AnotherBlock, Block, CutShort, NextBlock, NoBlock, Refused, block_at, block_by_order, end_by_size, enhanced_packet, interface_description, is_no_length, is_read, longest_block, next_block, obsolete_packet, order_at, section_header, simple_packet}
+use Rattle.pcapng_input.specs.Block.{AnotherBlock, Block, CutShort, NextBlock, NoBlock, Refused, block_at, block_by_order, end_by_size, interface_description, is_no_length, is_of_packet, is_read, longest_block, next_block, obsolete_packet, order_at, section_header, simple_packet}
 use Rattle.pcapng_input.specs.Interface.{described}
-use Rattle.pcapng_input.specs.Meaning.{IsMeantWithinLimits, enhanced_in, interface_in, interface_meaning, block_meaning, obsolete_in, packet_meaning, section_in, simple_in}
+use Rattle.pcapng_input.specs.Meaning.{IsMeantWithinLimits, block_meaning, head_in, head_size, interface_in, interface_meaning, packet_in, packet_meaning, section_in}
 use Rattle.pcapng_input.specs.Moments.{offset_moment, round, sign_bit, tellable, ticks_in_nanoseconds}
 use Rattle.pcapng_input.specs.Packet.{captured_length, enhanced_head, moment_by, obsolete_head, packet_by, packet_record, selected_record, record_at, simple_head}
 use Rattle.pcapng_input.specs.Reading.{Context, PacketReading, Step, first_packets, found_before, packets_in, packets_of, reading_by_block, reading_by_step, start, step_by, step_of}
@@ -118,29 +118,21 @@ simple_fits : (order : Order) (body : List ℕ) → IsText body → (simple_head
 unfolding simple_head
 simple_fits order body h = number_of-fits order 4 body h
 
-enhanced_in-limits : (interfaces : List Interface) (last : ℕ) (block : Block) → IsText block.body → last ≤ last_moment → IsToldWithinLimits (enhanced_in interfaces last block)
-unfolding enhanced_in
-enhanced_in-limits interfaces last block h limit = by_room (nat_lt (length block.body) 20)
+head_fits : (block : Block) → IsText block.body → (head_in block).original < 2 ^ 32
+head_fits block h = by_kind (block.kind == simple_packet) (block.kind == obsolete_packet)
   where
-    by_room : (b : Bool) → IsToldWithinLimits (if b then Err ShortBlock else packet_meaning (packet_record interfaces last (enhanced_head block.order block.body) (drop 20 block.body)))
-    by_room true = tt
-    by_room false = packet_meaning-limits _ (packet_record-limits interfaces last (enhanced_head block.order block.body) (drop 20 block.body) limit (enhanced_fits block.order block.body h))
+    by_kind : (a b : Bool) → (if a then simple_head block.order block.body else if b then obsolete_head block.order block.body else enhanced_head block.order block.body).original < 2 ^ 32
+    by_kind true b = simple_fits block.order block.body h
+    by_kind false true = obsolete_fits block.order block.body h
+    by_kind false false = enhanced_fits block.order block.body h
 
-obsolete_in-limits : (interfaces : List Interface) (last : ℕ) (block : Block) → IsText block.body → last ≤ last_moment → IsToldWithinLimits (obsolete_in interfaces last block)
-unfolding obsolete_in
-obsolete_in-limits interfaces last block h limit = by_room (nat_lt (length block.body) 20)
+packet_in-limits : (interfaces : List Interface) (last : ℕ) (block : Block) → IsText block.body → last ≤ last_moment → IsToldWithinLimits (packet_in interfaces last block)
+unfolding packet_in
+packet_in-limits interfaces last block h limit = by_room (nat_lt (length block.body) (head_size block.kind))
   where
-    by_room : (b : Bool) → IsToldWithinLimits (if b then Err ShortBlock else packet_meaning (packet_record interfaces last (obsolete_head block.order block.body) (drop 20 block.body)))
+    by_room : (b : Bool) → IsToldWithinLimits (if b then Err ShortBlock else packet_meaning (packet_record interfaces last (head_in block) (drop (head_size block.kind) block.body)))
     by_room true = tt
-    by_room false = packet_meaning-limits _ (packet_record-limits interfaces last (obsolete_head block.order block.body) (drop 20 block.body) limit (obsolete_fits block.order block.body h))
-
-simple_in-limits : (interfaces : List Interface) (last : ℕ) (block : Block) → IsText block.body → last ≤ last_moment → IsToldWithinLimits (simple_in interfaces last block)
-unfolding simple_in
-simple_in-limits interfaces last block h limit = by_room (nat_lt (length block.body) 4)
-  where
-    by_room : (b : Bool) → IsToldWithinLimits (if b then Err ShortBlock else packet_meaning (packet_record interfaces last (simple_head block.order block.body) (drop 4 block.body)))
-    by_room true = tt
-    by_room false = packet_meaning-limits _ (packet_record-limits interfaces last (simple_head block.order block.body) (drop 4 block.body) limit (simple_fits block.order block.body h))
+    by_room false = packet_meaning-limits _ (packet_record-limits interfaces last (head_in block) (drop (head_size block.kind) block.body) limit (head_fits block h))
 
 section_in-limits : (block : Block) → IsToldWithinLimits (section_in block)
 unfolding section_in
@@ -167,21 +159,14 @@ meaning-limits : (selection : Selection) (interfaces : List Interface) (last : �
     → IsToldWithinLimits (block_meaning selection interfaces last block)
 unfolding block_meaning
 meaning-limits selection interfaces last block h limit =
-    by_kind (block.kind == section_header) (block.kind == interface_description) (block.kind == enhanced_packet) (block.kind == obsolete_packet) (block.kind == simple_packet)
+    by_kind (block.kind == section_header) (block.kind == interface_description) (is_of_packet block.kind)
   where
-    by_kind : (a b c d e : Bool) → IsToldWithinLimits
-        (if a then section_in block
-        else if b then interface_in selection interfaces block
-        else if c then enhanced_in interfaces last block
-        else if d then obsolete_in interfaces last block
-        else if e then simple_in interfaces last block
-        else Ok Nothing)
-    by_kind true b c d e = section_in-limits block
-    by_kind false true c d e = interface_in-limits selection interfaces block
-    by_kind false false true d e = enhanced_in-limits interfaces last block h limit
-    by_kind false false false true e = obsolete_in-limits interfaces last block h limit
-    by_kind false false false false true = simple_in-limits interfaces last block h limit
-    by_kind false false false false false = tt
+    by_kind : (a b c : Bool) → IsToldWithinLimits
+        (if a then section_in block else if b then interface_in selection interfaces block else if c then packet_in interfaces last block else Ok Nothing)
+    by_kind true b c = section_in-limits block
+    by_kind false true c = interface_in-limits selection interfaces block
+    by_kind false false true = packet_in-limits interfaces last block h limit
+    by_kind false false false = tt
 
 -- ---- texts
 

@@ -8,8 +8,8 @@ use Rattle.pcap_io.specs.declared.style.Order.{Order}
 use Rattle.pcapng_input.proofs.Grown.{IsCutBlock, by_checked, by_order_of, checked, four_front, number_of-front, order_at-front, twelve}
 use Rattle.pcapng_input.proofs.Readings.{packets-next}
 use Rattle.pcapng_input.specs.Adapted.{behind_other, packets_closing}
-use Rattle.pcapng_input.specs.Block.{Block, block_at, block_by_length, block_by_order, enhanced_packet, interface_description, is_read, longest_block, next_block, obsolete_packet, section_header, simple_packet}
-use Rattle.pcapng_input.specs.Meaning.{block_meaning, enhanced_in, interface_in, obsolete_in, section_in, simple_in}
+use Rattle.pcapng_input.specs.Block.{Block, block_at, block_by_length, block_by_order, interface_description, is_of_packet, is_read, longest_block, next_block, section_header}
+use Rattle.pcapng_input.specs.Meaning.{block_meaning, interface_in, packet_in, section_in}
 use Rattle.pcapng_input.specs.Reading.{Context, EndsCut, EndsFaulty, PacketReading, Step, block_fault_at, ended, packets_in, reading_by_block, reading_by_step, step_by, step_of}
 use Rattle.pcapng_input.specs.declared.fault.BlockFault.{BlockFault}
 use Rattle.pcapng_input.specs.declared.fault.BlockFault.TheVariants.{BadLength}
@@ -23,21 +23,18 @@ and_no true true is t = absurd cc
 and_no true false is t = absurd cc
 and_no false b is t = refl
 
-by_kinds : (s i p o m n : Result BlockMeaning BlockFault) (a b c d e : Bool) → (a || b || c || d || e) ≡ false
-    → (if a then s else if b then i else if e then p else if c then o else if d then m else n) ≡ n
-by_kinds s i p o m n true b c d e is = absurd cc
-by_kinds s i p o m n false true c d e is = absurd cc
-by_kinds s i p o m n false false true d e is = absurd cc
-by_kinds s i p o m n false false false true e is = absurd cc
-by_kinds s i p o m n false false false false true is = absurd cc
-by_kinds s i p o m n false false false false false is = refl
+by_kinds : (s i p n : Result BlockMeaning BlockFault) (a b c : Bool) → (a || b || c) ≡ false → (if a then s else if b then i else if c then p else n) ≡ n
+by_kinds s i p n true b c is = absurd cc
+by_kinds s i p n false true c is = absurd cc
+by_kinds s i p n false false true is = absurd cc
+by_kinds s i p n false false false is = refl
 
 other_meaning : (selection : Selection) (interfaces : List Interface) (last : ℕ) (block : Block) → is_read block.kind ≡ false
     → block_meaning selection interfaces last block ≡ Ok Nothing
 unfolding block_meaning
 other_meaning selection interfaces last block is =
-    by_kinds (section_in block) (interface_in selection interfaces block) (enhanced_in interfaces last block) (obsolete_in interfaces last block) (simple_in interfaces last block)
-    (Ok Nothing) (block.kind == section_header) (block.kind == interface_description) (block.kind == obsolete_packet) (block.kind == simple_packet) (block.kind == enhanced_packet) is
+    by_kinds (section_in block) (interface_in selection interfaces block) (packet_in interfaces last block) (Ok Nothing)
+    (block.kind == section_header) (block.kind == interface_description) (is_of_packet block.kind) is
 
 abbrev other_step : Context → ℕ → Result Step BlockFault
 other_step context size = Ok (record { context = behind_other context size; found = None })

@@ -1,7 +1,7 @@
 -- The packets of a text, by what comes next in it.
 use Rattle.std.proofs.Common.{◌≡◌, ◌∙◌, refl, sym, ap, ℕ, zero, suc, ◌+◌, ◌-◌, ◌<◌, ◌≤◌, Bool, true, false, List, length, drop, arith, length-drop, Option, None, Some, Result, Ok, Err}
-use Rattle.std.specs.Prelude.{◌==◌, ◌&&◌, ◌||◌, nat_lt, if◌then◌else◌}
-use Rattle.std.proofs.lemmas.Bool.{ltb-false}
+use Rattle.std.specs.Prelude.{◌==◌, ◌&&◌, nat_lt, if◌then◌else◌}
+use Rattle.std.proofs.lemmas.Bool.{ltb-false, or_parts}
 use Rattle.pcap_io.specs.Style.{number_of}
 use Rattle.pcap_io.specs.declared.style.Order.{Order}
 use Rattle.pcapng_input.specs.Block.{AnotherBlock, Block, BlockEnd, CutShort, NextBlock, NoBlock, Refused, block_at, block_by_length, block_by_order, end_by_size, is_no_length, is_read, longest_block, next_block, order_at}
@@ -15,10 +15,6 @@ abbrev LeavesLess : ℕ → NextBlock → Type 0
 LeavesLess n (AnotherBlock block rest) = 12 + length rest ≤ n
 LeavesLess n (NoBlock end) = Unit {0}
 
-first_false : (a b : Bool) → (a || b) ≡ false → a ≡ false
-first_false true b is = absurd cc
-first_false false b is = refl
-
 by_tests : (order : Order) (size : ℕ) (text : List ℕ) (a b c d : Bool) → is_no_length size ≡ a → nat_lt (length text) size ≡ c
     → LeavesLess (length text)
     (if a then NoBlock (Refused BadLength)
@@ -31,7 +27,7 @@ by_tests order size text false true c d p q = tt
 by_tests order size text false false true d p q = tt
 by_tests order size text false false false false p q = tt
 by_tests order size text false false false true p q =
-    let long = ltb-false size 12 (first_false _ _ p) in
+    let long = ltb-false size 12 (or_parts _ _ p).0 in
     let room = ltb-false (length text) size q in
     omega (arith, long, room, length-drop size text)
 

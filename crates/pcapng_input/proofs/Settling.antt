@@ -1,9 +1,9 @@
 -- What is made of the octets held of a block.
 use Rattle.std.proofs.Common.{◌≡◌, ◌∙◌, refl, sym, ap, subst, ℕ, ◌+◌, ◌%◌, ◌<◌, ◌≤◌, Bool, true, false, List, [], ◌∷◌, ◌++◌, length, drop, arith, append_assoc, append-nil, Option, None, Some, Result, Ok, Err, inl, inr}
-use Rattle.std.specs.Prelude.{◌||◌, nat_lt, not, if◌then◌else◌}
+use Rattle.std.specs.Prelude.{nat_lt, if◌then◌else◌}
 use Rattle.std.specs.List.{flat_map}
 use Rattle.std.proofs.lemmas.List.Concat.{flat_map-cons}
-use Rattle.std.proofs.lemmas.Bool.{cases_lt, eqb-true, ltb-false, ltb-true}
+use Rattle.std.proofs.lemmas.Bool.{cases_lt, eqb-true, ltb-false, ltb-true, not-false, or_parts}
 use Rattle.pcap_io.specs.Record.{Record}
 use Rattle.pcap_io.specs.Style.{number_of}
 use Rattle.pcap_io.specs.Written.{written_record}
@@ -12,10 +12,10 @@ use Rattle.pcapng_input.proofs.Grown.{Grows, IsCutBlock, cut_block, grown, no_bl
 use Rattle.pcapng_input.proofs.Passing.{passes}
 use Rattle.pcapng_input.proofs.Readings.{packets-behind, packets-end, packets-faulty}
 use Rattle.pcapng_input.specs.Adapted.{Told, told_behind, told_end, told_reading}
-use Rattle.pcapng_input.specs.Block.{AllRead, AnotherBlock, Block, CutShort, NoBlock, Refused, longest_block, next_block, order_at}
+use Rattle.pcapng_input.specs.Block.{AllRead, AnotherBlock, Block, BlockEnd, CutShort, NoBlock, Refused, longest_block, next_block, order_at}
 use Rattle.pcapng_input.specs.Classic.{found_text}
 use Rattle.pcapng_input.specs.Context.{IsTakenAs}
-use Rattle.pcapng_input.specs.Reading.{Context, EndsFaulty, PacketReading, Step, block_fault_at, ended, found_before, packets_in, step_of}
+use Rattle.pcapng_input.specs.Reading.{Context, EndsFaulty, PacketReading, Step, block_fault_at, end_at, ended, found_before, packets_in, step_of}
 use Rattle.pcapng_input.specs.State.{IsRest, IsSettled, wanted_size, wanting_by}
 use Rattle.pcapng_input.specs.declared.fault.BlockFault.{BlockFault}
 use Rattle.pcapng_input.specs.declared.fault.PcapngFault.{PcapngFault}
@@ -110,22 +110,27 @@ settles_faulty selection context new held behind ready is_more block fault order
 at_end : (held rest : List ℕ) → rest ≡ [] → held ++ rest ≡ held
 at_end held rest end = ap (λ t. held ++ t) end ∙ append-nil held
 
+abbrev told_as : List ℕ → Told
+told_as octets = record { octets = octets; fault = None }
+
+-- no block is left, and nothing behind what is held
+settles_ended : (selection : Selection) (context : Context) (held ready : List ℕ) (is_more : Bool) (end : BlockEnd) → NoBlock end ≡ next_block context.order held → is_more ≡ false
+    → told_reading (ended (end_at context end)) ≡ told_as ready → IsSettled selection context context held ready is_more settled.Ended
+settles_ended selection context held ready is_more end here last told = (
+  refl,
+  λ rest none.
+      ap (λ t. told_reading (packets_in selection context t)) (at_end held rest (none last))
+      ∙ ap told_reading (packets-end selection context held end here)
+      ∙ told,
+)
+
 -- the text ends behind a block
 pub settles_whole : (selection : Selection) (context : Context) (held ready : List ℕ) (is_more : Bool) (order : Option Order)
     → order ≡ context.order → NoBlock AllRead ≡ next_block order held → Long is_more held → ready ≡ [] → IsSettled selection context context held ready is_more settled.Ended
-settles_whole selection context held ready is_more order order_is next long none = (
-  refl,
-  λ rest end.
-      let here = next ∙ ap (λ o. next_block o held) order_is in
-      let last : is_more ≡ false = by_more is_more refl here in
-      ap (λ t. told_reading (packets_in selection context t)) (at_end held rest (end last))
-      ∙ ap told_reading (packets-end selection context held AllRead here)
-      ∙ ap (λ t. ended_with t) (sym none),
-)
+settles_whole selection context held ready is_more order order_is next long none =
+    let here = next ∙ ap (λ o. next_block o held) order_is in
+    settles_ended selection context held ready is_more AllRead here (by_more is_more refl here) (ap (λ t. told_as t) (sym none))
   where
-    ended_with : List ℕ → Told
-    ended_with t = record { octets = t; fault = None }
-
     by_more : (b : Bool) → is_more ≡ b → NoBlock AllRead ≡ next_block context.order held → is_more ≡ false
     by_more false e here = e
     by_more true e here = absurd (not_all_read context.order held (long e) here)
@@ -133,17 +138,8 @@ settles_whole selection context held ready is_more order order_is next long none
 -- it ends within one
 pub settles_cut : (selection : Selection) (context : Context) (held ready : List ℕ) (is_more : Bool) (order : Option Order)
     → order ≡ context.order → NoBlock CutShort ≡ next_block order held → is_more ≡ false → ready ≡ 0 ∷ [] → IsSettled selection context context held ready is_more settled.Ended
-settles_cut selection context held ready is_more order order_is next last cut = (
-  refl,
-  λ rest end.
-      let here = next ∙ ap (λ o. next_block o held) order_is in
-      ap (λ t. told_reading (packets_in selection context t)) (at_end held rest (end last))
-      ∙ ap told_reading (packets-end selection context held CutShort here)
-      ∙ ap (λ t. ended_with t) (sym cut),
-)
-  where
-    ended_with : List ℕ → Told
-    ended_with t = record { octets = t; fault = None }
+settles_cut selection context held ready is_more order order_is next last cut =
+    settles_ended selection context held ready is_more CutShort (next ∙ ap (λ o. next_block o held) order_is) last (ap (λ t. told_as t) (sym cut))
 
 -- what stands there is no block
 pub settles_refused : (selection : Selection) (context : Context) (held ready : List ℕ) (is_more : Bool) (order : Option Order) (fault : BlockFault) (told : PcapngFault)
@@ -175,20 +171,12 @@ settles_wanting selection context held ready is_more order result order_is next 
     let answer : result ≡ wanting_by (Some cut.0) held = is ∙ ap (λ o. wanting_by (order_at o held) held) order_is ∙ ap (λ o. wanting_by o held) cut.1.told in
     subst (IsSettled selection context context held ready is_more) (sym answer) (by_size cut.0 cut.1 (nat_lt longest_block (number_of cut.0 4 (drop 4 held))) refl)
   where
-    second_no : (a b : Bool) → (a || b) ≡ false → b ≡ false
-    second_no true b e = absurd cc
-    second_no false b e = e
-
-    not_no : (b : Bool) → not b ≡ false → b ≡ true
-    not_no true e = refl
-    not_no false e = absurd cc
-
     by_size : (o : Order) → IsCutBlock context.order held o → (b : Bool) → nat_lt longest_block (number_of o 4 (drop 4 held)) ≡ b
         → IsSettled selection context context held ready is_more
         (if b then settled.Long o (number_of o 4 (drop 4 held)) else settled.Unfinished)
     by_size o cut true more =
         let size = number_of o 4 (drop 4 held) in
-        let aligned : size % 4 ≡ 0 = eqb-true _ _ (not_no _ (second_no _ _ cut.fine)) in
+        let aligned : size % 4 ≡ 0 = eqb-true _ _ (not-false _ (or_parts _ _ cut.fine).1) in
         let long_block = ltb-true longest_block size more in (
           none,
           refl,

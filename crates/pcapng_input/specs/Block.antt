@@ -36,11 +36,13 @@ simple_packet = 3
 abbrev pub enhanced_packet : ℕ
 enhanced_packet = 6
 
+-- a block of such a type holds a packet
+abbrev pub is_of_packet : ℕ → Bool
+is_of_packet kind = kind == obsolete_packet || kind == simple_packet || kind == enhanced_packet
+
 -- a block of another type says nothing that a classic capture tells
 abbrev pub is_read : ℕ → Bool
-is_read kind =
-    kind == section_header || kind == interface_description || kind == obsolete_packet || kind == simple_packet
-    || kind == enhanced_packet
+is_read kind = kind == section_header || kind == interface_description || is_of_packet kind
 
 -- the number that a section header begins its body with, in its byte order (4.1)
 abbrev pub byte_order_magic : ℕ

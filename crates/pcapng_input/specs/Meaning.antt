@@ -2,7 +2,7 @@
 use Rattle.std.specs.Prelude.{ℕ, ◌==◌, nat_lt, if◌then◌else◌, List, length, drop, Option, Some, None, Result, Ok, Err, ⊤}
 use Rattle.pcap_io.specs.Record.{IsWithinLimits, Record}
 use Rattle.pcap_io.specs.Style.{number_of}
-use Rattle.pcapng_input.specs.Block.{Block, enhanced_packet, interface_description, obsolete_packet, section_header, simple_packet}
+use Rattle.pcapng_input.specs.Block.{Block, interface_description, is_of_packet, obsolete_packet, section_header, simple_packet}
 use Rattle.pcapng_input.specs.Interface.{described}
 use Rattle.pcapng_input.specs.Packet.{enhanced_head, obsolete_head, packet_record, simple_head}
 use Rattle.pcapng_input.specs.declared.fault.BlockFault.{BlockFault}
@@ -11,6 +11,7 @@ use Rattle.pcapng_input.specs.declared.interface.Interface.{Interface}
 use Rattle.pcapng_input.specs.declared.interface.Selection.{Selection}
 use Rattle.pcapng_input.specs.declared.meaning.BlockMeaning.{BlockMeaning}
 use Rattle.pcapng_input.specs.declared.meaning.BlockMeaning.TheVariants.{Described, Nothing, Packet, Section}
+use Rattle.pcapng_input.specs.declared.packet.PacketHead.{PacketHead}
 
 -- the interfaces of a section at most
 abbrev pub most_interfaces : ℕ
@@ -41,32 +42,29 @@ packet_meaning (Err fault) = Err fault
 packet_meaning (Ok None) = Ok Nothing
 packet_meaning (Ok (Some r)) = Ok (Packet r)
 
+-- the octets in front of a packet's, in a block of this type
+abbrev pub head_size : ℕ → ℕ
+head_size kind = if kind == simple_packet then 4 else 20
+
+-- the numbers that stand there
+abbrev pub head_in : Block → PacketHead
+head_in block =
+    if block.kind == simple_packet then simple_head block.order block.body
+    else if block.kind == obsolete_packet then obsolete_head block.order block.body
+    else enhanced_head block.order block.body
+
 -- a packet behind one at that moment, in a section with these interfaces
-unfoldable pub enhanced_in : List Interface → ℕ → Block → Result BlockMeaning BlockFault
-enhanced_in interfaces last block =
-    if nat_lt (length block.body) 20 then Err ShortBlock
-    else packet_meaning (packet_record interfaces last (enhanced_head block.order block.body) (drop 20 block.body))
-
--- the same in an obsolete packet block
-unfoldable pub obsolete_in : List Interface → ℕ → Block → Result BlockMeaning BlockFault
-obsolete_in interfaces last block =
-    if nat_lt (length block.body) 20 then Err ShortBlock
-    else packet_meaning (packet_record interfaces last (obsolete_head block.order block.body) (drop 20 block.body))
-
--- the same in a simple packet block
-unfoldable pub simple_in : List Interface → ℕ → Block → Result BlockMeaning BlockFault
-simple_in interfaces last block =
-    if nat_lt (length block.body) 4 then Err ShortBlock
-    else packet_meaning (packet_record interfaces last (simple_head block.order block.body) (drop 4 block.body))
+unfoldable pub packet_in : List Interface → ℕ → Block → Result BlockMeaning BlockFault
+packet_in interfaces last block =
+    if nat_lt (length block.body) (head_size block.kind) then Err ShortBlock
+    else packet_meaning (packet_record interfaces last (head_in block) (drop (head_size block.kind) block.body))
 
 -- what a block means, by its type: one of another type means nothing, whatever it holds
 unfoldable pub block_meaning : Selection → List Interface → ℕ → Block → Result BlockMeaning BlockFault
 block_meaning selection interfaces last block =
     if block.kind == section_header then section_in block
     else if block.kind == interface_description then interface_in selection interfaces block
-    else if block.kind == enhanced_packet then enhanced_in interfaces last block
-    else if block.kind == obsolete_packet then obsolete_in interfaces last block
-    else if block.kind == simple_packet then simple_in interfaces last block
+    else if is_of_packet block.kind then packet_in interfaces last block
     else Ok Nothing
 
 -- what is meant keeps to the limits: a record to those of a classic capture

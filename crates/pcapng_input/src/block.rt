@@ -1,7 +1,7 @@
 //! Blocks.
 ghost use Rattle.std.specs.Prelude.{◌≡◌, ◌≤◌, ◌&&◌, nat_le, nat_lt, ℕ, IsFalse, drop, length};
 ghost use Rattle.pcap_io.specs.Style.{number_of};
-ghost use Rattle.pcapng_input.specs.Block.{NoBlock, block_by_length, end_by_size, is_no_length, is_read, is_section, longest_block, next_block, order_at, told_order};
+ghost use Rattle.pcapng_input.specs.Block.{NoBlock, block_by_length, end_by_size, is_no_length, is_of_packet, is_read, is_section, longest_block, next_block, order_at, told_order};
 ghost use Rattle.pcapng_input.specs.Seen.{IsShorter, block_seen};
 
 use crate::fault::BlockFault;
@@ -66,15 +66,18 @@ pub fn is_pcapng(text: &[u8]) -> bool
     text.len() >= 4 && BigEndian::read_u32(text) == SECTION_HEADER
 }
 
+/// Whether blocks of this type hold packets.
+pub fn is_of_packet(kind: u32) -> bool
+    ensures { result ≡ is_of_packet kind }
+{
+    kind == OBSOLETE_PACKET || kind == SIMPLE_PACKET || kind == ENHANCED_PACKET
+}
+
 /// Whether blocks of this type are read.
 fn is_read(kind: u32) -> bool
     ensures { result ≡ is_read kind }
 {
-    kind == SECTION_HEADER
-        || kind == INTERFACE_DESCRIPTION
-        || kind == OBSOLETE_PACKET
-        || kind == SIMPLE_PACKET
-        || kind == ENHANCED_PACKET
+    kind == SECTION_HEADER || kind == INTERFACE_DESCRIPTION || is_of_packet(kind)
 }
 
 /// The byte order that a section header tells.

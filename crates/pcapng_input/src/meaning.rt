@@ -1,16 +1,16 @@
 //! What blocks mean.
 ghost use Rattle.std.specs.Prelude.{◌≡◌, ◌≤◌, length, drop, IfOk, IfSome};
 ghost use Rattle.pcap_io.specs.Record.{IsWithinLimits, last_moment};
-ghost use Rattle.pcapng_input.specs.Meaning.{IsMeantWithinLimits, enhanced_in, interface_in, block_meaning, obsolete_in, packet_meaning, section_in, simple_in};
+ghost use Rattle.pcapng_input.specs.Meaning.{IsMeantWithinLimits, block_meaning, head_in, head_size, interface_in, packet_in, packet_meaning, section_in};
 
 use crate::block::{
-    Block, ENHANCED_PACKET, INTERFACE_DESCRIPTION, OBSOLETE_PACKET, SECTION_HEADER, SIMPLE_PACKET,
+    Block, INTERFACE_DESCRIPTION, OBSOLETE_PACKET, SECTION_HEADER, SIMPLE_PACKET, is_of_packet,
 };
 use crate::fault::BlockFault;
 use crate::interface::{Interface, Selection, described};
 use crate::number::number2;
 use crate::packet::{
-    SIMPLE_HEAD, TIMED_HEAD, enhanced_head, obsolete_head, packet_record, simple_head,
+    PacketHead, SIMPLE_HEAD, TIMED_HEAD, enhanced_head, obsolete_head, packet_record, simple_head,
 };
 use pcap_io::Record;
 
@@ -105,60 +105,46 @@ fn packet_meaning<'a>(
     }
 }
 
-/// The meaning of an enhanced packet block; `last` is the moment of the packet before it.
-#[tactic(auto, unfolding(crate::specs::Meaning::enhanced_in))]
-fn enhanced_in<'a>(
-    interfaces: &[Interface],
-    last: u64,
-    block: &Block<'a>,
-) -> Result<BlockMeaning<'a>, BlockFault>
-    requires { last ≤ last_moment }
-    ensures value { result ≡ enhanced_in interfaces.now last block.now }
-    ensures limits { IfOk result IsMeantWithinLimits }
+/// The octets in front of a packet's, in a block of this type.
+fn head_size(kind: u32) -> usize
+    ensures { result ≡ head_size kind }
 {
-    if block.body.len() < TIMED_HEAD {
-        return Err(BlockFault::ShortBlock);
+    if kind == SIMPLE_PACKET {
+        SIMPLE_HEAD
+    } else {
+        TIMED_HEAD
     }
-    let head = enhanced_head(block.order, block.body);
-    let octets = behind_head(block.body, TIMED_HEAD);
-    packet_meaning(packet_record(interfaces, last, head, octets))
 }
 
-/// The meaning of an obsolete packet block.
-#[tactic(auto, unfolding(crate::specs::Meaning::obsolete_in))]
-fn obsolete_in<'a>(
-    interfaces: &[Interface],
-    last: u64,
-    block: &Block<'a>,
-) -> Result<BlockMeaning<'a>, BlockFault>
-    requires { last ≤ last_moment }
-    ensures value { result ≡ obsolete_in interfaces.now last block.now }
-    ensures limits { IfOk result IsMeantWithinLimits }
+/// The numbers in front of a packet's octets.
+fn head_in(block: &Block<'_>) -> PacketHead
+    requires { head_size block.now.kind ≤ length block.now.body }
+    ensures { result ≡ head_in block.now }
 {
-    if block.body.len() < TIMED_HEAD {
-        return Err(BlockFault::ShortBlock);
+    match block.kind {
+        SIMPLE_PACKET => simple_head(block.order, block.body),
+        OBSOLETE_PACKET => obsolete_head(block.order, block.body),
+        _ => enhanced_head(block.order, block.body),
     }
-    let head = obsolete_head(block.order, block.body);
-    let octets = behind_head(block.body, TIMED_HEAD);
-    packet_meaning(packet_record(interfaces, last, head, octets))
 }
 
-/// The meaning of a simple packet block.
-#[tactic(auto, unfolding(crate::specs::Meaning::simple_in))]
-fn simple_in<'a>(
+/// The meaning of a packet block; `last` is the moment of the packet before it.
+#[tactic(auto, unfolding(crate::specs::Meaning::packet_in))]
+fn packet_in<'a>(
     interfaces: &[Interface],
     last: u64,
     block: &Block<'a>,
 ) -> Result<BlockMeaning<'a>, BlockFault>
     requires { last ≤ last_moment }
-    ensures value { result ≡ simple_in interfaces.now last block.now }
+    ensures value { result ≡ packet_in interfaces.now last block.now }
     ensures limits { IfOk result IsMeantWithinLimits }
 {
-    if block.body.len() < SIMPLE_HEAD {
+    let size = head_size(block.kind);
+    if block.body.len() < size {
         return Err(BlockFault::ShortBlock);
     }
-    let head = simple_head(block.order, block.body);
-    let octets = behind_head(block.body, SIMPLE_HEAD);
+    let head = head_in(block);
+    let octets = behind_head(block.body, size);
     packet_meaning(packet_record(interfaces, last, head, octets))
 }
 
@@ -177,9 +163,7 @@ pub fn block_meaning<'a>(
     match block.kind {
         SECTION_HEADER => section_in(block),
         INTERFACE_DESCRIPTION => interface_in(selection, interfaces, block),
-        ENHANCED_PACKET => enhanced_in(interfaces, last, block),
-        OBSOLETE_PACKET => obsolete_in(interfaces, last, block),
-        SIMPLE_PACKET => simple_in(interfaces, last, block),
+        kind if is_of_packet(kind) => packet_in(interfaces, last, block),
         _ => Ok(BlockMeaning::Nothing),
     }
 }

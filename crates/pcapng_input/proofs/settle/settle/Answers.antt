@@ -7,7 +7,14 @@ use Rattle.pcapng_input.specs.Reading.{step_of}
 use Rattle.pcapng_input.specs.State.{wanting_by}
 use Rattle.pcapng_input.specs.declared.fault.PcapngError.TheVariants.{Faulty}
 use Rattle.pcapng_input.proofs.settle.settle.Goals as goal
-use Rattle.pcapng_input.proofs.settle.settle.Goals.{else-is_more-via-else-is_more, else-is_more-via-then-is_more+else-held-lt-EMPTY_BLOCK}
+use Rattle.pcapng_input.proofs.settle.settle.Goals.{After-order, else-is_more-via-else-is_more, else-is_more-via-then-is_more+else-held-lt-EMPTY_BLOCK}
+
+-- where more may follow, 12 octets are held
+long : (c : After-order) → c.args.is_more ≡ true → 12 ≤ length c.args.held.now
+long c e = elim c.else-is_more.branch [
+  | else-is_more-via-then-is_more+else-held-lt-EMPTY_BLOCK w ↦ omega (arith, w.if-held-lt-EMPTY_BLOCK.false)
+  | else-is_more-via-else-is_more w ↦ absurd (both_ways c.args.is_more w.if-is_more.false e)
+]
 
 pub returns-then-held-lt-EMPTY_BLOCK : goal.returns-then-held-lt-EMPTY_BLOCK
 returns-then-held-lt-EMPTY_BLOCK c =
@@ -18,10 +25,7 @@ returns-then-is_more-2 c =
     let held = c.args.held.now in
     settles_wanting c.args.selection c.args.context.now held c.args.ready.now c.args.is_more c.args.context.now.order c.unfinished.result refl
     (c.in-CutShort.ensures.next ∙ ap (λ o. next_block o held) c.order.ensures)
-    (elim c.else-is_more.branch [
-      | else-is_more-via-then-is_more+else-held-lt-EMPTY_BLOCK w ↦ omega (arith, w.if-held-lt-EMPTY_BLOCK.false)
-      | else-is_more-via-else-is_more w ↦ absurd (both_ways c.args.is_more w.if-is_more.false c.if-is_more-2.true)
-    ])
+    (long (goal.at.returns-then-is_more-2 c).After-order c.if-is_more-2.true)
     c.requires.size c.requires.empty (c.unfinished.ensures ∙ ap (λ o. wanting_by (order_at o held) held) c.order-then-is_more-2.ensures)
 
 pub returns-in-Ok : goal.returns-in-Ok
@@ -39,12 +43,7 @@ returns-in-Err-Faulty c =
 
 pub returns-in-AllRead : goal.returns-in-AllRead
 returns-in-AllRead c =
-    let long : c.args.is_more ≡ true → 12 ≤ length c.args.held.now =
-    elim c.else-is_more.branch [
-      | else-is_more-via-then-is_more+else-held-lt-EMPTY_BLOCK w ↦ λ e. omega (arith, w.if-held-lt-EMPTY_BLOCK.false)
-      | else-is_more-via-else-is_more w ↦ λ e. absurd (both_ways c.args.is_more w.if-is_more.false e)
-    ] in
-    settles_whole c.args.selection c.args.context.now c.args.held.now c.args.ready.now c.args.is_more c.order.result c.order.ensures c.in-AllRead.ensures.next long c.requires.empty
+    settles_whole c.args.selection c.args.context.now c.args.held.now c.args.ready.now c.args.is_more c.order.result c.order.ensures c.in-AllRead.ensures.next (long (goal.at.returns-in-AllRead c).After-order) c.requires.empty
 
 pub returns-else-is_more-2 : goal.returns-else-is_more-2
 returns-else-is_more-2 c =
@@ -52,10 +51,5 @@ returns-else-is_more-2 c =
 
 pub returns-in-Refused : goal.returns-in-Refused
 returns-in-Refused c =
-    let long : c.args.is_more ≡ true → 12 ≤ length c.args.held.now =
-    elim c.else-is_more.branch [
-      | else-is_more-via-then-is_more+else-held-lt-EMPTY_BLOCK w ↦ λ e. omega (arith, w.if-held-lt-EMPTY_BLOCK.false)
-      | else-is_more-via-else-is_more w ↦ λ e. absurd (both_ways c.args.is_more w.if-is_more.false e)
-    ] in
     settles_refused c.args.selection c.args.context.now c.args.held.now c.args.ready.now c.args.is_more c.order.result c.in-Refused.fault c.fault.result c.order.ensures
-    c.in-Refused.ensures.next long c.requires.empty c.fault.ensures
+    c.in-Refused.ensures.next (long (goal.at.returns-in-Refused c).After-order) c.requires.empty c.fault.ensures

@@ -1,4 +1,4 @@
-mod Sorting
+pub mod Sorting
 mod Copying
 mod Moving
 mod CopiedRecords

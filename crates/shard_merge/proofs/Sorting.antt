@@ -2,25 +2,12 @@
 use Rattle.std.proofs.Common.{◌≡◌, ◌∙◌, refl, sym, ap, subst, ℕ, zero, suc, ◌<◌, ◌≤◌, Bool, true, false, cond, List, [], ◌∷◌, ◌++◌, append_assoc, length, slice_index_or, slice_set, arith}
 use Rattle.std.specs.List.{AllByRecursion}
 use Rattle.std.specs.Prelude.{nat_lt}
-use Rattle.std.proofs.lemmas.Bool.{ltb-true, ltb-false}
+use Rattle.std.proofs.lemmas.Bool.{le-ltb, lt-ltb}
+use Rattle.timeline.proofs.KnownEvents.{all-append}
 use Rattle.shard_merge.specs.Whole.{AllRise}
 use Rattle.shard_merge.specs.Merged.{IsRising, Piece, merged, put_in, side_by_side, sorted}
 
 -- ---- a piece with greater numbers in front of it and none smaller behind it
-
-not_less : (m n : ℕ) → n ≤ m → nat_lt m n ≡ false
-not_less m n le = by (nat_lt m n) refl
-  where
-    by : (b : Bool) → nat_lt m n ≡ b → nat_lt m n ≡ false
-    by true is = absurd (omega (arith, ltb-true _ _ is))
-    by false is = is
-
-less : (m n : ℕ) → m < n → nat_lt m n ≡ true
-less m n lt = by (nat_lt m n) refl
-  where
-    by : (b : Bool) → nat_lt m n ≡ b → nat_lt m n ≡ true
-    by true is = is
-    by false is = absurd (omega (arith, ltb-false _ _ is))
 
 -- all of some pieces keep to a test of numbers, also in order
 all_put : (P : ℕ → Type 0) (p : Piece) (ps : List Piece) → P p.number → AllByRecursion (λ (q : Piece). P q.number) ps → AllByRecursion (λ (q : Piece). P q.number) (put_in p ps)
@@ -31,24 +18,20 @@ all_put P p (q ∷ qs) here all = by (nat_lt q.number p.number) (all_put P p qs 
     by true rest = (all.0, rest)
     by false rest = (here, all)
 
-all_sorted : (P : ℕ → Type 0) (ps : List Piece) → AllByRecursion (λ (q : Piece). P q.number) ps → AllByRecursion (λ (q : Piece). P q.number) (sorted ps)
+pub all_sorted : (P : ℕ → Type 0) (ps : List Piece) → AllByRecursion (λ (q : Piece). P q.number) ps → AllByRecursion (λ (q : Piece). P q.number) (sorted ps)
 all_sorted P [] all = tt
 all_sorted P (p ∷ ps) all = all_put P p (sorted ps) all.0 (all_sorted P ps all.1)
 
-all_both : (P : ℕ → Type 0) (ps qs : List Piece) → AllByRecursion (λ (q : Piece). P q.number) ps → AllByRecursion (λ (q : Piece). P q.number) qs → AllByRecursion (λ (q : Piece). P q.number) (ps ++ qs)
-all_both P [] qs a b = b
-all_both P (p ∷ ps) qs a b = (a.0, all_both P ps qs a.1 b)
-
 before_all : (p : Piece) (ps : List Piece) → AllByRecursion (λ (q : Piece). p.number ≤ q.number) ps → put_in p ps ≡ p ∷ ps
 before_all p [] h = refl
-before_all p (q ∷ qs) h = ap (λ b. cond b (q ∷ put_in p qs) (p ∷ q ∷ qs)) (not_less q.number p.number h.0)
+before_all p (q ∷ qs) h = ap (λ b. cond b (q ∷ put_in p qs) (p ∷ q ∷ qs)) (le-ltb q.number p.number h.0)
 
 least_first : (before : List Piece) (p : Piece) (behind : List Piece) → AllByRecursion (λ (q : Piece). p.number < q.number) before → AllByRecursion (λ (q : Piece). p.number ≤ q.number) behind
     → sorted (before ++ p ∷ behind) ≡ p ∷ sorted (before ++ behind)
 least_first [] p behind later no_sooner = before_all p (sorted behind) (all_sorted (λ n. p.number ≤ n) behind no_sooner)
 least_first (q ∷ before) p behind later no_sooner =
     ap (put_in q) (least_first before p behind later.1 no_sooner)
-    ∙ ap (λ b. cond b (p ∷ put_in q (sorted (before ++ behind))) (q ∷ p ∷ sorted (before ++ behind))) (less p.number q.number later.0)
+    ∙ ap (λ b. cond b (p ∷ put_in q (sorted (before ++ behind))) (q ∷ p ∷ sorted (before ++ behind))) (lt-ltb p.number q.number later.0)
 
 -- ---- one part
 
@@ -83,7 +66,7 @@ all_parts : (n : ℕ) (parts : List (List Piece)) → AllRise parts → ((k : �
     → AllByRecursion (λ (q : Piece). n ≤ q.number) (side_by_side parts)
 all_parts n [] rise h = tt
 all_parts n (ps ∷ others) rise h =
-    all_both (λ m. n ≤ m) ps (side_by_side others) (part_no_sooner n ps rise.0 (h 0 (omega arith))) (all_parts n others rise.1 (λ k lt. h (suc k) (omega arith)))
+    all-append (λ (q : Piece). n ≤ q.number) ps (side_by_side others) (part_no_sooner n ps rise.0 (h 0 (omega arith))) (all_parts n others rise.1 (λ k lt. h (suc k) (omega arith)))
 
 -- one piece stands among all, behind greater ones and before none that is smaller
 record Splits (parts new : List (List Piece)) (p : Piece) : Type 0 where
@@ -106,7 +89,7 @@ splits (qs ∷ others) zero p ps rise there here later no_sooner =
       with_it = ap (λ l. l ++ side_by_side others) here;
       without_it = refl;
       later = tt;
-      no_sooner = all_both (λ m. p.number ≤ m) ps (side_by_side others) (all_no_less p.number p.number ps (omega arith) rises.1)
+      no_sooner = all-append (λ (q : Piece). p.number ≤ q.number) ps (side_by_side others) (all_no_less p.number p.number ps (omega arith) rises.1)
           (all_parts p.number others rise.1 (λ k lt. no_sooner (suc k) (omega arith)));
     }
 splits (qs ∷ others) (suc i) p ps rise there here later no_sooner =
@@ -116,7 +99,7 @@ splits (qs ∷ others) (suc i) p ps rise there here later no_sooner =
       behind = rest.behind;
       with_it = ap (λ l. qs ++ l) rest.with_it ∙ sym (append_assoc qs rest.before (p ∷ rest.behind));
       without_it = ap (λ l. qs ++ l) rest.without_it ∙ sym (append_assoc qs rest.before rest.behind);
-      later = all_both (λ m. p.number < m) qs rest.before (part_later p.number qs rise.0 (later 0 (omega arith))) rest.later;
+      later = all-append (λ (q : Piece). p.number < q.number) qs rest.before (part_later p.number qs rise.0 (later 0 (omega arith))) rest.later;
       no_sooner = rest.no_sooner;
     }
 

@@ -39,18 +39,19 @@ words_begin (c ∷ cs) = by (eqb c 32) (words_begin cs)
     by true begin = refl
     by false begin = ap (begun_by c) begin
 
-words_behind : (t : List ℕ) → filter_map sent_by (words_tail t) ≡ sent_in (behind t)
+-- what comes of the words behind the first, if an empty word adds nothing
+of_tail : {B : Type 0} (f : List (List ℕ) → B) → f [] ≡ f (words []) → (t : List ℕ) → f (words_tail t) ≡ f (words (behind t))
 unfolding words_tail
-words_behind [] = refl
-words_behind (c ∷ cs) = by (eqb c 32) (words_behind cs)
+of_tail f none [] = none
+of_tail f none (c ∷ cs) = by (eqb c 32) (of_tail f none cs)
   where
-    by : (b : Bool) → filter_map sent_by (words_tail cs) ≡ sent_in (behind cs) → filter_map sent_by (cond b (words cs) (words_tail cs)) ≡ sent_in (cond b cs (behind cs))
+    by : (b : Bool) → f (words_tail cs) ≡ f (words (behind cs)) → f (cond b (words cs) (words_tail cs)) ≡ f (words (cond b cs (behind cs)))
     by true same = refl
     by false same = same
 
 -- what the first word says, and then what stands behind it
 pub sent_step : (t : List ℕ) → sent_in t ≡ cons_option (sent_by (word t)) (sent_in (behind t))
-sent_step t = ap (filter_map sent_by) (words_begin t) ∙ ap (cons_option (sent_by (word t))) (words_behind t)
+sent_step t = ap (filter_map sent_by) (words_begin t) ∙ ap (cons_option (sent_by (word t))) (of_tail (filter_map sent_by) refl t)
 
 pub sent_found : (t : List ℕ) (tap : Tap) → sent_by (word t) ≡ Some tap → sent_in t ≡ tap ∷ sent_in (behind t)
 sent_found t tap e = sent_step t ∙ ap (λ o. cons_option o (sent_in (behind t))) e
@@ -60,15 +61,6 @@ sent_skipped t e = sent_step t ∙ ap (λ o. cons_option o (sent_in (behind t)))
 
 -- ---- whether each word is sound
 
-words_sound : (t : List ℕ) → list_all is_sound (words_tail t) ≡ has_places (behind t)
-unfolding words_tail
-words_sound [] = refl
-words_sound (c ∷ cs) = by (eqb c 32) (words_sound cs)
-  where
-    by : (b : Bool) → list_all is_sound (words_tail cs) ≡ has_places (behind cs) → list_all is_sound (cond b (words cs) (words_tail cs)) ≡ has_places (cond b cs (behind cs))
-    by true same = refl
-    by false same = same
-
 -- the first word and those behind it
 pub places_step : (t : List ℕ) → has_places t ≡ (is_sound (word t) && has_places (behind t))
-places_step t = ap (list_all is_sound) (words_begin t) ∙ ap (λ b. is_sound (word t) && b) (words_sound t)
+places_step t = ap (list_all is_sound) (words_begin t) ∙ ap (λ b. is_sound (word t) && b) (of_tail (list_all is_sound) refl t)

@@ -1,0 +1,5 @@
+mod Absorbing
+mod BitLemmas
+mod LaneLemmas
+mod Sums
+mod Words

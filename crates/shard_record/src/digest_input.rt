@@ -8,8 +8,9 @@ ghost use Rattle.shard_record.specs.Sum.{HasTaken, taken};
 
 use crate::count_input::CountInput;
 use crate::digests::CaptureDigest;
+use octet_digest::Sha256;
 use pcap_stream::{DeviceFault, Input};
-use sha2::{Digest, Sha256};
+use sha2::Digest;
 
 /// How many octets are read at once behind those that were asked for.
 const BLOCK: usize = 4096;
@@ -44,13 +45,9 @@ impl<R: Input> DigestInput<R> {
     pub fn digest(&self) -> CaptureDigest
         ensures { (octets : List ℕ) → HasTaken self.now.hasher self.now.input.octets octets → result ≡ digest_of octets }
     {
-        let hasher = match self.hasher.clone() {
-            Ok(hasher) => hasher,
-            Err(_) => Sha256::new(),
-        };
         CaptureDigest {
             octets: self.input.octets(),
-            sum: hasher.finalize(),
+            sum: self.hasher.finalize(),
         }
     }
 

@@ -1,9 +1,9 @@
 -- The octets of a block tell the same with more behind them.
-use Rattle.std.proofs.Common.{◌≡◌, ◌∙◌, refl, sym, ap, subst, ℕ, ◌+◌, ◌-◌, ◌<◌, ◌≤◌, Bool, true, false, List, [], ◌++◌, length, take, drop, arith, length-append, length-drop, Option, None, Some, inl, inr}
+use Rattle.std.proofs.Common.{◌≡◌, ◌∙◌, refl, sym, ap, subst, ℕ, ◌+◌, ◌-◌, ◌<◌, ◌≤◌, Bool, true, false, List, [], ◌++◌, length, take, drop, arith, length-append, length-drop, length-take, Option, None, Some, inl, inr}
 use Rattle.std.specs.Prelude.{◌==◌, ◌&&◌, nat_lt, if◌then◌else◌, ⊤}
 use Rattle.std.proofs.Math.ListN.{drop_of_length-le}
 use Rattle.std.proofs.lemmas.Bool.{cases_lt, le-ltb, lt-ltb, ltb-false, ltb-true, or_parts}
-use Rattle.std.proofs.lemmas.List.{drop-append-le, take-append-le}
+use Rattle.std.proofs.lemmas.List.{drop-append-le, take-append-drop, take-append-le, take_all}
 use Rattle.byteorder.specs.Numbers.{big_from-append, little_from-append}
 use Rattle.pcap_io.specs.Style.{number_of}
 use Rattle.pcap_io.specs.declared.style.Order.{Order}
@@ -174,26 +174,46 @@ wanted-least section held long = subst (λ n. 12 ≤ n) (sym (wanted-long sectio
     by_order None = omega arith
     by_order (Some o) = by_size (number_of o 4 (drop 4 held)) (nat_lt (number_of o 4 (drop 4 held)) 12) refl
 
--- more octets, but no more than were wanted, are no more than are wanted now
-pub wanted-more : (section : Option Order) (held taken : List ℕ) → length (held ++ taken) ≤ wanted_size section held
-    → length (held ++ taken) ≤ wanted_size section (held ++ taken)
-wanted-more section held taken fits = elim (cases_lt (length held) 12) [
-  | inl short ↦
-      let most : length (held ++ taken) ≤ 12 = omega (arith, fits, wanted-short section held short) in
-      elim (cases_lt (length (held ++ taken)) 12) [
-        | inl less ↦ omega (arith, wanted-short section (held ++ taken) less)
-        | inr full ↦ omega (arith, wanted-least section (held ++ taken) full)
-      ]
-  | inr long ↦
-      let same : wanted_size section (held ++ taken) ≡ wanted_size section held =
-      wanted-long section (held ++ taken) (omega (arith, length-append held taken)) ∙ ap (λ o. wanted_by o (held ++ taken)) (order_at-front section held taken long)
-      ∙ by_order (order_at section held) long ∙ sym (wanted-long section held long) in
-      omega (arith, fits, same)
-]
+-- no octets behind the first 12 change it
+wanted-more : (section : Option Order) (held rest : List ℕ) → 12 ≤ length held → wanted_size section (held ++ rest) ≡ wanted_size section held
+wanted-more section held rest long =
+    wanted-long section (held ++ rest) (omega (arith, length-append held rest)) ∙ ap (λ o. wanted_by o (held ++ rest)) (order_at-front section held rest long)
+    ∙ by_order (order_at section held) long ∙ sym (wanted-long section held long)
   where
-    by_order : (o : Option Order) → 12 ≤ length held → wanted_by o (held ++ taken) ≡ wanted_by o held
+    by_order : (o : Option Order) → 12 ≤ length held → wanted_by o (held ++ rest) ≡ wanted_by o held
     by_order None long = refl
-    by_order (Some o) long = ap size_wanted (number_of-front o 4 4 held taken (omega arith))
+    by_order (Some o) long = ap size_wanted (number_of-front o 4 4 held rest (omega arith))
+
+-- the first octets that are wanted are as many as are wanted of them, unless that is all
+pub wanted-fits : (section : Option Order) (held : List ℕ) → length (take (wanted_size section held) held) ≤ wanted_size section (take (wanted_size section held) held)
+wanted-fits section held = elim (cases_lt (length held) 12) [
+  | inl short ↦
+      let all : take (wanted_size section held) held ≡ held = take_all (wanted_size section held) held (omega (arith, short, wanted-short section held short)) in
+      subst (λ t. length t ≤ wanted_size section t) (sym all) (omega (arith, short, wanted-short section held short))
+  | inr long ↦
+      let least = wanted-least section held long in
+      let part = take (wanted_size section held) held in
+      let size = length-take (wanted_size section held) held in
+      let same : wanted_size section held ≡ wanted_size section part =
+      ap (wanted_size section) (sym (take-append-drop (wanted_size section held) held))
+      ∙ wanted-more section part (drop (wanted_size section held) held) (omega (arith, size, long, least)) in
+      omega (arith, size, same)
+]
+
+-- where they are fewer, that is all
+pub wanted-front : (section : Option Order) (held : List ℕ) → length (take (wanted_size section held) held) < wanted_size section (take (wanted_size section held) held)
+    → length held ≤ wanted_size section held
+wanted-front section held few = elim (cases_lt (length held) 12) [
+  | inl short ↦ omega (arith, short, wanted-short section held short)
+  | inr long ↦
+      let least = wanted-least section held long in
+      let part = take (wanted_size section held) held in
+      let size = length-take (wanted_size section held) held in
+      let same : wanted_size section held ≡ wanted_size section part =
+      ap (wanted_size section) (sym (take-append-drop (wanted_size section held) held))
+      ∙ wanted-more section part (drop (wanted_size section held) held) (omega (arith, size, long, least)) in
+      omega (arith, size, same, few)
+]
 
 -- no block stands in fewer than 12 octets
 pub no_block : (section : Option Order) (held : List ℕ) (block : Block) (behind : List ℕ) → length held < 12 → AnotherBlock block behind ≡ next_block section held → ⊥

@@ -1,20 +1,25 @@
 -- Where each read below leads.
-use Rattle.std.proofs.Common.{◌≡◌, ◌∙◌, refl, sym, ap, subst, ℕ, ◌+◌, ◌-◌, ◌^◌, ◌<◌, ◌≤◌, Bool, true, false, List, [], ◌∷◌, ◌++◌, length, arith, append-nil, length-append, Option, None}
+use Rattle.std.proofs.Common.{◌≡◌, ◌⊎◌, ◌∙◌, refl, sym, ap, subst, ℕ, ◌+◌, ◌-◌, ◌%◌, ◌^◌, ◌<◌, ◌≤◌, Bool, true, false, List, [], ◌∷◌, ◌++◌, length, take, drop, arith, append_assoc, append-nil, length-append, length-drop, length-take, Option, None, Some, inl, inr}
+use Rattle.std.proofs.lemmas.List.{drop_all, length-take-le, take-append-drop, take_all, take_min}
+use Rattle.std.specs.Io.KnownBytes.{Consumes, IsAtEnd}
 use Rattle.std.specs.Prelude.{◌&&◌, nat_le}
 use Rattle.pcap_io.specs.Style.{number_of}
 use Rattle.pcap_io.specs.Written.{written_header}
 use Rattle.pcap_io.specs.declared.style.Order.{Order}
-use Rattle.pcapng_input.proofs.Grown.{wanted-more, wanted-short}
+use Rattle.pcap_stream.specs.Supply.{Spends, Supply}
+use Rattle.pcapng_input.proofs.Grown.{wanted-fits, wanted-front}
 use Rattle.pcapng_input.proofs.Leading.{begins_pcapng, begins_plain, ends_cut, ends_faulty, ends_whole, lead, passes_some, stays}
-use Rattle.pcapng_input.specs.Adapted.{Begun, Faulty, Over, Passing, Plain, Told, Within, behind_other, is_of_one, told_at, told_behind}
-use Rattle.pcapng_input.specs.Adapter.{Gathered, IsFetched}
+use Rattle.pcapng_input.specs.Adapted.{Begun, Faulty, Over, Passing, Plain, Stand, Told, Within, behind_other, is_of_one, told_at, told_behind, told_reading}
+use Rattle.pcapng_input.specs.Adapter.{Gathered, IsFetched, KeepsTold, told}
 use Rattle.pcapng_input.specs.Block.{is_section}
-use Rattle.pcapng_input.specs.Reading.{Context, block_fault_at, start}
-use Rattle.pcapng_input.specs.State.{IsPart, IsPassed, IsPlaced, IsSettled, IsSound, Leads, wanted_size}
+use Rattle.pcapng_input.specs.Reading.{Context, block_fault_at, packets_in, start}
+use Rattle.pcapng_input.specs.State.{IsLess, IsPart, IsPassed, IsPlaced, IsRest, IsSettled, IsSound, IsTaken, Leads, PassesOver, held_settled, state_settled, steps_of, steps_within, wanted_size}
 use Rattle.pcapng_input.specs.declared.fault.BlockFault.TheVariants.{BadLength}
 use Rattle.pcapng_input.specs.declared.fault.PcapngFault.{PcapngFault}
 use Rattle.pcapng_input.specs.declared.interface.Selection.{Selection}
+use Rattle.pcapng_input.specs.declared.settle.Settled.{Settled}
 use Rattle.pcapng_input.specs.declared.settle.Settled.TheVariants as settled
+use Rattle.pcapng_input.specs.declared.state.State.{State}
 use Rattle.pcapng_input.specs.declared.state.State.TheVariants as state
 
 -- ---- places
@@ -59,50 +64,236 @@ first_plain selection context old mid new wanted is_more ready fetched cleared a
 
 -- ---- a block
 
-pub block_unfinished : (selection : Selection) (context new : Context) (old mid : Gathered) (wanted : ℕ) (is_more : Bool) (ready : List ℕ) → IsFetched wanted old mid is_more
-    → IsSettled selection context new mid.held ready is_more settled.Unfinished → Leads selection (Within context) old new ready mid state.Within
-block_unfinished selection context new old mid wanted is_more ready fetched is =
-    lead selection (Within context) (Within new) old mid mid wanted is_more ready fetched refl
-    (λ rest end. ap (λ (c : Context). told_behind ready (told_at selection (Within c) (mid.held ++ rest))) is.1 ∙ stays selection (Within context) ready (mid.held ++ rest) is.0)
+-- more of it was read
+pub block_more : (selection : Selection) (context : Context) (old mid : Gathered) (most : ℕ) (is_more : Bool) (ready : List ℕ) → IsFetched most old mid is_more → ready ≡ []
+    → Leads selection (Within context) old context ready mid state.Within
+block_more selection context old mid most is_more ready fetched none =
+    lead selection (Within context) (Within context) old mid mid most is_more ready fetched refl (λ rest end. stays selection (Within context) ready (mid.held ++ rest) none)
 
-pub block_refused_memory : (selection : Selection) (context new : Context) (old mid : Gathered) (wanted : ℕ) (is_more : Bool) (ready : List ℕ) → IsFetched wanted old mid is_more
-    → IsSettled selection context new mid.held ready is_more settled.NoMemory → Leads selection (Within context) old new ready mid state.NoMemory
-block_refused_memory selection context new old mid wanted is_more ready fetched is =
-    lead selection (Within context) (Within new) old mid mid wanted is_more ready fetched refl
-    (λ rest end. ap (λ (c : Context). told_behind ready (told_at selection (Within c) (mid.held ++ rest))) is.1 ∙ stays selection (Within context) ready (mid.held ++ rest) is.0)
+-- none was read
+abbrev pub AtEnd : Bool → Gathered → Type 0
+AtEnd is_more old = is_more ≡ false → IsAtEnd old.supply.rest
 
-pub block_taken : (selection : Selection) (context after : Context) (old mid new : Gathered) (wanted : ℕ) (is_more : Bool) (ready : List ℕ) → IsFetched wanted old mid is_more
-    → new ≡ record { held = []; supply = mid.supply } → IsSettled selection context after mid.held ready is_more settled.Taken
-    → Leads selection (Within context) old after ready new state.Within
-block_taken selection context after old mid new wanted is_more ready fetched cleared is =
-    lead selection (Within context) (Within after) old mid new wanted is_more ready fetched (ap (λ (g : Gathered). g.supply.rest) cleared)
-    (λ rest end. ap (λ t. told_behind ready (told_at selection (Within after) (t ++ rest))) (ap (λ (g : Gathered). g.held) cleared) ∙ sym (is.3 rest))
-
-pub block_ended : (selection : Selection) (context new : Context) (old mid : Gathered) (wanted : ℕ) (is_more : Bool) (ready : List ℕ) → IsFetched wanted old mid is_more
-    → IsSettled selection context new mid.held ready is_more settled.Ended → Leads selection (Within context) old new ready mid state.Over
-block_ended selection context new old mid wanted is_more ready fetched is =
-    lead selection (Within context) Over old mid mid wanted is_more ready fetched refl
-    (λ rest end. ap (λ t. ended_with t) (append-nil ready) ∙ sym (is.1 rest end))
+unread : (old : Gathered) (is_more : Bool) → AtEnd is_more old → IsFetched (length old.held) old old is_more
+unread old is_more end = record {
+  taken = [];
+  held = sym (append-nil old.held);
+  consumed = none old.supply.rest;
+  fits = omega arith;
+  end = λ e. (refl, end e);
+}
   where
+    none : (rest : Option (List ℕ)) → Consumes rest rest []
+    none None = tt
+    none (Some rest) = refl
+
+-- what is told of what is held
+still : (selection : Selection) (stand after : Stand) (old new : Gathered) (is_more : Bool) (ready : List ℕ) → AtEnd is_more old → new.supply.rest ≡ old.supply.rest
+    → ((rest : List ℕ) → IsRest is_more rest → told_behind ready (told_at selection after (new.held ++ rest)) ≡ told_at selection stand (old.held ++ rest))
+    → KeepsTold (told (record { selection = selection; ready = []; stand = stand; below = old }))
+    (told (record { selection = selection; ready = ready; stand = after; below = new }))
+still selection stand after old new is_more ready end same told_same =
+    lead selection stand after old old new (length old.held) is_more ready (unread old is_more end) same told_same
+
+pub unspent : (old new : Supply) → new ≡ old → Spends old new
+unspent old new is =
+    let calls : old.calls ≡ old.calls + (old.reads - old.reads) = omega arith in
+    subst (Spends old) (sym is) (record { fewer = omega arith; calls = ap (λ n. n % 2 ^ 64) calls })
+
+-- packets that aren't selected were passed over
+pub block_passed : (selection : Selection) (context after : Context) (old new : Gathered) (size : ℕ) (ready : List ℕ) → ready ≡ []
+    → PassesOver context after old.held size → new ≡ record { held = drop size old.held; supply = old.supply } → Leads selection (Within context) old after ready new state.Within
+block_passed selection context after old new size ready none passes new_is =
+    still selection (Within context) (Within after) old new true ready (λ e. absurd cc) (ap (λ (g : Gathered). g.supply.rest) new_is)
+    (λ rest end. stays selection (Within after) ready (new.held ++ rest) none
+    ∙ ap (λ t. told_reading (packets_in selection after (t ++ rest))) (ap (λ (g : Gathered). g.held) new_is)
+    ∙ ap told_reading (passes.packets selection rest))
+
+-- what is made of the first octets of what is held, by what that is
+abbrev behind_of : Gathered → ℕ → Settled → Gathered
+behind_of old octets s = record { held = held_settled old.held octets s; supply = old.supply }
+
+-- nothing stands behind the octets of a block that isn't whole
+abbrev pub IsRestOf : Bool → ℕ → Gathered → Settled → Type 0
+IsRestOf is_more octets old s = (is_more ≡ false → drop octets old.held ≡ []) × ((order : Order) (size : ℕ) → s ≡ settled.Long order size → drop octets old.held ≡ [])
+
+settled_as : (selection : Selection) (context new : Context) (old : Gathered) (octets : ℕ) (is_more : Bool) (ready : List ℕ) (s : Settled) → AtEnd is_more old
+    → IsRestOf is_more octets old s → octets ≤ length old.held → IsSettled selection context new (take octets old.held) ready is_more s
+    → Leads selection (Within context) old new ready (behind_of old octets s) (state_settled octets s)
+settled_as selection context new old octets is_more ready s end none fits is = by_settled s none is
+  where
+    all : (rest : List ℕ) → take octets old.held ++ (drop octets old.held ++ rest) ≡ old.held ++ rest
+    all rest = sym (append_assoc (take octets old.held) (drop octets old.held) rest) ∙ ap (λ t. t ++ rest) (take-append-drop octets old.held)
+
+    told_all : (rest : List ℕ)
+        → told_reading (packets_in selection context (take octets old.held ++ (drop octets old.held ++ rest))) ≡ told_reading (packets_in selection context (old.held ++ rest))
+    told_all rest = ap (λ t. told_reading (packets_in selection context t)) (all rest)
+
+    no_rest : (is_more ≡ false → drop octets old.held ≡ []) → (rest : List ℕ) → IsRest is_more rest → IsRest is_more (drop octets old.held ++ rest)
+    no_rest none rest is_rest e = ap (λ t. t ++ rest) (none e) ∙ is_rest e
+
+    same : ready ≡ [] → new ≡ context → (rest : List ℕ)
+        → told_behind ready (told_at selection (Within new) (old.held ++ rest)) ≡ told_at selection (Within context) (old.held ++ rest)
+    same empty first rest =
+        ap (λ (c : Context). told_behind ready (told_at selection (Within c) (old.held ++ rest))) first ∙ stays selection (Within context) ready (old.held ++ rest) empty
+
     ended_with : List ℕ → Told
     ended_with t = record { octets = t; fault = None }
 
-pub block_refused : (selection : Selection) (context new : Context) (old mid : Gathered) (wanted : ℕ) (is_more : Bool) (ready : List ℕ) (fault : PcapngFault)
-    → IsFetched wanted old mid is_more → IsSettled selection context new mid.held ready is_more (settled.Refused fault)
-    → Leads selection (Within context) old new ready mid (state.Faulty fault)
-block_refused selection context new old mid wanted is_more ready fault fetched is =
-    lead selection (Within context) (Faulty fault) old mid mid wanted is_more ready fetched refl
-    (λ rest end. ap (λ t. told_behind t (told_at selection (Faulty fault) (mid.held ++ rest))) is.0 ∙ sym (is.2 rest end))
+    by_settled : (s : Settled) → IsRestOf is_more octets old s → IsSettled selection context new (take octets old.held) ready is_more s
+        → Leads selection (Within context) old new ready (behind_of old octets s) (state_settled octets s)
+    by_settled settled.Unfinished none is =
+        still selection (Within context) (Within new) old (behind_of old octets settled.Unfinished) is_more ready end refl (λ rest e. same is.0 is.1 rest)
+    by_settled settled.NoMemory none is =
+        still selection (Within context) (Within new) old (behind_of old octets settled.NoMemory) is_more ready end refl (λ rest e. same is.0 is.1 rest)
+    by_settled settled.Taken none is =
+        still selection (Within context) (Within new) old (behind_of old octets settled.Taken) is_more ready end refl
+        (λ rest e. sym (is.3 (drop octets old.held ++ rest)) ∙ told_all rest)
+    by_settled settled.Ended none is =
+        still selection (Within context) Over old (behind_of old octets settled.Ended) is_more ready end refl
+        (λ rest e. ap (λ t. ended_with t) (append-nil ready) ∙ sym (is.1 (drop octets old.held ++ rest) (no_rest none.0 rest e)) ∙ told_all rest)
+    by_settled (settled.Refused fault) none is =
+        still selection (Within context) (Faulty fault) old (behind_of old octets (settled.Refused fault)) is_more ready end refl
+        (λ rest e. ap (λ t. told_behind t (told_at selection (Faulty fault) (old.held ++ rest))) is.0
+        ∙ sym (is.2 (drop octets old.held ++ rest) (no_rest none.0 rest e)) ∙ told_all rest)
+    by_settled (settled.Long order size) none is =
+        let left = size - (4 + octets) in
+        let part = take octets old.held in
+        let long = length-take-le octets old.held fits in
+        still selection (Within context) (Passing new order size left) old (behind_of old octets (settled.Long order size)) is_more ready end refl
+        (λ rest e. ap (λ (c : Context). told_behind ready (told_at selection (Passing c order size left) rest)) is.1
+        ∙ passes_some selection context order size (size - 4) left ready part rest is.0 (omega (arith, is.2)) (omega (arith, is.2, long))
+        ∙ sym (is.5 rest)
+        ∙ ap (λ t. told_reading (packets_in selection context (part ++ (t ++ rest)))) (sym (none.1 order size refl))
+        ∙ told_all rest)
 
-pub block_long : (selection : Selection) (context after : Context) (old mid new : Gathered) (wanted : ℕ) (is_more : Bool) (ready : List ℕ) (order : Order) (size left : ℕ)
-    → IsFetched wanted old mid is_more → new ≡ record { held = []; supply = mid.supply } → IsSettled selection context after mid.held ready is_more (settled.Long order size)
-    → left ≡ size - 4 - length mid.held → Leads selection (Within context) old after ready new (state.Passing order size left)
-block_long selection context after old mid new wanted is_more ready order size left fetched cleared is left_is =
-    lead selection (Within context) (Passing after order size left) old mid new wanted is_more ready fetched (ap (λ (g : Gathered). g.supply.rest) cleared)
-    (λ rest end. ap (λ t. told_behind ready (told_at selection (Passing after order size left) (t ++ rest))) (ap (λ (g : Gathered). g.held) cleared)
-    ∙ ap (λ (c : Context). told_behind ready (told_at selection (Passing c order size left) rest)) is.1
-    ∙ passes_some selection context order size (size - 4) left ready mid.held rest is.0 (omega (arith, is.2)) left_is
-    ∙ sym (is.3 rest))
+pub settled_leads : (selection : Selection) (context new : Context) (old after : Gathered) (octets : ℕ) (is_more : Bool) (ready : List ℕ) (s : Settled) (next : State)
+    → AtEnd is_more old → IsRestOf is_more octets old s → octets ≤ length old.held → IsSettled selection context new (take octets old.held) ready is_more s
+    → after ≡ record { held = held_settled old.held octets s; supply = old.supply } → next ≡ state_settled octets s
+    → Leads selection (Within context) old new ready after next
+settled_leads selection context new old after octets is_more ready s next end none fits is after_is next_is =
+    subst (λ (g : Gathered). Leads selection (Within context) old new ready g next) (sym after_is)
+    (subst (λ (x : State). Leads selection (Within context) old new ready (behind_of old octets s) x) (sym next_is)
+    (settled_as selection context new old octets is_more ready s end none fits is))
+
+-- it keeps to its state
+sound_as : (selection : Selection) (context new : Context) (old : Gathered) (octets : ℕ) (is_more : Bool) (ready : List ℕ) (s : Settled) → octets ≤ length old.held
+    → IsPlaced context 0 old → IsSettled selection context new (take octets old.held) ready is_more s → IsSound (state_settled octets s) new (behind_of old octets s)
+sound_as selection context new old octets is_more ready settled.Unfinished fits placed is = subst (λ (c : Context). IsPlaced c 0 old) (sym is.1) placed
+sound_as selection context new old octets is_more ready settled.NoMemory fits placed is = tt
+sound_as selection context new old octets is_more ready settled.Ended fits placed is = tt
+sound_as selection context new old octets is_more ready (settled.Refused fault) fits placed is = tt
+sound_as selection context new old octets is_more ready settled.Taken fits placed is =
+    let part = length-take-le octets old.held fits in
+    let blocks = is.0 in
+    let more = is.1 in
+    let offset = is.2 in
+    record { blocks = omega (arith, placed.blocks, blocks, more); offset = omega (arith, placed.offset, offset, part, fits, length-drop octets old.held) }
+sound_as selection context new old octets is_more ready (settled.Long order size) fits placed is =
+    let part = length-take-le octets old.held fits in
+    let long = is.2 in
+    let blocks : new.blocks ≡ context.blocks = ap (λ (c : Context). c.blocks) is.1 in
+    let offset : new.offset ≡ context.offset = ap (λ (c : Context). c.offset) is.1 in
+    record {
+      fits = omega (arith, long, part);
+      part = omega arith;
+      none = λ some. refl;
+      placed = record { blocks = omega (arith, placed.blocks, blocks, offset); offset = omega (arith, placed.offset, offset, long, part, fits) };
+    }
+
+pub settled_sound : (selection : Selection) (context new : Context) (old after : Gathered) (octets : ℕ) (is_more : Bool) (ready : List ℕ) (s : Settled) (next : State)
+    → octets ≤ length old.held → IsPlaced context 0 old → IsSettled selection context new (take octets old.held) ready is_more s
+    → after ≡ record { held = held_settled old.held octets s; supply = old.supply } → next ≡ state_settled octets s → IsSound next new after
+settled_sound selection context new old after octets is_more ready s next fits placed is after_is next_is =
+    subst (λ (g : Gathered). IsSound next new g) (sym after_is)
+    (subst (λ (x : State). IsSound x new (behind_of old octets s)) (sym next_is) (sound_as selection context new old octets is_more ready s fits placed is))
+
+taken_as : (selection : Selection) (octets : ℕ) (s : Settled) → IsTaken selection (state_settled octets s)
+taken_as selection octets settled.Unfinished = tt
+taken_as selection octets (settled.Long order size) = tt
+taken_as selection octets settled.Taken = tt
+taken_as selection octets settled.Ended = tt
+taken_as selection octets (settled.Refused fault) = tt
+taken_as selection octets settled.NoMemory = tt
+
+pub settled_taken : (selection : Selection) (octets : ℕ) (s : Settled) (next : State) → next ≡ state_settled octets s → IsTaken selection next
+settled_taken selection octets s next is = subst (λ (x : State). IsTaken selection x) (sym is) (taken_as selection octets s)
+
+-- it leaves no more steps than there were, and fewer where it isn't unfinished
+steps_as : (selection : Selection) (context new : Context) (old : Gathered) (octets : ℕ) (is_more : Bool) (ready : List ℕ) (s : Settled) → octets ≤ length old.held
+    → IsSettled selection context new (take octets old.held) ready is_more s → s ≡ settled.Unfinished ⊎ (steps_of (state_settled octets s) (behind_of old octets s) < steps_within old)
+steps_as selection context new old octets is_more ready settled.Unfinished fits is = inl refl
+steps_as selection context new old octets is_more ready settled.NoMemory fits is = inr (omega arith)
+steps_as selection context new old octets is_more ready settled.Ended fits is = inr (omega arith)
+steps_as selection context new old octets is_more ready (settled.Refused fault) fits is = inr (omega arith)
+steps_as selection context new old octets is_more ready settled.Taken fits is =
+    let part = length-take-le octets old.held fits in
+    let more = is.1 in
+    let offset = is.2 in
+    inr (omega (arith, more, offset, part, fits, length-drop octets old.held))
+steps_as selection context new old octets is_more ready (settled.Long order size) fits is =
+    let part = length-take-le octets old.held fits in
+    let some = is.3 in
+    inr (omega (arith, some, part, fits))
+
+pub settled_less : (selection : Selection) (context new : Context) (old after : Gathered) (octets : ℕ) (is_more : Bool) (ready : List ℕ) (s : Settled) (next : State)
+    → octets ≤ length old.held → IsSettled selection context new (take octets old.held) ready is_more s → (s ≡ settled.Unfinished → ⊥)
+    → after ≡ record { held = held_settled old.held octets s; supply = old.supply } → next ≡ state_settled octets s → IsLess state.Within old next after
+settled_less selection context new old after octets is_more ready s next fits is other after_is next_is =
+    subst (λ (g : Gathered). steps_of next g < steps_within old) (sym after_is)
+    (subst (λ (x : State). steps_of x (behind_of old octets s) < steps_within old) (sym next_is)
+    (elim (steps_as selection context new old octets is_more ready s fits is) [
+      | inl same ↦ absurd (other same)
+      | inr less ↦ less
+    ]))
+
+pub settled_most : (selection : Selection) (context new : Context) (old mid after : Gathered) (octets : ℕ) (is_more : Bool) (ready : List ℕ) (s : Settled) (next : State)
+    → octets ≤ length mid.held → length mid.held ≤ 327680 → mid.supply.reads < old.supply.reads → IsSettled selection context new (take octets mid.held) ready is_more s
+    → after ≡ record { held = held_settled mid.held octets s; supply = mid.supply } → next ≡ state_settled octets s → IsLess state.Within old next after
+settled_most selection context new old mid after octets is_more ready s next fits room fewer is after_is next_is =
+    subst (λ (g : Gathered). steps_of next g < steps_within old) (sym after_is)
+    (subst (λ (x : State). steps_of x (behind_of mid octets s) < steps_within old) (sym next_is)
+    (elim (steps_as selection context new mid octets is_more ready s fits is) [
+      | inl same ↦ subst (λ (x : Settled). steps_of (state_settled octets x) (behind_of mid octets x) < steps_within old) (sym same) (omega (arith, room, fewer))
+      | inr less ↦ omega (arith, less, room, fewer)
+    ]))
+
+-- ---- the first octets that are wanted of what is held
+
+-- what they are
+pub part_is : (section told : Option Order) (held was part : List ℕ) (wanted : ℕ) → told ≡ section → was ≡ held → wanted ≡ wanted_size told was → part ≡ take wanted was
+    → part ≡ take (wanted_size section held) held
+part_is section told held was part wanted told_is was_is wanted_is is =
+    is ∙ ap (λ n. take n was) (wanted_is ∙ ap (λ o. wanted_size o was) told_is ∙ ap (wanted_size section) was_is) ∙ ap (take (wanted_size section held)) was_is
+
+-- they are no more than are wanted of them
+pub part_fits : (section : Option Order) (held part : List ℕ) → part ≡ take (wanted_size section held) held → length part ≤ wanted_size section part
+part_fits section held part is = subst (λ t. length t ≤ wanted_size section t) (sym is) (wanted-fits section held)
+
+pub part_front : (section : Option Order) (held part : List ℕ) → part ≡ take (wanted_size section held) held → take (length part) held ≡ part
+part_front section held part is =
+    ap (λ t. take (length t) held) is ∙ ap (λ n. take n held) (length-take (wanted_size section held) held) ∙ take_min (wanted_size section held) held ∙ sym is
+
+pub part_within : (section : Option Order) (held part : List ℕ) → part ≡ take (wanted_size section held) held → length part ≤ length held
+part_within section held part is = omega (arith, ap length is, length-take (wanted_size section held) held)
+
+-- where they are fewer, they are all
+part_all : (section : Option Order) (held part : List ℕ) → part ≡ take (wanted_size section held) held → length part < wanted_size section part → length held ≤ wanted_size section held
+part_all section held part is few = wanted-front section held (subst (λ t. length t < wanted_size section t) is few)
+
+pub part_whole : (section : Option Order) (held part : List ℕ) → part ≡ take (wanted_size section held) held → IsPart section part → IsPart section held
+part_whole section held part is few = subst (IsPart section) (is ∙ take_all (wanted_size section held) held (part_all section held part is few.part)) few
+
+pub part_rest : (section : Option Order) (held part : List ℕ) → part ≡ take (wanted_size section held) held → length part < wanted_size section part → drop (length part) held ≡ []
+part_rest section held part is few =
+    let all = part_all section held part is few in
+    drop_all (length part) held (omega (arith, ap length is, length-take (wanted_size section held) held, all))
+
+-- nothing stands behind a block that is passed over
+pub long_rest : (selection : Selection) (context new : Context) (held part ready : List ℕ) (s : Settled) → part ≡ take (wanted_size context.order held) held
+    → IsSettled selection context new part ready true s → (order : Order) (size : ℕ) → s ≡ settled.Long order size → drop (length part) held ≡ []
+long_rest selection context new held part ready s is settled_is order size long =
+    part_rest context.order held part is (subst (IsSettled selection context new part ready true) long settled_is).4
 
 -- ---- a block that is passed over
 
@@ -146,33 +337,7 @@ end_whole selection context after old mid new wanted is_more ready order size fe
     (λ rest end. ap (λ t. told_behind ready (told_at selection (Within after) (t ++ rest))) (ap (λ (g : Gathered). g.held) cleared)
     ∙ ends_whole selection context after order size ready mid.held rest none four same is)
 
--- ---- what is held keeps to a state
-
-pub part_short : (section : Option Order) (held : List ℕ) → length held < 12 → IsPart section held
-part_short section held short = record { part = omega (arith, short, wanted-short section held short); room = omega (arith, wanted-short section held short) }
-
-pub part_none : (section : Option Order) (new mid : Gathered) → new ≡ record { held = []; supply = mid.supply } → IsPart section new.held
-part_none section new mid cleared =
-    let none : length new.held ≡ 0 = ap (λ (g : Gathered). length g.held) cleared in
-    part_short section new.held (omega (arith, none))
-
--- no more is held than is wanted
-pub part_fits : (section told : Option Order) (old mid : Gathered) (was now : List ℕ) (wanted : ℕ) (is_more : Bool) → IsFetched wanted old mid is_more → told ≡ section → was ≡ old.held
-    → now ≡ mid.held → wanted ≡ wanted_size told was → length now ≤ wanted_size section now
-part_fits section told old mid was now wanted is_more fetched told_is was_is now_is is =
-    let wanted_is : wanted ≡ wanted_size section old.held = is ∙ ap (λ o. wanted_size o was) told_is ∙ ap (wanted_size section) was_is in
-    let all : length (old.held ++ fetched.taken) ≤ wanted_size section old.held = omega (arith, fetched.fits, ap length fetched.held, wanted_is) in
-    subst (λ t. length t ≤ wanted_size section t) (sym (now_is ∙ fetched.held)) (wanted-more section old.held fetched.taken all)
-
-pub taken_placed : (context after : Context) (old mid new : Gathered) (held ready : List ℕ) (selection : Selection) (is_more : Bool) → IsPlaced context 0 old → length held ≤ 327680
-    → mid.supply.reads < old.supply.reads → new ≡ record { held = []; supply = mid.supply } → IsSettled selection context after held ready is_more settled.Taken → IsPlaced after 0 new
-taken_placed context after old mid new held ready selection is_more is room fewer cleared settled =
-    let none : length new.held ≡ 0 = ap (λ (g : Gathered). length g.held) cleared in
-    let reads : new.supply.reads ≡ mid.supply.reads = ap (λ (g : Gathered). g.supply.reads) cleared in
-    let blocks = settled.0 in
-    let more = settled.1 in
-    let fits = settled.2 in
-    record { blocks = omega (arith, is.blocks, blocks, more); offset = omega (arith, is.offset, fits, none, reads, fewer, room) }
+-- ---- places behind a block
 
 pub closed_placed : (context after : Context) (size : ℕ) (old mid new : Gathered) → IsPassed context size 0 old → mid.supply.reads < old.supply.reads
     → new ≡ record { held = []; supply = mid.supply } → after ≡ behind_other context size → IsPlaced after 0 new
@@ -192,7 +357,7 @@ start_placed context below first held few =
     record { blocks = omega (arith, blocks); offset = omega (arith, offset, few, ap length held) }
 
 pub sound_within : (context : Context) (below : Gathered) → context ≡ start → below.held ≡ [] → below.supply.reads ≤ 35184372088832 → IsSound state.Within context below
-sound_within context below first held few = (part_short context.order below.held (omega (arith, ap length held)), start_placed context below first held few)
+sound_within context below first held few = start_placed context below first held few
 
 pub sound_begun : (context : Context) (below : Gathered) → context ≡ start → below.held ≡ [] → below.supply.reads ≤ 35184372088832 → IsSound state.Begun context below
 sound_begun context below first held few = (omega (arith, ap length held), first, start_placed context below first held few)

@@ -6,6 +6,7 @@ pub mod Leads
 pub mod Limits
 pub mod Opening
 pub mod OptionLists
+pub mod Others
 pub mod Passing
 pub mod Powers
 pub mod Readings

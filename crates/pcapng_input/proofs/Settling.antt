@@ -181,6 +181,8 @@ settles_wanting selection context held ready is_more order result order_is next 
           none,
           refl,
           omega (arith, aligned, long_block, room),
+          long,
+          omega (arith, cut.part, wanted-told context.order held o long cut.told (twelve size cut.fine)),
           λ rest. ap told_reading (passes selection context held rest o long cut long_block),
         )
     by_size o cut false more =

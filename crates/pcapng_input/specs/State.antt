@@ -1,11 +1,12 @@
 -- What the state of an adapted input means, and what it keeps to. It serves proofs.
-use Rattle.std.specs.Prelude.{◌≡◌, ◌<◌, ◌≤◌, ℕ, ◌+◌, ◌-◌, ◌*◌, nat_lt, if◌then◌else◌, Bool, false, List, [], ◌++◌, length, drop, Option, Some, None, ⊤}
+use Rattle.std.specs.Prelude.{◌≡◌, ◌<◌, ◌≤◌, ℕ, ◌+◌, ◌-◌, ◌*◌, ◌%◌, nat_lt, not, if◌then◌else◌, Bool, true, false, List, [], ◌++◌, length, drop, slice_get, Option, Some, None, ⊤}
 use Rattle.pcap_io.specs.Style.{number_of}
 use Rattle.pcap_io.specs.declared.style.Order.{Order}
 use Rattle.pcapng_input.specs.Adapted.{Begun, Faulty, Over, Passing, Plain, Stand, Told, Within, is_of_one, packets_closing, told_behind, told_reading}
 use Rattle.pcapng_input.specs.Adapter.{Gathered, KeepsTold, told}
-use Rattle.pcapng_input.specs.Block.{longest_block, order_at}
+use Rattle.pcapng_input.specs.Block.{enhanced_packet, is_section, longest_block, order_at}
 use Rattle.pcapng_input.specs.Reading.{Context, packets_in, start}
+use Rattle.pcapng_input.specs.declared.interface.Interface.{Interface}
 use Rattle.pcapng_input.specs.declared.interface.Selection.{Selection}
 use Rattle.pcapng_input.specs.declared.settle.Settled.{Settled}
 use Rattle.pcapng_input.specs.declared.settle.Settled.TheVariants as settled
@@ -56,11 +57,34 @@ pub record IsPassed (context : Context) (size left : ℕ) (below : Gathered) : T
   pub none : 0 < left → below.held ≡ []
   pub placed : IsPlaced context (size - (left + 4)) below
 
+-- an interface was described, and isn't selected
+abbrev pub is_other : Option Interface → Bool
+is_other None = false
+is_other (Some interface) = not interface.is_selected
+
+-- a text begins with a whole enhanced packet block of so many octets, of an interface that isn't selected
+pub record IsOtherPacket (order : Order) (interfaces : List Interface) (text : List ℕ) (size : ℕ) : Type 0 where
+  pub section : is_section text ≡ false
+  pub kind : number_of order 4 text ≡ enhanced_packet
+  pub told : number_of order 4 (drop 4 text) ≡ size
+  pub again : number_of order 4 (drop (size - 4) text) ≡ size
+  pub long : 32 ≤ size
+  pub aligned : size % 4 ≡ 0
+  pub room : size ≤ longest_block
+  pub fits : size ≤ length text
+  pub other : is_other (slice_get interfaces (number_of order 4 (drop 8 text))) ≡ true
+
+-- behind so many octets of a text stand the same packets
+pub record PassesOver (old new : Context) (text : List ℕ) (size : ℕ) : Type 0 where
+  pub blocks : new.blocks ≤ old.blocks + size
+  pub offset : new.offset ≡ old.offset + size
+  pub packets : (selection : Selection) (rest : List ℕ) → packets_in selection new (drop size text ++ rest) ≡ packets_in selection old (text ++ rest)
+
 -- a state is sound
 abbrev pub IsSound : State → Context → Gathered → Type 0
 IsSound state.Begun context below = (length below.held < 4) × (context ≡ start) × IsPlaced context 0 below
 IsSound state.Plain context below = below.held ≡ []
-IsSound state.Within context below = IsPart context.order below.held × IsPlaced context 0 below
+IsSound state.Within context below = IsPlaced context 0 below
 IsSound (state.Passing order size left) context below = IsPassed context size left below
 IsSound state.NoMemory context below = ⊤
 IsSound state.Over context below = ⊤
@@ -78,7 +102,7 @@ IsRest is_more rest = is_more ≡ false → rest ≡ []
 abbrev pub IsSettled : Selection → Context → Context → List ℕ → List ℕ → Bool → Settled → Type 0
 IsSettled selection old new held ready is_more settled.Unfinished = (ready ≡ []) × (new ≡ old) × IsPart old.order held
 IsSettled selection old new held ready is_more (settled.Long order size) =
-    (ready ≡ []) × (new ≡ old) × (length held + 4 ≤ size)
+    (ready ≡ []) × (new ≡ old) × (length held + 4 ≤ size) × (12 ≤ length held) × (length held < wanted_size old.order held)
     × ((rest : List ℕ) → TellsBlock selection old held (told_reading (packets_closing selection old order size (drop (size - 4) (held ++ rest)))) rest)
 IsSettled selection old new held ready is_more settled.Taken =
     (new.blocks ≡ old.blocks + 1) × (old.offset + 12 ≤ new.offset) × (new.offset ≤ old.offset + length held)
@@ -88,6 +112,60 @@ IsSettled selection old new held ready is_more settled.Ended =
 IsSettled selection old new held ready is_more (settled.Refused fault) =
     (ready ≡ []) × (new ≡ old) × ((rest : List ℕ) → IsRest is_more rest → TellsBlock selection old held (record { octets = []; fault = Some fault }) rest)
 IsSettled selection old new held ready is_more settled.NoMemory = (ready ≡ []) × (new ≡ old)
+
+-- a block that is passed over has its second length behind so many octets
+abbrev pub IsLongIn : ℕ → Settled → Type 0
+IsLongIn octets settled.Unfinished = ⊤
+IsLongIn octets (settled.Long order size) = 4 + octets ≤ size
+IsLongIn octets settled.Taken = ⊤
+IsLongIn octets settled.Ended = ⊤
+IsLongIn octets (settled.Refused fault) = ⊤
+IsLongIn octets settled.NoMemory = ⊤
+
+-- where an input stands behind what was made of so many octets in front of what is held
+abbrev pub state_settled : ℕ → Settled → State
+state_settled octets settled.Unfinished = state.Within
+state_settled octets (settled.Long order size) = state.Passing order size (size - (4 + octets))
+state_settled octets settled.Taken = state.Within
+state_settled octets settled.Ended = state.Over
+state_settled octets (settled.Refused fault) = state.Faulty fault
+state_settled octets settled.NoMemory = state.NoMemory
+
+-- what is held then
+abbrev pub held_settled : List ℕ → ℕ → Settled → List ℕ
+held_settled held octets settled.Unfinished = held
+held_settled held octets (settled.Long order size) = []
+held_settled held octets settled.Taken = drop octets held
+held_settled held octets settled.Ended = held
+held_settled held octets (settled.Refused fault) = held
+held_settled held octets settled.NoMemory = held
+
+-- how many steps may still be made, of reads below and of octets that are held
+abbrev pub steps_within : Gathered → ℕ
+steps_within below = below.supply.reads * 327681 + length below.held + 1
+
+-- the same where an input stands: none at the end and at a fault
+abbrev pub steps_at : Stand → Gathered → ℕ
+steps_at Begun below = steps_within below
+steps_at Plain below = steps_within below
+steps_at (Within context) below = steps_within below
+steps_at (Passing context order size left) below = steps_within below
+steps_at Over below = 0
+steps_at (Faulty fault) below = 0
+
+-- and by its state: none where memory was refused
+abbrev pub steps_of : State → Gathered → ℕ
+steps_of state.Begun below = steps_within below
+steps_of state.Plain below = steps_within below
+steps_of state.Within below = steps_within below
+steps_of (state.Passing order size left) below = steps_within below
+steps_of state.NoMemory below = 0
+steps_of state.Over below = 0
+steps_of (state.Faulty fault) below = 0
+
+-- there are fewer steps than there were
+abbrev pub IsLess : State → Gathered → State → Gathered → Type 0
+IsLess old before new after = steps_of new after < steps_of old before
 
 -- where more octets of a block are wanted: it is passed over where there is no room for all
 abbrev pub wanting_by : Option Order → List ℕ → Settled

@@ -1,10 +1,11 @@
 //! An input of a capture below its counts.
-ghost use Rattle.std.specs.Prelude.{◌≡◌, ◌<◌, ℕ, [], Option, Some, None, min, length, option_map, IfOk, IfSome, OnErr, OnOk};
+ghost use Rattle.std.specs.Prelude.{◌≡◌, ◌<◌, ℕ, [], Option, Some, None, min, length, option_map, IfOk, IfSome, OnOk};
 ghost use Rattle.std.specs.Io.{ReadsAtMost};
 ghost use Rattle.std.specs.Io.KnownBytes.{ReadConsumes};
 ghost use Rattle.pcap_stream.specs.Supply.{Spends};
 ghost use Rattle.pcapng_input.specs.Adapted.{is_of_one, told_text};
 ghost use Rattle.pcapng_input.specs.Adapter.{IsAllTold, KeepsFault, KeepsTold, met_fault, told, told_fault, told_octets};
+ghost use Rattle.pcapng_input.specs.State.{steps_at};
 
 use crate::context::Context;
 use crate::fault::PcapngFault;
@@ -135,14 +136,12 @@ impl<'s, R: Input> Adapter<'s, R> {
         Ok(self.ready.give(octets))
     }
 
-    /// One read below, and what it brings.
+    /// One step: what is held brings it, or one read below.
     fn advance(&mut self) -> Result<(), DeviceFault>
         requires { self.old.ready ≡ [] }
         ensures kept { KeepsTold (told self.old) (told self.new) }
-        ensures ready { OnErr result (self.new.ready ≡ []) }
         ensures spent { Spends self.old.below.supply self.new.below.supply }
-        ensures fewer { OnOk result (self.new.below.supply.reads < self.old.below.supply.reads) }
-        ensures quiet { OnOk result (self.new.below.supply.failures ≡ self.old.below.supply.failures) }
+        ensures less { OnOk result (steps_at self.new.stand self.new.below < steps_at self.old.stand self.old.below) }
     {
         match read_on(
             self.selection,
@@ -153,7 +152,10 @@ impl<'s, R: Input> Adapter<'s, R> {
         ) {
             Ok(state) => {
                 self.state = state;
-                Ok(())
+                match state {
+                    State::NoMemory => Err(DeviceFault),
+                    _ => Ok(()),
+                }
             }
             Err(fault) => Err(fault),
         }

@@ -15,8 +15,9 @@ use std::alloc::{AllocError, Global};
 
 /// An input of a capture: a pcapng one is told as the classic capture of its packets, and any other octet for octet.
 ///
-/// It keeps the octets of one block and of one record, in rooms that grow to the longest so far, at most 327,680 and 262,160
-/// octets, and what the section describes. A text is pcapng where it begins with the octets 0A 0D 0D 0A. Where the packets of
+/// It keeps what it read ahead, in room for 65,536 octets or for the longest block so far, at most 327,680; the octets of one
+/// record, in room for the longest so far, at most 262,160; and what the section describes. It reads only where the block in
+/// front isn't whole there. A text is pcapng where it begins with the octets 0A 0D 0D 0A. Where the packets of
 /// one interface are asked for, only pcapng is taken: any other text has the fault `NoSection` then. At a fault of a pcapng
 /// text each read fails. So does one for which memory is refused, and it takes nothing; where that was for a record or an
 /// interface, each read behind it fails too.

@@ -5,11 +5,13 @@ ghost use Rattle.pcapng_input.specs.Adapted.{behind_other};
 ghost use Rattle.pcapng_input.specs.Context.{IsStepError};
 ghost use Rattle.pcapng_input.specs.Meaning.{IsMeantWithinLimits, block_meaning};
 ghost use Rattle.pcapng_input.specs.Reading.{block_fault_at, context_behind, record_meant, start, step_of};
+ghost use Rattle.pcapng_input.specs.State.{PassesOver};
 
 use crate::block::Block;
 use crate::fault::{BlockFault, PcapngError, PcapngFault};
 use crate::interface::{Interface, Selection};
 use crate::meaning::{BlockMeaning, block_meaning};
+use crate::other::other_packet;
 use pcap_io::{Order, Record};
 use std::alloc::{AllocError, Global};
 use std::marker::Model;
@@ -86,6 +88,26 @@ impl Context {
     {
         self.blocks += 1;
         self.offset += size;
+    }
+
+    /// Goes on behind the packets that a text begins with and that aren't selected, as far as they are told by themselves,
+    /// and says how many octets they take.
+    pub fn pass_others(&mut self, text: &[u8]) -> usize
+        requires blocks { self.old.blocks + length text.now < 2 ^ 64 }
+        requires offset { self.old.offset + length text.now < 2 ^ 64 }
+        ensures fits { result ≤ length text.now }
+        ensures passes { PassesOver self.old self.new text.now result }
+        ensures none { result ≡ 0 → self.new ≡ self.old }
+    {
+        let Some(order) = self.order else {
+            return 0;
+        };
+        let mut at = 0;
+        while let Some(size) = other_packet(order, self.interfaces.as_slice(), &text[at..]) {
+            self.skip(size as u64);
+            at += size;
+        }
+        at
     }
 
     /// What the block that stands here means.

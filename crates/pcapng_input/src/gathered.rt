@@ -1,5 +1,5 @@
 //! What was read of an input and isn't used yet.
-ghost use Rattle.std.specs.Prelude.{◌≡◌, ◌≤◌, ◌<◌, ◌+◌, ◌++◌, ℕ, [], drop, length, take, IfOk, OnErr, OnOk, MatchResult};
+ghost use Rattle.std.specs.Prelude.{◌≡◌, ◌≤◌, ◌<◌, ◌+◌, ◌-◌, ◌++◌, ℕ, [], drop, length, max, slice_range, take, IfOk, OnErr, OnOk, MatchResult};
 ghost use Rattle.std.specs.Io.{ReadsAtMost};
 ghost use Rattle.std.specs.Io.KnownBytes.{Consumes, IsAtEnd, Keeps, ReadConsumes};
 ghost use Rattle.pcap_stream.specs.Counts.{CountsFaults, GoesOnBy};
@@ -13,25 +13,28 @@ use pcap_stream::{DeviceFault, Input};
 use std::alloc::{AllocError, Global};
 use std::marker::Model;
 
-/// The octets in front of what an input has left, in room for the longest block so far, and how many reads may still be made
-/// of the input. Contracts see these octets and the input; how many reads found the end isn't counted.
+/// The octets in front of what an input has left, in a room that grows with what is wanted, and how many reads may still be
+/// made of the input. Contracts see these octets and the input; how many reads found the end isn't counted.
 #[derive(Drop)]
 pub struct Gathered<R: Input> {
     input: R,
     reads: u64,
     room: Vec<u8>,
-    held: usize,
+    /// Where what is held begins.
+    from: usize,
+    /// Where it ends.
+    to: usize,
 }
 
 impl<R: Input> Model for Gathered<R> {
-    ghost use Rattle.std.specs.Prelude.{◌≡◌, ◌≤◌, length, take};
+    ghost use Rattle.std.specs.Prelude.{◌≡◌, ◌≤◌, length, slice_range};
     ghost use Rattle.pcapng_input.specs.Adapter.{Gathered};
     ghost use Rattle.pcapng_input.specs.Block.{longest_block};
 
     ghost Value = { Gathered };
 
     ghost view = { λ g. record {
-      held = take g.held g.room.items;
+      held = slice_range g.room.items g.from g.to;
       supply = record {
         rest = R.remaining g.input;
         calls = R.calls g.input;
@@ -41,7 +44,44 @@ impl<R: Input> Model for Gathered<R> {
       };
     } };
 
-    ghost invariant = { λ g. (g.held ≤ length g.room.items) × (length g.room.items ≤ longest_block) };
+    ghost invariant = { λ g. (g.from ≤ g.to) × (g.to ≤ length g.room.items) × (length g.room.items ≤ longest_block) };
+}
+
+/// Moves the octets from one place of a room to another to its front, and says where they end.
+fn move_front(room: &mut [u8], from: usize, to: usize) -> usize
+    requires { (from ≤ to) × (to ≤ length room.old) }
+    ensures end { result ≡ to - from }
+    ensures size { length room.new ≡ length room.old }
+    ensures front { take result room.new ≡ slice_range room.old from to }
+{
+    if from == 0 {
+        return to;
+    }
+    let held = to - from;
+    if from < held {
+        // they reach over the places that they go to
+        room.copy_within(from..to, 0);
+        return held;
+    }
+    let (front, back) = room.split_at_mut(from);
+    front[..held].copy_from_slice(&back[..held]);
+    held
+}
+
+/// Makes a room as long as `most` where it is shorter, or, where memory for that is refused, as long as `wanted`. It says up
+/// to where it may be filled.
+fn make_room(room: &mut Vec<u8>, wanted: usize, most: usize) -> Result<usize, AllocError>
+    requires { wanted ≤ most }
+    ensures end { IfOk result (λ end. (wanted ≤ end) × (end ≤ most) × (end ≤ length room.new.items)) }
+    ensures most { length room.new.items ≤ max (length room.old.items) most }
+    ensures least { length room.old.items ≤ length room.new.items }
+    ensures front { (n : ℕ) → n ≤ length room.old.items → take n room.new.items ≡ take n room.old.items }
+{
+    if lengthen(room, most).is_ok() {
+        return Ok(most);
+    }
+    lengthen(room, wanted)?;
+    Ok(wanted)
 }
 
 /// One read into a part of a room.
@@ -84,7 +124,8 @@ impl<R: Input> Gathered<R> {
             input,
             reads,
             room,
-            held: 0,
+            from: 0,
+            to: 0,
         })
     }
 
@@ -92,14 +133,16 @@ impl<R: Input> Gathered<R> {
         ensures octets { result.now ≡ self.now.held }
         ensures room { length self.now.held ≤ longest_block }
     {
-        &self.room[..self.held]
+        &self.room[self.from..self.to]
     }
 
-    /// One read, so that at most `wanted` octets are held. It answers whether there were any. Where there is no room for so
-    /// many and memory is refused, none is made.
-    pub fn fetch(&mut self, wanted: usize) -> Result<bool, DeviceFault>
-        requires { (length self.old.held < wanted) × (wanted ≤ longest_block) }
-        ensures fetched { IfOk result (IsFetched wanted self.old self.new) }
+    /// One read, so that at most `most` octets are held. It answers whether there were any. Where memory for so many is
+    /// refused, at most `wanted` are held, and where it is refused for these too, no read is made.
+    #[cold]
+    #[inline(never)]
+    pub fn fetch(&mut self, wanted: usize, most: usize) -> Result<bool, DeviceFault>
+        requires { (length self.old.held < wanted) × (wanted ≤ most) × (most ≤ longest_block) }
+        ensures fetched { IfOk result (IsFetched most self.old self.new) }
         ensures held { OnErr result (self.new.held ≡ self.old.held) }
         ensures kept { OnErr result (Keeps self.old.supply.rest self.new.supply.rest) }
         ensures spent { Spends self.old.supply self.new.supply }
@@ -109,20 +152,31 @@ impl<R: Input> Gathered<R> {
         if self.reads == 0 {
             return Err(DeviceFault);
         }
-        if let Err(AllocError) = lengthen(&mut self.room, wanted) {
+        self.to = move_front(self.room.as_mut_slice(), self.from, self.to);
+        self.from = 0;
+        let Ok(end) = make_room(&mut self.room, wanted, most) else {
             return Err(DeviceFault);
-        }
+        };
         self.reads -= 1;
-        let n = read_between(&mut self.input, self.room.as_mut_slice(), self.held, wanted)?;
-        self.held += n;
+        let n = read_between(&mut self.input, self.room.as_mut_slice(), self.to, end)?;
+        self.to += n;
         Ok(n > 0)
+    }
+
+    /// Forgets the first octets of what is held.
+    pub fn forget(&mut self, count: usize)
+        requires { count ≤ length self.old.held }
+        ensures { self.new ≡ record { held = drop count self.old.held; supply = self.old.supply } }
+    {
+        self.from += count;
     }
 
     /// Forgets what is held.
     pub fn clear(&mut self)
         ensures { self.new ≡ record { held = []; supply = self.old.supply } }
     {
-        self.held = 0;
+        self.from = 0;
+        self.to = 0;
     }
 
     /// One read into octets of the caller's.

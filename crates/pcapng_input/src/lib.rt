@@ -20,6 +20,7 @@ mod meaning;
 mod moment;
 mod number;
 mod option;
+mod other;
 mod packet;
 mod reading;
 mod ready;

@@ -1,10 +1,10 @@
 //! What one more read brings an adapted input to.
-ghost use Rattle.std.specs.Prelude.{◌≡◌, ◌≤◌, ◌<◌, ◌+◌, ◌-◌, [], false, length, IfOk, OnErr, OnOk};
+ghost use Rattle.std.specs.Prelude.{◌≡◌, ◌≤◌, ◌<◌, ◌+◌, ◌-◌, [], false, length, take, IfOk, OnErr};
 ghost use Rattle.std.specs.Io.KnownBytes.{Keeps};
 ghost use Rattle.pcap_stream.specs.Supply.{Spends};
 ghost use Rattle.pcapng_input.specs.Adapted.{Begun, Passing, Within, is_of_one};
 ghost use Rattle.pcapng_input.specs.Reading.{start};
-ghost use Rattle.pcapng_input.specs.State.{IsSound, IsTaken, Leads, stand_of};
+ghost use Rattle.pcapng_input.specs.State.{IsLess, IsLongIn, IsPart, IsPlaced, IsSound, IsTaken, Leads, held_settled, stand_of, state_settled, wanted_size};
 ghost use Rattle.pcapng_input.specs.declared.interface.Selection.{Selection};
 ghost use Rattle.pcapng_input.specs.declared.state.State.TheVariants as state;
 
@@ -26,6 +26,9 @@ const MAGIC: usize = 4;
 /// The octets of a block's second length.
 const SECOND_LENGTH: usize = 4;
 
+/// How many octets are read at once where there are so many.
+const AHEAD: usize = 65_536;
+
 /// Reads the first octets, by which the format is told.
 pub fn read_magic<R: Input>(
     context: &Context,
@@ -41,10 +44,9 @@ pub fn read_magic<R: Input>(
     ensures held { OnErr result (gathered.new.held ≡ gathered.old.held) }
     ensures kept { OnErr result (Keeps gathered.old.supply.rest gathered.new.supply.rest) }
     ensures spent { Spends gathered.old.supply gathered.new.supply }
-    ensures fewer { OnOk result (gathered.new.supply.reads < gathered.old.supply.reads) }
-    ensures quiet { OnOk result (gathered.new.supply.failures ≡ gathered.old.supply.failures) }
+    ensures less { IfOk result (λ next. IsLess state.Begun gathered.old next gathered.new) }
 {
-    let is_more = gathered.fetch(MAGIC)?;
+    let is_more = gathered.fetch(MAGIC, MAGIC)?;
     let held = gathered.held();
     if is_more && held.len() < MAGIC {
         return Ok(State::Begun);
@@ -58,7 +60,103 @@ pub fn read_magic<R: Input>(
     Ok(State::Plain)
 }
 
-/// Reads more of a block.
+/// The first octets of a text, so many or all.
+fn front(text: &[u8], size: usize) -> &[u8]
+    ensures { result.now ≡ take size text.now }
+{
+    if text.len() > size {
+        return &text[..size];
+    }
+    text
+}
+
+/// Where an input stands behind what was made of so many octets in front of what is held.
+fn go_on<R: Input>(gathered: &mut Gathered<R>, octets: usize, settled: Settled) -> State
+    requires octets { octets ≤ length gathered.old.held }
+    requires long { IsLongIn octets settled }
+    ensures state { result ≡ state_settled octets settled }
+    ensures held { gathered.new ≡ record { held = held_settled gathered.old.held octets settled; supply = gathered.old.supply } }
+{
+    match settled {
+        Settled::Unfinished => State::Within,
+        Settled::Long { order, size } => {
+            gathered.clear();
+            let left = size - (SECOND_LENGTH + octets);
+            State::Passing { order, size, left }
+        }
+        Settled::Taken => {
+            gathered.forget(octets);
+            State::Within
+        }
+        Settled::Ended => State::Over,
+        Settled::Refused(fault) => State::Faulty(fault),
+        Settled::NoMemory => State::NoMemory,
+    }
+}
+
+/// Reads more of a block of which so many octets are wanted.
+fn read_more<R: Input>(
+    selection: Selection<'_>,
+    context: &mut Context,
+    gathered: &mut Gathered<R>,
+    ready: &mut Ready,
+    wanted: usize,
+) -> Result<State, DeviceFault>
+    requires placed { IsPlaced context.old 0 gathered.old }
+    requires part { IsPart context.old.order gathered.old.held }
+    requires wanted { wanted ≡ wanted_size context.old.order gathered.old.held }
+    requires empty { ready.old ≡ [] }
+    ensures leads { IfOk result (Leads selection.entry (Within context.old) gathered.old context.new ready.new gathered.new) }
+    ensures taken { IfOk result (IsTaken selection.entry) }
+    ensures sound { IfOk result (λ state. IsSound state context.new gathered.new) }
+    ensures context { OnErr result (context.new ≡ context.old) }
+    ensures ready { OnErr result (ready.new ≡ []) }
+    ensures held { OnErr result (gathered.new.held ≡ gathered.old.held) }
+    ensures kept { OnErr result (Keeps gathered.old.supply.rest gathered.new.supply.rest) }
+    ensures spent { Spends gathered.old.supply gathered.new.supply }
+    ensures less { IfOk result (λ next. IsLess state.Within gathered.old next gathered.new) }
+{
+    let most = if wanted < AHEAD { AHEAD } else { wanted };
+    let is_more = gathered.fetch(wanted, most)?;
+    if is_more {
+        return Ok(State::Within);
+    }
+    let held = gathered.held();
+    let octets = held.len();
+    let settled = settle(selection, context, ready, held, false);
+    Ok(go_on(gathered, octets, settled))
+}
+
+/// Takes the block that stands in front of what is held, or reads more of it.
+fn take_block<R: Input>(
+    selection: Selection<'_>,
+    context: &mut Context,
+    gathered: &mut Gathered<R>,
+    ready: &mut Ready,
+) -> Result<State, DeviceFault>
+    requires placed { IsPlaced context.old 0 gathered.old }
+    requires empty { ready.old ≡ [] }
+    ensures leads { IfOk result (Leads selection.entry (Within context.old) gathered.old context.new ready.new gathered.new) }
+    ensures taken { IfOk result (IsTaken selection.entry) }
+    ensures sound { IfOk result (λ state. IsSound state context.new gathered.new) }
+    ensures context { OnErr result (context.new ≡ context.old) }
+    ensures ready { OnErr result (ready.new ≡ []) }
+    ensures held { OnErr result (gathered.new.held ≡ gathered.old.held) }
+    ensures kept { OnErr result (Keeps gathered.old.supply.rest gathered.new.supply.rest) }
+    ensures spent { Spends gathered.old.supply gathered.new.supply }
+    ensures less { IfOk result (λ next. IsLess state.Within gathered.old next gathered.new) }
+{
+    let held = gathered.held();
+    let wanted = wanted(context.order(), held);
+    let part = front(held, wanted);
+    let octets = part.len();
+    match settle(selection, context, ready, part, true) {
+        Settled::Unfinished => read_more(selection, context, gathered, ready, wanted),
+        settled => Ok(go_on(gathered, octets, settled)),
+    }
+}
+
+/// Passes over packets that aren't selected, takes the block that stands in front of what is held, or reads more of it.
 pub fn read_block<R: Input>(
     selection: Selection<'_>,
     context: &mut Context,
@@ -75,27 +173,14 @@ pub fn read_block<R: Input>(
     ensures held { OnErr result (gathered.new.held ≡ gathered.old.held) }
     ensures kept { OnErr result (Keeps gathered.old.supply.rest gathered.new.supply.rest) }
     ensures spent { Spends gathered.old.supply gathered.new.supply }
-    ensures fewer { OnOk result (gathered.new.supply.reads < gathered.old.supply.reads) }
-    ensures quiet { OnOk result (gathered.new.supply.failures ≡ gathered.old.supply.failures) }
+    ensures less { IfOk result (λ next. IsLess state.Within gathered.old next gathered.new) }
 {
-    let wanted = wanted(context.order(), gathered.held());
-    let is_more = gathered.fetch(wanted)?;
-    let held = gathered.held();
-    match settle(selection, context, ready, held, is_more) {
-        Settled::Unfinished => Ok(State::Within),
-        Settled::Long { order, size } => {
-            let left = size - SECOND_LENGTH - held.len();
-            gathered.clear();
-            Ok(State::Passing { order, size, left })
-        }
-        Settled::Taken => {
-            gathered.clear();
-            Ok(State::Within)
-        }
-        Settled::Ended => Ok(State::Over),
-        Settled::Refused(fault) => Ok(State::Faulty(fault)),
-        Settled::NoMemory => Ok(State::NoMemory),
+    let passed = context.pass_others(gathered.held());
+    if passed > 0 {
+        gathered.forget(passed);
+        return Ok(State::Within);
     }
+    take_block(selection, context, gathered, ready)
 }
 
 /// Reads what stands in front of the second length of a block that is passed over.
@@ -117,15 +202,14 @@ pub fn pass_body<R: Input>(
     ensures held { OnErr result (gathered.new.held ≡ gathered.old.held) }
     ensures kept { OnErr result (Keeps gathered.old.supply.rest gathered.new.supply.rest) }
     ensures spent { Spends gathered.old.supply gathered.new.supply }
-    ensures fewer { OnOk result (gathered.new.supply.reads < gathered.old.supply.reads) }
-    ensures quiet { OnOk result (gathered.new.supply.failures ≡ gathered.old.supply.failures) }
+    ensures less { IfOk result (λ next. IsLess (state.Passing order size left) gathered.old next gathered.new) }
 {
     let wanted = if left < LONGEST_BLOCK {
         left
     } else {
         LONGEST_BLOCK
     };
-    let is_more = gathered.fetch(wanted)?;
+    let is_more = gathered.fetch(wanted, wanted)?;
     if !is_more {
         ready.put(&[0]);
         return Ok(State::Over);
@@ -153,10 +237,9 @@ pub fn pass_end<R: Input>(
     ensures held { OnErr result (gathered.new.held ≡ gathered.old.held) }
     ensures kept { OnErr result (Keeps gathered.old.supply.rest gathered.new.supply.rest) }
     ensures spent { Spends gathered.old.supply gathered.new.supply }
-    ensures fewer { OnOk result (gathered.new.supply.reads < gathered.old.supply.reads) }
-    ensures quiet { OnOk result (gathered.new.supply.failures ≡ gathered.old.supply.failures) }
+    ensures less { IfOk result (λ next. IsLess (state.Passing order size 0) gathered.old next gathered.new) }
 {
-    let is_more = gathered.fetch(SECOND_LENGTH)?;
+    let is_more = gathered.fetch(SECOND_LENGTH, SECOND_LENGTH)?;
     let held = gathered.held();
     if !is_more {
         ready.put(&[0]);
@@ -177,7 +260,8 @@ pub fn pass_end<R: Input>(
     Ok(State::Within)
 }
 
-/// One read below, and what it brings. At the end, at a fault and in a text that is told as it is none is made here.
+/// One step: what is held brings it, or one read below. At the end, at a fault and in a text that is told as it is there is
+/// none here.
 pub fn read_on<R: Input>(
     selection: Selection<'_>,
     context: &mut Context,
@@ -196,8 +280,7 @@ pub fn read_on<R: Input>(
     ensures held { OnErr result (gathered.new.held ≡ gathered.old.held) }
     ensures kept { OnErr result (Keeps gathered.old.supply.rest gathered.new.supply.rest) }
     ensures spent { Spends gathered.old.supply gathered.new.supply }
-    ensures fewer { OnOk result (gathered.new.supply.reads < gathered.old.supply.reads) }
-    ensures quiet { OnOk result (gathered.new.supply.failures ≡ gathered.old.supply.failures) }
+    ensures less { IfOk result (λ next. IsLess state gathered.old next gathered.new) }
 {
     match state {
         State::Begun => read_magic(context, gathered, ready),

@@ -1,6 +1,6 @@
 use Rattle.std.proofs.Common.{◌≡◌, ◌≤◌, ◌∙◌, ap, arith, length, refl, sym}
 use Rattle.pcap_io.specs.Style.{number_of}
-use Rattle.pcapng_input.proofs.Leads.{closed_placed, end_faulty, end_more, end_whole, part_none}
+use Rattle.pcapng_input.proofs.Leads.{closed_placed, end_faulty, end_more, end_whole}
 use Rattle.pcapng_input.proofs.reading.pass_end.Goals as goal
 
 pub returns-then-held-lt-SECOND_LENGTH-clause-leads : goal.returns-then-held-lt-SECOND_LENGTH-clause-leads
@@ -26,8 +26,6 @@ returns-clause-leads g c =
     fetched c.clear.ensures c.requires.empty four (sym (ap (number_of c.args.order 4) same) ∙ sym c.number4.ensures ∙ c.if-number4-size.false) c.skip.ensures
 
 pub returns-clause-sound : goal.returns-clause-sound
-returns-clause-sound g c = (
-  part_none c.skip.new.self.order c.clear.new.self c.fetch.new.self c.clear.ensures,
-  closed_placed c.args.context.now c.skip.new.self c.args.size c.args.gathered.now c.fetch.new.self c.clear.new.self c.requires.sound c.in_ok-is_more.ensures.fewer c.clear.ensures
-      c.skip.ensures,
-)
+returns-clause-sound g c =
+    closed_placed c.args.context.now c.skip.new.self c.args.size c.args.gathered.now c.fetch.new.self c.clear.new.self c.requires.sound c.in_ok-is_more.ensures.fewer c.clear.ensures
+    c.skip.ensures

@@ -1,7 +1,7 @@
 use Rattle.std.proofs.Common.{◌≡◌, ◌≤◌, ◌∙◌, ap, arith, length, sym, true}
 use Rattle.std.specs.Prelude.{◌&&◌, nat_le}
 use Rattle.std.proofs.lemmas.Bool.{both_ways}
-use Rattle.pcapng_input.proofs.Leads.{first_pcapng, first_plain, part_short, placed_more}
+use Rattle.pcapng_input.proofs.Leads.{first_pcapng, first_plain, placed_more}
 use Rattle.pcapng_input.specs.Block.{is_section}
 use Rattle.pcapng_input.proofs.reading.read_magic.Goals as goal
 use Rattle.pcapng_input.proofs.reading.read_magic.Goals.{else-is_more-via-else-is_more, else-is_more-via-then-is_more+else-held-lt-MAGIC}
@@ -14,10 +14,8 @@ returns-then-is_pcapng-clause-leads g c = λ selection all.
 
 pub returns-then-is_pcapng-clause-sound : goal.returns-then-is_pcapng-clause-sound
 returns-then-is_pcapng-clause-sound g c =
-    let fits = c.in_ok-is_more.ensures.fetched.fits in (
-      part_short c.args.context.now.order c.fetch.new.self.held (omega (arith, fits)),
-      placed_more c.args.context.now 0 c.args.gathered.now c.fetch.new.self c.requires.sound.2 (omega (arith, fits)) c.in_ok-is_more.ensures.fewer,
-    )
+    let fits = c.in_ok-is_more.ensures.fetched.fits in
+    placed_more c.args.context.now 0 c.args.gathered.now c.fetch.new.self c.requires.sound.2 (omega (arith, fits)) c.in_ok-is_more.ensures.fewer
 
 pub returns-clause-leads : goal.returns-clause-leads
 returns-clause-leads g c =

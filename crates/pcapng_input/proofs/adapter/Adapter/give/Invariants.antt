@@ -1,6 +1,7 @@
 use Rattle.std.proofs.Common.{◌<◌, length}
 use Rattle.pcap_stream.specs.Supply.{Spends}
 use Rattle.pcapng_input.specs.Adapter.{KeepsTold, told}
+use Rattle.pcapng_input.specs.State.{steps_at}
 use Rattle.pcapng_input.proofs.adapter.Adapter.give.Given as goal
 
 abbrev pub invariant-loop-self : goal.invariant-loop-self
@@ -11,4 +12,4 @@ invariant-loop-self g l = record {
 }
 
 abbrev pub decreases-loop-self : goal.decreases-loop-self
-decreases-loop-self g l = l.self.below.supply.reads
+decreases-loop-self g l = steps_at l.self.stand l.self.below

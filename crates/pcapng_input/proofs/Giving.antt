@@ -1,9 +1,11 @@
 -- What is given of what is told.
-use Rattle.std.proofs.Common.{◌≡◌, ◌∙◌, refl, sym, ap, subst, ℕ, List, [], ◌∷◌, ◌++◌, length, take, arith, append_assoc, Option, None, Some, Result, Ok, Err}
+use Rattle.std.proofs.Common.{◌≡◌, ◌∙◌, refl, sym, ap, subst, ℕ, List, [], ◌∷◌, ◌++◌, length, take, drop, arith, append_assoc, Option, None, Some, Result, Ok, Err}
 use Rattle.std.specs.Prelude.{option_map}
 use Rattle.std.specs.Io.KnownBytes.{Consumes, IsAtEnd, Keeps, ReadConsumes}
-use Rattle.pcapng_input.specs.Adapted.{Over, Plain, Stand, Told, told_at, told_behind}
-use Rattle.pcapng_input.specs.Adapter.{Adapter, Gathered, IsAllTold, KeepsFault, KeepsTold, told, told_fault, told_from, told_octets}
+use Rattle.pcapng_input.specs.Adapted.{Over, Plain, Stand, Told, Within, told_at, told_behind}
+use Rattle.pcapng_input.specs.Adapter.{Adapter, Gathered, IsAllTold, KeepsFault, KeepsTold, TellsBehind, told, told_fault, told_from, told_octets}
+use Rattle.pcapng_input.specs.Front.{GivesPackets}
+use Rattle.pcapng_input.specs.Reading.{Context}
 use Rattle.pcapng_input.specs.declared.fault.PcapngFault.{PcapngFault}
 use Rattle.pcapng_input.specs.declared.interface.Selection.{Selection}
 
@@ -23,7 +25,7 @@ KeepsTold-trans (Some x) None c p q = absurd p
 KeepsTold-trans (Some x) (Some y) None p q = absurd q
 KeepsTold-trans (Some x) (Some y) (Some z) p q = q ∙ p
 
-consumes : (a b : Option Told) (c : Option (List ℕ)) (bs : List ℕ) → KeepsTold a b → Consumes (octets_of b) c bs → Consumes (octets_of a) c bs
+pub consumes : (a b : Option Told) (c : Option (List ℕ)) (bs : List ℕ) → KeepsTold a b → Consumes (octets_of b) c bs → Consumes (octets_of a) c bs
 consumes None b c bs p q = tt
 consumes (Some x) None c bs p q = absurd p
 consumes (Some x) (Some y) c bs p q = subst (λ (t : Told). Consumes (Some t.octets) c bs) p q
@@ -82,6 +84,45 @@ gives_fault selection stand below old new = by_rest below.supply.rest
     by_rest : (rest : Option (List ℕ)) → KeepsFault (fault_of (option_map (told_from a) rest)) (fault_of (option_map (told_from b) rest))
     by_rest None = tt
     by_rest (Some rest) = refl
+
+-- ---- packets are given where they lie
+
+pub tells_behind : (selection : Selection) (context new : Context) (old after : Gathered) (used : ℕ) (given : List ℕ) → GivesPackets context new old.held used given
+    → after ≡ record { held = drop used old.held; supply = old.supply }
+    → TellsBehind (told (record { selection = selection; ready = []; stand = Within context; below = old })) given
+    (told (record { selection = selection; ready = []; stand = Within new; below = after }))
+tells_behind selection context new old after used given is after_is =
+    subst (λ (g : Gathered). TellsBehind (told a) given (told (b g))) (sym after_is) (by_rest old.supply.rest)
+  where
+    a : Adapter
+    a = record { selection = selection; ready = []; stand = Within context; below = old }
+
+    b : Gathered → Adapter
+    b below = record { selection = selection; ready = []; stand = Within new; below = below }
+
+    by_rest : (rest : Option (List ℕ))
+        → TellsBehind (option_map (told_from a) rest) given (option_map (told_from (b (record { held = drop used old.held; supply = old.supply }))) rest)
+    by_rest None = tt
+    by_rest (Some rest) = is.told selection rest
+
+pub tells_none : (a : Option Told) → TellsBehind a [] a
+tells_none None = tt
+tells_none (Some x) = refl
+
+pub tells_kept : (a b : Option Told) → TellsBehind a [] b → KeepsTold a b
+tells_kept None b p = tt
+tells_kept (Some x) None p = absurd p
+tells_kept (Some x) (Some y) p = p
+
+pub tells_consumed : (a b : Option Told) (given : List ℕ) → TellsBehind a given b → Consumes (octets_of a) (octets_of b) given
+tells_consumed None b given p = tt
+tells_consumed (Some x) None given p = absurd p
+tells_consumed (Some x) (Some y) given p = sym (ap (λ (t : Told). t.octets) p)
+
+pub tells_fault : (a b : Option Told) (given : List ℕ) → TellsBehind a given b → KeepsFault (fault_of a) (fault_of b)
+tells_fault None b given p = tt
+tells_fault (Some x) None given p = absurd p
+tells_fault (Some x) (Some y) given p = ap (λ (t : Told). t.fault) p
 
 -- ---- at the end
 

@@ -13,7 +13,7 @@ use Rattle.pcapng_input.specs.Adapted.{Begun, Faulty, Over, Passing, Plain, Stan
 use Rattle.pcapng_input.specs.Adapter.{Gathered, IsFetched, KeepsTold, told}
 use Rattle.pcapng_input.specs.Block.{is_section}
 use Rattle.pcapng_input.specs.Reading.{Context, block_fault_at, packets_in, start}
-use Rattle.pcapng_input.specs.State.{IsLess, IsPart, IsPassed, IsPlaced, IsRest, IsSettled, IsSound, IsTaken, Leads, PassesOver, held_settled, state_settled, steps_of, steps_within, wanted_size}
+use Rattle.pcapng_input.specs.State.{IsLess, IsPart, IsPassed, IsPlaced, IsRest, IsSettled, IsSound, IsTaken, Leads, held_settled, state_settled, steps_of, steps_within, wanted_size}
 use Rattle.pcapng_input.specs.declared.fault.BlockFault.TheVariants.{BadLength}
 use Rattle.pcapng_input.specs.declared.fault.PcapngFault.{PcapngFault}
 use Rattle.pcapng_input.specs.declared.interface.Selection.{Selection}
@@ -99,15 +99,6 @@ pub unspent : (old new : Supply) → new ≡ old → Spends old new
 unspent old new is =
     let calls : old.calls ≡ old.calls + (old.reads - old.reads) = omega arith in
     subst (Spends old) (sym is) (record { fewer = omega arith; calls = ap (λ n. n % 2 ^ 64) calls })
-
--- packets that aren't selected were passed over
-pub block_passed : (selection : Selection) (context after : Context) (old new : Gathered) (size : ℕ) (ready : List ℕ) → ready ≡ []
-    → PassesOver context after old.held size → new ≡ record { held = drop size old.held; supply = old.supply } → Leads selection (Within context) old after ready new state.Within
-block_passed selection context after old new size ready none passes new_is =
-    still selection (Within context) (Within after) old new true ready (λ e. absurd cc) (ap (λ (g : Gathered). g.supply.rest) new_is)
-    (λ rest end. stays selection (Within after) ready (new.held ++ rest) none
-    ∙ ap (λ t. told_reading (packets_in selection after (t ++ rest))) (ap (λ (g : Gathered). g.held) new_is)
-    ∙ ap told_reading (passes.packets selection rest))
 
 -- what is made of the first octets of what is held, by what that is
 abbrev behind_of : Gathered → ℕ → Settled → Gathered

@@ -1,4 +1,5 @@
 pub mod BlockTexts
+pub mod Fronts
 pub mod Giving
 pub mod Grown
 pub mod Leading
@@ -6,7 +7,6 @@ pub mod Leads
 pub mod Limits
 pub mod Opening
 pub mod OptionLists
-pub mod Others
 pub mod Passing
 pub mod Powers
 pub mod Readings

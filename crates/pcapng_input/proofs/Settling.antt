@@ -34,7 +34,7 @@ abbrev pub Long : Bool → List ℕ → Type 0
 Long is_more held = is_more ≡ true → 12 ≤ length held
 
 -- a record that is found is told in front of those behind it
-told_found : (found : Option Record) (reading : PacketReading) → told_reading (found_before found reading) ≡ told_behind (found_text found) (told_reading reading)
+pub told_found : (found : Option Record) (reading : PacketReading) → told_reading (found_before found reading) ≡ told_behind (found_text found) (told_reading reading)
 told_found None reading = refl
 told_found (Some r) reading =
     let front = flat_map written_record reading.records in

@@ -55,6 +55,12 @@ KeepsTold None new = ⊤
 KeepsTold (Some old) None = ⊥
 KeepsTold (Some old) (Some new) = new ≡ old
 
+-- some octets of what was told are behind
+abbrev pub TellsBehind : Option Told → List ℕ → Option Told → Type 0
+TellsBehind None given new = ⊤
+TellsBehind (Some old) given None = ⊥
+TellsBehind (Some old) given (Some new) = told_behind given new ≡ old
+
 -- the fault that the octets end with stays
 abbrev pub KeepsFault : Option (Option PcapngFault) → Option (Option PcapngFault) → Type 0
 KeepsFault None new = ⊤

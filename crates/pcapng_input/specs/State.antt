@@ -1,12 +1,11 @@
 -- What the state of an adapted input means, and what it keeps to. It serves proofs.
-use Rattle.std.specs.Prelude.{◌≡◌, ◌<◌, ◌≤◌, ℕ, ◌+◌, ◌-◌, ◌*◌, ◌%◌, nat_lt, not, if◌then◌else◌, Bool, true, false, List, [], ◌++◌, length, drop, slice_get, Option, Some, None, ⊤}
+use Rattle.std.specs.Prelude.{◌≡◌, ◌<◌, ◌≤◌, ℕ, ◌+◌, ◌-◌, ◌*◌, nat_lt, if◌then◌else◌, Bool, false, List, [], ◌++◌, length, drop, Option, Some, None, ⊤}
 use Rattle.pcap_io.specs.Style.{number_of}
 use Rattle.pcap_io.specs.declared.style.Order.{Order}
 use Rattle.pcapng_input.specs.Adapted.{Begun, Faulty, Over, Passing, Plain, Stand, Told, Within, is_of_one, packets_closing, told_behind, told_reading}
 use Rattle.pcapng_input.specs.Adapter.{Gathered, KeepsTold, told}
-use Rattle.pcapng_input.specs.Block.{enhanced_packet, is_section, longest_block, order_at}
+use Rattle.pcapng_input.specs.Block.{longest_block, order_at}
 use Rattle.pcapng_input.specs.Reading.{Context, packets_in, start}
-use Rattle.pcapng_input.specs.declared.interface.Interface.{Interface}
 use Rattle.pcapng_input.specs.declared.interface.Selection.{Selection}
 use Rattle.pcapng_input.specs.declared.settle.Settled.{Settled}
 use Rattle.pcapng_input.specs.declared.settle.Settled.TheVariants as settled
@@ -56,29 +55,6 @@ pub record IsPassed (context : Context) (size left : ℕ) (below : Gathered) : T
   pub part : length below.held < 4
   pub none : 0 < left → below.held ≡ []
   pub placed : IsPlaced context (size - (left + 4)) below
-
--- an interface was described, and isn't selected
-abbrev pub is_other : Option Interface → Bool
-is_other None = false
-is_other (Some interface) = not interface.is_selected
-
--- a text begins with a whole enhanced packet block of so many octets, of an interface that isn't selected
-pub record IsOtherPacket (order : Order) (interfaces : List Interface) (text : List ℕ) (size : ℕ) : Type 0 where
-  pub section : is_section text ≡ false
-  pub kind : number_of order 4 text ≡ enhanced_packet
-  pub told : number_of order 4 (drop 4 text) ≡ size
-  pub again : number_of order 4 (drop (size - 4) text) ≡ size
-  pub long : 32 ≤ size
-  pub aligned : size % 4 ≡ 0
-  pub room : size ≤ longest_block
-  pub fits : size ≤ length text
-  pub other : is_other (slice_get interfaces (number_of order 4 (drop 8 text))) ≡ true
-
--- behind so many octets of a text stand the same packets
-pub record PassesOver (old new : Context) (text : List ℕ) (size : ℕ) : Type 0 where
-  pub blocks : new.blocks ≤ old.blocks + size
-  pub offset : new.offset ≡ old.offset + size
-  pub packets : (selection : Selection) (rest : List ℕ) → packets_in selection new (drop size text ++ rest) ≡ packets_in selection old (text ++ rest)
 
 -- a state is sound
 abbrev pub IsSound : State → Context → Gathered → Type 0

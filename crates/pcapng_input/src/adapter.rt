@@ -1,10 +1,10 @@
 //! An input of a capture below its counts.
-ghost use Rattle.std.specs.Prelude.{◌≡◌, ◌<◌, ℕ, [], Option, Some, None, min, length, option_map, IfOk, IfSome, OnOk};
+ghost use Rattle.std.specs.Prelude.{◌≡◌, ◌<◌, ◌≤◌, ℕ, [], Option, Some, None, min, length, option_map, take, IfOk, IfSome, OnOk};
 ghost use Rattle.std.specs.Io.{ReadsAtMost};
 ghost use Rattle.std.specs.Io.KnownBytes.{ReadConsumes};
 ghost use Rattle.pcap_stream.specs.Supply.{Spends};
 ghost use Rattle.pcapng_input.specs.Adapted.{is_of_one, told_text};
-ghost use Rattle.pcapng_input.specs.Adapter.{IsAllTold, KeepsFault, KeepsTold, met_fault, told, told_fault, told_octets};
+ghost use Rattle.pcapng_input.specs.Adapter.{IsAllTold, KeepsFault, KeepsTold, TellsBehind, met_fault, told, told_fault, told_octets};
 ghost use Rattle.pcapng_input.specs.State.{steps_at};
 
 use crate::context::Context;
@@ -130,10 +130,34 @@ impl<'s, R: Input> Adapter<'s, R> {
                 State::Over => return Ok(0),
                 State::NoMemory | State::Faulty(_) => return Err(DeviceFault),
                 State::Plain => return self.gathered.pass(octets),
+                State::Within => {
+                    let given = self.give_packets(octets);
+                    if given > 0 {
+                        return Ok(given);
+                    }
+                    self.advance()?;
+                }
                 _ => self.advance()?,
             }
         }
         Ok(self.ready.give(octets))
+    }
+
+    /// Gives the packets that stand whole in front of what is held, in front of a block, as far as there is room.
+    fn give_packets(&mut self, octets: &mut [u8]) -> usize
+        requires { self.old.ready ≡ [] }
+        ensures bound { result ≤ length octets.new }
+        ensures told { TellsBehind (told self.old) (take result octets.new) (told self.new) }
+        ensures spent { Spends self.old.below.supply self.new.below.supply }
+        ensures steps { steps_at self.new.stand self.new.below ≤ steps_at self.old.stand self.old.below }
+        ensures ready { self.new.ready ≡ [] }
+    {
+        let State::Within = self.state else {
+            return 0;
+        };
+        let done = self.context.give_packets(self.gathered.held(), octets);
+        self.gathered.forget(done.used);
+        done.given
     }
 
     /// One step: what is held brings it, or one read below.

@@ -1,23 +1,31 @@
 //! What is known in front of a block.
-ghost use Rattle.std.specs.Prelude.{◌≡◌, ◌≤◌, ◌<◌, ◌+◌, ◌^◌, length, None, IfOk, IfErr, IfSome, OnErr, OnOk, Ok, Err};
+ghost use Rattle.std.specs.Prelude.{◌≡◌, ◌≤◌, ◌<◌, ◌+◌, ◌^◌, length, take, None, IfOk, IfErr, IfSome, OnErr, OnOk, Ok, Err};
 ghost use Rattle.pcap_io.specs.Record.{IsWithinLimits};
 ghost use Rattle.pcapng_input.specs.Adapted.{behind_other};
 ghost use Rattle.pcapng_input.specs.Context.{IsStepError};
 ghost use Rattle.pcapng_input.specs.Meaning.{IsMeantWithinLimits, block_meaning};
 ghost use Rattle.pcapng_input.specs.Reading.{block_fault_at, context_behind, record_meant, start, step_of};
-ghost use Rattle.pcapng_input.specs.State.{PassesOver};
+ghost use Rattle.pcapng_input.specs.Front.{GivesPackets};
 
 use crate::block::Block;
 use crate::fault::{BlockFault, PcapngError, PcapngFault};
+use crate::front::{FrontPacket, front_packet};
 use crate::interface::{Interface, Selection};
 use crate::meaning::{BlockMeaning, block_meaning};
-use crate::other::other_packet;
+use crate::ready::put_record;
 use pcap_io::{Order, Record};
 use std::alloc::{AllocError, Global};
 use std::marker::Model;
 
 /// The octets of a block that aren't its body.
 const AROUND_BODY: u64 = 12;
+
+/// How many octets of a text were used, and how many were given.
+#[derive(Clone, Copy)]
+pub struct Given {
+    pub used: usize,
+    pub given: usize,
+}
 
 /// What is known in front of a block: its section, the packet before it, and its place.
 #[derive(Drop)]
@@ -90,24 +98,39 @@ impl Context {
         self.offset += size;
     }
 
-    /// Goes on behind the packets that a text begins with and that aren't selected, as far as they are told by themselves,
-    /// and says how many octets they take.
-    pub fn pass_others(&mut self, text: &[u8]) -> usize
+    /// Gives the packets that a text begins with as records, as far as they stand whole there and have room, and passes over
+    /// those that aren't selected.
+    #[inline(always)]
+    pub fn give_packets(&mut self, text: &[u8], room: &mut [u8]) -> Given
         requires blocks { self.old.blocks + length text.now < 2 ^ 64 }
         requires offset { self.old.offset + length text.now < 2 ^ 64 }
-        ensures fits { result ≤ length text.now }
-        ensures passes { PassesOver self.old self.new text.now result }
-        ensures none { result ≡ 0 → self.new ≡ self.old }
+        ensures used { result.used ≤ length text.now }
+        ensures given { result.given ≤ length room.new }
+        ensures gives { GivesPackets self.old self.new text.now result.used (take result.given room.new) }
     {
+        let mut done = Given { used: 0, given: 0 };
         let Some(order) = self.order else {
-            return 0;
+            return done;
         };
-        let mut at = 0;
-        while let Some(size) = other_packet(order, self.interfaces.as_slice(), &text[at..]) {
-            self.skip(size as u64);
-            at += size;
+        loop {
+            let rest = &text[done.used..];
+            match front_packet(order, self.interfaces.as_slice(), self.last, rest) {
+                FrontPacket::Other(size) => {
+                    self.skip(size as u64);
+                    done.used += size;
+                }
+                FrontPacket::Selected(size, packet) => {
+                    let Some(end) = put_record(room, done.given, &packet) else {
+                        return done;
+                    };
+                    self.last = packet.moment;
+                    self.skip(size as u64);
+                    done.used += size;
+                    done.given = end;
+                }
+                FrontPacket::Unknown => return done,
+            }
         }
-        at
     }
 
     /// What the block that stands here means.

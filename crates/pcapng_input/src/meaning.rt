@@ -83,7 +83,7 @@ fn interface_in<'a>(
 }
 
 /// The octets of a packet, behind a head of this length.
-fn behind_head<'a>(body: &'a [u8], head: usize) -> &'a [u8]
+pub fn behind_head<'a>(body: &'a [u8], head: usize) -> &'a [u8]
     requires { head ≤ length body.now }
     ensures { result.now ≡ drop head body.now }
 {

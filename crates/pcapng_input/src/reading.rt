@@ -128,7 +128,7 @@ fn read_more<R: Input>(
 }
 
 /// Takes the block that stands in front of what is held, or reads more of it.
-fn take_block<R: Input>(
+pub fn take_block<R: Input>(
     selection: Selection<'_>,
     context: &mut Context,
     gathered: &mut Gathered<R>,
@@ -154,33 +154,6 @@ fn take_block<R: Input>(
         Settled::Unfinished => read_more(selection, context, gathered, ready, wanted),
         settled => Ok(go_on(gathered, octets, settled)),
     }
-}
-
-/// Passes over packets that aren't selected, takes the block that stands in front of what is held, or reads more of it.
-pub fn read_block<R: Input>(
-    selection: Selection<'_>,
-    context: &mut Context,
-    gathered: &mut Gathered<R>,
-    ready: &mut Ready,
-) -> Result<State, DeviceFault>
-    requires sound { IsSound state.Within context.old gathered.old }
-    requires empty { ready.old ≡ [] }
-    ensures leads { IfOk result (Leads selection.entry (Within context.old) gathered.old context.new ready.new gathered.new) }
-    ensures taken { IfOk result (IsTaken selection.entry) }
-    ensures sound { IfOk result (λ state. IsSound state context.new gathered.new) }
-    ensures context { OnErr result (context.new ≡ context.old) }
-    ensures ready { OnErr result (ready.new ≡ []) }
-    ensures held { OnErr result (gathered.new.held ≡ gathered.old.held) }
-    ensures kept { OnErr result (Keeps gathered.old.supply.rest gathered.new.supply.rest) }
-    ensures spent { Spends gathered.old.supply gathered.new.supply }
-    ensures less { IfOk result (λ next. IsLess state.Within gathered.old next gathered.new) }
-{
-    let passed = context.pass_others(gathered.held());
-    if passed > 0 {
-        gathered.forget(passed);
-        return Ok(State::Within);
-    }
-    take_block(selection, context, gathered, ready)
 }
 
 /// Reads what stands in front of the second length of a block that is passed over.
@@ -284,7 +257,7 @@ pub fn read_on<R: Input>(
 {
     match state {
         State::Begun => read_magic(context, gathered, ready),
-        State::Within => read_block(selection, context, gathered, ready),
+        State::Within => take_block(selection, context, gathered, ready),
         State::Passing { order, size, left } => {
             if left > 0 {
                 return pass_body(context, gathered, ready, order, size, left);

@@ -1,8 +1,11 @@
 //! Octets that are ready to be given.
-ghost use Rattle.std.specs.Prelude.{◌≡◌, ◌≤◌, ◌<◌, ◌+◌, ◌++◌, [], length, nat_eq, take, IfOk, OnErr, OnOk};
-ghost use Rattle.pcap_io.specs.Record.{longest};
+ghost use Rattle.std.specs.Prelude.{◌≡◌, ◌≤◌, ◌<◌, ◌+◌, ◌++◌, [], length, nat_eq, take, IfNone, IfOk, IfSome, OnErr, OnOk};
+ghost use Rattle.pcap_io.specs.Record.{IsWithinLimits, longest};
+ghost use Rattle.pcap_io.specs.Written.{written_record};
 
+use crate::classic::record_head;
 use crate::room::lengthen;
+use pcap_io::{RECORD_HEADER_LENGTH, Record};
 use std::alloc::{AllocError, Global};
 use std::marker::Model;
 
@@ -36,6 +39,24 @@ fn put_behind(room: &mut [u8], at: usize, text: &[u8]) -> usize
     let end = at + text.len();
     room[at..end].copy_from_slice(text);
     end
+}
+
+/// Puts a record behind the first `at` octets of a room, and says where it ends. None: there is no room for it.
+#[inline(always)]
+pub fn put_record(room: &mut [u8], at: usize, packet: &Record<'_>) -> Option<usize>
+    requires at { at ≤ length room.old }
+    requires limits { IsWithinLimits packet.now }
+    ensures fits { IfSome result (λ end. end ≤ length room.new) }
+    ensures text { IfSome result (λ end. take end room.new ≡ take at room.old ++ written_record packet.now) }
+    ensures none { IfNone result (room.new ≡ room.old) }
+{
+    let captured = packet.octets.len();
+    if room.len() - at < RECORD_HEADER_LENGTH + captured {
+        return None;
+    }
+    let header = record_head(packet.moment, captured as u32, packet.original);
+    let middle = put_behind(room, at, &header);
+    Some(put_behind(room, middle, packet.octets))
 }
 
 /// Copies the first octets of a text, as many as there is room for, and says how many.

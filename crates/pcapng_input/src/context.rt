@@ -1,5 +1,5 @@
 //! What is known in front of a block.
-ghost use Rattle.std.specs.Prelude.{◌≡◌, ◌≤◌, ◌<◌, ◌+◌, ◌^◌, length, take, None, IfOk, IfErr, IfSome, OnErr, OnOk, Ok, Err};
+ghost use Rattle.std.specs.Prelude.{◌≡◌, ◌≤◌, ◌<◌, ◌+◌, ◌^◌, length, take, None, Some, IfOk, IfErr, IfSome, OnErr, OnOk, Ok, Err};
 ghost use Rattle.pcap_io.specs.Record.{IsWithinLimits};
 ghost use Rattle.pcapng_input.specs.Adapted.{behind_other};
 ghost use Rattle.pcapng_input.specs.Context.{IsStepError};
@@ -108,10 +108,25 @@ impl Context {
         ensures given { result.given ≤ length room.new }
         ensures gives { GivesPackets self.old self.new text.now result.used (take result.given room.new) }
     {
+        // a loop for each byte order
+        match self.order {
+            Some(Order::Little) => self.give_in(Order::Little, text, room),
+            Some(Order::Big) => self.give_in(Order::Big, text, room),
+            None => Given { used: 0, given: 0 },
+        }
+    }
+
+    /// The same in a section of this byte order.
+    #[inline(always)]
+    fn give_in(&mut self, order: Order, text: &[u8], room: &mut [u8]) -> Given
+        requires order { self.old.order ≡ Some order }
+        requires blocks { self.old.blocks + length text.now < 2 ^ 64 }
+        requires offset { self.old.offset + length text.now < 2 ^ 64 }
+        ensures used { result.used ≤ length text.now }
+        ensures given { result.given ≤ length room.new }
+        ensures gives { GivesPackets self.old self.new text.now result.used (take result.given room.new) }
+    {
         let mut done = Given { used: 0, given: 0 };
-        let Some(order) = self.order else {
-            return done;
-        };
         loop {
             let rest = &text[done.used..];
             match front_packet(order, self.interfaces.as_slice(), self.last, rest) {

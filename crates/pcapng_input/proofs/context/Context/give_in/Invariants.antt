@@ -1,6 +1,6 @@
 use Rattle.std.proofs.Common.{◌≡◌, ◌≤◌, ◌-◌, Some, length, take}
 use Rattle.pcapng_input.specs.Front.{GivesPackets}
-use Rattle.pcapng_input.proofs.context.Context.give_packets.Given as goal
+use Rattle.pcapng_input.proofs.context.Context.give_in.Given as goal
 
 abbrev pub invariant-loop-size : goal.invariant-loop-size
 invariant-loop-size l = record {

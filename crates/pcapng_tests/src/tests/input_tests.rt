@@ -267,3 +267,14 @@ fn goes_on_behind_a_read_that_failed(rt: HostRuntime) -> Result<(), Fail> {
     }
     Ok(())
 }
+
+/// The first read tells the format, the second takes all, and the third fails: no octet that was read waits for it.
+#[test]
+fn tells_what_was_read_in_front_of_a_read_that_failed(rt: HostRuntime) -> Result<(), Fail> {
+    let mut input = opened(rt.alloc(), EDITED, Selection::All, 1_000_000, 3)?;
+    let mut told = Vec::new(rt.alloc());
+    let has_ended = read_on(rt.alloc(), &mut input, &mut told, 4096)?;
+    assert!(rt; !has_ended);
+    assert!(rt; told.as_slice() == EDITED_CLASSIC);
+    Ok(())
+}

@@ -1,3 +1,4 @@
+pub mod Marks
 pub mod Splits
 pub mod Decimals
 pub mod Fronts

@@ -1,7 +1,9 @@
 -- The first space of a text.
-use Rattle.std.proofs.Common.{◌≡◌, ◌≢◌, ℕ, zero, suc, ◌+◌, ◌<◌, ◌≤◌, All, Bool, true, false, cond, eqb, List, [], ◌∷◌, length, take, drop, get_or, refl, ap, ◌∙◌, arith}
+use Rattle.std.proofs.Common.{◌≡◌, ◌≢◌, ℕ, zero, suc, ◌+◌, ◌-◌, ◌<◌, ◌≤◌, All, Bool, true, false, cond, eqb, List, [], ◌∷◌, length, take, drop, get_or, refl, sym, ap, ◌∙◌, arith}
 use Rattle.std.proofs.lemmas.Bool.{eq-eqb, ne_eqb, cond-true, cond-false}
-use Rattle.std.proofs.lemmas.List.Elements.{All-head, All-tail}
+use Rattle.std.proofs.lemmas.List.{drop-drop, get_or-drop, length-drop}
+use Rattle.std.proofs.lemmas.List.Elements.{All-from_get_or, All-head, All-tail}
+use Rattle.line_words.specs.Places.{IsFirst, LacksFrom}
 use Rattle.line_words.specs.Words.{word, behind}
 
 -- the character isn't that one
@@ -32,6 +34,35 @@ behind_at (c ∷ cs) zero inside here before = cond-true _ _ _ (eq-eqb c 32 here
 behind_at (c ∷ cs) (suc i) inside here before =
     let next : suc i + 1 ≡ suc (i + 1) = omega arith in
     rw next (cond-false _ _ _ (ne_eqb c 32 (before 0 (omega arith))) ∙ behind_at cs i (omega arith) here (λ k lt. before (suc k) (omega arith)))
+
+-- ---- the first space from a place on
+
+none_from : (text : List ℕ) (from : ℕ) → LacksFrom 32 text from → All (IsNot 32) (drop from text)
+none_from text from lacks =
+    All-from_get_or (IsNot 32) (drop from text) 0
+    (λ k lt e. lacks (from + k) (omega arith) (omega (arith, lt, length-drop from text)) (sym (get_or-drop from text k 0) ∙ e))
+
+pub word_lacks : (text : List ℕ) (from : ℕ) → LacksFrom 32 text from → word (drop from text) ≡ drop from text
+word_lacks text from lacks = word_none (drop from text) (none_from text from lacks)
+
+pub behind_lacks : (text : List ℕ) (from : ℕ) → LacksFrom 32 text from → behind (drop from text) ≡ []
+behind_lacks text from lacks = behind_none (drop from text) (none_from text from lacks)
+
+pub word_found : (text : List ℕ) (from at : ℕ) → IsFirst 32 text from at → word (drop from text) ≡ take (at - from) (drop from text)
+word_found text from at first =
+    let there : from + (at - from) ≡ at = omega (arith, first.low) in
+    word_at (drop from text) (at - from) (omega (arith, length-drop from text, first.inside, first.low))
+    (get_or-drop from text (at - from) 0 ∙ ap (λ k. get_or text k 0) there ∙ first.here)
+    (λ k lt e. first.before (from + k) (omega arith) (omega (arith, lt)) (sym (get_or-drop from text k 0) ∙ e))
+
+pub behind_found : (text : List ℕ) (from at : ℕ) → IsFirst 32 text from at → behind (drop from text) ≡ drop (at + 1) text
+behind_found text from at first =
+    let there : from + (at - from) ≡ at = omega (arith, first.low) in
+    let next : from + (at - from + 1) ≡ at + 1 = omega (arith, first.low) in
+    behind_at (drop from text) (at - from) (omega (arith, length-drop from text, first.inside, first.low))
+    (get_or-drop from text (at - from) 0 ∙ ap (λ k. get_or text k 0) there ∙ first.here)
+    (λ k lt e. first.before (from + k) (omega arith) (omega (arith, lt)) (sym (get_or-drop from text k 0) ∙ e))
+    ∙ drop-drop (at - from + 1) from text ∙ ap (λ k. drop k text) next
 
 -- ---- shorter
 

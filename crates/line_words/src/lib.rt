@@ -6,8 +6,10 @@
 
 mod laws;
 mod number;
+mod place;
 mod words;
 
 pub use laws::{decimals_read_back, numbers_are_decimals};
 pub use number::number_of;
+pub use place::first_place;
 pub use words::{behind_word, first_word};

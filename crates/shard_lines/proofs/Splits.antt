@@ -1,9 +1,12 @@
 -- Words of a text, one at a time.
-use Rattle.std.proofs.Common.{◌≡◌, ◌≢◌, ℕ, zero, suc, ◌<◌, All, Bool, true, false, cond, eqb, List, [], ◌∷◌, length, take, get_or, Some, None, option_map, ap, refl, ◌∙◌, arith}
+use Rattle.std.proofs.Common.{◌≡◌, ◌≢◌, ℕ, zero, suc, ◌+◌, ◌-◌, ◌<◌, All, Bool, true, false, cond, eqb, List, [], ◌∷◌, length, take, drop, get_or, Some, None, option_map, ap, ap₂, refl, sym, ◌∙◌, arith}
 use Rattle.std.specs.Prelude.{◌&&◌}
-use Rattle.std.specs.List.{filter_map, cons_option, list_all}
+use Rattle.std.specs.List.{filter_map, cons_option, count_by, list_all}
 use Rattle.std.proofs.lemmas.Bool.{eq-eqb, ne_eqb, cond-true, cond-false}
-use Rattle.std.proofs.lemmas.List.Elements.{All-head, All-tail}
+use Rattle.std.proofs.lemmas.List.{drop-drop, get_or-drop, length-drop}
+use Rattle.std.proofs.lemmas.List.Elements.{All-from_get_or, All-head, All-tail}
+use Rattle.std.proofs.lemmas.List.Sums.{sum_by-cons}
+use Rattle.line_words.specs.Places.{IsFirst, LacksFrom}
 use Rattle.timeline.specs.declared.source.Tap.{Tap}
 use Rattle.line_words.specs.Words.{word, behind}
 use Rattle.line_words.proofs.Splits.{IsNot}
@@ -22,6 +25,53 @@ before_at [] i inside here before = absurd (omega arith)
 before_at (c ∷ cs) zero inside here before = cond-true _ _ _ (eq-eqb c 61 here)
 before_at (c ∷ cs) (suc i) inside here before =
     cond-false _ _ _ (ne_eqb c 61 (before 0 (omega arith))) ∙ ap (option_map (λ w. c ∷ w)) (before_at cs i (omega arith) here (λ k lt. before (suc k) (omega arith)))
+
+pub equals_lacks : (text : List ℕ) (from : ℕ) → LacksFrom 61 text from → before_equals (drop from text) ≡ None
+equals_lacks text from lacks =
+    before_none (drop from text)
+    (All-from_get_or (IsNot 61) (drop from text) 0 (λ k lt e. lacks (from + k) (omega arith) (omega (arith, lt, length-drop from text)) (sym (get_or-drop from text k 0) ∙ e)))
+
+pub equals_found : (text : List ℕ) (from at : ℕ) → IsFirst 61 text from at → before_equals (drop from text) ≡ Some (take (at - from) (drop from text))
+equals_found text from at first =
+    let there : from + (at - from) ≡ at = omega (arith, first.low) in
+    before_at (drop from text) (at - from) (omega (arith, length-drop from text, first.inside, first.low))
+    (get_or-drop from text (at - from) 0 ∙ ap (λ k. get_or text k 0) there ∙ first.here)
+    (λ k lt e. first.before (from + k) (omega arith) (omega (arith, lt)) (sym (get_or-drop from text k 0) ∙ e))
+
+-- ---- the spaces
+
+no_spaces : (text : List ℕ) → All (IsNot 32) text → count_by (λ c. eqb c 32) text ≡ 0
+no_spaces [] none = refl
+no_spaces (c ∷ cs) none =
+    sum_by-cons (λ x. cond (eqb x 32) 1 0) c cs
+    ∙ ap₂ (λ x y. x + y) (cond-false _ _ _ (ne_eqb c 32 (All-head (IsNot 32) c cs none))) (no_spaces cs (All-tail (IsNot 32) c cs none))
+
+one_space : (text : List ℕ) (i : ℕ) → i < length text → get_or text i 0 ≡ 32 → ((k : ℕ) → k < i → get_or text k 0 ≢ 32)
+    → count_by (λ c. eqb c 32) text ≡ 1 + count_by (λ c. eqb c 32) (drop (suc i) text)
+one_space [] i inside here before = absurd (omega arith)
+one_space (c ∷ cs) zero inside here before =
+    sum_by-cons (λ x. cond (eqb x 32) 1 0) c cs ∙ ap (λ n. n + count_by (λ x. eqb x 32) cs) (cond-true _ _ _ (eq-eqb c 32 here))
+one_space (c ∷ cs) (suc i) inside here before =
+    let first = sum_by-cons (λ x. cond (eqb x 32) 1 0) c cs in
+    let none = cond-false {A = ℕ} (eqb c 32) 1 0 (ne_eqb c 32 (before 0 (omega arith))) in
+    let more = one_space cs i (omega arith) here (λ k lt. before (suc k) (omega arith)) in
+    omega (arith, first, none, more)
+
+pub spaces_lacks : (text : List ℕ) (from : ℕ) → LacksFrom 32 text from → count_by (λ c. eqb c 32) (drop from text) ≡ 0
+spaces_lacks text from lacks =
+    no_spaces (drop from text)
+    (All-from_get_or (IsNot 32) (drop from text) 0 (λ k lt e. lacks (from + k) (omega arith) (omega (arith, lt, length-drop from text)) (sym (get_or-drop from text k 0) ∙ e)))
+
+pub spaces_found : (text : List ℕ) (from at : ℕ) → IsFirst 32 text from at
+    → count_by (λ c. eqb c 32) (drop from text) ≡ count_by (λ c. eqb c 32) (drop (at + 1) text) + 1
+spaces_found text from at first =
+    let there : from + (at - from) ≡ at = omega (arith, first.low) in
+    let next : from + suc (at - from) ≡ at + 1 = omega (arith, first.low) in
+    let one = one_space (drop from text) (at - from) (omega (arith, length-drop from text, first.inside, first.low))
+    (get_or-drop from text (at - from) 0 ∙ ap (λ k. get_or text k 0) there ∙ first.here)
+    (λ k lt e. first.before (from + k) (omega arith) (omega (arith, lt)) (sym (get_or-drop from text k 0) ∙ e)) in
+    let same = ap (count_by (λ c. eqb c 32)) (drop-drop (suc (at - from)) from text ∙ ap (λ k. drop k text) next) in
+    omega (arith, one, same)
 
 -- ---- a word at a time
 

@@ -1,10 +1,11 @@
 //! What a line tells.
 ghost use Rattle.std.specs.Prelude.{◌≡◌, Some};
-ghost use Rattle.shard_lines.specs.Facts.{event_of, facts_of, result_in, told_in};
+ghost use Rattle.shard_lines.specs.Facts.{event_of, facts_of, told_in};
 
 use crate::fault::LineFault;
 use crate::places::{Places, has_places};
-use line_words::{behind_word, first_word, number_of};
+use crate::words::result_at;
+use line_words::{first_word, number_of};
 
 /// What a decision line tells of its event.
 #[derive(Debug, Drop)]
@@ -48,23 +49,11 @@ fn read_fields(line: &[u8]) -> Result<LineFacts<'_>, LineFault>
 fn read_event(number: u64, line: &[u8]) -> Result<LineFacts<'_>, LineFault>
     ensures { result ≡ event_of line.now (Some number) }
 {
-    if line.iter().filter(|c| **c == b' ').count() < 5 {
+    let Some(at) = result_at(line) else {
         return Err(LineFault::Fields);
-    }
-    let text = result_in(line);
-    if !has_places(text) {
+    };
+    if !has_places(line, at) {
         return Err(LineFault::Place);
     }
-    Ok(LineFacts::Event(number, Places::of(text)))
-}
-
-/// What stands behind five spaces.
-fn result_in(line: &[u8]) -> &[u8]
-    ensures { result.now ≡ result_in line.now }
-{
-    let moment = behind_word(line);
-    let source = behind_word(moment);
-    let number = behind_word(source);
-    let segment = behind_word(number);
-    behind_word(segment)
+    Ok(LineFacts::Event(number, Places::of(line, at)))
 }

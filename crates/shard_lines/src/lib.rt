@@ -9,6 +9,7 @@ mod facts;
 mod fault;
 mod laws;
 mod places;
+mod words;
 
 pub use facts::{LineFacts, read_line};
 pub use fault::LineFault;

@@ -1,93 +1,115 @@
 //! The places that a line tells.
-ghost use Rattle.std.specs.Prelude.{◌≡◌, [], ◌∷◌, MatchOption, Some};
+ghost use Rattle.std.specs.Prelude.{◌≡◌, ◌≤◌, [], ◌∷◌, MatchOption, None, Some, drop, length, take};
 ghost use Rattle.shard_lines.specs.Sent.{has_places, is_sound, port_at, sent_by, sent_in, tap_of};
+ghost use Rattle.shard_lines.specs.Words.{before_equals};
 
-use line_words::{first_word, number_of};
+use crate::words::word_end;
+use line_words::{first_place, number_of};
 use std::marker::Model;
 use timeline::Tap;
 
 /// The places where an event was sent and that weren't handed out yet, in order; seen by contracts as their list.
 #[derive(Debug, Drop)]
 pub struct Places<'a> {
-    /// Words of a result.
-    rest: &'a [u8],
+    /// A line without its end.
+    line: &'a [u8],
+    /// Where the words of its result begin that weren't read yet.
+    at: usize,
 }
 
 impl<'a> Model for Places<'a> {
-    ghost use Rattle.std.specs.Prelude.{List};
+    ghost use Rattle.std.specs.Prelude.{List, drop};
     ghost use Rattle.timeline.specs.declared.source.Tap.{Tap};
     ghost use Rattle.shard_lines.specs.Sent.{sent_in};
 
     ghost Value = { List Tap };
 
-    ghost view = { λ p. sent_in p.rest.now };
+    ghost view = { λ p. sent_in (drop p.at p.line.now) };
 }
 
 impl<'a> Places<'a> {
-    /// Those of the result of a line.
-    pub(crate) fn of(text: &'a [u8]) -> Places<'a>
-        ensures { result ≡ sent_in text.entry.now }
+    /// Those of the result of a line, which begins there.
+    #[inline]
+    pub(crate) fn of(line: &'a [u8], at: usize) -> Places<'a>
+        ensures { result ≡ sent_in (drop at line.entry.now) }
     {
-        Places { rest: text }
+        Places { line, at }
     }
 
     /// Hands out the next place, or none behind the last.
     pub fn next_place(&mut self) -> Option<Tap>
         ensures { MatchOption result ((self.old ≡ []) × (self.new ≡ [])) (λ tap. self.old ≡ tap ∷ self.new) }
     {
-        let (found, rest) = next_in(self.rest);
-        self.rest = rest;
+        let (found, behind) = next_in(self.line, self.at);
+        self.at = behind;
         found
     }
 }
 
-/// The first place of a result, and what stands behind it; none where it has no place.
-#[tactic(auto, using(crate::proofs::Splits::sent_found, crate::proofs::Splits::sent_skipped, line_words::proofs::Splits::behind_shorter))]
-fn next_in(text: &[u8]) -> (Option<Tap>, &[u8])
-    ensures { MatchOption result.0 ((sent_in text.now ≡ []) × (sent_in result.1.now ≡ [])) (λ tap. sent_in text.now ≡ tap ∷ sent_in result.1.now) }
+/// The first place of a result, which begins there, and where what stands behind it begins; none where it has no place.
+#[tactic(auto, using(crate::proofs::Splits::sent_found, crate::proofs::Splits::sent_skipped))]
+fn next_in(line: &[u8], from: usize) -> (Option<Tap>, usize)
+    ensures { MatchOption result.0 ((sent_in (drop from line.now) ≡ []) × (sent_in (drop result.1 line.now) ≡ [])) (λ tap. sent_in (drop from line.now) ≡ tap ∷ sent_in (drop result.1 line.now)) }
 {
-    let mut rest = text;
-    while !rest.is_empty() {
-        let (word, behind) = first_word(rest);
-        rest = behind;
-        if let Some(tap) = sent_by(word) {
-            return (Some(tap), rest);
+    let mut at = from;
+    while at < line.len() {
+        let end = word_end(line, at);
+        let found = sent_by(&line[..end], at);
+        at = end + 1;
+        if let Some(tap) = found {
+            return (Some(tap), at);
         }
     }
-    (None, rest)
+    (None, at)
 }
 
-/// Where a word of a result says that a frame was sent.
-fn sent_by(word: &[u8]) -> Option<Tap>
-    ensures { result ≡ sent_by word.now }
+/// Where the last word of a text, which begins there, says that a frame was sent.
+fn sent_by(text: &[u8], from: usize) -> Option<Tap>
+    requires { from ≤ length text.now }
+    ensures { result ≡ sent_by (drop from text.now) }
 {
-    let end = word.iter().position(|c| *c == b'=')?;
-    tap_of(&word[..end])
+    tap_of(place_in(text, from)?)
 }
 
-/// Whether each word of a result with a `=` in it has a place before that.
-#[tactic(auto, using(crate::proofs::Splits::places_step, line_words::proofs::Splits::behind_shorter))]
-pub(crate) fn has_places(text: &[u8]) -> bool
-    ensures { result ≡ has_places text.now }
+/// Whether each word of a result, which begins there, with a `=` in it has a place before that.
+#[tactic(auto, using(crate::proofs::Splits::places_step))]
+pub(crate) fn has_places(line: &[u8], from: usize) -> bool
+    ensures { result ≡ has_places (drop from line.now) }
 {
-    let mut rest = text;
-    while !rest.is_empty() {
-        let (word, behind) = first_word(rest);
-        if !is_sound(word) {
+    let mut at = from;
+    while at < line.len() {
+        let end = word_end(line, at);
+        if !is_sound(&line[..end], at) {
             return false;
         }
-        rest = behind;
+        at = end + 1;
     }
     true
 }
 
-/// Whether a word has a place before its `=`, where it has one.
-fn is_sound(word: &[u8]) -> bool
-    ensures { result ≡ is_sound word.now }
+/// Whether the last word of a text, which begins there, has a place before its `=`, where it has one. Only one that begins
+/// with a `p` or the `=` can be without.
+fn is_sound(text: &[u8], from: usize) -> bool
+    requires { from ≤ length text.now }
+    ensures { result ≡ is_sound (drop from text.now) }
 {
-    match word.iter().position(|c| *c == b'=') {
-        Some(end) => tap_of(&word[..end]).is_some(),
-        None => true,
+    match &text[from..] {
+        [b'p' | b'=', ..] => match place_in(text, from) {
+            Some(place) => tap_of(place).is_some(),
+            None => true,
+        },
+        _ => true,
+    }
+}
+
+/// What stands before the first `=` of the last word of a text, which begins there.
+fn place_in(text: &[u8], from: usize) -> Option<&[u8]>
+    requires { from ≤ length text.now }
+    ensures { MatchOption result (before_equals (drop from text.now) ≡ None) (λ place. before_equals (drop from text.now) ≡ Some place.now) }
+{
+    match first_place(b'=', text, from) {
+        Some(end) => Some(&text[from..end]),
+        None => None,
     }
 }
 

@@ -1,9 +1,9 @@
-use Rattle.std.proofs.Common.{◌≡◌, length}
+use Rattle.std.proofs.Common.{◌≡◌, ◌-◌, drop, length}
 use Rattle.shard_lines.specs.Sent.{has_places}
 use Rattle.shard_lines.proofs.places.has_places.Given as goal
 
-abbrev pub invariant-loop-rest : goal.invariant-loop-rest
-invariant-loop-rest l = has_places l.rest ≡ has_places l.text
+abbrev pub invariant-loop-at : goal.invariant-loop-at
+invariant-loop-at l = has_places (drop l.at l.line) ≡ has_places (drop l.from l.line)
 
-abbrev pub decreases-loop-rest : goal.decreases-loop-rest
-decreases-loop-rest l = length l.rest
+abbrev pub decreases-loop-at : goal.decreases-loop-at
+decreases-loop-at l = length l.line - l.at

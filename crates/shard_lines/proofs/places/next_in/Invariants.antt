@@ -1,9 +1,9 @@
-use Rattle.std.proofs.Common.{◌≡◌, length}
+use Rattle.std.proofs.Common.{◌≡◌, ◌-◌, drop, length}
 use Rattle.shard_lines.specs.Sent.{sent_in}
 use Rattle.shard_lines.proofs.places.next_in.Given as goal
 
-abbrev pub invariant-loop-rest : goal.invariant-loop-rest
-invariant-loop-rest l = sent_in l.rest ≡ sent_in l.text
+abbrev pub invariant-loop-at : goal.invariant-loop-at
+invariant-loop-at l = sent_in (drop l.at l.line) ≡ sent_in (drop l.from l.line)
 
-abbrev pub decreases-loop-rest : goal.decreases-loop-rest
-decreases-loop-rest l = length l.rest
+abbrev pub decreases-loop-at : goal.decreases-loop-at
+decreases-loop-at l = length l.line - l.at

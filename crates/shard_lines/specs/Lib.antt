@@ -1,4 +1,5 @@
 pub mod Words
 pub mod Sent
 pub mod Facts
+pub mod Parts
 pub mod ReadBack

@@ -1,11 +1,10 @@
 //! What a line tells.
-ghost use Rattle.std.specs.Prelude.{◌≡◌, Some};
-ghost use Rattle.shard_lines.specs.Facts.{event_of, facts_of, told_in};
+ghost use Rattle.std.specs.Prelude.{◌≡◌};
+ghost use Rattle.shard_lines.specs.Facts.{facts_of};
 
 use crate::fault::LineFault;
-use crate::places::{Places, has_places};
-use crate::words::result_at;
-use line_words::{first_word, number_of};
+use crate::parts::{LineParts, find_parts};
+use crate::places::Places;
 
 /// What a decision line tells of its event.
 #[derive(Debug, Drop)]
@@ -21,39 +20,14 @@ pub enum LineFacts<'a> {
 ///
 /// Errors: `NoEnd` without a line feed at the end, else `Number` where the first word is no number, else `Fields` for
 /// fewer than six fields, else `Place` where a word with a `=` has no place before that.
-#[tactic(auto, unfolding(crate::specs::Facts::facts_of))]
 pub fn read_line(text: &[u8]) -> Result<LineFacts<'_>, LineFault>
     ensures { result ≡ facts_of text.now }
 {
-    match text {
-        [line @ .., b'\n'] => read_fields(line),
-        _ => Err(LineFault::NoEnd),
+    match find_parts(text) {
+        Ok(LineParts::Event(number, at)) => {
+            Ok(LineFacts::Event(number, Places::behind(text, at)))
+        }
+        Ok(LineParts::Cut) => Ok(LineFacts::Cut),
+        Err(fault) => Err(fault),
     }
-}
-
-/// Reads a line without its end.
-fn read_fields(line: &[u8]) -> Result<LineFacts<'_>, LineFault>
-    ensures { result ≡ told_in line.now }
-{
-    let (first, _) = first_word(line);
-    if first == b"cut".as_slice() {
-        return Ok(LineFacts::Cut);
-    }
-    match number_of(first) {
-        Some(number) => read_event(number, line),
-        None => Err(LineFault::Number),
-    }
-}
-
-/// Reads the line of the event of this number.
-fn read_event(number: u64, line: &[u8]) -> Result<LineFacts<'_>, LineFault>
-    ensures { result ≡ event_of line.now (Some number) }
-{
-    let Some(at) = result_at(line) else {
-        return Err(LineFault::Fields);
-    };
-    if !has_places(line, at) {
-        return Err(LineFault::Place);
-    }
-    Ok(LineFacts::Event(number, Places::of(line, at)))
 }

@@ -1,5 +1,6 @@
 //! The places that a line tells.
 ghost use Rattle.std.specs.Prelude.{◌≡◌, ◌≤◌, [], ◌∷◌, MatchOption, None, Some, drop, length, take};
+ghost use Rattle.shard_lines.specs.Parts.{places_in};
 ghost use Rattle.shard_lines.specs.Sent.{has_places, is_sound, port_at, sent_by, sent_in, tap_of};
 ghost use Rattle.shard_lines.specs.Words.{before_equals};
 
@@ -28,11 +29,15 @@ impl<'a> Model for Places<'a> {
 }
 
 impl<'a> Places<'a> {
-    /// Those of the result of a line, which begins there.
+    /// Those of a line, up to and with its line feed, whose result begins there.
     #[inline]
-    pub(crate) fn of(line: &'a [u8], at: usize) -> Places<'a>
-        ensures { result ≡ sent_in (drop at line.entry.now) }
+    pub fn behind(text: &'a [u8], at: usize) -> Places<'a>
+        ensures { result ≡ places_in text.entry.now at }
     {
+        let line = match text {
+            [line @ .., _] => line,
+            [] => text,
+        };
         Places { line, at }
     }
 

@@ -4,5 +4,6 @@ pub mod Left
 pub mod Copied
 pub mod Moved
 pub mod Coming
+pub mod Told
 pub mod Firsts
 pub mod Whole

@@ -1,5 +1,5 @@
 //! A part of a run: its decision lines and its captures.
-ghost use Rattle.std.specs.Prelude.{◌≡◌, ◌≤◌, ◌++◌, ℕ, List, [], ◌∷◌, Ok, length};
+ghost use Rattle.std.specs.Prelude.{◌≡◌, ◌≤◌, ◌++◌, ℕ, List, [], ◌∷◌, IfOk, IfSome, Ok, length};
 ghost use Rattle.std.specs.Io.KnownBytes.{Appends};
 ghost use Rattle.std.specs.List.{concat};
 ghost use Rattle.shard_lines.specs.Facts.{facts_of};
@@ -9,13 +9,14 @@ ghost use Rattle.shard_merge.specs.Coming.{ComesNext, Holds, HoldsAll, StandBehi
 ghost use Rattle.shard_merge.specs.Left.{AreAdded, AreLeft, UnlessDevice};
 ghost use Rattle.shard_merge.specs.Merged.{Piece, records_at};
 ghost use Rattle.shard_merge.specs.Moved.{AreRecords, Moves, taps};
+ghost use Rattle.shard_merge.specs.Told.{IsPlaced, coming_told};
 
 use crate::capture::Capture;
 use crate::fault::{MergeFault, PartFault, Target};
 use crate::records::{copy_all, end_captures};
 use line_stream::{Lines, LinesFault};
 use pcap_stream::{Input, Output, Sink};
-use shard_lines::{LineFacts, read_line};
+use shard_lines::{LineFacts, LineParts, Places, find_parts, read_line};
 use std::marker::Model;
 
 /// The lines of cut captures that a part has at most: one for each capture, of 255 ports and the underlay.
@@ -40,33 +41,57 @@ pub struct Part<R: Input> {
     ports: Vec<Capture<R>>,
     underlay: Capture<R>,
     coming: Coming,
+    /// Where the result of the next line begins; none where it isn't an event's, and behind a fault.
+    begins: Option<usize>,
 }
 
 impl<R: Input> Model for Part<R> {
+    ghost use Rattle.std.specs.Prelude.{IfSome};
     ghost use Rattle.shard_merge.specs.Coming.{Shard};
+    ghost use Rattle.shard_merge.specs.Told.{IsPlaced};
 
     ghost Value = { Shard };
 
     ghost view = { λ p. record { reader = p.lines; ports = p.ports.items; underlay = p.underlay; coming = p.coming } };
+
+    ghost invariant = { λ p. IfSome p.begins (IsPlaced p.lines.line) };
+}
+
+/// What a part keeps of its next line.
+#[derive(Clone, Copy)]
+struct Told {
+    coming: Coming,
+    /// Where the line's result begins, if it is of an event.
+    begins: Option<usize>,
 }
 
 /// What a line is of, where it is the line of a part or nothing behind its last. `was_cut`: the line before it was of a cut
 /// capture.
-fn coming_of(part: usize, was_cut: bool, line: &[u8]) -> Result<Coming, MergeFault>
-    ensures { result ≡ coming_in part was_cut line.now }
+fn coming_of(part: usize, was_cut: bool, line: &[u8]) -> Result<Told, MergeFault>
+    ensures coming { coming_told result ≡ coming_in part was_cut line.now }
+    ensures placed { IfOk result (λ told. IfSome told.begins (IsPlaced line.now)) }
 {
     if line.is_empty() {
-        return Ok(Coming::Nothing);
+        return Ok(Told {
+            coming: Coming::Nothing,
+            begins: None,
+        });
     }
-    match read_line(line) {
-        Ok(LineFacts::Event(number, _)) => {
+    match find_parts(line) {
+        Ok(LineParts::Event(number, at)) => {
             if was_cut {
                 Err(MergeFault::Part(part, PartFault::Late))
             } else {
-                Ok(Coming::Event(number))
+                Ok(Told {
+                    coming: Coming::Event(number),
+                    begins: Some(at),
+                })
             }
         }
-        Ok(LineFacts::Cut) => Ok(Coming::Cut),
+        Ok(LineParts::Cut) => Ok(Told {
+            coming: Coming::Cut,
+            begins: None,
+        }),
         Err(fault) => Err(MergeFault::Part(part, PartFault::Line(fault))),
     }
 }
@@ -101,20 +126,26 @@ fn stopped_by(part: usize, fault: LinesFault) -> MergeFault
     }
 }
 
-/// Copies the records that the line of an event tells.
+/// Copies the records that the line of an event tells. Where its result is known to begin somewhere it isn't read again.
 fn copy_event<R: Input, W: Output>(
     part: usize,
     line: &[u8],
+    begins: Option<usize>,
     ports: &mut [Capture<R>],
     underlay: &mut Capture<R>,
     port_sinks: &mut [Sink<W>],
     underlay_sink: &mut Sink<W>,
 ) -> Result<(), MergeFault>
-    requires { length port_sinks.old ≡ length ports.old }
+    requires placed { IfSome begins (IsPlaced line.now) }
+    requires count { length port_sinks.old ≡ length ports.old }
     ensures { (number : ℕ) (records : List (ATap × List ℕ)) (rest : ATap → List ℕ) → facts_of line.now ≡ Ok (Event number (taps records)) → AreRecords (length ports.old) records
         → AreLeft (λ t. records_at t records ++ rest t) ports.old underlay.old
         → Moves rest (λ t. records_at t records) ports.new underlay.new port_sinks.old underlay_sink.old port_sinks.new underlay_sink.new result }
 {
+    if let Some(at) = begins {
+        let places = Places::behind(line, at);
+        return copy_all(part, places, ports, underlay, port_sinks, underlay_sink);
+    }
     match read_line(line) {
         Ok(LineFacts::Event(_, places)) => {
             copy_all(part, places, ports, underlay, port_sinks, underlay_sink)
@@ -147,11 +178,13 @@ impl<R: Input> Part<R> {
         R: Drop,
         ensures { (count : ℕ) (pieces : List Piece) (cuts : List (List ℕ)) → HoldsAll count pieces cuts lines ports.items underlay → UnlessPart result (Holds count pieces cuts) }
     {
+        let coming = Coming::Nothing;
         let mut opened = Part {
             lines,
             ports,
             underlay,
-            coming: Coming::Nothing,
+            coming,
+            begins: None,
         };
         match opened.next(part) {
             Ok(()) => Ok(opened),
@@ -187,12 +220,14 @@ impl<R: Input> Part<R> {
         ensures next { (count : ℕ) (pieces : List Piece) (cuts : List (List ℕ)) → StandBehind count pieces cuts self.old → UnlessDevice result (ComesNext pieces cuts self.new) }
     {
         let was_cut = is_cut(self.coming);
+        self.begins = None;
         if let Err(fault) = self.lines.fetch() {
             return Err(stopped_by(part, fault));
         }
         match coming_of(part, was_cut, self.lines.line()) {
-            Ok(coming) => {
-                self.coming = coming;
+            Ok(told) => {
+                self.coming = told.coming;
+                self.begins = told.begins;
                 Ok(())
             }
             Err(fault) => Err(fault),
@@ -217,6 +252,7 @@ impl<R: Input> Part<R> {
         copy_event(
             part,
             self.lines.line(),
+            self.begins,
             self.ports.as_mut_slice(),
             &mut self.underlay,
             port_sinks,

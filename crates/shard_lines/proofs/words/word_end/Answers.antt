@@ -1,6 +1,7 @@
 use Rattle.std.proofs.Common.{◌≡◌, ◌+◌, ◌-◌, ◌∙◌, ap, sym, take, drop, length, arith}
 use Rattle.std.proofs.lemmas.List.{drop-take, drop_all, take_all}
 use Rattle.line_words.proofs.Splits.{behind_found, behind_lacks, word_found, word_lacks}
+use Rattle.shard_lines.proofs.Splits.{spaces_found, spaces_lacks}
 use Rattle.shard_lines.proofs.words.word_end.Goals as goal
 
 pub returns-in-Some-clause-word : goal.returns-in-Some-clause-word
@@ -21,3 +22,9 @@ returns-in-None-clause-word c =
 
 pub returns-in-None-clause-behind : goal.returns-in-None-clause-behind
 returns-in-None-clause-behind c = behind_lacks c.args.line.now c.args.from c.in-None.ensures ∙ sym (drop_all _ c.args.line.now (omega arith))
+
+pub returns-in-Some-clause-inner : goal.returns-in-Some-clause-inner
+returns-in-Some-clause-inner c = λ inside. spaces_found c.args.line.now c.args.from c.in-Some.end c.in-Some.ensures
+
+pub returns-in-None-clause-last : goal.returns-in-None-clause-last
+returns-in-None-clause-last c = λ whole. spaces_lacks c.args.line.now c.args.from c.in-None.ensures

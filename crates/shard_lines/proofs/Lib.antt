@@ -2,3 +2,4 @@ pub mod Splits
 pub mod Fronts
 pub mod Outcomes
 pub mod Lines
+pub mod Ports

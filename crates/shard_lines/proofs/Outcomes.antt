@@ -220,7 +220,7 @@ far (c ∷ cs) some h = by (eqb c 112) h
     by true k = absurd cc
     by false k = refl
 
-near : (port : ℕ) → port < 256 → port_at port ≡ Some (Port port)
+pub near : (port : ℕ) → port < 256 → port_at port ≡ Some (Port port)
 near port h =
     let passes : nat_lt port 256 ≡ true = grind (arith, nat_tests) in
     cond-true (nat_lt port 256) (Some (Port port)) None passes

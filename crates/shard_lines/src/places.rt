@@ -1,8 +1,9 @@
 //! The places that a line tells.
-ghost use Rattle.std.specs.Prelude.{◌≡◌, ◌≤◌, [], ◌∷◌, MatchOption, None, Some, drop, length, take};
+ghost use Rattle.std.specs.Prelude.{◌≡◌, ◌<◌, ◌≤◌, ◌+◌, [], ◌∷◌, IfSome, MatchOption, None, Some, decimal, drop, length, take};
 ghost use Rattle.shard_lines.specs.Parts.{places_in};
 ghost use Rattle.shard_lines.specs.Sent.{has_places, is_sound, port_at, sent_by, sent_in, tap_of};
 ghost use Rattle.shard_lines.specs.Words.{before_equals};
+ghost use Rattle.timeline.specs.declared.source.Tap.TheVariants.{Port};
 
 use crate::words::word_end;
 use line_words::{first_place, number_of};
@@ -73,6 +74,9 @@ fn sent_by(text: &[u8], from: usize) -> Option<Tap>
     requires { from ≤ length text.now }
     ensures { result ≡ sent_by (drop from text.now) }
 {
+    if let Some(port) = short_port(&text[from..]) {
+        return Some(Tap::Port(port));
+    }
     tap_of(place_in(text, from)?)
 }
 
@@ -99,12 +103,65 @@ fn is_sound(text: &[u8], from: usize) -> bool
     ensures { result ≡ is_sound (drop from text.now) }
 {
     match &text[from..] {
-        [b'p' | b'=', ..] => match place_in(text, from) {
-            Some(place) => tap_of(place).is_some(),
-            None => true,
-        },
+        [b'p' | b'=', ..] => is_placed(text, from),
         _ => true,
     }
+}
+
+/// The same, whatever the word begins with.
+#[tactic(auto, using(crate::proofs::Ports::sound_sent))]
+fn is_placed(text: &[u8], from: usize) -> bool
+    requires { from ≤ length text.now }
+    ensures { result ≡ is_sound (drop from text.now) }
+{
+    if short_port(&text[from..]).is_some() {
+        return true;
+    }
+    match place_in(text, from) {
+        Some(place) => tap_of(place).is_some(),
+        None => true,
+    }
+}
+
+/// The port that a word was sent at, where it begins with a `p`, one or two digits and a `=`; none of any other says nothing.
+#[inline]
+fn short_port(word: &[u8]) -> Option<u8>
+    ensures { IfSome result (λ port. sent_by word.now ≡ Some (Port port)) }
+{
+    match word {
+        [b'p', one, b'=', ..] => digit(*one),
+        [b'p', ten, one, b'=', ..] => two_digits(*ten, *one),
+        _ => None,
+    }
+}
+
+/// The number that a digit writes.
+#[inline]
+fn digit(c: u8) -> Option<u8>
+    ensures { IfSome result (λ n. (n < 10) × (c ≡ 48 + n)) }
+{
+    if c.is_ascii_digit() {
+        Some(c - b'0')
+    } else {
+        None
+    }
+}
+
+/// The number that two digits write, of which the first isn't 0.
+#[inline]
+fn two_digits(first: u8, second: u8) -> Option<u8>
+    ensures { IfSome result (λ n. (n < 100) × (decimal n ≡ first ∷ second ∷ [])) }
+{
+    let Some(ten) = digit(first) else {
+        return None;
+    };
+    let Some(one) = digit(second) else {
+        return None;
+    };
+    if ten == 0 {
+        return None;
+    }
+    Some(ten * 10 + one)
 }
 
 /// What stands before the first `=` of the last word of a text, which begins there.

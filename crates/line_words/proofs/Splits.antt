@@ -1,5 +1,5 @@
 -- The first space of a text.
-use Rattle.std.proofs.Common.{◌≡◌, ◌≢◌, ℕ, zero, suc, ◌+◌, ◌-◌, ◌<◌, ◌≤◌, All, Bool, true, false, cond, eqb, List, [], ◌∷◌, length, take, drop, get_or, refl, sym, ap, ◌∙◌, arith}
+use Rattle.std.proofs.Common.{◌≡◌, ◌≢◌, ℕ, zero, suc, ◌+◌, ◌-◌, ◌<◌, All, List, [], ◌∷◌, length, take, drop, get_or, refl, sym, ap, ◌∙◌, arith}
 use Rattle.std.proofs.lemmas.Bool.{eq-eqb, ne_eqb, cond-true, cond-false}
 use Rattle.std.proofs.lemmas.List.{drop-drop, get_or-drop, length-drop}
 use Rattle.std.proofs.lemmas.List.Elements.{All-from_get_or, All-head, All-tail}
@@ -63,22 +63,3 @@ behind_found text from at first =
     (get_or-drop from text (at - from) 0 ∙ ap (λ k. get_or text k 0) there ∙ first.here)
     (λ k lt e. first.before (from + k) (omega arith) (omega (arith, lt)) (sym (get_or-drop from text k 0) ∙ e))
     ∙ drop-drop (at - from + 1) from text ∙ ap (λ k. drop k text) next
-
--- ---- shorter
-
-behind_le : (t : List ℕ) → length (behind t) ≤ length t
-behind_le [] = omega arith
-behind_le (c ∷ cs) = by (eqb c 32) (behind_le cs)
-  where
-    by : (b : Bool) → length (behind cs) ≤ length cs → length (cond b cs (behind cs)) ≤ length (c ∷ cs)
-    by true less = omega arith
-    by false less = omega (arith, less)
-
--- what stands behind the first word is shorter
-pub behind_shorter : (t : List ℕ) → 0 < length t → length (behind t) < length t
-behind_shorter [] h = absurd (omega arith)
-behind_shorter (c ∷ cs) h = by (eqb c 32)
-  where
-    by : (b : Bool) → length (cond b cs (behind cs)) < length (c ∷ cs)
-    by true = omega arith
-    by false = omega (arith, behind_le cs)

@@ -41,7 +41,7 @@ Endpoint 14 settings_of 0
 append_to 1 Endpoint 1
 result_text 3 Endpoint 0
 sample 88 none 0
-explain_bytes 60 none 0
+explain_bytes 56 none 0
 run_bytes 91 none 1
 run_streams 79 none 2
 "

@@ -15,10 +15,11 @@ ghost use Rattle.explanation.specs.Text.{layers_text};
 ghost use Rattle.explanation.specs.Explanation.{explanation, explained_run, Gives};
 ghost use Rattle.explanation.specs.Growing.{text_at, texts_from};
 
-use crate::text::{Values, layers_text};
+use crate::text::{Values, write_layers};
 use capture_run::{RunFault, of_captures, of_settings};
 use decision_lines::{Desk, Line};
 use endpoint_core::Endpoint;
+use layer_values::Lines;
 use overlay_config::{Settings, settings_of};
 use packet_layers::dissect;
 use std::alloc::{AllocError, Global};
@@ -93,17 +94,20 @@ fn text_of(
 {
     let mut desk = Desk::new();
     let mut text = Vec::new(alloc);
-    put_events(alloc, &mut text, endpoint, &mut desk, depth, values, events)?;
+    let mut lines = Lines::new();
+    put_events(
+        &mut text, endpoint, &mut desk, &mut lines, depth, values, events,
+    )?;
     put_cuts(&mut text, &mut desk.line, cuts)?;
     Ok(text)
 }
 
 /// Puts a packet to the endpoint, and its decision line and its layers to the text.
 fn put_packet(
-    alloc: Global,
     text: &mut Vec<u8>,
     endpoint: &mut Endpoint,
     desk: &mut Desk,
+    lines: &mut Lines,
     depth: usize,
     values: Values,
     event: &Event,
@@ -123,15 +127,16 @@ fn put_packet(
     let course = endpoint.take_packet(event.moment, original, octets, &mut desk.places);
     desk.write_course(event, endpoint, &course);
     text.extend_from_slice(desk.line.text())?;
-    text.extend_from_slice(layers_text(alloc, values, &layers)?.as_slice())
+    write_layers(lines, values, &layers);
+    text.extend_from_slice(lines.text())
 }
 
 /// Puts an event, which is a packet, to the endpoint, and what comes of it to the text.
 fn put_event(
-    alloc: Global,
     text: &mut Vec<u8>,
     endpoint: &mut Endpoint,
     desk: &mut Desk,
+    lines: &mut Lines,
     depth: usize,
     values: Values,
     event: &Event,
@@ -146,10 +151,10 @@ fn put_event(
 {
     match &event.happening {
         Happening::Record(Tap::Underlay, captured) => put_packet(
-            alloc,
             text,
             endpoint,
             desk,
+            lines,
             depth,
             values,
             event,
@@ -163,10 +168,10 @@ fn put_event(
 
 /// Puts all packets to an endpoint, and what comes of them to the text.
 fn put_events(
-    alloc: Global,
     text: &mut Vec<u8>,
     endpoint: &mut Endpoint,
     desk: &mut Desk,
+    lines: &mut Lines,
     depth: usize,
     values: Values,
     events: &[Event],
@@ -180,7 +185,7 @@ fn put_events(
 {
     for event in events {
         desk.number.add_one();
-        put_event(alloc, text, endpoint, desk, depth, values, event)?;
+        put_event(text, endpoint, desk, lines, depth, values, event)?;
     }
     Ok(())
 }

@@ -59,7 +59,7 @@ pub(crate) fn put_ip6_at(text: &mut String, octets: &[u8], place: usize) -> Resu
 }
 
 /// The `N` octets that stand at a place.
-fn array_at<const N: usize>(octets: &[u8], place: usize) -> [u8; N]
+pub(crate) fn array_at<const N: usize>(octets: &[u8], place: usize) -> [u8; N]
     requires { place + N ≤ length octets.now }
     ensures { result ≡ part place N octets.now }
 {

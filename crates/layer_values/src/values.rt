@@ -9,7 +9,7 @@ use std::alloc::AllocError;
 use std::fmt::Write;
 
 /// How many fragment offsets there are: the offset has 13 bits, and More Fragments is the bit above them.
-const OFFSETS: u16 = 8192;
+pub(crate) const OFFSETS: u16 = 8192;
 
 /// Puts the values of a header of a kind behind a text, each word behind one space; nothing where the header is cut.
 ///
@@ -44,7 +44,7 @@ pub fn put_values(text: &mut String, kind: HeadKind, octets: &[u8]) -> Result<()
 }
 
 /// The octets that the values of a kind stand in.
-fn least(kind: HeadKind) -> usize
+pub(crate) fn least(kind: HeadKind) -> usize
     ensures { result ≡ least kind }
 {
     match kind {

@@ -21,9 +21,25 @@ use decision_lines::{Desk, Line};
 use endpoint_core::Endpoint;
 use layer_values::Lines;
 use overlay_config::{Settings, settings_of};
-use packet_layers::dissect;
+use packet_layers::{Layers, dissect_into};
 use std::alloc::{AllocError, Global};
 use timeline::{Cut, Event, Happening, Tap, Timeline};
+
+/// What is lent to each packet: its layers, and their lines.
+#[derive(Drop)]
+struct Sheet<'a> {
+    layers: Layers<'a>,
+    lines: Lines,
+}
+
+impl<'a> Sheet<'a> {
+    fn new() -> Sheet<'a> {
+        Sheet {
+            layers: Layers::empty(),
+            lines: Lines::new(),
+        }
+    }
+}
 
 /// Explains the packets of a capture, which come to a fresh endpoint with the settings of a text: for each its decision
 /// line and the lines of its layers, with at most `depth` tunnel headers, 1 to 4, and with the values of the headers where
@@ -94,25 +110,25 @@ fn text_of(
 {
     let mut desk = Desk::new();
     let mut text = Vec::new(alloc);
-    let mut lines = Lines::new();
+    let mut sheet = Sheet::new();
     put_events(
-        &mut text, endpoint, &mut desk, &mut lines, depth, values, events,
+        &mut text, endpoint, &mut desk, &mut sheet, depth, values, events,
     )?;
     put_cuts(&mut text, &mut desk.line, cuts)?;
     Ok(text)
 }
 
 /// Puts a packet to the endpoint, and its decision line and its layers to the text.
-fn put_packet(
+fn put_packet<'a>(
     text: &mut Vec<u8>,
     endpoint: &mut Endpoint,
     desk: &mut Desk,
-    lines: &mut Lines,
+    sheet: &mut Sheet<'a>,
     depth: usize,
     values: Values,
-    event: &Event,
+    event: &Event<'a>,
     original: u32,
-    octets: &[u8],
+    octets: &'a [u8],
 ) -> Result<(), AllocError>
     requires low { 1 ≤ depth }
     requires high { depth ≤ 4 }
@@ -123,23 +139,23 @@ fn put_packet(
         ++ layers_text values (dissection (state_of endpoint.old).bridges.settings.overlay depth octets.now))) }
     ensures number { desk.new.number ≡ desk.old.number }
 {
-    let layers = dissect(octets, endpoint.under(), depth);
+    dissect_into(&mut sheet.layers, octets, endpoint.under(), depth);
     let course = endpoint.take_packet(event.moment, original, octets, &mut desk.places);
     desk.write_course(event, endpoint, &course);
     text.extend_from_slice(desk.line.text())?;
-    write_layers(lines, values, &layers);
-    text.extend_from_slice(lines.text())
+    write_layers(&mut sheet.lines, values, &sheet.layers);
+    text.extend_from_slice(sheet.lines.text())
 }
 
 /// Puts an event, which is a packet, to the endpoint, and what comes of it to the text.
-fn put_event(
+fn put_event<'a>(
     text: &mut Vec<u8>,
     endpoint: &mut Endpoint,
     desk: &mut Desk,
-    lines: &mut Lines,
+    sheet: &mut Sheet<'a>,
     depth: usize,
     values: Values,
-    event: &Event,
+    event: &Event<'a>,
 ) -> Result<(), AllocError>
     requires low { 1 ≤ depth }
     requires high { depth ≤ 4 }
@@ -154,7 +170,7 @@ fn put_event(
             text,
             endpoint,
             desk,
-            lines,
+            sheet,
             depth,
             values,
             event,
@@ -167,14 +183,14 @@ fn put_event(
 }
 
 /// Puts all packets to an endpoint, and what comes of them to the text.
-fn put_events(
+fn put_events<'a>(
     text: &mut Vec<u8>,
     endpoint: &mut Endpoint,
     desk: &mut Desk,
-    lines: &mut Lines,
+    sheet: &mut Sheet<'a>,
     depth: usize,
     values: Values,
-    events: &[Event],
+    events: &[Event<'a>],
 ) -> Result<(), AllocError>
     requires low { 1 ≤ depth }
     requires high { depth ≤ 4 }
@@ -185,7 +201,7 @@ fn put_events(
 {
     for event in events {
         desk.number.add_one();
-        put_event(text, endpoint, desk, lines, depth, values, event)?;
+        put_event(text, endpoint, desk, sheet, depth, values, event)?;
     }
     Ok(())
 }

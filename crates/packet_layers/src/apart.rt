@@ -1,5 +1,5 @@
 //! A packet that is taken apart from both ends.
-ghost use Rattle.std.specs.Prelude.{◌≡◌, ◌≤◌, ◌<◌, ◌+◌, ◌++◌, length};
+ghost use Rattle.std.specs.Prelude.{◌≡◌, ◌≤◌, ◌<◌, ◌+◌, [], ◌++◌, length};
 ghost use Rattle.packet_layers.specs.Apart.{whole, split, put};
 
 use crate::{Head, HeadKind, Span};
@@ -29,15 +29,24 @@ impl<'a> Model for Apart<'a> {
 }
 
 impl<'a> Apart<'a> {
-    /// A packet of which nothing is taken off.
-    pub(crate) fn whole(octets: &'a [u8]) -> Apart<'a>
-        ensures { result ≡ whole octets.now }
+    /// Of no octets.
+    pub(crate) fn empty() -> Apart<'a>
+        ensures { result ≡ whole [] }
     {
         Apart {
             heads: ArrayVec::new(),
-            payload: Span::new(0, octets),
+            payload: Span::new(0, &[]),
             tails: ArrayVec::new(),
         }
+    }
+
+    /// Begins anew, with a packet of which nothing is taken off.
+    pub(crate) fn begin(&mut self, octets: &'a [u8])
+        ensures { self.new ≡ whole octets.now }
+    {
+        self.heads.clear();
+        self.payload = Span::new(0, octets);
+        self.tails.clear();
     }
 
     /// The heads, from the front on.

@@ -23,20 +23,35 @@ pub fn dissect<'a>(octets: &'a [u8], under: &Under, depth: usize) -> Layers<'a>
     ensures places { AllStand octets.now result.apart }
     ensures agrees { AgreesWithArrival under.now octets.now result }
 {
-    layers_of(octets, under, depth)
+    let mut layers = Layers::empty();
+    dissect_into(&mut layers, octets, under, depth);
+    layers
 }
 
-/// The layers of a packet, frame by frame.
-fn layers_of<'a>(octets: &'a [u8], under: &Under, depth: usize) -> Layers<'a>
-    requires { depth ≤ 4 }
-    ensures { result ≡ dissection under.now depth octets.now }
+/// The same into layers that are there, in place of what they were.
+pub fn dissect_into<'a>(layers: &mut Layers<'a>, octets: &'a [u8], under: &Under, depth: usize)
+    requires low { 1 ≤ depth }
+    requires high { depth ≤ 4 }
+    ensures layers { layers.new ≡ dissection under.now depth octets.now }
+    ensures whole { joined layers.new.apart ≡ octets.now }
+    ensures places { AllStand octets.now layers.new.apart }
+    ensures agrees { AgreesWithArrival under.now octets.now layers.new }
 {
-    let mut apart = Apart::whole(octets);
+    let stop = take_layers(&mut layers.apart, octets, under, depth);
+    layers.stop = stop;
+}
+
+/// Takes off the layers of a packet, frame by frame, and answers why no more is taken off.
+fn take_layers<'a>(apart: &mut Apart<'a>, octets: &'a [u8], under: &Under, depth: usize) -> Stop
+    requires { depth ≤ 4 }
+    ensures { record { apart = apart.new; stop = result } ≡ dissection under.now depth octets.now }
+{
+    apart.begin(octets);
     let mut left = depth;
     loop {
-        match take_frame(&mut apart, under, left) {
+        match take_frame(apart, under, left) {
             Ok(()) => left -= 1,
-            Err(stop) => return Layers::new(apart, stop),
+            Err(stop) => return stop,
         }
     }
 }

@@ -1,5 +1,7 @@
 //! The layers of a packet.
-ghost use Rattle.std.specs.Prelude.{◌≡◌, ◌≤◌, length};
+ghost use Rattle.std.specs.Prelude.{◌≡◌, ◌≤◌, [], length};
+ghost use Rattle.packet_layers.specs.Apart.{whole};
+ghost use Rattle.packet_layers.specs.declared.kind.Stop.TheVariants.{Deep};
 
 use crate::apart::Apart;
 use crate::{Head, Span, Stop};
@@ -9,8 +11,8 @@ use std::marker::Model;
 /// are the packet.
 #[derive(Drop)]
 pub struct Layers<'a> {
-    apart: Apart<'a>,
-    stop: Stop,
+    pub(crate) apart: Apart<'a>,
+    pub(crate) stop: Stop,
 }
 
 impl<'a> Model for Layers<'a> {
@@ -22,10 +24,14 @@ impl<'a> Model for Layers<'a> {
 }
 
 impl<'a> Layers<'a> {
-    pub(crate) fn new(apart: Apart<'a>, stop: Stop) -> Layers<'a>
-        ensures { result ≡ record { apart = apart.entry; stop = stop } }
+    /// Those of no octets: a room that the layers of packets are put into, one packet behind another.
+    pub fn empty() -> Layers<'a>
+        ensures { result ≡ record { apart = whole []; stop = Deep } }
     {
-        Layers { apart, stop }
+        Layers {
+            apart: Apart::empty(),
+            stop: Stop::Deep,
+        }
     }
 
     /// The headers, from the front on.

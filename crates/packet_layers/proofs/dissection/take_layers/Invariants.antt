@@ -1,6 +1,6 @@
 use Rattle.std.proofs.Common.{◌≡◌, ◌≤◌, ◌+◌, ◌*◌, length}
 use Rattle.packet_layers.specs.Dissection.{dissection, layers_from}
-use Rattle.packet_layers.proofs.dissection.layers_of.Given as goal
+use Rattle.packet_layers.proofs.dissection.take_layers.Given as goal
 
 abbrev pub invariant-loop-left : goal.invariant-loop-left
 invariant-loop-left l = record {

@@ -2,11 +2,11 @@ use Rattle.std.proofs.Common.{◌≤◌, ◌-◌, ◌∙◌, sym, ap, arith, ref
 use Rattle.packet_layers.specs.Apart.{Apart}
 use Rattle.packet_layers.specs.Dissection.{Taken, layers_from}
 use Rattle.packet_layers.proofs.FrameLemmas.{from-stop, from-on}
-use Rattle.packet_layers.proofs.dissection.layers_of.Goals as goal
+use Rattle.packet_layers.proofs.dissection.take_layers.Goals as goal
 
 pub loop-left-init : goal.loop-left-init
 loop-left-init c =
-    let taken = c.whole-apart.ensures in
+    let taken = c.begin.ensures in
     rw taken (record { heads = omega arith; tails = omega arith; same = refl })
 
 pub loop-left-preserved : goal.loop-left-preserved
@@ -29,7 +29,6 @@ returns-in-Err c =
     let a = c.loop-left.apart in
     let n = c.loop-left.left in
     let taken = c.in-Err.ensures.taken in
-    c.new.ensures
-    ∙ ap (λ (x : Apart). record { apart = x; stop = c.in-Err.stop }) (sym (ap (λ (t : Taken). t.apart) taken))
+    ap (λ (x : Apart). record { apart = x; stop = c.in-Err.stop }) (sym (ap (λ (t : Taken). t.apart) taken))
     ∙ sym (from-stop S n a c.in-Err.stop (ap (λ (t : Taken). t.stop) taken))
     ∙ c.loop-left.invariant.same

@@ -1,7 +1,6 @@
 -- The decimal digits of numbers.
 use Rattle.std.proofs.Common.{◌≡◌, ℕ, ◌+◌, ◌^◌, ◌%◌, ◌/◌, ◌<◌, ◌≤◌, List, [], ◌∷◌, ◌++◌, length, ap, ◌∙◌, arith, append_assoc}
-use Rattle.std.proofs.lemmas.Fmt.{decimal_digit, decimal_step, length-decimal-le}
-use Rattle.std.proofs.lemmas.List.{length-append}
+use Rattle.std.proofs.lemmas.Fmt.{decimal_digit, decimal_step}
 use Rattle.std.specs.Fmt.{decimal}
 
 -- the two digits of a number below 100
@@ -56,7 +55,3 @@ decimal_fours n h f =
     ∙ ap (λ (k : ℕ). decimal (n / 10000) ++ (48 + n % 10000 / 1000) ∷ (48 + k) ∷ low) b
     ∙ ap (λ (k : ℕ). decimal (n / 10000) ++ (48 + n % 10000 / 1000) ∷ (48 + n % 10000 / 100 % 10) ∷ (48 + k) ∷ (48 + n % 10) ∷ []) d
     ∙ ap (λ (k : ℕ). decimal (n / 10000) ++ (48 + n % 10000 / 1000) ∷ (48 + n % 10000 / 100 % 10) ∷ (48 + n % 10000 / 10 % 10) ∷ (48 + k) ∷ []) e
-
--- a text behind which a number was put has at most so many octets more
-pub put-few : (k n : ℕ) (old new : List ℕ) → 0 < k → n < 10 ^ k → n < 2 ^ 64 → new ≡ old ++ decimal n → length new ≤ length old + k
-put-few k n old new some few f put = omega (arith, ap length put, length-append old (decimal n), length-decimal-le k n some few f)

@@ -1,2 +1,4 @@
 pub mod Asking
+pub mod Listing
+pub mod Naming
 pub mod Onlooking

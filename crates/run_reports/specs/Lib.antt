@@ -1,3 +1,4 @@
 pub mod Name
+pub mod Reading
 pub mod Report
 pub mod Onlooker

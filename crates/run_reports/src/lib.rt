@@ -5,8 +5,10 @@
 //! story is told in the state that the event found. An [`Onlooker`] is that and, where it is wanted, one who counts.
 #![tactic(auto)]
 
+mod asked;
 mod name;
 mod onlooker;
+mod reading;
 mod reports;
 
 pub use onlooker::Onlooker;

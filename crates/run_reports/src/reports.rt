@@ -1,12 +1,12 @@
 //! What a run tells.
-ghost use Rattle.std.specs.Prelude.{◌≡◌, ◌++◌, [], false, IfOk, OnOk, length, map};
+ghost use Rattle.std.specs.Prelude.{◌≡◌, ◌++◌, false, IfOk, OnOk, map};
 ghost use Rattle.endpoint_core.specs.Kept.{state_of};
 ghost use Rattle.stream_run.specs.Sights.{due};
 ghost use Rattle.event_story.specs.Story.{run_story};
 ghost use Rattle.table_lines.specs.Lines.{tables_text};
-ghost use Rattle.run_reports.specs.Report.{asked, due_told, ended_by, found_behind, is_asked, is_before, seen_by, story_told, tables_told};
+ghost use Rattle.run_reports.specs.Report.{asked, due_told, ended_by, is_before, seen_by, story_told, tables_told};
 
-use crate::name::is_named;
+use crate::asked::AskedNames;
 use endpoint_core::{ChangeFault, Course, Endpoint};
 use event_story::story_in_run;
 use filter_db::Place;
@@ -23,7 +23,7 @@ use timeline::Event;
 #[derive(Drop)]
 pub struct Reports<'n, 'a> {
     alloc: Global,
-    names: &'n [&'a str],
+    names: AskedNames<'n, 'a>,
     /// The changes of the run, whose stories may be asked for.
     changes: &'n [TimedChange],
     /// Whose tables are told.
@@ -35,19 +35,18 @@ pub struct Reports<'n, 'a> {
     text: Vec<u8>,
     /// The tables at the end.
     last: Vec<u8>,
-    room: String,
     is_lost: bool,
 }
 
 impl<'n, 'a> Model for Reports<'n, 'a> {
-    ghost use Rattle.std.specs.Prelude.{◌≡◌, length, map};
+    ghost use Rattle.std.specs.Prelude.{◌≡◌, length};
     ghost use Rattle.run_reports.specs.Report.{Telling};
 
     ghost Value = { Telling };
 
-    ghost view = { λ r. record { names = map (λ name. name.now) r.names.now; changes = r.changes.now; segments = r.segments.now; due = r.due; tables = r.tables; text = r.text.items; last = r.last.items; found = r.found.items; is_lost = r.is_lost } };
+    ghost view = { λ r. record { names = r.names; changes = r.changes.now; segments = r.segments.now; due = r.due; tables = r.tables; text = r.text.items; last = r.last.items; found = r.found.items; is_lost = r.is_lost } };
 
-    ghost invariant = { λ r. length r.found.items ≡ length r.names.now };
+    ghost invariant = { λ r. length r.found.items ≡ length r.names };
 }
 
 impl<'n, 'a> Reports<'n, 'a> {
@@ -67,7 +66,7 @@ impl<'n, 'a> Reports<'n, 'a> {
         let found = vec![in alloc; false; names.len()]?;
         Ok(Reports {
             alloc,
-            names,
+            names: AskedNames::read(alloc, names)?,
             changes,
             segments,
             found,
@@ -75,7 +74,6 @@ impl<'n, 'a> Reports<'n, 'a> {
             tables,
             text: Vec::new(alloc),
             last: Vec::new(alloc),
-            room: String::new(alloc),
             is_lost: false,
         })
     }
@@ -161,14 +159,7 @@ impl<'n, 'a> Reports<'n, 'a> {
     ) -> Result<(), AllocError>
         ensures { OnOk result (self.new ≡ story_told self.old (due (state_of endpoint.now) number event.now)) }
     {
-        let is_asked = mark_found(
-            self.names,
-            self.found.as_mut_slice(),
-            &mut self.room,
-            number,
-            event,
-        )?;
-        if is_asked {
+        if self.names.mark(self.found.as_mut_slice(), number, event) {
             put_story(
                 self.alloc,
                 &mut self.text,
@@ -212,27 +203,6 @@ fn is_before(due: Option<u64>, moment: u64) -> bool
         Some(at) => at < moment,
         None => false,
     }
-}
-
-/// Marks those of these names that an event has as found, and answers whether it has one.
-fn mark_found(
-    names: &[&str],
-    found: &mut [bool],
-    room: &mut String,
-    number: u64,
-    event: &Event,
-) -> Result<bool, AllocError>
-    requires { length found.old ≡ length names.now }
-    ensures asked { IfOk result (λ yes. yes ≡ is_asked number event.now (map (λ name. name.now) names.now)) }
-    ensures found { OnOk result (found.new ≡ found_behind number event.now (map (λ name. name.now) names.now) found.old) }
-{
-    let mut is_asked = false;
-    for index in 0..names.len() {
-        let is_its = is_named(names[index], room, number, event)?;
-        found[index] |= is_its;
-        is_asked |= is_its;
-    }
-    Ok(is_asked)
 }
 
 /// Puts the tables of these segments as they are.

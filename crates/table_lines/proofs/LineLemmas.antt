@@ -1,8 +1,9 @@
 -- Texts that are put one behind another, and the lines of one segment more.
-use Rattle.std.proofs.Common.{◌≡◌, ℕ, ◌+◌, List, [], ◌∷◌, ◌++◌, append_assoc, append-nil, refl, sym, ap, ◌∙◌}
+use Rattle.std.proofs.Common.{◌≡◌, ℕ, ◌+◌, cond, Result, Ok, Err, List, [], ◌∷◌, ◌++◌, append_assoc, append-nil, refl, sym, ap, ◌∙◌}
 use Rattle.std.proofs.lemmas.List.{map-id}
 use Rattle.std.proofs.lemmas.List.FromFn.{map-range_with_len_more}
 use Rattle.std.proofs.lemmas.Grind.{flat_map-append}
+use Rattle.std.specs.Result.{OnOk, is_ok}
 use Rattle.std.specs.List.{flat_map, range_with_len}
 use Rattle.endpoint_core.specs.Step.{State}
 use Rattle.segment_set.specs.Segments.{Segments}
@@ -11,6 +12,11 @@ use Rattle.table_lines.specs.Lines.{lines_among, tables_text, vids}
 -- a text behind another is put behind what the other was put behind
 behind : (t u x y : List ℕ) → u ≡ t ++ x → u ++ y ≡ t ++ (x ++ y)
 behind t u x y e = ap (λ (s : List ℕ). s ++ y) e ∙ append_assoc t x y
+
+-- what holds of a text that was put, where it was
+pub put_whole : {A E : Type 0} (r : Result A E) (new text same wanted : List ℕ) → new ≡ cond (is_ok r) text same → text ≡ wanted → OnOk r (new ≡ wanted)
+put_whole (Ok x) new text same wanted is h = is ∙ h
+put_whole (Err x) new text same wanted is h = tt
 
 -- six texts, one behind another
 pub six_behind : (t t1 t2 t3 t4 t5 a b c d e f : List ℕ) → t1 ≡ t ++ a → t2 ≡ t1 ++ b → t3 ≡ t2 ++ c → t4 ≡ t3 ++ d → t5 ≡ t4 ++ e → t5 ++ f ≡ t ++ (a ++ (b ++ (c ++ (d ++ (e ++ f)))))

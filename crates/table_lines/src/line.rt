@@ -1,13 +1,12 @@
 //! The line of an entry.
-ghost use Rattle.std.specs.Prelude.{◌≡◌, ◌∷◌, ◌++◌, OnOk, string_bytes};
-ghost use Rattle.endpoint_core.specs.Text.{hex_octet};
-ghost use Rattle.table_lines.specs.Lines.{entry_line, mac_text, seen_text, age_text};
+ghost use Rattle.std.specs.Prelude.{◌≡◌, ◌∷◌, ◌++◌, ◌<◌, OnOk, decimal, string_bytes};
+ghost use Rattle.endpoint_core.specs.Text.{hex_digit, hex_octet, place_text};
+ghost use Rattle.table_lines.specs.Lines.{entry_line, mac_text, nine_digits, seen_text, age_text};
 
 use endpoint_core::put_place;
-use filter_db::Entry;
+use filter_db::{Entry, Place};
 use frame_view::{Mac, Vid};
 use std::alloc::AllocError;
-use std::fmt::Write;
 
 /// Nanoseconds in a second.
 const SECOND: u64 = 1_000_000_000;
@@ -24,14 +23,35 @@ pub fn put_line(
 ) -> Result<(), AllocError>
     ensures { OnOk result (string_bytes text.new ≡ string_bytes text.old ++ entry_line two_tunnels now vid (mac, entry)) }
 {
-    let number = vid.get();
-    write!(text, "segment {number} ")?;
+    text.push_str("segment ")?;
+    put_number(text, u64::from(vid.get()))?;
+    text.push(' ')?;
     put_mac(text, mac)?;
     text.push(' ')?;
-    put_place(text, two_tunnels, entry.place)?;
+    put_standing(text, two_tunnels, entry.place)?;
     text.push(' ')?;
     put_seen(text, now, entry.last)?;
     text.push('\n')
+}
+
+/// Puts a number in decimal digits.
+fn put_number(text: &mut String, number: u64) -> Result<(), AllocError>
+    ensures { OnOk result (string_bytes text.new ≡ string_bytes text.old ++ decimal number) }
+{
+    text.push_str(itoa::Buffer::new().format(number))
+}
+
+/// Puts a place as [`put_place`] does, a local port with less to do.
+fn put_standing(text: &mut String, two_tunnels: bool, place: Place) -> Result<(), AllocError>
+    ensures { OnOk result (string_bytes text.new ≡ string_bytes text.old ++ place_text two_tunnels place) }
+{
+    match place {
+        Place::Local(port) => {
+            text.push('p')?;
+            put_number(text, u64::from(port))
+        }
+        Place::Remote(..) => put_place(text, two_tunnels, place),
+    }
 }
 
 /// Puts an address: six pairs of hexadecimal digits between colons.
@@ -58,7 +78,21 @@ fn put_behind_colon(text: &mut String, octet: u8) -> Result<(), AllocError>
 fn put_octet(text: &mut String, octet: u8) -> Result<(), AllocError>
     ensures { OnOk result (string_bytes text.new ≡ string_bytes text.old ++ hex_octet octet) }
 {
-    write!(text, "{octet:02x}")
+    text.push(hex_digit(octet / 16))?;
+    text.push(hex_digit(octet % 16))
+}
+
+/// A hexadecimal digit.
+fn hex_digit(digit: u8) -> char
+    requires { digit < 16 }
+    ensures value { result ≡ hex_digit digit }
+    ensures ascii { result < 128 }
+{
+    char::from(if digit < 10 {
+        b'0' + digit
+    } else {
+        b'a' + (digit - 10)
+    })
 }
 
 /// Puts when the station of an entry was last seen, and its age at a moment; or that the entry is fixed.
@@ -69,17 +103,33 @@ fn put_seen(text: &mut String, now: u64, last: Option<u64>) -> Result<(), AllocE
     match last {
         None => text.push_str("fixed"),
         Some(last) => {
-            write!(text, "seen {last} age ")?;
+            text.push_str("seen ")?;
+            put_number(text, last)?;
+            text.push_str(" age ")?;
             put_age(text, now.saturating_sub(last))
         }
     }
 }
 
 /// Puts nanoseconds as seconds with nine decimals.
+#[tactic(auto, unfolding(crate::specs::Lines::age_text))]
 fn put_age(text: &mut String, age: u64) -> Result<(), AllocError>
     ensures { OnOk result (string_bytes text.new ≡ string_bytes text.old ++ age_text age) }
 {
-    let seconds = age / SECOND;
-    let rest = age % SECOND;
-    write!(text, "{seconds}.{rest:09}")
+    put_number(text, age / SECOND)?;
+    text.push('.')?;
+    put_nine(text, age % SECOND)
+}
+
+/// Puts a number in nine decimal digits.
+fn put_nine(text: &mut String, number: u64) -> Result<(), AllocError>
+    requires { number < 1000000000 }
+    ensures { OnOk result (string_bytes text.new ≡ string_bytes text.old ++ nine_digits number) }
+{
+    let mut buffer = itoa::Buffer::new();
+    let digits = buffer.format(number);
+    for _zero in digits.len()..9 {
+        text.push('0')?;
+    }
+    text.push_str(digits)
 }

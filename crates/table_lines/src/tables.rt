@@ -11,8 +11,8 @@ use segment_set::SegmentSet;
 use std::alloc::{AllocError, Global};
 
 /// The live entries of the segments that are asked for, at the moment of the endpoint's last step, one a line, the VIDs rising
-/// and within a segment the addresses. Of each VID that is asked for the endpoint's pool is gone through once, where it has a
-/// segment. `AllocError`: there was no room for the text.
+/// and within a segment the addresses. Of each VID that is asked for the entries are listed once, where it has a segment.
+/// `AllocError`: there was no room for the text.
 pub fn tables_text(
     alloc: Global,
     endpoint: &Endpoint,

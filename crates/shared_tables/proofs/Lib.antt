@@ -19,4 +19,5 @@ pub mod Answering
 pub mod Passing
 pub mod Sweeping
 pub mod StandingLemmas
+pub mod Lining
 pub mod ListingLemmas

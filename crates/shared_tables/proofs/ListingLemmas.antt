@@ -1,8 +1,7 @@
 -- The live entries of a segment, listed and put in order.
-use Rattle.std.proofs.Common.{◌≡◌, ℕ, suc, ◌+◌, ◌<◌, ◌≤◌, Bool, true, false, cond, ◌&&◌, T, List, [], ◌∷◌, ◌++◌, length, map, take, filter, get_or, Option, Some, None, nat_eq, refl, sym, ap, ◌∙◌, subst, arith}
+use Rattle.std.proofs.Common.{◌≡◌, ℕ, suc, ◌+◌, ◌<◌, ◌≤◌, Bool, true, false, cond, ◌&&◌, T, List, [], ◌∷◌, length, filter, get_or, Option, Some, None, nat_eq, refl, sym, ap, ◌∙◌, subst, arith}
 use Rattle.std.proofs.lemmas.Bool.Decides.{nat_tests}
-use Rattle.std.proofs.lemmas.List.{map_more, get_or-map}
-use Rattle.std.proofs.lemmas.List.Elements.{filter_map-append}
+use Rattle.std.proofs.lemmas.List.{get_or-map}
 use Rattle.std.proofs.lemmas.List.Sorted.{IsPermutation-map, IsPermutation-sym, Contains-permutation}
 use Rattle.std.proofs.lemmas.Map.Keys.{IsDistinct-IsPermutation, apart_from_distinct, sorted_from_all_adjacent, sorted_head, sorted_tail}
 use Rattle.std.proofs.lemmas.Map.Entries.{length-keys_of}
@@ -13,7 +12,7 @@ use Rattle.std.specs.Cmp.{eq_by_cmp_equiv}
 use Rattle.std.specs.List.{AllByRecursion, IsDistinct, cons_option}
 use Rattle.std.specs.List.Sorted.{IsPermutation, IsSortedByKey, IsStrictlySortedBy}
 use Rattle.std.specs.Map.{keys_of, lookup}
-use Rattle.std.specs.Option.{option_map, option_to_list, unwrap_or}
+use Rattle.std.specs.Option.{option_map, unwrap_or}
 use Rattle.std.specs.Ordering.{eq_by_cmp, is_eq, is_lt, ordering_reverse}
 use Rattle.std.specs.FinMap.{empty, entries, find, from_entries, from_sorted, is_sorted, len-empty, len-entries, entries-from_sorted, get-from_entries, get-from_sorted}
 use Rattle.std.specs.FinMap.Entries.{below_all}
@@ -25,30 +24,12 @@ use Rattle.filter_db.specs.Rows.{Rows, AreUnique}
 use Rattle.filter_db.specs.Ageing.{mac_total, same_table, aged_all-aged_all}
 use Rattle.filter_db.proofs.TableLemmas.{same_mac}
 use Rattle.filter_db.proofs.RowsLemmas.{AreUnique-filter, from_entries-filter}
-use Rattle.shared_tables.specs.declared.slots.Slot.{Slot}
 use Rattle.shared_tables.specs.Pool.{Held}
-use Rattle.shared_tables.specs.Slots.{entry_in}
 use Rattle.shared_tables.specs.Shared.{Shared, Rule, rule_at, span_of, IsUnique}
 use Rattle.shared_tables.specs.Segments.{entry_of, rows_of, kept_table, kept_segment, kept_segments, segments_of}
-use Rattle.shared_tables.specs.Listing.{live_row, live_rows}
+use Rattle.shared_tables.specs.Listing.{live_rows}
 use Rattle.shared_tables.proofs.Linked.{equal}
 use Rattle.shared_tables.proofs.Tabled.{get-raw, raw_none, alone_of, tail_unique}
-
--- ---- slot by slot
-
--- one slot more
-pub rows_more : (v a t : ℕ) (slots : List Slot) (i : ℕ) (d : Slot) (row : Option (List ℕ × Entry)) → i < length slots → row ≡ live_row v a t (entry_in (get_or slots i d))
-    → live_rows v a t (map entry_in (take i slots)) ++ option_to_list row ≡ live_rows v a t (map entry_in (take (i + 1) slots))
-rows_more v a t slots i d row in_range is =
-    let before : Rows = live_rows v a t (map entry_in (take i slots)) in
-    ap (λ r. before ++ option_to_list r) is
-    ∙ ap (λ rows. before ++ rows) (sym (one (live_row v a t (entry_in (get_or slots i d)))))
-    ∙ sym (filter_map-append (live_row v a t) (map entry_in (take i slots)) (entry_in (get_or slots i d) ∷ []))
-    ∙ sym (ap (live_rows v a t) (map_more entry_in slots i d in_range))
-  where
-    one : (row : Option (List ℕ × Entry)) → cons_option row [] ≡ option_to_list row
-    one None = refl
-    one (Some row) = refl
 
 -- ---- the rows are those of the table that are live
 

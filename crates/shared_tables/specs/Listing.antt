@@ -1,10 +1,12 @@
 -- The live entries of a segment, as the slots have them. It serves proofs.
-use Rattle.std.specs.Prelude.{ℕ, ◌&&◌, List, Option, Some, None, nat_eq, if◌then◌else◌}
+use Rattle.std.specs.Prelude.{◌≡◌, ℕ, ◌&&◌, Bool, List, ◌++◌, map, Option, Some, None, nat_eq, if◌then◌else◌}
 use Rattle.std.specs.List.{filter_map}
 use Rattle.filter_db.specs.declared.entry.Entry.{Entry}
 use Rattle.filter_db.specs.Table.{is_live}
 use Rattle.filter_db.specs.Rows.{Rows}
-use Rattle.shared_tables.specs.Pool.{Held}
+use Rattle.shared_tables.specs.Line.{IsApart, is_on}
+use Rattle.shared_tables.specs.Pool.{Held, entry_at}
+use Rattle.shared_tables.specs.Shared.{line_key}
 use Rattle.shared_tables.specs.Segments.{entry_of}
 
 -- the row of what a slot holds, if it is of the segment, and live at a moment under an ageing in nanoseconds
@@ -12,6 +14,17 @@ abbrev pub live_row : ℕ → ℕ → ℕ → Option Held → Option (List ℕ �
 live_row vid ageing now None = None
 live_row vid ageing now (Some e) = if nat_eq e.vid vid && is_live ageing now (entry_of e) then Some (e.mac, entry_of e) else None
 
--- the rows of all slots
+-- the rows of slots
 abbrev pub live_rows : ℕ → ℕ → ℕ → List (Option Held) → Rows
 live_rows vid ageing now entries = filter_map (live_row vid ageing now) entries
+
+-- the slots that hold the fixed entries of a segment, or those of its age queue, each once
+pub record AreSlotsOf (entries : List (Option Held)) (vid : ℕ) (fixed : Bool) (slots : List ℕ) : Type 0 where
+  pub apart : IsApart slots
+  pub members : (i : ℕ) → is_on i slots ≡ line_key vid fixed (entry_at entries i)
+
+-- the live ones among those entries stand behind other rows
+pub record ListsLine (entries : List (Option Held)) (vid : ℕ) (fixed : Bool) (ageing now : ℕ) (old new : Rows) : Type 0 where
+  pub slots : List ℕ
+  pub all : AreSlotsOf entries vid fixed slots
+  pub rows : new ≡ old ++ live_rows vid ageing now (map (entry_at entries) slots)

@@ -1,33 +1,23 @@
 //! The live entries of a segment, listed.
-ghost use Rattle.std.specs.Prelude.{◌≡◌, IfOk};
+ghost use Rattle.std.specs.Prelude.{◌≡◌, ◌<◌, length};
+ghost use Rattle.shared_tables.specs.Pool.{entry_at};
 ghost use Rattle.shared_tables.specs.Slots.{entry_in};
-ghost use Rattle.shared_tables.specs.Listing.{live_row, live_rows};
+ghost use Rattle.shared_tables.specs.Listing.{live_row};
 
 use super::{Kind, Slot, Slots, is_dead};
 use crate::bucket::{mac_of, vid_of};
+use crate::links::SlotId;
 use filter_db::Entry;
 use frame_view::{Mac, Vid};
-use std::alloc::{AllocError, Global};
 
 impl Slots {
-    /// The live entries of a segment, each with its address, in the order of their slots, under an ageing in
-    /// nanoseconds. What is told here isn't counted. `AllocError`: there was no room for the list.
-    pub fn live_rows(
-        &self,
-        alloc: Global,
-        vid: Vid,
-        ageing: u64,
-        now: u64,
-    ) -> Result<Vec<(Mac, Entry)>, AllocError>
-        ensures { IfOk result (λ rows. rows.items ≡ live_rows vid ageing now self.now.entries) }
+    /// What a slot holds with its address, if that is of the segment, and live at a moment under an ageing in nanoseconds.
+    /// What is told here isn't counted.
+    pub fn live_row(&self, slot: SlotId, vid: Vid, ageing: u64, now: u64) -> Option<(Mac, Entry)>
+        requires { slot < length self.now.entries }
+        ensures { result ≡ live_row vid ageing now (entry_at self.now.entries slot) }
     {
-        let mut rows = Vec::new(alloc);
-        for slot in &self.slots {
-            if let Some(row) = live_row(slot, vid, ageing, now) {
-                rows.push(row)?;
-            }
-        }
-        Ok(rows)
+        live_row(&self.slots[slot.number as usize], vid, ageing, now)
     }
 }
 

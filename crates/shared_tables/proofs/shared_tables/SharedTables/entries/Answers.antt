@@ -1,30 +1,53 @@
-use Rattle.std.proofs.Common.{◌≡◌, ◌↔◌, IsTrue, IsSome, Bool, true, false, List, Option, Some, None, refl, sym, ap, ◌∙◌, subst, ℕ}
+use Rattle.std.proofs.Common.{◌≡◌, ◌≤◌, List, Option, None, sym, ap, ◌∙◌, subst}
+use Rattle.std.proofs.Math.ListN.{get_or-map}
 use Rattle.std.specs.FinMap.{entries, from_entries}
-use Rattle.filter_db.specs.Rows.{Rows, AreUnique}
-use Rattle.filter_db.specs.Table.{mac_cmp}
-use Rattle.shared_tables.specs.Pool.{Held}
-use Rattle.shared_tables.specs.Shared.{Shared, Rule, IsUnique}
+use Rattle.std.specs.Option.{option_map}
+use Rattle.filter_db.specs.Segment.{aged_all, segment_at}
+use Rattle.filter_db.specs.Table.{mac_cmp, nanoseconds}
+use Rattle.shared_tables.specs.declared.share.Share.{Share}
 use Rattle.shared_tables.specs.Listing.{live_rows}
-use Rattle.shared_tables.proofs.SegmentsLemmas.{has_rule}
-use Rattle.shared_tables.proofs.ListingLemmas.{live_unique, listed, listed_none}
+use Rattle.shared_tables.specs.Segments.{segments_of}
+use Rattle.shared_tables.specs.Shared.{Rule, Shared, rule_at, span_of}
+use Rattle.shared_tables.specs.SharedInside.{shared_of}
+use Rattle.shared_tables.specs.Sound.{rule_of, share_at}
+use Rattle.shared_tables.proofs.Lining.{both_listed}
+use Rattle.shared_tables.proofs.ListingLemmas.{listed, listed_none}
+use Rattle.shared_tables.proofs.SoundLemmas.{rule_is, share_read}
 use Rattle.shared_tables.proofs.shared_tables.SharedTables.entries.Goals as goal
 
-no_rule : (b : Bool) (o : Option Rule) → IsTrue b ↔ IsSome o → b ≡ false → o ≡ None
-no_rule b None h off = refl
-no_rule b (Some rule) h off = let bad : true ≡ false = sym (h.1 refl) ∙ off in cc
+pub returns-in_default : goal.returns-in_default
+returns-in_default c =
+    let i = c.self.inside in
+    let v = c.args.vid in
+    let none = sym (c.share_at.ensures ∙ ap (λ (shares : List (Option Share)). share_at shares v) c.deref.ensures.value) ∙ c.in_default.is in
+    c.new.ensures.items ∙ listed_none c.args.self.now v c.args.now (subst (λ (s : Shared). rule_at s.rules v ≡ None) c.self.view_is (get_or-map (option_map rule_of) i.shares.items v None ∙ ap (option_map rule_of) none))
 
-pub returns-then-not-has_share : goal.returns-then-not-has_share
-returns-then-not-has_share c = c.new.ensures.items ∙ listed_none c.args.self.now c.args.vid c.args.now (no_rule c.has_share.result _ c.has_share.ensures c.if-not-has_share.true)
+pub put_line-requires : goal.put_line-requires
+put_line-requires c =
+    let i = c.self.inside in
+    (i.moment, c.self.invariant.lined c.args.vid c.in-Some.share (share_read _ _ c.args.vid c.share_at.result c.in-Some.share c.deref.ensures.value c.share_at.ensures c.in-Some.is))
+
+pub put_line-requires-2 : goal.put_line-requires-2
+put_line-requires-2 c =
+    let i = c.self.inside in
+    (i.moment, c.self.invariant.lined c.args.vid c.in-Some.share (share_read _ _ c.args.vid c.share_at.result c.in-Some.share c.deref.ensures.value c.share_at.ensures c.in-Some.is))
 
 pub put_in_order-requires : goal.put_in_order-requires
-put_in_order-requires c = subst AreUnique (sym c.in_ok-rows.ensures) (live_unique c.args.vid c.ageing.result c.args.now c.self.inside.slots.entries c.self.invariant.unique)
+put_in_order-requires c =
+    (both_listed c.self.inside.slots.entries c.args.vid (nanoseconds c.in-Some.share.ageing) c.args.now _ _ _ c.self.invariant.unique c.new-rows.ensures.items c.in_ok-put_line.ensures c.in_ok-put_line-2.ensures).0
 
 pub returns : goal.returns
 returns c =
-    let s = c.args.self.now in
-    let same : c.self.inside.slots.entries ≡ s.entries = ap (λ (w : Shared). w.entries) c.self.view_is in
-    let unique : IsUnique s.entries = subst IsUnique same c.self.invariant.unique in
-    let r = has_rule s.rules c.args.vid (c.has_share.ensures.0 c.if-not-has_share.false) in
+    let i = c.self.inside in
+    let v = c.args.vid in
+    let share = c.in-Some.share in
+    let a = nanoseconds share.ageing in
+    let t = c.args.now in
+    let here = rule_is i.shares.items v share (share_read _ _ v c.share_at.result share c.deref.ensures.value c.share_at.ensures c.in-Some.is) in
+    let both = both_listed i.slots.entries v a t _ _ _ c.self.invariant.unique c.new-rows.ensures.items c.in_ok-put_line.ensures c.in_ok-put_line-2.ensures in
+    let le : (shared_of i).moment ≤ t = subst (λ (s : Shared). s.moment ≤ t) (sym c.self.view_is) c.requires in
     c.put_in_order.ensures
-    ∙ ap (λ (rows : Rows). entries (from_entries {R = mac_cmp} rows)) (c.in_ok-rows.ensures ∙ ap (λ (es : List (Option Held)). live_rows c.args.vid c.ageing.result c.args.now es) same ∙ ap (λ (a : ℕ). live_rows c.args.vid a c.args.now s.entries) c.ageing.ensures)
-    ∙ listed s c.args.vid c.args.now r.rule r.here unique c.requires
+    ∙ ap entries both.1
+    ∙ sym (ap (λ (o : Option Rule). entries (from_entries {R = mac_cmp} (live_rows v (span_of o) t i.slots.entries))) here)
+    ∙ listed (shared_of i) v t (rule_of share) here c.self.invariant.unique le
+    ∙ ap (λ (s : Shared). entries (segment_at v (aged_all t (segments_of s))).entries) c.self.view_is

@@ -50,6 +50,23 @@ impl EndpointState {
         Ok(rows.len())
     }
 
+    /// What the table of a segment has of an address at a moment, which isn't before the tables' own, and how many live
+    /// entries it has, of one list of them. `AllocError`: there was no room for it.
+    fn entry_among(
+        &self,
+        alloc: Global,
+        vid: Vid,
+        mac: Mac,
+        now: u64,
+    ) -> Result<(Option<Entry>, usize), AllocError>
+        requires { moment_of self.now ≤ now }
+        ensures entry { IfOk result (λ found. found.0 ≡ get ((state_at now self.now).tables vid) mac) }
+        ensures count { IfOk result (λ found. found.1 ≡ len ((state_at now self.now).tables vid)) }
+    {
+        let rows = self.entries(alloc, vid, now)?;
+        Ok((entry_of(&rows, mac), rows.len()))
+    }
+
     /// What the table of a segment has of a frame's destination, once the frame came to it from a place at a moment: its
     /// source is learned first. `AllocError`: there was no room for a list of entries.
     pub fn destination(
@@ -64,8 +81,7 @@ impl EndpointState {
         requires there { IsSome (segment_at (settings_of self.now) vid) }
         ensures { IfOk result (λ entry. entry ≡ get ((after_frame now vid from frame.now (state_at now self.now)).tables vid) frame.now.dst) }
     {
-        let stood = self.entry(alloc, vid, frame.dst(), now)?;
-        let count = self.entry_count(alloc, vid, now)?;
+        let (stood, count) = self.entry_among(alloc, vid, frame.dst(), now)?;
         let learning = self.bridge(vid).learning;
         let limit = self.limit(vid);
         Ok(after_learning(

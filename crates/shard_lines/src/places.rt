@@ -7,11 +7,12 @@ ghost use Rattle.timeline.specs.declared.source.Tap.TheVariants.{Port};
 
 use crate::words::word_end;
 use line_words::{first_place, number_of};
+use std::fmt;
 use std::marker::Model;
 use timeline::Tap;
 
 /// The places where an event was sent and that weren't handed out yet, in order; seen by contracts as their list.
-#[derive(Debug, Drop)]
+#[derive(Drop)]
 pub struct Places<'a> {
     /// A line without its end.
     line: &'a [u8],
@@ -27,6 +28,14 @@ impl<'a> Model for Places<'a> {
     ghost Value = { List Tap };
 
     ghost view = { λ p. sent_in (drop p.at p.line.now) };
+}
+
+impl fmt::Debug for Places<'_> {
+    /// The words that weren't read yet.
+    fn fmt<W: fmt::Write>(&self, f: &mut fmt::Formatter<W>) -> fmt::Result {
+        let rest = self.line.get(self.at..).unwrap_or(&[]);
+        f.debug_struct("Places").field("rest", &rest).finish()
+    }
 }
 
 impl<'a> Places<'a> {

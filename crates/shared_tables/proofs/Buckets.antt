@@ -1,5 +1,5 @@
 -- The chains of buckets.
-use Rattle.std.proofs.Common.{◌≡◌, ℕ, ◌+◌, ◌*◌, ◌/◌, ◌<◌, ◌≤◌, Bool, true, false, cond, List, [], ◌∷◌, Option, Some, None, nat_eq, sym, ap, ◌∙◌, arith}
+use Rattle.std.proofs.Common.{◌≡◌, ℕ, ◌+◌, ◌*◌, ◌/◌, ◌<◌, ◌≤◌, Bool, true, false, cond, List, [], ◌∷◌, Option, Some, None, nat_eq, refl, sym, ap, ◌∙◌, subst, arith}
 use Rattle.std.proofs.lemmas.List.Sums.{sum_by-cons}
 use Rattle.std.specs.List.{sum_by}
 use Rattle.shared_tables.specs.Pool.{Held}
@@ -44,3 +44,11 @@ few_on_chain vid mac (o ∷ es) =
         let counts : weight (bucket_key (bucket_of vid mac)) (Some e) ≡ 1 = ap (λ b. cond (nat_eq b (bucket_of vid mac)) 1 0) same ∙ ap (λ c. cond c 1 0) (nat_eq_refl (bucket_of vid mac)) in
         omega (arith, counts, at_most (nat_eq (chain_of e.vid e.mac) (chain_of vid mac))))
         (λ no. let none : weight (chain_key (chain_of vid mac)) (Some e) ≡ 0 = ap (λ c. cond c 1 0) no in omega (arith, none))
+
+-- no entry is on two chains
+pub chain_excl : (b c : ℕ) → nat_eq c b ≡ false → (o : Option Held) → chain_key b o ≡ true → chain_key c o ≡ false
+chain_excl b c ne None h = refl
+chain_excl b c ne (Some e) h =
+    by_bool (nat_eq (chain_of e.vid e.mac) c)
+    (λ yes. let p : chain_of e.vid e.mac ≡ c = equal _ _ yes in let q : chain_of e.vid e.mac ≡ b = equal _ _ h in let no : nat_eq c b ≡ true = subst (λ k. nat_eq k b ≡ true) p h in let bad : true ≡ false = sym no ∙ ne in cc)
+    (λ no. no)

@@ -6,13 +6,13 @@ use Rattle.shared_tables.specs.Pool.{Held}
 use Rattle.shared_tables.specs.declared.links.Links.{Links}
 use Rattle.shared_tables.specs.declared.share.Share.{Share}
 use Rattle.shared_tables.specs.declared.shared_tables.SharedTables.TheInside.{Inside}
-use Rattle.shared_tables.specs.Pool.{entry_at, links_at, alone, is_fixed_in, chain_in, IfHeld}
-use Rattle.shared_tables.specs.Threads.{IsHeld, HoldsAny, unlinked, heads_without, ends_without}
+use Rattle.shared_tables.specs.Pool.{entry_at, links_at, alone, is_fixed_in, IfHeld}
+use Rattle.shared_tables.specs.Threads.{IsHeld, HoldsAny, unlinked, ends_without}
 use Rattle.shared_tables.specs.SharedInside.{shared_of}
 use Rattle.shared_tables.specs.Shared.{Shared, rule_at, HasRoom, kept_count, Lacks, IsOf, line_key}
 use Rattle.shared_tables.specs.Sound.{share_at, shares_without, share_without, share_written, CountsSome, rule_of, line_at, IsSound}
 use Rattle.shared_tables.proofs.SoundLemmas.{holds_previous, holds_next, rules_stay, rule_of-with_line, HoldsOf, holds_of, has_share, share_in_range, rule_is}
-use Rattle.shared_tables.proofs.Leaving.{leave_lt, leave_count, leave_sound, leave_lacks, leave_few, chain_previous, chain_next, line_on}
+use Rattle.shared_tables.proofs.Leaving.{leave_lt, leave_count, leave_sound, leave_lacks, leave_few, line_on}
 
 -- a slot that holds an entry of a segment
 pub record Stays (es : List (Option Held)) (shares : List (Option Share)) (v s : ℕ) : Type 0 where
@@ -38,25 +38,17 @@ stays_inside i now v s e of ruled =
     stays i.slots.entries i.shares.items v s (subst (λ (w : Shared). IsOf (entry_at w.entries s) v) (sym e) of)
     (has_share i.shares.items v (subst (λ (w : Shared). IsSome (rule_at w.rules v)) (sym e) ruled))
 
--- its entry can leave its chain and its line: its neighbours there hold entries, and its segment counts it
-pub record IsThreaded (es : List (Option Held)) (cs ls : List Links) (shares : List (Option Share)) (v s : ℕ) : Type 0 where
+-- its entry can leave its line: its neighbours there hold entries, and its segment counts it
+pub record IsThreaded (es : List (Option Held)) (ls : List Links) (shares : List (Option Share)) (v s : ℕ) : Type 0 where
   pub held : IsHeld es s
-  pub chain_previous : HoldsAny es (links_at cs s).previous
-  pub chain_next : HoldsAny es (links_at cs s).next
   pub line_previous : HoldsAny es (links_at ls s).previous
   pub line_next : HoldsAny es (links_at ls s).next
   pub counted : CountsSome (share_at shares v)
 
-module _ (es : List (Option Held)) (cs ls : List Links) (heads : List (Option ℕ)) (shares : List (Option Share)) (moment : ℕ) (h : IsSound es cs ls heads shares moment)
+module _ (es : List (Option Held)) (ls : List Links) (shares : List (Option Share)) (moment : ℕ) (h : IsSound es ls shares moment)
     (v s : ℕ) (k : Stays es shares v s) where
   drop_held : IsHeld es s
-  drop_held = record { in_pool = leave_lt es cs ls heads shares moment h v k.share k.here k.entry k.is_of s k.at_slot; held = subst (λ (o : Option Held). IsSome o) (sym k.at_slot) refl }
-
-  drop_chain_previous : HoldsAny es (links_at cs s).previous
-  drop_chain_previous = chain_previous es cs ls heads shares moment h v k.share k.here k.entry k.is_of s k.at_slot
-
-  drop_chain_next : HoldsAny es (links_at cs s).next
-  drop_chain_next = chain_next es cs ls heads shares moment h v k.share k.here k.entry k.is_of s k.at_slot
+  drop_held = record { in_pool = leave_lt es ls shares moment h v k.share k.here k.entry k.is_of s k.at_slot; held = subst (λ (o : Option Held). IsSome o) (sym k.at_slot) refl }
 
   abbrev fixed : Bool
   fixed = is_none k.entry.last
@@ -64,18 +56,18 @@ module _ (es : List (Option Held)) (cs ls : List Links) (heads : List (Option �
   drop_line_previous : HoldsAny es (links_at ls s).previous
   drop_line_previous =
       let lines = h.lined v k.share k.here in
-      holds_previous (line_key v fixed) refl ls es _ _ s (lines.list fixed) (lines.thread fixed) (line_on es cs ls heads shares moment h v k.share k.here k.entry k.is_of s k.at_slot)
+      holds_previous (line_key v fixed) refl ls es _ _ s (lines.list fixed) (lines.thread fixed) (line_on es ls shares moment h v k.share k.here k.entry k.is_of s k.at_slot)
 
   drop_line_next : HoldsAny es (links_at ls s).next
   drop_line_next =
       let lines = h.lined v k.share k.here in
-      holds_next (line_key v fixed) refl ls es _ _ s (lines.list fixed) (lines.thread fixed) (line_on es cs ls heads shares moment h v k.share k.here k.entry k.is_of s k.at_slot)
+      holds_next (line_key v fixed) refl ls es _ _ s (lines.list fixed) (lines.thread fixed) (line_on es ls shares moment h v k.share k.here k.entry k.is_of s k.at_slot)
 
   drop_counted : CountsSome (share_at shares v)
-  drop_counted = subst CountsSome (sym k.here) (leave_count es cs ls heads shares moment h v k.share k.here k.entry k.is_of s k.at_slot)
+  drop_counted = subst CountsSome (sym k.here) (leave_count es ls shares moment h v k.share k.here k.entry k.is_of s k.at_slot)
 
-  pub threaded : IsThreaded es cs ls shares v s
-  threaded = record { held = drop_held; chain_previous = drop_chain_previous; chain_next = drop_chain_next; line_previous = drop_line_previous; line_next = drop_line_next; counted = drop_counted }
+  pub threaded : IsThreaded es ls shares v s
+  threaded = record { held = drop_held; line_previous = drop_line_previous; line_next = drop_line_next; counted = drop_counted }
 
   -- the shares when it has left
   shares_are : shares_without shares v (is_fixed_in (entry_at es s)) (links_at ls s) ≡ set shares v (Some (share_without fixed (links_at ls s) k.share))
@@ -83,11 +75,11 @@ module _ (es : List (Option Held)) (cs ls : List Links) (heads : List (Option �
       ap (λ o. shares_without shares v (is_fixed_in o) (links_at ls s)) k.at_slot
       ∙ ap (λ o. share_written shares v (option_map (share_without fixed (links_at ls s)) o)) k.here
 
-  pub drop_sound : IsSound (set es s None) (set (unlinked cs s) s alone) (set (unlinked ls s) s alone) (heads_without heads (chain_in (entry_at es s)) (links_at cs s)) (shares_without shares v (is_fixed_in (entry_at es s)) (links_at ls s)) moment
+  pub drop_sound : IsSound (set es s None) (set (unlinked ls s) s alone) (shares_without shares v (is_fixed_in (entry_at es s)) (links_at ls s)) moment
   drop_sound =
-      subst (λ x. IsSound (set es s None) (set (unlinked cs s) s alone) (set (unlinked ls s) s alone) (heads_without heads (chain_in (entry_at es s)) (links_at cs s)) x moment) (sym shares_are)
-      (subst (λ o. IsSound (set es s None) (set (unlinked cs s) s alone) (set (unlinked ls s) s alone) (heads_without heads (chain_in o) (links_at cs s)) (set shares v (Some (share_without fixed (links_at ls s) k.share))) moment) (sym k.at_slot)
-      (leave_sound es cs ls heads shares moment h v k.share k.here k.entry k.is_of s k.at_slot))
+      subst (λ x. IsSound (set es s None) (set (unlinked ls s) s alone) x moment) (sym shares_are)
+      (subst (λ o. IsSound (set es s None) (set (unlinked ls s) s alone) (set shares v (Some (share_without fixed (links_at ls s) k.share))) moment) (sym k.at_slot)
+      (leave_sound es ls shares moment h v k.share k.here k.entry k.is_of s k.at_slot))
 
   pub drop_rules : map (option_map rule_of) (shares_without shares v (is_fixed_in (entry_at es s)) (links_at ls s)) ≡ map (option_map rule_of) shares
   drop_rules =
@@ -95,10 +87,10 @@ module _ (es : List (Option Held)) (cs ls : List Links) (heads : List (Option �
       ∙ rules_stay shares v k.share (share_without fixed (links_at ls s) k.share) k.here (rule_of-with_line k.share fixed (ends_without (line_at k.share fixed) (links_at ls s)) (k.share.count - 1))
 
   pub drop_room : HasRoom (rule_at (map (option_map rule_of) shares) v) (kept_count v (set es s None))
-  drop_room = subst (λ o. HasRoom o (kept_count v (set es s None))) (sym (rule_is shares v k.share k.here)) (leave_few es cs ls heads shares moment h v k.share k.here k.entry k.is_of s k.at_slot)
+  drop_room = subst (λ o. HasRoom o (kept_count v (set es s None))) (sym (rule_is shares v k.share k.here)) (leave_few es ls shares moment h v k.share k.here k.entry k.is_of s k.at_slot)
 
   pub drop_lacks : (mac : List ℕ) → IfHeld (entry_at es s) v mac → Lacks (set es s None) v mac
-  drop_lacks mac held = leave_lacks es cs ls heads shares moment h v k.share k.here k.entry k.is_of s k.at_slot mac (subst (λ o. IfHeld o v mac) k.at_slot held).1
+  drop_lacks mac held = leave_lacks es ls shares moment h v k.share k.here k.entry k.is_of s k.at_slot mac (subst (λ o. IfHeld o v mac) k.at_slot held).1
 
   -- the segment keeps its share
   pub drop_share : IsSome (share_at (shares_without shares v (is_fixed_in (entry_at es s)) (links_at ls s)) v)

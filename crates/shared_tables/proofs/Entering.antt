@@ -1,29 +1,21 @@
--- What holds of the slots, the heads and the segments together holds when an entry has come.
+-- What holds of the slots and the segments together holds when an entry has come.
 use Rattle.std.proofs.Common.{suc, ◌≡◌, ◌≢◌, ℕ, ◌+◌, ◌<◌, ◌≤◌, Bool, true, false, cond, not, ◌||◌, ◌&&◌, List, [], ◌∷◌, ◌++◌, length, set, Option, Some, None, is_none, nat_eq, refl, sym, ap, ◌∙◌, subst, arith, length-append}
 use Rattle.std.proofs.lemmas.List.{get_or-set_same, get_or-set_other, length-set}
 use Rattle.std.proofs.lemmas.List.Sums.{sum_by-set, sum_by-cons}
 use Rattle.std.specs.List.{sum_by}
-use Rattle.shared_tables.specs.Bucket.{chain_of}
 use Rattle.shared_tables.specs.declared.links.Links.{Links}
 use Rattle.shared_tables.specs.Pool.{Held}
 use Rattle.shared_tables.specs.declared.share.Share.{Share}
 use Rattle.shared_tables.specs.Pool.{entry_at, alone, vacancy, free_count, IfHeld}
-use Rattle.shared_tables.specs.Threads.{pushed_back, pushed_front, ends_with}
-use Rattle.shared_tables.specs.Line.{last_of, IsLinked, is_on, IsThread}
-use Rattle.shared_tables.specs.Shared.{chain_key, line_key, same_bool, last_at, last_in_entry, last_seen, IsNow, Lacks, IsUnique}
-use Rattle.shared_tables.specs.Sound.{IsLines, IsChain, IsSound, IsAged, share_at, head_at, line_at, with_line, share_count, share_limit}
-use Rattle.shared_tables.proofs.Buckets.{chain_small}
-use Rattle.shared_tables.proofs.Linked.{by_bool, equal, nat_eq_refl, nat_eq_sym, length-pushed_back, length-pushed_front}
-use Rattle.shared_tables.proofs.Threaded.{thread_back, thread_front, thread_same, thread_links, apart_by_keys, back_frame, front_frame, back_over, front_over}
+use Rattle.shared_tables.specs.Threads.{pushed_back, ends_with}
+use Rattle.shared_tables.specs.Line.{IsLinked, is_on, IsThread}
+use Rattle.shared_tables.specs.Shared.{line_key, same_bool, last_at, last_in_entry, last_seen, IsNow, Lacks, IsUnique}
+use Rattle.shared_tables.specs.Sound.{IsLines, IsSound, IsAged, share_at, line_at, with_line, share_count, share_limit}
+use Rattle.shared_tables.proofs.Linked.{by_bool, equal, nat_eq_refl, nat_eq_sym, length-pushed_back}
+use Rattle.shared_tables.proofs.Threaded.{thread_back, thread_same, thread_links, apart_by_keys, back_frame, back_over}
 use Rattle.shared_tables.proofs.SoundLemmas.{share_in_range}
 
--- no entry is on two chains, nor on two lines
-pub chain_excl : (b c : ℕ) → nat_eq c b ≡ false → (o : Option Held) → chain_key b o ≡ true → chain_key c o ≡ false
-chain_excl b c ne None h = refl
-chain_excl b c ne (Some e) h =
-    by_bool (nat_eq (chain_of e.vid e.mac) c)
-    (λ yes. let p : chain_of e.vid e.mac ≡ c = equal _ _ yes in let q : chain_of e.vid e.mac ≡ b = equal _ _ h in let no : nat_eq c b ≡ true = subst (λ k. nat_eq k b ≡ true) p h in let bad : true ≡ false = sym no ∙ ne in cc)
-    (λ no. no)
+-- no entry is on two lines
 
 pub and_right : (a b : Bool) → b ≡ false → a && b ≡ false
 and_right true b h = h
@@ -95,9 +87,9 @@ few (x ∷ xs) k =
     one (Some sh) f = f sh refl
 
 -- a segment below its limit finds a free slot
-pub enter_free : (es : List (Option Held)) (cs ls : List Links) (heads : List (Option ℕ)) (shares : List (Option Share)) (moment v : ℕ) (share : Share)
-    → IsSound es cs ls heads shares moment → share_at shares v ≡ Some share → share.count < share.limit → 0 < free_count es
-enter_free es cs ls heads shares moment v share h here room =
+pub enter_free : (es : List (Option Held)) (ls : List Links) (shares : List (Option Share)) (moment v : ℕ) (share : Share)
+    → IsSound es ls shares moment → share_at shares v ≡ Some share → share.count < share.limit → 0 < free_count es
+enter_free es ls shares moment v share h here room =
     let more : Option Share = Some (record share { count = share.count + 1 }) in
     let lt = share_in_range shares v share here in
     let sums : sum_by share_count (set shares v more) ≤ sum_by share_limit (set shares v more) = few (set shares v more) (λ w sh at. by_bool (nat_eq w v)
@@ -105,27 +97,18 @@ enter_free es cs ls heads shares moment v share h here room =
     (λ apart. (h.lined w sh (sym (get_or-set_other shares v w more None (λ q. let yes : nat_eq w v ≡ true = subst (λ k. nat_eq w k ≡ true) q (nat_eq_refl w) in let bad : true ≡ false = sym yes ∙ apart in cc)) ∙ at)).limit)) in
     omega (arith, sums, h.free, h.room, sum_by-set share_count shares v more None lt, sum_by-set share_limit shares v more None lt, ap share_count here, ap share_limit here)
 
-module _ (es : List (Option Held)) (cs ls : List Links) (heads : List (Option ℕ)) (shares : List (Option Share)) (moment : ℕ) (h : IsSound es cs ls heads shares moment)
+module _ (es : List (Option Held)) (ls : List Links) (shares : List (Option Share)) (moment : ℕ) (h : IsSound es ls shares moment)
     (v : ℕ) (share : Share) (here : share_at shares v ≡ Some share) (room : share.count < share.limit)
     (e : Held) (of : e.vid ≡ v) (absent : Lacks es v e.mac) (now : IsNow e.last moment)
     (s : ℕ) (lt : s < length es) (free : entry_at es s ≡ None) where
   abbrev fixed : Bool
   fixed = is_none e.last
 
-  abbrev b : ℕ
-  b = chain_of e.vid e.mac
-
   abbrev es' : List (Option Held)
   es' = set es s (Some e)
 
-  abbrev cs' : List Links
-  cs' = pushed_front (set cs s alone) (head_at heads b) s
-
   abbrev ls' : List Links
   ls' = pushed_back (set ls s alone) (line_at share fixed).last s
-
-  abbrev heads' : List (Option ℕ)
-  heads' = set heads b (Some s)
 
   abbrev share' : Share
   share' = record (with_line share fixed (ends_with (line_at share fixed) s)) { count = share.count + 1 }
@@ -135,38 +118,6 @@ module _ (es : List (Option Held)) (cs ls : List Links) (heads : List (Option �
 
   was_none : (key : Option Held → Bool) → key None ≡ false → key (entry_at es s) ≡ false
   was_none key none = ap key free ∙ none
-
-  chain_lt : b < 65536
-  chain_lt = chain_small e.vid e.mac
-
-  chained : (c : ℕ) → c < 65536 → IsChain es' cs' c (head_at heads' c)
-  chained c clt = by_bool (nat_eq c b) (λ yes. same (equal c b yes)) (λ no. other no)
-    where
-      mine : IsChain es cs b (head_at heads b)
-      mine = h.chained b chain_lt
-
-      old : IsChain es cs c (head_at heads c)
-      old = h.chained c clt
-
-      same : c ≡ b → IsChain es' cs' c (head_at heads' c)
-      same q = subst (λ k. IsChain es' cs' k (head_at heads' k)) (sym q) (record {
-        list = s ∷ mine.list;
-        thread = subst (λ x. IsThread x es' (chain_key b) (head_at heads' b) (last_of (s ∷ mine.list) None) (s ∷ mine.list)) (sym (front_over cs s (head_at heads b) alone))
-            (subst (λ (o : Option ℕ). IsThread (pushed_front cs (head_at heads b) s) es' (chain_key b) o (last_of (s ∷ mine.list) None) (s ∷ mine.list))
-            (sym (get_or-set_same heads b (Some s) None (subst (λ n. b < n) (sym h.heads_length) chain_lt)))
-            (thread_front (chain_key b) refl cs es (head_at heads b) (last_of mine.list None) s (Some e) h.chain_links lt mine.list mine.thread (was_none (chain_key b) refl) (nat_eq_refl b)));
-      })
-
-      other : nat_eq c b ≡ false → IsChain es' cs' c (head_at heads' c)
-      other apart = record {
-        list = old.list;
-        thread = subst (λ (o : Option ℕ). IsThread cs' es' (chain_key c) o (last_of old.list None) old.list) (sym (get_or-set_other heads b c (Some s) None (λ q. let yes : nat_eq c b ≡ true = subst (λ k. nat_eq c k ≡ true) q (nat_eq_refl c) in let bad : true ≡ false = sym yes ∙ apart in cc)))
-            (thread_links (chain_key c) refl cs cs' es' (head_at heads c) (last_of old.list None) old.list
-            (thread_same (chain_key c) refl cs es (head_at heads c) (last_of old.list None) s (Some e) h.chain_links lt old.list old.thread (nat_eq_sym c b apart ∙ sym (was_none (chain_key c) refl)))
-            (subst (λ x. IsLinked x None old.list None) (sym (front_over cs s (head_at heads b) alone))
-            (front_frame cs s (head_at heads b) mine.list old.list mine.thread.begins (old.thread.members s ∙ was_none (chain_key c) refl)
-            (apart_by_keys (chain_key b) (chain_key c) cs cs es _ _ _ _ mine.list old.list mine.thread old.thread (chain_excl b c apart)) old.thread.linked)));
-      }
 
   lines_here : IsLines es ls v share moment
   lines_here = h.lined v share here
@@ -288,13 +239,10 @@ module _ (es : List (Option Held)) (cs ls : List Links) (heads : List (Option �
       held : (k : ℕ) (z : Held) → entry_at es k ≡ Some z → z.vid ≡ v → z.mac ≡ e.mac → IfHeld (entry_at es k) v e.mac
       held k z q a b = subst (λ o. IfHeld o v e.mac) (sym q) (a, b)
 
-  pub enter_sound : IsSound es' cs' ls' heads' shares' moment
+  pub enter_sound : IsSound es' ls' shares' moment
   enter_sound = record {
-    chain_links = length-pushed_front (set cs s alone) (head_at heads b) s ∙ length-set cs s alone ∙ h.chain_links ∙ sym (length-set es s (Some e));
     line_links = length-pushed_back (set ls s alone) (line_at share fixed).last s ∙ length-set ls s alone ∙ h.line_links ∙ sym (length-set es s (Some e));
-    heads_length = length-set heads b (Some s) ∙ h.heads_length;
     shares_length = length-set shares v (Some share') ∙ h.shares_length;
-    chained = chained;
     lined = lined;
     unique = unique;
     free = omega (arith, h.free, sum_by-set vacancy es s (Some e) None lt, ap vacancy free, sum_by-set share_count shares v (Some share') None share_lt, ap share_count here, length-set es s (Some e));

@@ -1,4 +1,4 @@
--- What holds of the slots, the heads and the segments together holds when an entry has gone.
+-- What holds of the slots and the segments together holds when an entry has gone.
 use Rattle.std.proofs.Common.{◌≡◌, ℕ, ◌+◌, ◌-◌, ◌<◌, ◌≤◌, Bool, true, false, cond, ◌&&◌, List, [], ◌∷◌, ◌++◌, length, set, Option, Some, None, is_none, nat_eq, refl, sym, ap, ◌∙◌, subst, arith, length-append}
 use Rattle.std.proofs.lemmas.List.{get_or-set_same, get_or-set_other, length-set}
 use Rattle.std.proofs.lemmas.List.Sums.{sum_by-set}
@@ -7,15 +7,14 @@ use Rattle.shared_tables.specs.declared.links.Links.{Links}
 use Rattle.shared_tables.specs.Pool.{Held}
 use Rattle.shared_tables.specs.declared.share.Share.{Share}
 use Rattle.shared_tables.specs.Pool.{links_at, entry_at, alone, vacancy, IfHeld}
-use Rattle.shared_tables.specs.Threads.{unlinked, ends_without, heads_without, HoldsAny}
-use Rattle.shared_tables.specs.Line.{last_of, is_on, IsThread}
+use Rattle.shared_tables.specs.Threads.{unlinked, ends_without}
+use Rattle.shared_tables.specs.Line.{is_on, IsThread}
 use Rattle.shared_tables.specs.Shared.{chain_key, line_key, kept_count, same_bool, last_at, Lacks}
-use Rattle.shared_tables.specs.Sound.{IsLines, IsChain, IsSound, IsAged, share_at, head_at, line_at, with_line, share_count, share_limit}
-use Rattle.shared_tables.proofs.Buckets.{chain_small}
-use Rattle.shared_tables.proofs.Linked.{by_bool, equal, nat_eq_refl, nat_eq_sym, length-unlinked, Around, around, off_without, unlinked_frame, linked_frame}
+use Rattle.shared_tables.specs.Sound.{IsLines, IsSound, IsAged, share_at, line_at, with_line, share_count, share_limit}
+use Rattle.shared_tables.proofs.Linked.{by_bool, equal, nat_eq_refl, length-unlinked, Around, around, off_without, unlinked_frame, linked_frame}
 use Rattle.shared_tables.proofs.Threaded.{thread_without, thread_same, thread_links, apart_by_keys, in_entries}
-use Rattle.shared_tables.proofs.SoundLemmas.{holds_previous, holds_next, kept_is, share_in_range}
-use Rattle.shared_tables.proofs.Entering.{chain_excl, line_excl_kind, line_excl_vid, same_bool_refl, aged_frame}
+use Rattle.shared_tables.proofs.SoundLemmas.{kept_is, share_in_range}
+use Rattle.shared_tables.proofs.Entering.{line_excl_kind, line_excl_vid, same_bool_refl, aged_frame}
 
 -- the order of a queue without one of its slots
 aged_from : (es : List (Option Held)) (is : List ℕ) (low low' high : ℕ) → low ≤ low' → IsAged es low' is high → IsAged es low is high
@@ -26,29 +25,7 @@ aged_without : (es : List (Option Held)) (s : ℕ) (xs ys : List ℕ) (low high 
 aged_without es s [] ys low high h = aged_from es ys low (last_at es s) high h.0 h.1
 aged_without es s (x ∷ xs) ys low high h = (h.0, aged_without es s xs ys (last_at es x) high h.1)
 
--- the heads without a slot
-head_same : (heads : List (Option ℕ)) (b : ℕ) (own : Links) → b < length heads → head_at (heads_without heads b own) b ≡ cond (is_none own.previous) own.next (head_at heads b)
-head_same heads b own lt = go (is_none own.previous)
-  where
-    go : (c : Bool) → head_at (cond c (set heads b own.next) heads) b ≡ cond c own.next (head_at heads b)
-    go true = get_or-set_same heads b own.next None lt
-    go false = refl
-
-head_other : (heads : List (Option ℕ)) (b c : ℕ) (own : Links) → nat_eq c b ≡ false → head_at (heads_without heads b own) c ≡ head_at heads c
-head_other heads b c own apart = go (is_none own.previous)
-  where
-    go : (d : Bool) → head_at (cond d (set heads b own.next) heads) c ≡ head_at heads c
-    go true = get_or-set_other heads b c own.next None (λ q. let yes : nat_eq c b ≡ true = subst (λ k. nat_eq c k ≡ true) q (nat_eq_refl c) in let bad : true ≡ false = sym yes ∙ apart in cc)
-    go false = refl
-
-heads_len : (heads : List (Option ℕ)) (b : ℕ) (own : Links) → length (heads_without heads b own) ≡ length heads
-heads_len heads b own = go (is_none own.previous)
-  where
-    go : (d : Bool) → length (cond d (set heads b own.next) heads) ≡ length heads
-    go true = length-set heads b own.next
-    go false = refl
-
-module _ (es : List (Option Held)) (cs ls : List Links) (heads : List (Option ℕ)) (shares : List (Option Share)) (moment : ℕ) (h : IsSound es cs ls heads shares moment)
+module _ (es : List (Option Held)) (ls : List Links) (shares : List (Option Share)) (moment : ℕ) (h : IsSound es ls shares moment)
     (v : ℕ) (share : Share) (here : share_at shares v ≡ Some share) (e : Held) (of : e.vid ≡ v) (s : ℕ) (at : entry_at es s ≡ Some e) where
   abbrev fixed : Bool
   fixed = is_none e.last
@@ -59,14 +36,8 @@ module _ (es : List (Option Held)) (cs ls : List Links) (heads : List (Option �
   abbrev es' : List (Option Held)
   es' = set es s None
 
-  abbrev cs' : List Links
-  cs' = set (unlinked cs s) s alone
-
   abbrev ls' : List Links
   ls' = set (unlinked ls s) s alone
-
-  abbrev heads' : List (Option ℕ)
-  heads' = heads_without heads b (links_at cs s)
 
   abbrev share' : Share
   share' = record (with_line share fixed (ends_without (line_at share fixed) (links_at ls s))) { count = share.count - 1 }
@@ -80,62 +51,8 @@ module _ (es : List (Option Held)) (cs ls : List Links) (heads : List (Option �
   isn't_of : (key : Option Held → Bool) → key (Some e) ≡ false → key (entry_at es s) ≡ false
   isn't_of key k = ap key at ∙ k
 
-  pub chain_lt : b < 65536
-  chain_lt = chain_small e.vid e.mac
-
   pub leave_lt : s < length es
   leave_lt = in_entries (chain_key b) refl es s (is_of (chain_key b) (nat_eq_refl b))
-
-  abbrev mine : IsChain es cs b (head_at heads b)
-  mine = h.chained b chain_lt
-
-  on_mine : is_on s mine.list ≡ true
-  on_mine = mine.thread.members s ∙ is_of (chain_key b) (nat_eq_refl b)
-
-  -- the neighbours on the chain
-  pub chain_previous : HoldsAny es (links_at cs s).previous
-  chain_previous = holds_previous (chain_key b) refl cs es _ _ s mine.list mine.thread on_mine
-
-  pub chain_next : HoldsAny es (links_at cs s).next
-  chain_next = holds_next (chain_key b) refl cs es _ _ s mine.list mine.thread on_mine
-
-  chained : (c : ℕ) → c < 65536 → IsChain es' cs' c (head_at heads' c)
-  chained c clt = by_bool (nat_eq c b) (λ yes. same (equal c b yes)) (λ apart. other apart)
-    where
-      split : Around s mine.list
-      split = around s mine.list on_mine
-
-      whole : IsThread cs es (chain_key b) (head_at heads b) (last_of (split.before ++ s ∷ split.behind) None) (split.before ++ s ∷ split.behind)
-      whole = subst (λ is. IsThread cs es (chain_key b) (head_at heads b) (last_of is None) is) split.whole mine.thread
-
-      same : c ≡ b → IsChain es' cs' c (head_at heads' c)
-      same q =
-          let t = thread_without (chain_key b) refl cs es (head_at heads b) (last_of (split.before ++ s ∷ split.behind) None) s None h.chain_links leave_lt split.before split.behind whole refl in
-          subst (λ k. IsChain es' cs' k (head_at heads' k)) (sym q) (record {
-            list = split.before ++ split.behind;
-            thread = record {
-              linked = linked_frame (unlinked cs s) s alone (split.before ++ split.behind) None None (off_without s split.before split.behind whole.apart) t.linked;
-              apart = t.apart;
-              members = t.members;
-              size = t.size;
-              begins = head_same heads b (links_at cs s) (subst (λ n. b < n) (sym h.heads_length) chain_lt) ∙ t.begins;
-              ends = refl;
-            };
-          })
-
-      other : nat_eq c b ≡ false → IsChain es' cs' c (head_at heads' c)
-      other apart =
-          let old = h.chained c clt in
-          let off : chain_key c (Some e) ≡ false = nat_eq_sym c b apart in
-          record {
-            list = old.list;
-            thread = subst (λ (o : Option ℕ). IsThread cs' es' (chain_key c) o (last_of old.list None) old.list) (sym (head_other heads b c (links_at cs s) apart))
-                (thread_links (chain_key c) refl cs cs' es' (head_at heads c) (last_of old.list None) old.list
-                (thread_same (chain_key c) refl cs es (head_at heads c) (last_of old.list None) s None h.chain_links leave_lt old.list old.thread (sym (isn't_of (chain_key c) off)))
-                (linked_frame (unlinked cs s) s alone old.list None None (old.thread.members s ∙ isn't_of (chain_key c) off)
-                (unlinked_frame cs s split.before split.behind whole.apart whole.linked (λ i on. subst (λ k. i < k) (sym h.chain_links) (in_entries (chain_key b) refl es i (sym (whole.members i) ∙ on))) old.list
-                (apart_by_keys (chain_key b) (chain_key c) cs cs es _ _ _ _ (split.before ++ s ∷ split.behind) old.list whole old.thread (chain_excl b c apart)) old.thread.linked)));
-          }
 
   abbrev lines_here : IsLines es ls v share moment
   lines_here = h.lined v share here
@@ -265,13 +182,10 @@ module _ (es : List (Option Held)) (cs ls : List Links) (heads : List (Option �
           let same : k ≡ s = h.unique k s z e was.1 at (x.0 ∙ sym of) (x.1 ∙ sym macs) in
           let bad : true ≡ false = sym (subst (λ n. nat_eq k n ≡ true) same (nat_eq_refl k)) ∙ was.0 in cc
 
-  pub leave_sound : IsSound es' cs' ls' heads' shares' moment
+  pub leave_sound : IsSound es' ls' shares' moment
   leave_sound = record {
-    chain_links = length-set (unlinked cs s) s alone ∙ length-unlinked cs s ∙ h.chain_links ∙ sym (length-set es s None);
     line_links = length-set (unlinked ls s) s alone ∙ length-unlinked ls s ∙ h.line_links ∙ sym (length-set es s None);
-    heads_length = heads_len heads b (links_at cs s) ∙ h.heads_length;
     shares_length = length-set shares v (Some share') ∙ h.shares_length;
-    chained = chained;
     lined = lined;
     unique = λ i j x y ix jy vids macs. h.unique i j x y (before i x ix).1 (before j y jy).1 vids macs;
     free = omega (arith, h.free, leave_count, sum_by-set vacancy es s None None leave_lt, ap vacancy at, sum_by-set share_count shares v (Some share') None share_lt, ap share_count here, length-set es s None);

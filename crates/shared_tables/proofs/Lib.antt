@@ -1,11 +1,21 @@
-pub mod SlotsLemmas
 pub mod Linked
 pub mod Buckets
+mod ColumnsLemmas
 pub mod Keys
+pub mod SlotsLemmas
 pub mod Threaded
+pub mod TreeLemmas
+pub mod ForestLemmas
 pub mod Walk
 pub mod SoundLemmas
 pub mod Entering
+pub mod Grafting
+pub mod Planting
+pub mod Clearing
+pub mod Pruning
+pub mod Relabeling
+pub mod Uprooting
+pub mod Bare
 pub mod Leaving
 pub mod Dropping
 pub mod Renewing
@@ -21,3 +31,7 @@ pub mod Sweeping
 pub mod StandingLemmas
 pub mod Lining
 pub mod ListingLemmas
+pub mod Admitting
+pub mod Parting
+pub mod Replacing
+pub mod Admissions

@@ -4,7 +4,7 @@ use Rattle.std.proofs.lemmas.List.{get_or-set_same, get_or-set_other, length-set
 use Rattle.std.proofs.lemmas.Bool.Decides.{nat_tests}
 use Rattle.shared_tables.specs.declared.links.Links.{Links}
 use Rattle.shared_tables.specs.Pool.{links_at, alone}
-use Rattle.shared_tables.specs.Threads.{next_set, previous_set, unlinked, pushed_back, pushed_front}
+use Rattle.shared_tables.specs.Threads.{next_set, previous_set, unlinked, pushed_back}
 use Rattle.shared_tables.specs.Line.{first_of, last_of, IsLinked, is_on, IsApart}
 
 -- or, and its parts
@@ -130,9 +130,6 @@ length-unlinked links s = let own = links_at links s in length-previous_set (nex
 
 pub length-pushed_back : (links : List Links) (o : Option ℕ) (s : ℕ) → length (pushed_back links o s) ≡ length links
 length-pushed_back links o s = length-next_set (set links s (record { previous = o; next = None })) o (Some s) ∙ length-set links s _
-
-pub length-pushed_front : (links : List Links) (o : Option ℕ) (s : ℕ) → length (pushed_front links o s) ≡ length links
-length-pushed_front links o s = length-previous_set (set links s (record { previous = None; next = o })) o (Some s) ∙ length-set links s _
 
 pub next_frame : (links : List Links) (o x : Option ℕ) (is : List ℕ) (b a : Option ℕ) → IsOff o is → IsLinked links b is a → IsLinked (next_set links o x) b is a
 next_frame links None x is b a off h = h

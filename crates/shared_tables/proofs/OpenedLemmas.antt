@@ -18,8 +18,8 @@ use Rattle.shared_tables.specs.declared.links.Links.{Links}
 use Rattle.shared_tables.specs.declared.share.Share.{Share}
 use Rattle.shared_tables.specs.Pool.{alone, vacancy}
 use Rattle.shared_tables.specs.Line.{weight, IsThread}
-use Rattle.shared_tables.specs.Shared.{chain_key, line_key, is_held, held_count}
-use Rattle.shared_tables.specs.Sound.{IsSound, IsLines, share_at, share_count, share_limit, rule_of, line_at, head_at}
+use Rattle.shared_tables.specs.Shared.{line_key, is_held, held_count}
+use Rattle.shared_tables.specs.Sound.{IsSound, IsLines, share_at, share_count, share_limit, rule_of, line_at}
 use Rattle.shared_tables.specs.Opened.{IsNew, AreOpened, new_share, segment_of_new}
 use Rattle.shared_tables.specs.Segments.{rows_of, kept_segment, segments_of}
 use Rattle.shared_tables.proofs.Linked.{by_bool, equal, nat_eq_refl}
@@ -52,13 +52,10 @@ none_counted (o ∷ shares) k = omega (arith, sum_by-cons share_count o shares, 
     one None f = refl
     one (Some share) f = (f share refl).count
 
-pub open_sound : (n : ℕ) (rules : List TableRule) (shares : List (Option Share)) → AreOpened rules shares → sum_by (λ (rule : TableRule). rule.limit) rules ≤ n → IsSound (replicate n None) (replicate n alone) (replicate n alone) (replicate 65536 None) shares 0
+pub open_sound : (n : ℕ) (rules : List TableRule) (shares : List (Option Share)) → AreOpened rules shares → sum_by (λ (rule : TableRule). rule.limit) rules ≤ n → IsSound (replicate n None) (replicate n alone) shares 0
 open_sound n rules shares o room = record {
-  chain_links = length-replicate n alone ∙ sym (length-replicate {A = Option Held} n None);
   line_links = length-replicate n alone ∙ sym (length-replicate {A = Option Held} n None);
-  heads_length = length-replicate {A = Option ℕ} 65536 None;
   shares_length = o.size;
-  chained = λ b lt. record { list = []; thread = no_thread n (replicate n alone) (chain_key b) refl (head_at (replicate 65536 None) b) None (none_at 65536 b) refl };
   lined = lined;
   unique = λ i j e f at_i. let bad : None ≡ Some e = sym (none_at n i) ∙ at_i in cc;
   free = omega (arith, sum_by-replicate vacancy n None, none_counted shares o.new, length-replicate {A = Option Held} n None);
@@ -138,17 +135,14 @@ opened_more rules i rule shares after distinct below is in_range some_time e o =
 
 -- ---- another ageing
 
-pub seconds_sound : (es : List (Option Held)) (cs ls : List Links) (heads : List (Option ℕ)) (shares : List (Option Share)) (moment v seconds : ℕ) (share : Share) → share_at shares v ≡ Some share → 0 < seconds
-    → IsSound es cs ls heads shares moment → IsSound es cs ls heads (set shares v (Some (record share { ageing = seconds }))) moment
-seconds_sound es cs ls heads shares moment v seconds share here some_time h =
+pub seconds_sound : (es : List (Option Held)) (ls : List Links) (shares : List (Option Share)) (moment v seconds : ℕ) (share : Share) → share_at shares v ≡ Some share → 0 < seconds
+    → IsSound es ls shares moment → IsSound es ls (set shares v (Some (record share { ageing = seconds }))) moment
+seconds_sound es ls shares moment v seconds share here some_time h =
     let other : Share = record share { ageing = seconds } in
     let lt : v < length shares = from (cases_lt v (length shares)) in
     record {
-      chain_links = h.chain_links;
       line_links = h.line_links;
-      heads_length = h.heads_length;
       shares_length = length-set shares v (Some other) ∙ h.shares_length;
-      chained = h.chained;
       lined = λ w was at_w. by_bool (nat_eq w v)
           (λ yes. let p : Some other ≡ Some was = sym (get_or-set_same shares v (Some other) None lt) ∙ subst (λ k. share_at (set shares v (Some other)) k ≡ Some was) (equal w v yes) at_w in
           let q : other ≡ was = cc in subst (λ k. IsLines es ls k was moment) (sym (equal w v yes)) (subst (λ x. IsLines es ls v x moment) q (mine (h.lined v share here))))

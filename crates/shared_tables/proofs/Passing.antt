@@ -8,12 +8,15 @@ use Rattle.shared_tables.specs.Pool.{Held}
 use Rattle.shared_tables.specs.declared.links.Links.{Links}
 use Rattle.shared_tables.specs.declared.share.Share.{Share}
 use Rattle.shared_tables.specs.declared.shared_tables.SharedTables.TheInside.{Inside}
-use Rattle.shared_tables.specs.Pool.{Pool, entry_at, links_at, alone, is_fixed_in, chain_in}
-use Rattle.shared_tables.specs.Threads.{IsHeld, unlinked, heads_without, ends_without, dropped}
+use Rattle.shared_tables.specs.Pool.{Pool, entry_at, links_at, alone, is_fixed_in}
+use Rattle.shared_tables.specs.Threads.{IsHeld, unlinked, ends_without, dropped}
 use Rattle.shared_tables.specs.declared.threads.Ends.{Ends}
 use Rattle.shared_tables.specs.Line.{first_of, is_on, IsThread}
 use Rattle.shared_tables.specs.Shared.{line_key, KeepsOrDrops, stands_at}
 use Rattle.shared_tables.specs.Sound.{share_at, shares_without, rule_of, IsSound}
+use Rattle.shared_tables.specs.Woods.{Woods, Uproots}
+use Rattle.shared_tables.specs.Forest.{IsForest}
+use Rattle.shared_tables.proofs.Uprooting.{uproot_forest}
 use Rattle.shared_tables.proofs.Linked.{by_bool, equal, nat_eq_refl, on_behind, first_on, own_links, is_on-push, linked_frame, off_without}
 use Rattle.shared_tables.proofs.Threaded.{thread_without, thread_links}
 use Rattle.shared_tables.proofs.SoundLemmas.{holds, sound_at}
@@ -26,8 +29,9 @@ abbrev pub seen_there : ℕ → Place → Option Held → Bool
 seen_there v place e = line_key v false e && stands_at place e
 
 -- of the part of the queue that was passed, what stood at the place has gone
-pub record Passes (old now : Pool) (heads : List (Option ℕ)) (was shares : List (Option Share)) (moment v : ℕ) (place : Place) (cursor : Option ℕ) (steps count : ℕ) : Type 0 where
-  pub sound : IsSound now.entries now.chains now.lines heads shares moment
+pub record Passes (old now : Pool) (forest : Woods) (was shares : List (Option Share)) (moment v : ℕ) (place : Place) (cursor : Option ℕ) (steps count : ℕ) : Type 0 where
+  pub sound : IsSound now.entries now.lines shares moment
+  pub trees : IsForest now.entries forest
   pub has : IsSome (share_at shares v)
   pub rules : map (option_map rule_of) shares ≡ map (option_map rule_of) was
   pub compared : now.compared ≡ old.compared
@@ -43,12 +47,13 @@ pub record Passes (old now : Pool) (heads : List (Option ℕ)) (was shares : Lis
   pub passed : (i : ℕ) → is_on i done ≡ true → stands_at place (entry_at now.entries i) ≡ false
   pub few : steps + length rest ≤ count
 
-pub pass_starts : (pool : Pool) (heads : List (Option ℕ)) (shares : List (Option Share)) (moment v : ℕ) (place : Place) (share : Share) → IsSound pool.entries pool.chains pool.lines heads shares moment → share_at shares v ≡ Some share
-    → Passes pool pool heads shares shares moment v place share.queue.first 0 share.count
-pass_starts pool heads shares moment v place share h here =
+pub pass_starts : (pool : Pool) (forest : Woods) (shares : List (Option Share)) (moment v : ℕ) (place : Place) (share : Share) → IsSound pool.entries pool.lines shares moment → IsForest pool.entries forest → share_at shares v ≡ Some share
+    → Passes pool pool forest shares shares moment v place share.queue.first 0 share.count
+pass_starts pool forest shares moment v place share h trees here =
     let lines = h.lined v share here in
     record {
       sound = h;
+      trees = trees;
       has = subst (λ (o : Option Share). IsSome o) (sym here) refl;
       rules = refl;
       compared = refl;
@@ -66,13 +71,13 @@ pass_starts pool heads shares moment v place share h here =
     }
 
 -- the slot at the cursor, and what stands behind it
-pub record AtSlot (old now : Pool) (heads : List (Option ℕ)) (was shares : List (Option Share)) (moment v : ℕ) (place : Place) (slot steps count : ℕ) : Type 0 where
-  pub whole : Passes old now heads was shares moment v place (Some slot) steps count
+pub record AtSlot (old now : Pool) (forest : Woods) (was shares : List (Option Share)) (moment v : ℕ) (place : Place) (slot steps count : ℕ) : Type 0 where
+  pub whole : Passes old now forest was shares moment v place (Some slot) steps count
   pub behind : List ℕ
   pub rest_is : whole.rest ≡ slot ∷ behind
 
-pub at_slot : (old now : Pool) (heads : List (Option ℕ)) (was shares : List (Option Share)) (moment v : ℕ) (place : Place) (slot steps count : ℕ) → Passes old now heads was shares moment v place (Some slot) steps count → AtSlot old now heads was shares moment v place slot steps count
-at_slot old now heads was shares moment v place slot steps count w =
+pub at_slot : (old now : Pool) (forest : Woods) (was shares : List (Option Share)) (moment v : ℕ) (place : Place) (slot steps count : ℕ) → Passes old now forest was shares moment v place (Some slot) steps count → AtSlot old now forest was shares moment v place slot steps count
+at_slot old now forest was shares moment v place slot steps count w =
     let b = from w.rest w.here in record { whole = w; behind = b.0; rest_is = b.1 }
   where
     from : (rest : List ℕ) → Some slot ≡ first_of rest None → (behind : List ℕ) × (rest ≡ slot ∷ behind)
@@ -84,9 +89,9 @@ stands_is : (o : Option Held) (stands place : Place) (same : Bool) → IsSome o 
 stands_is None stands place same some is e = let bad : false ≡ true = some in cc
 stands_is (Some h) stands place same some is e = sym (e ∙ ap (λ p. same_place p place) is)
 
-module _ (old now : Pool) (heads : List (Option ℕ)) (was shares : List (Option Share)) (moment v : ℕ) (place : Place) (slot steps count : ℕ) (w : Passes old now heads was shares moment v place (Some slot) steps count) where
-  abbrev a : AtSlot old now heads was shares moment v place slot steps count
-  a = at_slot old now heads was shares moment v place slot steps count w
+module _ (old now : Pool) (forest : Woods) (was shares : List (Option Share)) (moment v : ℕ) (place : Place) (slot steps count : ℕ) (w : Passes old now forest was shares moment v place (Some slot) steps count) where
+  abbrev a : AtSlot old now forest was shares moment v place slot steps count
+  a = at_slot old now forest was shares moment v place slot steps count w
 
   thread : IsThread now.lines now.entries (line_key v false) a.whole.first a.whole.last (a.whole.done ++ slot ∷ a.behind)
   thread = subst (λ is. IsThread now.lines now.entries (line_key v false) a.whole.first a.whole.last (a.whole.done ++ is)) a.rest_is a.whole.thread
@@ -113,9 +118,10 @@ module _ (old now : Pool) (heads : List (Option ℕ)) (was shares : List (Option
   fewer = omega (arith, a.whole.few, ap length a.rest_is)
 
   -- its entry stands elsewhere
-  pub pass_keep : stands_at place (entry_at now.entries slot) ≡ false → Passes old now heads was shares moment v place (links_at now.lines slot).next (steps + 1) count
+  pub pass_keep : stands_at place (entry_at now.entries slot) ≡ false → Passes old now forest was shares moment v place (links_at now.lines slot).next (steps + 1) count
   pass_keep elsewhere = record {
     sound = a.whole.sound;
+    trees = a.whole.trees;
     has = a.whole.has;
     rules = a.whole.rules;
     compared = a.whole.compared;
@@ -141,13 +147,14 @@ module _ (old now : Pool) (heads : List (Option ℕ)) (was shares : List (Option
   ends = ends_without (record { first = a.whole.first; last = a.whole.last }) (links_at now.lines slot)
 
   -- its entry goes
-  pub pass_drop : stands_at place (entry_at now.entries slot) ≡ true → (now' : Pool) (heads' : List (Option ℕ)) (shares' : List (Option Share)) → now' ≡ dropped now slot → heads' ≡ heads_without heads (chain_in (entry_at now.entries slot)) (links_at now.chains slot)
-      → shares' ≡ shares_without shares v (is_fixed_in (entry_at now.entries slot)) (links_at now.lines slot) → Passes old now' heads' was shares' moment v place (links_at now.lines slot).next (steps + 1) count
-  pass_drop there now' heads' shares' e heads_are shares_are =
-      subst (λ (p : Pool). Passes old p heads' was shares' moment v place (links_at now.lines slot).next (steps + 1) count) (sym e) (record {
-        sound = sound_at moment refl refl refl heads_are shares_are (drop_sound now.entries now.chains now.lines heads shares moment a.whole.sound v slot pass_stays);
+  pub pass_drop : stands_at place (entry_at now.entries slot) ≡ true → (now' : Pool) (forest' : Woods) (shares' : List (Option Share)) → now' ≡ dropped now slot → Uproots forest forest' slot
+      → shares' ≡ shares_without shares v (is_fixed_in (entry_at now.entries slot)) (links_at now.lines slot) → Passes old now' forest' was shares' moment v place (links_at now.lines slot).next (steps + 1) count
+  pass_drop there now' forest' shares' e uproots shares_are =
+      subst (λ (p : Pool). Passes old p forest' was shares' moment v place (links_at now.lines slot).next (steps + 1) count) (sym e) (record {
+        sound = sound_at moment refl refl shares_are (drop_sound now.entries now.lines shares moment a.whole.sound v slot pass_stays);
+        trees = uproot_forest now.entries forest forest' a.whole.trees pass_stays.entry slot pass_stays.at_slot uproots;
         has = subst (λ (o : Option Share). IsSome o) (sym (ap (λ xs. share_at xs v) shares_are)) still;
-        rules = ap (map (option_map rule_of)) shares_are ∙ drop_rules now.entries now.chains now.lines heads shares moment a.whole.sound v slot pass_stays ∙ a.whole.rules;
+        rules = ap (map (option_map rule_of)) shares_are ∙ drop_rules now.entries now.lines shares moment a.whole.sound v slot pass_stays ∙ a.whole.rules;
         compared = a.whole.compared;
         visited = a.whole.visited;
         size = length-set now.entries slot None ∙ a.whole.size;
@@ -175,19 +182,20 @@ module _ (old now : Pool) (heads : List (Option ℕ)) (was shares : List (Option
       was_there (inr q) = let bad : false ≡ true = sym (ap (stands_at place) q.0) ∙ there in cc
 
       still : IsSome (share_at (shares_without shares v (is_fixed_in (entry_at now.entries slot)) (links_at now.lines slot)) v)
-      still = drop_share now.entries now.chains now.lines heads shares moment a.whole.sound v slot pass_stays
+      still = drop_share now.entries now.lines shares moment a.whole.sound v slot pass_stays
 
 -- the same of the fields that a loop has behind its step
-pub pass_at : (old : Pool) (was : List (Option Share)) (v : ℕ) (place : Place) (i j : Inside) (cursor next : Option ℕ) (steps count : ℕ) → cursor ≡ next → i ≡ j → Passes old j.slots j.heads.items was j.shares.items j.moment v place next steps count
-    → Passes old i.slots i.heads.items was i.shares.items i.moment v place cursor steps count
+pub pass_at : (old : Pool) (was : List (Option Share)) (v : ℕ) (place : Place) (i j : Inside) (cursor next : Option ℕ) (steps count : ℕ) → cursor ≡ next → i ≡ j → Passes old j.slots j.forest was j.shares.items j.moment v place next steps count
+    → Passes old i.slots i.forest was i.shares.items i.moment v place cursor steps count
 pass_at old was v place i j cursor next steps count q e w =
-    subst (λ (o : Option ℕ). Passes old i.slots i.heads.items was i.shares.items i.moment v place o steps count) (sym q)
-    (subst (λ (x : Inside). Passes old x.slots x.heads.items was x.shares.items x.moment v place next steps count) (sym e) w)
+    subst (λ (o : Option ℕ). Passes old i.slots i.forest was i.shares.items i.moment v place o steps count) (sym q)
+    (subst (λ (x : Inside). Passes old x.slots x.forest was x.shares.items x.moment v place next steps count) (sym e) w)
 
 -- nothing is left of the queue
-pub pass_none : (old now : Pool) (heads : List (Option ℕ)) (was shares : List (Option Share)) (moment v : ℕ) (place : Place) (steps count : ℕ) → steps < count → Passes old now heads was shares moment v place None steps count → Passes old now heads was shares moment v place None (steps + 1) count
-pass_none old now heads was shares moment v place steps count lt w = record {
+pub pass_none : (old now : Pool) (forest : Woods) (was shares : List (Option Share)) (moment v : ℕ) (place : Place) (steps count : ℕ) → steps < count → Passes old now forest was shares moment v place None steps count → Passes old now forest was shares moment v place None (steps + 1) count
+pass_none old now forest was shares moment v place steps count lt w = record {
   sound = w.sound;
+  trees = w.trees;
   has = w.has;
   rules = w.rules;
   compared = w.compared;
@@ -209,9 +217,9 @@ pass_none old now heads was shares moment v place steps count lt w = record {
     none (i ∷ rest) e = let bad : None ≡ Some i = e in cc
 
 -- after as many steps as there are entries nothing is left
-pub pass_ends : (old now : Pool) (heads : List (Option ℕ)) (was shares : List (Option Share)) (moment v : ℕ) (place : Place) (cursor : Option ℕ) (steps count : ℕ) → count ≤ steps → Passes old now heads was shares moment v place cursor steps count
+pub pass_ends : (old now : Pool) (forest : Woods) (was shares : List (Option Share)) (moment v : ℕ) (place : Place) (cursor : Option ℕ) (steps count : ℕ) → count ≤ steps → Passes old now forest was shares moment v place cursor steps count
     → (i : ℕ) → seen_there v place (entry_at now.entries i) ≡ false
-pass_ends old now heads was shares moment v place cursor steps count le w i = by_bool (line_key v false (entry_at now.entries i))
+pass_ends old now forest was shares moment v place cursor steps count le w i = by_bool (line_key v false (entry_at now.entries i))
     (λ so. and_right _ _ (w.passed i (on_done w.rest (omega (arith, le, w.few)) (w.thread.members i ∙ so))))
     (λ off. ap (λ b. b && stands_at place (entry_at now.entries i)) off)
   where

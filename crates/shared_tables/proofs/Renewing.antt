@@ -1,5 +1,5 @@
--- What holds of the slots, the heads and the segments together holds when an entry has been renewed in its slot: it
--- leaves its line and comes behind the last of a line, and on its chain it stays.
+-- What holds of the slots and the segments together holds when an entry has been renewed in its slot: it leaves its line
+-- and comes behind the last of a line, and in its tree it stays.
 use Rattle.std.proofs.Common.{◌≡◌, ℕ, ◌+◌, ◌-◌, ◌<◌, Bool, true, false, List, length, map, set, Option, Some, None, IsSome, is_none, refl, sym, ap, ◌∙◌, subst, arith}
 use Rattle.std.proofs.lemmas.List.{get_or-set_same, length-set, set-set}
 use Rattle.std.specs.Option.{option_map}
@@ -9,14 +9,15 @@ use Rattle.shared_tables.specs.declared.threads.Ends.{Ends}
 use Rattle.shared_tables.specs.declared.shared_tables.SharedTables.TheInside.{Inside}
 use Rattle.shared_tables.specs.Pool.{Held}
 use Rattle.shared_tables.specs.declared.share.Share.{Share}
-use Rattle.shared_tables.specs.Bucket.{chain_of}
 use Rattle.shared_tables.specs.Pool.{Pool, links_at, entry_at, alone, is_fixed_in, renewed}
-use Rattle.shared_tables.specs.Threads.{IsHeld, HoldsAny, moved, AreEnds, unlinked, pushed_back, pushed_front, ends_without, ends_with, heads_without}
-use Rattle.shared_tables.specs.Line.{last_of}
-use Rattle.shared_tables.specs.Shared.{Shared, rule_at, chain_key, line_key, IsNow, IsOf}
+use Rattle.shared_tables.specs.Threads.{IsHeld, HoldsAny, moved, AreEnds, unlinked, pushed_back, ends_without, ends_with}
+use Rattle.shared_tables.specs.Shared.{Shared, rule_at, line_key, IsNow, IsOf}
 use Rattle.shared_tables.specs.SharedInside.{shared_of, IsSoundInside}
-use Rattle.shared_tables.specs.Sound.{IsChain, IsSound, share_at, head_at, line_at, with_line, share_moved, shares_moved, share_written, last_left, HasEndsLeft, rule_of}
-use Rattle.shared_tables.proofs.Threaded.{thread_same, back_over}
+use Rattle.shared_tables.specs.Sound.{IsSound, share_at, line_at, with_line, share_moved, shares_moved, share_written, last_left, HasEndsLeft, rule_of}
+use Rattle.shared_tables.specs.Whole.{IsWhole}
+use Rattle.shared_tables.specs.Forest.{IsForest}
+use Rattle.shared_tables.proofs.Relabeling.{renew_forest}
+use Rattle.shared_tables.proofs.Threaded.{back_over}
 use Rattle.shared_tables.proofs.SoundLemmas.{sound_at, same_shared, thread_ends, holds_last, holds_more, rules_stay, share_in_range}
 use Rattle.shared_tables.proofs.Entering.{enter_sound}
 use Rattle.shared_tables.proofs.Leaving.{leave_sound, leave_lacks, leave_lt, leave_count}
@@ -60,7 +61,7 @@ rule_is share true false own s = refl
 rule_is share false true own s = refl
 rule_is share false false own s = refl
 
-module _ (es : List (Option Held)) (cs ls : List Links) (heads : List (Option ℕ)) (shares : List (Option Share)) (moment : ℕ) (h : IsSound es cs ls heads shares moment)
+module _ (es : List (Option Held)) (ls : List Links) (shares : List (Option Share)) (moment : ℕ) (h : IsSound es ls shares moment)
     (v s : ℕ) (k : Stays es shares v s) (place : Place) (last : Option ℕ) (now : IsNow last moment) where
   abbrev was : Bool
   was = is_none k.entry.last
@@ -83,36 +84,20 @@ module _ (es : List (Option Held)) (cs ls : List Links) (heads : List (Option �
   abbrev shares' : List (Option Share)
   shares' = set shares v (Some share')
 
-  abbrev b : ℕ
-  b = chain_of k.entry.vid k.entry.mac
-
-  abbrev chains' : List Links
-  chains' = set (unlinked cs s) s alone
-
   abbrev lines' : List Links
   lines' = set (unlinked ls s) s alone
 
-  abbrev heads' : List (Option ℕ)
-  heads' = heads_without heads b (links_at cs s)
-
-  -- what it would be on its chain, had it left that too
-  abbrev chains'' : List Links
-  chains'' = pushed_front (set chains' s alone) (head_at heads' b) s
-
-  abbrev heads'' : List (Option ℕ)
-  heads'' = set heads' b (Some s)
-
   lt : s < length es
-  lt = leave_lt es cs ls heads shares moment h v k.share k.here k.entry k.is_of s k.at_slot
+  lt = leave_lt es ls shares moment h v k.share k.here k.entry k.is_of s k.at_slot
 
   share_lt : v < length shares
   share_lt = share_in_range shares v k.share k.here
 
   some : 0 < k.share.count
-  some = leave_count es cs ls heads shares moment h v k.share k.here k.entry k.is_of s k.at_slot
+  some = leave_count es ls shares moment h v k.share k.here k.entry k.is_of s k.at_slot
 
-  abbrev left : IsSound gone chains' lines' heads' shares' moment
-  left = leave_sound es cs ls heads shares moment h v k.share k.here k.entry k.is_of s k.at_slot
+  abbrev left : IsSound gone lines' shares' moment
+  left = leave_sound es ls shares moment h v k.share k.here k.entry k.is_of s k.at_slot
 
   here' : share_at (set shares v (Some share')) v ≡ Some share'
   here' = get_or-set_same shares v (Some share') None share_lt
@@ -124,10 +109,10 @@ module _ (es : List (Option Held)) (cs ls : List Links) (heads : List (Option �
   room = let limit = (h.lined v k.share k.here).limit in omega (arith, some, limit, limit_is k.share was own)
 
   -- it leaves, and comes again
-  abbrev joined : IsSound (set gone s (Some entry')) chains'' (pushed_back (set lines' s alone) (line_at share' fixed).last s) heads'' (set shares' v (Some (again share' fixed s))) moment
+  abbrev joined : IsSound (set gone s (Some entry')) (pushed_back (set lines' s alone) (line_at share' fixed).last s) (set shares' v (Some (again share' fixed s))) moment
   joined =
-      enter_sound gone chains' lines' heads' shares' moment left v share' here' room entry' k.is_of
-      (leave_lacks es cs ls heads shares moment h v k.share k.here k.entry k.is_of s k.at_slot k.entry.mac refl) now s lt' (get_or-set_same es s None None lt)
+      enter_sound gone lines' shares' moment left v share' here' room entry' k.is_of
+      (leave_lacks es ls shares moment h v k.share k.here k.entry k.is_of s k.at_slot k.entry.mac refl) now s lt' (get_or-set_same es s None None lt)
 
   entries_are : set es s (renewed (entry_at es s) place last) ≡ set gone s (Some entry')
   entries_are = ap (λ o. set es s (renewed o place last)) k.at_slot ∙ sym (set-set es s None (Some entry'))
@@ -145,33 +130,11 @@ module _ (es : List (Option Held)) (cs ls : List Links) (heads : List (Option �
   lines_are l x e =
       ap (λ l. pushed_back (unlinked ls s) l s) e ∙ sym (back_over (unlinked ls s) s (line_at share' fixed).last x) ∙ sym (back_over (set (unlinked ls s) s x) s (line_at share' fixed).last x)
 
-  renewed_sound : IsSound (set es s (renewed (entry_at es s) place last)) chains'' (pushed_back (unlinked ls s) (last_left (share_at shares v) (is_fixed_in (entry_at es s)) fixed own) s) heads'' (shares_moved shares v (is_fixed_in (entry_at es s)) fixed own s) moment
-  renewed_sound = sound_at moment entries_are refl (lines_are (last_left (share_at shares v) (is_fixed_in (entry_at es s)) fixed own) alone last_left_is) refl shares_are joined
-
-  chained : (c : ℕ) → c < 65536 → IsChain (set es s (renewed (entry_at es s) place last)) cs c (head_at heads c)
-  chained c clt =
-      let old = h.chained c clt in
-      record {
-        list = old.list;
-        thread = thread_same (chain_key c) refl cs es (head_at heads c) (last_of old.list None) s (renewed (entry_at es s) place last) h.chain_links lt old.list old.thread
-            (ap (λ o. chain_key c (renewed o place last)) k.at_slot ∙ sym (ap (chain_key c) k.at_slot));
-      }
-
-  renew_sound : IsSound (set es s (renewed (entry_at es s) place last)) cs (pushed_back (unlinked ls s) (last_left (share_at shares v) (is_fixed_in (entry_at es s)) fixed own) s) heads (shares_moved shares v (is_fixed_in (entry_at es s)) fixed own s) moment
-  renew_sound = record {
-    chain_links = h.chain_links ∙ sym (length-set es s (renewed (entry_at es s) place last));
-    line_links = renewed_sound.line_links;
-    heads_length = h.heads_length;
-    shares_length = renewed_sound.shares_length;
-    chained = chained;
-    lined = renewed_sound.lined;
-    unique = renewed_sound.unique;
-    free = renewed_sound.free;
-    room = renewed_sound.room;
-  }
+  pub renew_sound : IsSound (set es s (renewed (entry_at es s) place last)) (pushed_back (unlinked ls s) (last_left (share_at shares v) (is_fixed_in (entry_at es s)) fixed own) s) (shares_moved shares v (is_fixed_in (entry_at es s)) fixed own s) moment
+  renew_sound = sound_at moment entries_are (lines_are (last_left (share_at shares v) (is_fixed_in (entry_at es s)) fixed own) alone last_left_is) shares_are joined
 
   -- the line that it comes to ends with an entry
-  renew_last : HoldsAny (set es s (renewed (entry_at es s) place last)) (last_left (share_at shares v) (is_fixed_in (entry_at es s)) fixed own)
+  pub renew_last : HoldsAny (set es s (renewed (entry_at es s) place last)) (last_left (share_at shares v) (is_fixed_in (entry_at es s)) fixed own)
   renew_last =
       let lines = left.lined v share' here' in
       subst (λ o. HoldsAny (set es s (renewed (entry_at es s) place last)) o) (sym last_left_is)
@@ -179,14 +142,14 @@ module _ (es : List (Option Held)) (cs ls : List Links) (heads : List (Option �
       (holds_more gone s entry' (line_at share' fixed).last lt' (holds_last (line_key v fixed) refl lines' gone _ _ (lines.list fixed) (lines.thread fixed))))
 
   -- and has both its ends, or neither
-  renew_ends : HasEndsLeft (share_at shares v) (is_fixed_in (entry_at es s)) fixed own
+  pub renew_ends : HasEndsLeft (share_at shares v) (is_fixed_in (entry_at es s)) fixed own
   renew_ends =
       let lines = left.lined v share' here' in
       subst (λ (o : Option Held). HasEndsLeft (share_at shares v) (is_fixed_in o) fixed own) (sym k.at_slot)
       (subst (λ (o : Option Share). HasEndsLeft o was fixed own) (sym k.here)
       (subst (λ (x : Ends). AreEnds x) (line_is k.share was fixed own) (thread_ends lines' gone (line_key v fixed) _ _ (lines.list fixed) (lines.thread fixed))))
 
-  renew_rules : map (option_map rule_of) (shares_moved shares v (is_fixed_in (entry_at es s)) fixed own s) ≡ map (option_map rule_of) shares
+  pub renew_rules : map (option_map rule_of) (shares_moved shares v (is_fixed_in (entry_at es s)) fixed own s) ≡ map (option_map rule_of) shares
   renew_rules = ap (map (option_map rule_of)) moved_shares ∙ rules_stay shares v k.share (share_moved was fixed own s k.share) k.here (rule_is k.share was fixed own s)
 
 -- an entry can leave its line for the end of a line of its segment
@@ -209,28 +172,35 @@ module _ (i : Inside) (now : Shared) (e : shared_of i ≡ now) (h : IsSoundInsid
 
   pub renewable : IsRenewable i.slots.entries i.slots.lines i.shares.items v s place last
   renewable =
-      let t : IsThreaded i.slots.entries i.slots.chains i.slots.lines i.shares.items v s = threaded i.slots.entries i.slots.chains i.slots.lines i.heads.items i.shares.items i.moment h v s k in
+      let t : IsThreaded i.slots.entries i.slots.lines i.shares.items v s = threaded i.slots.entries i.slots.lines i.shares.items i.moment h.sound v s k in
       record {
         held = t.held;
         previous = t.line_previous;
         next = t.line_next;
         there = subst (λ (o : Option Share). IsSome o) (sym k.here) refl;
-        behind = renew_last i.slots.entries i.slots.chains i.slots.lines i.heads.items i.shares.items i.moment h v s k place last at;
-        ends = renew_ends i.slots.entries i.slots.chains i.slots.lines i.heads.items i.shares.items i.moment h v s k place last at;
+        behind = renew_last i.slots.entries i.slots.lines i.shares.items i.moment h.sound v s k place last at;
+        ends = renew_ends i.slots.entries i.slots.lines i.shares.items i.moment h.sound v s k place last at;
       }
 
   module _ (pool : Pool) (shares : List (Option Share))
       (pool_is : pool ≡ moved i.slots s place last (last_left (share_at i.shares.items v) (is_fixed_in (entry_at i.slots.entries s)) (is_none last) (links_at i.slots.lines s)))
       (shares_is : shares ≡ shares_moved i.shares.items v (is_fixed_in (entry_at i.slots.entries s)) (is_none last) (links_at i.slots.lines s) s) where
-    pub renewed_inside : IsSound pool.entries pool.chains pool.lines i.heads.items shares i.moment
+    renewed_inside : IsSound pool.entries pool.lines shares i.moment
     renewed_inside =
-        sound_at i.moment (ap (λ (p : Pool). p.entries) pool_is) (ap (λ (p : Pool). p.chains) pool_is) (ap (λ (p : Pool). p.lines) pool_is) refl shares_is
-        (renew_sound i.slots.entries i.slots.chains i.slots.lines i.heads.items i.shares.items i.moment h v s k place last at)
+        sound_at i.moment (ap (λ (p : Pool). p.entries) pool_is) (ap (λ (p : Pool). p.lines) pool_is) shares_is
+        (renew_sound i.slots.entries i.slots.lines i.shares.items i.moment h.sound v s k place last at)
+
+    pub renewed_whole : IsWhole pool i.forest shares i.moment
+    renewed_whole = record {
+      sound = renewed_inside;
+      forest = subst (λ es. IsForest es i.forest) (sym (ap (λ (p : Pool). p.entries) pool_is ∙ ap (λ o. set i.slots.entries s (renewed o place last)) k.at_slot))
+          (renew_forest i.slots.entries i.forest h.forest k.entry (record k.entry { place = place; last = last }) s k.at_slot refl refl);
+    }
 
     pub renewed_seen : ◌≡◌ {A = Shared} (record { entries = pool.entries; rules = map (option_map rule_of) shares; moment = i.moment; calls = i.calls.total; compared = pool.compared; visited = pool.visited })
         (record now { entries = set now.entries s (renewed (entry_at now.entries s) place last) })
     renewed_seen =
         same_shared i.moment i.calls.total (ap (λ (p : Pool). p.entries) pool_is)
-        (ap (map (option_map rule_of)) shares_is ∙ renew_rules i.slots.entries i.slots.chains i.slots.lines i.heads.items i.shares.items i.moment h v s k place last at)
+        (ap (map (option_map rule_of)) shares_is ∙ renew_rules i.slots.entries i.slots.lines i.shares.items i.moment h.sound v s k place last at)
         (ap (λ (p : Pool). p.compared) pool_is) (ap (λ (p : Pool). p.visited) pool_is)
         ∙ ap (λ (w : Shared). record w { entries = set w.entries s (renewed (entry_at w.entries s) place last) }) e

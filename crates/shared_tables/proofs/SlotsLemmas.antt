@@ -1,5 +1,5 @@
 -- What a write to one slot leaves of the columns and of the free list.
-use Rattle.std.proofs.Common.{cond, is_some, ◌≡◌, ℕ, ◌+◌, ◌<◌, List, [], ◌∷◌, ◌++◌, length, length-append, map, get_or, set, Option, Some, None, IsSome, refl, sym, ap, ◌∙◌, subst, arith}
+use Rattle.std.proofs.Common.{cond, is_some, true, ◌≡◌, ℕ, ◌+◌, ◌^◌, ◌<◌, List, [], ◌∷◌, ◌++◌, length, length-append, map, get_or, set, Option, Some, None, IsSome, refl, sym, ap, ◌∙◌, subst, arith}
 use Rattle.std.proofs.lemmas.List.Sums.{sum_by-append}
 use Rattle.std.proofs.Math.ListN.{get_or-append}
 use Rattle.std.proofs.lemmas.List.{map-append, replicate-append-replicate, get_or_push, map-set, get_or-map, get_or-set_same, get_or-set_other, length-set, length-map}
@@ -10,16 +10,16 @@ use Rattle.shared_tables.specs.declared.links.Links.{Links}
 use Rattle.shared_tables.specs.declared.slots.Slots.TheInside.{Inside}
 use Rattle.shared_tables.specs.declared.slots.Kind.{Kind}
 use Rattle.shared_tables.specs.declared.slots.Kind.TheVariants as kind
-use Rattle.shared_tables.specs.declared.slots.Thread.{Thread}
-use Rattle.shared_tables.specs.declared.slots.Thread.TheVariants.{Chain, Line}
 use Rattle.filter_db.specs.declared.place.Place.{Place}
 use Rattle.shared_tables.specs.Bucket.{vid_in, mac_in}
-use Rattle.shared_tables.specs.Pool.{Pool, Held, IfHeld, entry_at, links_at, column, with_column, vacancy, free_count, renewed, place_in, taken, freed, alone, free_pool}
-use Rattle.shared_tables.specs.Slots.{entry_in, entry_by, kind_of, moment_of, chain_of_slot, line_of, slot_with, links_on, pool_with, pool_of, no_slot, IsAbsent, IsFreeList, IsFreeAll, HasFreeList}
+use Rattle.shared_tables.specs.Pool.{Pool, Held, IfHeld, entry_at, links_at, vacancy, free_count, renewed, readdressed, place_in, taken, freed, alone, free_pool}
+use Rattle.shared_tables.specs.Forest.{key_in}
+use Rattle.shared_tables.proofs.Keys.{key_of-key}
+use Rattle.shared_tables.specs.Slots.{entry_in, entry_by, kind_of, moment_of, line_of, pool_with, pool_of, no_slot, IsAbsent, IsFreeList, IsFreeAll, HasFreeList}
 
-pub same_pool : {es fs : List (Option Held)} {cs ds ls ms : List Links} (n v : ℕ) → es ≡ fs → cs ≡ ds → ls ≡ ms
-    → ◌≡◌ {A = Pool} (record { entries = es; chains = cs; lines = ls; compared = n; visited = v }) (record { entries = fs; chains = ds; lines = ms; compared = n; visited = v })
-same_pool n v p q r = λ i. record { entries = p i; chains = q i; lines = r i; compared = n; visited = v }
+pub same_pool : {es fs : List (Option Held)} {ls ms : List Links} (n v : ℕ) → es ≡ fs → ls ≡ ms
+    → ◌≡◌ {A = Pool} (record { entries = es; lines = ls; compared = n; visited = v }) (record { entries = fs; lines = ms; compared = n; visited = v })
+same_pool n v p r = λ i. record { entries = p i; lines = r i; compared = n; visited = v }
 
 -- the slot that was read
 read : (xs : List Slot) (i : ℕ) (old : Slot) → i < length xs → old ≡ get_or xs i old → (e : Option Held) → get_or (map entry_in xs) i e ≡ entry_in old
@@ -35,35 +35,28 @@ line_held s h = held (entry_in s) h where
 held_old : (xs : List Slot) (i : ℕ) (old : Slot) → i < length xs → old ≡ get_or xs i old → IsSome (entry_at (map entry_in xs) i) → IsSome (entry_in old)
 held_old xs i old lt is held = subst (λ (o : Option Held). IsSome o) (read xs i old lt is None) held
 
--- what a slot has on a thread
-own_links : (xs : List Slot) (n v i : ℕ) (t : Thread) (old : Slot) → i < length xs → old ≡ get_or xs i old → IsSome (entry_in old) → links_on t old ≡ links_at (column t (pool_with xs n v)) i
-own_links xs n v i Chain old lt is held = sym (get_or-map chain_of_slot xs i old alone lt ∙ ap chain_of_slot (sym is))
-own_links xs n v i Line old lt is held = sym (line_held old held) ∙ sym (get_or-map line_of xs i old alone lt ∙ ap line_of (sym is))
+-- what a slot has on its line
+own_links : (xs : List Slot) (n v i : ℕ) (old : Slot) → i < length xs → old ≡ get_or xs i old → IsSome (entry_in old) → old.line ≡ links_at (pool_with xs n v).lines i
+own_links xs n v i old lt is held = sym (line_held old held) ∙ sym (get_or-map line_of xs i old alone lt ∙ ap line_of (sym is))
 
 -- a write of other neighbours
-pub pool-set_links : (xs : List Slot) (n v i : ℕ) (t : Thread) (links : Links) (old : Slot) → i < length xs → old ≡ get_or xs i old → IsSome (entry_in old)
-    → pool_with (set xs i (slot_with t old links)) n v ≡ with_column t (pool_with xs n v) (set (column t (pool_with xs n v)) i links)
-pool-set_links xs n v i Chain links old lt is held =
-    same_pool n v (map-set_same entry_in xs i (slot_with Chain old links) old (ap entry_in is))
-    (map-set chain_of_slot xs i (slot_with Chain old links))
-    (map-set_same line_of xs i (slot_with Chain old links) old (ap line_of is))
-pool-set_links xs n v i Line links old lt is held =
-    same_pool n v (map-set_same entry_in xs i (slot_with Line old links) old (ap entry_in is))
-    (map-set_same chain_of_slot xs i (slot_with Line old links) old (ap chain_of_slot is))
-    (map-set line_of xs i (slot_with Line old links) ∙ ap (set (map line_of xs) i) (line_held (slot_with Line old links) held))
+pub pool-set_links : (xs : List Slot) (n v i : ℕ) (links : Links) (old : Slot) → i < length xs → old ≡ get_or xs i old → IsSome (entry_in old)
+    → pool_with (set xs i (record old { line = links })) n v ≡ record (pool_with xs n v) { lines = set (map line_of xs) i links }
+pool-set_links xs n v i links old lt is held =
+    same_pool n v (map-set_same entry_in xs i (record old { line = links }) old (ap entry_in is))
+    (map-set line_of xs i (record old { line = links }) ∙ ap (set (map line_of xs) i) (line_held (record old { line = links }) held))
 
 -- a write of another entry beside the same neighbours
-pub pool-set_entry : (xs : List Slot) (n v i : ℕ) (s old : Slot) → i < length xs → old ≡ get_or xs i old → s.chain ≡ old.chain → s.line ≡ old.line → is_some (entry_in s) ≡ is_some (entry_in old)
+pub pool-set_entry : (xs : List Slot) (n v i : ℕ) (s old : Slot) → i < length xs → old ≡ get_or xs i old → s.line ≡ old.line → is_some (entry_in s) ≡ is_some (entry_in old)
     → pool_with (set xs i s) n v ≡ record (pool_with xs n v) { entries = set (map entry_in xs) i (entry_in s) }
-pool-set_entry xs n v i s old lt is chain line same =
+pool-set_entry xs n v i s old lt is line same =
     same_pool n v (map-set entry_in xs i s)
-    (map-set_same chain_of_slot xs i s old (chain ∙ ap chain_of_slot is))
     (map-set_same line_of xs i s old (ap (λ l. cond (is_some (entry_in s)) l alone) line ∙ ap (λ b. cond b old.line alone) same ∙ ap line_of is))
 
 -- a whole slot written
 pub pool-set : (xs : List Slot) (n v i : ℕ) (s : Slot)
-    → pool_with (set xs i s) n v ≡ record (pool_with xs n v) { entries = set (map entry_in xs) i (entry_in s); chains = set (map chain_of_slot xs) i (chain_of_slot s); lines = set (map line_of xs) i (line_of s) }
-pool-set xs n v i s = same_pool n v (map-set entry_in xs i s) (map-set chain_of_slot xs i s) (map-set line_of xs i s)
+    → pool_with (set xs i s) n v ≡ record (pool_with xs n v) { entries = set (map entry_in xs) i (entry_in s); lines = set (map line_of xs) i (line_of s) }
+pool-set xs n v i s = same_pool n v (map-set entry_in xs i s) (map-set line_of xs i s)
 
 -- what the free list says of a slot on it
 module _ (xs : List Slot) where
@@ -148,9 +141,9 @@ module _ (xs : List Slot) (n v i slot : ℕ) (now : Pool) (e : pool_with xs n v 
   pub entry_read : (old : Slot) → old ≡ get_or xs i old → slot < length now.entries → entry_in old ≡ entry_at now.entries slot
   entry_read old is lt = sym (read xs i old (in_range lt) is None) ∙ forth (λ w s. entry_at (map entry_in xs) i ≡ entry_at w.entries s) refl
 
-  pub links_read : (t : Thread) (old : Slot) → old ≡ get_or xs i old → slot < length now.entries → IsSome (entry_at now.entries slot) → links_on t old ≡ links_at (column t now) slot
-  links_read t old is lt h =
-      own_links xs n v i t old (in_range lt) is (held_old xs i old (in_range lt) is (back (λ w s. IsSome (entry_at w.entries s)) h)) ∙ forth (λ w s. links_at (column t (pool_with xs n v)) i ≡ links_at (column t w) s) refl
+  pub links_read : (old : Slot) → old ≡ get_or xs i old → slot < length now.entries → IsSome (entry_at now.entries slot) → old.line ≡ links_at now.lines slot
+  links_read old is lt h =
+      own_links xs n v i old (in_range lt) is (held_old xs i old (in_range lt) is (back (λ w s. IsSome (entry_at w.entries s)) h)) ∙ forth (λ w s. links_at (pool_with xs n v).lines i ≡ links_at w.lines s) refl
 
   pub held_old_at : (old : Slot) → old ≡ get_or xs i old → slot < length now.entries → IsSome (entry_at now.entries slot) → IsSome (entry_in old)
   held_old_at old is lt h = held_old xs i old (in_range lt) is (back (λ w s. IsSome (entry_at w.entries s)) h)
@@ -159,15 +152,19 @@ pub is_some-renewed : (o : Option Held) (place : Place) (last : Option ℕ) → 
 is_some-renewed None place last = refl
 is_some-renewed (Some e) place last = refl
 
+pub is_some-readdressed : (o : Option Held) (vid : ℕ) (mac : List ℕ) → is_some (readdressed o vid mac) ≡ is_some o
+is_some-readdressed None vid mac = refl
+is_some-readdressed (Some e) vid mac = refl
+
 pub some_renewed : (o : Option Held) (place : Place) (last : Option ℕ) → IsSome o → IsSome (renewed o place last)
 some_renewed None place last h = h
 some_renewed (Some e) place last h = refl
 
 -- a write of another place and moment
-pub pool-renew : (xs : List Slot) (n v i : ℕ) (place : Place) (last : Option ℕ) (s old : Slot) → i < length xs → old ≡ get_or xs i old → s.chain ≡ old.chain → s.line ≡ old.line → entry_in s ≡ renewed (entry_in old) place last
+pub pool-renew : (xs : List Slot) (n v i : ℕ) (place : Place) (last : Option ℕ) (s old : Slot) → i < length xs → old ≡ get_or xs i old → s.line ≡ old.line → entry_in s ≡ renewed (entry_in old) place last
     → pool_with (set xs i s) n v ≡ record (pool_with xs n v) { entries = set (map entry_in xs) i (renewed (entry_at (map entry_in xs) i) place last) }
-pool-renew xs n v i place last s old lt is chain line e =
-    pool-set_entry xs n v i s old lt is chain line (ap is_some e ∙ is_some-renewed (entry_in old) place last)
+pool-renew xs n v i place last s old lt is line e =
+    pool-set_entry xs n v i s old lt is line (ap is_some e ∙ is_some-renewed (entry_in old) place last)
     ∙ ap (λ o. record (pool_with xs n v) { entries = set (map entry_in xs) i o }) (e ∙ ap (λ o. renewed o place last) (sym (read xs i old lt is None)))
 
 -- the fields of a renewed slot
@@ -184,10 +181,6 @@ pub held_by : (kind : Kind) (key last : ℕ) (place : Place) (vid : ℕ) (mac : 
 held_by kind.Free key last place vid mac h = cc
 held_by kind.Learned key last place vid mac h = (λ x. x, λ x. x)
 held_by kind.Fixed key last place vid mac h = (λ x. x, λ x. x)
-
-pub slot_with_entry : (t : Thread) (s : Slot) (links : Links) → entry_in (slot_with t s links) ≡ entry_in s
-slot_with_entry Chain s links = refl
-slot_with_entry Line s links = refl
 
 -- A slot that a method writes, which holds an entry before and after: is says that it was read there, e and q are as above.
 module _ (a : Inside) (i slot : ℕ) (now : Pool) (e : pool_of a ≡ now) (q : i ≡ slot) (lt : slot < length now.entries) (held : IsSome (entry_at now.entries slot)) (old s : Slot) (is : old ≡ get_or a.slots.items i old) where
@@ -212,36 +205,48 @@ module _ (a : Inside) (i slot : ℕ) (now : Pool) (e : pool_of a ≡ now) (q : i
     pub renewed_free : HasFreeList a → (free : List ℕ) × IsFreeAll (set a.slots.items i s) a.free free
     renewed_free = written_free (subst (λ (o : Option Held). IsSome o) (sym entry) (some_renewed (entry_in old) place last held_before))
 
-    pub renewed_pool : s.chain ≡ old.chain → s.line ≡ old.line
+    pub renewed_pool : s.line ≡ old.line
         → pool_with (set a.slots.items i s) a.compared.total a.visited.total ≡ record now { entries = set now.entries slot (renewed (entry_at now.entries slot) place last) }
-    renewed_pool chain line =
+    renewed_pool line =
         forth xs n v i slot now e q (λ w k. pool_with (set xs i s) n v ≡ record w { entries = set w.entries k (renewed (entry_at w.entries k) place last) })
-        (pool-renew xs n v i place last s old (in_range xs n v i slot now e q lt) is chain line entry)
+        (pool-renew xs n v i place last s old (in_range xs n v i slot now e q lt) is line entry)
 
   pub place_read : place_in (entry_in old) ≡ place_in (entry_at now.entries slot)
   place_read = ap place_in (entry_read xs n v i slot now e q old is lt)
 
-  -- it has other neighbours on a thread
-  module _ (t : Thread) (links : Links) (linked : s ≡ slot_with t old links) where
-    pub linked_free : HasFreeList a → (free : List ℕ) × IsFreeAll (set a.slots.items i s) a.free free
-    linked_free = written_free (subst (λ (o : Option Held). IsSome o) (sym (ap entry_in linked ∙ slot_with_entry t old links)) held_before)
+  -- it has another address
+  module _ (vid : ℕ) (mac : List ℕ) (entry : entry_in s ≡ readdressed (entry_in old) vid mac) where
+    pub readdressed_free : HasFreeList a → (free : List ℕ) × IsFreeAll (set a.slots.items i s) a.free free
+    readdressed_free = written_free (subst (λ (o : Option Held). IsSome o) (sym entry) (subst (λ b. b ≡ true) (sym (is_some-readdressed (entry_in old) vid mac)) held_before))
 
-    pub linked_pool : pool_with (set a.slots.items i s) a.compared.total a.visited.total ≡ with_column t now (set (column t now) slot links)
+    pub readdressed_pool : s.line ≡ old.line
+        → pool_with (set a.slots.items i s) a.compared.total a.visited.total ≡ record now { entries = set now.entries slot (readdressed (entry_at now.entries slot) vid mac) }
+    readdressed_pool line =
+        forth xs n v i slot now e q (λ w k. pool_with (set xs i s) n v ≡ record w { entries = set w.entries k (readdressed (entry_at w.entries k) vid mac) })
+        (pool-set_entry xs n v i s old (in_range xs n v i slot now e q lt) is line (ap is_some entry ∙ is_some-readdressed (entry_in old) vid mac)
+        ∙ ap (λ o. record (pool_with xs n v) { entries = set (map entry_in xs) i o }) (entry ∙ ap (λ o. readdressed o vid mac) (sym (read xs i old (in_range xs n v i slot now e q lt) is None))))
+
+  -- it has other neighbours
+  module _ (links : Links) (linked : s ≡ record old { line = links }) where
+    pub linked_free : HasFreeList a → (free : List ℕ) × IsFreeAll (set a.slots.items i s) a.free free
+    linked_free = written_free (subst (λ (o : Option Held). IsSome o) (sym (ap entry_in linked)) held_before)
+
+    pub linked_pool : pool_with (set a.slots.items i s) a.compared.total a.visited.total ≡ record now { lines = set now.lines slot links }
     linked_pool =
         ap (λ (x : Slot). pool_with (set xs i x) n v) linked
-        ∙ forth xs n v i slot now e q (λ w k. pool_with (set xs i (slot_with t old links)) n v ≡ with_column t w (set (column t w) k links))
-        (pool-set_links xs n v i t links old (in_range xs n v i slot now e q lt) is held_before)
+        ∙ forth xs n v i slot now e q (λ w k. pool_with (set xs i (record old { line = links })) n v ≡ record w { lines = set w.lines k links })
+        (pool-set_links xs n v i links old (in_range xs n v i slot now e q lt) is held_before)
 
 -- a slot that an entry takes, and one that it leaves
-pub pool-taken : (xs : List Slot) (n v i : ℕ) (s : Slot) (e : Held) → entry_in s ≡ Some e → s.chain ≡ alone → s.line ≡ alone → pool_with (set xs i s) n v ≡ taken (pool_with xs n v) i e
-pool-taken xs n v i s e entry chain line =
+pub pool-taken : (xs : List Slot) (n v i : ℕ) (s : Slot) (e : Held) → entry_in s ≡ Some e → s.line ≡ alone → pool_with (set xs i s) n v ≡ taken (pool_with xs n v) i e
+pool-taken xs n v i s e entry line =
     pool-set xs n v i s
-    ∙ same_pool n v (ap (set (map entry_in xs) i) entry) (ap (set (map chain_of_slot xs) i) chain) (ap (set (map line_of xs) i) (ap (λ o. cond (is_some o) s.line alone) entry ∙ line))
+    ∙ same_pool n v (ap (set (map entry_in xs) i) entry) (ap (set (map line_of xs) i) (ap (λ o. cond (is_some o) s.line alone) entry ∙ line))
 
-pub pool-freed : (xs : List Slot) (n v i : ℕ) (s : Slot) → entry_in s ≡ None → s.chain ≡ alone → pool_with (set xs i s) n v ≡ freed (pool_with xs n v) i
-pool-freed xs n v i s entry chain =
+pub pool-freed : (xs : List Slot) (n v i : ℕ) (s : Slot) → entry_in s ≡ None → pool_with (set xs i s) n v ≡ freed (pool_with xs n v) i
+pool-freed xs n v i s entry =
     pool-set xs n v i s
-    ∙ same_pool n v (ap (set (map entry_in xs) i) entry) (ap (set (map chain_of_slot xs) i) chain) (ap (set (map line_of xs) i) (ap (λ o. cond (is_some o) s.line alone) entry))
+    ∙ same_pool n v (ap (set (map entry_in xs) i) entry) (ap (set (map line_of xs) i) (ap (λ o. cond (is_some o) s.line alone) entry))
 
 -- what the free list says where a slot is taken
 pub not_empty : (xs : List Slot) (f : Option ℕ) (is : List ℕ) → IsFreeAll xs f is → 0 < free_count (map entry_in xs) → f ≡ None → ⊥
@@ -267,14 +272,12 @@ first_taken xs f i (j ∷ is) h e =
 -- a free slot, with another behind it on the free list
 pub record IsVacant (s : Slot) (next : Option ℕ) : Type 0 where
   pub entry : entry_in s ≡ None
-  pub chain : s.chain ≡ alone
   pub next_is : s.line.next ≡ next
 
 pub pool-push : (xs : List Slot) (n : ℕ) (s : Slot) (next : Option ℕ) → IsVacant s next → pool_with xs 0 0 ≡ free_pool n → pool_with (xs ++ s ∷ []) 0 0 ≡ free_pool (n + 1)
 pool-push xs n s next is e =
     same_pool 0 0
     (map-append entry_in xs (s ∷ []) ∙ ap (λ o. map entry_in xs ++ o ∷ []) is.entry ∙ ap (λ (p : Pool). p.entries ++ None ∷ []) e ∙ replicate-append-replicate n 1 None)
-    (map-append chain_of_slot xs (s ∷ []) ∙ ap (λ l. map chain_of_slot xs ++ l ∷ []) is.chain ∙ ap (λ (p : Pool). p.chains ++ alone ∷ []) e ∙ replicate-append-replicate n 1 alone)
     (map-append line_of xs (s ∷ []) ∙ ap (λ o. map line_of xs ++ cond (is_some o) s.line alone ∷ []) is.entry ∙ ap (λ (p : Pool). p.lines ++ alone ∷ []) e ∙ replicate-append-replicate n 1 alone)
 
 -- the free list is of slots that are there
@@ -308,3 +311,20 @@ frees-push xs n s f is vacant size below h =
       all = omega (arith, h.all, ap free_count (map-append entry_in xs (s ∷ [])), ap (λ o. free_count (o ∷ [])) vacant.entry, sum_by-append vacancy (map entry_in xs) (entry_in s ∷ []));
       few = omega (arith, size, below, length-append xs (s ∷ []));
     }
+
+-- the fields of a slot with another address
+pub readdressed_entry : (kind : Kind) (key new last : ℕ) (place : Place) (vid : ℕ) (mac : List ℕ) → IsSome (entry_by kind key last place) → vid_in new ≡ vid → mac_in new ≡ mac → entry_by kind new last place ≡ readdressed (entry_by kind key last place) vid mac
+readdressed_entry kind.Free key new last place vid mac h v m = cc
+readdressed_entry kind.Learned key new last place vid mac h v m = λ i. Some (record { vid = v i; mac = m i; place = place; last = Some last })
+readdressed_entry kind.Fixed key new last place vid mac h v m = λ i. Some (record { vid = v i; mac = m i; place = place; last = None })
+
+-- the key of what a slot holds is its own
+pub key_is : (kind : Kind) (key last : ℕ) (place : Place) → key < 2 ^ 64 → IsSome (entry_by kind key last place) → key ≡ key_in (entry_by kind key last place)
+key_is kind.Free key last place fits h = cc
+key_is kind.Learned key last place fits h = sym (key_of-key key fits)
+key_is kind.Fixed key last place fits h = sym (key_of-key key fits)
+
+pub key_held : (kind : Kind) (key last : ℕ) (place : Place) → IsSome (entry_by kind key last place) → IfHeld (entry_by kind key last place) (vid_in key) (mac_in key)
+key_held kind.Free key last place h = cc
+key_held kind.Learned key last place h = (refl, refl)
+key_held kind.Fixed key last place h = (refl, refl)

@@ -1,4 +1,4 @@
--- What holds of the slots, the heads and the segments together, and what follows.
+-- What holds of the slots and the segments together, and what follows.
 use Rattle.std.proofs.Common.{inl, inr, ◌⊎◌, ◌≡◌, ℕ, ◌+◌, ◌<◌, ◌≤◌, Bool, true, false, cond, not, ◌&&◌, List, [], ◌∷◌, ◌++◌, length, map, set, Option, Some, None, IsSome, IfNone, IfSome, is_some, is_none, nat_eq, refl, sym, ap, ◌∙◌, subst, arith}
 use Rattle.std.proofs.lemmas.List.Sums.{sum_by-cons}
 use Rattle.std.proofs.Math.ListN.{get_or-map}
@@ -67,9 +67,9 @@ first_seen P Q i now first result e is none some =
     (subst (λ (w : Shared). IfNone first (P w.entries) × IfSome first (Q w.entries)) e (none, some))
 
 -- a segment that has room counts less than its limit
-pub room_is : (es : List (Option Held)) (cs ls : List Links) (heads : List (Option ℕ)) (shares : List (Option Share)) (moment v : ℕ) (share : Share)
-    → IsSound es cs ls heads shares moment → share_at shares v ≡ Some share → HasRoom (rule_at (map (option_map rule_of) shares) v) (kept_count v es) → share.count < share.limit
-room_is es cs ls heads shares moment v share h here room =
+pub room_is : (es : List (Option Held)) (ls : List Links) (shares : List (Option Share)) (moment v : ℕ) (share : Share)
+    → IsSound es ls shares moment → share_at shares v ≡ Some share → HasRoom (rule_at (map (option_map rule_of) shares) v) (kept_count v es) → share.count < share.limit
+room_is es ls shares moment v share h here room =
     let below : kept_count v es < share.limit = subst (λ o. HasRoom o (kept_count v es)) (rule_is shares v share here) room in
     omega (arith, below, kept_is es ls v share moment (h.lined v share here))
 
@@ -137,9 +137,9 @@ holds_more es s e (Some i) lt h = record {
       (λ apart. subst (λ (o : Option Held). IsSome o) (sym (get_or-set_other es s i (Some e) None (λ q. let yes : nat_eq i s ≡ true = subst (λ k. nat_eq i k ≡ true) q (nat_eq_refl i) in let bad : true ≡ false = sym yes ∙ apart in cc))) h.held);
 }
 
-pub sound_at : {es es' : List (Option Held)} {cs cs' ls ls' : List Links} {heads heads' : List (Option ℕ)} {shares shares' : List (Option Share)} (moment : ℕ) → es' ≡ es → cs' ≡ cs → ls' ≡ ls → heads' ≡ heads → shares' ≡ shares → IsSound es cs ls heads shares moment → IsSound es' cs' ls' heads' shares' moment
-sound_at {es} {es'} {cs} {cs'} {ls} {ls'} {heads} {heads'} {shares} {shares'} moment p q r u w h =
-    subst (λ x. IsSound x cs' ls' heads' shares' moment) (sym p) (subst (λ x. IsSound es x ls' heads' shares' moment) (sym q) (subst (λ x. IsSound es cs x heads' shares' moment) (sym r) (subst (λ x. IsSound es cs ls x shares' moment) (sym u) (subst (λ x. IsSound es cs ls heads x moment) (sym w) h))))
+pub sound_at : {es es' : List (Option Held)} {ls ls' : List Links} {shares shares' : List (Option Share)} (moment : ℕ) → es' ≡ es → ls' ≡ ls → shares' ≡ shares → IsSound es ls shares moment → IsSound es' ls' shares' moment
+sound_at {es} {es'} {ls} {ls'} {shares} {shares'} moment p r w h =
+    subst (λ x. IsSound x ls' shares' moment) (sym p) (subst (λ x. IsSound es x shares' moment) (sym r) (subst (λ x. IsSound es ls x moment) (sym w) h))
 
 -- what contracts see, part by part
 pub same_shared : {es es' : List (Option Held)} {rs rs' : List (Option Rule)} {n n' v v' : ℕ} (m k : ℕ) → es ≡ es' → rs ≡ rs' → n ≡ n' → v ≡ v'
@@ -169,13 +169,10 @@ aged_later : (es : List (Option Held)) (is : List ℕ) (low high high' : ℕ) �
 aged_later es [] low high high' le h = omega (arith, le, h)
 aged_later es (i ∷ is) low high high' le h = (h.0, aged_later es is (last_at es i) high high' le h.1)
 
-pub sound_later : (es : List (Option Held)) (cs ls : List Links) (heads : List (Option ℕ)) (shares : List (Option Share)) (past now : ℕ) → past ≤ now → IsSound es cs ls heads shares past → IsSound es cs ls heads shares now
-sound_later es cs ls heads shares past now le h = record {
-  chain_links = h.chain_links;
+pub sound_later : (es : List (Option Held)) (ls : List Links) (shares : List (Option Share)) (past now : ℕ) → past ≤ now → IsSound es ls shares past → IsSound es ls shares now
+sound_later es ls shares past now le h = record {
   line_links = h.line_links;
-  heads_length = h.heads_length;
   shares_length = h.shares_length;
-  chained = h.chained;
   lined = λ v share at. let k = h.lined v share at in record { list = k.list; thread = k.thread; aged = aged_later es (k.list false) 0 past now le k.aged; count = k.count; limit = k.limit; some_time = k.some_time };
   unique = h.unique;
   free = h.free;
@@ -212,7 +209,7 @@ pub has_place : (i : Inside) (now : Shared) (v : ℕ) → shared_of i ≡ now �
 has_place i now v e h room =
     let inside = subst (λ (s : Shared). HasRoom (rule_at s.rules v) (kept_count v s.entries)) (sym e) room in
     let k = share_with_room i.shares.items v _ inside in
-    record { share = k.share; here = k.here; below = room_is i.slots.entries i.slots.chains i.slots.lines i.heads.items i.shares.items i.moment v k.share h k.here inside }
+    record { share = k.share; here = k.here; below = room_is i.slots.entries i.slots.lines i.shares.items i.moment v k.share h.sound k.here inside }
 
 -- the share of a rule
 pub record HasShare (shares : List (Option Share)) (v : ℕ) (rule : Rule) : Type 0 where
@@ -228,9 +225,9 @@ share_of shares v rule h = from (share_at shares v) refl (sym (get_or-map (optio
     from (Some share) e h = record { share = share; here = e; same = (let p : Some (rule_of share) ≡ Some rule = h in cc) }
 
 -- what holds in every state
-pub orderly : (es : List (Option Held)) (cs ls : List Links) (heads : List (Option ℕ)) (shares : List (Option Share)) (moment calls compared visited : ℕ) → IsSound es cs ls heads shares moment
+pub orderly : (es : List (Option Held)) (ls : List Links) (shares : List (Option Share)) (moment calls compared visited : ℕ) → IsSound es ls shares moment
     → IsOrderly (record { entries = es; rules = map (option_map rule_of) shares; moment = moment; calls = calls; compared = compared; visited = visited })
-orderly es cs ls heads shares moment calls compared visited h = record {
+orderly es ls shares moment calls compared visited h = record {
   unique = h.unique;
   some_time = λ v rule at. let k = share_of shares v rule at in subst (λ (r : Rule). 0 < r.ageing) k.same (h.lined v k.share k.here).some_time;
   few = λ v rule at.

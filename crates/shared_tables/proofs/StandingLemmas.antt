@@ -273,12 +273,12 @@ module _ (shares : List (Option Share)) (es : List (Option Held)) (counts : (v :
       )
 
 -- no entry is kept of a segment that isn't there
-pub absent_none : (es : List (Option Held)) (cs ls : List Links) (heads : List (Option ℕ)) (shares : List (Option Share)) (moment v : ℕ) → IsSound es cs ls heads shares moment → share_at shares v ≡ None → kept_count v es ≡ 0
-absent_none es cs ls heads shares moment v h absent = unowned shares es (λ w share at. kept_is es ls w share moment (h.lined w share at)) v absent h.free
+pub absent_none : (es : List (Option Held)) (ls : List Links) (shares : List (Option Share)) (moment v : ℕ) → IsSound es ls shares moment → share_at shares v ≡ None → kept_count v es ≡ 0
+absent_none es ls shares moment v h absent = unowned shares es (λ w share at. kept_is es ls w share moment (h.lined w share at)) v absent h.free
 
 -- ---- a segment comes, goes, or gets another limit: the slots stay sound
 
-module _ (es : List (Option Held)) (cs ls : List Links) (heads : List (Option ℕ)) (shares : List (Option Share)) (moment v : ℕ) (lt : v < length shares) (h : IsSound es cs ls heads shares moment) where
+module _ (es : List (Option Held)) (ls : List Links) (shares : List (Option Share)) (moment v : ℕ) (lt : v < length shares) (h : IsSound es ls shares moment) where
   -- the others keep their lines
   others : (o : Option Share) (w : ℕ) (was : Share) → nat_eq w v ≡ false → share_at (set shares v o) w ≡ Some was → IsLines es ls w was moment
   others o w was ne at_w = h.lined w was (sym (get_or-set_other shares v w o None (λ q. let yes : nat_eq w v ≡ true = subst (λ k. nat_eq w k ≡ true) q (nat_eq_refl w) in let bad : true ≡ false = sym yes ∙ ne in cc)) ∙ at_w)
@@ -291,13 +291,10 @@ module _ (es : List (Option Held)) (cs ls : List Links) (heads : List (Option �
       subst (λ n. IsLines es ls n was moment) (sym (equal w v is)) (subst (λ x. IsLines es ls v x moment) q lines)
 
   pub put_sound : (other : Share) → IsLines es ls v other moment → other.count ≡ share_count (share_at shares v) → sum_by share_limit shares + other.limit ≤ length es + share_limit (share_at shares v)
-      → IsSound es cs ls heads (set shares v (Some other)) moment
+      → IsSound es ls (set shares v (Some other)) moment
   put_sound other lines same room = record {
-    chain_links = h.chain_links;
     line_links = h.line_links;
-    heads_length = h.heads_length;
     shares_length = length-set shares v (Some other) ∙ h.shares_length;
-    chained = h.chained;
     lined = λ w was at_w. by_bool (nat_eq w v) (λ yes. mine other lines w was yes at_w) (λ ne. others (Some other) w was ne at_w);
     unique = h.unique;
     free = omega (arith, h.free, same, sum_by-set share_count shares v (Some other) None lt);
@@ -308,13 +305,10 @@ module _ (es : List (Option Held)) (cs ls : List Links) (heads : List (Option �
   no_count none None at = refl
   no_count none (Some share) at = kept_is es ls v share moment (h.lined v share at) ∙ none
 
-  pub strike_sound : kept_count v es ≡ 0 → IsSound es cs ls heads (set shares v None) moment
+  pub strike_sound : kept_count v es ≡ 0 → IsSound es ls (set shares v None) moment
   strike_sound none = record {
-    chain_links = h.chain_links;
     line_links = h.line_links;
-    heads_length = h.heads_length;
     shares_length = length-set shares v None ∙ h.shares_length;
-    chained = h.chained;
     lined = λ w was at_w. by_bool (nat_eq w v)
         (λ yes. let bad : None ≡ Some was = sym (get_or-set_same shares v None None lt) ∙ subst (λ k. share_at (set shares v None) k ≡ Some was) (equal w v yes) at_w in cc)
         (λ ne. others None w was ne at_w);
@@ -352,9 +346,9 @@ module _ (es : List (Option Held)) (cs ls : List Links) (heads : List (Option �
       lasts true = refl
       lasts false = refl
 
-  pub begin_sound : (rule : TableRule) → 1 ≤ rule.ageing → share_at shares v ≡ None → sum_by share_limit shares + rule.limit ≤ length es → IsSound es cs ls heads (set shares v (Some (new_share rule))) moment
+  pub begin_sound : (rule : TableRule) → 1 ≤ rule.ageing → share_at shares v ≡ None → sum_by share_limit shares + rule.limit ≤ length es → IsSound es ls (set shares v (Some (new_share rule))) moment
   begin_sound rule some_time absent room =
-      put_sound (new_share rule) (new_lines rule some_time (absent_none es cs ls heads shares moment v h absent)) (sym (ap share_count absent)) (omega (arith, room))
+      put_sound (new_share rule) (new_lines rule some_time (absent_none es ls shares moment v h absent)) (sym (ap share_count absent)) (omega (arith, room))
 
   -- a segment with another limit keeps its lines
   limited_lines : (share : Share) (limit : ℕ) → share.count ≤ limit → IsLines es ls v share moment → IsLines es ls v (record share { limit = limit }) moment
@@ -372,7 +366,7 @@ module _ (es : List (Option Held)) (cs ls : List Links) (heads : List (Option �
       by false t = t
 
   pub limit_sound : (share : Share) (limit : ℕ) → share_at shares v ≡ Some share → kept_count v es ≤ limit → sum_by share_limit shares + limit ≤ length es + share.limit
-      → IsSound es cs ls heads (set shares v (Some (record share { limit = limit }))) moment
+      → IsSound es ls (set shares v (Some (record share { limit = limit }))) moment
   limit_sound share limit here few room =
       let lines = h.lined v share here in
       put_sound (record share { limit = limit }) (limited_lines share limit (omega (arith, few, kept_is es ls v share moment lines)) lines) (sym (ap share_count here)) (omega (arith, room, ap share_limit here))

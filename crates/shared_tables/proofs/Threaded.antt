@@ -1,5 +1,5 @@
 -- How a thread changes where a slot leaves it or joins it, and an entry changes.
-use Rattle.std.proofs.Common.{inl, inr, ◌⊎◌, ◌≡◌, ℕ, ◌+◌, ◌<◌, ◌≤◌, Bool, true, false, cond, ◌||◌, List, [], ◌∷◌, ◌++◌, length, set, Option, Some, None, is_none, nat_eq, refl, sym, ap, ◌∙◌, subst, arith, length-append}
+use Rattle.std.proofs.Common.{inl, inr, ◌⊎◌, ◌≡◌, ℕ, ◌+◌, ◌<◌, ◌≤◌, Bool, true, false, cond, List, [], ◌∷◌, ◌++◌, length, set, Option, Some, None, is_none, nat_eq, refl, sym, ap, ◌∙◌, subst, arith, length-append}
 use Rattle.std.proofs.lemmas.List.{get_or-set_same, get_or-set_other, length-set, get_or_past, set-set}
 use Rattle.std.proofs.lemmas.List.Sums.{sum_by-set}
 use Rattle.std.proofs.lemmas.Bool.{cases_lt}
@@ -7,9 +7,9 @@ use Rattle.std.specs.List.{sum_by}
 use Rattle.shared_tables.specs.declared.links.Links.{Links}
 use Rattle.shared_tables.specs.Pool.{Held}
 use Rattle.shared_tables.specs.Pool.{links_at, entry_at, alone}
-use Rattle.shared_tables.specs.Threads.{next_set, previous_set, unlinked, pushed_back, pushed_front, ends_without, ends_with}
+use Rattle.shared_tables.specs.Threads.{next_set, unlinked, pushed_back, ends_without, ends_with}
 use Rattle.shared_tables.specs.Line.{first_of, last_of, IsLinked, is_on, IsApart, weight, IsThread}
-use Rattle.shared_tables.proofs.Linked.{by_bool, equal, IsOff, own_links, unlinked_linked, off_without, apart_without, is_on-without, linked_frame, linked_join, linked_next, next_frame, previous_frame, last_in, last_of-cons, last_of-append, last_on, linked_previous, first_on, on_behind, apart_push, is_on-push, nat_eq_refl}
+use Rattle.shared_tables.proofs.Linked.{by_bool, equal, IsOff, own_links, unlinked_linked, off_without, apart_without, is_on-without, linked_frame, linked_join, linked_next, next_frame, last_in, last_of-cons, last_of-append, last_on, first_on, on_behind, apart_push, is_on-push, nat_eq_refl}
 
 -- the entries after one changed
 entry_same : (es : List (Option Held)) (s : ℕ) (e : Option Held) → s < length es → entry_at (set es s e) s ≡ e
@@ -100,36 +100,6 @@ module _ (key : Option Held → Bool) (none : key None ≡ false) where
               tt,
             ))
 
-    -- a slot that was no member comes before the first
-    pub thread_front : (is : List ℕ) → IsThread links es key f l is → key (entry_at es s) ≡ false → key e ≡ true
-        → IsThread (pushed_front links f s) (set es s e) key (Some s) (last_of (s ∷ is) None) (s ∷ is)
-    thread_front is h was on =
-        let off : is_on s is ≡ false = h.members s ∙ was in
-        record {
-          linked = linked is h.begins off h.apart h.linked (λ i on. subst (λ k. i < k) (sym same) (in_entries es i (sym (h.members i) ∙ on)));
-          apart = (off, h.apart);
-          members = λ i. by_bool (nat_eq i s)
-              (λ eq. subst (λ k. is_on k (s ∷ is) ≡ key (entry_at (set es s e) k)) (sym (equal i s eq)) (first_on s is ∙ sym (ap key (entry_same es s e lt) ∙ on)))
-              (λ ne. ap (λ b. b || is_on i is) ne ∙ h.members i ∙ sym (ap key (entry_other es s i e ne)));
-          size = omega (arith, counted, weight_false _ was, weight_true _ on, h.size);
-          begins = refl;
-          ends = refl;
-        }
-      where
-        linked : (is : List ℕ) → f ≡ first_of is None → is_on s is ≡ false → IsApart is → IsLinked links None is None → ((i : ℕ) → is_on i is ≡ true → i < length links) → IsLinked (pushed_front links f s) None (s ∷ is) None
-        linked [] e off a h w =
-            subst (λ o. IsLinked (pushed_front links o s) None (s ∷ []) None) (sym e) (get_or-set_same links s _ alone (subst (λ k. s < k) (sym same) lt), tt)
-        linked (i ∷ is) e off a h w =
-            let own : Links = record { previous = None; next = Some i } in
-            let mid = set links s own in
-            let end = set mid i (record { previous = Some s; next = (links_at mid i).next }) in
-            let lt' : s < length links = subst (λ k. s < k) (sym same) lt in
-            let apart : nat_eq s i ≡ false = by_bool (nat_eq s i) (λ yes. let bad : true ≡ false = sym (ap (λ b. b || is_on s is) yes) ∙ off in cc) (λ no. no) in
-            subst (λ o. IsLinked (pushed_front links o s) None (s ∷ i ∷ is) None) (sym e) (
-              get_or-set_other mid i s _ alone (λ q. let no : nat_eq s i ≡ true = subst (λ k. nat_eq k i ≡ true) (sym q) (nat_eq_refl i) in let bad : true ≡ false = sym no ∙ apart in cc) ∙ get_or-set_same links s own alone lt',
-              linked_previous mid i is None (Some s) None (subst (λ k. i < k) (sym (length-set links s own)) (w i (first_on i is))) a.0 (linked_frame links s own (i ∷ is) None None off h),
-            )
-
     -- another entry that no more passes than the one before it, or passes as it did
     pub thread_same : (is : List ℕ) → IsThread links es key f l is → key e ≡ key (entry_at es s) → IsThread links (set es s e) key f l is
     thread_same is h alike = record {
@@ -161,18 +131,6 @@ back_frame links s l is js e off apart h =
     last_off [] k = tt
     last_off (i ∷ is) k = subst (λ o. IsOff o js) (sym (last_of-cons is i)) (k (last_in is i) (last_on i is))
 
--- and so does the slot before the first
-pub front_frame : (links : List Links) (s : ℕ) (f : Option ℕ) (is js : List ℕ) → f ≡ first_of is None → is_on s js ≡ false → ((j : ℕ) → is_on j is ≡ true → is_on j js ≡ false) → IsLinked links None js None → IsLinked (pushed_front links f s) None js None
-front_frame links s f is js e off apart h =
-    previous_frame (set links s (record { previous = None; next = f })) f (Some s) js None None (subst (λ o. IsOff o js) (sym e) (first_off is apart)) (linked_frame links s (record { previous = None; next = f }) js None None off h)
-  where
-    first_off : (is : List ℕ) → ((j : ℕ) → is_on j is ≡ true → is_on j js ≡ false) → IsOff (first_of is None) js
-    first_off [] k = tt
-    first_off (i ∷ is) k = k i (first_on i is)
-
 -- what stood in a slot that is put on a thread doesn't matter
 pub back_over : (links : List Links) (s : ℕ) (l : Option ℕ) (x : Links) → pushed_back (set links s x) l s ≡ pushed_back links l s
 back_over links s l x = ap (λ ls. next_set ls l (Some s)) (set-set links s x (record { previous = l; next = None }))
-
-pub front_over : (links : List Links) (s : ℕ) (f : Option ℕ) (x : Links) → pushed_front (set links s x) f s ≡ pushed_front links f s
-front_over links s f x = ap (λ ls. previous_set ls f (Some s)) (set-set links s x (record { previous = None; next = f }))

@@ -1,117 +1,174 @@
--- A walk along a chain.
-use Rattle.std.proofs.Common.{◌≡◌, ℕ, ◌+◌, ◌<◌, ◌≤◌, true, false, List, [], ◌∷◌, ◌++◌, length, Option, Some, None, IsSome, nat_eq, refl, sym, ap, ◌∙◌, subst, arith, length-append}
-use Rattle.std.proofs.lemmas.List.{append-nil, append_assoc}
-use Rattle.shared_tables.specs.Bucket.{bucket_of, chain_of}
-use Rattle.shared_tables.specs.declared.links.Links.{Links}
-use Rattle.shared_tables.specs.Pool.{Held}
-use Rattle.shared_tables.specs.Pool.{Pool, links_at, entry_at, IfHeld}
-use Rattle.shared_tables.specs.Line.{first_of, last_of, is_on, IsThread}
+-- A walk down the tree of a chain.
+use Rattle.std.proofs.Common.{◌≡◌, ◌≢◌, ℕ, ◌+◌, ◌<◌, ◌≤◌, true, false, List, length, Option, Some, None, refl, sym, ap, ◌∙◌, subst, arith, length-append}
+use Rattle.std.specs.Int.{bit_at}
+use Rattle.std.specs.List.{sum_by}
+use Rattle.std.proofs.lemmas.Nat.Bits.{bit_at-lt}
+use Rattle.shared_tables.specs.declared.forest.Target.{Target}
+use Rattle.shared_tables.specs.declared.forest.Target.TheVariants as target
+use Rattle.shared_tables.specs.Bucket.{key_of, bucket_of, chain_of}
+use Rattle.shared_tables.specs.Pool.{Pool, Held, entry_at, IfHeld}
+use Rattle.shared_tables.specs.Line.{is_on, weight}
+use Rattle.shared_tables.specs.Threads.{IsHeld}
 use Rattle.shared_tables.specs.Shared.{chain_key, Lacks, bucket_count}
-use Rattle.shared_tables.specs.Sound.{IsChain}
-use Rattle.shared_tables.proofs.Linked.{linked_split, is_on-push, by_bool, equal, on_behind, first_on, nat_eq_refl}
+use Rattle.shared_tables.specs.Trees.{Tree, Leaf, Fork, leaves, IsTree, descend}
+use Rattle.shared_tables.specs.Woods.{Woods, target_at, child_of}
+use Rattle.shared_tables.specs.Forest.{keys_of, key_in, leaves_of, IsRooted, AnyParted, IsChain, Belongs, IsForest}
+use Rattle.shared_tables.proofs.Buckets.{few_on_chain, chain_small}
+use Rattle.shared_tables.proofs.TreeLemmas.{some_leaf, by_side, at_zero, at_one, tree_there, descend_on, descend_own}
+use Rattle.shared_tables.proofs.ForestLemmas.{key_of_held, some_of_key, fork_bit, fork_there}
 use Rattle.shared_tables.proofs.Threaded.{in_entries}
-use Rattle.shared_tables.proofs.Buckets.{few_on_chain}
 
--- the slots that were passed don't hold the address, and the walk goes on at the cursor
-pub record Walks (old now : Pool) (vid : ℕ) (mac : List ℕ) (cursor : Option ℕ) : Type 0 where
-  pub done : List ℕ
-  pub rest : List ℕ
-  pub first : Option ℕ
-  pub thread : IsThread old.chains old.entries (chain_key (chain_of vid mac)) first (last_of (done ++ rest) None) (done ++ rest)
-  pub here : cursor ≡ first_of rest None
-  pub passed : (i : ℕ) → is_on i done ≡ true → IfHeld (entry_at old.entries i) vid mac → ⊥
+-- what stands at the target is the tree to which the key led so far, if the chain has leaves
+abbrev pub Leads : (ℕ → Target) → ℕ → ℕ → ℕ → Target → Option Tree → Type 0
+Leads at key was now here None = (here ≡ target.Nothing) × (now ≡ was)
+Leads at key was now here (Some whole) = (t : Tree) × IsTree at here t × (descend key t ≡ descend key whole) × (now + length (leaves t) ≤ was + length (leaves whole))
+
+-- the walk has come to a target
+pub record Walks (old now : Pool) (w : Woods) (vid : ℕ) (mac : List ℕ) (here : Target) : Type 0 where
+  pub leads : (k : IsChain old.entries w.words (chain_of vid mac)) → Leads (target_at w.words) (key_of vid mac) old.compared now.compared here k.tree
   pub same : now ≡ record old { compared = now.compared }
-  pub counted : now.compared ≡ old.compared + length done
+  pub counted : old.compared ≤ now.compared
+  pub place : ℕ
+  pub stands : here ≡ target_at w.words place
 
--- an entry of the address passes its chain's test
-pub key_of_held : (o : Option Held) (vid : ℕ) (mac : List ℕ) → IfHeld o vid mac → chain_key (chain_of vid mac) o ≡ true
-key_of_held None vid mac h = absurd h
-key_of_held (Some e) vid mac h = subst (λ b. nat_eq (chain_of e.vid e.mac) b ≡ true) (ap (λ v. chain_of v e.mac) h.0 ∙ ap (chain_of vid) h.1) (nat_eq_refl (chain_of e.vid e.mac))
+module _ (old : Pool) (w : Woods) (vid : ℕ) (mac : List ℕ) where
+  abbrev at : ℕ → Target
+  at = target_at w.words
 
-pub some_of_key : (b : ℕ) (o : Option Held) → chain_key b o ≡ true → IsSome o
-some_of_key b None h = let bad : true ≡ false = sym h in cc
-some_of_key b (Some e) h = refl
+  abbrev key : ℕ
+  key = key_of vid mac
 
-pub walk_starts : (old : Pool) (vid : ℕ) (mac : List ℕ) (first : Option ℕ) → IsChain old.entries old.chains (chain_of vid mac) first → Walks old old vid mac first
-walk_starts old vid mac first h = record {
-  done = [];
-  rest = h.list;
-  first = first;
-  thread = h.thread;
-  here = h.thread.begins;
-  passed = λ i on held. let bad : true ≡ false = sym on in cc;
-  same = refl;
-  counted = omega arith;
-}
+  abbrev c : ℕ
+  c = chain_of vid mac
 
--- the slot at the cursor
-pub record Stands (old now : Pool) (vid : ℕ) (mac : List ℕ) (slot : ℕ) : Type 0 where
-  pub done : List ℕ
-  pub rest : List ℕ
-  pub first : Option ℕ
-  pub thread : IsThread old.chains old.entries (chain_key (chain_of vid mac)) first (last_of (done ++ slot ∷ rest) None) (done ++ slot ∷ rest)
-  pub passed : (i : ℕ) → is_on i done ≡ true → IfHeld (entry_at old.entries i) vid mac → ⊥
-  pub same : now ≡ record old { compared = now.compared }
-  pub counted : now.compared ≡ old.compared + length done
+  pub walk_starts : Walks old old w vid mac (at c)
+  walk_starts = record { leads = λ k. from k.tree k.rooted; same = refl; counted = omega arith; place = c; stands = refl }
+    where
+      from : (o : Option Tree) → IsRooted at (at c) o → Leads at key old.compared old.compared (at c) o
+      from None r = (r, refl)
+      from (Some t) r = (t, r, refl, omega arith)
 
-pub stands : (old now : Pool) (vid : ℕ) (mac : List ℕ) (slot : ℕ) → Walks old now vid mac (Some slot) → Stands old now vid mac slot
-stands old now vid mac slot w = from w.rest w.here w.thread
-  where
-    from : (rest : List ℕ) → Some slot ≡ first_of rest None → IsThread old.chains old.entries (chain_key (chain_of vid mac)) w.first (last_of (w.done ++ rest) None) (w.done ++ rest) → Stands old now vid mac slot
-    from [] e t = let bad : Some slot ≡ None = e in cc
-    from (i ∷ rest) e t =
-        let q : i ≡ slot = (let p : Some slot ≡ Some i = e in cc) in
-        record { done = w.done; rest = rest; first = w.first; thread = subst (λ k. IsThread old.chains old.entries (chain_key (chain_of vid mac)) w.first (last_of (w.done ++ k ∷ rest) None) (w.done ++ k ∷ rest)) q t; passed = w.passed; same = w.same; counted = w.counted }
+  -- the walk at a fork, and a step further
+  step_on : (was now m b : ℕ) (o : Option Tree) → Leads at key was now (target.Fork m b) o → Leads at key was (now + 1) (at (child_of m (bit_at key b))) o
+  step_on was now m b None h = let bad : target.Fork m b ≡ target.Nothing = h.0 in cc
+  step_on was now m b (Some whole) h = from h.0 h.1 h.2 h.3
+    where
+      from : (t : Tree) → IsTree at (target.Fork m b) t → descend key t ≡ descend key whole → now + length (leaves t) ≤ was + length (leaves whole) → Leads at key was (now + 1) (at (child_of m (bit_at key b))) (Some whole)
+      from (Leaf i) k way few = let bad : target.Fork m b ≡ target.Leaf i = k in cc
+      from (Fork n d l r) k way few =
+          let p : target.Fork m b ≡ target.Fork n d = k.0 in
+          let m_is : n ≡ m = cc in
+          let b_is : d ≡ b = cc in
+          by_side (bit_at key b) (bit_at-lt key b)
+          (λ z.
+          let zero_d : bit_at key d ≡ 0 = ap (bit_at key) b_is ∙ z in (
+            l,
+            subst (λ y. IsTree at y l) (ap (λ n. at (child_of n 0)) m_is ∙ ap (λ s. at (child_of m s)) (sym z)) k.1,
+            sym (at_zero _ zero_d (descend key l) (descend key r)) ∙ way,
+            omega (arith, few, length-append (leaves l) (leaves r), some_leaf r),
+          ))
+          (λ o.
+          let one_d : bit_at key d ≡ 1 = ap (bit_at key) b_is ∙ o in (
+            r,
+            subst (λ y. IsTree at y r) (ap (λ n. at (child_of n 1)) m_is ∙ ap (λ s. at (child_of m s)) (sym o)) k.2,
+            sym (at_one _ one_d (descend key l) (descend key r)) ∙ way,
+            omega (arith, few, length-append (leaves l) (leaves r), some_leaf l),
+          ))
 
-module _ (old now : Pool) (vid : ℕ) (mac : List ℕ) (slot : ℕ) (w : Walks old now vid mac (Some slot)) where
-  abbrev b : ℕ
-  b = chain_of vid mac
-
-  abbrev s : Stands old now vid mac slot
-  s = stands old now vid mac slot w
-
-  keyed : chain_key b (entry_at old.entries slot) ≡ true
-  keyed = sym (s.thread.members slot) ∙ on_behind slot s.done (slot ∷ s.rest) (first_on slot s.rest)
-
-  pub stands_in : slot < length now.entries
-  stands_in = subst (λ (p : Pool). slot < length p.entries) (sym s.same) (in_entries (chain_key b) refl old.entries slot keyed)
-
-  pub stands_held : IsSome (entry_at now.entries slot)
-  stands_held = subst (λ (p : Pool). IsSome (entry_at p.entries slot)) (sym s.same) (some_of_key b (entry_at old.entries slot) keyed)
-
-  -- one more than were compared so far is no more than the bucket has
-  pub stands_few : now.compared + 1 ≤ old.compared + bucket_count (bucket_of vid mac) old.entries
-  stands_few = omega (arith, few_on_chain vid mac old.entries, s.counted, s.thread.size, length-append s.done (slot ∷ s.rest))
-
-  pub walk_on : (now' : Pool) → now' ≡ record now { compared = now.compared + 1 } → (IfHeld (entry_at now.entries slot) vid mac → ⊥) → Walks old now' vid mac (links_at now'.chains slot).next
-  walk_on now' e differs =
-      let chains : now'.chains ≡ old.chains = ap (λ (p : Pool). p.chains) e ∙ ap (λ (p : Pool). p.chains) s.same in
-      let own = (linked_split old.chains s.done (slot ∷ s.rest) None None s.thread.linked).1.0 in
-      let whole : (s.done ++ slot ∷ []) ++ s.rest ≡ s.done ++ slot ∷ s.rest = append_assoc s.done (slot ∷ []) s.rest in
-      let now_compared : now'.compared ≡ now.compared + 1 = ap (λ (p : Pool). p.compared) e in
+  pub walk_on : (now now' : Pool) (m b : ℕ) → now' ≡ record now { compared = now.compared + 1 } → Walks old now w vid mac (target.Fork m b) → Walks old now' w vid mac (at (child_of m (bit_at key b)))
+  walk_on now now' m b e h =
+      let compared : now'.compared ≡ now.compared + 1 = ap (λ (p : Pool). p.compared) e in
       record {
-        done = s.done ++ slot ∷ [];
-        rest = s.rest;
-        first = s.first;
-        thread = subst (λ is. IsThread old.chains old.entries (chain_key b) s.first (last_of is None) is) (sym whole) s.thread;
-        here = ap (λ (ls : List Links). (links_at ls slot).next) chains ∙ ap (λ (l : Links). l.next) own;
-        passed = λ i on held. by_bool (nat_eq i slot)
-            (λ yes. differs (subst (λ (p : Pool). IfHeld (entry_at p.entries slot) vid mac) (sym s.same) (subst (λ k. IfHeld (entry_at old.entries k) vid mac) (equal i slot yes) held)))
-            (λ no. s.passed i (sym (is_on-push i slot s.done no) ∙ on) held);
-        same = e ∙ ap (λ (p : Pool). record p { compared = now.compared + 1 }) s.same ∙ ap (λ n. record old { compared = n }) (sym now_compared);
-        counted = omega (arith, now_compared, s.counted, length-append s.done (slot ∷ []));
+        leads = λ k. subst (λ n. Leads at key old.compared n (at (child_of m (bit_at key b))) k.tree) (sym compared) (step_on old.compared now.compared m b k.tree (h.leads k));
+        same = e ∙ ap (λ (p : Pool). record p { compared = now.compared + 1 }) h.same ∙ ap (λ n. record old { compared = n }) (sym compared);
+        counted = omega (arith, compared, h.counted);
+        place = child_of m (bit_at key b);
+        stands = refl;
       }
 
--- at the end no slot holds the address
-pub walk_ends : (old now : Pool) (vid : ℕ) (mac : List ℕ) → Walks old now vid mac None → Lacks old.entries vid mac
-walk_ends old now vid mac w i held = w.passed i (on_done w.rest w.here (w.thread.members i ∙ key_of_held (entry_at old.entries i) vid mac held)) held
+  -- a walk that goes on has compared less than the bucket has
+  pub walk_few : (now : Pool) (here : Target) → here ≢ target.Nothing → IsForest old.entries w → Walks old now w vid mac here → now.compared + 1 ≤ old.compared + bucket_count (bucket_of vid mac) old.entries
+  walk_few now here some h k =
+      let own = h.chained c (chain_small vid mac) in
+      from own.tree (k.leads own) own.size
+    where
+      from : (o : Option Tree) → Leads at key old.compared now.compared here o → length (leaves_of o) ≡ sum_by (weight (chain_key c)) old.entries → now.compared + 1 ≤ old.compared + bucket_count (bucket_of vid mac) old.entries
+      from None l size = absurd (some l.0)
+      from (Some whole) l size = omega (arith, l.3, some_leaf l.0, size, few_on_chain vid mac old.entries)
+
+  -- what holds the address is the leaf to which its key leads
+  held_leaf : (k : IsChain old.entries w.words c) (i : ℕ) → IfHeld (entry_at old.entries i) vid mac → is_on i (leaves_of k.tree) ≡ true
+  held_leaf k i held = k.members i ∙ key_of_held (entry_at old.entries i) vid mac held
+
+  key_held : (o : Option Held) → IfHeld o vid mac → key_in o ≡ key
+  key_held None h = absurd h
+  key_held (Some e) h = ap (λ v. key_of v e.mac) h.0 ∙ ap (key_of vid) h.1
+
+  -- the walk has come to nothing
+  pub walk_none : (now : Pool) → IsForest old.entries w → Walks old now w vid mac target.Nothing → Lacks old.entries vid mac × Belongs w.words c key None
+  walk_none now h k =
+      let own = h.chained c (chain_small vid mac) in
+      from own own.tree refl (k.leads own) own.rooted
+    where
+      from : (own : IsChain old.entries w.words c) (o : Option Tree) → own.tree ≡ o → Leads at key old.compared now.compared target.Nothing o → IsRooted at (at c) o → Lacks old.entries vid mac × Belongs w.words c key None
+      from own None is l rooted = (λ i held. let bad : false ≡ true = subst (λ t. is_on i (leaves_of t) ≡ true) is (held_leaf own i held) in cc, record { tree = None; rooted = rooted; leads = tt })
+      from own (Some whole) is l rooted = absurd (tree_there at target.Nothing l.0 l.1 refl)
+
+  -- the walk has come to a leaf
+  pub record Arrives (slot : ℕ) : Type 0 where
+    pub own : IsChain old.entries w.words c
+    pub whole : Tree
+    pub is : own.tree ≡ Some whole
+    pub way : descend key whole ≡ slot
+
+  pub walk_leaf : (now : Pool) (slot : ℕ) → IsForest old.entries w → Walks old now w vid mac (target.Leaf slot) → Arrives slot
+  walk_leaf now slot h k =
+      let own = h.chained c (chain_small vid mac) in
+      from own own.tree refl (k.leads own)
+    where
+      from : (own : IsChain old.entries w.words c) (o : Option Tree) → own.tree ≡ o → Leads at key old.compared now.compared (target.Leaf slot) o → Arrives slot
+      from own None is l = let bad : target.Leaf slot ≡ target.Nothing = l.0 in cc
+      from own (Some whole) is l = record { own = own; whole = whole; is = is; way = sym l.2 ∙ tip l.0 l.1 }
+        where
+          tip : (t : Tree) → IsTree at (target.Leaf slot) t → descend key t ≡ slot
+          tip (Leaf i) q = let p : target.Leaf slot ≡ target.Leaf i = q in cc
+          tip (Fork n b l r) q = let p : target.Leaf slot ≡ target.Fork n b = q.0 in cc
+
+  module _ (slot : ℕ) (a : Arrives slot) where
+    on_whole : is_on slot (leaves a.whole) ≡ true
+    on_whole = subst (λ i. is_on i (leaves a.whole) ≡ true) a.way (descend_on key a.whole)
+
+    slot_key : chain_key c (entry_at old.entries slot) ≡ true
+    slot_key = sym (a.own.members slot) ∙ ap (λ o. is_on slot (leaves_of o)) a.is ∙ on_whole
+
+    pub arrives_held : IsHeld old.entries slot
+    arrives_held = record { in_pool = in_entries (chain_key c) refl old.entries slot slot_key; held = some_of_key c (entry_at old.entries slot) slot_key }
+
+    -- another slot doesn't hold the address
+    pub arrives_lacks : (IfHeld (entry_at old.entries slot) vid mac → ⊥) → Lacks old.entries vid mac
+    arrives_lacks differs i held =
+        let on : is_on i (leaves a.whole) ≡ true = ap (λ o. is_on i (leaves_of o)) (sym a.is) ∙ held_leaf a.own i held in
+        let parted : AnyParted (keys_of old.entries) (Some a.whole) = subst (AnyParted (keys_of old.entries)) a.is a.own.parted in
+        let there : slot ≡ i = sym a.way ∙ ap (λ k. descend k a.whole) (sym (key_held (entry_at old.entries i) held)) ∙ descend_own (keys_of old.entries) i a.whole parted on in
+        differs (subst (λ j. IfHeld (entry_at old.entries j) vid mac) (sym there) held)
+
+    pub arrives_belongs : Belongs w.words c key (Some slot)
+    arrives_belongs = record { tree = Some a.whole; rooted = subst (IsRooted at (at c)) a.is a.own.rooted; leads = a.way }
+
+-- what a step at a fork reads is there
+module _ (old now : Pool) (w : Woods) (vid : ℕ) (mac : List ℕ) (n b : ℕ) (h : IsForest old.entries w) (k : Walks old now w vid mac (target.Fork n b)) where
+  pub walk_bit : b < 64
+  walk_bit = fork_bit old.entries w h k.place n b (sym k.stands)
+
+  pub walk_fork : n < length w.forks
+  walk_fork = fork_there old.entries w h k.place n b (sym k.stands)
+
+-- a walk to nothing compares nothing
+pub walk_still : (old : Pool) (w : Woods) (vid : ℕ) (mac : List ℕ) (now : Pool) → IsForest old.entries w → Walks old now w vid mac target.Nothing → now.compared ≡ old.compared
+walk_still old w vid mac now h k =
+    let own = h.chained (chain_of vid mac) (chain_small vid mac) in
+    from own.tree (k.leads own)
   where
-    on_done : (rest : List ℕ) → None ≡ first_of rest None → is_on i (w.done ++ rest) ≡ true → is_on i w.done ≡ true
-    on_done [] e on = subst (λ is. is_on i is ≡ true) (append-nil w.done) on
-    on_done (k ∷ rest) e on = let bad : None ≡ Some k = e in cc
-
-pub walk_counted : (old now : Pool) (vid : ℕ) (mac : List ℕ) (cursor : Option ℕ) → Walks old now vid mac cursor → old.compared ≤ now.compared
-walk_counted old now vid mac cursor w = omega (arith, w.counted)
-
-pub walk_few : (old now : Pool) (vid : ℕ) (mac : List ℕ) (cursor : Option ℕ) → Walks old now vid mac cursor → now.compared ≤ old.compared + bucket_count (bucket_of vid mac) old.entries
-walk_few old now vid mac cursor w = omega (arith, few_on_chain vid mac old.entries, w.counted, w.thread.size, length-append w.done w.rest)
+    from : (o : Option Tree) → Leads (target_at w.words) (key_of vid mac) old.compared now.compared target.Nothing o → now.compared ≡ old.compared
+    from None l = l.1
+    from (Some whole) l = absurd (tree_there (target_at w.words) target.Nothing l.0 l.1 refl)

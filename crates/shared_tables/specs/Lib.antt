@@ -1,4 +1,6 @@
+pub mod Admission
 pub mod Bucket
+pub mod ColumnsInside
 pub mod Line
 pub mod Link
 pub mod Listing
@@ -11,4 +13,8 @@ pub mod Slots
 pub mod Sound
 pub mod Standing
 pub mod Threads
+pub mod Trees
+pub mod Woods
+pub mod Forest
+pub mod Whole
 pub mod Work

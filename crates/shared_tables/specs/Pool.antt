@@ -4,8 +4,6 @@ use Rattle.std.specs.List.{sum_by}
 use Rattle.shared_tables.specs.declared.links.Links.{Links}
 use Rattle.shared_tables.specs.declared.links.Side.{Side}
 use Rattle.shared_tables.specs.declared.links.Side.TheVariants.{Previous, Next}
-use Rattle.shared_tables.specs.declared.slots.Thread.{Thread}
-use Rattle.shared_tables.specs.declared.slots.Thread.TheVariants.{Chain, Line}
 use Rattle.filter_db.specs.declared.place.Place.{Place}
 use Rattle.filter_db.specs.Place.{no_place}
 use Rattle.filter_db.specs.Table.{is_young}
@@ -19,10 +17,9 @@ pub record Held : Type 0 where
   pub place : Place
   pub last : Option ℕ
 
--- the slots, column by column: what each holds, its neighbours on its chain and on its line; the counts
+-- the slots, column by column: what each holds, and its neighbours on its line; the counts
 pub record Pool : Type 0 where
   pub entries : List (Option Held)
-  pub chains : List Links
   pub lines : List Links
   pub compared : ℕ
   pub visited : ℕ
@@ -43,16 +40,6 @@ entry_at entries slot = slice_index_or entries slot None
 -- the neighbours of a slot
 abbrev pub links_at : List Links → ℕ → Links
 links_at links slot = slice_index_or links slot alone
-
--- the neighbours on a thread
-abbrev pub column : Thread → Pool → List Links
-column Chain pool = pool.chains
-column Line pool = pool.lines
-
--- a pool with other neighbours on a thread
-abbrev pub with_column : Thread → Pool → List Links → Pool
-with_column Chain pool links = record pool { chains = links }
-with_column Line pool links = record pool { lines = links }
 
 -- 1 for a free slot
 abbrev pub vacancy : Option Held → ℕ
@@ -98,11 +85,15 @@ abbrev pub renewed : Option Held → Place → Option ℕ → Option Held
 renewed None place last = None
 renewed (Some e) place last = Some (record e { place = place; last = last })
 
--- a pool where a slot holds an entry, and stands on no thread yet
+-- an entry with another address
+abbrev pub readdressed : Option Held → ℕ → List ℕ → Option Held
+readdressed None vid mac = None
+readdressed (Some e) vid mac = Some (record e { vid = vid; mac = mac })
+
+-- a pool where a slot holds an entry, and stands on no line yet
 abbrev pub taken : Pool → ℕ → Held → Pool
 taken pool slot e = record pool {
   entries = slice_set pool.entries slot (Some e);
-  chains = slice_set pool.chains slot alone;
   lines = slice_set pool.lines slot alone;
 }
 
@@ -110,7 +101,6 @@ taken pool slot e = record pool {
 abbrev pub freed : Pool → ℕ → Pool
 freed pool slot = record pool {
   entries = slice_set pool.entries slot None;
-  chains = slice_set pool.chains slot alone;
   lines = slice_set pool.lines slot alone;
 }
 
@@ -118,7 +108,6 @@ freed pool slot = record pool {
 abbrev pub free_pool : ℕ → Pool
 free_pool size = record {
   entries = replicate size None;
-  chains = replicate size alone;
   lines = replicate size alone;
   compared = 0;
   visited = 0;

@@ -3,7 +3,8 @@ use Rattle.std.specs.Prelude.{map}
 use Rattle.std.specs.Option.{option_map}
 use Rattle.shared_tables.specs.declared.shared_tables.SharedTables.TheInside.{Inside}
 use Rattle.shared_tables.specs.Shared.{Shared}
-use Rattle.shared_tables.specs.Sound.{rule_of, IsSound}
+use Rattle.shared_tables.specs.Sound.{rule_of}
+use Rattle.shared_tables.specs.Whole.{IsWhole}
 
 -- the value that contracts see
 abbrev pub shared_of : Inside → Shared
@@ -18,4 +19,4 @@ shared_of a = record {
 
 -- what holds of the fields
 abbrev pub IsSoundInside : Inside → Type 0
-IsSoundInside a = IsSound a.slots.entries a.slots.chains a.slots.lines a.heads.items a.shares.items a.moment
+IsSoundInside a = IsWhole a.slots a.forest a.shares.items a.moment

@@ -5,8 +5,6 @@ use Rattle.filter_db.specs.Place.{no_place}
 use Rattle.shared_tables.specs.declared.slots.Slot.{Slot}
 use Rattle.shared_tables.specs.declared.slots.Kind.{Kind}
 use Rattle.shared_tables.specs.declared.slots.Kind.TheVariants as kind
-use Rattle.shared_tables.specs.declared.slots.Thread.{Thread}
-use Rattle.shared_tables.specs.declared.slots.Thread.TheVariants.{Chain, Line}
 use Rattle.shared_tables.specs.declared.links.Links.{Links}
 use Rattle.shared_tables.specs.declared.slots.Slots.TheInside.{Inside}
 use Rattle.shared_tables.specs.Bucket.{vid_in, mac_in}
@@ -32,29 +30,14 @@ abbrev pub moment_of : Option ℕ → ℕ
 moment_of None = 0
 moment_of (Some last) = last
 
--- a slot's neighbours on the chain of its address
-abbrev pub chain_of_slot : Slot → Links
-chain_of_slot slot = slot.chain
-
 -- a free slot has no neighbours; its place on the free list is nobody's business
 abbrev pub line_of : Slot → Links
 line_of slot = if is_some (entry_in slot) then slot.line else alone
-
--- a slot with other neighbours on a thread
-abbrev pub slot_with : Thread → Slot → Links → Slot
-slot_with Chain slot links = record slot { chain = links }
-slot_with Line slot links = record slot { line = links }
-
--- the neighbours on a thread
-abbrev pub links_on : Thread → Slot → Links
-links_on Chain slot = slot.chain
-links_on Line slot = slot.line
 
 -- the slots, column by column
 abbrev pub pool_with : List Slot → ℕ → ℕ → Pool
 pool_with slots compared visited = record {
   entries = map entry_in slots;
-  chains = map chain_of_slot slots;
   lines = map line_of slots;
   compared = compared;
   visited = visited;
@@ -66,7 +49,7 @@ pool_of a = pool_with a.slots.items a.compared.total a.visited.total
 
 -- a slot that stands for none
 abbrev pub no_slot : Slot
-no_slot = record { key = 0; last = 0; chain = alone; line = alone; place = no_place; kind = kind.Free }
+no_slot = record { key = 0; last = 0; line = alone; place = no_place; kind = kind.Free }
 
 -- the slot isn't on the list
 abbrev pub IsAbsent : ℕ → List ℕ → Type 0

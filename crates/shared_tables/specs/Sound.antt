@@ -1,4 +1,4 @@
--- What holds of the slots, the chains' heads and the segments together. It states no standard.
+-- What holds of the slots and the segments together. It states no standard.
 use Rattle.std.specs.Prelude.{◌≡◌, ℕ, ◌+◌, ◌-◌, ◌<◌, ◌≤◌, Bool, true, false, List, [], ◌∷◌, length, Option, Some, None, slice_index_or, slice_set}
 use Rattle.std.specs.Option.{option_map}
 use Rattle.std.specs.List.{sum_by}
@@ -8,12 +8,8 @@ use Rattle.shared_tables.specs.declared.threads.Ends.{Ends}
 use Rattle.shared_tables.specs.declared.share.Share.{Share}
 use Rattle.shared_tables.specs.Pool.{free_count}
 use Rattle.shared_tables.specs.Threads.{ends_without, ends_with, AreEnds}
-use Rattle.shared_tables.specs.Line.{last_of, IsThread}
-use Rattle.shared_tables.specs.Shared.{Rule, chain_key, line_key, last_at, IsUnique}
-
--- the first slot of a chain
-abbrev pub head_at : List (Option ℕ) → ℕ → Option ℕ
-head_at heads chain = slice_index_or heads chain None
+use Rattle.shared_tables.specs.Line.{IsThread}
+use Rattle.shared_tables.specs.Shared.{Rule, line_key, last_at, IsUnique}
 
 -- the share of a segment
 abbrev pub share_at : List (Option Share) → ℕ → Option Share
@@ -118,19 +114,11 @@ pub record IsLines (entries : List (Option Held)) (lines : List Links) (vid : �
   pub limit : share.count ≤ share.limit
   pub some_time : 0 < share.ageing
 
--- the chain of this number
-pub record IsChain (entries : List (Option Held)) (chains : List Links) (chain : ℕ) (first : Option ℕ) : Type 0 where
-  pub list : List ℕ
-  pub thread : IsThread chains entries (chain_key chain) first (last_of list None) list
-
--- each slot is free, or on its address's chain and on one line of its segment; there are at least as many slots as
+-- each slot is free, or on one line of its segment; there are at least as many slots as
 -- the limits sum to
-pub record IsSound (entries : List (Option Held)) (chains lines : List Links) (heads : List (Option ℕ)) (shares : List (Option Share)) (moment : ℕ) : Type 0 where
-  pub chain_links : length chains ≡ length entries
+pub record IsSound (entries : List (Option Held)) (lines : List Links) (shares : List (Option Share)) (moment : ℕ) : Type 0 where
   pub line_links : length lines ≡ length entries
-  pub heads_length : length heads ≡ 65536
   pub shares_length : length shares ≡ 4096
-  pub chained : (c : ℕ) → c < 65536 → IsChain entries chains c (head_at heads c)
   pub lined : (vid : ℕ) (share : Share) → share_at shares vid ≡ Some share → IsLines entries lines vid share moment
   pub unique : IsUnique entries
   pub free : free_count entries + sum_by share_count shares ≡ length entries

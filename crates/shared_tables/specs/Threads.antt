@@ -1,4 +1,4 @@
--- What the steps on a thread do to the slots' links. It serves proofs.
+-- What the steps on a line do to the slots' links. It serves proofs.
 use Rattle.std.specs.Prelude.{◌≡◌, ℕ, ◌<◌, List, length, Option, Some, None, IsSome, IfSome, slice_set, is_none, if◌then◌else◌}
 use Rattle.shared_tables.specs.declared.links.Links.{Links}
 use Rattle.shared_tables.specs.declared.links.Side.{Side}
@@ -40,10 +40,6 @@ unlinked links slot =
 abbrev pub pushed_back : List Links → Option ℕ → ℕ → List Links
 pushed_back links last slot = next_set (slice_set links slot (record { previous = last; next = None })) last (Some slot)
 
--- with a slot before the first
-abbrev pub pushed_front : List Links → Option ℕ → ℕ → List Links
-pushed_front links first slot = previous_set (slice_set links slot (record { previous = None; next = first })) first (Some slot)
-
 -- both ends are there, or neither is
 abbrev pub AreEnds : Ends → Type 0
 AreEnds ends = is_none ends.first ≡ is_none ends.last
@@ -68,15 +64,10 @@ ends_with ends slot = record {
   last = Some slot;
 }
 
--- the chains' heads without a slot of this chain that had these neighbours
-abbrev pub heads_without : List (Option ℕ) → ℕ → Links → List (Option ℕ)
-heads_without heads chain own = if is_none own.previous then slice_set heads chain own.next else heads
-
--- a pool where a slot has left its chain and its line, and is free
+-- a pool where a slot has left its line, and is free
 abbrev pub dropped : Pool → ℕ → Pool
 dropped pool slot = record pool {
   entries = slice_set pool.entries slot None;
-  chains = slice_set (unlinked pool.chains slot) slot alone;
   lines = slice_set (unlinked pool.lines slot) slot alone;
 }
 

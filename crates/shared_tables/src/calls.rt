@@ -6,6 +6,7 @@ ghost use Rattle.filter_db.specs.Segment.{aged_all, segment_at, adjusted, learn_
 ghost use Rattle.shared_tables.specs.Segments.{segments_of};
 ghost use Rattle.shared_tables.specs.Work.{ComparesFew, VisitsFew, TellsAtMost, Pays};
 
+use crate::admission::Outcome;
 use crate::bucket::chain;
 use crate::{SharedTables, learning};
 use filter_db::{Learned, NotThere, Place, TableFull, Tables};
@@ -72,15 +73,10 @@ impl Tables for SharedTables {
     {
         self.begin(now);
         let chain = chain(vid, mac);
-        match self.find(chain, vid, mac) {
-            Some(slot) => learning::relearn(self, vid, slot, &place),
-            None => {
-                if learning::admit(self, chain, vid, &mac, &place, Some(now)) {
-                    Learned::New
-                } else {
-                    Learned::Full
-                }
-            }
+        match learning::find_or_admit(self, chain, vid, &mac, &place, Some(now)) {
+            Outcome::Held(slot) => learning::relearn(self, vid, slot, &place),
+            Outcome::Entered => Learned::New,
+            Outcome::Full => Learned::Full,
         }
     }
 
@@ -103,18 +99,13 @@ impl Tables for SharedTables {
     {
         self.begin(now);
         let chain = chain(vid, mac);
-        match self.find(chain, vid, mac) {
-            Some(slot) => {
+        match learning::find_or_admit(self, chain, vid, &mac, &place, None) {
+            Outcome::Held(slot) => {
                 self.refresh(vid, slot, &place, None);
                 Ok(())
             }
-            None => {
-                if learning::admit(self, chain, vid, &mac, &place, None) {
-                    Ok(())
-                } else {
-                    Err(TableFull)
-                }
-            }
+            Outcome::Entered => Ok(()),
+            Outcome::Full => Err(TableFull),
         }
     }
 

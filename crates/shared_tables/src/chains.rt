@@ -1,31 +1,61 @@
 //! Where an address stands.
-ghost use Rattle.std.specs.Prelude.{◌≡◌, ℕ, ◌+◌, ◌≤◌, IfSome, IfNone, Option};
-ghost use Rattle.shared_tables.specs.Pool.{Pool, entry_at, IfHeld};
-ghost use Rattle.shared_tables.specs.Threads.{IsHeld};
-ghost use Rattle.shared_tables.specs.Shared.{Lacks, bucket_count};
-ghost use Rattle.shared_tables.specs.Sound.{IsChain};
+ghost use Rattle.std.specs.Prelude.{◌≡◌, ℕ, ◌+◌, ◌<◌, ◌≤◌};
+ghost use Rattle.std.specs.Int.{bit_at};
+ghost use Rattle.shared_tables.specs.Shared.{bucket_count};
+ghost use Rattle.shared_tables.specs.Forest.{IsForest};
+ghost use Rattle.shared_tables.specs.Whole.{Finds};
 ghost use Rattle.shared_tables.specs.Bucket.{bucket_of, chain_of};
 
+use crate::bucket;
+use crate::forest::{Forest, Target};
 use crate::links::SlotId;
 use crate::slots::Slots;
 use frame_view::{Mac, Vid};
 
-/// The slot of an address, from the first slot of its chain on.
-pub fn find_in(slots: &mut Slots, first: Option<SlotId>, vid: Vid, mac: Mac) -> Option<SlotId>
-    requires { IsChain slots.old.entries slots.old.chains (chain_of vid mac) first }
-    ensures found { IfSome result (λ s. IfHeld (entry_at slots.old.entries s) vid mac) }
-    ensures held { IfSome result (IsHeld slots.old.entries) }
-    ensures none { IfNone result (Lacks slots.old.entries vid mac) }
+/// Where an address is, or where it belongs.
+#[derive(Clone, Copy)]
+pub enum Sought {
+    /// The slot that holds it.
+    At(SlotId),
+    /// No slot holds it. It belongs beside this leaf of its chain's tree; the chain of none has no leaves.
+    Missing(Option<SlotId>),
+}
+
+/// A bit of a key: 0 or 1.
+#[inline(always)]
+pub fn side(key: u64, bit: u32) -> u32
+    requires { bit < 64 }
+    ensures value { result ≡ bit_at key bit }
+    ensures two { result < 2 }
+{
+    ((key >> bit) & 1) as u32
+}
+
+/// Where an address stands in its chain's tree.
+pub fn find_in(slots: &mut Slots, forest: &Forest, chain: usize, vid: Vid, mac: Mac) -> Sought
+    requires forest { IsForest slots.old.entries forest.now }
+    requires chain { chain ≡ chain_of vid mac }
+    requires in_range { chain < 65536 }
+    ensures found { Finds slots.old.entries forest.now vid mac result }
     ensures pool { slots.new ≡ record slots.old { compared = slots.new.compared } }
     ensures counted { slots.old.compared ≤ slots.new.compared }
     ensures compared { slots.new.compared ≤ slots.old.compared + bucket_count (bucket_of vid mac) slots.old.entries }
 {
-    let mut cursor = first;
-    while let Some(slot) = cursor {
-        if slots.same(slot, vid, mac) {
-            return Some(slot);
-        }
-        cursor = slots.next_on_chain(slot);
+    let key = bucket::key(vid, mac);
+    let mut target = forest.root(chain);
+    while let Target::Fork(fork, bit) = target {
+        slots.step();
+        target = forest.next(fork, side(key, bit));
     }
-    None
+    match target {
+        Target::Leaf(number) => {
+            let slot = SlotId { number };
+            if slots.same(slot, vid, mac) {
+                Sought::At(slot)
+            } else {
+                Sought::Missing(Some(slot))
+            }
+        }
+        _ => Sought::Missing(None),
+    }
 }

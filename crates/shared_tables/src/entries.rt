@@ -1,10 +1,12 @@
 //! Entries that come to their segment, entries that are renewed, and entries that go.
 ghost use Rattle.std.specs.Prelude.{◌≡◌, ℕ, ◌<◌, Some, None, Option, IfSome, IsSome, vec_len, is_none, false, slice_set};
-ghost use Rattle.shared_tables.specs.Pool.{Pool, links_at, entry_at, is_fixed_in, chain_in, renewed, place_in};
-ghost use Rattle.shared_tables.specs.Threads.{IsHeld, HoldsAny, heads_without, dropped, moved, pushed_back};
+ghost use Rattle.shared_tables.specs.Pool.{Pool, links_at, entry_at, is_fixed_in, renewed, place_in};
+ghost use Rattle.shared_tables.specs.Woods.{HasSizes, MayGo, Uproots};
+ghost use Rattle.shared_tables.specs.Threads.{IsHeld, HoldsAny, dropped, moved, pushed_back};
 ghost use Rattle.shared_tables.specs.Sound.{share_at, share_moved, CountsSome, CountsMore, HasEnds, HasEndsLeft, share_without, shares_without, shares_moved, shares_with, last_left, last_in};
 
-use crate::links::{Link, SlotId};
+use crate::forest::Forest;
+use crate::links::SlotId;
 use crate::share::{self, Share};
 use crate::slots::Slots;
 use crate::threads;
@@ -138,52 +140,44 @@ pub fn join_share(
     share.count = count;
 }
 
-/// Takes an entry of a segment off its chain and its line, and frees its slot.
+/// Takes an entry of a segment out of its tree and off its line, and frees its slot.
 pub fn drop_entry(
     slots: &mut Slots,
-    heads: &mut Vec<Link>,
+    forest: &mut Forest,
     shares: &mut Vec<Option<Share>>,
     vid: Vid,
     slot: SlotId,
 )
     requires held { IsHeld slots.old.entries slot }
-    requires chain_previous { HoldsAny slots.old.entries (links_at slots.old.chains slot).previous }
-    requires chain_next { HoldsAny slots.old.entries (links_at slots.old.chains slot).next }
     requires line_previous { HoldsAny slots.old.entries (links_at slots.old.lines slot).previous }
     requires line_next { HoldsAny slots.old.entries (links_at slots.old.lines slot).next }
-    requires heads { vec_len heads.old ≡ 65536 }
+    requires sizes { HasSizes forest.old }
+    requires may_go { MayGo forest.old slot }
     requires shares { vec_len shares.old ≡ 4096 }
     requires counted { CountsSome (share_at shares.old.items vid) }
     ensures pool { slots.new ≡ dropped slots.old slot }
-    ensures heads { let e = entry_at slots.old.entries slot in
-        heads.new.items ≡ heads_without heads.old.items (chain_in e) (links_at slots.old.chains slot) }
+    ensures forest { Uproots forest.old forest.new slot }
     ensures shares { let e = entry_at slots.old.entries slot in
         shares.new.items ≡ shares_without shares.old.items vid (is_fixed_in e) (links_at slots.old.lines slot) }
 {
+    forest.uproot(slot);
     let Some(share) = &mut shares[usize::from(vid.get())] else {
         unreachable!();
     };
-    drop_in(slots, heads, share, slot);
+    drop_in(slots, share, slot);
 }
 
-/// The same in the segment's share.
-fn drop_in(slots: &mut Slots, heads: &mut Vec<Link>, share: &mut Share, slot: SlotId)
+/// Takes it off its line in the segment's share.
+fn drop_in(slots: &mut Slots, share: &mut Share, slot: SlotId)
     requires held { IsHeld slots.old.entries slot }
-    requires chain_previous { HoldsAny slots.old.entries (links_at slots.old.chains slot).previous }
-    requires chain_next { HoldsAny slots.old.entries (links_at slots.old.chains slot).next }
     requires line_previous { HoldsAny slots.old.entries (links_at slots.old.lines slot).previous }
     requires line_next { HoldsAny slots.old.entries (links_at slots.old.lines slot).next }
-    requires heads { vec_len heads.old ≡ 65536 }
     requires counted { 0 < share.old.count }
     ensures pool { slots.new ≡ dropped slots.old slot }
-    ensures heads { let e = entry_at slots.old.entries slot in
-        heads.new.items ≡ heads_without heads.old.items (chain_in e) (links_at slots.old.chains slot) }
     ensures share { let e = entry_at slots.old.entries slot in
         share.new ≡ share_without (is_fixed_in e) (links_at slots.old.lines slot) share.old }
 {
     let fixed = slots.is_fixed(slot);
-    let chain = slots.chain(slot);
-    threads::unchain(slots, heads, chain, slot);
     share::leave_line(slots, share, fixed, slot);
     share.count -= 1;
     slots.free(slot);

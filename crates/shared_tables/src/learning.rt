@@ -1,12 +1,14 @@
 //! How entries come, stay and go: each step over the slots of one segment.
-ghost use Rattle.std.specs.Prelude.{◌≡◌, ℕ, ◌<◌, ◌≤◌, IsSome, Some, None, Option, false};
-ghost use Rattle.shared_tables.specs.Bucket.{chain_of};
+ghost use Rattle.std.specs.Prelude.{◌≡◌, ℕ, ◌+◌, ◌<◌, ◌≤◌, IsSome, Some, None, Option, false};
+ghost use Rattle.shared_tables.specs.Bucket.{bucket_of, chain_of};
+ghost use Rattle.shared_tables.specs.Admission.{FindsOrAdmits};
 ghost use Rattle.shared_tables.specs.Pool.{entry_at, is_fixed_in};
 ghost use Rattle.shared_tables.specs.Threads.{IsHeld};
-ghost use Rattle.shared_tables.specs.Shared.{rule_at, Lacks, IsNow, span_of, Sweeps, IsOf, Admits, Relearns, Refreshes, Flushes, kept_count, stands_at};
+ghost use Rattle.shared_tables.specs.Shared.{rule_at, bucket_count, IsNow, span_of, Sweeps, IsOf, Relearns, Refreshes, Flushes, kept_count, stands_at};
 ghost use Rattle.shared_tables.specs.Standing.{Empties};
 
 use crate::SharedTables;
+use crate::admission::Outcome;
 use crate::links::SlotId;
 use filter_db::{Learned, Place};
 use frame_view::{Mac, Vid};
@@ -57,30 +59,30 @@ pub fn fit(tables: &mut SharedTables, vid: Vid, limit: u32)
     }
 }
 
-/// Makes an entry for an address on this chain that no slot holds; false where the segment has no room for it.
+/// The slot of an address on this chain; where no slot holds it, an entry comes, if there is room for it.
 #[inline(always)]
-pub fn admit(
+pub fn find_or_admit(
     tables: &mut SharedTables,
     chain: usize,
     vid: Vid,
     mac: &Mac,
     place: &Place,
     last: Option<u64>,
-) -> bool
+) -> Outcome
     requires chain { chain ≡ chain_of vid mac.now }
     requires in_range { chain < 65536 }
     requires rule { IsSome (rule_at tables.old.rules vid) }
-    requires absent { Lacks tables.old.entries vid mac.now }
     requires now { IsNow last tables.old.moment }
-    ensures { let span = span_of (rule_at tables.old.rules vid) in
-        Admits tables.old tables.new vid span (record { vid = vid; mac = mac.now; place = place.now; last = last }) result }
+    ensures outcome { let span = span_of (rule_at tables.old.rules vid) in
+        FindsOrAdmits (record tables.old { compared = tables.new.compared }) tables.new span (record { vid = vid; mac = mac.now; place = place.now; last = last }) result }
+    ensures counted { tables.old.compared ≤ tables.new.compared }
+    ensures compared { tables.new.compared ≤ tables.old.compared + bucket_count (bucket_of vid mac.now) tables.old.entries }
 {
-    sweep(tables, vid);
-    if tables.kept(vid) >= tables.most(vid) {
-        return false;
+    let outcome = tables.find_or_enter(chain, vid, mac, place, last);
+    if let Outcome::Entered = outcome {
+        sweep(tables, vid);
     }
-    tables.enter(chain, vid, mac, place, last);
-    true
+    outcome
 }
 
 /// Gives a learned entry a place, at which it may stand already, and the tables' moment as its last one.

@@ -1,21 +1,11 @@
 //! What new tables begin with.
-ghost use Rattle.std.specs.Prelude.{◌≡◌, ℕ, IfOk, None, Option, All, replicate};
+ghost use Rattle.std.specs.Prelude.{IfOk, All};
 ghost use Rattle.filter_db.specs.Segment.{IsRule, AreForDistinctVids};
 ghost use Rattle.shared_tables.specs.Opened.{AreOpened};
 
-use crate::bucket::CHAINS;
-use crate::links::Link;
 use crate::share::{self, Share, VIDS};
 use filter_db::TableRule;
 use std::alloc::{AllocError, Global};
-
-/// The heads of empty chains.
-pub fn no_heads(alloc: Global) -> Result<Vec<Link>, AllocError>
-    ensures { IfOk result (λ v. v.items ≡ replicate 65536 None) }
-{
-    let heads = vec![in alloc; Link::NONE; CHAINS]?;
-    Ok(heads)
-}
 
 /// Empty shares for these rules.
 pub fn open_shares(alloc: Global, rules: &[TableRule]) -> Result<Vec<Option<Share>>, AllocError>

@@ -6,18 +6,20 @@ ghost use Rattle.filter_db.specs.Place.{same_place};
 ghost use Rattle.filter_db.specs.Segment.{IsRule, AreForDistinctVids, new_segments};
 ghost use Rattle.shared_tables.specs.Pool.{entry_at, IfHeld, is_dead_in, is_fixed_in, place_in};
 ghost use Rattle.shared_tables.specs.Threads.{IsHeld};
-ghost use Rattle.shared_tables.specs.Shared.{rule_at, Lacks, kept_count, bucket_count, IsNow, HasRoom, Enters, Refreshes, IsOf, span_of, NoneAges, IsOldest, IsOrderly, live_place, with_ageing, DropsPlace, stands_at};
+ghost use Rattle.shared_tables.specs.Shared.{rule_at, Lacks, kept_count, bucket_count, IsNow, HasRoom, Refreshes, IsOf, span_of, NoneAges, IsOldest, IsOrderly, live_place, with_ageing, DropsPlace, stands_at};
 ghost use Rattle.shared_tables.specs.Segments.{segments_of};
+ghost use Rattle.shared_tables.specs.Admission.{ComesTo};
 ghost use Rattle.shared_tables.specs.Bucket.{bucket_of, chain_of};
 ghost use Rattle.shared_tables.specs.Work.{IsPaid};
 
-use crate::chains::find_in;
-use crate::entries::{drop_entry, join_share, renew_entry, see_entry};
-use crate::links::{Link, SlotId};
-use crate::opening::{no_heads, open_shares};
+use crate::admission::{Newcomer, Outcome, admit_in};
+use crate::chains::{Sought, find_in};
+use crate::entries::{drop_entry, renew_entry, see_entry};
+use crate::forest::Forest;
+use crate::links::SlotId;
+use crate::opening::open_shares;
 use crate::share::{self, Share};
-use crate::slots::{Slots, Thread};
-use crate::threads;
+use crate::slots::Slots;
 use filter_db::{Place, TableRule};
 use frame_view::{Mac, Vid};
 use std::alloc::{AllocError, Global};
@@ -31,9 +33,8 @@ mod standing;
 #[derive(Drop)]
 pub struct SharedTables {
     slots: Slots,
-    /// For each chain its first slot: an entry is put before the others when it comes, and leaves when
-    /// it goes.
-    heads: Vec<Link>,
+    /// For each chain the tree of its entries.
+    forest: Forest,
     /// At the place of each VID the share of its segment.
     shares: Vec<Option<Share>>,
     moment: u64,
@@ -72,7 +73,7 @@ impl SharedTables {
     {
         Ok(SharedTables {
             slots: Slots::new(alloc, pool)?,
-            heads: no_heads(alloc)?,
+            forest: Forest::new(alloc, pool)?,
             shares: open_shares(alloc, rules)?,
             moment: 0,
             calls: Count::zero(),
@@ -122,33 +123,60 @@ impl SharedTables {
         ensures counted { self.old.compared ≤ self.new.compared }
         ensures compared { self.new.compared ≤ self.old.compared + bucket_count (bucket_of vid mac) self.old.entries }
     {
-        let first = threads::head(&self.heads, chain);
-        find_in(&mut self.slots, first, vid, mac)
+        match find_in(&mut self.slots, &self.forest, chain, vid, mac) {
+            Sought::At(slot) => Some(slot),
+            Sought::Missing(_) => None,
+        }
     }
 
-    /// Takes a slot for a new entry: first on its chain, and last on its line.
-    pub(crate) fn enter(
+    /// The slot of an address, which is on this chain; where no slot holds it, an entry comes, if the segment has room or
+    /// its oldest entry is dead.
+    pub(crate) fn find_or_enter(
         &mut self,
         chain: usize,
         vid: Vid,
         mac: &Mac,
         place: &Place,
         last: Option<u64>,
-    )
+    ) -> Outcome
         requires chain { chain ≡ chain_of vid mac.now }
         requires in_range { chain < 65536 }
-        requires room { HasRoom (rule_at self.old.rules vid) (kept_count vid self.old.entries) }
-        requires absent { Lacks self.old.entries vid mac.now }
+        requires rule { IsSome (rule_at self.old.rules vid) }
         requires now { IsNow last self.old.moment }
-        ensures { Enters self.old self.new (record { vid = vid; mac = mac.now; place = place.now; last = last }) }
+        ensures outcome { let span = span_of (rule_at self.old.rules vid) in
+            ComesTo (record self.old { compared = self.new.compared }) self.new span (record { vid = vid; mac = mac.now; place = place.now; last = last }) result }
+        ensures counted { self.old.compared ≤ self.new.compared }
+        ensures compared { self.new.compared ≤ self.old.compared + bucket_count (bucket_of vid mac.now) self.old.entries }
+        ensures some_time { 0 < span_of (rule_at self.old.rules vid) }
     {
-        let slot = self.slots.take(vid, mac, place, last);
-        threads::enchain(&mut self.slots, &mut self.heads, chain, slot);
-        join_share(&mut self.slots, &mut self.shares, vid, last.is_none(), slot);
+        match find_in(&mut self.slots, &self.forest, chain, vid, *mac) {
+            Sought::At(slot) => Outcome::Held(slot),
+            Sought::Missing(beside) => {
+                let comes = admit_in(
+                    &mut self.slots,
+                    &mut self.forest,
+                    &mut self.shares,
+                    self.moment,
+                    &Newcomer {
+                        chain,
+                        beside,
+                        vid,
+                        mac: *mac,
+                        place: *place,
+                        last,
+                    },
+                );
+                if comes {
+                    Outcome::Entered
+                } else {
+                    Outcome::Full
+                }
+            }
+        }
     }
 
-    /// Gives an entry another place and another last moment, in its slot: it keeps its place on its chain, and goes to
-    /// the end of its line.
+    /// Gives an entry another place and another last moment, in its slot: it keeps its place in its tree, and goes
+    /// to the end of its line.
     pub(crate) fn refresh(&mut self, vid: Vid, slot: SlotId, place: &Place, last: Option<u64>)
         requires held { IsOf (entry_at self.old.entries slot) vid }
         requires rule { IsSome (rule_at self.old.rules vid) }
@@ -178,7 +206,7 @@ impl SharedTables {
     {
         drop_entry(
             &mut self.slots,
-            &mut self.heads,
+            &mut self.forest,
             &mut self.shares,
             vid,
             slot,
@@ -306,11 +334,11 @@ impl SharedTables {
         let mut cursor = share.queue.first;
         for _entry in 0..share.count {
             if let Some(slot) = cursor.slot() {
-                cursor = self.slots.links(Thread::Line, slot).next;
+                cursor = self.slots.links(slot).next;
                 if self.slots.place(slot).is_same(place) {
                     drop_entry(
                         &mut self.slots,
-                        &mut self.heads,
+                        &mut self.forest,
                         &mut self.shares,
                         vid,
                         slot,

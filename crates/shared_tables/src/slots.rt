@@ -1,11 +1,13 @@
 //! The slots of a pool. An address is compared, and an entry's age is told, by this module alone.
 ghost use Rattle.std.specs.Prelude.{◌≡◌, ℕ, ◌+◌, ◌<◌, ◌≤◌, ◌↔◌, IsTrue, IfOk, IfSome, IsSome, Some, None, Option, false, length, replicate, slice_set};
-ghost use Rattle.shared_tables.specs.Pool.{Pool, Held, entry_at, links_at, column, with_column, free_count, chain_in, is_fixed_in, is_dead_in, alone, links_with, IfHeld, taken, freed, renewed, place_in, free_pool};
+ghost use Rattle.shared_tables.specs.Pool.{Pool, Held, entry_at, links_at, free_count, is_fixed_in, is_dead_in, alone, links_with, IfHeld, taken, freed, renewed, readdressed, place_in, free_pool};
+ghost use Rattle.shared_tables.specs.Forest.{key_in};
+ghost use Rattle.shared_tables.specs.Bucket.{vid_in, mac_in};
 ghost use Rattle.filter_db.specs.Place.{same_place};
 ghost use Rattle.shared_tables.specs.Threads.{link_set};
-ghost use Rattle.shared_tables.specs.Slots.{entry_in, kind_of, moment_of, slot_with, links_on};
+ghost use Rattle.shared_tables.specs.Slots.{entry_in, kind_of, moment_of};
 
-use crate::bucket::{chain_by_key, is_key_of, key};
+use crate::bucket::{is_key_of, key};
 use crate::links::{ALONE, Link, Links, Side, SlotId};
 use filter_db::Place;
 use frame_view::{Mac, Vid};
@@ -14,15 +16,6 @@ use std::marker::Model;
 use work_count::Count;
 
 mod listing;
-
-/// The two threads that run through each slot.
-#[derive(Clone, Copy)]
-pub enum Thread {
-    /// The chain of its address.
-    Chain,
-    /// The age queue, or the list of the fixed entries, of its segment.
-    Line,
-}
 
 /// What stands in a slot.
 #[derive(Clone, Copy)]
@@ -35,17 +28,16 @@ pub enum Kind {
     Fixed,
 }
 
-/// A slot. A slot that holds an entry is on the chain of its address, in which the entry that came last stands first,
-/// and on one line of its segment: the age queue, in the order in which the entries were last seen, or the list of the
-/// fixed entries, in the order in which they were fixed. It leaves both when its entry goes. A free slot is on the free
-/// list, with the next free one behind it on its line; it leaves that when an entry takes it.
+/// A slot. A slot that holds an entry is a leaf of the tree of its address's chain, and on one line of its segment: the
+/// age queue, in the order in which the entries were last seen, or the list of the fixed entries, in the order in which
+/// they were fixed. It leaves both when its entry goes. A free slot is on the free list, with the next free one behind it
+/// on its line; it leaves that when an entry takes it.
 #[derive(Clone, Copy)]
 pub struct Slot {
     /// The VID and the address of its entry.
     key: u64,
     /// The last moment at which the address was seen there; 0 where the entry is fixed.
     last: u64,
-    chain: Links,
     line: Links,
     place: Place,
     kind: Kind,
@@ -57,7 +49,7 @@ pub struct Slots {
     slots: Vec<Slot>,
     /// The first slot of the free list: the one that was freed last.
     free: Link,
-    /// How often an address was compared with a slot's.
+    /// How often an address was compared with a slot's, or sent on by a fork.
     compared: Count,
     /// How often an entry's age was told.
     visited: Count,
@@ -88,13 +80,11 @@ fn kind_of(last: Option<u64>) -> Kind
 /// A free slot, with the next one behind it.
 fn vacant(next: Link) -> Slot
     ensures entry { entry_in result ≡ None }
-    ensures chain { result.chain ≡ alone }
     ensures next { result.line.next ≡ next }
 {
     Slot {
         key: 0,
         last: 0,
-        chain: ALONE,
         line: Links { next, ..ALONE },
         place: Place::Local(0),
         kind: Kind::Free,
@@ -129,20 +119,28 @@ fn is_fixed(slot: &Slot) -> bool
     }
 }
 
-/// The chain of its entry.
-fn chain_of(slot: &Slot) -> usize
+/// The key of its entry.
+fn key_of(slot: &Slot) -> u64
     requires { IsSome (entry_in slot.now) }
-    ensures value { result ≡ chain_in (entry_in slot.now) }
-    ensures in_range { result < 65536 }
+    ensures value { result ≡ key_in (entry_in slot.now) }
+    ensures held { IfHeld (entry_in slot.now) (vid_in result) (mac_in result) }
 {
-    chain_by_key(slot.key)
+    slot.key
+}
+
+/// Gives its entry another address.
+fn readdress(slot: &mut Slot, vid: Vid, mac: Mac)
+    requires { IsSome (entry_in slot.old) }
+    ensures entry { entry_in slot.new ≡ readdressed (entry_in slot.old) vid mac }
+    ensures line { slot.new.line ≡ slot.old.line }
+{
+    slot.key = key(vid, mac);
 }
 
 /// Gives its entry another place and another last moment.
 fn renew(slot: &mut Slot, place: &Place, last: Option<u64>)
     requires { IsSome (entry_in slot.old) }
     ensures entry { entry_in slot.new ≡ renewed (entry_in slot.old) place.now last }
-    ensures chain { slot.new.chain ≡ slot.old.chain }
     ensures line { slot.new.line ≡ slot.old.line }
 {
     slot.place = *place;
@@ -150,15 +148,13 @@ fn renew(slot: &mut Slot, place: &Place, last: Option<u64>)
     slot.kind = kind_of(last);
 }
 
-/// Puts an entry into it, on no thread yet.
+/// Puts an entry into it, on no line yet.
 #[inline(always)]
 fn fill(slot: &mut Slot, vid: Vid, mac: &Mac, place: &Place, last: Option<u64>)
     ensures entry { entry_in slot.new ≡ Some (record { vid = vid; mac = mac.now; place = place.now; last = last }) }
-    ensures chain { slot.new.chain ≡ alone }
     ensures line { slot.new.line ≡ alone }
 {
     slot.key = key(vid, *mac);
-    slot.chain = ALONE;
     slot.line = ALONE;
     slot.place = *place;
     slot.last = last.unwrap_or(0);
@@ -170,56 +166,39 @@ fn see(slot: &mut Slot, last: u64)
     requires held { IsSome (entry_in slot.old) }
     requires learned { is_fixed_in (entry_in slot.old) ≡ false }
     ensures entry { entry_in slot.new ≡ renewed (entry_in slot.old) (place_in (entry_in slot.old)) (Some last) }
-    ensures chain { slot.new.chain ≡ slot.old.chain }
     ensures line { slot.new.line ≡ slot.old.line }
 {
     slot.last = last;
 }
 
-/// Gives it other neighbours on a thread, each written by itself.
+/// Gives it other neighbours, each written by itself.
 #[inline(always)]
-fn set_links(slot: &mut Slot, thread: Thread, links: Links)
-    ensures { slot.new ≡ slot_with thread slot.old links }
+fn set_links(slot: &mut Slot, links: Links)
+    ensures { slot.new ≡ record slot.old { line = links } }
 {
-    match thread {
-        Thread::Chain => {
-            slot.chain.previous = links.previous;
-            slot.chain.next = links.next;
-        }
-        Thread::Line => {
-            slot.line.previous = links.previous;
-            slot.line.next = links.next;
-        }
+    slot.line.previous = links.previous;
+    slot.line.next = links.next;
+}
+
+/// Gives it another neighbour on one side.
+#[inline(always)]
+fn set_link(slot: &mut Slot, side: Side, link: Link)
+    ensures { slot.new ≡ record slot.old { line = links_with side slot.old.line link } }
+{
+    match side {
+        Side::Previous => slot.line.previous = link,
+        Side::Next => slot.line.next = link,
     }
 }
 
-/// Gives it another neighbour on one side of a thread.
+/// Its neighbours, each read by itself.
 #[inline(always)]
-fn set_link(slot: &mut Slot, thread: Thread, side: Side, link: Link)
-    ensures { slot.new ≡ slot_with thread slot.old (links_with side (links_on thread slot.old) link) }
+fn links_on(slot: &Slot) -> Links
+    ensures { result ≡ slot.now.line }
 {
-    match (thread, side) {
-        (Thread::Chain, Side::Previous) => slot.chain.previous = link,
-        (Thread::Chain, Side::Next) => slot.chain.next = link,
-        (Thread::Line, Side::Previous) => slot.line.previous = link,
-        (Thread::Line, Side::Next) => slot.line.next = link,
-    }
-}
-
-/// Its neighbours on a thread, each read by itself.
-#[inline(always)]
-fn links_on(slot: &Slot, thread: Thread) -> Links
-    ensures { result ≡ links_on thread slot.now }
-{
-    match thread {
-        Thread::Chain => Links {
-            previous: slot.chain.previous,
-            next: slot.chain.next,
-        },
-        Thread::Line => Links {
-            previous: slot.line.previous,
-            next: slot.line.next,
-        },
+    Links {
+        previous: slot.line.previous,
+        next: slot.line.next,
     }
 }
 
@@ -250,8 +229,7 @@ impl Slots {
         self.slots.len() as u32
     }
 
-    /// Whether a slot holds this address of this segment. It is the only way to compare an address with a slot's but for a
-    /// listing.
+    /// Whether a slot holds this address of this segment. It is the only way to find an address in a slot but for a listing.
     pub fn same(&mut self, slot: SlotId, vid: Vid, mac: Mac) -> bool
         requires in_pool { slot < length self.old.entries }
         requires held { IsSome (entry_at self.old.entries slot) }
@@ -273,14 +251,31 @@ impl Slots {
         is_dead(&self.slots[slot.number as usize], ageing, now)
     }
 
-    /// The chain of what the slot holds.
-    pub fn chain(&self, slot: SlotId) -> usize
+    /// Counts that a fork sent an address on.
+    #[inline(always)]
+    pub fn step(&mut self)
+        ensures { self.new ≡ record self.old { compared = self.old.compared + 1 } }
+    {
+        self.compared.tick();
+    }
+
+    /// The key of what the slot holds, for the fork that parts it from another one beside it.
+    pub fn key(&self, slot: SlotId) -> u64
         requires in_pool { slot < length self.now.entries }
         requires held { IsSome (entry_at self.now.entries slot) }
-        ensures value { result ≡ chain_in (entry_at self.now.entries slot) }
-        ensures in_range { result < 65536 }
+        ensures value { result ≡ key_in (entry_at self.now.entries slot) }
+        ensures held { IfHeld (entry_at self.now.entries slot) (vid_in result) (mac_in result) }
     {
-        chain_of(&self.slots[slot.number as usize])
+        key_of(&self.slots[slot.number as usize])
+    }
+
+    /// Gives the slot's entry another address.
+    pub fn readdress(&mut self, slot: SlotId, vid: Vid, mac: Mac)
+        requires in_pool { slot < length self.old.entries }
+        requires held { IsSome (entry_at self.old.entries slot) }
+        ensures { self.new ≡ record self.old { entries = slice_set self.old.entries slot (readdressed (entry_at self.old.entries slot) vid mac) } }
+    {
+        readdress(&mut self.slots[slot.number as usize], vid, mac);
     }
 
     /// Whether a slot holds a fixed entry.
@@ -291,23 +286,14 @@ impl Slots {
         is_fixed(&self.slots[slot.number as usize])
     }
 
-    /// The slot's neighbours on a thread.
+    /// The slot's neighbours on its line.
     #[inline(always)]
-    pub fn links(&self, thread: Thread, slot: SlotId) -> Links
+    pub fn links(&self, slot: SlotId) -> Links
         requires in_pool { slot < length self.now.entries }
         requires held { IsSome (entry_at self.now.entries slot) }
-        ensures { result ≡ links_at (column thread self.now) slot }
+        ensures { result ≡ links_at self.now.lines slot }
     {
-        links_on(&self.slots[slot.number as usize], thread)
-    }
-
-    /// The next one on the slot's chain.
-    pub fn next_on_chain(&self, slot: SlotId) -> Option<SlotId>
-        requires in_pool { slot < length self.now.entries }
-        requires held { IsSome (entry_at self.now.entries slot) }
-        ensures { result ≡ (links_at self.now.chains slot).next }
-    {
-        self.slots[slot.number as usize].chain.next.slot()
+        links_on(&self.slots[slot.number as usize])
     }
 
     /// Where the slot's entry stands.
@@ -327,24 +313,24 @@ impl Slots {
         self.slots[slot.number as usize].place == *place
     }
 
-    /// Gives the slot other neighbours on a thread.
+    /// Gives the slot other neighbours.
     #[inline(always)]
-    pub fn set_links(&mut self, thread: Thread, slot: SlotId, links: Links)
+    pub fn set_links(&mut self, slot: SlotId, links: Links)
         requires in_pool { slot < length self.old.entries }
         requires held { IsSome (entry_at self.old.entries slot) }
-        ensures { self.new ≡ with_column thread self.old (slice_set (column thread self.old) slot links) }
+        ensures { self.new ≡ record self.old { lines = slice_set self.old.lines slot links } }
     {
-        set_links(&mut self.slots[slot.number as usize], thread, links);
+        set_links(&mut self.slots[slot.number as usize], links);
     }
 
-    /// Gives the slot another neighbour on one side of a thread.
+    /// Gives the slot another neighbour on one side.
     #[inline(always)]
-    pub fn set_link(&mut self, thread: Thread, side: Side, slot: SlotId, link: Link)
+    pub fn set_link(&mut self, side: Side, slot: SlotId, link: Link)
         requires in_pool { slot < length self.old.entries }
         requires held { IsSome (entry_at self.old.entries slot) }
-        ensures { self.new ≡ with_column thread self.old (link_set side (column thread self.old) (Some slot) link) }
+        ensures { self.new ≡ record self.old { lines = link_set side self.old.lines (Some slot) link } }
     {
-        set_link(&mut self.slots[slot.number as usize], thread, side, link);
+        set_link(&mut self.slots[slot.number as usize], side, link);
     }
 
     /// Takes a free slot for an entry.

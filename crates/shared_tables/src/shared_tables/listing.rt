@@ -12,7 +12,7 @@ ghost use Rattle.shared_tables.specs.Sound.{IsLines, line_at};
 use crate::links::Link;
 use crate::share::{Share, share_at};
 use crate::shared_tables::SharedTables;
-use crate::slots::{Slots, Thread};
+use crate::slots::Slots;
 use filter_db::Entry;
 use frame_view::{Mac, Vid};
 use std::alloc::{AllocError, Global};
@@ -73,7 +73,7 @@ fn put_line(
             return Ok(());
         };
         put_row(rows, slots.live_row(slot, vid, ageing, now))?;
-        cursor = slots.links(Thread::Line, slot).next;
+        cursor = slots.links(slot).next;
     }
     Ok(())
 }

@@ -6,10 +6,10 @@ use Rattle.shared_tables.proofs.shared_tables.SharedTables.begin.Goals as goal
 pub invariant_of-self : goal.invariant_of-self
 invariant_of-self c =
     let i = c.self.inside in
-    sound_later i.slots.entries i.slots.chains i.slots.lines i.heads.items i.shares.items i.moment c.args.now (subst (λ (w : Shared). w.moment ≤ c.args.now) (sym c.self.view_is) c.requires) c.self.invariant
+    record { sound = sound_later i.slots.entries i.slots.lines i.shares.items i.moment c.args.now (subst (λ (w : Shared). w.moment ≤ c.args.now) (sym c.self.view_is) c.requires) c.self.invariant.sound; forest = c.self.invariant.forest }
 
 pub returns-clause-orderly : goal.returns-clause-orderly
 returns-clause-orderly c =
     let i = c.self.inside in
-    orderly i.slots.entries i.slots.chains i.slots.lines i.heads.items i.shares.items c.args.now _ _ _
-    (sound_later i.slots.entries i.slots.chains i.slots.lines i.heads.items i.shares.items i.moment c.args.now (subst (λ (w : Shared). w.moment ≤ c.args.now) (sym c.self.view_is) c.requires) c.self.invariant)
+    orderly i.slots.entries i.slots.lines i.shares.items c.args.now _ _ _
+    (sound_later i.slots.entries i.slots.lines i.shares.items i.moment c.args.now (subst (λ (w : Shared). w.moment ≤ c.args.now) (sym c.self.view_is) c.requires) c.self.invariant.sound)

@@ -4,4 +4,4 @@ use Rattle.shared_tables.proofs.shared_tables.SharedTables.count_call.Goals as g
 pub returns-clause-orderly : goal.returns-clause-orderly
 returns-clause-orderly c =
     let i = c.self.inside in
-    orderly i.slots.entries i.slots.chains i.slots.lines i.heads.items i.shares.items i.moment _ _ _ c.self.invariant
+    orderly i.slots.entries i.slots.lines i.shares.items i.moment _ _ _ c.self.invariant.sound

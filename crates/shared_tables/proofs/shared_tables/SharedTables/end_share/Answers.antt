@@ -10,14 +10,13 @@ use Rattle.shared_tables.proofs.shared_tables.SharedTables.end_share.Goals as go
 pub invariant_of-self : goal.invariant_of-self
 invariant_of-self c =
     let i = c.self.inside in let v = c.args.vid in
-    let lt : v < length i.shares.items = omega (arith, c.strike.ensures.in_range, c.self.invariant.shares_length) in
-    sound_at i.moment refl refl refl refl c.strike.ensures.items
-    (strike_sound i.slots.entries i.slots.chains i.slots.lines i.heads.items i.shares.items i.moment v lt c.self.invariant (subst (λ (w : Shared). kept_count v w.entries ≡ 0) (sym c.self.view_is) c.requires.none))
+    let lt : v < length i.shares.items = omega (arith, c.strike.ensures.in_range, c.self.invariant.sound.shares_length) in
+    record { sound = sound_at i.moment refl refl c.strike.ensures.items (strike_sound i.slots.entries i.slots.lines i.shares.items i.moment v lt c.self.invariant.sound (subst (λ (w : Shared). kept_count v w.entries ≡ 0) (sym c.self.view_is) c.requires.none)); forest = c.self.invariant.forest }
 
 pub returns-clause-segments : goal.returns-clause-segments
 returns-clause-segments c =
     let i = c.self.inside in let v = c.args.vid in
-    let lt : v < length i.shares.items = omega (arith, c.strike.ensures.in_range, c.self.invariant.shares_length) in
+    let lt : v < length i.shares.items = omega (arith, c.strike.ensures.in_range, c.self.invariant.sound.shares_length) in
     ap (λ (xs : List (Option Share)). segments_of (shared_by i.slots.entries xs i.moment i.calls.total i.slots.compared i.slots.visited)) c.strike.ensures.items
     ∙ ended_share i.slots.entries i.shares.items i.moment i.calls.total i.slots.compared i.slots.visited v lt
     ∙ ap (λ (w : Shared). removed v (segments_of w)) c.self.view_is

@@ -25,16 +25,16 @@ returns-in_default c =
 pub put_line-requires : goal.put_line-requires
 put_line-requires c =
     let i = c.self.inside in
-    (i.moment, c.self.invariant.lined c.args.vid c.in-Some.share (share_read _ _ c.args.vid c.share_at.result c.in-Some.share c.deref.ensures.value c.share_at.ensures c.in-Some.is))
+    (i.moment, c.self.invariant.sound.lined c.args.vid c.in-Some.share (share_read _ _ c.args.vid c.share_at.result c.in-Some.share c.deref.ensures.value c.share_at.ensures c.in-Some.is))
 
 pub put_line-requires-2 : goal.put_line-requires-2
 put_line-requires-2 c =
     let i = c.self.inside in
-    (i.moment, c.self.invariant.lined c.args.vid c.in-Some.share (share_read _ _ c.args.vid c.share_at.result c.in-Some.share c.deref.ensures.value c.share_at.ensures c.in-Some.is))
+    (i.moment, c.self.invariant.sound.lined c.args.vid c.in-Some.share (share_read _ _ c.args.vid c.share_at.result c.in-Some.share c.deref.ensures.value c.share_at.ensures c.in-Some.is))
 
 pub put_in_order-requires : goal.put_in_order-requires
 put_in_order-requires c =
-    (both_listed c.self.inside.slots.entries c.args.vid (nanoseconds c.in-Some.share.ageing) c.args.now _ _ _ c.self.invariant.unique c.new-rows.ensures.items c.in_ok-put_line.ensures c.in_ok-put_line-2.ensures).0
+    (both_listed c.self.inside.slots.entries c.args.vid (nanoseconds c.in-Some.share.ageing) c.args.now _ _ _ c.self.invariant.sound.unique c.new-rows.ensures.items c.in_ok-put_line.ensures c.in_ok-put_line-2.ensures).0
 
 pub returns : goal.returns
 returns c =
@@ -44,10 +44,10 @@ returns c =
     let a = nanoseconds share.ageing in
     let t = c.args.now in
     let here = rule_is i.shares.items v share (share_read _ _ v c.share_at.result share c.deref.ensures.value c.share_at.ensures c.in-Some.is) in
-    let both = both_listed i.slots.entries v a t _ _ _ c.self.invariant.unique c.new-rows.ensures.items c.in_ok-put_line.ensures c.in_ok-put_line-2.ensures in
+    let both = both_listed i.slots.entries v a t _ _ _ c.self.invariant.sound.unique c.new-rows.ensures.items c.in_ok-put_line.ensures c.in_ok-put_line-2.ensures in
     let le : (shared_of i).moment ≤ t = subst (λ (s : Shared). s.moment ≤ t) (sym c.self.view_is) c.requires in
     c.put_in_order.ensures
     ∙ ap entries both.1
     ∙ sym (ap (λ (o : Option Rule). entries (from_entries {R = mac_cmp} (live_rows v (span_of o) t i.slots.entries))) here)
-    ∙ listed (shared_of i) v t (rule_of share) here c.self.invariant.unique le
+    ∙ listed (shared_of i) v t (rule_of share) here c.self.invariant.sound.unique le
     ∙ ap (λ (s : Shared). entries (segment_at v (aged_all t (segments_of s))).entries) c.self.view_is

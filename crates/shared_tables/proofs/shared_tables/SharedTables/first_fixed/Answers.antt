@@ -6,5 +6,5 @@ use Rattle.shared_tables.proofs.shared_tables.SharedTables.first_fixed.Goals as 
 pub returns-in-Some : goal.returns-in-Some
 returns-in-Some c =
     let i = c.self.inside in let v = c.args.vid in let share = c.in-Some.share in let es = i.slots.entries in let ls = i.slots.lines in
-    let lines = c.self.invariant.lined v share (share_read _ _ v c.share_at.result share c.deref.ensures.value c.share_at.ensures c.in-Some.is) in
+    let lines = c.self.invariant.sound.lined v share (share_read _ _ v c.share_at.result share c.deref.ensures.value c.share_at.ensures c.in-Some.is) in
     let k = first_seen (λ xs. NoneFixed xs v) (λ xs. IsFixedOf xs v) i c.args.self.now share.fixed.first _ c.self.view_is c.slot.ensures (fixed_if_none es ls v share i.moment lines) (fixed_if_some es ls v share i.moment lines) in record { none = k.0; some = k.1 }

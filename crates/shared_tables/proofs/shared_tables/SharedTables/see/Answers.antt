@@ -6,7 +6,7 @@ use Rattle.shared_tables.specs.Threads.{HoldsAny, moved}
 use Rattle.shared_tables.specs.Shared.{Shared}
 use Rattle.shared_tables.specs.SharedInside.{shared_of}
 use Rattle.shared_tables.specs.Sound.{share_at, shares_moved, last_left, HasEndsLeft}
-use Rattle.shared_tables.proofs.Renewing.{renewable, renewed_inside, renewed_seen}
+use Rattle.shared_tables.proofs.Renewing.{renewable, renewed_whole, renewed_seen}
 use Rattle.shared_tables.proofs.shared_tables.SharedTables.see.Goals as goal
 
 -- the entry was learned
@@ -24,7 +24,7 @@ see_entry-requires c =
       learned = learned;
       previous = k.previous;
       next = k.next;
-      shares = omega (arith, c.self.invariant.shares_length, i.shares.ok.0);
+      shares = omega (arith, c.self.invariant.sound.shares_length, i.shares.ok.0);
       there = k.there;
       last = subst (λ b. HoldsAny (set i.slots.entries s (renewed (entry_at i.slots.entries s) place (Some i.moment))) (last_left (share_at i.shares.items v) b false own)) learned k.behind;
       ends = subst (λ b. HasEndsLeft (share_at i.shares.items v) b false own) learned k.ends;
@@ -44,7 +44,7 @@ pub invariant_of-self : goal.invariant_of-self
 invariant_of-self c =
     let i = c.self.inside in let s = c.args.slot in let v = c.args.vid in
     let learned = learned_inside i c.args.self.now s c.self.view_is c.requires.learned in
-    renewed_inside i c.args.self.now c.self.view_is c.self.invariant v s c.requires.held c.requires.rule (place_in (entry_at i.slots.entries s)) (Some i.moment) (ap (λ (w : Shared). w.moment) c.self.view_is)
+    renewed_whole i c.args.self.now c.self.view_is c.self.invariant v s c.requires.held c.requires.rule (place_in (entry_at i.slots.entries s)) (Some i.moment) (ap (λ (w : Shared). w.moment) c.self.view_is)
     c.see_entry.new.slots c.see_entry.new.shares.items (pool_seen i v s _ learned c.see_entry.ensures.pool) (shares_seen i v s _ learned c.see_entry.ensures.shares)
 
 pub returns : goal.returns

@@ -12,8 +12,7 @@ pub invariant_of-self : goal.invariant_of-self
 invariant_of-self c =
     let i = c.self.inside in let share = c.in-Some.share in
     let here : share_at i.shares.items c.args.vid ≡ Some share = share_read _ _ c.args.vid c.share_at.result c.in-Some.share c.deref.ensures.value c.share_at.ensures c.in-Some.is in
-    sound_at i.moment refl refl refl refl c.set_share.ensures.items
-    (seconds_sound i.slots.entries i.slots.chains i.slots.lines i.heads.items i.shares.items i.moment c.args.vid c.args.seconds share here c.requires.some_time c.self.invariant)
+    record { sound = sound_at i.moment refl refl c.set_share.ensures.items (seconds_sound i.slots.entries i.slots.lines i.shares.items i.moment c.args.vid c.args.seconds share here c.requires.some_time c.self.invariant.sound); forest = c.self.invariant.forest }
 
 pub returns-in-Some : goal.returns-in-Some
 returns-in-Some c =

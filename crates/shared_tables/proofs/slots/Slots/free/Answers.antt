@@ -19,4 +19,4 @@ returns c =
     let xs = c.self.inside.slots.items in let i = c.slot.inside.number in
     let n = c.self.inside.compared.total in let v = c.self.inside.visited.total in
     let e = c.self.view_is in let q = c.slot.view_is in
-    forth xs n v i _ _ e q (λ w s. pool_with (set xs i c.vacant.result) n v ≡ freed w s) (pool-freed xs n v i c.vacant.result c.vacant.ensures.entry c.vacant.ensures.chain)
+    forth xs n v i _ _ e q (λ w s. pool_with (set xs i c.vacant.result) n v ≡ freed w s) (pool-freed xs n v i c.vacant.result c.vacant.ensures.entry)

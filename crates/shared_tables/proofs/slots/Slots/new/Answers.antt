@@ -10,7 +10,7 @@ loop-number-preserved c =
     let xs = k.slots.items in
     let is = k.invariant.free.0 in
     let s = c.vacant.result in
-    let vacant : IsVacant s k.free = record { entry = c.vacant.ensures.entry; chain = c.vacant.ensures.chain; next_is = c.vacant.ensures.next } in
+    let vacant : IsVacant s k.free = record { entry = c.vacant.ensures.entry; next_is = c.vacant.ensures.next } in
     let items = c.push_reserved.ensures.items in
     record {
       size = omega (arith, ap length items, length-append xs (s ∷ []), k.invariant.size);

@@ -7,4 +7,4 @@ invariant_of-self c =
 
 pub returns : goal.returns
 returns c =
-    renewed_pool c.self.inside _ _ _ c.self.view_is c.slot.view_is c.requires.in_pool c.requires.held c.index_mut.result.now c.renew.new.slot c.index_mut.ensures.value c.args.place.now c.args.last c.renew.ensures.entry c.renew.ensures.chain c.renew.ensures.line
+    renewed_pool c.self.inside _ _ _ c.self.view_is c.slot.view_is c.requires.in_pool c.requires.held c.index_mut.result.now c.renew.new.slot c.index_mut.ensures.value c.args.place.now c.args.last c.renew.ensures.entry c.renew.ensures.line

@@ -10,6 +10,6 @@ invariant_of-self c =
 
 pub returns : goal.returns
 returns c =
-    renewed_pool c.self.inside _ _ _ c.self.view_is c.slot.view_is c.requires.in_pool c.requires.held c.index_mut.result.now c.see.new.slot c.index_mut.ensures.value _ _ c.see.ensures.entry c.see.ensures.chain c.see.ensures.line
+    renewed_pool c.self.inside _ _ _ c.self.view_is c.slot.view_is c.requires.in_pool c.requires.held c.index_mut.result.now c.see.new.slot c.index_mut.ensures.value _ _ c.see.ensures.entry c.see.ensures.line
     ∙ ap (λ (place : Place). record c.args.self.now { entries = set c.args.self.now.entries c.args.slot (renewed (entry_at c.args.self.now.entries c.args.slot) place (Some c.args.last)) })
     (place_read c.self.inside _ _ _ c.self.view_is c.slot.view_is c.requires.in_pool c.requires.held c.index_mut.result.now c.see.new.slot c.index_mut.ensures.value)

@@ -1,16 +1,16 @@
 use Rattle.std.proofs.Common.{set, ap, ◌∙◌}
 use Rattle.shared_tables.specs.declared.links.Links.{Links}
-use Rattle.shared_tables.specs.Pool.{column, with_column, links_with}
+use Rattle.shared_tables.specs.Pool.{links_with}
 use Rattle.shared_tables.proofs.SlotsLemmas.{linked_free, linked_pool, links_read}
 use Rattle.shared_tables.proofs.slots.Slots.set_link.Goals as goal
 
 pub invariant_of-self : goal.invariant_of-self
 invariant_of-self c =
-    linked_free c.self.inside _ _ _ c.self.view_is c.slot.view_is c.requires.in_pool c.requires.held c.index_mut.result.now c.set_link.new.slot c.index_mut.ensures.value c.args.thread _ c.set_link.ensures c.self.invariant
+    linked_free c.self.inside _ _ _ c.self.view_is c.slot.view_is c.requires.in_pool c.requires.held c.index_mut.result.now c.set_link.new.slot c.index_mut.ensures.value _ c.set_link.ensures c.self.invariant
 
 pub returns : goal.returns
 returns c =
-    let old = c.index_mut.result.now in let t = c.args.thread in let now = c.args.self.now in
-    linked_pool c.self.inside _ _ _ c.self.view_is c.slot.view_is c.requires.in_pool c.requires.held c.index_mut.result.now c.set_link.new.slot c.index_mut.ensures.value t _ c.set_link.ensures
-    ∙ ap (λ (own : Links). with_column t now (set (column t now) c.args.slot (links_with c.args.side own c.args.link)))
-    (links_read c.self.inside.slots.items c.self.inside.compared.total c.self.inside.visited.total _ _ _ c.self.view_is c.slot.view_is t old c.index_mut.ensures.value c.requires.in_pool c.requires.held)
+    let old = c.index_mut.result.now in let now = c.args.self.now in
+    linked_pool c.self.inside _ _ _ c.self.view_is c.slot.view_is c.requires.in_pool c.requires.held old c.set_link.new.slot c.index_mut.ensures.value _ c.set_link.ensures
+    ∙ ap (λ (own : Links). record now { lines = set now.lines c.args.slot (links_with c.args.side own c.args.link) })
+    (links_read c.self.inside.slots.items c.self.inside.compared.total c.self.inside.visited.total _ _ _ c.self.view_is c.slot.view_is old c.index_mut.ensures.value c.requires.in_pool c.requires.held)

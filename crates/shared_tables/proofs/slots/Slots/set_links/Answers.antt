@@ -3,8 +3,8 @@ use Rattle.shared_tables.proofs.slots.Slots.set_links.Goals as goal
 
 pub invariant_of-self : goal.invariant_of-self
 invariant_of-self c =
-    linked_free c.self.inside _ _ _ c.self.view_is c.slot.view_is c.requires.in_pool c.requires.held c.index_mut.result.now c.set_links.new.slot c.index_mut.ensures.value c.args.thread c.args.links c.set_links.ensures c.self.invariant
+    linked_free c.self.inside _ _ _ c.self.view_is c.slot.view_is c.requires.in_pool c.requires.held c.index_mut.result.now c.set_links.new.slot c.index_mut.ensures.value c.args.links c.set_links.ensures c.self.invariant
 
 pub returns : goal.returns
 returns c =
-    linked_pool c.self.inside _ _ _ c.self.view_is c.slot.view_is c.requires.in_pool c.requires.held c.index_mut.result.now c.set_links.new.slot c.index_mut.ensures.value c.args.thread c.args.links c.set_links.ensures
+    linked_pool c.self.inside _ _ _ c.self.view_is c.slot.view_is c.requires.in_pool c.requires.held c.index_mut.result.now c.set_links.new.slot c.index_mut.ensures.value c.args.links c.set_links.ensures

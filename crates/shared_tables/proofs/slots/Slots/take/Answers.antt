@@ -44,4 +44,4 @@ returns-clause-pool c =
     let n = c.self.inside.compared.total in let v = c.self.inside.visited.total in
     let e = c.self.view_is in let q = c.slot-in-Some.view_is in
     let new : Held = record { vid = c.args.vid; mac = c.args.mac.now; place = c.args.place.now; last = c.args.last } in
-    forth xs n v i _ _ e q (λ w s. pool_with (set xs i c.fill.new.slot) n v ≡ taken w s new) (pool-taken xs n v i c.fill.new.slot new c.fill.ensures.entry c.fill.ensures.chain c.fill.ensures.line)
+    forth xs n v i _ _ e q (λ w s. pool_with (set xs i c.fill.new.slot) n v ≡ taken w s new) (pool-taken xs n v i c.fill.new.slot new c.fill.ensures.entry c.fill.ensures.line)

@@ -1,0 +1,163 @@
+-- What holds of the trees and the entries holds when a chain gets its first leaf.
+use Rattle.std.proofs.Common.{◌≡◌, ◌≢◌, ℕ, ◌+◌, ◌<◌, true, false, cond, ◌||◌, List, length, set, Option, Some, None, nat_eq, refl, sym, ap, ◌∙◌, subst, arith}
+use Rattle.std.proofs.lemmas.List.{length-set}
+use Rattle.shared_tables.specs.declared.forest.Target.{Target}
+use Rattle.shared_tables.specs.declared.forest.Target.TheVariants as target
+use Rattle.shared_tables.specs.Bucket.{chain_of}
+use Rattle.shared_tables.specs.Pool.{Held, entry_at}
+use Rattle.shared_tables.specs.Line.{is_on}
+use Rattle.shared_tables.specs.Shared.{chain_key}
+use Rattle.shared_tables.specs.Trees.{Tree, Leaf}
+use Rattle.shared_tables.specs.Woods.{Woods, target_at, number_at, child_of, planted}
+use Rattle.shared_tables.specs.Forest.{leaves_of, IsRooted, IsChain, HasChildren, StandsAt, Keeps, IsForest}
+use Rattle.shared_tables.proofs.Linked.{by_bool, equal, nat_eq_refl}
+use Rattle.shared_tables.proofs.Buckets.{chain_small, chain_excl}
+use Rattle.shared_tables.proofs.TreeLemmas.{tree_there, tree_frame}
+use Rattle.shared_tables.proofs.Grafting.{free_off, one_more, weight_is}
+use Rattle.shared_tables.proofs.ForestLemmas.{apart, differ, leaf_word, written_same, written_other, number_same, number_other, entry_same, entry_other, held_beside, held_here, not_free, chain_beside}
+
+-- only the root of one chain changes
+module _ (words : List ℕ) (c v : ℕ) (c_lt : c < 65536) where
+  pub root_child : (m s : ℕ) → target_at (set words c v) (child_of m s) ≡ target_at words (child_of m s)
+  root_child m s = written_other words c v (child_of m s) (λ q. absurd (omega (arith, q, c_lt)))
+
+  pub root_frame : (here : Target) (t : Option Tree) → IsRooted (target_at words) here t → IsRooted (target_at (set words c v)) here t
+  root_frame here None h = h
+  root_frame here (Some t) h = tree_frame (target_at words) (target_at (set words c v)) (λ m s lt. root_child m s) here t h
+
+-- a free slot as the first leaf of a chain
+module _ (es : List (Option Held)) (w : Woods) (h : IsForest es w) (e : Held) (s : ℕ) (lt : s < length es) (free : entry_at es s ≡ None) (none : target_at w.words (chain_of e.vid e.mac) ≡ target.Nothing) where
+  abbrev c : ℕ
+  c = chain_of e.vid e.mac
+
+  abbrev n : ℕ
+  n = number_at w.leaves s
+
+  abbrev at : ℕ → Target
+  at = target_at w.words
+
+  abbrev es' : List (Option Held)
+  es' = set es s (Some e)
+
+  abbrev w' : Woods
+  w' = planted w c s
+
+  abbrev at' : ℕ → Target
+  at' = target_at w'.words
+
+  c_lt : c < 65536
+  c_lt = chain_small e.vid e.mac
+
+  s_lt : s < length w.leaves
+  s_lt = omega (arith, lt, h.slots, h.sizes.leaves)
+
+  own_fork : Keeps w h.keeper n s
+  own_fork = h.frees s lt free
+
+  at_root : at' c ≡ target.Leaf s
+  at_root = written_same w.words c s (omega (arith, c_lt, h.sizes.words)) ∙ leaf_word s (omega (arith, lt, h.slots, h.sizes.few))
+
+  at_else : (p : ℕ) → p ≢ c → at' p ≡ at p
+  at_else p ne = written_other w.words c s p ne
+
+  child_same : (m z : ℕ) → at' (child_of m z) ≡ at (child_of m z)
+  child_same m z = root_child w.words c s c_lt m z
+
+  keyed : chain_key c (Some e) ≡ true
+  keyed = nat_eq_refl c
+
+  old : IsChain es w.words c
+  old = h.chained c c_lt
+
+  -- the chain had no leaves
+  empty : (t : Option Tree) → IsRooted at (at c) t → length (leaves_of t) ≡ 0 × ((i : ℕ) → is_on i (leaves_of t) ≡ false)
+  empty None k = (refl, λ i. refl)
+  empty (Some t) k = absurd (tree_there at (at c) t k none)
+
+  chain_mine : IsChain es' w'.words c
+  chain_mine =
+      let was = empty old.tree old.rooted in
+      record {
+        tree = Some (Leaf s);
+        rooted = at_root;
+        parted = tt;
+        members = λ i. by_bool (nat_eq i s)
+            (λ yes. ap (λ a. a || false) yes ∙ sym (ap (λ k. chain_key c (entry_at es' k)) (equal i s yes) ∙ ap (chain_key c) (entry_same es s (Some e) lt) ∙ keyed))
+            (λ no. ap (λ a. a || false) no ∙ sym (was.1 i) ∙ old.members i ∙ sym (ap (chain_key c) (entry_other es s i (Some e) (apart i s no))));
+        size = omega (arith, was.0, old.size, one_more es c s (Some e) lt, weight_is c (entry_at es s) false (free_off es c s free), weight_is c (Some e) true keyed);
+      }
+
+  chain_other : (c' : ℕ) → c' < 65536 → nat_eq c' c ≡ false → IsChain es' w'.words c'
+  chain_other c' clt ne =
+      let k = h.chained c' clt in
+      chain_beside es w.words w'.words c' s (Some e) lt (free_off es c' s free) (chain_excl c c' ne (Some e) keyed) k
+      (subst (λ t. IsRooted at' t k.tree) (sym (at_else c' (apart c' c ne))) (root_frame w.words c s c_lt (at c') k.tree k.rooted))
+
+  forks_stay : (m : ℕ) → HasChildren w.words m → HasChildren w'.words m
+  forks_stay m k = (λ q. k.0 (sym (child_same m 0) ∙ q), λ q. k.1 (sym (child_same m 1) ∙ q))
+
+  leaves_len : length w'.leaves ≡ length w.leaves
+  leaves_len = length-set w.leaves s c
+
+  stays : (p : ℕ) (t : Target) → StandsAt es w p t → StandsAt es' w' p t
+  stays p target.Nothing k = tt
+  stays p (target.Leaf i) k =
+      let away : i ≢ s = not_free es i s k.1 free in
+      (number_other w.leaves s c i away ∙ k.0, held_beside es s i (Some e) away k.1)
+  stays p (target.Fork m x) k = (k.0, k.1, forks_stay m k.2)
+
+  standing_at : (p : ℕ) → StandsAt es' w' p (at' p)
+  standing_at p = by_bool (nat_eq p c)
+      (λ yes. subst (λ q. StandsAt es' w' q (at' q)) (sym (equal p c yes)) (subst (StandsAt es' w' c) (sym at_root) (number_same w.leaves s c s_lt, held_here es s e lt)))
+      (λ no. subst (StandsAt es' w' p) (sym (at_else p (apart p c no))) (stays p (at p) (h.stands p)))
+
+  -- the chain keeps the slot's fork
+  keeper' : ℕ → ℕ
+  keeper' m = cond (nat_eq m n) (65536 + c) (h.keeper m)
+
+  keeps : (m k : ℕ) → k ≢ s → Keeps w h.keeper m k → Keeps w' keeper' m k
+  unfolding keeper'
+  keeps m k ne was =
+      let away : m ≢ n = λ q. ne (sym was.kept ∙ ap h.keeper q ∙ own_fork.kept) in
+      record {
+        there = was.there;
+        kept = ap (λ a. cond a (65536 + c) (h.keeper m)) (differ m n away) ∙ was.kept;
+        bare = (child_same m 0 ∙ was.bare.0, child_same m 1 ∙ was.bare.1);
+      }
+
+  keeps_own : Keeps w' keeper' n (65536 + c)
+  unfolding keeper'
+  keeps_own = record {
+    there = own_fork.there;
+    kept = ap (λ a. cond a (65536 + c) (h.keeper n)) (nat_eq_refl n);
+    bare = (child_same n 0 ∙ own_fork.bare.0, child_same n 1 ∙ own_fork.bare.1);
+  }
+
+  frees : (i : ℕ) → i < length es' → entry_at es' i ≡ None → Keeps w' keeper' (number_at w'.leaves i) i
+  frees i ilt is =
+      let away : i ≢ s = λ q. let bad : Some e ≡ None = sym (entry_same es s (Some e) lt) ∙ ap (entry_at es') (sym q) ∙ is in cc in
+      subst (λ m. Keeps w' keeper' m i) (sym (number_other w.leaves s c i away)) (keeps (number_at w.leaves i) i away (h.frees i (subst (λ z. i < z) (length-set es s (Some e)) ilt) (sym (entry_other es s i (Some e) away) ∙ is)))
+
+  spares : (c' : ℕ) → c' < 65536 → at' c' ≢ target.Nothing → Keeps w' keeper' (number_at w'.spares c') (65536 + c')
+  spares c' clt some = by_bool (nat_eq c' c)
+      (λ yes. subst (λ x. Keeps w' keeper' (number_at w'.spares x) (65536 + x)) (sym (equal c' c yes)) (subst (λ m. Keeps w' keeper' m (65536 + c)) (sym (number_same w.spares c n (omega (arith, c_lt, h.sizes.spares)))) keeps_own))
+      (λ no.
+      let few : length es < 65537 = omega (arith, h.slots, h.sizes.few) in
+      subst (λ m. Keeps w' keeper' m (65536 + c')) (sym (number_other w.spares c n c' (apart c' c no)))
+      (keeps (number_at w.spares c') (65536 + c') (λ q. absurd (omega (arith, q, lt, few))) (h.spares c' clt (λ q. some (at_else c' (apart c' c no) ∙ q)))))
+
+  pub plant_forest : IsForest es' w'
+  plant_forest = record {
+    sizes = record {
+      words = omega (arith, length-set w.words c s, h.sizes.words);
+      leaves = omega (arith, leaves_len, h.sizes.leaves);
+      spares = omega (arith, length-set w.spares c n, h.sizes.spares);
+      few = h.sizes.few;
+    };
+    slots = omega (arith, h.slots, length-set es s (Some e));
+    chained = λ c' clt. by_bool (nat_eq c' c) (λ yes. subst (IsChain es' w'.words) (sym (equal c' c yes)) chain_mine) (λ no. chain_other c' clt no);
+    stands = standing_at;
+    keeper = keeper';
+    frees = frees;
+    spares = spares;
+  }

@@ -1,0 +1,10 @@
+use Rattle.shared_tables.proofs.SlotsLemmas.{readdressed_free, readdressed_pool}
+use Rattle.shared_tables.proofs.slots.Slots.readdress.Goals as goal
+
+pub invariant_of-self : goal.invariant_of-self
+invariant_of-self c =
+    readdressed_free c.self.inside _ _ _ c.self.view_is c.slot.view_is c.requires.in_pool c.requires.held c.index_mut.result.now c.readdress.new.slot c.index_mut.ensures.value c.args.vid c.args.mac c.readdress.ensures.entry c.self.invariant
+
+pub returns : goal.returns
+returns c =
+    readdressed_pool c.self.inside _ _ _ c.self.view_is c.slot.view_is c.requires.in_pool c.requires.held c.index_mut.result.now c.readdress.new.slot c.index_mut.ensures.value c.args.vid c.args.mac c.readdress.ensures.entry c.readdress.ensures.line

@@ -1,0 +1,87 @@
+-- What holds of the trees and the entries together. It states no standard.
+use Rattle.std.specs.Prelude.{◌≡◌, ◌≢◌, ℕ, ◌+◌, ◌<◌, List, [], length, Option, Some, None}
+use Rattle.std.specs.List.{sum_by}
+use Rattle.shared_tables.specs.declared.forest.Target.{Target}
+use Rattle.shared_tables.specs.declared.forest.Target.TheVariants as target
+use Rattle.shared_tables.specs.Bucket.{key_of}
+use Rattle.shared_tables.specs.Pool.{Held, entry_at}
+use Rattle.shared_tables.specs.Line.{is_on, weight}
+use Rattle.shared_tables.specs.Shared.{chain_key}
+use Rattle.shared_tables.specs.Threads.{IsHeld}
+use Rattle.shared_tables.specs.Trees.{Tree, leaves, IsTree, IsParted, descend}
+use Rattle.shared_tables.specs.Woods.{Woods, HasSizes, target_at, number_at, child_of}
+
+-- the key of what a slot holds
+abbrev pub key_in : Option Held → ℕ
+key_in None = 0
+key_in (Some e) = key_of e.vid e.mac
+
+-- the keys of the slots
+abbrev pub keys_of : List (Option Held) → ℕ → ℕ
+keys_of entries i = key_in (entry_at entries i)
+
+-- the slots of a tree's leaves; none where there is no tree
+abbrev pub leaves_of : Option Tree → List ℕ
+leaves_of None = []
+leaves_of (Some t) = leaves t
+
+-- what stands at the places is the tree, or nothing
+abbrev pub IsRooted : (ℕ → Target) → Target → Option Tree → Type 0
+IsRooted at here None = here ≡ target.Nothing
+IsRooted at here (Some t) = IsTree at here t
+
+-- a tree's forks part the keys of its leaves
+abbrev pub AnyParted : (ℕ → ℕ) → Option Tree → Type 0
+AnyParted keys None = Unit {0}
+AnyParted keys (Some t) = IsParted keys t
+
+-- a key leads to a leaf of the tree; to none, where there is no tree
+abbrev pub LeadsTo : ℕ → Option Tree → Option ℕ → Type 0
+LeadsTo key None None = Unit {0}
+LeadsTo key None (Some leaf) = ⊥
+LeadsTo key (Some t) None = ⊥
+LeadsTo key (Some t) (Some leaf) = descend key t ≡ leaf
+
+-- the tree of this number
+pub record IsChain (entries : List (Option Held)) (words : List ℕ) (chain : ℕ) : Type 0 where
+  pub tree : Option Tree
+  pub rooted : IsRooted (target_at words) (target_at words chain) tree
+  pub parted : AnyParted (keys_of entries) tree
+  pub members : (i : ℕ) → is_on i (leaves_of tree) ≡ chain_key chain (entry_at entries i)
+  pub size : length (leaves_of tree) ≡ sum_by (weight (chain_key chain)) entries
+
+-- the leaf beside which a key belongs in a chain's tree; none where the chain has no leaves
+pub record Belongs (words : List ℕ) (chain key : ℕ) (leaf : Option ℕ) : Type 0 where
+  pub tree : Option Tree
+  pub rooted : IsRooted (target_at words) (target_at words chain) tree
+  pub leads : LeadsTo key tree leaf
+
+-- something stands on both sides of a fork
+abbrev pub HasChildren : List ℕ → ℕ → Type 0
+HasChildren words fork = (target_at words (child_of fork 0) ≢ target.Nothing) × (target_at words (child_of fork 1) ≢ target.Nothing)
+
+-- nothing stands on either side
+abbrev pub IsBare : List ℕ → ℕ → Type 0
+IsBare words fork = (target_at words (child_of fork 0) ≡ target.Nothing) × (target_at words (child_of fork 1) ≡ target.Nothing)
+
+-- what stands at a place is kept as standing there: a slot that holds an entry, or a fork
+abbrev pub StandsAt : List (Option Held) → Woods → ℕ → Target → Type 0
+StandsAt entries w place target.Nothing = Unit {0}
+StandsAt entries w place (target.Leaf i) = (number_at w.leaves i ≡ place) × IsHeld entries i
+StandsAt entries w place (target.Fork n b) = (number_at w.forks n ≡ place) × (n < length w.forks) × HasChildren w.words n
+
+-- a fork that no tree has is kept by one keeper alone: a slot, by its number, or a chain, by its number over 65,536
+pub record Keeps (w : Woods) (keeper : ℕ → ℕ) (fork by : ℕ) : Type 0 where
+  pub there : fork < length w.forks
+  pub kept : keeper fork ≡ by
+  pub bare : IsBare w.words fork
+
+-- each chain has its tree; each free slot keeps a fork, and each chain that has leaves
+pub record IsForest (entries : List (Option Held)) (w : Woods) : Type 0 where
+  pub sizes : HasSizes w
+  pub slots : length w.forks ≡ length entries
+  pub chained : (c : ℕ) → c < 65536 → IsChain entries w.words c
+  pub stands : (p : ℕ) → StandsAt entries w p (target_at w.words p)
+  pub keeper : ℕ → ℕ
+  pub frees : (i : ℕ) → i < length entries → entry_at entries i ≡ None → Keeps w keeper (number_at w.leaves i) i
+  pub spares : (c : ℕ) → c < 65536 → target_at w.words c ≢ target.Nothing → Keeps w keeper (number_at w.spares c) (65536 + c)

@@ -1,0 +1,172 @@
+//! An entry that comes to its segment: where there is room, or in place of the oldest one, which is dead.
+ghost use Rattle.std.specs.Prelude.{◌≡◌, ◌≢◌, ◌↔◌, ◌+◌, ◌<◌, ℕ, IsTrue, IsSome, Some, length};
+ghost use Rattle.std.specs.Int.{bit_at};
+ghost use Rattle.shared_tables.specs.Pool.{entry_at};
+ghost use Rattle.shared_tables.specs.Shared.{rule_at, kept_count, HasRoom, Enters, IsOf};
+ghost use Rattle.shared_tables.specs.Whole.{IsWhole, seen, Replaces};
+ghost use Rattle.shared_tables.specs.Admission.{held_of, MayCome, ComesOrNot, MayAttach, Attaches};
+ghost use Rattle.shared_tables.specs.Threads.{IsHeld};
+ghost use Rattle.shared_tables.specs.Woods.{HasSizes};
+
+use crate::chains::side;
+use crate::entries::{drop_entry, join_share, renew_entry};
+use crate::forest::Forest;
+use crate::links::SlotId;
+use crate::share::{self, Share};
+use crate::slots::Slots;
+use filter_db::Place;
+use frame_view::{Mac, Vid};
+
+/// What came of an address.
+#[derive(Clone, Copy)]
+pub enum Outcome {
+    /// A slot holds it already.
+    Held(SlotId),
+    /// An entry has come.
+    Entered,
+    /// The segment has no room.
+    Full,
+}
+
+/// An entry that no slot holds yet.
+#[derive(Clone, Copy)]
+pub struct Newcomer {
+    /// The chain of its address.
+    pub chain: usize,
+    /// The leaf of the chain's tree beside which it belongs; none where the chain has no leaves.
+    pub beside: Option<SlotId>,
+    pub vid: Vid,
+    pub mac: Mac,
+    pub place: Place,
+    /// The moment at which it was seen; none where it is fixed.
+    pub last: Option<u64>,
+}
+
+/// Makes an entry of a newcomer, if its segment has room, or the oldest of its learned entries is dead, which goes then.
+pub fn admit_in(
+    slots: &mut Slots,
+    forest: &mut Forest,
+    shares: &mut Vec<Option<Share>>,
+    moment: u64,
+    newcomer: &Newcomer,
+) -> bool
+    requires whole { IsWhole slots.old forest.old shares.old.items moment }
+    requires rule { IsSome (rule_at (seen slots.old shares.old.items moment 0).rules newcomer.now.vid) }
+    requires may_come { MayCome slots.old.entries forest.old moment newcomer.now }
+    ensures whole { IsWhole slots.new forest.new shares.new.items moment }
+    ensures comes { (calls : ℕ) → ComesOrNot (seen slots.old shares.old.items moment calls) (seen slots.new shares.new.items moment calls) newcomer.now result }
+{
+    let Some(share) = share::share_at(shares, newcomer.vid) else {
+        unreachable!();
+    };
+    if share.count < share.limit {
+        enter_in(slots, forest, shares, moment, newcomer);
+        return true;
+    }
+    let Some(oldest) = share.queue.first.slot() else {
+        return false;
+    };
+    if !slots.dead(oldest, u64::from(share.ageing) * 1_000_000_000, moment) {
+        return false;
+    }
+    replace_in(slots, forest, shares, moment, oldest, newcomer);
+    true
+}
+
+/// Lets an entry of the segment go, and makes one of a newcomer. Where the newcomer belongs beside the entry that goes, it
+/// takes its place in the tree.
+fn replace_in(
+    slots: &mut Slots,
+    forest: &mut Forest,
+    shares: &mut Vec<Option<Share>>,
+    moment: u64,
+    slot: SlotId,
+    newcomer: &Newcomer,
+)
+    requires whole { IsWhole slots.old forest.old shares.old.items moment }
+    requires rule { IsSome (rule_at (seen slots.old shares.old.items moment 0).rules newcomer.now.vid) }
+    requires held { IsOf (entry_at slots.old.entries slot) newcomer.now.vid }
+    requires may_come { MayCome slots.old.entries forest.old moment newcomer.now }
+    ensures whole { IsWhole slots.new forest.new shares.new.items moment }
+    ensures replaces { (calls : ℕ) → Replaces (seen slots.old shares.old.items moment calls) (seen slots.new shares.new.items moment calls) slot (held_of newcomer.now) }
+{
+    if is_slot(newcomer.beside, slot) {
+        slots.readdress(slot, newcomer.vid, newcomer.mac);
+        renew_entry(
+            slots,
+            shares,
+            newcomer.vid,
+            slot,
+            &newcomer.place,
+            newcomer.last,
+        );
+    } else {
+        drop_entry(slots, forest, shares, newcomer.vid, slot);
+        enter_in(slots, forest, shares, moment, newcomer);
+    }
+}
+
+/// Whether it is this slot.
+fn is_slot(one: Option<SlotId>, slot: SlotId) -> bool
+    ensures { IsTrue result ↔ (one ≡ Some slot) }
+{
+    match one {
+        Some(one) => one.number == slot.number,
+        None => false,
+    }
+}
+
+/// Makes an entry of a newcomer: a leaf of its chain's tree, and last on its line.
+fn enter_in(
+    slots: &mut Slots,
+    forest: &mut Forest,
+    shares: &mut Vec<Option<Share>>,
+    moment: u64,
+    newcomer: &Newcomer,
+)
+    requires whole { IsWhole slots.old forest.old shares.old.items moment }
+    requires room { HasRoom (rule_at (seen slots.old shares.old.items moment 0).rules newcomer.now.vid) (kept_count newcomer.now.vid slots.old.entries) }
+    requires may_come { MayCome slots.old.entries forest.old moment newcomer.now }
+    ensures whole { IsWhole slots.new forest.new shares.new.items moment }
+    ensures enters { (calls : ℕ) → Enters (seen slots.old shares.old.items moment calls) (seen slots.new shares.new.items moment calls) (held_of newcomer.now) }
+{
+    let Newcomer {
+        chain,
+        beside,
+        vid,
+        mac,
+        place,
+        last,
+    } = *newcomer;
+    let slot = slots.take(vid, &mac, &place, last);
+    attach(slots, forest, chain, beside, slot);
+    join_share(slots, shares, vid, last.is_none(), slot);
+}
+
+/// Puts a slot into the tree of its chain, beside a leaf.
+fn attach(slots: &Slots, forest: &mut Forest, chain: usize, beside: Option<SlotId>, slot: SlotId)
+    requires sizes { HasSizes forest.old }
+    requires chain { chain < 65536 }
+    requires held { IsHeld slots.now.entries slot }
+    requires slot { slot < length forest.old.leaves }
+    requires beside { MayAttach slots.now.entries forest.old beside slot }
+    ensures { Attaches slots.now.entries forest.old forest.new chain beside slot }
+{
+    match beside {
+        None => forest.plant(chain, slot),
+        Some(leaf) => {
+            let key = slots.key(slot);
+            let bit = parting(slots.key(leaf), key);
+            forest.graft(leaf, slot, bit, side(key, bit));
+        }
+    }
+}
+
+/// A bit in which two keys differ.
+fn parting(one: u64, other: u64) -> u32
+    requires { one ≢ other }
+    ensures small { result < 64 }
+    ensures differs { bit_at one result + bit_at other result ≡ 1 }
+{
+    (one ^ other).trailing_zeros()
+}

@@ -1,0 +1,152 @@
+//! The numbers of the trees, in one list.
+ghost use Rattle.std.specs.Prelude.{◌≡◌, ◌+◌, ◌*◌, ◌<◌, ◌≤◌, ◌++◌, ℕ, IfOk, length, replicate, slice_index_or, slice_set, vec_capacity};
+ghost use Rattle.std.specs.List.{range_with_len};
+ghost use Rattle.shared_tables.specs.Woods.{number_at, bare_woods};
+
+use crate::bucket::CHAINS;
+use std::alloc::{AllocError, Global};
+use std::marker::Model;
+
+/// The word of nothing.
+pub const NOTHING: u32 = u32::MAX;
+
+/// The four columns of the trees one behind another in one list, for which memory is asked once: what stands at each
+/// place; for each slot that holds an entry the place where it stands, for each free slot a fork that no tree has; for each
+/// fork of a tree the place where it stands; for each chain that has leaves a fork that no tree has.
+#[derive(Drop)]
+pub struct Columns {
+    numbers: Vec<u32>,
+    /// Where each but the first of them begins.
+    leaves: usize,
+    forks: usize,
+    spares: usize,
+}
+
+impl Model for Columns {
+    ghost use Rattle.shared_tables.specs.Woods.{Woods};
+
+    ghost Value = { Woods };
+
+    ghost use Rattle.shared_tables.specs.ColumnsInside.{columns_of, AreInOrder};
+
+    ghost view = { columns_of };
+
+    ghost invariant = { AreInOrder };
+}
+
+/// Puts so many words that are alike behind others, in room that is there.
+fn fill(numbers: &mut Vec<u32>, word: u32, count: usize)
+    requires { length numbers.old.items + count ≤ vec_capacity numbers.old }
+    ensures items { numbers.new.items ≡ numbers.old.items ++ replicate count word }
+    ensures capacity { vec_capacity numbers.new ≡ vec_capacity numbers.old }
+{
+    for _word in 0..count {
+        numbers.push_reserved(word);
+    }
+}
+
+/// Puts the first numbers behind others, in room that is there.
+fn count_up(numbers: &mut Vec<u32>, count: u32)
+    requires { length numbers.old.items + count ≤ vec_capacity numbers.old }
+    ensures items { numbers.new.items ≡ numbers.old.items ++ range_with_len 0 count }
+    ensures capacity { vec_capacity numbers.new ≡ vec_capacity numbers.old }
+{
+    for number in 0..count {
+        numbers.push_reserved(number);
+    }
+}
+
+impl Columns {
+    /// Those of trees without leaves over so many slots, at most 65,536, where each slot keeps the fork of its number.
+    /// `AllocError`: the growth was refused.
+    pub fn new(alloc: Global, size: u32) -> Result<Columns, AllocError>
+        requires { size ≤ 65536 }
+        ensures { IfOk result (λ w. w ≡ bare_woods size) }
+    {
+        let slots = size as usize;
+        let leaves = CHAINS + 2 * slots;
+        let mut numbers = Vec::with_capacity(alloc, leaves + 2 * slots + CHAINS)?;
+        fill(&mut numbers, NOTHING, leaves);
+        count_up(&mut numbers, size);
+        fill(&mut numbers, 0, slots);
+        fill(&mut numbers, 0, CHAINS);
+        Ok(Columns {
+            numbers,
+            leaves,
+            forks: leaves + slots,
+            spares: leaves + 2 * slots,
+        })
+    }
+
+    /// What stands at a place.
+    #[inline(always)]
+    pub fn word(&self, place: usize) -> u32
+        requires { place < length self.now.words }
+        ensures { result ≡ slice_index_or self.now.words place 4294967295 }
+    {
+        self.numbers[place]
+    }
+
+    /// The number of a slot.
+    #[inline(always)]
+    pub fn leaf(&self, slot: usize) -> u32
+        requires { slot < length self.now.leaves }
+        ensures { result ≡ number_at self.now.leaves slot }
+    {
+        self.numbers[self.leaves + slot]
+    }
+
+    /// The number of a fork.
+    #[inline(always)]
+    pub fn fork(&self, fork: usize) -> u32
+        requires { fork < length self.now.forks }
+        ensures { result ≡ number_at self.now.forks fork }
+    {
+        self.numbers[self.forks + fork]
+    }
+
+    /// The number of a chain.
+    #[inline(always)]
+    pub fn spare(&self, chain: usize) -> u32
+        requires { chain < length self.now.spares }
+        ensures { result ≡ number_at self.now.spares chain }
+    {
+        self.numbers[self.spares + chain]
+    }
+
+    /// Says what stands at a place.
+    #[inline(always)]
+    pub fn set_word(&mut self, place: usize, word: u32)
+        requires { place < length self.old.words }
+        ensures { self.new ≡ record self.old { words = slice_set self.old.words place word } }
+    {
+        self.numbers[place] = word;
+    }
+
+    /// Gives a slot another number.
+    #[inline(always)]
+    pub fn set_leaf(&mut self, slot: usize, number: u32)
+        requires { slot < length self.old.leaves }
+        ensures { self.new ≡ record self.old { leaves = slice_set self.old.leaves slot number } }
+    {
+        self.numbers[self.leaves + slot] = number;
+    }
+
+    /// Gives a fork another number.
+    #[inline(always)]
+    pub fn set_fork(&mut self, fork: usize, number: u32)
+        requires { fork < length self.old.forks }
+        ensures { self.new ≡ record self.old { forks = slice_set self.old.forks fork number } }
+    {
+        self.numbers[self.forks + fork] = number;
+    }
+
+    /// Gives a chain another number.
+    #[inline(always)]
+    pub fn set_spare(&mut self, chain: usize, number: u32)
+        requires { chain < length self.old.spares }
+        ensures { self.new ≡ record self.old { spares = slice_set self.old.spares chain number } }
+    {
+        self.numbers[self.spares + chain] = number;
+    }
+}

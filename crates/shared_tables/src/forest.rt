@@ -1,0 +1,203 @@
+//! The trees that find an address: one for each chain, with the slots of its entries as leaves. A fork sends an address
+//! on by one bit of its key, so a way down is never longer than a key has bits. Bits come along a way in any order, each
+//! once: so an entry comes to a leaf, and goes, by a few writes.
+ghost use Rattle.std.specs.Prelude.{◌≡◌, ◌-◌, ◌<◌, ◌≤◌, IfOk, length, replicate};
+ghost use Rattle.std.specs.List.{range_with_len};
+ghost use Rattle.shared_tables.specs.Woods.{target_in, fork_word, child_of, target_at, number_at, planted, grafted, cleared, pruned, standing, Uproots, MayGo, HasSizes, bare_woods, Names};
+
+use crate::bucket::CHAINS;
+use crate::columns::{Columns, NOTHING};
+use crate::links::SlotId;
+use std::alloc::{AllocError, Global};
+use std::marker::Model;
+
+/// What stands at a place of the trees.
+#[derive(Clone, Copy)]
+pub enum Target {
+    /// Nothing.
+    Nothing,
+    /// The slot of an entry.
+    Leaf(u32),
+    /// A fork: its number, and the bit of a key that tells the way on.
+    Fork(u32, u32),
+}
+
+/// The first word of a fork; those below it are slots.
+const FORKS: u32 = 65_536;
+
+/// How many bits a key has.
+const BITS: u32 = 64;
+
+/// The trees over the slots of a pool. There are as many forks as slots. A place is a number: first come the roots of
+/// the chains, then two places for each fork.
+#[derive(Drop)]
+pub struct Forest {
+    columns: Columns,
+}
+
+impl Model for Forest {
+    ghost use Rattle.shared_tables.specs.Woods.{Woods};
+
+    ghost Value = { Woods };
+
+    ghost view = { λ f. f.columns };
+}
+
+/// What a word says.
+#[inline(always)]
+#[tactic(auto, unfolding(crate::specs::Woods::target_in))]
+fn read(word: u32) -> Target
+    ensures { result ≡ target_in word }
+{
+    if word < FORKS {
+        Target::Leaf(word)
+    } else if word == NOTHING {
+        Target::Nothing
+    } else {
+        Target::Fork((word - FORKS) / BITS, (word - FORKS) % BITS)
+    }
+}
+
+/// The word of a fork.
+fn fork_word(fork: u32, bit: u32) -> u32
+    requires fork { fork < 65536 }
+    requires bit { bit < 64 }
+    ensures { result ≡ fork_word fork bit }
+{
+    FORKS + fork * BITS + bit
+}
+
+/// The place on one side of a fork: 0 or 1.
+#[inline(always)]
+fn child(fork: u32, side: u32) -> u32
+    requires fork { fork < 65536 }
+    requires side { side < 2 }
+    ensures { result ≡ child_of fork side }
+{
+    CHAINS as u32 + 2 * fork + side
+}
+
+impl Forest {
+    /// Trees without leaves over so many slots, at most 65,536. `AllocError`: a growth was refused.
+    pub fn new(alloc: Global, size: u32) -> Result<Forest, AllocError>
+        requires { size ≤ 65536 }
+        ensures { IfOk result (λ w. w ≡ bare_woods size) }
+    {
+        Ok(Forest {
+            columns: Columns::new(alloc, size)?,
+        })
+    }
+
+    /// What stands at the root of a chain.
+    #[inline(always)]
+    pub fn root(&self, chain: usize) -> Target
+        requires { chain < length self.now.words }
+        ensures { result ≡ target_at self.now.words chain }
+    {
+        read(self.columns.word(chain))
+    }
+
+    /// What stands on one side of a fork: 0 or 1.
+    #[inline(always)]
+    pub fn next(&self, fork: u32, side: u32) -> Target
+        requires sizes { HasSizes self.now }
+        requires fork { fork < length self.now.forks }
+        requires side { side < 2 }
+        ensures { result ≡ target_at self.now.words (child_of fork side) }
+    {
+        read(self.columns.word(child(fork, side) as usize))
+    }
+
+    /// Makes a slot the only leaf of a chain.
+    pub fn plant(&mut self, chain: usize, slot: SlotId)
+        requires sizes { HasSizes self.old }
+        requires chain { chain < 65536 }
+        requires slot { slot < length self.old.leaves }
+        ensures { self.new ≡ planted self.old chain slot }
+    {
+        let fork = self.columns.leaf(slot.number as usize);
+        self.columns.set_spare(chain, fork);
+        self.columns.set_word(chain, slot.number);
+        self.columns.set_leaf(slot.number as usize, chain as u32);
+    }
+
+    /// Puts a fork in the place of a leaf, with the leaf and a slot behind it: the slot on this side, 0 or 1.
+    pub fn graft(&mut self, leaf: SlotId, slot: SlotId, bit: u32, side: u32)
+        requires sizes { HasSizes self.old }
+        requires leaf { leaf < length self.old.leaves }
+        requires slot { slot < length self.old.leaves }
+        requires bit { bit < 64 }
+        requires side { side < 2 }
+        requires place { number_at self.old.leaves leaf < length self.old.words }
+        requires fork { number_at self.old.leaves slot < length self.old.forks }
+        ensures { self.new ≡ grafted self.old leaf slot bit side }
+    {
+        let place = self.columns.leaf(leaf.number as usize);
+        let fork = self.columns.leaf(slot.number as usize);
+        let own = child(fork, side);
+        let other = child(fork, 1 - side);
+        self.columns.set_word(place as usize, fork_word(fork, bit));
+        self.columns.set_fork(fork as usize, place);
+        self.columns.set_word(own as usize, slot.number);
+        self.columns.set_leaf(slot.number as usize, own);
+        self.columns.set_word(other as usize, leaf.number);
+        self.columns.set_leaf(leaf.number as usize, other);
+    }
+
+    /// Takes a slot out of its tree, which keeps a fork then.
+    pub fn uproot(&mut self, slot: SlotId)
+        requires sizes { HasSizes self.old }
+        requires may_go { MayGo self.old slot }
+        ensures { Uproots self.old self.new slot }
+    {
+        let place = self.columns.leaf(slot.number as usize);
+        if place < FORKS {
+            self.clear(place, slot);
+        } else {
+            self.prune((place - FORKS) / 2, (place - FORKS) % 2, slot);
+        }
+    }
+
+    /// Takes the only leaf of a chain away.
+    fn clear(&mut self, chain: u32, slot: SlotId)
+        requires sizes { HasSizes self.old }
+        requires chain { chain < 65536 }
+        requires slot { slot < length self.old.leaves }
+        ensures { self.new ≡ cleared self.old chain slot }
+    {
+        let fork = self.columns.spare(chain as usize);
+        self.columns.set_word(chain as usize, NOTHING);
+        self.columns.set_leaf(slot.number as usize, fork);
+    }
+
+    /// Takes a fork away with the leaf on one side of it: what stands on the other side takes the fork's place.
+    fn prune(&mut self, fork: u32, side: u32, slot: SlotId)
+        requires sizes { HasSizes self.old }
+        requires fork { fork < length self.old.forks }
+        requires side { side < 2 }
+        requires slot { slot < length self.old.leaves }
+        requires above { number_at self.old.forks fork < length self.old.words }
+        requires sibling { Names self.old (target_at self.old.words (child_of fork (1 - side))) }
+        ensures { self.new ≡ pruned self.old fork side slot }
+    {
+        let sibling = self.columns.word(child(fork, 1 - side) as usize);
+        let above = self.columns.fork(fork as usize);
+        self.stand(read(sibling), above);
+        self.columns.set_word(above as usize, sibling);
+        self.columns.set_word(child(fork, 0) as usize, NOTHING);
+        self.columns.set_word(child(fork, 1) as usize, NOTHING);
+        self.columns.set_leaf(slot.number as usize, fork);
+    }
+
+    /// Keeps where a target stands.
+    fn stand(&mut self, target: Target, place: u32)
+        requires { Names self.old target }
+        ensures { self.new ≡ standing target place self.old }
+    {
+        match target {
+            Target::Nothing => {}
+            Target::Leaf(slot) => self.columns.set_leaf(slot as usize, place),
+            Target::Fork(fork, _) => self.columns.set_fork(fork as usize, place),
+        }
+    }
+}

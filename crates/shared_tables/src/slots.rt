@@ -310,7 +310,7 @@ impl Slots {
         requires in_pool { slot < length self.now.entries }
         ensures { IfSome (entry_at self.now.entries slot) (λ e. result ≡ same_place e.place place.now) }
     {
-        self.slots[slot.number as usize].place == *place
+        self.slots[slot.number as usize].place.is_same(*place)
     }
 
     /// Gives the slot other neighbours.

@@ -5,6 +5,7 @@
 //! digits: one more mostly changes one of them. A [`Desk`] is what a run lends to each step.
 #![tactic(auto)]
 
+mod address;
 mod counter;
 mod desk;
 mod front;

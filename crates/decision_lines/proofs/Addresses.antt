@@ -39,10 +39,10 @@ row_is text n (row ∷ rows) (suc k) all h =
     row_is text (suc n) rows k (and_r (same row (text n)) _ all) (omega (arith, h)) ∙ ap text e
 
 -- the two digits of each octet
-pub hex_row : (n : ℕ) → n < 256 → get_or HEX n [] ≡ hex_octet n
-hex_row n h =
+pub hex_row : (n i : ℕ) → i ≡ n → n < 256 → get_or HEX i [] ≡ hex_octet n
+hex_row n i at h =
     let e : n + 0 ≡ n = omega arith in
-    row_is hex_octet 0 HEX n tt (omega (arith, h)) ∙ ap hex_octet e
+    ap (λ (m : ℕ). get_or HEX m []) at ∙ row_is hex_octet 0 HEX n tt (omega (arith, h)) ∙ ap hex_octet e
 
 -- a number below 256 in decimal digits filled up to three, and how many it has
 abbrev one_digit : ℕ → List ℕ
@@ -107,15 +107,6 @@ take_few old new row at k within fits few e =
     let long = length-take-le (at + 4) new fits in
     ap (take (at + k)) (sym (take-append-drop (at + 4) new)) ∙ take-append-le (at + k) (take (at + 4) new) (drop (at + 4) new) (omega (arith, few, long))
     ∙ ap (take (at + k)) e ∙ ap (λ (n : ℕ). take (n + k) (take at old ++ row)) (sym (length-take-le at old within)) ∙ take-append-add (take at old) row k
-
--- a group of two octets from the table
-pub group_is : (a b p q : ℕ) → p ≡ a → q ≡ b → a < 256 → b < 256 →
-    get_or (get_or HEX p []) 0 0 ∷ get_or (get_or HEX p []) 1 0 ∷ get_or (get_or HEX q []) 0 0 ∷ get_or (get_or HEX q []) 1 0 ∷ [] ≡ hex_octet a ++ hex_octet b
-group_is a b p q one two h k =
-    let first : get_or HEX p [] ≡ hex_octet a = ap (λ (n : ℕ). get_or HEX n []) one ∙ hex_row a h in
-    let second : get_or HEX q [] ≡ hex_octet b = ap (λ (n : ℕ). get_or HEX n []) two ∙ hex_row b k in
-    ap (λ (t : List ℕ). get_or t 0 0 ∷ get_or t 1 0 ∷ get_or (get_or HEX q []) 0 0 ∷ get_or (get_or HEX q []) 1 0 ∷ []) first
-    ∙ ap (λ (t : List ℕ). hex_octet a ++ get_or t 0 0 ∷ get_or t 1 0 ∷ []) second
 
 -- the first group of an address, and those behind a colon
 pub ip6_parts : (b : List ℕ) → length b ≡ 16 → (hex_octet (get_or b 0 0) ++ hex_octet (get_or b 1 0)) ++ grouped (mid_of 2 14 b) ≡ ip6_text b

@@ -336,9 +336,19 @@ fn group_at(room: &mut [u8; 4096], at: usize, a: u8, b: u8) -> usize
     ensures text { take result room.new ≡ take at room.old ++ (hex_octet a ++ hex_octet b) }
     ensures len { result ≡ at + 4 }
 {
-    let [a0, a1] = HEX[usize::from(a)];
-    let [b0, b1] = HEX[usize::from(b)];
-    array_at(room, at, [a0, a1, b0, b1])
+    let middle = hex_at(room, at, a);
+    hex_at(room, middle, b)
+}
+
+/// Writes an octet behind the first octets of a room, in two hexadecimal digits, and says where they end.
+#[inline(always)]
+fn hex_at(room: &mut [u8; 4096], at: usize, octet: u8) -> usize
+    requires room { at + 2 ≤ 4096 }
+    ensures text { take result room.new ≡ take at room.old ++ hex_octet octet }
+    ensures len { result ≡ at + 2 }
+{
+    let digits = HEX[usize::from(octet)];
+    array_at(room, at, &digits)
 }
 
 /// Writes a number below 256 in decimal digits behind the first octets of a room, behind a point, and says where they end.
@@ -361,30 +371,30 @@ fn decimal_at(room: &mut [u8; 4096], at: usize, number: u8) -> usize
     ensures len { result ≤ at + 3 }
 {
     let entry = DECIMALS[usize::from(number)];
-    array_at(room, at, entry);
+    array_at(room, at, &entry);
     at + usize::from(entry[3])
 }
 
-/// Writes four octets behind the first octets of a room, and says where they end.
+/// Writes an array behind the first octets of a room, and says where it ends.
 #[inline(always)]
-fn array_at(room: &mut [u8; 4096], at: usize, octets: [u8; 4]) -> usize
-    requires room { at + 4 ≤ 4096 }
-    ensures text { take result room.new ≡ take at room.old ++ octets }
-    ensures len { result ≡ at + 4 }
+fn array_at<const N: usize>(room: &mut [u8; 4096], at: usize, octets: &[u8; N]) -> usize
+    requires room { at + N ≤ 4096 }
+    ensures text { take result room.new ≡ take at room.old ++ octets.now }
+    ensures len { result ≡ at + N }
 {
-    let end = at + 4;
+    let end = at + N;
     fill(&mut room[at..end], octets);
     end
 }
 
-/// Overwrites a room of four octets.
+/// Overwrites a room of an array's length by the array.
 #[inline(always)]
-fn fill(room: &mut [u8], octets: [u8; 4])
-    requires { length room.old ≡ 4 }
-    ensures { room.new ≡ octets }
+fn fill<const N: usize>(room: &mut [u8], octets: &[u8; N])
+    requires { length room.old ≡ N }
+    ensures { room.new ≡ octets.now }
 {
-    let Some(room) = room.as_mut_array::<4>() else {
+    let Some(room) = room.as_mut_array::<N>() else {
         unreachable!()
     };
-    *room = octets;
+    *room = *octets;
 }

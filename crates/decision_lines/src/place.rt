@@ -54,9 +54,9 @@ impl Line {
         ensures text { self.new ≡ self.old ++ addr_text addr }
         ensures len { length self.new ≤ length self.old + 48 }
     {
-        match addr {
-            Addr::V4(octets) => self.put_ip4(octets),
-            Addr::V6(octets) => self.put_ip6(&octets),
+        match &addr {
+            Addr::V4(octets) => self.put_ip4(*octets),
+            Addr::V6(octets) => self.put_ip6(octets),
         }
     }
 }

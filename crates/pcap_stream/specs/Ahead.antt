@@ -1,5 +1,5 @@
 -- An input that is read ahead, and what was taken of it last. It serves proofs.
-use Rattle.std.specs.Prelude.{◌≡◌, ◌≤◌, ℕ, List, length}
+use Rattle.std.specs.Prelude.{◌≤◌, ℕ, List, length}
 use Rattle.pcap_io.specs.Record.{longest}
 use Rattle.pcap_stream.specs.Supply.{Supply, most_of, with_ahead}
 
@@ -17,9 +17,10 @@ left_of a = with_ahead a.ahead a.input
 abbrev pub most_in : Ahead → ℕ
 most_in a = most_of a.ahead a.input.reads
 
--- what was taken, and what is ahead behind it, lie one behind the other in the room
-pub record LiesIn (room : List ℕ) (start from to : ℕ) : Type 0 where
-  pub size : length room ≡ longest
+-- what was taken, and what is ahead behind it, lie one behind the other in the room, for which enough is reserved
+pub record LiesIn (room : List ℕ) (capacity start from to : ℕ) : Type 0 where
+  pub reserved : longest ≤ capacity
+  pub size : length room ≤ longest
   pub taken : start ≤ from
   pub ahead : from ≤ to
   pub fits : to ≤ length room

@@ -1,5 +1,5 @@
 //! An input that is read ahead into a room of its own.
-ghost use Rattle.std.specs.Prelude.{◌≡◌, ◌<◌, ◌≤◌, ◌+◌, ◌-◌, [], drop, length, max, slice_range, take, IfOk, OnErr, OnOk};
+ghost use Rattle.std.specs.Prelude.{◌≡◌, ◌<◌, ◌≤◌, ◌+◌, ◌-◌, [], drop, length, max, slice_range, take, vec_capacity, IfOk, OnErr, OnOk};
 ghost use Rattle.std.specs.Io.KnownBytes.{Consumes, IsAtEnd};
 ghost use Rattle.pcap_io.specs.Record.{longest};
 ghost use Rattle.pcap_stream.specs.Ahead.{left_of, most_in};
@@ -21,6 +21,7 @@ const BLOCK: usize = 65_536;
 #[derive(Drop)]
 pub struct ReadAhead<R: Input> {
     input: Supply<R>,
+    /// As long as the longest read wanted it yet, within what is reserved for it.
     room: Vec<u8>,
     /// Where the octets that were taken last begin.
     start: usize,
@@ -31,7 +32,7 @@ pub struct ReadAhead<R: Input> {
 }
 
 impl<R: Input> Model for ReadAhead<R> {
-    ghost use Rattle.std.specs.Prelude.{slice_range};
+    ghost use Rattle.std.specs.Prelude.{slice_range, vec_capacity};
     ghost use Rattle.pcap_stream.specs.Ahead.{Ahead, LiesIn};
 
     ghost Value = { Ahead };
@@ -42,7 +43,7 @@ impl<R: Input> Model for ReadAhead<R> {
       taken = slice_range a.room.items a.start a.from;
     } };
 
-    ghost invariant = { λ a. LiesIn a.room.items a.start a.from a.to };
+    ghost invariant = { λ a. LiesIn a.room.items (vec_capacity a.room) a.start a.from a.to };
 }
 
 impl<R: Input> ReadAhead<R> {
@@ -56,7 +57,7 @@ impl<R: Input> ReadAhead<R> {
           taken = [];
         }) }
     {
-        let room = vec![in alloc; 0u8; LONGEST]?;
+        let room = Vec::with_capacity(alloc, LONGEST)?;
         Ok(ReadAhead {
             input: Supply::new(input, reads),
             room,
@@ -109,12 +110,13 @@ impl<R: Input> ReadAhead<R> {
         ensures short { OnErr result (StopsShort (λ taken. length taken < wanted) (length self.old.ahead) (left_of self.old) self.new.input) }
     {
         let held = self.held();
-        let room = self.room.as_mut_slice();
-        move_front(room, self.from, self.to);
+        let end = wanted.max(BLOCK);
+        make_room(&mut self.room, self.from, self.to, end);
         self.start = 0;
         self.from = 0;
         self.to = 0;
-        self.to = self.input.fill(room, held, wanted, wanted.max(BLOCK))?;
+        let room = self.room.as_mut_slice();
+        self.to = self.input.fill(room, held, wanted, end)?;
         Ok(())
     }
 
@@ -157,6 +159,23 @@ impl<R: Input> ReadAhead<R> {
         let n = wanted.min(self.held());
         self.take(n);
         Ok(n)
+    }
+}
+
+/// Moves the octets from one place of a room to another to its front, and makes the room at least so long as a read wants
+/// it, within what is reserved for it.
+fn make_room(room: &mut Vec<u8>, from: usize, to: usize, end: usize)
+    requires order { (from ≤ to) × (to ≤ length room.old.items) }
+    requires reserved { end ≤ vec_capacity room.old }
+    ensures size { length room.new.items ≡ max end (length room.old.items) }
+    ensures front { take (to - from) room.new.items ≡ slice_range room.old.items from to }
+    ensures capacity { vec_capacity room.old ≤ vec_capacity room.new }
+{
+    move_front(room.as_mut_slice(), from, to);
+    if room.len() < end {
+        let Ok(()) = room.resize(end, 0) else {
+            unreachable!()
+        };
     }
 }
 

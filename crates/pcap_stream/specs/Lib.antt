@@ -3,6 +3,7 @@ pub mod Block
 pub mod Counts
 pub mod Fault
 pub mod InTurn
+pub mod Room
 pub mod Sink
 pub mod Source
 pub mod State

@@ -1,5 +1,5 @@
 //! An output in blocks.
-ghost use Rattle.std.specs.Prelude.{◌≡◌, ◌≤◌, ◌<◌, ◌+◌, ◌-◌, [], ◌++◌, IfOk, OnErr, OnOk, drop, length, take};
+ghost use Rattle.std.specs.Prelude.{◌≡◌, ◌≤◌, ◌<◌, ◌+◌, [], ◌++◌, IfOk, OnErr, OnOk, length};
 ghost use Rattle.std.specs.Io.{WritesAtMost};
 ghost use Rattle.std.specs.Io.KnownBytes.{Appends, Keeps, WriteAppends};
 ghost use Rattle.pcap_stream.specs.Block.{told};
@@ -9,7 +9,7 @@ ghost use Rattle.pcap_stream.specs.Sink.{AppendsPart};
 use crate::device::DeviceFault;
 use crate::fault::WriteFault;
 use crate::output::Output;
-use crate::write::{put_behind, put_four};
+use crate::room::Room;
 use pcap_io::RECORD_HEADER_LENGTH;
 use std::alloc::{AllocError, Global};
 use std::marker::Model;
@@ -21,13 +21,10 @@ use std::marker::Model;
 #[derive(Drop)]
 pub struct BlockOutput<W: Output> {
     output: W,
-    block: Vec<u8>,
-    /// How many octets the block holds.
-    held: usize,
+    block: Room,
 }
 
 impl<W: Output> Model for BlockOutput<W> {
-    ghost use Rattle.std.specs.Prelude.{◌≤◌, length, take};
     ghost use Rattle.pcap_stream.specs.Block.{Block};
 
     ghost Value = { Block };
@@ -35,11 +32,9 @@ impl<W: Output> Model for BlockOutput<W> {
     ghost view = { λ b. record {
       written = W.written b.output;
       failures = W.failures b.output;
-      held = take b.held b.block.items;
-      size = length b.block.items;
+      held = b.block.held;
+      size = b.block.size;
     } };
-
-    ghost invariant = { λ b. b.held ≤ length b.block.items };
 }
 
 impl<W: Output> BlockOutput<W> {
@@ -55,12 +50,8 @@ impl<W: Output> BlockOutput<W> {
           size = size;
         }) }
     {
-        let block = vec![in alloc; 0u8; size]?;
-        Ok(BlockOutput {
-            output,
-            block,
-            held: 0,
-        })
+        let block = Room::new(alloc, size)?;
+        Ok(BlockOutput { output, block })
     }
 
     /// Hands on what the block holds. After a fault it holds what was not handed on.
@@ -71,8 +62,8 @@ impl<W: Output> BlockOutput<W> {
         ensures quiet { OnOk result (self.new.failures ≡ self.old.failures) }
         ensures cause { OnErr result (GoesOnBy 1 self.old.failures self.new.failures) }
     {
-        let (handed, result) = self.output.hand_on(&self.block[..self.held]);
-        self.forget(handed);
+        let (handed, result) = self.output.hand_on(self.block.held());
+        self.block.forget(handed);
         result
     }
 
@@ -81,53 +72,12 @@ impl<W: Output> BlockOutput<W> {
         ensures written { W.written result ≡ self.written }
         ensures failures { W.failures result ≡ self.failures }
     {
-        let BlockOutput {
-            output,
-            block: _,
-            held: _,
-        } = self;
+        let BlockOutput { output, block: _ } = self;
         output
     }
 
-    /// Takes the first octets out of the block.
-    fn forget(&mut self, count: usize)
-        requires { count ≤ length self.old.held }
-        ensures { self.new ≡ record self.old { held = drop count self.old.held } }
-    {
-        shift(self.block.as_mut_slice(), count, self.held);
-        self.held -= count;
-    }
-
-    /// Puts octets into the block, behind what it holds.
-    #[inline]
-    fn put(&mut self, octets: &[u8])
-        requires { length self.old.held + length octets.now ≤ self.old.size }
-        ensures { self.new ≡ record self.old { held = self.old.held ++ octets.now } }
-    {
-        let end = self.held + octets.len();
-        self.block[self.held..end].copy_from_slice(octets);
-        self.held = end;
-    }
-
-    /// Puts five texts into the block, behind what it holds.
-    #[inline(always)]
-    fn put_gathered(
-        &mut self,
-        before: &[u8],
-        head: &[u8],
-        addresses: &[u8],
-        tag: &[u8],
-        body: &[u8],
-    )
-        requires { length self.old.held + (length before.now + length head.now + length addresses.now + length tag.now + length body.now) ≤ self.old.size }
-        ensures { self.new ≡ record self.old { held = self.old.held ++ (before.now ++ (head.now ++ (addresses.now ++ (tag.now ++ body.now)))) } }
-    {
-        let room = self.block.as_mut_slice();
-        let front_end = put_four(room, self.held, before, head, addresses, tag);
-        self.held = put_behind(room, front_end, body);
-    }
-
-    /// A write that the block has no room for: the block goes on first, and then what is longer than it.
+    /// A write that the block has no room for yet: it grows, or goes on first where its size does not allow that. What is
+    /// longer than that goes on behind it.
     #[cold]
     #[inline(never)]
     fn write_on(&mut self, octets: &[u8]) -> Result<usize, DeviceFault>
@@ -135,13 +85,16 @@ impl<W: Output> BlockOutput<W> {
         ensures appended { WriteAppends (told self.old) (told self.new) result octets.now }
         ensures failures { CountsRefusals self.old.failures self.new.failures result (length octets.now) }
     {
-        if self.finish().is_err() {
-            return Err(DeviceFault);
+        if !self.block.may_hold(octets.len()) {
+            if self.finish().is_err() {
+                return Err(DeviceFault);
+            }
+            if !self.block.may_hold(octets.len()) {
+                return self.output.write(octets);
+            }
         }
-        if octets.len() > self.block.len() {
-            return self.output.write(octets);
-        }
-        self.put(octets);
+        self.block.widen(octets.len());
+        self.block.put(octets);
         Ok(octets.len())
     }
 
@@ -155,11 +108,14 @@ impl<W: Output> BlockOutput<W> {
         ensures quiet { OnOk result (self.new.failures ≡ self.old.failures) }
         ensures cause { OnErr result (GoesOnBy 1 self.old.failures self.new.failures) }
     {
-        self.finish()?;
-        if octets.len() > self.block.len() {
-            return self.output.write_all(octets);
+        if !self.block.may_hold(octets.len()) {
+            self.finish()?;
+            if !self.block.may_hold(octets.len()) {
+                return self.output.write_all(octets);
+            }
         }
-        self.put(octets);
+        self.block.widen(octets.len());
+        self.block.put(octets);
         Ok(())
     }
 
@@ -183,14 +139,17 @@ impl<W: Output> BlockOutput<W> {
         ensures quiet { OnOk result (self.new.failures ≡ self.old.failures) }
         ensures cause { OnErr result (GoesOnBy 1 self.old.failures self.new.failures) }
     {
-        self.finish()?;
         let size = before.len() + head.len() + addresses.len() + tag.len() + body.len();
-        if size > self.block.len() {
-            return self
-                .output
-                .write_gathered(before, head, addresses, tag, body);
+        if !self.block.may_hold(size) {
+            self.finish()?;
+            if !self.block.may_hold(size) {
+                return self
+                    .output
+                    .write_gathered(before, head, addresses, tag, body);
+            }
         }
-        self.put_gathered(before, head, addresses, tag, body);
+        self.block.widen(size);
+        self.block.put_gathered(before, head, addresses, tag, body);
         Ok(())
     }
 }
@@ -204,19 +163,19 @@ impl<W: Output> Output for BlockOutput<W> {
 
     #[inline]
     fn write(&mut self, octets: &[u8]) -> Result<usize, DeviceFault> {
-        if octets.len() > self.block.len() - self.held {
+        if octets.len() > self.block.free() {
             return self.write_on(octets);
         }
-        self.put(octets);
+        self.block.put(octets);
         Ok(octets.len())
     }
 
     #[inline(always)]
     fn write_all(&mut self, octets: &[u8]) -> Result<(), WriteFault> {
-        if octets.len() > self.block.len() - self.held {
+        if octets.len() > self.block.free() {
             return self.write_all_on(octets);
         }
-        self.put(octets);
+        self.block.put(octets);
         Ok(())
     }
 
@@ -230,7 +189,7 @@ impl<W: Output> Output for BlockOutput<W> {
         body: &[u8],
     ) -> Result<(), WriteFault> {
         let size = before.len() + head.len() + addresses.len() + tag.len() + body.len();
-        if size > self.block.len() - self.held {
+        if size > self.block.free() {
             // a copy of a record's header goes on: so where none does, it need not stand in memory
             if let Some(header) = before.as_array::<RECORD_HEADER_LENGTH>() {
                 let header = *header;
@@ -238,17 +197,7 @@ impl<W: Output> Output for BlockOutput<W> {
             }
             return self.write_gathered_on(before, head, addresses, tag, body);
         }
-        self.put_gathered(before, head, addresses, tag, body);
+        self.block.put_gathered(before, head, addresses, tag, body);
         Ok(())
     }
-}
-
-/// Moves the octets from `count` to `held` to the front.
-fn shift(octets: &mut [u8], count: usize, held: usize)
-    requires order { count ≤ held }
-    requires fits { held ≤ length octets.old }
-    ensures front { take (held - count) octets.new ≡ drop count (take held octets.old) }
-    ensures size { length octets.new ≡ length octets.old }
-{
-    octets.copy_within(count..held, 0);
 }

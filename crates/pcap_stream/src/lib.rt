@@ -14,6 +14,7 @@ mod fetch;
 mod input;
 pub mod laws;
 mod output;
+mod room;
 mod sink;
 mod source;
 mod supply;

@@ -1,6 +1,6 @@
 use Rattle.std.proofs.Common.{◌∙◌, ◌-◌, ap, take}
 use Rattle.pcap_stream.proofs.Blocks.{shifted}
-use Rattle.pcap_stream.proofs.block_output.shift.Goals as goal
+use Rattle.pcap_stream.proofs.room.shift.Goals as goal
 
 pub returns-clause-front : goal.returns-clause-front
 returns-clause-front c =

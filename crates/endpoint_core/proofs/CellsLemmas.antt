@@ -1,5 +1,5 @@
 -- What one more leaves of the counts.
-use Rattle.std.proofs.Common.{◌≡◌, ◌≢◌, ℕ, zero, suc, ◌+◌, ◌<◌, Bool, true, false, cond, ◌&&◌, refl, sym, ap, subst, ◌∙◌, List, [], length, get_or, set, replicate, Option, Some, None, min, arith, eqb}
+use Rattle.std.proofs.Common.{◌≡◌, ◌≢◌, ℕ, zero, suc, ◌+◌, ◌<◌, Bool, true, false, cond, ◌&&◌, refl, sym, ap, subst, ◌∙◌, List, [], ◌∷◌, ◌++◌, length, get_or, set, replicate, Option, Some, None, min, arith, eqb}
 use Rattle.std.proofs.Math.Path.{fun_ext}
 use Rattle.std.proofs.lemmas.List.{get_or-set_same, get_or-set_other, get_or_default}
 use Rattle.std.proofs.lemmas.Bool.Decides.{nat_tests}
@@ -13,18 +13,29 @@ index-zeros zero k = refl
 index-zeros (suc n) zero = refl
 index-zeros (suc n) (suc k) = index-zeros n k
 
--- rows, all of them one of zeros
-pub zeros-rows : (row : List ℕ) → ((k : ℕ) → get_or row k 0 ≡ 0) → (n v k : ℕ) → get_or (get_or (replicate {A = List ℕ} n row) v []) k 0 ≡ 0
-zeros-rows row zeros zero v k = refl
-zeros-rows row zeros (suc n) zero k = zeros k
-zeros-rows row zeros (suc n) (suc v) k = zeros-rows row zeros n v k
+-- a row of zeros behind the others counts as none
+pub zeros-behind : (rows : List (List ℕ)) (row : List ℕ) → ((k : ℕ) → get_or row k 0 ≡ 0) → (v k : ℕ) → get_or (get_or (rows ++ row ∷ []) v []) k 0 ≡ get_or (get_or rows v []) k 0
+zeros-behind [] row zeros zero k = zeros k
+zeros-behind [] row zeros (suc v) k = refl
+zeros-behind (r ∷ rows) row zeros zero k = refl
+zeros-behind (r ∷ rows) row zeros (suc v) k = zeros-behind rows row zeros v k
 
-pub none-yet : (c : Cells) → ((k : ℕ) → get_or c.nowhere k 0 ≡ 0) → ((v k : ℕ) → get_or (get_or c.segments v []) k 0 ≡ 0) → count_in c ≡ no_counts
+pub none-yet : (c : Cells) → ((k : ℕ) → get_or c.nowhere k 0 ≡ 0) → c.segments ≡ [] → count_in c ≡ no_counts
 none-yet c first rest = fun_ext (λ segment. fun_ext (λ k. by segment k))
   where
     by : (segment : Option ℕ) (k : ℕ) → count_in c segment k ≡ 0
     by None k = first k
-    by (Some v) k = rest v k
+    by (Some v) k = ap (λ (rows : List (List ℕ)). get_or (get_or rows v []) k 0) rest
+
+-- ---- rows that count the same
+
+pub same-rows : (nowhere : List ℕ) (rows others : List (List ℕ)) → ((v k : ℕ) → get_or (get_or rows v []) k 0 ≡ get_or (get_or others v []) k 0) →
+    count_in (record { nowhere = nowhere; segments = rows }) ≡ count_in (record { nowhere = nowhere; segments = others })
+same-rows nowhere rows others same = fun_ext (λ segment. fun_ext (λ k. by segment k))
+  where
+    by : (segment : Option ℕ) (k : ℕ) → count_in (record { nowhere = nowhere; segments = rows }) segment k ≡ count_in (record { nowhere = nowhere; segments = others }) segment k
+    by None k = refl
+    by (Some v) k = same v k
 
 -- ---- one more
 

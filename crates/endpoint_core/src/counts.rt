@@ -1,5 +1,5 @@
 //! How often each thing was decided.
-ghost use Rattle.std.specs.Prelude.{◌≡◌, ◌≤◌, ◌<◌, ℕ, length, [], slice_index_or, vec_len, IfOk, IsSome, Some, map};
+ghost use Rattle.std.specs.Prelude.{◌≡◌, ◌≤◌, ◌<◌, ℕ, length, [], slice_index_or, vec_capacity, IfOk, IsSome, Some, map};
 ghost use Rattle.endpoint_core.specs.Counts.{no_counts, one_more, counted, counted_all, marks_all, most};
 ghost use Rattle.endpoint_core.specs.Cells.{count_in, bumped};
 ghost use Rattle.endpoint_core.specs.Course.{decision_of, IsThere};
@@ -26,34 +26,35 @@ type Row = [u64; NUMBERS];
 
 /// The counts of each segment and of none.
 ///
-/// Each VID has its row from `open` on, also one without a segment, so that no row is looked for.
+/// Room for a row of each VID is reserved from `open` on. A VID's row is put there once something is counted in it, with those
+/// of the VIDs below, so that a run goes over the rows that it needs alone.
 #[derive(Drop)]
 pub(crate) struct Counts {
     /// In no segment.
     nowhere: Row,
-    /// The row of each VID, from 0 on.
+    /// The row of each VID, from 0 on. One that isn't there is as one of zeros.
     segments: Vec<Row>,
 }
 
 impl Model for Counts {
-    ghost use Rattle.std.specs.Prelude.{◌<◌, length};
+    ghost use Rattle.std.specs.Prelude.{◌<◌, vec_capacity};
     ghost use Rattle.endpoint_core.specs.Cells.{Cells};
 
     ghost Value = { Cells };
 
     ghost view = { λ c. record { nowhere = c.nowhere; segments = c.segments.items } };
 
-    ghost invariant = { λ c. 4094 < length c.segments.items };
+    ghost invariant = { λ c. 4094 < vec_capacity c.segments };
 }
 
 impl Counts {
-    /// Nothing was decided yet. It reserves all counts, and `AllocError` says that there was no room for them.
+    /// Nothing was decided yet. It reserves the room of all counts, and `AllocError` says that there was no room for them.
     pub(crate) fn open(alloc: Global) -> Result<Counts, AllocError>
         ensures { IfOk result (λ counts. count_in counts ≡ no_counts) }
     {
         Ok(Counts {
             nowhere: no_row(),
-            segments: no_rows(alloc)?,
+            segments: Vec::with_capacity(alloc, ROWS)?,
         })
     }
 
@@ -61,11 +62,13 @@ impl Counts {
     pub(crate) fn get(&self, segment: Option<Vid>, number: u8) -> u64
         ensures { result ≡ count_in self.now segment number }
     {
-        let row = match segment {
-            None => &self.nowhere,
-            Some(vid) => &self.segments[vid.get() as usize],
-        };
-        row.get(number as usize).copied().unwrap_or(0)
+        match segment {
+            None => count_at(&self.nowhere, number),
+            Some(vid) => match self.segments.get(usize::from(vid.get())) {
+                Some(row) => count_at(row, number),
+                None => 0,
+            },
+        }
     }
 
     /// Counts a drop, or what is sent at each place.
@@ -91,8 +94,9 @@ impl Counts {
         ensures { let S = settings_of state.now in
             count_in self.new ≡ counted_all (count_in self.old) (marks_all (Some vid) (map (sent_at S vid frame.now) places.now)) }
     {
+        self.reach(vid);
         for place in places {
-            self.add(Some(vid), number_at(state, vid, frame, *place));
+            self.add_there(vid, number_at(state, vid, frame, *place));
         }
     }
 
@@ -103,8 +107,56 @@ impl Counts {
     {
         match segment {
             None => add_in(&mut self.nowhere, number),
-            Some(vid) => add_in(&mut self.segments[vid.get() as usize], number),
+            Some(vid) => {
+                self.reach(vid);
+                self.add_there(vid, number);
+            }
         }
+    }
+
+    /// Counts one more in a segment whose row is there.
+    #[inline(always)]
+    fn add_there(&mut self, vid: Vid, number: u8)
+        requires small { number ≤ 40 }
+        requires there { vid < length self.old.segments }
+        ensures more { count_in self.new ≡ one_more (count_in self.old) (record { segment = Some vid; number = number }) }
+        ensures there { vid < length self.new.segments }
+    {
+        add_in(&mut self.segments[usize::from(vid.get())], number);
+    }
+
+    /// Has a row of a VID; what is counted stays.
+    #[inline(always)]
+    fn reach(&mut self, vid: Vid)
+        ensures there { vid < length self.new.segments }
+        ensures same { count_in self.new ≡ count_in self.old }
+    {
+        let place = usize::from(vid.get());
+        if place >= self.segments.len() {
+            widen(&mut self.segments, place);
+        }
+    }
+}
+
+/// How often a number was decided, by its row.
+fn count_at(row: &Row, number: u8) -> u64
+    ensures { result ≡ slice_index_or row.now number 0 }
+{
+    row.get(usize::from(number)).copied().unwrap_or(0)
+}
+
+/// Puts rows of zeros behind the others up to a place, in room that is there.
+#[cold]
+#[inline(never)]
+fn widen(rows: &mut Vec<Row>, place: usize)
+    requires short { length rows.old.items ≤ place }
+    requires room { place < vec_capacity rows.old }
+    ensures there { place < length rows.new.items }
+    ensures same { (vid k : ℕ) → slice_index_or (slice_index_or rows.new.items vid []) k 0 ≡ slice_index_or (slice_index_or rows.old.items vid []) k 0 }
+    ensures capacity { vec_capacity rows.new ≡ vec_capacity rows.old }
+{
+    for _row in rows.len()..place + 1 {
+        rows.push_reserved(no_row());
     }
 }
 
@@ -123,13 +175,4 @@ fn no_row() -> Row
     ensures { (k : ℕ) → slice_index_or result k 0 ≡ 0 }
 {
     [0; NUMBERS]
-}
-
-/// Such a row for each VID.
-fn no_rows(alloc: Global) -> Result<Vec<Row>, AllocError>
-    ensures zeros { IfOk result (λ rows. (vid k : ℕ) → slice_index_or (slice_index_or rows.items vid []) k 0 ≡ 0) }
-    ensures long { IfOk result (λ rows. 4094 < vec_len rows) }
-{
-    let rows = vec![in alloc; no_row(); ROWS]?;
-    Ok(rows)
 }

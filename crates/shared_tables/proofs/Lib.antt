@@ -1,5 +1,6 @@
 pub mod Linked
 pub mod Buckets
+mod Addresses
 mod ColumnsLemmas
 pub mod Keys
 pub mod SlotsLemmas

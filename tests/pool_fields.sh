@@ -30,5 +30,5 @@ struct Share { limit: u32, ageing: u32, count: u32, queue: Ends, fixed: Ends, }
 struct SharedTables { slots: Slots, forest: Forest, shares: Vec<Option<Share>>, moment: u64, calls: Count, }
 struct Slot { key: u64, last: u64, line: Links, place: Place, kind: Kind, }
 struct SlotId { number: u32, }
-struct Slots { slots: Vec<Slot>, free: Link, compared: Count, visited: Count, }
+struct Slots { slots: Vec<Slot>, size: u32, free: Link, compared: Count, visited: Count, }
 TEXT

@@ -16,8 +16,9 @@ use Rattle.shared_tables.specs.Line.{weight}
 use Rattle.shared_tables.specs.Shared.{Shared, Rule, rule_at, kept_count, vid_key, HasRoom, IsAtLimit, IsNow, Lacks, span_of, Enters, line_key, IsOldest, Sweeps, Admits, KeepsOrFrees, is_held, held_count}
 use Rattle.shared_tables.specs.Sound.{IsSound, share_at, rule_of}
 use Rattle.shared_tables.specs.Whole.{seen, Refuses, Makes}
+use Rattle.shared_tables.specs.Threads.{IsHeld}
 use Rattle.shared_tables.proofs.Linked.{by_bool, equal}
-use Rattle.shared_tables.proofs.Threaded.{in_entries}
+use Rattle.shared_tables.proofs.Threaded.{on_line_held}
 use Rattle.shared_tables.proofs.SoundLemmas.{rule_is, kept_is, has_share, IsShare}
 use Rattle.shared_tables.proofs.Sweeping.{Frees, sweep_starts, sweep_ends, sweep_on, oldest_none, oldest_some}
 use Rattle.shared_tables.proofs.ForestLemmas.{apart, entry_same, entry_other}
@@ -55,8 +56,8 @@ module _ (pool : Pool) (shares : List (Option Share)) (moment v : ℕ) (h : IsSo
   pub is_oldest : (s : ℕ) → share.queue.first ≡ Some s → IsOldest pool.entries v s
   is_oldest s first = oldest_some pool.entries pool.lines v share moment (h.lined v share here) s first
 
-  pub oldest_lt : (s : ℕ) → share.queue.first ≡ Some s → s < length pool.entries
-  oldest_lt s first = in_entries (line_key v false) refl pool.entries s (is_oldest s first).ages
+  pub oldest_held : (s : ℕ) → share.queue.first ≡ Some s → IsHeld pool.entries s
+  oldest_held s first = on_line_held v false pool.entries s (is_oldest s first).ages
 
   -- its oldest entry lives
   pub refuses_live : (calls ageing s : ℕ) (pool' : Pool) → share.limit ≤ share.count → share.queue.first ≡ Some s → is_dead_in (entry_at pool.entries s) ageing moment ≡ false → pool' ≡ record pool { visited = pool.visited + 1 }

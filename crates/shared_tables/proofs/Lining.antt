@@ -1,5 +1,5 @@
 -- A walk along a line of a segment, and what both its lines list.
-use Rattle.std.proofs.Common.{◌≡◌, ℕ, zero, suc, ◌+◌, ◌<◌, ◌≤◌, Bool, true, false, ◌&&◌, ◌||◌, List, [], ◌∷◌, ◌++◌, length, map, get_or, Option, Some, None, IfSome, IsSome, nat_eq, is_none, refl, sym, ap, ◌∙◌, subst, arith, inl, inr, ◌⊎◌, append-nil, append_assoc, length-append}
+use Rattle.std.proofs.Common.{◌≡◌, ℕ, zero, suc, ◌+◌, ◌<◌, ◌≤◌, Bool, true, false, ◌&&◌, ◌||◌, List, [], ◌∷◌, ◌++◌, length, map, get_or, Option, Some, None, IfSome, nat_eq, is_none, refl, sym, ap, ◌∙◌, subst, arith, inl, inr, ◌⊎◌, append-nil, append_assoc, length-append}
 use Rattle.std.proofs.lemmas.Bool.{cases_lt}
 use Rattle.std.proofs.lemmas.List.{get_or_past, length-map}
 use Rattle.std.proofs.lemmas.List.Elements.{All-nil, All-push}
@@ -22,7 +22,7 @@ use Rattle.shared_tables.specs.Threads.{IsHeld}
 use Rattle.shared_tables.proofs.Linked.{by_bool, equal, first_on, is_on-append, linked_split, nat_eq_refl, on_behind, or_false}
 use Rattle.shared_tables.proofs.ListingLemmas.{live_table, live_unique}
 use Rattle.shared_tables.proofs.Tabled.{get-raw, hit, hit_held, held_hit, raw, raw_found, raw_lacks}
-use Rattle.shared_tables.proofs.Threaded.{in_entries}
+use Rattle.shared_tables.proofs.Threaded.{on_line_held}
 
 -- ---- along a line
 
@@ -81,10 +81,6 @@ stands es ls v fixed a t old now slot steps count w = from w.rest w.here w.linke
           few = subst (λ k. length (w.done ++ k ∷ rest) ≤ count) q f;
         }
 
-held_by_key : (v : ℕ) (fixed : Bool) (o : Option Held) → line_key v fixed o ≡ true → IsSome o
-held_by_key v fixed None h = let bad : true ≡ false = sym h in cc
-held_by_key v fixed (Some e) h = refl
-
 rows_more : (v a t : ℕ) (es : List (Option Held)) (is : List ℕ) (i : ℕ) (row : Option (List ℕ × Entry)) → row ≡ live_row v a t (entry_at es i)
     → live_rows v a t (map (entry_at es) is) ++ option_to_list row ≡ live_rows v a t (map (entry_at es) (is ++ i ∷ []))
 rows_more v a t es [] i row is = one row ∙ ap (λ r. cons_option r []) is
@@ -111,7 +107,7 @@ module _ (es : List (Option Held)) (ls : List Links) (v : ℕ) (fixed : Bool) (a
   keyed = sym (at.all.members slot) ∙ on_behind slot at.done (slot ∷ at.rest) (first_on slot at.rest)
 
   pub list_held : IsHeld es slot
-  list_held = record { in_pool = in_entries (line_key v fixed) refl es slot keyed; held = held_by_key v fixed (entry_at es slot) keyed }
+  list_held = on_line_held v fixed es slot keyed
 
   pub list_on : (row : Option (List ℕ × Entry)) (new : Rows) (next : Option ℕ) → row ≡ live_row v a t (entry_at es slot) → IfSome row (λ r. IsAddress r.0) → new ≡ now ++ option_to_list row → next ≡ (links_at ls slot).next
       → Lists es ls v fixed a t old new next (steps + 1) count

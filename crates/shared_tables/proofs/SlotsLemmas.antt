@@ -1,8 +1,7 @@
 -- What a write to one slot leaves of the columns and of the free list.
-use Rattle.std.proofs.Common.{cond, is_some, true, ◌≡◌, ℕ, ◌+◌, ◌^◌, ◌<◌, List, [], ◌∷◌, ◌++◌, length, length-append, map, get_or, set, Option, Some, None, IsSome, refl, sym, ap, ◌∙◌, subst, arith}
+use Rattle.std.proofs.Common.{cond, is_some, true, ◌≡◌, ℕ, zero, suc, ◌+◌, ◌-◌, ◌^◌, ◌<◌, List, [], ◌∷◌, ◌++◌, length, length-append, map, get_or, set, replicate, Option, Some, None, IfSome, IsSome, vec_capacity, refl, sym, ap, ◌∙◌, subst, arith}
 use Rattle.std.proofs.lemmas.List.Sums.{sum_by-append}
-use Rattle.std.proofs.Math.ListN.{get_or-append}
-use Rattle.std.proofs.lemmas.List.{map-append, replicate-append-replicate, get_or_push, map-set, get_or-map, get_or-set_same, get_or-set_other, length-set, length-map}
+use Rattle.std.proofs.lemmas.List.{map-append, get_or_append_left, get_or_past, length-replicate, set-append_left, map-set, get_or-map, get_or-set_same, get_or-set_other, length-set, length-map}
 use Rattle.std.proofs.Math.Seq.{map-set_same}
 use Rattle.std.proofs.lemmas.List.Sums.{sum_by-set}
 use Rattle.shared_tables.specs.declared.slots.Slot.{Slot}
@@ -12,10 +11,10 @@ use Rattle.shared_tables.specs.declared.slots.Kind.{Kind}
 use Rattle.shared_tables.specs.declared.slots.Kind.TheVariants as kind
 use Rattle.filter_db.specs.declared.place.Place.{Place}
 use Rattle.shared_tables.specs.Bucket.{vid_in, mac_in}
-use Rattle.shared_tables.specs.Pool.{Pool, Held, IfHeld, entry_at, links_at, vacancy, free_count, renewed, readdressed, place_in, taken, freed, alone, free_pool}
+use Rattle.shared_tables.specs.Pool.{Pool, Held, IfHeld, entry_at, links_at, vacancy, free_count, renewed, readdressed, place_in, taken, freed, alone}
 use Rattle.shared_tables.specs.Forest.{key_in}
 use Rattle.shared_tables.proofs.Keys.{key_of-key}
-use Rattle.shared_tables.specs.Slots.{entry_in, entry_by, kind_of, moment_of, line_of, pool_with, pool_of, no_slot, IsAbsent, IsFreeList, IsFreeAll, HasFreeList}
+use Rattle.shared_tables.specs.Slots.{entry_in, entry_by, kind_of, moment_of, line_of, pool_with, pool_of, no_slot, all_slots, IsAbsent, IsFreeList, IsFreeAll, IsStocked, IsWithin}
 
 pub same_pool : {es fs : List (Option Held)} {ls ms : List Links} (n v : ℕ) → es ≡ fs → ls ≡ ms
     → ◌≡◌ {A = Pool} (record { entries = es; lines = ls; compared = n; visited = v }) (record { entries = fs; lines = ms; compared = n; visited = v })
@@ -96,7 +95,6 @@ module _ (xs : List Slot) where
   keeps_free i s f is lt held some h = record {
     list = kept_list i s is f (off_list i held is f h.list) h.list;
     all = omega (arith, h.all, counted i s lt, vacancy_some _ held, vacancy_some _ some);
-    few = omega (arith, h.few, length-set xs i s);
   }
 
   -- an entry goes
@@ -113,7 +111,6 @@ module _ (xs : List Slot) where
           subst (λ (o : Option ℕ). IsFreeList (set xs i s) o is) (sym (ap (λ (t : Slot). t.line.next) at_i ∙ next)) (kept_list i s is f off h.list),
         );
         all = omega (arith, h.all, counted i s lt, vacancy_some _ held, ap vacancy none);
-        few = omega (arith, h.few, length-set xs i s);
       }
 
   -- an entry comes
@@ -121,7 +118,6 @@ module _ (xs : List Slot) where
   takes i s is some h = record {
     list = kept_list i s is _ h.list.3 h.list.4;
     all = omega (arith, h.all, counted i s h.list.1, vacancy_some _ some, ap vacancy h.list.2);
-    few = omega (arith, h.few, length-set xs i s);
   }
 
 -- A pool and a slot's number as a method sees them: e is the value's `.view_is`, q is the number's.
@@ -182,10 +178,77 @@ held_by kind.Free key last place vid mac h = cc
 held_by kind.Learned key last place vid mac h = (λ x. x, λ x. x)
 held_by kind.Fixed key last place vid mac h = (λ x. x, λ x. x)
 
+-- ---- slots that aren't there yet
+
+-- behind those that were made there are free ones alone
+none_behind : (xs : List Slot) (k i : ℕ) → get_or (xs ++ replicate k no_slot) i no_slot ≡ get_or xs i no_slot
+none_behind [] zero i = refl
+none_behind [] (suc k) zero = refl
+none_behind [] (suc k) (suc i) = none_behind [] k i
+none_behind (x ∷ xs) k zero = refl
+none_behind (x ∷ xs) k (suc i) = none_behind xs k i
+
+-- so a slot that holds an entry was made
+held_made : (xs : List Slot) (i : ℕ) → IsSome (entry_in (get_or xs i no_slot)) → i < length xs
+held_made [] i h = let no : IsSome {T = Held} None = h in cc
+held_made (x ∷ xs) zero h = omega arith
+held_made (x ∷ xs) (suc i) h = omega (arith, held_made xs i h)
+
+-- a write to one that was made
+pub all-set : (size : ℕ) (xs : List Slot) (i : ℕ) (s : Slot) → i < length xs → all_slots size (set xs i s) ≡ set (all_slots size xs) i s
+all-set size xs i s made = ap (λ n. set xs i s ++ replicate (size - n) no_slot) (length-set xs i s) ∙ sym (set-append_left xs (replicate (size - length xs) no_slot) i s made)
+
+-- one more is made
+push_set : (xs : List Slot) (k : ℕ) (s : Slot) → (xs ++ s ∷ []) ++ replicate k no_slot ≡ set (xs ++ replicate (suc k) no_slot) (length xs) s
+push_set [] k s = refl
+push_set (x ∷ xs) k s = ap (λ ys. x ∷ ys) (push_set xs k s)
+
+pub all-push : (size : ℕ) (xs : List Slot) (s : Slot) → length xs < size → all_slots size (xs ++ s ∷ []) ≡ set (all_slots size xs) (length xs) s
+all-push size xs s lt =
+    let one_less : suc (size - length (xs ++ s ∷ [])) ≡ size - length xs = omega (arith, lt, length-append xs (s ∷ [])) in
+    push_set xs (size - length (xs ++ s ∷ [])) s ∙ ap (λ n. set (xs ++ replicate n no_slot) (length xs) s) one_less
+
+pub made_still : (xs : List Slot) (i : ℕ) (s : Slot) {size room : ℕ} → IsWithin (length xs) size room → IsWithin (length (set xs i s)) size room
+made_still xs i s {size} {room} h = subst (λ n. IsWithin n size room) (sym (length-set xs i s)) h
+
+pub free_of_all : (size : ℕ) (xs : List Slot) → free_count (map entry_in (all_slots size xs)) ≡ free_count (map entry_in xs) + (size - length xs)
+free_of_all size xs =
+    ap free_count (map-append entry_in xs (replicate (size - length xs) no_slot))
+    ∙ sum_by-append vacancy (map entry_in xs) (map entry_in (replicate (size - length xs) no_slot))
+    ∙ ap (λ n. free_count (map entry_in xs) + n) (each (size - length xs))
+  where
+    each : (k : ℕ) → free_count (map entry_in (replicate k no_slot)) ≡ k
+    each zero = refl
+    each (suc k) = omega (arith, sum_by-append vacancy (None ∷ []) (map entry_in (replicate k no_slot)), each k)
+
+-- A slot that holds an entry, as a method reads it: e and q are as above.
+module _ (a : Inside) (i slot : ℕ) (now : Pool) (e : pool_of a ≡ now) (q : i ≡ slot) (lt : slot < length now.entries) (held : IsSome (entry_at now.entries slot)) where
+  abbrev every : List Slot
+  every = all_slots a.size a.slots.items
+
+  pub own_held : IsSome (entry_in (get_or a.slots.items i no_slot))
+  own_held = subst (λ (s : Slot). IsSome (entry_in s)) (none_behind a.slots.items (a.size - length a.slots.items) i) (held_at every a.compared.total a.visited.total i slot now e q lt held)
+
+  pub made : i < length a.slots.items
+  made = held_made a.slots.items i own_held
+
+  module _ (old : Slot) (is : old ≡ get_or a.slots.items i old) where
+    among : old ≡ get_or every i old
+    among = is ∙ sym (get_or_append_left a.slots.items (replicate (a.size - length a.slots.items) no_slot) old i made)
+
+    pub own_entry : entry_in old ≡ entry_at now.entries slot
+    own_entry = entry_read every a.compared.total a.visited.total i slot now e q old among lt
+
+    pub own_line : old.line ≡ links_at now.lines slot
+    own_line = links_read every a.compared.total a.visited.total i slot now e q old among lt held
+
+    pub own_some : IsSome (entry_in old)
+    own_some = held_old_at every a.compared.total a.visited.total i slot now e q old among lt held
+
 -- A slot that a method writes, which holds an entry before and after: is says that it was read there, e and q are as above.
 module _ (a : Inside) (i slot : ℕ) (now : Pool) (e : pool_of a ≡ now) (q : i ≡ slot) (lt : slot < length now.entries) (held : IsSome (entry_at now.entries slot)) (old s : Slot) (is : old ≡ get_or a.slots.items i old) where
   abbrev xs : List Slot
-  xs = a.slots.items
+  xs = all_slots a.size a.slots.items
 
   abbrev n : ℕ
   n = a.compared.total
@@ -193,49 +256,61 @@ module _ (a : Inside) (i slot : ℕ) (now : Pool) (e : pool_of a ≡ now) (q : i
   abbrev v : ℕ
   v = a.visited.total
 
+  is_made : i < length a.slots.items
+  is_made = made a i slot now e q lt held
+
+  is_among : old ≡ get_or xs i old
+  is_among = among a i slot now e q lt held old is
+
+  as_written : pool_with (all_slots a.size (set a.slots.items i s)) n v ≡ pool_with (set xs i s) n v
+  as_written = ap (λ ys. pool_with ys n v) (all-set a.size a.slots.items i s is_made)
+
   -- the free list is the same
-  written_free : IsSome (entry_in s) → HasFreeList a → (free : List ℕ) × IsFreeAll (set a.slots.items i s) a.free free
-  written_free some h = (h.0, keeps_free xs i s a.free h.0 (in_range xs n v i slot now e q lt) (held_at xs n v i slot now e q lt held) some h.1)
+  written_free : IsSome (entry_in s) → IsStocked a → ((free : List ℕ) × IsFreeAll (set a.slots.items i s) a.free free) × IsWithin (length (set a.slots.items i s)) a.size (vec_capacity a.slots)
+  written_free some h = ((h.0.0, keeps_free a.slots.items i s a.free h.0.0 is_made (own_held a i slot now e q lt held) some h.0.1), made_still a.slots.items i s h.1)
 
   held_before : IsSome (entry_in old)
-  held_before = held_old_at xs n v i slot now e q old is lt held
+  held_before = own_some a i slot now e q lt held old is
 
   -- it has another place and another moment
   module _ (place : Place) (last : Option ℕ) (entry : entry_in s ≡ renewed (entry_in old) place last) where
-    pub renewed_free : HasFreeList a → (free : List ℕ) × IsFreeAll (set a.slots.items i s) a.free free
+    pub renewed_free : IsStocked a → ((free : List ℕ) × IsFreeAll (set a.slots.items i s) a.free free) × IsWithin (length (set a.slots.items i s)) a.size (vec_capacity a.slots)
     renewed_free = written_free (subst (λ (o : Option Held). IsSome o) (sym entry) (some_renewed (entry_in old) place last held_before))
 
     pub renewed_pool : s.line ≡ old.line
-        → pool_with (set a.slots.items i s) a.compared.total a.visited.total ≡ record now { entries = set now.entries slot (renewed (entry_at now.entries slot) place last) }
+        → pool_with (all_slots a.size (set a.slots.items i s)) a.compared.total a.visited.total ≡ record now { entries = set now.entries slot (renewed (entry_at now.entries slot) place last) }
     renewed_pool line =
-        forth xs n v i slot now e q (λ w k. pool_with (set xs i s) n v ≡ record w { entries = set w.entries k (renewed (entry_at w.entries k) place last) })
-        (pool-renew xs n v i place last s old (in_range xs n v i slot now e q lt) is line entry)
+        as_written
+        ∙ forth xs n v i slot now e q (λ w k. pool_with (set xs i s) n v ≡ record w { entries = set w.entries k (renewed (entry_at w.entries k) place last) })
+        (pool-renew xs n v i place last s old (in_range xs n v i slot now e q lt) is_among line entry)
 
   pub place_read : place_in (entry_in old) ≡ place_in (entry_at now.entries slot)
-  place_read = ap place_in (entry_read xs n v i slot now e q old is lt)
+  place_read = ap place_in (entry_read xs n v i slot now e q old is_among lt)
 
   -- it has another address
   module _ (vid : ℕ) (mac : List ℕ) (entry : entry_in s ≡ readdressed (entry_in old) vid mac) where
-    pub readdressed_free : HasFreeList a → (free : List ℕ) × IsFreeAll (set a.slots.items i s) a.free free
+    pub readdressed_free : IsStocked a → ((free : List ℕ) × IsFreeAll (set a.slots.items i s) a.free free) × IsWithin (length (set a.slots.items i s)) a.size (vec_capacity a.slots)
     readdressed_free = written_free (subst (λ (o : Option Held). IsSome o) (sym entry) (subst (λ b. b ≡ true) (sym (is_some-readdressed (entry_in old) vid mac)) held_before))
 
     pub readdressed_pool : s.line ≡ old.line
-        → pool_with (set a.slots.items i s) a.compared.total a.visited.total ≡ record now { entries = set now.entries slot (readdressed (entry_at now.entries slot) vid mac) }
+        → pool_with (all_slots a.size (set a.slots.items i s)) a.compared.total a.visited.total ≡ record now { entries = set now.entries slot (readdressed (entry_at now.entries slot) vid mac) }
     readdressed_pool line =
-        forth xs n v i slot now e q (λ w k. pool_with (set xs i s) n v ≡ record w { entries = set w.entries k (readdressed (entry_at w.entries k) vid mac) })
-        (pool-set_entry xs n v i s old (in_range xs n v i slot now e q lt) is line (ap is_some entry ∙ is_some-readdressed (entry_in old) vid mac)
-        ∙ ap (λ o. record (pool_with xs n v) { entries = set (map entry_in xs) i o }) (entry ∙ ap (λ o. readdressed o vid mac) (sym (read xs i old (in_range xs n v i slot now e q lt) is None))))
+        as_written
+        ∙ forth xs n v i slot now e q (λ w k. pool_with (set xs i s) n v ≡ record w { entries = set w.entries k (readdressed (entry_at w.entries k) vid mac) })
+        (pool-set_entry xs n v i s old (in_range xs n v i slot now e q lt) is_among line (ap is_some entry ∙ is_some-readdressed (entry_in old) vid mac)
+        ∙ ap (λ o. record (pool_with xs n v) { entries = set (map entry_in xs) i o }) (entry ∙ ap (λ o. readdressed o vid mac) (sym (read xs i old (in_range xs n v i slot now e q lt) is_among None))))
 
   -- it has other neighbours
   module _ (links : Links) (linked : s ≡ record old { line = links }) where
-    pub linked_free : HasFreeList a → (free : List ℕ) × IsFreeAll (set a.slots.items i s) a.free free
+    pub linked_free : IsStocked a → ((free : List ℕ) × IsFreeAll (set a.slots.items i s) a.free free) × IsWithin (length (set a.slots.items i s)) a.size (vec_capacity a.slots)
     linked_free = written_free (subst (λ (o : Option Held). IsSome o) (sym (ap entry_in linked)) held_before)
 
-    pub linked_pool : pool_with (set a.slots.items i s) a.compared.total a.visited.total ≡ record now { lines = set now.lines slot links }
+    pub linked_pool : pool_with (all_slots a.size (set a.slots.items i s)) a.compared.total a.visited.total ≡ record now { lines = set now.lines slot links }
     linked_pool =
-        ap (λ (x : Slot). pool_with (set xs i x) n v) linked
+        as_written
+        ∙ ap (λ (x : Slot). pool_with (set xs i x) n v) linked
         ∙ forth xs n v i slot now e q (λ w k. pool_with (set xs i (record old { line = links })) n v ≡ record w { lines = set w.lines k links })
-        (pool-set_links xs n v i links old (in_range xs n v i slot now e q lt) is held_before)
+        (pool-set_links xs n v i links old (in_range xs n v i slot now e q lt) is_among held_before)
 
 -- a slot that an entry takes, and one that it leaves
 pub pool-taken : (xs : List Slot) (n v i : ℕ) (s : Slot) (e : Held) → entry_in s ≡ Some e → s.line ≡ alone → pool_with (set xs i s) n v ≡ taken (pool_with xs n v) i e
@@ -247,11 +322,6 @@ pub pool-freed : (xs : List Slot) (n v i : ℕ) (s : Slot) → entry_in s ≡ No
 pool-freed xs n v i s entry =
     pool-set xs n v i s
     ∙ same_pool n v (ap (set (map entry_in xs) i) entry) (ap (set (map line_of xs) i) (ap (λ o. cond (is_some o) s.line alone) entry))
-
--- what the free list says where a slot is taken
-pub not_empty : (xs : List Slot) (f : Option ℕ) (is : List ℕ) → IsFreeAll xs f is → 0 < free_count (map entry_in xs) → f ≡ None → ⊥
-not_empty xs f [] h pos none = omega (arith, h.all)
-not_empty xs f (i ∷ is) h pos none = let e : Some i ≡ None = sym h.list.0 ∙ none in cc
 
 -- the free list with its first slot apart
 pub record TakesFirst (xs : List Slot) (i : ℕ) : Type 0 where
@@ -267,50 +337,47 @@ first_taken xs f i (j ∷ is) h e =
     unwrap_ap : (j i : ℕ) → ◌≡◌ {A = Option ℕ} (Some j) (Some i) → j ≡ i
     unwrap_ap j i e = cc
 
--- ---- new slots
+-- ---- slots that are made
 
--- a free slot, with another behind it on the free list
-pub record IsVacant (s : Slot) (next : Option ℕ) : Type 0 where
-  pub entry : entry_in s ≡ None
-  pub next_is : s.line.next ≡ next
+each_alike : {A B : Type 0} (f : A → B) (n : ℕ) (x : A) → map f (replicate n x) ≡ replicate n (f x)
+each_alike f zero x = refl
+each_alike f (suc n) x = ap (λ ys. f x ∷ ys) (each_alike f n x)
 
-pub pool-push : (xs : List Slot) (n : ℕ) (s : Slot) (next : Option ℕ) → IsVacant s next → pool_with xs 0 0 ≡ free_pool n → pool_with (xs ++ s ∷ []) 0 0 ≡ free_pool (n + 1)
-pool-push xs n s next is e =
-    same_pool 0 0
-    (map-append entry_in xs (s ∷ []) ∙ ap (λ o. map entry_in xs ++ o ∷ []) is.entry ∙ ap (λ (p : Pool). p.entries ++ None ∷ []) e ∙ replicate-append-replicate n 1 None)
-    (map-append line_of xs (s ∷ []) ∙ ap (λ o. map line_of xs ++ cond (is_some o) s.line alone ∷ []) is.entry ∙ ap (λ (p : Pool). p.lines ++ alone ∷ []) e ∙ replicate-append-replicate n 1 alone)
+-- none was made yet
+pub none_made : (size compared visited : ℕ) → pool_with (all_slots size []) compared visited ≡ record { entries = replicate size None; lines = replicate size alone; compared = compared; visited = visited }
+none_made size compared visited =
+    let whole : size - 0 ≡ size = omega arith in
+    ap (λ k. pool_with (replicate k no_slot) compared visited) whole ∙ same_pool compared visited (each_alike entry_in size no_slot) (each_alike line_of size no_slot)
 
--- the free list is of slots that are there
-free_absent : (xs : List Slot) (is : List ℕ) (f : Option ℕ) → IsFreeList xs f is → IsAbsent (length xs) is
-free_absent xs [] f h = tt
-free_absent xs (j ∷ is) f h = (λ e. omega (arith, h.1, e), free_absent xs is _ h.4)
+-- where no slot that was made is free, there is room for another one
+pub has_room : (size : ℕ) (xs : List Slot) (f : Option ℕ) (is : List ℕ) → IsFreeAll xs f is → f ≡ None → 0 < free_count (map entry_in (all_slots size xs)) → length xs < size
+has_room size xs f [] h none pos = omega (arith, h.all, free_of_all size xs, pos)
+has_room size xs f (i ∷ is) h none pos = let e : Some i ≡ None = sym h.list.0 ∙ none in cc
 
--- more slots behind leave it
-free_behind : (xs ys : List Slot) (is : List ℕ) (f : Option ℕ) → IsFreeList xs f is → IsFreeList (xs ++ ys) f is
-free_behind xs ys [] f h = h
-free_behind xs ys (j ∷ is) f h =
-    let at_j : get_or (xs ++ ys) j no_slot ≡ get_or xs j no_slot = get_or-append xs ys no_slot j h.1 in (
-      h.0,
-      omega (arith, h.1, length-append xs ys),
-      ap entry_in at_j ∙ h.2,
-      h.3,
-      subst (λ (o : Option ℕ). IsFreeList (xs ++ ys) o is) (ap (λ (t : Slot). t.line.next) (sym at_j)) (free_behind xs ys is _ h.4),
+-- a free slot that was made is one of all, and so is the next one that is made
+pub free_in_all : (size : ℕ) (xs : List Slot) (i : ℕ) → i < length xs → entry_in (get_or xs i no_slot) ≡ None → (i < length (map entry_in (all_slots size xs))) × (entry_at (map entry_in (all_slots size xs)) i ≡ None)
+free_in_all size xs i lt none =
+    let every = all_slots size xs in
+    let within : i < length every = omega (arith, lt, length-append xs (replicate (size - length xs) no_slot)) in (
+      subst (λ k. i < k) (sym (length-map every entry_in)) within,
+      get_or-map entry_in every i no_slot None within ∙ ap entry_in (none_behind xs (size - length xs) i) ∙ none,
     )
 
-pub frees-push : (xs : List Slot) (n : ℕ) (s : Slot) (f : Option ℕ) (is : List ℕ) → IsVacant s f → length xs ≡ n → n < 65536 → IsFreeAll xs f is → IsFreeAll (xs ++ s ∷ []) (Some n) (n ∷ is)
-frees-push xs n s f is vacant size below h =
-    let at_n : get_or (xs ++ s ∷ []) n no_slot ≡ s = get_or_push xs s no_slot n size in
-    record {
-      list = (
-        refl,
-        omega (arith, size, length-append xs (s ∷ [])),
-        ap entry_in at_n ∙ vacant.entry,
-        subst (λ k. IsAbsent k is) size (free_absent xs is f h.list),
-        subst (λ (o : Option ℕ). IsFreeList (xs ++ s ∷ []) o is) (sym (ap (λ (t : Slot). t.line.next) at_n ∙ vacant.next_is)) (free_behind xs (s ∷ []) is f h.list),
-      );
-      all = omega (arith, h.all, ap free_count (map-append entry_in xs (s ∷ [])), ap (λ o. free_count (o ∷ [])) vacant.entry, sum_by-append vacancy (map entry_in xs) (entry_in s ∷ []));
-      few = omega (arith, size, below, length-append xs (s ∷ []));
-    }
+pub next_in_all : (size : ℕ) (xs : List Slot) → length xs < size → (length xs < length (map entry_in (all_slots size xs))) × (entry_at (map entry_in (all_slots size xs)) (length xs) ≡ None)
+next_in_all size xs lt =
+    let every = all_slots size xs in
+    let within : length xs < length every = omega (arith, lt, length-append xs (replicate (size - length xs) no_slot), length-replicate (size - length xs) no_slot) in (
+      subst (λ k. length xs < k) (sym (length-map every entry_in)) within,
+      get_or-map entry_in every (length xs) no_slot None within ∙ ap entry_in (none_behind xs (size - length xs) (length xs) ∙ get_or_past xs (length xs) no_slot (omega arith)),
+    )
+
+-- one more leaves none free
+pub frees_none : (xs : List Slot) (s : Slot) (f : Option ℕ) (is : List ℕ) → IsFreeAll xs f is → f ≡ None → IsSome (entry_in s) → IsFreeAll (xs ++ s ∷ []) f []
+frees_none xs s f [] h none some = record {
+  list = none;
+  all = omega (arith, h.all, ap free_count (map-append entry_in xs (s ∷ [])), sum_by-append vacancy (map entry_in xs) (entry_in s ∷ []), vacancy_some xs (entry_in s) some);
+}
+frees_none xs s f (i ∷ is) h none some = let e : Some i ≡ None = sym h.list.0 ∙ none in cc
 
 -- the fields of a slot with another address
 pub readdressed_entry : (kind : Kind) (key new last : ℕ) (place : Place) (vid : ℕ) (mac : List ℕ) → IsSome (entry_by kind key last place) → vid_in new ≡ vid → mac_in new ≡ mac → entry_by kind new last place ≡ readdressed (entry_by kind key last place) vid mac
@@ -328,3 +395,12 @@ pub key_held : (kind : Kind) (key last : ℕ) (place : Place) → IsSome (entry_
 key_held kind.Free key last place h = cc
 key_held kind.Learned key last place h = (refl, refl)
 key_held kind.Fixed key last place h = (refl, refl)
+
+-- what is so of a slot's place is so of that of its entry
+pub of_place : (P : Place → Type 0) (s : Slot) → P s.place → IfSome (entry_in s) (λ e. P e.place)
+of_place P s h = from s.kind
+  where
+    from : (k : Kind) → IfSome (entry_by k s.key s.last s.place) (λ e. P e.place)
+    from kind.Free = tt
+    from kind.Learned = h
+    from kind.Fixed = h

@@ -1,5 +1,5 @@
 -- How a thread changes where a slot leaves it or joins it, and an entry changes.
-use Rattle.std.proofs.Common.{inl, inr, ◌⊎◌, ◌≡◌, ℕ, ◌+◌, ◌<◌, ◌≤◌, Bool, true, false, cond, List, [], ◌∷◌, ◌++◌, length, set, Option, Some, None, is_none, nat_eq, refl, sym, ap, ◌∙◌, subst, arith, length-append}
+use Rattle.std.proofs.Common.{inl, inr, ◌⊎◌, ◌≡◌, ℕ, ◌+◌, ◌<◌, ◌≤◌, Bool, true, false, cond, List, [], ◌∷◌, ◌++◌, length, set, Option, Some, None, IsSome, is_none, nat_eq, refl, sym, ap, ◌∙◌, subst, arith, length-append}
 use Rattle.std.proofs.lemmas.List.{get_or-set_same, get_or-set_other, length-set, get_or_past, set-set}
 use Rattle.std.proofs.lemmas.List.Sums.{sum_by-set}
 use Rattle.std.proofs.lemmas.Bool.{cases_lt}
@@ -7,7 +7,8 @@ use Rattle.std.specs.List.{sum_by}
 use Rattle.shared_tables.specs.declared.links.Links.{Links}
 use Rattle.shared_tables.specs.Pool.{Held}
 use Rattle.shared_tables.specs.Pool.{links_at, entry_at, alone}
-use Rattle.shared_tables.specs.Threads.{next_set, unlinked, pushed_back, ends_without, ends_with}
+use Rattle.shared_tables.specs.Shared.{line_key}
+use Rattle.shared_tables.specs.Threads.{IsHeld, next_set, unlinked, pushed_back, ends_without, ends_with}
 use Rattle.shared_tables.specs.Line.{first_of, last_of, IsLinked, is_on, IsApart, weight, IsThread}
 use Rattle.shared_tables.proofs.Linked.{by_bool, equal, IsOff, own_links, unlinked_linked, off_without, apart_without, is_on-without, linked_frame, linked_join, linked_next, next_frame, last_in, last_of-cons, last_of-append, last_on, first_on, on_behind, apart_push, is_on-push, nat_eq_refl}
 
@@ -134,3 +135,11 @@ back_frame links s l is js e off apart h =
 -- what stood in a slot that is put on a thread doesn't matter
 pub back_over : (links : List Links) (s : ℕ) (l : Option ℕ) (x : Links) → pushed_back (set links s x) l s ≡ pushed_back links l s
 back_over links s l x = ap (λ ls. next_set ls l (Some s)) (set-set links s x (record { previous = l; next = None }))
+
+-- a slot on a line holds an entry
+pub on_line_held : (v : ℕ) (fixed : Bool) (es : List (Option Held)) (s : ℕ) → line_key v fixed (entry_at es s) ≡ true → IsHeld es s
+on_line_held v fixed es s h = record { in_pool = in_entries (line_key v fixed) refl es s h; held = from (entry_at es s) h }
+  where
+    from : (o : Option Held) → line_key v fixed o ≡ true → IsSome o
+    from None h = let bad : true ≡ false = sym h in cc
+    from (Some e) h = refl

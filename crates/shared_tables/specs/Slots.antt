@@ -1,5 +1,5 @@
 -- What the slots stand for, and their free list. It serves proofs.
-use Rattle.std.specs.Prelude.{◌≡◌, ◌≢◌, ℕ, ◌<◌, ◌≤◌, List, [], ◌∷◌, length, map, Option, Some, None, slice_index_or, is_some, if◌then◌else◌}
+use Rattle.std.specs.Prelude.{◌≡◌, ◌≢◌, ℕ, ◌-◌, ◌<◌, ◌≤◌, List, [], ◌∷◌, ◌++◌, length, map, replicate, Option, Some, None, slice_index_or, is_some, if◌then◌else◌, vec_capacity}
 use Rattle.filter_db.specs.declared.place.Place.{Place}
 use Rattle.filter_db.specs.Place.{no_place}
 use Rattle.shared_tables.specs.declared.slots.Slot.{Slot}
@@ -43,13 +43,17 @@ pool_with slots compared visited = record {
   visited = visited;
 }
 
--- the value that contracts see
-abbrev pub pool_of : Inside → Pool
-pool_of a = pool_with a.slots.items a.compared.total a.visited.total
-
 -- a slot that stands for none
 abbrev pub no_slot : Slot
 no_slot = record { key = 0; last = 0; line = alone; place = no_place; kind = kind.Free }
+
+-- the slots of a pool: those that were made, and behind them those that aren't there yet, which are free
+abbrev pub all_slots : ℕ → List Slot → List Slot
+all_slots size slots = slots ++ replicate (size - length slots) no_slot
+
+-- the value that contracts see
+abbrev pub pool_of : Inside → Pool
+pool_of a = pool_with (all_slots a.size a.slots.items) a.compared.total a.visited.total
 
 -- the slot isn't on the list
 abbrev pub IsAbsent : ℕ → List ℕ → Type 0
@@ -63,12 +67,21 @@ IsFreeList slots first (i ∷ is) =
     (first ≡ Some i) × (i < length slots) × (entry_in (slice_index_or slots i no_slot) ≡ None) × IsAbsent i is
     × IsFreeList slots (slice_index_or slots i no_slot).line.next is
 
--- the free list has each free slot, of at most 65,536 slots
+-- the free list has each free slot
 pub record IsFreeAll (slots : List Slot) (first : Option ℕ) (is : List ℕ) : Type 0 where
   pub list : IsFreeList slots first is
   pub all : length is ≡ free_count (map entry_in slots)
-  pub few : length slots ≤ 65536
 
--- the free slots are on the free list
+-- the free ones of the slots that were made are on the free list
 abbrev pub HasFreeList : Inside → Type 0
 HasFreeList a = (is : List ℕ) × IsFreeAll a.slots.items a.free is
+
+-- so many slots were made, of so many, at most 65,536, for which there is room
+pub record IsWithin (made size room : ℕ) : Type 0 where
+  pub within : made ≤ size
+  pub few : size ≤ 65536
+  pub fits : size ≤ room
+
+-- the slots that were made, and their free list
+abbrev pub IsStocked : Inside → Type 0
+IsStocked a = HasFreeList a × IsWithin (length a.slots.items) a.size (vec_capacity a.slots)

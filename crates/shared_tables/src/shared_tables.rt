@@ -275,7 +275,7 @@ impl SharedTables {
 
     /// Whether a slot's entry is dead. The ageing is in nanoseconds.
     pub(crate) fn dead(&mut self, slot: SlotId, ageing: u64) -> bool
-        requires { slot < length self.old.entries }
+        requires { IsHeld self.old.entries slot }
         ensures dead { result ≡ is_dead_in (entry_at self.old.entries slot) ageing self.old.moment }
         ensures same { self.new ≡ record self.old { visited = self.old.visited + 1 } }
     {
@@ -296,7 +296,7 @@ impl SharedTables {
 
     /// Whether a slot's entry is fixed.
     pub(crate) fn is_fixed(&self, slot: SlotId) -> bool
-        requires { slot < length self.now.entries }
+        requires { IsHeld self.now.entries slot }
         ensures { result ≡ is_fixed_in (entry_at self.now.entries slot) }
     {
         self.slots.is_fixed(slot)

@@ -43,10 +43,14 @@ pub struct Slot {
     kind: Kind,
 }
 
-/// The slots of a pool, and the free ones among them.
+/// The slots of a pool. One is made when an entry takes it for the first time; those that were never taken aren't there
+/// yet, and their room is reserved.
 #[derive(Drop)]
 pub struct Slots {
+    /// Those that were made.
     slots: Vec<Slot>,
+    /// How many the pool has, with those that aren't there yet.
+    size: u32,
     /// The first slot of the free list: the one that was freed last.
     free: Link,
     /// How often an address was compared with a slot's, or sent on by a fork.
@@ -60,11 +64,11 @@ impl Model for Slots {
 
     ghost Value = { Pool };
 
-    ghost use Rattle.shared_tables.specs.Slots.{pool_of, HasFreeList};
+    ghost use Rattle.shared_tables.specs.Slots.{pool_of, IsStocked};
 
     ghost view = { pool_of };
 
-    ghost invariant = { HasFreeList };
+    ghost invariant = { IsStocked };
 }
 
 /// The kind of an entry that was last seen at this moment.
@@ -161,6 +165,21 @@ fn fill(slot: &mut Slot, vid: Vid, mac: &Mac, place: &Place, last: Option<u64>)
     slot.kind = kind_of(last);
 }
 
+/// A slot with an entry in it, on no line yet.
+#[inline(always)]
+fn filled(vid: Vid, mac: &Mac, place: &Place, last: Option<u64>) -> Slot
+    ensures entry { entry_in result ≡ Some (record { vid = vid; mac = mac.now; place = place.now; last = last }) }
+    ensures line { result.line ≡ alone }
+{
+    Slot {
+        key: key(vid, *mac),
+        last: last.unwrap_or(0),
+        line: ALONE,
+        place: *place,
+        kind: kind_of(last),
+    }
+}
+
 /// Gives its entry, which was learned, another last moment.
 fn see(slot: &mut Slot, last: u64)
     requires held { IsSome (entry_in slot.old) }
@@ -203,20 +222,16 @@ fn links_on(slot: &Slot) -> Links
 }
 
 impl Slots {
-    /// As many free slots as this, at most 65,536. `AllocError`: the growth was refused.
+    /// As many free slots as this, at most 65,536: room for them. `AllocError`: the growth was refused.
     pub fn new(alloc: Global, size: u32) -> Result<Slots, AllocError>
         requires { size ≤ 65536 }
         ensures { IfOk result (λ p. p ≡ free_pool size) }
     {
-        let mut slots = Vec::with_capacity(alloc, size as usize)?;
-        let mut free = Link::NONE;
-        for number in 0..size {
-            slots.push_reserved(vacant(free));
-            free = Link::to(SlotId { number });
-        }
+        let slots = Vec::with_capacity(alloc, size as usize)?;
         Ok(Slots {
             slots,
-            free,
+            size,
+            free: Link::NONE,
             compared: Count::zero(),
             visited: Count::zero(),
         })
@@ -226,7 +241,7 @@ impl Slots {
     pub fn size(&self) -> u32
         ensures { result ≡ length self.now.entries }
     {
-        self.slots.len() as u32
+        self.size
     }
 
     /// Whether a slot holds this address of this segment. It is the only way to find an address in a slot but for a listing.
@@ -244,6 +259,7 @@ impl Slots {
     /// for a listing.
     pub fn dead(&mut self, slot: SlotId, ageing: u64, now: u64) -> bool
         requires in_pool { slot < length self.old.entries }
+        requires held { IsSome (entry_at self.old.entries slot) }
         ensures dead { result ≡ is_dead_in (entry_at self.old.entries slot) ageing now }
         ensures pool { self.new ≡ record self.old { visited = self.old.visited + 1 } }
     {
@@ -281,6 +297,7 @@ impl Slots {
     /// Whether a slot holds a fixed entry.
     pub fn is_fixed(&self, slot: SlotId) -> bool
         requires in_pool { slot < length self.now.entries }
+        requires held { IsSome (entry_at self.now.entries slot) }
         ensures { result ≡ is_fixed_in (entry_at self.now.entries slot) }
     {
         is_fixed(&self.slots[slot.number as usize])
@@ -299,6 +316,7 @@ impl Slots {
     /// Where the slot's entry stands.
     pub fn place(&self, slot: SlotId) -> Place
         requires in_pool { slot < length self.now.entries }
+        requires held { IsSome (entry_at self.now.entries slot) }
         ensures { IfSome (entry_at self.now.entries slot) (λ e. result ≡ e.place) }
     {
         self.slots[slot.number as usize].place
@@ -308,6 +326,7 @@ impl Slots {
     #[inline(always)]
     pub fn stands_at(&self, slot: SlotId, place: &Place) -> bool
         requires in_pool { slot < length self.now.entries }
+        requires held { IsSome (entry_at self.now.entries slot) }
         ensures { IfSome (entry_at self.now.entries slot) (λ e. result ≡ same_place e.place place.now) }
     {
         self.slots[slot.number as usize].place.is_same(*place)
@@ -333,7 +352,7 @@ impl Slots {
         set_link(&mut self.slots[slot.number as usize], side, link);
     }
 
-    /// Takes a free slot for an entry.
+    /// Takes a free slot for an entry: one that was freed, or else one that wasn't taken yet.
     pub fn take(&mut self, vid: Vid, mac: &Mac, place: &Place, last: Option<u64>) -> SlotId
         requires { 0 < free_count self.old.entries }
         ensures free { (result < length self.old.entries) × (entry_at self.old.entries result ≡ None) }
@@ -345,7 +364,13 @@ impl Slots {
                 fill(&mut self.slots[slot.number as usize], vid, mac, place, last);
                 slot
             }
-            None => unreachable!(),
+            None => {
+                let slot = SlotId {
+                    number: self.slots.len() as u32,
+                };
+                self.slots.push_reserved(filled(vid, mac, place, last));
+                slot
+            }
         }
     }
 

@@ -1,5 +1,5 @@
 //! The live entries of a segment, listed.
-ghost use Rattle.std.specs.Prelude.{◌≡◌, ◌<◌, IfSome, length};
+ghost use Rattle.std.specs.Prelude.{◌≡◌, ◌<◌, IfSome, IsSome, length};
 ghost use Rattle.shared_tables.specs.Pool.{entry_at};
 ghost use Rattle.shared_tables.specs.Slots.{entry_in};
 ghost use Rattle.shared_tables.specs.Listing.{IsAddress, live_row};
@@ -14,7 +14,8 @@ impl Slots {
     /// What a slot holds with its address, if that is of the segment, and live at a moment under an ageing in nanoseconds.
     /// What is told here isn't counted.
     pub fn live_row(&self, slot: SlotId, vid: Vid, ageing: u64, now: u64) -> Option<(Mac, Entry)>
-        requires { slot < length self.now.entries }
+        requires in_pool { slot < length self.now.entries }
+        requires held { IsSome (entry_at self.now.entries slot) }
         ensures row { result ≡ live_row vid ageing now (entry_at self.now.entries slot) }
         ensures addressed { IfSome result (λ row. IsAddress row.0) }
     {

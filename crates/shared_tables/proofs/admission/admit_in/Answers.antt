@@ -8,7 +8,7 @@ use Rattle.shared_tables.specs.Admission.{held_of}
 use Rattle.shared_tables.proofs.SoundLemmas.{share_read, has_share}
 use Rattle.shared_tables.proofs.Sweeping.{of_ages}
 use Rattle.shared_tables.proofs.Dropping.{stays, drop_room}
-use Rattle.shared_tables.proofs.Admissions.{has_room, span_here, refuses_none, refuses_live, is_oldest, oldest_lt}
+use Rattle.shared_tables.proofs.Admissions.{has_room, span_here, refuses_none, refuses_live, is_oldest, oldest_held}
 use Rattle.shared_tables.proofs.admission.admit_in.Goals as goal
 
 here : (shares now : List (Option Share)) (v : ℕ) (o : Option Share) (share : Share) → now ≡ shares → o ≡ share_at now v → o ≡ Some share → share_at shares v ≡ Some share
@@ -37,7 +37,7 @@ returns-in_default-slot-clause-comes c = λ calls.
 pub dead-requires : goal.dead-requires
 dead-requires c =
     let v = c.args.newcomer.now.vid in let shares = c.args.shares.now.items in
-    record { in_pool = oldest_lt c.args.slots.now shares c.args.moment v c.requires.whole.sound c.in-Some.share (here shares _ v c.share_at.result c.in-Some.share c.deref.ensures.value c.share_at.ensures c.in-Some.is) c.in-Some-slot.oldest (sym c.slot.ensures ∙ c.in-Some-slot.is) }
+    let held = oldest_held c.args.slots.now shares c.args.moment v c.requires.whole.sound c.in-Some.share (here shares _ v c.share_at.result c.in-Some.share c.deref.ensures.value c.share_at.ensures c.in-Some.is) c.in-Some-slot.oldest (sym c.slot.ensures ∙ c.in-Some-slot.is) in record { in_pool = held.in_pool; held = held.held }
 
 pub returns-then-not-dead-clause-comes : goal.returns-then-not-dead-clause-comes
 returns-then-not-dead-clause-comes c = λ calls.

@@ -1,4 +1,4 @@
-use Rattle.std.proofs.Common.{◌≡◌, ◌+◌, ◌<◌, length, slice_set, subst, sym, ap}
+use Rattle.std.proofs.Common.{◌≡◌, ◌+◌, ◌<◌, length, slice_set, subst, sym}
 use Rattle.shared_tables.specs.Woods.{Woods}
 use Rattle.shared_tables.proofs.ColumnsLemmas.{split, spare_set}
 use Rattle.shared_tables.proofs.columns.Columns.set_spare.Goals as goal

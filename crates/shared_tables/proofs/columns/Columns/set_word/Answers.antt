@@ -1,4 +1,4 @@
-use Rattle.std.proofs.Common.{◌≡◌, ◌+◌, ◌<◌, length, slice_set, subst, sym, ap}
+use Rattle.std.proofs.Common.{◌≡◌, ◌<◌, length, slice_set, subst, sym}
 use Rattle.shared_tables.specs.Woods.{Woods}
 use Rattle.shared_tables.proofs.ColumnsLemmas.{split, word_set}
 use Rattle.shared_tables.proofs.columns.Columns.set_word.Goals as goal

@@ -30,7 +30,8 @@ pub place-requires : goal.place-requires
 place-requires c =
     let now = c.loop-entry.self-inside in let slot = c.in-Some-slot.slot in let count = c.in-Some.share.count in
     let w = subst (λ (o : Option ℕ). Passes c.self.inside.slots now.slots now.forest c.self.inside.shares.items now.shares.items now.moment c.args.vid c.args.place o c.loop-entry._entry count) (sym c.slot.ensures ∙ c.in-Some-slot.is) c.loop-entry.invariant.passes in
-    record { in_pool = (pass_held c.self.inside.slots now.slots now.forest c.self.inside.shares.items now.shares.items now.moment c.args.vid c.args.place slot c.loop-entry._entry count w).in_pool }
+    let held = pass_held c.self.inside.slots now.slots now.forest c.self.inside.shares.items now.shares.items now.moment c.args.vid c.args.place slot c.loop-entry._entry count w in
+    record { in_pool = held.in_pool; held = held.held }
 
 pub drop_entry-requires : goal.drop_entry-requires
 drop_entry-requires c =

@@ -11,7 +11,8 @@ loop-entry-init c =
 pub live_row-requires : goal.live_row-requires
 live_row-requires c =
     let w = subst (λ (o : Option ℕ). Lists c.args.slots.now.entries c.args.slots.now.lines c.args.vid c.args.fixed (c.from-ageing.result * 1000000000) c.args.now c.args.rows.now.items c.loop-entry.rows.items o c.loop-entry._entry c.args.share.now.count) (sym c.slot.ensures ∙ c.in-Some.is) c.loop-entry.invariant in
-    (list_held c.args.slots.now.entries c.args.slots.now.lines c.args.vid c.args.fixed _ c.args.now c.args.rows.now.items c.loop-entry.rows.items c.in-Some.slot c.loop-entry._entry c.args.share.now.count w).in_pool
+    let h = list_held c.args.slots.now.entries c.args.slots.now.lines c.args.vid c.args.fixed _ c.args.now c.args.rows.now.items c.loop-entry.rows.items c.in-Some.slot c.loop-entry._entry c.args.share.now.count w in
+    record { in_pool = h.in_pool; held = h.held }
 
 pub links-cursor-requires : goal.links-cursor-requires
 links-cursor-requires c =

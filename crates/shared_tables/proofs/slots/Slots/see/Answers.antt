@@ -1,8 +1,14 @@
-use Rattle.std.proofs.Common.{set, Some, ap, ◌∙◌}
+use Rattle.std.proofs.Common.{set, Some, ap, ◌∙◌, arith}
 use Rattle.filter_db.specs.declared.place.Place.{Place}
-use Rattle.shared_tables.specs.Pool.{entry_at, renewed}
-use Rattle.shared_tables.proofs.SlotsLemmas.{renewed_free, renewed_pool, place_read}
+use Rattle.shared_tables.specs.Pool.{entry_at, is_fixed_in, renewed}
+use Rattle.shared_tables.proofs.SlotsLemmas.{made, own_entry, own_some, renewed_free, renewed_pool, place_read}
 use Rattle.shared_tables.proofs.slots.Slots.see.Goals as goal
+
+pub index_mut-requires : goal.index_mut-requires
+index_mut-requires c = omega (arith, made c.self.inside _ _ _ c.self.view_is c.slot.view_is c.requires.in_pool c.requires.held, c.self.inside.slots.ok.0)
+
+pub see-requires : goal.see-requires
+see-requires c = record { held = own_some c.self.inside _ _ _ c.self.view_is c.slot.view_is c.requires.in_pool c.requires.held c.index_mut.result.now c.index_mut.ensures.value; learned = ap is_fixed_in (own_entry c.self.inside _ _ _ c.self.view_is c.slot.view_is c.requires.in_pool c.requires.held c.index_mut.result.now c.index_mut.ensures.value) ∙ c.requires.learned }
 
 pub invariant_of-self : goal.invariant_of-self
 invariant_of-self c =

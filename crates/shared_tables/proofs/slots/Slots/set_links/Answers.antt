@@ -1,5 +1,9 @@
-use Rattle.shared_tables.proofs.SlotsLemmas.{linked_free, linked_pool}
+use Rattle.std.proofs.Common.{arith}
+use Rattle.shared_tables.proofs.SlotsLemmas.{made, linked_free, linked_pool}
 use Rattle.shared_tables.proofs.slots.Slots.set_links.Goals as goal
+
+pub index_mut-requires : goal.index_mut-requires
+index_mut-requires c = omega (arith, made c.self.inside _ _ _ c.self.view_is c.slot.view_is c.requires.in_pool c.requires.held, c.self.inside.slots.ok.0)
 
 pub invariant_of-self : goal.invariant_of-self
 invariant_of-self c =

@@ -55,6 +55,11 @@ remote_text S vid kind a f =
 abbrev pub sending : Overlay → ℕ → Tunnel → Addr → Frame → Result (List ℕ) Reason
 sending S vid kind a f = elim (admits S vid a f) [ Some reason ↦ Err reason | None ↦ Ok (remote_text S vid kind a f) ]
 
+-- how many octets a result has, where it has any
+abbrev pub sizes : Result (List ℕ) Reason → Result ℕ Reason
+sizes (Ok octets) = Ok (length octets)
+sizes (Err reason) = Err reason
+
 -- ---- in parts
 
 -- what stands before the end of a text

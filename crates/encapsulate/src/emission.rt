@@ -1,5 +1,5 @@
 //! What leaves at one outlet.
-ghost use Rattle.std.specs.Prelude.{◌≡◌, ◌<◌, ◌≤◌, ◌⊎◌, ◌+◌, ◌++◌, [], ◌∷◌, map, length, unwrap_or, OnOk, OnErr};
+ghost use Rattle.std.specs.Prelude.{◌≡◌, ◌<◌, ◌≤◌, ◌⊎◌, ◌+◌, ◌++◌, ℕ, [], ◌∷◌, map, length, unwrap_or, OnOk, OnErr};
 ghost use Rattle.std.specs.Prelude.{vec_len, vec_capacity};
 ghost use Rattle.std.specs.List.{concat};
 ghost use Rattle.encapsulate.specs.Emission.{no_parts, text, around, local_text, local_parts, local_tag};
@@ -10,6 +10,9 @@ use outer_head::Head;
 use std::alloc::AllocError;
 use std::marker::Model;
 use vlan_ports::Egress;
+
+/// The octets of a tag.
+const TAG: usize = 4;
 
 /// The octets that leave at one outlet, in four parts, seen by contracts as these parts. Only the head and the tag are
 /// its own; the addresses and the body are slices of the frame.
@@ -142,6 +145,17 @@ pub fn local<'a>(vid: Vid, egress: Egress, frame: &BridgeFrame<'a>) -> Emission<
         tag: local_tag(vid, egress, frame),
         body: frame.body,
     }
+}
+
+/// How many octets the frame has as it leaves at a local port of its segment.
+pub fn local_size(egress: Egress, frame: &BridgeFrame) -> usize
+    ensures { (vid : ℕ) → result ≡ length (local_text vid egress frame.now) }
+{
+    let tag = match egress {
+        Egress::Tagged => TAG,
+        Egress::Untagged => 0,
+    };
+    frame.addresses.len() + tag + frame.body.len()
 }
 
 /// The tag that a frame leaves with at a local port of its segment (IEEE 802.1Q, 8.8 and 9.6), if it leaves with one.

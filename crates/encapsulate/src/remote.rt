@@ -1,12 +1,13 @@
 //! What leaves for a remote endpoint.
-ghost use Rattle.std.specs.Prelude.{◌≡◌, ◌+◌, ◌++◌, ◌≤◌, [], IsTrue, IsNone, IfOk, is_some, length};
+ghost use Rattle.std.specs.Prelude.{◌≡◌, ◌+◌, ◌++◌, ◌≤◌, [], ℕ, List, Some, IsTrue, IsNone, IfOk, is_some, length};
 ghost use Rattle.frame_view.specs.Tag.{begins_tag};
-ghost use Rattle.flood_lists.specs.Flood.{has_family};
+ghost use Rattle.flood_lists.specs.Flood.{has_family, own_of};
 ghost use Rattle.underlay.specs.Overlay.{has_segment, tunnel_at};
 ghost use Rattle.underlay.specs.Settings.{own};
 ghost use Rattle.encapsulate.specs.Emission.{around};
-ghost use Rattle.frame_view.specs.Frame.{plain};
-ghost use Rattle.encapsulate.specs.Remote.{largest, drops_tags_at, remote_text, sending, text_behind, texts, admits};
+ghost use Rattle.frame_view.specs.Frame.{Frame, plain};
+ghost use Rattle.ip_udp_view.specs.declared.addr.Tunnel.{Tunnel};
+ghost use Rattle.encapsulate.specs.Remote.{largest, drops_tags_at, remote_text, sending, text_behind, texts, sizes, admits, packet_from};
 ghost use Rattle.encapsulate.specs.Remote.{sending_parts};
 ghost use Rattle.encapsulate.specs.Sums.{AreSums};
 
@@ -14,7 +15,7 @@ use crate::emission::Emission;
 use crate::leaving::Leaving;
 use crate::sums::FrameSums;
 use byteorder::{BigEndian, ByteOrder};
-use frame_view::{BridgeFrame, CUSTOMER_TAG, Reason, Vid};
+use frame_view::{BridgeFrame, CUSTOMER_TAG, Mac, Reason, Vid};
 use ip_udp_view::{Addr, Tunnel};
 use outer_head::Head;
 use underlay::{TagRule, Under, Underlay};
@@ -25,6 +26,12 @@ const IP4_HEADERS: u16 = 36;
 const IP6_HEADERS: u16 = 56;
 /// The octets of both MAC addresses.
 const ADDRESSES: usize = 12;
+/// The octets of an IPv4 header without its addresses.
+const IP4_FIELDS: usize = 12;
+/// The octets of an IPv6 header without its addresses.
+const IP6_FIELDS: usize = 8;
+/// The octets of the outer type, and of the UDP and tunnel headers.
+const OTHER_FIELDS: usize = 18;
 
 /// The packet that a frame of a segment is sent in to a remote endpoint, in the segment's tunnel of a kind (RFC 7348, 5;
 /// RFC 8926, 3.4). The segment is there and has such a tunnel, and the endpoint has an own address of the family. The sums
@@ -130,6 +137,49 @@ fn write_head(
             template.write(hop, dst, frame, sums.port, sum, head);
         }
     }
+}
+
+/// How many octets the packet has that a frame of a segment is sent in to a remote endpoint, in the segment's tunnel of a kind.
+/// The segment is there and has such a tunnel, and the endpoint has an own address of the family. No head is made.
+///
+/// `TooBig`, `InnerTagOut`: nothing is sent.
+pub fn packet_size(
+    under: &Under,
+    vid: Vid,
+    kind: Tunnel,
+    addr: Addr,
+    frame: &BridgeFrame,
+) -> Result<usize, Reason>
+    requires tunnel { IsTrue (is_some (tunnel_at under.now vid kind)) }
+    requires family { IsTrue (has_family (own under.now.underlay) addr) }
+    ensures { result ≡ sizes (sending under.now vid kind addr frame.now) }
+{
+    if let Some(reason) = unsent(under, vid, addr, frame) {
+        return Err(reason);
+    }
+    Ok(headers(under.settings(), addr) + ADDRESSES + frame.body.len())
+}
+
+/// The octets of the headers in front of a frame that goes to an address: an Ethernet, an IP, a UDP and a tunnel header.
+fn headers(underlay: &Underlay, addr: Addr) -> usize
+    requires { IsTrue (has_family (own underlay.now) addr) }
+    ensures few { result ≤ 70 }
+    ensures whole { (src : List ℕ) (kind : Tunnel) (vni : ℕ) (f : Frame) → own_of (own underlay.now) addr ≡ Some src
+        → length (packet_from underlay.now kind vni src addr f) ≡ result + length (plain f) }
+{
+    let macs = underlay.hop_to(addr).0.len() + own_mac(underlay).0.len();
+    let ip = match addr {
+        Addr::V4(dst) => IP4_FIELDS + underlay.ip4.unwrap().len() + dst.len(),
+        Addr::V6(dst) => IP6_FIELDS + underlay.ip6.unwrap().len() + dst.len(),
+    };
+    macs + ip + OTHER_FIELDS
+}
+
+/// The endpoint's own MAC address.
+fn own_mac(underlay: &Underlay) -> Mac
+    ensures { result ≡ underlay.now.mac }
+{
+    underlay.mac
 }
 
 /// Why a frame of a segment isn't sent to an address.

@@ -2,7 +2,7 @@
 ghost use Rattle.std.specs.Prelude.{◌≡◌, ◌≤◌, ◌++◌, [], Ok, Some, IfOk, IsSome, IsTrue, unwrap_or};
 ghost use Rattle.vlan_ports.specs.Ports.{egress_at};
 ghost use Rattle.filter_db.specs.declared.place.Place.TheVariants.{Local, Remote};
-ghost use Rattle.encapsulate.specs.Remote.{text_behind, texts};
+ghost use Rattle.encapsulate.specs.Remote.{sizes, text_behind, texts};
 ghost use Rattle.endpoint_state.specs.Held.{settings_of};
 ghost use Rattle.endpoint_state.specs.Settings.{segment_at};
 ghost use Rattle.endpoint_state.specs.Step.{can_leave};
@@ -10,7 +10,9 @@ ghost use Rattle.endpoint_core.specs.Counts.{number_sent};
 ghost use Rattle.endpoint_core.specs.Step.{sent_at, outcome_at};
 
 use crate::arrival::Came;
-use encapsulate::{Head, Leaving, local_in, local_tag, put_head, unsent, wrap_in};
+use encapsulate::{
+    Head, Leaving, local_in, local_size, local_tag, packet_size, put_head, unsent, wrap_in,
+};
 use endpoint_state::EndpointState;
 use filter_db::Place;
 use frame_view::{BridgeFrame, Reason, Vid};
@@ -39,6 +41,23 @@ pub(crate) fn emit_in<'h, 'a>(
             let under = state.under();
             let sums = came.sums();
             wrap_in(under, came.vid, kind, addr, &came.frame, &sums, room)
+        }
+    }
+}
+
+/// How many octets are sent of a frame of a segment at a place where it can leave, or why nothing is. No head is made.
+#[tactic(auto, unfolding(crate::specs::Arrival::emitted))]
+pub(crate) fn size_in(state: &EndpointState, came: &Came, place: Place) -> Result<usize, Reason>
+    requires { IsTrue (can_leave (settings_of state.now) came.now.vid place) }
+    ensures { result ≡ sizes (sent_at (settings_of state.now) came.now.vid came.now.frame place).sent }
+{
+    match place {
+        Place::Local(port) => {
+            let egress = egress_at(state, came.vid, port);
+            Ok(local_size(egress, &came.frame))
+        }
+        Place::Remote(kind, addr) => {
+            packet_size(state.under(), came.vid, kind, addr, &came.frame)
         }
     }
 }

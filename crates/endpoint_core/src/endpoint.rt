@@ -11,7 +11,7 @@ ghost use Rattle.endpoint_core.specs.Step.{sent_at, outcome_at, has_two_tunnels}
 ghost use Rattle.endpoint_core.specs.Arrival.{came_at, came_by};
 ghost use Rattle.endpoint_core.specs.Course.{decision_of, IsThere, IsShortFrame, CanLeave, IsEmptied};
 ghost use Rattle.endpoint_core.specs.Course.{AreInParts, IsOfWhatCame};
-ghost use Rattle.encapsulate.specs.Remote.{text_behind, texts};
+ghost use Rattle.encapsulate.specs.Remote.{sizes, text_behind, texts};
 ghost use Rattle.endpoint_state.specs.Settings.{segment_at};
 ghost use Rattle.endpoint_state.specs.Sound.{is_reached};
 ghost use Rattle.endpoint_state.specs.State.{aged};
@@ -20,7 +20,7 @@ ghost use Rattle.endpoint_state.specs.Step.{can_leave};
 use crate::arrival::Came;
 use crate::counts::Counts;
 use crate::decide::decide;
-use crate::emit::{emit_in, put_head_in, tag_in};
+use crate::emit::{emit_in, put_head_in, size_in, tag_in};
 use crate::{Course, Decision};
 use encapsulate::{Head, Leaving};
 use endpoint_state::{Change, ChangeFault, EndpointState};
@@ -218,6 +218,16 @@ impl Endpoint {
             result ≡ (outcome_at S came.now.vid came.now.frame place).sent }
     {
         emit_in(&self.state, came, place, room)
+    }
+
+    /// How many octets are sent of a frame at a place where it can leave, or why nothing is: TooBig or InnerTagOut. No head is
+    /// made for it.
+    pub fn size_at(&self, came: &Came, place: Place) -> Result<usize, Reason>
+        requires { IsTrue (can_leave (state_of self.now).bridges.settings came.now.vid place) }
+        ensures { let S = (state_of self.now).bridges.settings in
+            result ≡ sizes (sent_at S came.now.vid came.now.frame place).sent }
+    {
+        size_in(&self.state, came, place)
     }
 
     /// Writes the head of the packet in which a frame goes to a remote endpoint where it can leave, in its segment's tunnel of a

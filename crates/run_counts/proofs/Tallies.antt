@@ -8,8 +8,8 @@ use Rattle.std.proofs.lemmas.Grind.{common_steps, flat_map-append}
 use Rattle.std.proofs.lemmas.List.{map-append}
 use Rattle.std.proofs.lemmas.List.Elements.{filter_map-append}
 use Rattle.frame_view.specs.declared.reason.Reason.{Reason}
-use Rattle.encapsulate.specs.Emission.{Parts, text}
-use Rattle.encapsulate.specs.Remote.{texts}
+use Rattle.frame_view.proofs.FirstLemmas.{same_Ok}
+use Rattle.encapsulate.specs.Remote.{sizes}
 use Rattle.filter_db.specs.declared.place.Place.{Place}
 use Rattle.timeline.specs.declared.event.Event.{Event}
 use Rattle.timeline.specs.declared.source.Tap.{Tap}
@@ -86,12 +86,20 @@ leaving_more f places i d tap sizes l =
     ∙ ap (λ t. sizes ++ filter_map (size_to tap) t) (sym (ap (map f) (take_one places i d l) ∙ map-append f (take i places) (slice_index_or places i d ∷ [])))
 
 -- where something was sent
-pub sized : (tap : Tap) (o : Sent) (r : Result Parts Reason) (x : Parts) → r ≡ Ok x → texts r ≡ o.sent → at_tap tap (tap_of o.place) (length (text x)) ≡ size_to tap o
-sized tap o r x is sent = ap (λ s. size_to tap (record { place = o.place; sent = s })) (sym (ap texts is) ∙ sent)
+pub sized : (tap : Tap) (o : Sent) (r : Result ℕ Reason) (size : ℕ) → r ≡ Ok size → r ≡ sizes o.sent → at_tap tap (tap_of o.place) size ≡ size_to tap o
+sized tap o r size is sent = by o.sent (sym is ∙ sent)
+  where
+    by : (s : Result (List ℕ) Reason) → Ok size ≡ sizes s → at_tap tap (tap_of o.place) size ≡ size_to tap (record { place = o.place; sent = s })
+    by (Ok octets) e = ap (at_tap tap (tap_of o.place)) (same_Ok size (length octets) e)
+    by (Err reason) e = absurd cc
 
 -- and where nothing was
-pub unsized : (tap : Tap) (o : Sent) (r : Result Parts Reason) (reason : Reason) → r ≡ Err reason → texts r ≡ o.sent → None ≡ size_to tap o
-unsized tap o r reason is sent = ap (λ s. size_to tap (record { place = o.place; sent = s })) (sym (ap texts is) ∙ sent)
+pub unsized : (tap : Tap) (o : Sent) (r : Result ℕ Reason) (reason : Reason) → r ≡ Err reason → r ≡ sizes o.sent → None ≡ size_to tap o
+unsized tap o r reason is sent = by o.sent (sym is ∙ sent)
+  where
+    by : (s : Result (List ℕ) Reason) → Err reason ≡ sizes s → None ≡ size_to tap (record { place = o.place; sent = s })
+    by (Ok octets) e = absurd cc
+    by (Err other) e = refl
 
 pub leaves_one : (f : Place → Sent) (places : List Place) (i : ℕ) (d : Place) (tap here : Tap) (sizes : List ℕ) (size : ℕ) (old new : Flows) → i < length places
     → flow_in old tap ≡ flow_of (sizes ++ filter_map (size_to tap) (map f (take i places)))

@@ -15,7 +15,6 @@ ghost use Rattle.run_counts.specs.Totals.{flow_of, size_to, tap_of, totals_of};
 use crate::flow::{Flow, Flows};
 use crate::lines::{put_changes, put_cuts, put_places, put_segments};
 use crate::refusals::{Refusals, add_refusal, none_refused};
-use encapsulate::Head;
 use endpoint_core::{Came, ChangeFault, Course, Endpoint};
 use filter_db::Place;
 use std::alloc::{AllocError, Global};
@@ -31,8 +30,6 @@ pub struct RunCounts {
     came: Flows,
     left: Flows,
     refused: Refusals,
-    /// What is lent to each emission, which is only measured.
-    head: Head,
     text: String,
     is_lost: bool,
 }
@@ -58,7 +55,6 @@ impl RunCounts {
             came: Flows::none(),
             left: Flows::none(),
             refused: none_refused(),
-            head: Head::new(),
             text: String::new(alloc),
             is_lost: false,
         }
@@ -134,7 +130,7 @@ impl RunCounts {
         ensures { Hears self.old (Decided (decision_of (state_of endpoint.now).bridges.settings course.now places.now)) self.new }
     {
         if let Ok(came) = course {
-            add_leaving(&mut self.left, &mut self.head, endpoint, came, places);
+            add_leaving(&mut self.left, endpoint, came, places);
         }
     }
 
@@ -160,13 +156,7 @@ impl RunCounts {
 }
 
 /// Counts what leaves of a frame at each of these places.
-fn add_leaving(
-    flows: &mut Flows,
-    head: &mut Head,
-    endpoint: &Endpoint,
-    came: &Came,
-    places: &[Place],
-)
+fn add_leaving(flows: &mut Flows, endpoint: &Endpoint, came: &Came, places: &[Place])
     requires there { IsSome (segment_at (state_of endpoint.now).bridges.settings came.now.vid) }
     requires leave { IsTrue (list_all (can_leave (state_of endpoint.now).bridges.settings came.now.vid) places.now) }
     ensures { let S = (state_of endpoint.now).bridges.settings in
@@ -174,8 +164,8 @@ fn add_leaving(
         → flow_in flows.new tap ≡ flow_of (sizes ++ filter_map (size_to tap) (map (sent_at S came.now.vid came.now.frame) places.now)) }
 {
     for place in places {
-        if let Ok(leaving) = endpoint.emit(came, *place, head) {
-            flows.add(tap_of(*place), leaving.len());
+        if let Ok(size) = endpoint.size_at(came, *place) {
+            flows.add(tap_of(*place), size);
         }
     }
 }

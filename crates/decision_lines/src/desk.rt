@@ -51,7 +51,7 @@ impl Desk {
             Ok(came) => {
                 self.line.begin(&self.number, event, Some(came.segment()));
                 self.line
-                    .put_outcomes(endpoint, came, self.places.as_slice(), &mut self.head);
+                    .put_outcomes(endpoint, came, self.places.as_slice());
                 self.line.end();
             }
         }

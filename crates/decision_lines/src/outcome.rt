@@ -28,11 +28,26 @@ impl Line {
         ensures text { self.new ≡ self.old ++ (gap is_first ++ outcome_text two_tunnels (record { place = place; sent = texts sent.now })) }
         ensures len { length self.new ≤ length self.old + 77 }
     {
+        self.put_counted(is_first, two_tunnels, place, count_of(sent));
+    }
+
+    /// The same of a place where so many octets left, or none did for a reason.
+    pub(crate) fn put_counted(
+        &mut self,
+        is_first: bool,
+        two_tunnels: bool,
+        place: Place,
+        count: Result<usize, Reason>,
+    )
+        requires room { length self.old + 77 ≤ 4096 }
+        ensures text { self.new ≡ self.old ++ (gap is_first ++ (place_text two_tunnels place ++ count_text count)) }
+        ensures len { length self.new ≤ length self.old + 77 }
+    {
         if !is_first {
             self.put_octet(b' ');
         }
         self.put_place(two_tunnels, place);
-        self.put_count(count_of(sent));
+        self.put_count(count);
     }
 
     /// The same of a local port where so many octets left.

@@ -7,12 +7,13 @@ ghost use Rattle.endpoint_state.specs.Step.{can_leave};
 ghost use Rattle.endpoint_core.specs.Decision.{refused_as};
 ghost use Rattle.endpoint_core.specs.Kept.{state_of};
 ghost use Rattle.endpoint_core.specs.Step.{Decided, Replied, has_two_tunnels, sent_at};
-ghost use Rattle.endpoint_core.specs.Text.{outcomes_text};
+ghost use Rattle.endpoint_core.specs.Text.{outcome_text, outcomes_text};
 ghost use Rattle.decision_lines.specs.Lines.{answer_text, cut_line, line};
+ghost use Rattle.decision_lines.specs.Outcomes.{gap};
 
 use crate::counter::Counter;
 use crate::line::Line;
-use endpoint_core::{Came, ChangeFault, Endpoint, Head};
+use endpoint_core::{Came, ChangeFault, Endpoint};
 use filter_db::Place;
 use frame_view::{Refused, Vid};
 use timeline::{Cut, Event};
@@ -55,14 +56,27 @@ impl Line {
         self.end();
     }
 
-    /// Puts what comes of each place, with one space between two.
-    pub(crate) fn put_outcomes(
+    /// Puts what comes of a place, behind a space where it isn't the first. What leaves there is only measured.
+    fn put_sized(
         &mut self,
         endpoint: &Endpoint,
         came: &Came,
-        places: &[Place],
-        head: &mut Head,
+        is_first: bool,
+        two_tunnels: bool,
+        place: Place,
     )
+        requires leave { IsTrue (can_leave (state_of endpoint.now).bridges.settings came.now.vid place) }
+        requires room { length self.old + 77 ≤ 4096 }
+        ensures text { let S = (state_of endpoint.now).bridges.settings in
+            self.new ≡ self.old ++ (gap is_first ++ outcome_text two_tunnels (sent_at S came.now.vid came.now.frame place)) }
+        ensures len { length self.new ≤ length self.old + 77 }
+    {
+        let count = endpoint.size_at(came, place);
+        self.put_counted(is_first, two_tunnels, place, count);
+    }
+
+    /// Puts what comes of each place, with one space between two.
+    pub(crate) fn put_outcomes(&mut self, endpoint: &Endpoint, came: &Came, places: &[Place])
         requires there { IsSome (segment_at (state_of endpoint.now).bridges.settings came.now.vid) }
         requires leave { IsTrue (list_all (can_leave (state_of endpoint.now).bridges.settings came.now.vid) places.now) }
         requires few { length places.now ≤ 32 }
@@ -74,8 +88,7 @@ impl Line {
         let two_tunnels = endpoint.has_two_tunnels(came);
         let mut is_first = true;
         for place in places {
-            let sent = endpoint.emit(came, *place, head);
-            self.put_outcome(is_first, two_tunnels, *place, &sent);
+            self.put_sized(endpoint, came, is_first, two_tunnels, *place);
             is_first = false;
         }
     }

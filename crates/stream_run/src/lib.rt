@@ -12,7 +12,7 @@
 //! told to the segments of a part it is shown that it is passed over.
 //!
 //! [`run_segments`] is a part of a run: of what comes to some segments, a [`SegmentSet`](segment_set::SegmentSet), with the
-//! numbers and the decisions of the whole run.
+//! numbers and the decisions of the whole run. [`run_read`] is the same where the texts were read before.
 //!
 //! [`open_capture`], [`fetch_at`], [`put_events`] and [`put_line`] are its parts. A [`Turn`] says of each source how many
 //! of its events came, and when the next one does. Nothing is made or moved on the way of an event but what a
@@ -36,7 +36,7 @@ pub use fault::{StreamFault, Target};
 pub use fetch::fetch_at;
 pub use opening::open_capture;
 pub use put::put_line;
-pub use run::{run_segments, run_streams};
+pub use run::{run_read, run_segments, run_streams};
 pub use step::put_events;
 pub use turn::{Turn, Upcoming};
 pub use watch::{Unwatched, Watch};

@@ -1,8 +1,9 @@
 //! Runs over streams.
-ghost use Rattle.std.specs.Prelude.{◌≡◌, ◌≤◌, ◌+◌, ℕ, List, All, Vec as AVec, length};
+ghost use Rattle.std.specs.Prelude.{◌≡◌, ◌≤◌, ◌+◌, ℕ, List, [], All, Ok, Vec as AVec, length};
 ghost use Rattle.std.specs.declared.alloc.Global.{Global as AGlobal};
-ghost use Rattle.overlay_config.specs.Change.{changes_in};
+ghost use Rattle.overlay_config.specs.Change.{IsRising, changes_in};
 ghost use Rattle.overlay_config.specs.Settings.{settings_in};
+ghost use Rattle.overlay_settings.specs.Rules.{EachBehind};
 ghost use Rattle.overlay_settings.specs.Settings.{Settings};
 ghost use Rattle.endpoint_core.specs.Kept.{state_of};
 ghost use Rattle.stream_run.specs.Begun.{IsUnread, first_turns};
@@ -142,21 +143,82 @@ pub fn run_segments<R: Input, W: Output, T: Watch>(
         (drains port_sinks.old underlay_sink.old (W.written decisions.old) (W.failures decisions.old))
         (drains port_sinks.new underlay_sink.new (W.written decisions.new) (W.failures decisions.new)) result }
 {
-    let settings = match settings_of(alloc, settings) {
-        Ok(settings) => settings,
+    let read = match settings_of(alloc, settings) {
+        Ok(read) => read,
         Err(fault) => return Err(StreamFault::Run(of_settings(fault))),
     };
-    let changes = match changes_of(alloc, changes) {
-        Ok(changes) => changes,
+    let told = match changes_of(alloc, changes) {
+        Ok(told) => told,
         Err(fault) => return Err(StreamFault::Run(of_changes(fault))),
     };
-    if ports.len() != settings.ports().len() {
+    run_read(
+        alloc,
+        settings,
+        changes,
+        read,
+        told.as_slice(),
+        ports,
+        underlay,
+        port_sinks,
+        underlay_sink,
+        decisions,
+        segments,
+        watch,
+    )
+}
+
+/// Runs what [`run_segments`] runs, where the texts were read before: `read` are the settings that the first one means, and
+/// `told` the changes that the second one means. No text is read here.
+pub fn run_read<R: Input, W: Output, T: Watch>(
+    alloc: Global,
+    settings: &[u8],
+    changes: &[u8],
+    read: Settings,
+    told: &[TimedChange],
+    ports: &mut [Source<R>],
+    underlay: &mut Source<R>,
+    port_sinks: &mut [Sink<W>],
+    underlay_sink: &mut Sink<W>,
+    decisions: &mut W,
+    segments: &SegmentSet,
+    watch: &mut T,
+) -> Result<(), StreamFault>
+    requires read { settings_in settings.now ≡ Ok read }
+    requires told { changes_in changes.now ≡ Ok told.now }
+    requires rising { EachBehind IsRising [] told.now }
+    requires sinks { length port_sinks.old ≡ length ports.old }
+    requires new_ports { All IsUnread ports.old }
+    requires new_underlay { IsUnread underlay.old }
+    ensures run { AnswersAmong segments.now (settings_in settings.now) (changes_in changes.now)
+        (ends ports.old underlay.old (drains port_sinks.old underlay_sink.old (W.written decisions.old) (W.failures decisions.old)))
+        (ends ports.new underlay.new (drains port_sinks.new underlay_sink.new (W.written decisions.new) (W.failures decisions.new))) result }
+    ensures over { (texts : List (AVec ℕ AGlobal)) (text : List ℕ) → Tells ports.old underlay.old texts text
+        → IsRunOverAmong segments.now (settings_in settings.now) (changes_in changes.now) texts text
+        (drains port_sinks.old underlay_sink.old (W.written decisions.old) (W.failures decisions.old))
+        (drains port_sinks.new underlay_sink.new (W.written decisions.new) (W.failures decisions.new)) result }
+    ensures reached { (texts : List (AVec ℕ AGlobal)) (text : List ℕ) → Tells ports.old underlay.old texts text
+        → IsReachedOverAmong segments.now (settings_in settings.now) (changes_in changes.now) texts text
+        (drains port_sinks.old underlay_sink.old (W.written decisions.old) (W.failures decisions.old))
+        (drains port_sinks.new underlay_sink.new (W.written decisions.new) (W.failures decisions.new)) ports.new underlay.new result }
+    ensures shown { IsShownAmong segments.now T.sees T.ends (settings_in settings.now) (changes_in changes.now) ports.old
+        (drains port_sinks.old underlay_sink.old (W.written decisions.old) (W.failures decisions.old))
+        (drains port_sinks.new underlay_sink.new (W.written decisions.new) (W.failures decisions.new)) watch.old watch.new result }
+    ensures watched { (texts : List (AVec ℕ AGlobal)) (text : List ℕ) → Tells ports.old underlay.old texts text
+        → IsWatchedOverAmong segments.now T.sees T.ends (settings_in settings.now) (changes_in changes.now) texts text
+        (drains port_sinks.old underlay_sink.old (W.written decisions.old) (W.failures decisions.old))
+        (drains port_sinks.new underlay_sink.new (W.written decisions.new) (W.failures decisions.new)) watch.old watch.new result }
+    ensures reads { ReadsWith ports.old underlay.old ports.new underlay.new result }
+    ensures writes { WritesWith
+        (drains port_sinks.old underlay_sink.old (W.written decisions.old) (W.failures decisions.old))
+        (drains port_sinks.new underlay_sink.new (W.written decisions.new) (W.failures decisions.new)) result }
+{
+    if ports.len() != read.ports().len() {
         return Err(StreamFault::Run(RunFault::PortCount));
     }
     run_with(
         alloc,
-        settings,
-        changes.as_slice(),
+        read,
+        told,
         ports,
         underlay,
         port_sinks,

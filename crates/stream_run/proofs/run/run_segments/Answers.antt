@@ -1,47 +1,20 @@
-use Rattle.std.proofs.Common.{◌≡◌, ◌∙◌, ◌==◌, [], ap, arith, sym, subst, length, false, true, List, Vec, Global, Ok, Err}
-use Rattle.std.proofs.lemmas.Bool.{ne_eqb, eq-eqb}
-use Rattle.overlay_config.specs.Change.{IsRising, changes_in}
-use Rattle.overlay_config.specs.Fault.{Meaning}
+use Rattle.std.proofs.Common.{◌∙◌, sym, subst, length, Vec, Global, Ok, Err}
+use Rattle.overlay_config.specs.Change.{changes_in}
 use Rattle.overlay_config.specs.Settings.{Settings, settings_in}
-use Rattle.overlay_settings.specs.Rules.{EachBehind}
 use Rattle.overlay_settings.specs.declared.change.TimedChange.{TimedChange}
-use Rattle.capture_run.proofs.Faults.{changes_fault, port_count_fault, settings_fault}
+use Rattle.capture_run.proofs.Faults.{changes_fault, settings_fault}
 use Rattle.capture_run.specs.Fault.{of_changes, of_settings}
-use Rattle.capture_run.specs.declared.fault.RunFault.TheVariants as faults
-use Rattle.stream_run.specs.Done.{IsDone}
 use Rattle.stream_run.specs.Left.{AnswersAmong, ends}
 use Rattle.stream_run.specs.Over.{IsRunOverAmong}
 use Rattle.stream_run.specs.Reached.{IsReachedOverAmong}
 use Rattle.stream_run.specs.Stage.{drains}
-use Rattle.stream_run.specs.Watched.{IsShownAmong, IsWatchedOverAmong}
+use Rattle.stream_run.specs.Watched.{IsWatchedOverAmong}
 use Rattle.stream_run.specs.declared.fault.StreamFault.TheVariants as stream
-use Rattle.stream_run.proofs.Framing.{none_at, timely, writes_by}
+use Rattle.stream_run.proofs.Framing.{none_at}
 use Rattle.stream_run.proofs.Overall.{changes_refusal, over_refusal, reach_refusal, seen_refusal, settings_refusal, tells_texts}
-use Rattle.stream_run.proofs.Refusing.{changes_refused, count_refused, counted, settings_refused}
-use Rattle.stream_run.proofs.Showing.{shows_counted, shows_refused}
-use Rattle.stream_run.proofs.run.run_segments.Given.{Over}
-use Rattle.stream_run.proofs.run.run_segments.Goals.{After-run_with}
+use Rattle.stream_run.proofs.Refusing.{changes_refused, settings_refused}
+use Rattle.stream_run.proofs.Showing.{shows_refused}
 use Rattle.stream_run.proofs.run.run_segments.Goals as goal
-
--- what holds of the settings and the changes that were read holds by what their texts mean
-meant : (g : Over) (c : After-run_with g) (P : Meaning Settings → Meaning (List TimedChange) → Type 0) → P (Ok c.in-Ok.settings) (Ok c.in-Ok-changes_of.changes.items) → P (settings_in c.args.settings.now) (changes_in c.args.changes.now)
-meant g c P h = subst (λ m. P m (changes_in c.args.changes.now)) (sym c.in-Ok.ensures) (subst (P (Ok c.in-Ok.settings)) (sym c.in-Ok-changes_of.ensures.value) h)
-
--- as many captures as ports are there
-as_many : (g : Over) (c : After-run_with g) → (length c.args.ports.now == length c.in-Ok.settings.ports) ≡ true
-as_many g c = eq-eqb _ _ (c.if-ports.false ∙ ap length c.ports.ensures.value)
-
--- the run with them is done
-done : (g : Over) (c : After-run_with g)
-    → IsDone c.args.segments.now g.T.Watch.sees g.T.Watch.ends c.in-Ok.settings c.in-Ok-changes_of.changes.items c.args.ports.now c.args.underlay.now c.run_with.new.ports c.run_with.new.underlay
-    (drains c.args.port_sinks.now c.args.underlay_sink.now (g.W.Output.written c.args.decisions.now) (g.W.Output.failures c.args.decisions.now))
-    (drains c.run_with.new.port_sinks c.run_with.new.underlay_sink (g.W.Output.written c.run_with.new.decisions) (g.W.Output.failures c.run_with.new.decisions))
-    c.args.watch.now c.run_with.new.watch c.run_with.result
-done g c =
-    subst (λ l. IsDone c.args.segments.now g.T.Watch.sees g.T.Watch.ends c.in-Ok.settings l c.args.ports.now c.args.underlay.now c.run_with.new.ports c.run_with.new.underlay
-    (drains c.args.port_sinks.now c.args.underlay_sink.now (g.W.Output.written c.args.decisions.now) (g.W.Output.failures c.args.decisions.now))
-    (drains c.run_with.new.port_sinks c.run_with.new.underlay_sink (g.W.Output.written c.run_with.new.decisions) (g.W.Output.failures c.run_with.new.decisions))
-    c.args.watch.now c.run_with.new.watch c.run_with.result) c.as_slice.ensures.value c.run_with.ensures.done
 
 pub returns-in-Err-clause-run : goal.returns-in-Err-clause-run
 returns-in-Err-clause-run g c =
@@ -56,33 +29,8 @@ returns-in-Err-changes_of-clause-run g c =
     let changes = changes_in c.args.changes.now in
     let e = ends c.args.ports.now c.args.underlay.now (drains c.args.port_sinks.now c.args.underlay_sink.now (g.W.Output.written c.args.decisions.now) (g.W.Output.failures c.args.decisions.now)) in
     subst (λ m. AnswersAmong c.args.segments.now m changes e e (Err (stream.Run c.of_changes.result))) (sym c.in-Ok.ensures)
-    (subst (λ f. AnswersAmong c.args.segments.now (Ok c.in-Ok.settings) changes e e (Err (stream.Run f))) (sym c.of_changes.ensures)
-    (changes_refused c.args.segments.now (λ (v : Vec TimedChange Global). v.items) c.in-Err-changes_of.fault c.in-Ok.settings changes e c.requires.sinks c.in-Err-changes_of.ensures.value))
-
-pub returns-then-ports-clause-run : goal.returns-then-ports-clause-run
-returns-then-ports-clause-run g c =
-    let changes = changes_in c.args.changes.now in
-    let e = ends c.args.ports.now c.args.underlay.now (drains c.args.port_sinks.now c.args.underlay_sink.now (g.W.Output.written c.args.decisions.now) (g.W.Output.failures c.args.decisions.now)) in
-    let apart : (length c.args.ports.now == length c.in-Ok.settings.ports) ≡ false = ne_eqb _ _ (λ e. c.if-ports.true (e ∙ sym (ap length c.ports.ensures.value))) in
-    subst (λ m. AnswersAmong c.args.segments.now m changes e e (Err (stream.Run faults.PortCount))) (sym c.in-Ok.ensures)
-    (subst (λ m. AnswersAmong c.args.segments.now (Ok c.in-Ok.settings) m e e (Err (stream.Run faults.PortCount))) (sym c.in-Ok-changes_of.ensures.value) (count_refused c.args.segments.now c.in-Ok.settings c.in-Ok-changes_of.changes.items e apart))
-
-pub run_with-requires-clause-few : goal.run_with-requires-clause-few
-run_with-requires-clause-few g c = omega (arith, c.if-ports.false, ap length c.ports.ensures.value, c.ports.ensures.rules.port_count.1)
-
-pub run_with-requires-clause-timely : goal.run_with-requires-clause-timely
-run_with-requires-clause-timely g c = timely c.as_slice.result.now (subst (EachBehind IsRising []) (sym c.as_slice.ensures.value) c.in-Ok-changes_of.ensures.rising)
-
-pub returns-clause-run : goal.returns-clause-run
-returns-clause-run g c =
-    let w = (goal.at.returns-clause-run g c).After-run_with in
-    let old = ends c.args.ports.now c.args.underlay.now (drains c.args.port_sinks.now c.args.underlay_sink.now (g.W.Output.written c.args.decisions.now) (g.W.Output.failures c.args.decisions.now)) in
-    let new = ends c.run_with.new.ports c.run_with.new.underlay (drains c.run_with.new.port_sinks c.run_with.new.underlay_sink (g.W.Output.written c.run_with.new.decisions) (g.W.Output.failures c.run_with.new.decisions)) in
-    meant g w (λ m k. AnswersAmong c.args.segments.now m k old new c.run_with.result)
-    (counted c.args.segments.now c.in-Ok.settings c.in-Ok-changes_of.changes.items old new c.run_with.result (as_many g w) (done g w).left)
-
-pub returns-clause-writes : goal.returns-clause-writes
-returns-clause-writes g c = writes_by c.args.segments.now c.in-Ok.settings c.as_slice.result.now _ _ c.run_with.result c.run_with.ensures.done.left
+    (subst (λ f. AnswersAmong c.args.segments.now (Ok c.in-Ok.read) changes e e (Err (stream.Run f))) (sym c.of_changes.ensures)
+    (changes_refused c.args.segments.now (λ (v : Vec TimedChange Global). v.items) c.in-Err-changes_of.fault c.in-Ok.read changes e c.requires.sinks c.in-Err-changes_of.ensures.value))
 
 -- ---- by the octets of the captures
 
@@ -101,26 +49,10 @@ returns-in-Err-changes_of-clause-over g c texts text tells =
     let changes = changes_in c.args.changes.now in
     let d = drains c.args.port_sinks.now c.args.underlay_sink.now (g.W.Output.written c.args.decisions.now) (g.W.Output.failures c.args.decisions.now) in
     subst (λ m. IsRunOverAmong c.args.segments.now m changes texts text d d (Err (stream.Run c.of_changes.result))) (sym c.in-Ok.ensures)
-    (subst (λ f. IsRunOverAmong c.args.segments.now (Ok c.in-Ok.settings) changes texts text d d (Err (stream.Run f))) (sym c.of_changes.ensures)
-    (over_refusal c.args.segments.now texts text d d (Ok c.in-Ok.settings) changes (of_changes c.in-Err-changes_of.fault) (changes_refusal c.in-Err-changes_of.fault)
-    (changes_fault (λ (v : Vec TimedChange Global). v.items) c.in-Err-changes_of.fault c.in-Ok.settings changes texts text c.in-Err-changes_of.ensures.value)
+    (subst (λ f. IsRunOverAmong c.args.segments.now (Ok c.in-Ok.read) changes texts text d d (Err (stream.Run f))) (sym c.of_changes.ensures)
+    (over_refusal c.args.segments.now texts text d d (Ok c.in-Ok.read) changes (of_changes c.in-Err-changes_of.fault) (changes_refusal c.in-Err-changes_of.fault)
+    (changes_fault (λ (v : Vec TimedChange Global). v.items) c.in-Err-changes_of.fault c.in-Ok.read changes texts text c.in-Err-changes_of.ensures.value)
     (none_at d (length texts) (c.requires.sinks ∙ tells_texts c.args.ports.now c.args.underlay.now texts text tells))))
-
-pub returns-then-ports-clause-over : goal.returns-then-ports-clause-over
-returns-then-ports-clause-over g c texts text tells =
-    let changes = changes_in c.args.changes.now in
-    let d = drains c.args.port_sinks.now c.args.underlay_sink.now (g.W.Output.written c.args.decisions.now) (g.W.Output.failures c.args.decisions.now) in
-    let many = tells_texts c.args.ports.now c.args.underlay.now texts text tells in
-    let apart : (length texts == length c.in-Ok.settings.ports) ≡ false = ne_eqb _ _ (λ e. c.if-ports.true (many ∙ e ∙ sym (ap length c.ports.ensures.value))) in
-    subst (λ m. IsRunOverAmong c.args.segments.now m changes texts text d d (Err (stream.Run faults.PortCount))) (sym c.in-Ok.ensures)
-    (subst (λ m. IsRunOverAmong c.args.segments.now (Ok c.in-Ok.settings) m texts text d d (Err (stream.Run faults.PortCount))) (sym c.in-Ok-changes_of.ensures.value)
-    (over_refusal c.args.segments.now texts text d d (Ok c.in-Ok.settings) (Ok c.in-Ok-changes_of.changes.items) faults.PortCount tt (port_count_fault c.in-Ok.settings c.in-Ok-changes_of.changes.items texts text apart)
-    (none_at d (length texts) (c.requires.sinks ∙ many))))
-
-pub returns-clause-over : goal.returns-clause-over
-returns-clause-over g c texts text tells =
-    let w = (goal.at.returns-clause-over g c).After-run_with in
-    meant g w (λ m k. IsRunOverAmong c.args.segments.now m k texts text (drains c.args.port_sinks.now c.args.underlay_sink.now (g.W.Output.written c.args.decisions.now) (g.W.Output.failures c.args.decisions.now)) (drains c.run_with.new.port_sinks c.run_with.new.underlay_sink (g.W.Output.written c.run_with.new.decisions) (g.W.Output.failures c.run_with.new.decisions)) c.run_with.result) ((done g w).over texts text tells).left
 
 -- ---- how far they are read
 
@@ -138,17 +70,6 @@ returns-in-Err-changes_of-clause-reached g c texts text tells =
     (reach_refusal c.args.segments.now texts text d d (settings_in c.args.settings.now) (changes_in c.args.changes.now) c.args.ports.now c.args.underlay.now (of_changes c.in-Err-changes_of.fault) (changes_refusal c.in-Err-changes_of.fault)
     (none_at d (length texts) (c.requires.sinks ∙ tells_texts c.args.ports.now c.args.underlay.now texts text tells)))
 
-pub returns-then-ports-clause-reached : goal.returns-then-ports-clause-reached
-returns-then-ports-clause-reached g c texts text tells =
-    let d = drains c.args.port_sinks.now c.args.underlay_sink.now (g.W.Output.written c.args.decisions.now) (g.W.Output.failures c.args.decisions.now) in
-    reach_refusal c.args.segments.now texts text d d (settings_in c.args.settings.now) (changes_in c.args.changes.now) c.args.ports.now c.args.underlay.now faults.PortCount tt
-    (none_at d (length texts) (c.requires.sinks ∙ tells_texts c.args.ports.now c.args.underlay.now texts text tells))
-
-pub returns-clause-reached : goal.returns-clause-reached
-returns-clause-reached g c texts text tells =
-    let w = (goal.at.returns-clause-reached g c).After-run_with in
-    meant g w (λ m k. IsReachedOverAmong c.args.segments.now m k texts text (drains c.args.port_sinks.now c.args.underlay_sink.now (g.W.Output.written c.args.decisions.now) (g.W.Output.failures c.args.decisions.now)) (drains c.run_with.new.port_sinks c.run_with.new.underlay_sink (g.W.Output.written c.run_with.new.decisions) (g.W.Output.failures c.run_with.new.decisions)) c.run_with.new.ports c.run_with.new.underlay c.run_with.result) ((done g w).over texts text tells).reached
-
 -- ---- by who looks on
 
 pub returns-in-Err-clause-shown : goal.returns-in-Err-clause-shown
@@ -160,17 +81,6 @@ pub returns-in-Err-changes_of-clause-shown : goal.returns-in-Err-changes_of-clau
 returns-in-Err-changes_of-clause-shown g c =
     let d = drains c.args.port_sinks.now c.args.underlay_sink.now (g.W.Output.written c.args.decisions.now) (g.W.Output.failures c.args.decisions.now) in
     shows_refused c.args.segments.now c.args.ports.now d g.T.Watch.sees g.T.Watch.ends c.args.watch.now (settings_in c.args.settings.now) (changes_in c.args.changes.now) c.of_changes.result c.requires.sinks
-
-pub returns-then-ports-clause-shown : goal.returns-then-ports-clause-shown
-returns-then-ports-clause-shown g c =
-    let d = drains c.args.port_sinks.now c.args.underlay_sink.now (g.W.Output.written c.args.decisions.now) (g.W.Output.failures c.args.decisions.now) in
-    shows_refused c.args.segments.now c.args.ports.now d g.T.Watch.sees g.T.Watch.ends c.args.watch.now (settings_in c.args.settings.now) (changes_in c.args.changes.now) faults.PortCount c.requires.sinks
-
-pub returns-clause-shown : goal.returns-clause-shown
-returns-clause-shown g c =
-    let w = (goal.at.returns-clause-shown g c).After-run_with in
-    meant g w (λ m k. IsShownAmong c.args.segments.now g.T.Watch.sees g.T.Watch.ends m k c.args.ports.now (drains c.args.port_sinks.now c.args.underlay_sink.now (g.W.Output.written c.args.decisions.now) (g.W.Output.failures c.args.decisions.now)) (drains c.run_with.new.port_sinks c.run_with.new.underlay_sink (g.W.Output.written c.run_with.new.decisions) (g.W.Output.failures c.run_with.new.decisions)) c.args.watch.now c.run_with.new.watch c.run_with.result)
-    (shows_counted c.args.segments.now c.args.ports.now (drains c.args.port_sinks.now c.args.underlay_sink.now (g.W.Output.written c.args.decisions.now) (g.W.Output.failures c.args.decisions.now)) g.T.Watch.sees g.T.Watch.ends c.args.watch.now c.in-Ok.settings c.in-Ok-changes_of.changes.items (drains c.run_with.new.port_sinks c.run_with.new.underlay_sink (g.W.Output.written c.run_with.new.decisions) (g.W.Output.failures c.run_with.new.decisions)) c.run_with.new.watch c.run_with.result (as_many g w) (done g w).shown)
 
 pub returns-in-Err-clause-watched : goal.returns-in-Err-clause-watched
 returns-in-Err-clause-watched g c texts text tells =
@@ -189,16 +99,3 @@ returns-in-Err-changes_of-clause-watched g c texts text tells =
     subst (λ f. IsWatchedOverAmong c.args.segments.now g.T.Watch.sees g.T.Watch.ends s changes texts text d d c.args.watch.now c.args.watch.now (Err (stream.Run f))) (sym c.of_changes.ensures)
     (seen_refusal c.args.segments.now texts text d d g.T.Watch.sees g.T.Watch.ends c.args.watch.now s changes (of_changes c.in-Err-changes_of.fault) (changes_refusal c.in-Err-changes_of.fault)
     (none_at d (length texts) (c.requires.sinks ∙ tells_texts c.args.ports.now c.args.underlay.now texts text tells)))
-
-pub returns-then-ports-clause-watched : goal.returns-then-ports-clause-watched
-returns-then-ports-clause-watched g c texts text tells =
-    let s = settings_in c.args.settings.now in
-    let changes = changes_in c.args.changes.now in
-    let d = drains c.args.port_sinks.now c.args.underlay_sink.now (g.W.Output.written c.args.decisions.now) (g.W.Output.failures c.args.decisions.now) in
-    seen_refusal c.args.segments.now texts text d d g.T.Watch.sees g.T.Watch.ends c.args.watch.now s changes faults.PortCount tt
-    (none_at d (length texts) (c.requires.sinks ∙ tells_texts c.args.ports.now c.args.underlay.now texts text tells))
-
-pub returns-clause-watched : goal.returns-clause-watched
-returns-clause-watched g c texts text tells =
-    let w = (goal.at.returns-clause-watched g c).After-run_with in
-    meant g w (λ m k. IsWatchedOverAmong c.args.segments.now g.T.Watch.sees g.T.Watch.ends m k texts text (drains c.args.port_sinks.now c.args.underlay_sink.now (g.W.Output.written c.args.decisions.now) (g.W.Output.failures c.args.decisions.now)) (drains c.run_with.new.port_sinks c.run_with.new.underlay_sink (g.W.Output.written c.run_with.new.decisions) (g.W.Output.failures c.run_with.new.decisions)) c.args.watch.now c.run_with.new.watch c.run_with.result) ((done g w).over texts text tells).seen

@@ -1,12 +1,12 @@
 //! A look at a settings text and a changes text.
-ghost use Rattle.std.specs.Prelude.{◌≡◌, IfOk};
+ghost use Rattle.std.specs.Prelude.{◌≡◌, Ok, IfOk};
 ghost use Rattle.overlay_config.specs.Change.{changes_in};
 ghost use Rattle.overlay_config.specs.Settings.{settings_in};
 ghost use Rattle.dissector.specs.Check.{checked, counts_line};
 ghost use Rattle.explanation.specs.Explanation.{Gives as GivesText};
 
 use capture_run::{RunFault, of_changes, of_settings};
-use overlay_config::{changes_of, settings_of};
+use overlay_config::{Settings, TimedChange, changes_of, settings_of};
 use std::alloc::{AllocError, Global};
 use std::fmt::Write;
 
@@ -24,10 +24,21 @@ pub fn check_text(alloc: Global, settings: &[u8], changes: &[u8]) -> Result<Vec<
         Ok(changes) => changes,
         Err(fault) => return Err(of_changes(fault)),
     };
+    let line = check_read(alloc, &settings, changes.as_slice())?;
+    Ok(line)
+}
+
+/// The line that [`check_text`] answers of texts that mean these settings and these changes. `AllocError`: memory was refused.
+pub fn check_read(
+    alloc: Global,
+    settings: &Settings,
+    changes: &[TimedChange],
+) -> Result<Vec<u8>, AllocError>
+    ensures { IfOk result (λ line. checked (Ok settings.now) (Ok changes.now) ≡ Ok line.items) }
+{
     let ports = settings.ports().len();
     let segments = settings.segments().len();
-    let line = counts_line(alloc, ports, segments, changes.len())?;
-    Ok(line)
+    counts_line(alloc, ports, segments, changes.len())
 }
 
 /// The line that tells so many ports, segments and changes.

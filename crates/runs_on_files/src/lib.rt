@@ -6,5 +6,5 @@ mod parts;
 mod runs;
 
 pub use digests::print_digests;
-pub use parts::{Ran, run_part};
-pub use runs::{Done, Scope, Texts, run_on_files};
+pub use parts::{Ran, run_part, run_part_with};
+pub use runs::{Done, Scope, Texts, run_on_files, run_on_files_with};

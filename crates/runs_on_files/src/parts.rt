@@ -1,7 +1,12 @@
 //! Parts of a run: some of its segments, and what they were made from.
+ghost use Rattle.std.specs.Prelude.{◌≡◌, [], Ok, IfSome};
+ghost use Rattle.overlay_config.specs.Change.{IsRising, changes_in};
+ghost use Rattle.overlay_settings.specs.Rules.{EachBehind};
+
 use crate::digests::{lent_digests, take_digests};
-use crate::runs::{Done, Scope, Texts, run_on_files};
+use crate::runs::{Done, Scope, Texts, run_on_files_with};
 use arrayvec::ArrayVec;
+use overlay_config::TimedChange;
 use program_faults::{DigestsFailure, Failure, OutputFile};
 use program_files::{Names, count_events};
 use segment_set::SegmentSet;
@@ -58,6 +63,24 @@ pub fn run_part<'a, R: Files + Input + AllocGlobal, T: Watch>(
     segments: &SegmentSet,
     watch: &mut T,
 ) -> Result<Ran<R::File>, Failure<'a>> {
+    run_part_with(rt, names, texts, None, folder, list, segments, watch)
+}
+
+/// Runs these segments as [`run_part`] does, where the text of the changes may have been read before: `told` are then the
+/// changes that it means, as [`Texts::changes_read`] answers them, and it isn't read again.
+pub fn run_part_with<'a, R: Files + Input + AllocGlobal, T: Watch>(
+    rt: &R,
+    names: Names<'_, 'a>,
+    texts: &Texts,
+    told: Option<&[TimedChange]>,
+    folder: &str,
+    list: &'a str,
+    segments: &SegmentSet,
+    watch: &mut T,
+) -> Result<Ran<R::File>, Failure<'a>>
+    requires told { IfSome told (λ t. changes_in texts.now.changes.items ≡ Ok t.now) }
+    requires rising { IfSome told (λ t. EachBehind IsRising [] t.now) }
+{
     let lent = match lent_to(rt, names) {
         Ok(lent) => lent,
         Err(failure) => return Err(failure),
@@ -67,7 +90,7 @@ pub fn run_part<'a, R: Files + Input + AllocGlobal, T: Watch>(
         ports,
         underlay,
         shard,
-    } = match run_on_files(rt, names, texts, folder, Scope::Part(segments), watch) {
+    } = match run_on_files_with(rt, names, texts, told, folder, Scope::Part(segments), watch) {
         Ok(done) => done,
         Err(failure) => return Err(failure),
     };

@@ -1,10 +1,13 @@
 //! Runs over captures, in files and pipes.
-ghost use Rattle.std.specs.Prelude.{◌≡◌, All, IfOk, length};
+ghost use Rattle.std.specs.Prelude.{◌≡◌, [], All, Ok, IfOk, IfSome, length};
+ghost use Rattle.overlay_config.specs.Change.{IsRising, changes_in};
+ghost use Rattle.overlay_config.specs.Settings.{settings_in};
+ghost use Rattle.overlay_settings.specs.Rules.{EachBehind};
 ghost use Rattle.stream_run.specs.Begun.{IsUnread};
 
 use capture_run::{RunFault, of_changes, of_settings};
 use dissector::{failure_of_run, tap_of};
-use overlay_config::{TimedChange, changes_of, settings_of};
+use overlay_config::{Settings, TimedChange, changes_of, settings_of};
 use pcapng_input::PcapngFault;
 use program_faults::Failure;
 use program_files::{
@@ -15,7 +18,7 @@ use segment_set::SegmentSet;
 use std::alloc::{AllocError, Global};
 use std::io::{Input, Read};
 use std::rt::Files;
-use stream_run::{StreamFault, Watch, run_segments};
+use stream_run::{StreamFault, Watch, run_read};
 use timeline::Tap;
 
 /// How many octets of an output are written at once, where no capture's next octets are waited for.
@@ -42,11 +45,24 @@ impl Texts {
 
     /// The changes. There are none in a text that is refused: the run tells why, behind the settings' own fault.
     pub fn changes_told(&self, alloc: Global) -> Result<Vec<TimedChange>, AllocError> {
+        match self.changes_read(alloc) {
+            Ok(Some(changes)) => Ok(changes),
+            Ok(None) => Ok(Vec::new(alloc)),
+            Err(error) => Err(error),
+        }
+    }
+
+    /// The changes that their text means, for [`run_on_files_with`]. None of a text that is refused: the run tells why, behind
+    /// the settings' own fault.
+    pub fn changes_read(&self, alloc: Global) -> Result<Option<Vec<TimedChange>>, AllocError>
+        ensures told { IfOk result (λ told. IfSome told (λ changes. changes_in self.now.changes.items ≡ Ok changes.items)) }
+        ensures rising { IfOk result (λ told. IfSome told (λ changes. EachBehind IsRising [] changes.items)) }
+    {
         match changes_of(alloc, self.changes.as_slice()) {
-            Ok(changes) => Ok(changes),
+            Ok(changes) => Ok(Some(changes)),
             Err(fault) => match of_changes(fault) {
                 RunFault::OutOfMemory => Err(AllocError),
-                _ => Ok(Vec::new(alloc)),
+                _ => Ok(None),
             },
         }
     }
@@ -86,6 +102,23 @@ pub fn run_on_files<'a, R: Files + Input + AllocGlobal, T: Watch>(
     scope: Scope<'_>,
     watch: &mut T,
 ) -> Result<Done<R::File>, Failure<'a>> {
+    run_on_files_with(rt, names, texts, None, folder, scope, watch)
+}
+
+/// Runs on files as [`run_on_files`] does, where the text of the changes may have been read before: `told` are then the changes
+/// that it means, as [`Texts::changes_read`] answers them, and it isn't read again.
+pub fn run_on_files_with<'a, R: Files + Input + AllocGlobal, T: Watch>(
+    rt: &R,
+    names: Names<'_, 'a>,
+    texts: &Texts,
+    told: Option<&[TimedChange]>,
+    folder: &str,
+    scope: Scope<'_>,
+    watch: &mut T,
+) -> Result<Done<R::File>, Failure<'a>>
+    requires told { IfSome told (λ t. changes_in texts.now.changes.items ≡ Ok t.now) }
+    requires rising { IfSome told (λ t. EachBehind IsRising [] t.now) }
+{
     let underlay = match open_capture(rt, names.underlay) {
         Ok(underlay) => underlay,
         Err(failure) => return Err(failure),
@@ -94,7 +127,9 @@ pub fn run_on_files<'a, R: Files + Input + AllocGlobal, T: Watch>(
         Ok(ports) => ports,
         Err(failure) => return Err(failure),
     };
-    run_on_opened(rt, names, texts, folder, scope, ports, underlay, watch)
+    run_on_opened(
+        rt, names, texts, told, folder, scope, ports, underlay, watch,
+    )
 }
 
 /// The same on captures of which nothing is read yet.
@@ -102,12 +137,15 @@ fn run_on_opened<'a, R: Files + Input + AllocGlobal, T: Watch>(
     rt: &R,
     names: Names<'_, 'a>,
     texts: &Texts,
+    told: Option<&[TimedChange]>,
     folder: &str,
     scope: Scope<'_>,
     ports: Vec<Capture<'a, R::File, R::Reader>>,
     underlay: Capture<'a, R::File, R::Reader>,
     watch: &mut T,
 ) -> Result<Done<R::File>, Failure<'a>>
+    requires told { IfSome told (λ t. changes_in texts.now.changes.items ≡ Ok t.now) }
+    requires rising { IfSome told (λ t. EachBehind IsRising [] t.now) }
     requires ports { All IsUnread ports.items }
     requires underlay { IsUnread underlay }
 {
@@ -117,6 +155,7 @@ fn run_on_opened<'a, R: Files + Input + AllocGlobal, T: Watch>(
         rt,
         names,
         texts,
+        told,
         folder,
         scope,
         ports.as_mut_slice(),
@@ -133,35 +172,84 @@ fn run_on_opened<'a, R: Files + Input + AllocGlobal, T: Watch>(
 }
 
 /// Runs on captures of which nothing is read yet. Of a part it answers the file in which it is to say what it was made from.
+///
+/// The settings are looked at first, then the changes, and then the number of captures.
 fn run_on_captures<'a, R: Files + Input + AllocGlobal, T: Watch>(
     rt: &R,
     names: Names<'_, 'a>,
     texts: &Texts,
+    told: Option<&[TimedChange]>,
     folder: &str,
     scope: Scope<'_>,
     ports: &mut [Capture<'a, R::File, R::Reader>],
     underlay: &mut Capture<'a, R::File, R::Reader>,
     watch: &mut T,
 ) -> Result<Option<R::File>, Failure<'a>>
+    requires told { IfSome told (λ t. changes_in texts.now.changes.items ≡ Ok t.now) }
+    requires rising { IfSome told (λ t. EachBehind IsRising [] t.now) }
     requires ports { All IsUnread ports.old }
     requires underlay { IsUnread underlay.old }
 {
-    look_before(
-        rt.alloc(),
-        texts.settings.as_slice(),
-        texts.changes.as_slice(),
-        ports.len(),
-    )?;
+    let settings = match settings_of(rt.alloc(), texts.settings.as_slice()) {
+        Ok(settings) => settings,
+        Err(fault) => return Err(Failure::Run(of_settings(fault))),
+    };
+    if let Some(told) = told {
+        return run_on_read(
+            rt, names, texts, settings, told, folder, scope, ports, underlay, watch,
+        );
+    }
+    match changes_of(rt.alloc(), texts.changes.as_slice()) {
+        Ok(told) => run_on_read(
+            rt,
+            names,
+            texts,
+            settings,
+            told.as_slice(),
+            folder,
+            scope,
+            ports,
+            underlay,
+            watch,
+        ),
+        Err(fault) => Err(Failure::Run(of_changes(fault))),
+    }
+}
+
+/// The same with the settings and the changes that the texts mean.
+fn run_on_read<'a, R: Files + Input + AllocGlobal, T: Watch>(
+    rt: &R,
+    names: Names<'_, 'a>,
+    texts: &Texts,
+    settings: Settings,
+    told: &[TimedChange],
+    folder: &str,
+    scope: Scope<'_>,
+    ports: &mut [Capture<'a, R::File, R::Reader>],
+    underlay: &mut Capture<'a, R::File, R::Reader>,
+    watch: &mut T,
+) -> Result<Option<R::File>, Failure<'a>>
+    requires settings { settings_in texts.now.settings.items ≡ Ok settings }
+    requires told { changes_in texts.now.changes.items ≡ Ok told.now }
+    requires rising { EachBehind IsRising [] told.now }
+    requires ports { All IsUnread ports.old }
+    requires underlay { IsUnread underlay.old }
+{
+    if settings.ports().len() != ports.len() {
+        return Err(Failure::Run(RunFault::PortCount));
+    }
     let all = SegmentSet::all();
     let (is_part, segments) = match scope {
         Scope::Whole => (false, &all),
         Scope::Part(segments) => (true, segments),
     };
     let mut outputs = prepare_outputs(rt, names, folder, is_part, ports.len())?;
-    let run = run_segments(
+    let run = run_read(
         rt.alloc(),
         texts.settings.as_slice(),
         texts.changes.as_slice(),
+        settings,
+        told,
         ports,
         underlay,
         outputs.ports.as_mut_slice(),
@@ -280,26 +368,5 @@ fn fault_of<F: Read + Drop, I: Read + Drop>(
             let index = usize::from(number).checked_sub(1)?;
             ports.get(index)?.input().input().fault()
         }
-    }
-}
-
-/// Looks at what a run can be refused for before it reads a capture.
-fn look_before(
-    alloc: Global,
-    settings: &[u8],
-    changes: &[u8],
-    captures: usize,
-) -> Result<(), RunFault> {
-    let count = match settings_of(alloc, settings) {
-        Ok(settings) => settings.ports().len(),
-        Err(fault) => return Err(of_settings(fault)),
-    };
-    if let Err(fault) = changes_of(alloc, changes) {
-        return Err(of_changes(fault));
-    }
-    if count == captures {
-        Ok(())
-    } else {
-        Err(RunFault::PortCount)
     }
 }

@@ -2,13 +2,14 @@
 use capture_run::{RunFault, of_changes, of_settings};
 use capture_survey::{Report, SurveyFault, survey_capture};
 use config_text::SettingsFault;
-use dissector::{check_text, tap_of};
+use dissector::{check_read, tap_of};
 use file_kind::FileKind;
 use foreseen_changes::foresee;
-use overlay_config::{changes_of, settings_of};
+use overlay_config::{Settings, TimedChange, changes_of, settings_of};
 use pcap_io::CaptureFault;
 use program_faults::Failure;
 use program_files::{SeenCapture, open_seen, print_text, read_file, read_if_given};
+use std::alloc::Global;
 use std::fmt::Write;
 use std::io::{Input, Read};
 use std::rt::Files;
@@ -41,35 +42,75 @@ pub fn check<'a, R: Files + Input + AllocGlobal + Print>(
         name: changes.unwrap_or(""),
         text: changes_text.as_slice(),
     };
-    check_texts(rt, settings, changes)?;
-    let counted = print_foreseen(rt, settings.text, changes.text, ports.len());
+    let (read, told) = check_texts(rt, settings, changes)?;
+    let counted = print_foreseen(rt, read, told.as_slice(), ports.len());
     let seen = look_at_captures(rt, underlay, ports);
     counted.and(seen)
 }
 
-/// Prints what is in the texts, or where and why the first that is refused is.
+/// Prints what is in the texts and answers it, or where and why the first that is refused is.
 fn check_texts<'a, R: AllocGlobal + Print>(
     rt: &R,
     settings: Named<'_, 'a>,
     changes: Named<'_, 'a>,
-) -> Result<(), Failure<'a>> {
-    let fault = match check_text(rt.alloc(), settings.text, changes.text) {
-        Ok(line) => return print_text(rt, line.as_slice()),
-        Err(fault) => fault,
+) -> Result<(Settings, Vec<TimedChange>), Failure<'a>> {
+    match read_texts(rt.alloc(), settings.text, changes.text) {
+        Ok((read, told)) => {
+            print_counts(rt, &read, told.as_slice())?;
+            Ok((read, told))
+        }
+        Err(fault) => {
+            print_refused(rt, settings, changes, &fault)?;
+            Err(Failure::Run(fault))
+        }
+    }
+}
+
+/// What the texts mean, or the fault of the first that is refused.
+fn read_texts(
+    alloc: Global,
+    settings: &[u8],
+    changes: &[u8],
+) -> Result<(Settings, Vec<TimedChange>), RunFault> {
+    let read = match settings_of(alloc, settings) {
+        Ok(read) => read,
+        Err(fault) => return Err(of_settings(fault)),
     };
-    let told = match &fault {
+    match changes_of(alloc, changes) {
+        Ok(told) => Ok((read, told)),
+        Err(fault) => Err(of_changes(fault)),
+    }
+}
+
+/// Prints how many ports, segments and changes there are.
+fn print_counts<R: AllocGlobal + Print>(
+    rt: &R,
+    settings: &Settings,
+    changes: &[TimedChange],
+) -> Result<(), Failure<'static>> {
+    let line = check_read(rt.alloc(), settings, changes)?;
+    print_text(rt, line.as_slice())
+}
+
+/// Prints where the text is refused that a fault tells of, and why.
+fn print_refused<R: AllocGlobal + Print>(
+    rt: &R,
+    settings: Named<'_, '_>,
+    changes: Named<'_, '_>,
+    fault: &RunFault,
+) -> Result<(), Failure<'static>> {
+    match fault {
         RunFault::Settings(fault) => print_advice(rt, TextKind::Settings, settings, fault),
         RunFault::Changes(fault) => print_advice(rt, TextKind::Changes, changes, fault),
         _ => Ok(()),
-    };
-    told.and(Err(Failure::Run(fault)))
+    }
 }
 
 /// Prints where a text is refused, and why.
-fn print_advice<'a, R: AllocGlobal + Print>(
+fn print_advice<R: AllocGlobal + Print>(
     rt: &R,
     kind: TextKind,
-    named: Named<'_, 'a>,
+    named: Named<'_, '_>,
     fault: &SettingsFault,
 ) -> Result<(), Failure<'static>> {
     let at = syntax_error_at(rt.alloc(), named.text)?;
@@ -81,21 +122,13 @@ fn print_advice<'a, R: AllocGlobal + Print>(
 /// port's capture is named.
 fn print_foreseen<'a, R: AllocGlobal + Print>(
     rt: &R,
-    settings: &[u8],
-    changes: &[u8],
+    settings: Settings,
+    changes: &[TimedChange],
     captures: usize,
 ) -> Result<(), Failure<'a>> {
-    let settings = match settings_of(rt.alloc(), settings) {
-        Ok(settings) => settings,
-        Err(fault) => return Err(Failure::Run(of_settings(fault))),
-    };
-    let changes = match changes_of(rt.alloc(), changes) {
-        Ok(changes) => changes,
-        Err(fault) => return Err(Failure::Run(of_changes(fault))),
-    };
     let is_counted = captures == 0 || captures == settings.ports().len();
     let mut text = String::new(rt.alloc());
-    for refusal in &foresee(rt.alloc(), settings, changes.as_slice())? {
+    for refusal in &foresee(rt.alloc(), settings, changes)? {
         writeln!(text, "{refusal}")?;
     }
     print_text(rt, text.as_bytes())?;

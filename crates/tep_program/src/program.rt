@@ -1,7 +1,9 @@
 //! What the program does with its words.
-ghost use Rattle.std.specs.Prelude.{◌≡◌, ◌≤◌};
+ghost use Rattle.std.specs.Prelude.{◌≡◌, ◌≤◌, [], Ok, IfSome};
 ghost use Rattle.clap.specs.Walk.{texts};
 ghost use Rattle.command_line.specs.Meaning.{HasDepth};
+ghost use Rattle.overlay_config.specs.Change.{IsRising, changes_in};
+ghost use Rattle.overlay_settings.specs.Rules.{EachBehind};
 ghost use Rattle.program_faults.specs.Status.{failure_status_of};
 ghost use Rattle.tep_program.specs.Status.{IsStatusOf};
 
@@ -15,7 +17,7 @@ use program_faults::{Failure, OutputFile, is_lost};
 use program_files::{Names, leave_text, print_text, read_file, read_underlay};
 use run_counts::RunCounts;
 use run_reports::{Onlooker, Reports};
-use runs_on_files::{Ran, Scope, Texts, print_digests, run_on_files, run_part};
+use runs_on_files::{Ran, Scope, Texts, print_digests, run_on_files_with, run_part_with};
 use segment_set::SegmentSet;
 use std::alloc::{AllocError, Global};
 use std::env;
@@ -215,14 +217,36 @@ fn run_and_tell<'a, R: Files + Input + AllocGlobal + Print + Eprint>(
     let segments = segments_of(asked.segments)?;
     // Who asks for nothing pays nothing for it.
     if asked.is_nothing() {
-        return match run_asked(rt, names, &texts, folder, asked, &segments, &mut Unwatched) {
+        return match run_asked(
+            rt,
+            names,
+            &texts,
+            None,
+            folder,
+            asked,
+            &segments,
+            &mut Unwatched,
+        ) {
             Ok(ran) => ran.finish(),
             Err(failure) => Err(failure),
         };
     }
-    let changes = texts.changes_told(rt.alloc())?;
-    let mut onlooker = onlooker_of(rt.alloc(), asked, changes.as_slice(), &segments)?;
-    let run = run_asked(rt, names, &texts, folder, asked, &segments, &mut onlooker);
+    let changes = texts.changes_read(rt.alloc())?;
+    let told = match &changes {
+        Some(changes) => Some(changes.as_slice()),
+        None => None,
+    };
+    let mut onlooker = onlooker_of(rt.alloc(), asked, told.unwrap_or(&[]), &segments)?;
+    let run = run_asked(
+        rt,
+        names,
+        &texts,
+        told,
+        folder,
+        asked,
+        &segments,
+        &mut onlooker,
+    );
     let Onlooker { reports, counts } = onlooker;
     match run {
         Ok(ran) => {
@@ -260,19 +284,23 @@ fn onlooker_of<'n, 'a>(
     Ok(Onlooker { reports, counts })
 }
 
-/// Runs on captures, all segments, or those of a list as a part.
+/// Runs on captures, all segments, or those of a list as a part. `told` are the changes, where their text was read before.
 fn run_asked<'a, R: Files + Input + AllocGlobal, T: Watch>(
     rt: &R,
     names: Names<'_, 'a>,
     texts: &Texts,
+    told: Option<&[TimedChange]>,
     folder: &str,
     asked: Asked<'_, 'a>,
     segments: &SegmentSet,
     watch: &mut T,
-) -> Result<Ran<R::File>, Failure<'a>> {
+) -> Result<Ran<R::File>, Failure<'a>>
+    requires told { IfSome told (λ t. changes_in texts.now.changes.items ≡ Ok t.now) }
+    requires rising { IfSome told (λ t. EachBehind IsRising [] t.now) }
+{
     match asked.segments {
-        Some(list) => run_part(rt, names, texts, folder, list, segments, watch),
-        None => match run_on_files(rt, names, texts, folder, Scope::Whole, watch) {
+        Some(list) => run_part_with(rt, names, texts, told, folder, list, segments, watch),
+        None => match run_on_files_with(rt, names, texts, told, folder, Scope::Whole, watch) {
             Ok(done) => Ok(Ran::whole(rt.alloc(), done.cut)),
             Err(failure) => Err(failure),
         },

@@ -1,4 +1,4 @@
-use Rattle.std.proofs.Common.{◌≡◌, ◌∙◌, ap, arith, length, refl, sym, subst, Vec, Global, Ok, Err}
+use Rattle.std.proofs.Common.{◌∙◌, ap, sym, subst, List, Vec, Global, Ok, Err}
 use Rattle.overlay_config.specs.Settings.{Settings, settings_in}
 use Rattle.overlay_config.specs.Change.{changes_in}
 use Rattle.overlay_settings.specs.declared.change.TimedChange.{TimedChange}
@@ -24,7 +24,7 @@ returns-in-Err-changes_of c =
 
 pub returns : goal.returns
 returns c =
-    let count : c.len.result ≡ length c.in-Ok-changes_of.changes.items = omega (arith, c.len.ensures, c.in-Ok-changes_of.changes.ok.0) in
     ap (λ m. checked m (changes_in c.args.changes.now)) c.in-Ok.ensures
     ∙ ap (checked (Ok c.in-Ok.settings)) c.in-Ok-changes_of.ensures.value
-    ∙ ap Ok (sym (c.in_ok-line.ensures ∙ rw (c.ports-ports.ensures.value, c.segments-segments.ensures.value, count) refl))
+    ∙ ap (λ (cs : List TimedChange). checked (Ok c.in-Ok.settings) (Ok cs)) (sym c.as_slice.ensures.value)
+    ∙ c.in_ok-line.ensures

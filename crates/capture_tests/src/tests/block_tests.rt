@@ -1,6 +1,6 @@
 //! Captures written in blocks, to outputs that take little, and to outputs that fail once.
 use crate::tests::sink_tests::put_two;
-use pcap_stream::{BlockOutput, Sink};
+use pcap_stream::{BlockOutput, Output, Sink};
 use std::alloc::{AllocError, Global};
 use std::test::Fail;
 use test_inputs::Room;
@@ -25,6 +25,56 @@ fn writes_in_blocks(rt: HostRuntime) -> Result<(), Fail> {
             let is_well = writes_two(rt.alloc(), size, n)?;
             assert!(rt; is_well, "blocks of {size}, call {n} fails");
         }
+    }
+    Ok(())
+}
+
+/// How many of 20,000 octets go on where they are written in pieces of this length, in blocks of this size, and others
+/// than these do never.
+fn gone_on(
+    alloc: Global,
+    size: usize,
+    piece: usize,
+    is_finished: bool,
+) -> Result<Option<usize>, AllocError> {
+    let mut text = Vec::with_capacity(alloc, 20_000)?;
+    for i in 0..20_000u32 {
+        text.push((i % 251) as u8)?;
+    }
+    let mut blocks = BlockOutput::new(alloc, Room::new(alloc, 10_000, 0, false), size)?;
+    for part in text.chunks(piece.max(1)) {
+        if blocks.write_all(part).is_err() {
+            return Ok(None);
+        }
+    }
+    if is_finished && blocks.finish().is_err() {
+        return Ok(None);
+    }
+    let written = blocks.into_inner().octets;
+    Ok(
+        text.starts_with(written.as_slice())
+            .then_some(written.len()),
+    )
+}
+
+#[test]
+fn hands_on_full_blocks_alone(rt: HostRuntime) -> Result<(), Fail> {
+    let cases = [
+        (0, 1_000, 20_000),
+        (999, 1_000, 20_000),
+        (4_096, 1_000, 16_000),
+        (4_096, 10, 16_360),
+        (9_999, 5_000, 15_000),
+        (10_000, 2_500, 10_000),
+        (10_000, 5_000, 10_000),
+        (10_000, 1, 10_000),
+        (65_536, 5_000, 0),
+        (20_000, 1, 0),
+        (19_999, 1, 19_999),
+    ];
+    for (size, piece, gone) in &cases {
+        assert_eq!(rt; gone_on(rt.alloc(), *size, *piece, false)?, Some(*gone));
+        assert_eq!(rt; gone_on(rt.alloc(), *size, *piece, true)?, Some(20_000));
     }
     Ok(())
 }

@@ -5,7 +5,6 @@
 //! digits: one more mostly changes one of them. A [`Desk`] is what a run lends to each step.
 #![tactic(auto)]
 
-mod address;
 mod counter;
 mod desk;
 mod front;

@@ -1,8 +1,7 @@
 //! A line of text in one buffer.
 ghost use Rattle.std.specs.Prelude.{◌≡◌, ℕ, ◌≤◌, ◌<◌, ◌+◌, ◌/◌, ◌%◌, List, [], ◌∷◌, ◌++◌, length, take, decimal};
-ghost use Rattle.endpoint_core.specs.Text.{ip4_text, ip6_text};
+ghost use Rattle.endpoint_core.specs.Text.{hex_digit, hex_octet};
 
-use crate::address::{ip4_at, ip6_at};
 use itoa::write_digits;
 use std::marker::Model;
 
@@ -214,24 +213,26 @@ impl Line {
         self.len = len + count;
     }
 
-    /// Puts an IPv4 address, four decimals, at the end.
-    #[inline(always)]
-    pub(crate) fn put_ip4(&mut self, octets: [u8; 4])
-        requires room { length self.old + 16 ≤ 4096 }
-        ensures text { self.new ≡ self.old ++ ip4_text octets }
-        ensures len { length self.new ≤ length self.old + 15 }
+    /// Puts an octet in two hexadecimal digits at the end.
+    #[inline]
+    pub(crate) fn put_hex(&mut self, octet: u8)
+        requires room { length self.old + 2 ≤ 4096 }
+        ensures text { self.new ≡ self.old ++ hex_octet octet }
+        ensures len { length self.new ≡ length self.old + 2 }
     {
-        self.len = ip4_at(&mut self.octets, self.len, octets);
+        self.put_octet(hex_digit(octet / 16));
+        self.put_octet(hex_digit(octet % 16));
     }
+}
 
-    /// Puts an IPv6 address, eight groups of four hexadecimal digits, at the end.
-    #[inline(always)]
-    pub(crate) fn put_ip6(&mut self, octets: &[u8; 16])
-        requires room { length self.old + 48 ≤ 4096 }
-        ensures text { self.new ≡ self.old ++ ip6_text octets.now }
-        ensures len { length self.new ≤ length self.old + 48 }
-    {
-        self.len = ip6_at(&mut self.octets, self.len, octets);
+fn hex_digit(digit: u8) -> u8
+    requires { digit < 16 }
+    ensures { result ≡ hex_digit digit }
+{
+    if digit < 10 {
+        b'0' + digit
+    } else {
+        b'a' - 10 + digit
     }
 }
 

@@ -28,12 +28,6 @@ impl Place {
     pub fn is_same(self, other: Place) -> bool
         ensures { result ≡ same_place self other }
     {
-        match (&self, &other) {
-            (Place::Local(port), Place::Local(other)) => port == other,
-            (Place::Remote(kind, addr), Place::Remote(other, to)) => {
-                kind == other && addr.is_same(to)
-            }
-            _ => false,
-        }
+        self == other
     }
 }

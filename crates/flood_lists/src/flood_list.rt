@@ -97,6 +97,8 @@ impl FloodList {
     fn place(&self, tunnel: Tunnel, addr: Addr) -> Option<usize>
         ensures { result ≡ position (is_entry tunnel addr) self.now }
     {
-        self.entries.iter().position(|entry| entry.tunnel == tunnel && entry.addr.is_same(&addr))
+        self.entries
+            .iter()
+            .position(|entry| entry.tunnel == tunnel && entry.addr == addr)
     }
 }

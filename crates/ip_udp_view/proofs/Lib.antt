@@ -3,4 +3,3 @@ pub mod DatagramLemmas
 pub mod IpLemmas
 pub mod PseudoLemmas
 pub mod UdpLemmas
-pub mod WordsLemmas

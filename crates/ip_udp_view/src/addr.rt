@@ -1,9 +1,7 @@
 //! Tunnel kinds and addresses.
 ghost use Rattle.std.specs.Prelude.{◌≡◌, IsTrue};
-ghost use Rattle.header_sums.specs.Octets.{is_same};
-ghost use Rattle.ip_udp_view.specs.Addr.{is_group, is_usable, group_mac, same_addr};
+ghost use Rattle.ip_udp_view.specs.Addr.{is_group, is_usable, group_mac};
 
-use byteorder::{ByteOrder, LittleEndian};
 use frame_view::Mac;
 
 /// The kind of a tunnel.
@@ -24,28 +22,7 @@ pub enum Addr {
     V6([u8; 16]),
 }
 
-/// Whether two IPv6 addresses are the same, compared by two words.
-#[inline(always)]
-pub fn is_same_ip6(left: &[u8; 16], right: &[u8; 16]) -> bool
-    ensures { result ≡ is_same left.now right.now }
-{
-    LittleEndian::read_u64(left) == LittleEndian::read_u64(right)
-        && LittleEndian::read_u64(&left[8..]) == LittleEndian::read_u64(&right[8..])
-}
-
 impl Addr {
-    /// Whether it is this address.
-    #[inline(always)]
-    pub fn is_same(&self, other: &Addr) -> bool
-        ensures { result ≡ same_addr self.now other.now }
-    {
-        match (self, other) {
-            (Addr::V4(left), Addr::V4(right)) => left == right,
-            (Addr::V6(left), Addr::V6(right)) => is_same_ip6(left, right),
-            _ => false,
-        }
-    }
-
     /// Whether it is the address of a group: 224.0.0.0/4 (RFC 1112, 4) or ff00::/8 (RFC 4291, 2.7).
     pub fn is_group(self) -> bool
         ensures { result ≡ is_group self }
@@ -62,7 +39,7 @@ impl Addr {
     {
         match self {
             Addr::V4(octets) => octets != [0; 4] && octets != [255; 4],
-            Addr::V6(octets) => !is_same_ip6(&octets, &[0; 16]),
+            Addr::V6(octets) => octets != [0; 16],
         }
     }
 

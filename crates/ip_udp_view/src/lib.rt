@@ -16,7 +16,7 @@ pub mod laws;
 mod octets;
 mod udp_view;
 
-pub use addr::{Addr, Tunnel, is_same_ip6};
+pub use addr::{Addr, Tunnel};
 pub use header_sums::UDP;
 pub use ip_fault::IpFault;
 pub use ip_view::{IP4_TYPE, IP6_TYPE, IpView};

@@ -329,7 +329,7 @@ impl Slots {
         requires held { IsSome (entry_at self.now.entries slot) }
         ensures { IfSome (entry_at self.now.entries slot) (λ e. result ≡ same_place e.place place.now) }
     {
-        self.slots[slot.number as usize].place.is_same(*place)
+        self.slots[slot.number as usize].place == *place
     }
 
     /// Gives the slot other neighbours.

@@ -79,7 +79,7 @@ fn to_place(bridge: &Bridge, from: &Place, to: &Place, places: &mut Outlets) -> 
     ensures value { put_or places.new.items result ≡ to_place (config_of bridge.now) from.now to.now }
     ensures empty { OnErr result (places.new.items ≡ []) }
 {
-    if to.is_same(*from) {
+    if *to == *from {
         return Err(Reason::SamePlace);
     }
     if bridge.in_one_group(from, to) {

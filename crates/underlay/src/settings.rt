@@ -6,7 +6,7 @@ use crate::Hops;
 use flood_lists::Own;
 use frame_view::Mac;
 use geneve_head::Known;
-use ip_udp_view::{Addr, Tunnel, is_same_ip6};
+use ip_udp_view::{Addr, Tunnel};
 
 /// The settings of the underlay, which no change touches.
 #[derive(Debug, Drop)]
@@ -56,10 +56,7 @@ impl Underlay {
     {
         match addr {
             Addr::V4(octets) => self.ip4 == Some(octets),
-            Addr::V6(octets) => match &self.ip6 {
-                Some(own) => is_same_ip6(own, &octets),
-                None => false,
-            },
+            Addr::V6(octets) => self.ip6 == Some(octets),
         }
     }
 

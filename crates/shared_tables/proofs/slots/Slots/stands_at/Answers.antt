@@ -10,6 +10,6 @@ index-requires c = omega (arith, made c.self.inside _ _ _ c.self.view_is c.slot.
 
 pub returns : goal.returns
 returns c =
-    let is : c.is_same.result ≡ same_place c.index.result.now.place c.args.place.now = search rules in
-    subst (λ (o : Option Held). IfSome o (λ e. c.is_same.result ≡ same_place e.place c.args.place.now)) (own_entry c.self.inside _ _ _ c.self.view_is c.slot.view_is c.requires.in_pool c.requires.held c.index.result.now c.index.ensures)
-    (of_place (λ (place : Place). c.is_same.result ≡ same_place place c.args.place.now) c.index.result.now is)
+    let is : c.eq.result ≡ same_place c.index.result.now.place c.args.place.now = search rules in
+    subst (λ (o : Option Held). IfSome o (λ e. c.eq.result ≡ same_place e.place c.args.place.now)) (own_entry c.self.inside _ _ _ c.self.view_is c.slot.view_is c.requires.in_pool c.requires.held c.index.result.now c.index.ensures)
+    (of_place (λ (place : Place). c.eq.result ≡ same_place place c.args.place.now) c.index.result.now is)

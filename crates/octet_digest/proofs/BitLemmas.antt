@@ -4,7 +4,8 @@ use Rattle.std.proofs.lemmas.Bool.{cases_lt}
 use Rattle.std.proofs.lemmas.Nat.{shr-shr, shr_split, shr_le, and_le_l, and_le_r, or_lt, xor_lt}
 use Rattle.std.proofs.lemmas.Nat.Bits.{bit_at-lt, bit_at-zero, bit_at_above, bit_at_and, bit_at_cat_high, bit_at_cat_low, bit_at_not, bit_at_or, bit_at_xor, same_from_bits, same_from_bits_below}
 use Rattle.std.specs.Int.{w32, bit_at, bit_not, rotate_right}
-use Rattle.sha2.specs.Sha256.{big_sigma0, big_sigma1, ch, maj, small_sigma1}
+use Rattle.sha2.specs.Sha256.{ch, maj, small_sigma1}
+use Rattle.octet_digest.specs.Lanes.{rotations}
 
 -- ---- parts of a number
 
@@ -66,9 +67,9 @@ small_sigma1_twice x fits =
     ap (λ (y : ℕ). bit_xor y (x / 2 ^ 10)) turned
 
 -- three rotations under xor, each within the one before
-nested : (x a b c : ℕ) → x < 2 ^ 32 → 0 < a → 0 < b → 0 < c → a + b + c < 32
+pub nested : (x a b c : ℕ) → x < 2 ^ 32 → 0 < a → 0 < b → 0 < c → a + b + c < 32
     → rotate_right w32 (bit_xor x (rotate_right w32 (bit_xor x (rotate_right w32 x c)) b)) a
-    ≡ bit_xor (bit_xor (rotate_right w32 x a) (rotate_right w32 x (a + b))) (rotate_right w32 x (a + b + c))
+    ≡ rotations x a (a + b) (a + b + c)
 nested x a b c fits pa pb pc most =
     let one = rotated_lt x c fits in
     let two = xor_lt 32 x (rotate_right w32 x c) fits one in
@@ -96,14 +97,6 @@ nested x a b c fits pa pb pc most =
       on,
     )
     (omega arith))
-
-pub big_sigma0_nested : (x : ℕ) → x < 2 ^ 32
-    → rotate_right w32 (bit_xor x (rotate_right w32 (bit_xor x (rotate_right w32 x 9)) 11)) 2 ≡ big_sigma0 x
-big_sigma0_nested x fits = nested x 2 11 9 fits (omega arith) (omega arith) (omega arith) (omega arith)
-
-pub big_sigma1_nested : (x : ℕ) → x < 2 ^ 32
-    → rotate_right w32 (bit_xor x (rotate_right w32 (bit_xor x (rotate_right w32 x 14)) 5)) 6 ≡ big_sigma1 x
-big_sigma1_nested x fits = nested x 6 5 14 fits (omega arith) (omega arith) (omega arith) (omega arith)
 
 -- ---- choices, which at each bit are sums of two bits
 

@@ -7,4 +7,4 @@ pub returns : goal.returns
 returns c k w e =
     let v = c.args.v in
     let before : ℕ = add32 (add32 (slice_index v 7) (big_sigma1 (slice_index v 4))) (ch (slice_index v 4) (slice_index v 5) (slice_index v 6)) in
-    rw (c.big_sigma1.ensures, c.ch.ensures, c.big_sigma0.ensures, c.maj.ensures, e, key_added before w k) refl
+    rw (c.big_sigma1.ensures, c.choice.ensures, c.big_sigma0.ensures, c.majority.ensures, e, key_added before w k) refl

@@ -2,13 +2,13 @@
 ghost use Rattle.std.specs.Prelude.{MatchOption};
 ghost use Rattle.line_stream.specs.Filled.{EndsAt, HasNoEnd};
 
-use memchr::memchr;
+use line_words::first_place;
 
 /// Where the first line of a text ends, behind its first line feed, where it has one.
 pub(crate) fn end_of_line(text: &[u8]) -> Option<usize>
     ensures { MatchOption result (HasNoEnd text.now) (EndsAt text.now) }
 {
-    match memchr(b'\n', text) {
+    match first_place(b'\n', text, 0) {
         Some(at) => Some(at + 1),
         None => None,
     }

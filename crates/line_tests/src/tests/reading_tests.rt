@@ -76,3 +76,27 @@ fn refuses_a_line_without_its_end(rt: HostRuntime) -> Result<(), Fail> {
     assert_eq!(rt; nothing.as_str(), "NoEnd");
     Ok(())
 }
+
+#[test]
+fn prints_the_words_of_a_result_that_were_not_read(rt: HostRuntime) -> Result<(), Fail> {
+    let line = b"1 1000000000 p1 1 10 p2=60 u!TooBig p3=64\n";
+    let Ok(LineFacts::Event(_, mut places)) = read_line(line) else {
+        return Err(Fail::from("an event"));
+    };
+    let whole = format!(in rt.alloc(); "{places:?}")?;
+    assert_eq!(rt;
+        whole.as_str(),
+        "Places { rest: [112, 50, 61, 54, 48, 32, 117, 33, 84, 111, 111, 66, 105, 103, 32, 112, 51, 61, 54, 52] }"
+    );
+    assert!(rt; places.next_place().is_some());
+    let behind = format!(in rt.alloc(); "{places:?}")?;
+    assert_eq!(rt;
+        behind.as_str(),
+        "Places { rest: [117, 33, 84, 111, 111, 66, 105, 103, 32, 112, 51, 61, 54, 52] }"
+    );
+    assert!(rt; places.next_place().is_some());
+    assert!(rt; places.next_place().is_none());
+    let none = format!(in rt.alloc(); "{places:?}")?;
+    assert_eq!(rt; none.as_str(), "Places { rest: [] }");
+    Ok(())
+}

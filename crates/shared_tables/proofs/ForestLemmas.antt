@@ -13,7 +13,7 @@ use Rattle.shared_tables.specs.Line.{is_on, weight}
 use Rattle.shared_tables.specs.Shared.{chain_key}
 use Rattle.shared_tables.specs.Threads.{IsHeld}
 use Rattle.shared_tables.specs.Trees.{Tree, Leaf, Fork, leaves, IsTree, IsParted, descend}
-use Rattle.shared_tables.specs.Woods.{Woods, target_in, fork_word, target_at, number_at, child_of}
+use Rattle.shared_tables.specs.Woods.{Woods, target_in, IsFork, fork_word, target_at, number_at, child_of}
 use Rattle.shared_tables.specs.Forest.{keys_of, key_in, leaves_of, IsRooted, AnyParted, LeadsTo, IsChain, Belongs, IsBare, StandsAt, IsForest}
 use Rattle.shared_tables.proofs.Linked.{by_bool, equal, nat_eq_refl}
 use Rattle.shared_tables.proofs.TreeLemmas.{true_false, by_side, same_tree, tree_there, only_leaf, other_right, parted_frame}
@@ -57,6 +57,23 @@ fork_is n b p q =
     ap (λ c. cond c (target.Leaf (65536 + n * 64 + b)) (cond (nat_eq (65536 + n * 64 + b) 4294967295) target.Nothing (target.Fork ((65536 + n * 64 + b - 65536) / 64) ((65536 + n * 64 + b - 65536) % 64)))) no
     ∙ ap (λ c. cond c target.Nothing (target.Fork ((65536 + n * 64 + b - 65536) / 64) ((65536 + n * 64 + b - 65536) % 64))) nor
     ∙ ap (λ k. target.Fork k ((65536 + n * 64 + b - 65536) % 64)) fork ∙ ap (target.Fork n) bit
+
+pub fork_told : (word : ℕ) → IsFork word → target_in word ≡ target.Fork ((word - 65536) / 64) ((word - 65536) % 64)
+unfolding target_in
+fork_told word f =
+    let no : nat_lt word 65536 ≡ false = grind (arith, nat_tests, f.0) in
+    let nor : nat_eq word 4294967295 ≡ false = grind (arith, nat_tests, f.1) in
+    ap (λ c. cond c (target.Leaf word) (cond (nat_eq word 4294967295) target.Nothing (target.Fork ((word - 65536) / 64) ((word - 65536) % 64)))) no
+    ∙ ap (λ c. cond c target.Nothing (target.Fork ((word - 65536) / 64) ((word - 65536) % 64))) nor
+
+pub no_fork_told : (word n b : ℕ) → (IsFork word → ⊥) → target_in word ≢ target.Fork n b
+unfolding target_in
+no_fork_told word n b none = go (nat_lt word 65536) (nat_eq word 4294967295) refl refl
+  where
+    go : (x y : Bool) → nat_lt word 65536 ≡ x → nat_eq word 4294967295 ≡ y → cond x (target.Leaf word) (cond y target.Nothing (target.Fork ((word - 65536) / 64) ((word - 65536) % 64))) ≢ target.Fork n b
+    go true y p q e = let bad : target.Leaf word ≡ target.Fork n b = e in cc
+    go false true p q e = let bad : target.Nothing ≡ target.Fork n b = e in cc
+    go false false p q e = absurd (none (grind (arith, nat_tests, p), apart word 4294967295 q))
 
 -- a place where something stands is there
 pub in_words : (words : List ℕ) (p : ℕ) → target_at words p ≢ target.Nothing → p < length words

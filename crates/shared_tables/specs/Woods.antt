@@ -1,5 +1,5 @@
 -- The trees of the chains, as they are kept: numbers in four columns. It states no standard.
-use Rattle.std.specs.Prelude.{◌≡◌, ℕ, ◌+◌, ◌-◌, ◌*◌, ◌/◌, ◌%◌, ◌<◌, ◌≤◌, List, length, nat_eq, nat_lt, slice_index_or, slice_set, replicate, if◌then◌else◌}
+use Rattle.std.specs.Prelude.{◌≡◌, ◌≢◌, ℕ, ◌+◌, ◌-◌, ◌*◌, ◌/◌, ◌%◌, ◌<◌, ◌≤◌, List, length, nat_eq, nat_lt, slice_index_or, slice_set, replicate, if◌then◌else◌}
 use Rattle.std.specs.List.{range_with_len}
 use Rattle.shared_tables.specs.declared.forest.Target.{Target}
 use Rattle.shared_tables.specs.declared.forest.Target.TheVariants.{Nothing, Leaf, Fork}
@@ -18,6 +18,10 @@ target_in word =
     if nat_lt word 65536 then Leaf word
     else if nat_eq word 4294967295 then Nothing
     else Fork ((word - 65536) / 64) ((word - 65536) % 64)
+
+-- a word says that a fork stands there
+abbrev pub IsFork : ℕ → Type 0
+IsFork word = (65536 ≤ word) × (word ≢ 4294967295)
 
 -- the word of a fork
 abbrev pub fork_word : ℕ → ℕ → ℕ
@@ -102,10 +106,6 @@ pruned w fork side slot =
       words = slice_set (slice_set (slice_set w.words above sibling) (child_of fork 0) 4294967295) (child_of fork 1) 4294967295;
       leaves = slice_set moved.leaves slot fork;
     }
-
--- a slot is at the root of its chain
-abbrev pub IsRoot : Woods → ℕ → Type 0
-IsRoot w slot = number_at w.leaves slot < 65536
 
 -- what letting a slot behind a fork go reads is in the columns
 pub record MayGo (w : Woods) (slot : ℕ) : Type 0 where

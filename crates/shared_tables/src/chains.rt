@@ -7,7 +7,7 @@ ghost use Rattle.shared_tables.specs.Whole.{Finds};
 ghost use Rattle.shared_tables.specs.Bucket.{bucket_of, chain_of};
 
 use crate::bucket;
-use crate::forest::{Forest, Target};
+use crate::forest::{Forest, Target, bit_in, fork_in, is_fork, read};
 use crate::links::SlotId;
 use crate::slots::Slots;
 use frame_view::{Mac, Vid};
@@ -42,12 +42,12 @@ pub fn find_in(slots: &mut Slots, forest: &Forest, chain: usize, vid: Vid, mac: 
     ensures compared { slots.new.compared ≤ slots.old.compared + bucket_count (bucket_of vid mac) slots.old.entries }
 {
     let key = bucket::key(vid, mac);
-    let mut target = forest.root(chain);
-    while let Target::Fork(fork, bit) = target {
+    let mut word = forest.root(chain);
+    while is_fork(word) {
         slots.step();
-        target = forest.next(fork, side(key, bit));
+        word = forest.next(fork_in(word), side(key, bit_in(word)));
     }
-    match target {
+    match read(word) {
         Target::Leaf(number) => {
             let slot = SlotId { number };
             if slots.same(slot, vid, mac) {

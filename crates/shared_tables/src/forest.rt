@@ -1,9 +1,8 @@
 //! The trees that find an address: one for each chain, with the slots of its entries as leaves. A fork sends an address
 //! on by one bit of its key, so a way down is never longer than a key has bits. Bits come along a way in any order, each
 //! once: so an entry comes to a leaf, and goes, by a few writes.
-ghost use Rattle.std.specs.Prelude.{◌≡◌, ◌-◌, ◌<◌, ◌≤◌, IfOk, length, replicate};
-ghost use Rattle.std.specs.List.{range_with_len};
-ghost use Rattle.shared_tables.specs.Woods.{target_in, fork_word, child_of, target_at, number_at, planted, grafted, cleared, pruned, standing, Uproots, MayGo, HasSizes, bare_woods, Names};
+ghost use Rattle.std.specs.Prelude.{◌≡◌, ◌-◌, ◌/◌, ◌%◌, ◌<◌, ◌≤◌, ◌↔◌, IsTrue, IfOk, length};
+ghost use Rattle.shared_tables.specs.Woods.{target_in, IsFork, fork_word, child_of, target_at, number_at, planted, grafted, cleared, pruned, standing, Uproots, MayGo, HasSizes, bare_woods, Names};
 
 use crate::bucket::CHAINS;
 use crate::columns::{Columns, NOTHING};
@@ -43,10 +42,36 @@ impl Model for Forest {
     ghost view = { λ f. f.columns };
 }
 
+/// Whether a word says that a fork stands there.
+#[inline(always)]
+pub fn is_fork(word: u32) -> bool
+    ensures { IsTrue result ↔ IsFork word }
+{
+    word >= FORKS && word != NOTHING
+}
+
+/// The number of the fork that a word says.
+#[inline(always)]
+pub fn fork_in(word: u32) -> u32
+    requires { IsFork word }
+    ensures { result ≡ (word - 65536) / 64 }
+{
+    (word - FORKS) / BITS
+}
+
+/// The bit that tells the way on at the fork that a word says.
+#[inline(always)]
+pub fn bit_in(word: u32) -> u32
+    requires { IsFork word }
+    ensures { result ≡ (word - 65536) % 64 }
+{
+    (word - FORKS) % BITS
+}
+
 /// What a word says.
 #[inline(always)]
 #[tactic(auto, unfolding(crate::specs::Woods::target_in))]
-fn read(word: u32) -> Target
+pub fn read(word: u32) -> Target
     ensures { result ≡ target_in word }
 {
     if word < FORKS {
@@ -54,7 +79,7 @@ fn read(word: u32) -> Target
     } else if word == NOTHING {
         Target::Nothing
     } else {
-        Target::Fork((word - FORKS) / BITS, (word - FORKS) % BITS)
+        Target::Fork(fork_in(word), bit_in(word))
     }
 }
 
@@ -88,24 +113,24 @@ impl Forest {
         })
     }
 
-    /// What stands at the root of a chain.
+    /// The word that stands at the root of a chain.
     #[inline(always)]
-    pub fn root(&self, chain: usize) -> Target
+    pub fn root(&self, chain: usize) -> u32
         requires { chain < length self.now.words }
-        ensures { result ≡ target_at self.now.words chain }
+        ensures { target_in result ≡ target_at self.now.words chain }
     {
-        read(self.columns.word(chain))
+        self.columns.word(chain)
     }
 
-    /// What stands on one side of a fork: 0 or 1.
+    /// The word that stands on one side of a fork: 0 or 1.
     #[inline(always)]
-    pub fn next(&self, fork: u32, side: u32) -> Target
+    pub fn next(&self, fork: u32, side: u32) -> u32
         requires sizes { HasSizes self.now }
         requires fork { fork < length self.now.forks }
         requires side { side < 2 }
-        ensures { result ≡ target_at self.now.words (child_of fork side) }
+        ensures { target_in result ≡ target_at self.now.words (child_of fork side) }
     {
-        read(self.columns.word(child(fork, side) as usize))
+        self.columns.word(child(fork, side) as usize)
     }
 
     /// Makes a slot the only leaf of a chain.

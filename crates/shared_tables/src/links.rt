@@ -75,7 +75,7 @@ impl Link {
     }
 }
 
-/// A slot's neighbours on a thread: none at an end, and on a thread that the slot isn't on.
+/// A slot's neighbours on a line: none at an end, and where the slot is on no line.
 #[derive(Clone, Copy)]
 pub struct Links {
     pub previous: Link,

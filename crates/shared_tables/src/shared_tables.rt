@@ -131,6 +131,7 @@ impl SharedTables {
 
     /// The slot of an address, which is on this chain; where no slot holds it, an entry comes, if the segment has room or
     /// its oldest entry is dead.
+    #[inline(always)]
     pub(crate) fn find_or_enter(
         &mut self,
         chain: usize,

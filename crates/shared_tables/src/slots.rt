@@ -1,4 +1,4 @@
-//! The slots of a pool. An address is compared, and an entry's age is told, by this module alone.
+//! The slots of a pool. An address is looked for in a slot, and an entry's age is told, by this module alone.
 ghost use Rattle.std.specs.Prelude.{◌≡◌, ℕ, ◌+◌, ◌<◌, ◌≤◌, ◌↔◌, IsTrue, IfOk, IfSome, IsSome, Some, None, Option, false, length, replicate, slice_set};
 ghost use Rattle.shared_tables.specs.Pool.{Pool, Held, entry_at, links_at, free_count, is_fixed_in, is_dead_in, alone, links_with, IfHeld, taken, freed, renewed, readdressed, place_in, free_pool};
 ghost use Rattle.shared_tables.specs.Forest.{key_in};
@@ -53,7 +53,7 @@ pub struct Slots {
     size: u32,
     /// The first slot of the free list: the one that was freed last.
     free: Link,
-    /// How often an address was compared with a slot's, or sent on by a fork.
+    /// How often an address was looked for in a slot, or sent on by a fork.
     compared: Count,
     /// How often an entry's age was told.
     visited: Count,
@@ -244,7 +244,7 @@ impl Slots {
         self.size
     }
 
-    /// Whether a slot holds this address of this segment. It is the only way to find an address in a slot but for a listing.
+    /// Whether a slot holds this address of this segment. It is the only way to look for an address in a slot but for a listing.
     pub fn same(&mut self, slot: SlotId, vid: Vid, mac: Mac) -> bool
         requires in_pool { slot < length self.old.entries }
         requires held { IsSome (entry_at self.old.entries slot) }
@@ -275,7 +275,7 @@ impl Slots {
         self.compared.tick();
     }
 
-    /// The key of what the slot holds, for the fork that parts it from another one beside it.
+    /// The key of what the slot holds, for the fork that parts it from another one beside it: no address is looked for by it.
     pub fn key(&self, slot: SlotId) -> u64
         requires in_pool { slot < length self.now.entries }
         requires held { IsSome (entry_at self.now.entries slot) }

@@ -1,6 +1,5 @@
 pub mod Linked
 pub mod Buckets
-mod Addresses
 mod ColumnsLemmas
 pub mod Keys
 pub mod SlotsLemmas

@@ -1,8 +1,7 @@
 -- A walk along a line of a segment, and what both its lines list.
-use Rattle.std.proofs.Common.{◌≡◌, ℕ, zero, suc, ◌+◌, ◌<◌, ◌≤◌, Bool, true, false, ◌&&◌, ◌||◌, List, [], ◌∷◌, ◌++◌, length, map, get_or, Option, Some, None, IfSome, nat_eq, is_none, refl, sym, ap, ◌∙◌, subst, arith, inl, inr, ◌⊎◌, append-nil, append_assoc, length-append}
+use Rattle.std.proofs.Common.{◌≡◌, ℕ, zero, suc, ◌+◌, ◌<◌, ◌≤◌, Bool, true, false, ◌&&◌, ◌||◌, List, [], ◌∷◌, ◌++◌, length, map, get_or, Option, Some, None, nat_eq, is_none, refl, sym, ap, ◌∙◌, subst, arith, inl, inr, ◌⊎◌, append-nil, append_assoc, length-append}
 use Rattle.std.proofs.lemmas.Bool.{cases_lt}
 use Rattle.std.proofs.lemmas.List.{get_or_past, length-map}
-use Rattle.std.proofs.lemmas.List.Elements.{All-nil, All-push}
 use Rattle.std.specs.FinMap.{from_entries}
 use Rattle.std.specs.Option.{option_map, option_to_list}
 use Rattle.std.specs.List.{cons_option}
@@ -13,7 +12,7 @@ use Rattle.filter_db.specs.Table.{mac_cmp, live}
 use Rattle.shared_tables.specs.declared.links.Links.{Links}
 use Rattle.shared_tables.specs.declared.share.Share.{Share}
 use Rattle.shared_tables.specs.Line.{first_of, is_on, IsApart, IsLinked}
-use Rattle.shared_tables.specs.Listing.{live_row, live_rows, AreAddressed, AreSlotsOf, IsAddress, ListsLine}
+use Rattle.shared_tables.specs.Listing.{live_row, live_rows, AreSlotsOf, ListsLine}
 use Rattle.shared_tables.specs.Pool.{Held, IfHeld, entry_at, links_at}
 use Rattle.shared_tables.specs.Segments.{entry_of, kept_table}
 use Rattle.shared_tables.specs.Shared.{IsUnique, Lacks, line_key, same_bool}
@@ -34,7 +33,6 @@ pub record Lists (es : List (Option Held)) (ls : List Links) (v : ℕ) (fixed : 
   pub all : AreSlotsOf es v fixed (done ++ rest)
   pub here : cursor ≡ first_of rest None
   pub rows : now ≡ old ++ live_rows v a t (map (entry_at es) done)
-  pub addressed : AreAddressed old → AreAddressed now
   pub steps_are : length done ≡ steps
   pub few : length (done ++ rest) ≤ count
 
@@ -47,7 +45,6 @@ list_starts es ls v fixed a t old share moment cursor h is = record {
   all = record { apart = (h.thread fixed).apart; members = (h.thread fixed).members };
   here = is ∙ (h.thread fixed).begins;
   rows = sym (append-nil old);
-  addressed = λ h. h;
   steps_are = refl;
   few = elim fixed as (λ b. length (h.list b) ≤ share.count) [ true ↦ omega (arith, h.count) | false ↦ omega (arith, h.count) ];
 }
@@ -59,7 +56,6 @@ record At (es : List (Option Held)) (ls : List Links) (v : ℕ) (fixed : Bool) (
   linked : IsLinked ls None (done ++ slot ∷ rest) None
   all : AreSlotsOf es v fixed (done ++ slot ∷ rest)
   rows : now ≡ old ++ live_rows v a t (map (entry_at es) done)
-  addressed : AreAddressed old → AreAddressed now
   steps_are : length done ≡ steps
   few : length (done ++ slot ∷ rest) ≤ count
 
@@ -76,7 +72,6 @@ stands es ls v fixed a t old now slot steps count w = from w.rest w.here w.linke
           linked = subst (λ k. IsLinked ls None (w.done ++ k ∷ rest) None) q l;
           all = subst (λ k. AreSlotsOf es v fixed (w.done ++ k ∷ rest)) q m;
           rows = w.rows;
-          addressed = w.addressed;
           steps_are = w.steps_are;
           few = subst (λ k. length (w.done ++ k ∷ rest) ≤ count) q f;
         }
@@ -94,11 +89,6 @@ rows_more v a t es (j ∷ js) i row is = out (live_row v a t (entry_at es j)) (l
     out None rs = refl
     out (Some r) rs = refl
 
--- a row of an address behind others
-with_row : (rows : Rows) (row : Option (List ℕ × Entry)) → AreAddressed rows → IfSome row (λ r. IsAddress r.0) → AreAddressed (rows ++ option_to_list row)
-with_row rows None all one = subst AreAddressed (sym (append-nil rows)) all
-with_row rows (Some row) all one = All-push (λ (r : List ℕ × Entry). IsAddress r.0) rows row all one
-
 module _ (es : List (Option Held)) (ls : List Links) (v : ℕ) (fixed : Bool) (a t : ℕ) (old now : Rows) (slot steps count : ℕ) (w : Lists es ls v fixed a t old now (Some slot) steps count) where
   abbrev at : At es ls v fixed a t old now slot steps count
   at = stands es ls v fixed a t old now slot steps count w
@@ -109,9 +99,9 @@ module _ (es : List (Option Held)) (ls : List Links) (v : ℕ) (fixed : Bool) (a
   pub list_held : IsHeld es slot
   list_held = on_line_held v fixed es slot keyed
 
-  pub list_on : (row : Option (List ℕ × Entry)) (new : Rows) (next : Option ℕ) → row ≡ live_row v a t (entry_at es slot) → IfSome row (λ r. IsAddress r.0) → new ≡ now ++ option_to_list row → next ≡ (links_at ls slot).next
+  pub list_on : (row : Option (List ℕ × Entry)) (new : Rows) (next : Option ℕ) → row ≡ live_row v a t (entry_at es slot) → new ≡ now ++ option_to_list row → next ≡ (links_at ls slot).next
       → Lists es ls v fixed a t old new next (steps + 1) count
-  list_on row new next is six put on =
+  list_on row new next is put on =
       let whole : (at.done ++ slot ∷ []) ++ at.rest ≡ at.done ++ slot ∷ at.rest = append_assoc at.done (slot ∷ []) at.rest in
       let own = (linked_split ls at.done (slot ∷ at.rest) None None at.linked).1.0 in
       record {
@@ -121,7 +111,6 @@ module _ (es : List (Option Held)) (ls : List Links) (v : ℕ) (fixed : Bool) (a
         all = subst (AreSlotsOf es v fixed) (sym whole) at.all;
         here = on ∙ ap (λ (l : Links). l.next) own;
         rows = put ∙ ap (λ (rs : Rows). rs ++ option_to_list row) at.rows ∙ append_assoc old (live_rows v a t (map (entry_at es) at.done)) (option_to_list row) ∙ ap (λ (rs : Rows). old ++ rs) (rows_more v a t es at.done slot row is);
-        addressed = λ h. subst AreAddressed (sym put) (with_row now row (at.addressed h) six);
         steps_are = omega (arith, at.steps_are, length-append at.done (slot ∷ []));
         few = subst (λ (is : List ℕ). length is ≤ count) (sym whole) at.few;
       }
@@ -132,7 +121,6 @@ list_whole es ls v fixed a t old now cursor steps count w none = record {
   slots = w.done;
   all = subst (AreSlotsOf es v fixed) (ap (λ (r : List ℕ). w.done ++ r) none ∙ append-nil w.done) w.all;
   rows = w.rows;
-  addressed = w.addressed;
 }
 
 pub list_ends : (es : List (Option Held)) (ls : List Links) (v : ℕ) (fixed : Bool) (a t : ℕ) (old now : Rows) (steps count : ℕ) → Lists es ls v fixed a t old now None steps count → ListsLine es v fixed a t old now
@@ -286,6 +274,3 @@ both_listed es v a t none one both unique empty aged fixed =
       subst AreUnique (sym is) (both_unique es v unique aged.slots fixed.slots aged.all fixed.all a t),
       ap (from_entries {R = mac_cmp}) is ∙ both_table es v unique aged.slots fixed.slots aged.all fixed.all a t,
     )
-
-pub both_addressed : (es : List (Option Held)) (v a t : ℕ) (none one both : Rows) → none ≡ [] → ListsLine es v false a t none one → ListsLine es v true a t one both → AreAddressed both
-both_addressed es v a t none one both empty aged fixed = fixed.addressed (aged.addressed (subst AreAddressed (sym empty) (All-nil (λ (r : List ℕ × Entry). IsAddress r.0))))

@@ -1,11 +1,9 @@
 -- The live entries of a segment, as the slots have them. It serves proofs.
-use Rattle.std.specs.Prelude.{◌≡◌, ℕ, ◌&&◌, Bool, List, ◌++◌, length, map, Option, Some, None, nat_eq, if◌then◌else◌}
-use Rattle.std.specs.List.{All, filter_map}
-use Rattle.std.specs.Slice.Scan.{big_endian}
+use Rattle.std.specs.Prelude.{◌≡◌, ℕ, ◌&&◌, Bool, List, ◌++◌, map, Option, Some, None, nat_eq, if◌then◌else◌}
+use Rattle.std.specs.List.{filter_map}
 use Rattle.filter_db.specs.declared.entry.Entry.{Entry}
 use Rattle.filter_db.specs.Table.{is_live}
 use Rattle.filter_db.specs.Rows.{Rows}
-use Rattle.header_sums.specs.Octets.{IsText}
 use Rattle.shared_tables.specs.Line.{IsApart, is_on}
 use Rattle.shared_tables.specs.Pool.{Held, entry_at}
 use Rattle.shared_tables.specs.Shared.{line_key}
@@ -20,18 +18,6 @@ live_row vid ageing now (Some e) = if nat_eq e.vid vid && is_live ageing now (en
 abbrev pub live_rows : ℕ → ℕ → ℕ → List (Option Held) → Rows
 live_rows vid ageing now entries = filter_map (live_row vid ageing now) entries
 
--- an address as one number: its octets, the highest first
-abbrev pub number_of : List ℕ → ℕ
-number_of mac = big_endian 0 mac
-
--- six octets
-abbrev pub IsAddress : List ℕ → Type 0
-IsAddress mac = (length mac ≡ 6) × IsText mac
-
--- the address of each row is six octets
-abbrev pub AreAddressed : Rows → Type 0
-AreAddressed rows = All (λ (row : List ℕ × Entry). IsAddress row.0) rows
-
 -- the slots that hold the fixed entries of a segment, or those of its age queue, each once
 pub record AreSlotsOf (entries : List (Option Held)) (vid : ℕ) (fixed : Bool) (slots : List ℕ) : Type 0 where
   pub apart : IsApart slots
@@ -42,4 +28,3 @@ pub record ListsLine (entries : List (Option Held)) (vid : ℕ) (fixed : Bool) (
   pub slots : List ℕ
   pub all : AreSlotsOf entries vid fixed slots
   pub rows : new ≡ old ++ live_rows vid ageing now (map (entry_at entries) slots)
-  pub addressed : AreAddressed old → AreAddressed new

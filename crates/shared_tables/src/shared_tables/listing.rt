@@ -5,7 +5,7 @@ ghost use Rattle.std.specs.Option.{option_to_list};
 ghost use Rattle.filter_db.specs.Rows.{AreUnique};
 ghost use Rattle.filter_db.specs.Table.{mac_cmp, nanoseconds};
 ghost use Rattle.filter_db.specs.Segment.{aged_all, segment_at};
-ghost use Rattle.shared_tables.specs.Listing.{AreAddressed, ListsLine, number_of};
+ghost use Rattle.shared_tables.specs.Listing.{ListsLine};
 ghost use Rattle.shared_tables.specs.Segments.{segments_of};
 ghost use Rattle.shared_tables.specs.Sound.{IsLines, line_at};
 
@@ -90,16 +90,12 @@ fn put_row(rows: &mut Vec<(Mac, Entry)>, row: Option<(Mac, Entry)>) -> Result<()
 
 /// Puts the rows of different addresses in the order of these.
 fn put_in_order(rows: &mut Vec<(Mac, Entry)>)
-    requires unique { AreUnique rows.old.items }
-    requires addressed { AreAddressed rows.old.items }
+    requires { AreUnique rows.old.items }
     ensures { rows.new.items ≡ entries (from_entries {R = mac_cmp} rows.old.items) }
 {
     rows.sort_unstable_by_key(
         |row|
-            ensures { result ≡ number_of row.now.0 }
-        {
-            let [a, b, c, d, e, f] = row.0.0;
-            u64::from_be_bytes([0, 0, a, b, c, d, e, f])
-        },
+            ensures { result ≡ row.now.0 }
+        { row.0.0 },
     );
 }

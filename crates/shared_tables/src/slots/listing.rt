@@ -1,8 +1,8 @@
 //! The live entries of a segment, listed.
-ghost use Rattle.std.specs.Prelude.{◌≡◌, ◌<◌, IfSome, IsSome, length};
+ghost use Rattle.std.specs.Prelude.{◌≡◌, ◌<◌, IsSome, length};
 ghost use Rattle.shared_tables.specs.Pool.{entry_at};
 ghost use Rattle.shared_tables.specs.Slots.{entry_in};
-ghost use Rattle.shared_tables.specs.Listing.{IsAddress, live_row};
+ghost use Rattle.shared_tables.specs.Listing.{live_row};
 
 use super::{Kind, Slot, Slots, is_dead};
 use crate::bucket::{mac_of, vid_of};
@@ -16,8 +16,7 @@ impl Slots {
     pub fn live_row(&self, slot: SlotId, vid: Vid, ageing: u64, now: u64) -> Option<(Mac, Entry)>
         requires in_pool { slot < length self.now.entries }
         requires held { IsSome (entry_at self.now.entries slot) }
-        ensures row { result ≡ live_row vid ageing now (entry_at self.now.entries slot) }
-        ensures addressed { IfSome result (λ row. IsAddress row.0) }
+        ensures { result ≡ live_row vid ageing now (entry_at self.now.entries slot) }
     {
         live_row(&self.slots[slot.number as usize], vid, ageing, now)
     }

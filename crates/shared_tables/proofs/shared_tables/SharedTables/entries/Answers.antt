@@ -10,7 +10,7 @@ use Rattle.shared_tables.specs.Segments.{segments_of}
 use Rattle.shared_tables.specs.Shared.{Rule, Shared, rule_at, span_of}
 use Rattle.shared_tables.specs.SharedInside.{shared_of}
 use Rattle.shared_tables.specs.Sound.{rule_of, share_at}
-use Rattle.shared_tables.proofs.Lining.{both_addressed, both_listed}
+use Rattle.shared_tables.proofs.Lining.{both_listed}
 use Rattle.shared_tables.proofs.ListingLemmas.{listed, listed_none}
 use Rattle.shared_tables.proofs.SoundLemmas.{rule_is, share_read}
 use Rattle.shared_tables.proofs.shared_tables.SharedTables.entries.Goals as goal
@@ -34,13 +34,7 @@ put_line-requires-2 c =
 
 pub put_in_order-requires : goal.put_in_order-requires
 put_in_order-requires c =
-    let es = c.self.inside.slots.entries in
-    let v = c.args.vid in
-    let a = nanoseconds c.in-Some.share.ageing in
-    record {
-      unique = (both_listed es v a c.args.now _ _ _ c.self.invariant.sound.unique c.new-rows.ensures.items c.in_ok-put_line.ensures c.in_ok-put_line-2.ensures).0;
-      addressed = both_addressed es v a c.args.now _ _ _ c.new-rows.ensures.items c.in_ok-put_line.ensures c.in_ok-put_line-2.ensures;
-    }
+    (both_listed c.self.inside.slots.entries c.args.vid (nanoseconds c.in-Some.share.ageing) c.args.now _ _ _ c.self.invariant.sound.unique c.new-rows.ensures.items c.in_ok-put_line.ensures c.in_ok-put_line-2.ensures).0
 
 pub returns : goal.returns
 returns c =

@@ -24,7 +24,7 @@ pub loop-entry-preserved : goal.loop-entry-preserved
 loop-entry-preserved c =
     let w = subst (λ (o : Option ℕ). Lists c.args.slots.now.entries c.args.slots.now.lines c.args.vid c.args.fixed (c.from-ageing.result * 1000000000) c.args.now c.args.rows.now.items c.loop-entry.rows.items o c.loop-entry._entry c.args.share.now.count) (sym c.slot.ensures ∙ c.in-Some.is) c.loop-entry.invariant in
     list_on c.args.slots.now.entries c.args.slots.now.lines c.args.vid c.args.fixed _ c.args.now c.args.rows.now.items c.loop-entry.rows.items c.in-Some.slot c.loop-entry._entry c.args.share.now.count w
-    c.live_row.result c.put_row.new.rows.items _ c.live_row.ensures.row c.live_row.ensures.addressed c.in_ok-put_row.ensures (ap (λ (l : Links). l.next) c.links-cursor.ensures)
+    c.live_row.result c.put_row.new.rows.items _ c.live_row.ensures c.in_ok-put_row.ensures (ap (λ (l : Links). l.next) c.links-cursor.ensures)
 
 pub returns-in_default : goal.returns-in_default
 returns-in_default c =

@@ -1,12 +1,9 @@
 -- Names that are looked at one after another.
-use Rattle.std.proofs.Common.{◌≡◌, ◌≢◌, ◌∙◌, ap, sym, refl, ℕ, zero, suc, ◌+◌, ◌<◌, ◌≤◌, Bool, false, ◌||◌, List, [], ◌∷◌, map, take, length, slice_index_or, slice_set, Bor, arith, inl, inr, ◌⊎◌}
-use Rattle.std.proofs.lemmas.Bool.{cases_eq}
-use Rattle.std.proofs.Math.Bool.{or_comm}
-use Rattle.std.proofs.lemmas.List.{ext_get_or, get_or-map, get_or-set_other, get_or-set_same, get_or_default, length-map}
-use Rattle.std.proofs.lemmas.List.Folds.{list_any_more}
+use Rattle.std.proofs.Common.{◌≡◌, ◌∙◌, ap, sym, refl, ℕ, zero, suc, ◌<◌, Bool, false, ◌||◌, List, [], ◌∷◌, length, slice_index_or, arith}
+use Rattle.std.proofs.lemmas.List.{ext_get_or}
 use Rattle.timeline.specs.declared.event.Event.{Event}
 use Rattle.run_reports.specs.Name.{is_named}
-use Rattle.run_reports.specs.Report.{found_behind, is_asked}
+use Rattle.run_reports.specs.Report.{found_behind}
 
 -- ---- which of the names an event had
 

@@ -6,7 +6,6 @@
 #![tactic(auto)]
 
 mod asked;
-mod name;
 mod onlooker;
 mod reading;
 mod reports;

@@ -6,11 +6,10 @@ use Rattle.overlay_config.specs.Fault.{Meaning, GivesAs}
 use Rattle.overlay_config.specs.Settings.{Settings}
 use Rattle.overlay_settings.specs.declared.change.TimedChange.{TimedChange}
 use Rattle.capture_run.specs.Fault.{of_settings, of_changes}
-use Rattle.dissector.specs.Check.{checked}
-use Rattle.explanation.specs.Explanation.{Gives as GivesText}
+use Rattle.dissector.specs.Check.{Reads, both}
 
 pub settings_refused : {A : Type 0} (view : A → Settings) (fault : SettingsFault) (s : Meaning Settings) (c : Meaning (List TimedChange))
-    → GivesAs view (Err fault) s → GivesText (Err (of_settings fault)) (checked s c)
+    → GivesAs view (Err fault) s → Reads (Err (of_settings fault)) (both s c)
 settings_refused view text.NotToml s c h = rw h refl
 settings_refused view (text.Missing key) s c h = rw h refl
 settings_refused view (text.BadValue key) s c h = rw h refl
@@ -20,7 +19,7 @@ settings_refused view (text.OverLimit key) s c h = rw h refl
 settings_refused view text.OutOfMemory s c h = tt
 
 pub changes_refused : {A : Type 0} (view : A → List TimedChange) (fault : SettingsFault) (s : Settings) (c : Meaning (List TimedChange))
-    → GivesAs view (Err fault) c → GivesText (Err (of_changes fault)) (checked (Ok s) c)
+    → GivesAs view (Err fault) c → Reads (Err (of_changes fault)) (both (Ok s) c)
 changes_refused view text.NotToml s c h = rw h refl
 changes_refused view (text.Missing key) s c h = rw h refl
 changes_refused view (text.BadValue key) s c h = rw h refl

@@ -2,7 +2,7 @@
 ghost use Rattle.std.specs.Prelude.{◌≡◌, Ok, IfOk};
 ghost use Rattle.overlay_config.specs.Change.{changes_in};
 ghost use Rattle.overlay_config.specs.Settings.{settings_in};
-ghost use Rattle.dissector.specs.Check.{checked, counts_line};
+ghost use Rattle.dissector.specs.Check.{Reads, both, checked, counts_line};
 ghost use Rattle.explanation.specs.Explanation.{Gives as GivesText};
 
 use capture_run::{RunFault, of_changes, of_settings};
@@ -16,16 +16,29 @@ use std::fmt::Write;
 pub fn check_text(alloc: Global, settings: &[u8], changes: &[u8]) -> Result<Vec<u8>, RunFault>
     ensures { GivesText result (checked (settings_in settings.now) (changes_in changes.now)) }
 {
+    let (settings, changes) = read_texts(alloc, settings, changes)?;
+    let line = check_read(alloc, &settings, changes.as_slice())?;
+    Ok(line)
+}
+
+/// What a settings text and a changes text mean.
+///
+/// The first fault is answered, the settings' before the changes'. `OutOfMemory` comes only where memory was refused.
+pub fn read_texts(
+    alloc: Global,
+    settings: &[u8],
+    changes: &[u8],
+) -> Result<(Settings, Vec<TimedChange>), RunFault>
+    ensures { Reads result (both (settings_in settings.now) (changes_in changes.now)) }
+{
     let settings = match settings_of(alloc, settings) {
         Ok(settings) => settings,
         Err(fault) => return Err(of_settings(fault)),
     };
-    let changes = match changes_of(alloc, changes) {
-        Ok(changes) => changes,
-        Err(fault) => return Err(of_changes(fault)),
-    };
-    let line = check_read(alloc, &settings, changes.as_slice())?;
-    Ok(line)
+    match changes_of(alloc, changes) {
+        Ok(changes) => Ok((settings, changes)),
+        Err(fault) => Err(of_changes(fault)),
+    }
 }
 
 /// The line that [`check_text`] answers of texts that mean these settings and these changes. `AllocError`: memory was refused.

@@ -1,7 +1,7 @@
 //! What the program does for its user, as calls over texts: octets in, octets out.
 //!
-//! [`sample`] runs the endpoint on a built-in sample, [`check_text`] looks at a settings text and a changes text, [`check_read`]
-//! at what was read of them, and
+//! [`sample`] runs the endpoint on a built-in sample. [`check_text`] looks at a settings text and a changes text; in two steps,
+//! [`read_texts`] reads them and [`check_read`] looks at what was read of them.
 //! [`exit_code`] is the exit status of a [`RunFault`](capture_run::RunFault), and [`stream_code`] that of a
 //! [`StreamFault`](stream_run::StreamFault). [`read_text`] reads a whole text from any
 //! input in a bounded number of reads. [`line_of`] reads the program's words. [`explain_bytes`] takes the packets of a
@@ -14,7 +14,7 @@ mod check;
 mod status;
 mod words;
 
-pub use check::{check_read, check_text};
+pub use check::{check_read, check_text, read_texts};
 pub use command_line::{CaptureName, Line, LineFault, STANDARD_INPUT, capture_name, line_of};
 pub use explanation::{Values, explain, explain_bytes};
 pub use packet_layers::{Head, HeadKind, Layers, Span, Stop, dissect};

@@ -1,15 +1,14 @@
 //! A look at what a run is to read, before it does.
-use capture_run::{RunFault, of_changes, of_settings};
+use capture_run::RunFault;
 use capture_survey::{Report, SurveyFault, survey_capture};
 use config_text::SettingsFault;
-use dissector::{check_read, tap_of};
+use dissector::{check_read, read_texts, tap_of};
 use file_kind::FileKind;
 use foreseen_changes::foresee;
-use overlay_config::{Settings, TimedChange, changes_of, settings_of};
+use overlay_config::{Settings, TimedChange};
 use pcap_io::CaptureFault;
 use program_faults::Failure;
 use program_files::{SeenCapture, open_seen, print_text, read_file, read_if_given};
-use std::alloc::Global;
 use std::fmt::Write;
 use std::io::{Input, Read};
 use std::rt::Files;
@@ -43,7 +42,7 @@ pub fn check<'a, R: Files + Input + AllocGlobal + Print>(
         text: changes_text.as_slice(),
     };
     let (read, told) = check_texts(rt, settings, changes)?;
-    let counted = print_foreseen(rt, read, told.as_slice(), ports.len());
+    let counted = print_foreseen(rt, read, told, ports.len());
     let seen = look_at_captures(rt, underlay, ports);
     counted.and(seen)
 }
@@ -63,22 +62,6 @@ fn check_texts<'a, R: AllocGlobal + Print>(
             print_refused(rt, settings, changes, &fault)?;
             Err(Failure::Run(fault))
         }
-    }
-}
-
-/// What the texts mean, or the fault of the first that is refused.
-fn read_texts(
-    alloc: Global,
-    settings: &[u8],
-    changes: &[u8],
-) -> Result<(Settings, Vec<TimedChange>), RunFault> {
-    let read = match settings_of(alloc, settings) {
-        Ok(read) => read,
-        Err(fault) => return Err(of_settings(fault)),
-    };
-    match changes_of(alloc, changes) {
-        Ok(told) => Ok((read, told)),
-        Err(fault) => Err(of_changes(fault)),
     }
 }
 
@@ -123,12 +106,12 @@ fn print_advice<R: AllocGlobal + Print>(
 fn print_foreseen<'a, R: AllocGlobal + Print>(
     rt: &R,
     settings: Settings,
-    changes: &[TimedChange],
+    changes: Vec<TimedChange>,
     captures: usize,
 ) -> Result<(), Failure<'a>> {
     let is_counted = captures == 0 || captures == settings.ports().len();
     let mut text = String::new(rt.alloc());
-    for refusal in &foresee(rt.alloc(), settings, changes)? {
+    for refusal in &foresee(rt.alloc(), settings, changes.as_slice())? {
         writeln!(text, "{refusal}")?;
     }
     print_text(rt, text.as_bytes())?;

@@ -1,6 +1,7 @@
 #!/usr/bin/env bash
 # The fields of the pool of addresses, by name and type: an address and the moment at which it was seen stand in a slot's
-# key and last moment, and nowhere beside. No contract can say that, for contracts see no field.
+# key and last moment, and nowhere beside in what the pool keeps: a Newcomer is handed from call to call, and no field holds
+# one. No contract can say that, for contracts see no field.
 set -u
 cd "$(dirname "$0")/.." || exit 1
 

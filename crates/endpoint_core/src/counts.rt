@@ -1,6 +1,6 @@
 //! How often each thing was decided.
 ghost use Rattle.std.specs.Prelude.{◌≡◌, ◌≤◌, ◌<◌, ℕ, length, [], slice_index_or, vec_capacity, IfOk, IsSome, Some, map};
-ghost use Rattle.endpoint_core.specs.Counts.{no_counts, one_more, counted, counted_all, marks_all, most};
+ghost use Rattle.endpoint_core.specs.Counts.{no_counts, one_more, counted, counted_all, marks_all};
 ghost use Rattle.endpoint_core.specs.Cells.{count_in, bumped};
 ghost use Rattle.endpoint_core.specs.Course.{decision_of, IsThere};
 ghost use Rattle.endpoint_core.specs.Step.{sent_at};
@@ -27,7 +27,7 @@ type Row = [u64; NUMBERS];
 /// The counts of each segment and of none.
 ///
 /// Room for a row of each VID is reserved from `open` on. A VID's row is put there once something is counted in it, with those
-/// of the VIDs below, so that a run goes over the rows that it needs alone.
+/// of the VIDs below that aren't there yet.
 #[derive(Drop)]
 pub(crate) struct Counts {
     /// In no segment.

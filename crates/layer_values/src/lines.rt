@@ -5,8 +5,8 @@ use itoa::Buffer;
 use std::marker::Model;
 
 /// Lines of text in a room of 8,192 octets, seen by contracts as their text. They are cleared and written again, and never
-/// ask for memory. The layers of a packet have 8,000 octets at most: 34 heads of 216 each, and the payload, ten tails and
-/// the stop of 54 each.
+/// ask for memory. The layers of a packet have 8,000 octets at most: 34 heads of at most 200 each, and the payload, ten tails
+/// and the stop of at most 60 each.
 #[derive(Drop)]
 pub struct Lines {
     octets: [u8; 8192],

@@ -1,9 +1,8 @@
-//! What one more read brings an adapted input to.
+//! What one more step brings an adapted input to.
 ghost use Rattle.std.specs.Prelude.{◌≡◌, ◌≤◌, ◌<◌, ◌+◌, ◌-◌, [], false, length, take, IfOk, OnErr};
 ghost use Rattle.std.specs.Io.KnownBytes.{Keeps};
 ghost use Rattle.pcap_stream.specs.Supply.{Spends};
 ghost use Rattle.pcapng_input.specs.Adapted.{Begun, Passing, Within, is_of_one};
-ghost use Rattle.pcapng_input.specs.Reading.{start};
 ghost use Rattle.pcapng_input.specs.State.{IsLess, IsLongIn, IsPart, IsPlaced, IsSound, IsTaken, Leads, held_settled, stand_of, state_settled, wanted_size};
 ghost use Rattle.pcapng_input.specs.declared.interface.Selection.{Selection};
 ghost use Rattle.pcapng_input.specs.declared.state.State.TheVariants as state;

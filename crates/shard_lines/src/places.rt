@@ -1,5 +1,5 @@
 //! The places that a line tells.
-ghost use Rattle.std.specs.Prelude.{◌≡◌, ◌<◌, ◌≤◌, ◌+◌, [], ◌∷◌, IfSome, MatchOption, None, Some, decimal, drop, length, take};
+ghost use Rattle.std.specs.Prelude.{◌≡◌, ◌<◌, ◌≤◌, ◌+◌, [], ◌∷◌, IfSome, MatchOption, None, Some, decimal, drop, length};
 ghost use Rattle.shard_lines.specs.Parts.{places_in};
 ghost use Rattle.shard_lines.specs.Sent.{has_places, is_sound, port_at, sent_by, sent_in, tap_of};
 ghost use Rattle.shard_lines.specs.Words.{before_equals};
@@ -132,7 +132,7 @@ fn is_placed(text: &[u8], from: usize) -> bool
     }
 }
 
-/// The port that a word was sent at, where it begins with a `p`, one or two digits and a `=`; none of any other says nothing.
+/// The port that a word was sent at, where it begins with a `p`, one or two digits and a `=`. `None` says nothing of a word.
 #[inline]
 fn short_port(word: &[u8]) -> Option<u8>
     ensures { IfSome result (λ port. sent_by word.now ≡ Some (Port port)) }

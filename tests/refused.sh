@@ -35,8 +35,8 @@ refuses_within() {
     }
 }
 
-# What a slot of the pool holds is told by `same` and `dead`, to a listing by `live_row`, and by `key` to the fork that parts two
-# slots, alone: no other module reads a slot's fields.
+# What a slot of the pool holds is told by `differs` and `dead`, and to a listing by `live_row`, alone: no other module reads a
+# slot's fields.
 refuses_within shared_tables reads private-field 3 <<'TEXT'
 //! Reads what a slot holds past the slots' own module.
 use crate::slots::{Slot, Slots};

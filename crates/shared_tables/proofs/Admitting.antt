@@ -1,25 +1,23 @@
 -- What holds of the slots, the trees and the segments together holds when an entry has come.
-use Rattle.std.proofs.Common.{◌≡◌, ℕ, ◌+◌, ◌<◌, Bool, List, length, map, set, Option, Some, None, is_none, refl, sym, ap, ◌∙◌, subst, arith}
+use Rattle.std.proofs.Common.{◌≡◌, ℕ, ◌+◌, ◌<◌, Bool, List, length, map, set, Option, Some, None, IfSome, is_none, refl, sym, ap, ◌∙◌, subst}
 use Rattle.std.specs.Option.{option_map}
-use Rattle.std.specs.Int.{bit_at}
 use Rattle.shared_tables.specs.declared.share.Share.{Share}
 use Rattle.shared_tables.specs.declared.admission.Newcomer.{Newcomer}
 use Rattle.shared_tables.specs.declared.forest.Target.TheVariants as target
 use Rattle.shared_tables.specs.Bucket.{key_of, chain_of}
-use Rattle.shared_tables.specs.Pool.{Pool, Held, entry_at, IfHeld, alone, free_count}
+use Rattle.shared_tables.specs.Pool.{Pool, Held, entry_at, alone, free_count}
 use Rattle.shared_tables.specs.Threads.{HoldsAny, pushed_back, ends_with}
 use Rattle.shared_tables.specs.Shared.{rule_at, kept_count, HasRoom, Enters, line_key}
 use Rattle.shared_tables.specs.Sound.{share_at, share_with, share_written, shares_with, line_at, last_in, rule_of, CountsMore, HasEnds}
-use Rattle.shared_tables.specs.Woods.{Woods, target_at, planted, grafted}
+use Rattle.shared_tables.specs.Woods.{Woods, target_at, planted}
 use Rattle.shared_tables.specs.Trees.{Tree}
-use Rattle.shared_tables.specs.Forest.{keys_of, key_in, IsRooted, LeadsTo, Belongs, IsForest}
+use Rattle.shared_tables.specs.Forest.{IsRooted, LeadsTo, Belongs, PartedAt, IsForest}
 use Rattle.shared_tables.specs.Whole.{IsWhole, seen}
 use Rattle.shared_tables.specs.Admission.{held_of, MayCome, MayAttach, Attaches}
 use Rattle.shared_tables.proofs.Buckets.{chain_small}
 use Rattle.shared_tables.proofs.SoundLemmas.{IsShare, share_with_room, room_is, holds_last, holds_more, thread_ends, sound_at, same_shared, rules_stay, rule_of-with_line}
 use Rattle.shared_tables.proofs.Entering.{enter_free, enter_sound}
-use Rattle.shared_tables.proofs.ForestLemmas.{entry_same, entry_other, held_beside}
-use Rattle.shared_tables.proofs.Grafting.{leaf_held, leaf_not, leaf_lt, place_lt, fork_lt, graft_forest}
+use Rattle.shared_tables.proofs.Grafting.{leaf_lt, place_lt, fork_lt, graft_forest}
 use Rattle.shared_tables.proofs.Planting.{plant_forest}
 
 module _ (pool : Pool) (w : Woods) (shares : List (Option Share)) (moment : ℕ) (h : IsWhole pool w shares moment) (n : Newcomer)
@@ -57,21 +55,10 @@ module _ (pool : Pool) (w : Woods) (shares : List (Option Share)) (moment : ℕ)
         subst (λ (o : Option Share). HoldsAny (set es s (Some e)) (last_in o fixed)) (sym own.here)
         (holds_more es s e (line_at own.share fixed).last lt (holds_last (line_key n.vid fixed) refl pool.lines es _ _ (lines.list fixed) (lines.thread fixed)))
 
-    -- the leaf beside which it belongs holds another address
-    pub may_attach : (o : Option ℕ) → Belongs w.words (chain_of n.vid n.mac) (key_of n.vid n.mac) o → MayAttach (set es s (Some e)) w o s
-    may_attach None b = tt
-    may_attach (Some leaf) b =
-        let away = leaf_not es w h.forest e s lt free leaf b in
-        let there = leaf_held es w h.forest e s lt free leaf b in (
-          held_beside es s leaf (Some e) away there,
-          leaf_lt es w h.forest e s lt free leaf b,
-          place_lt es w h.forest e s lt free leaf b,
-          fork_lt es w h.forest e s lt free leaf b,
-          λ vid mac held new.
-              let same = subst (λ o. IfHeld o vid mac) (entry_same es s (Some e) lt) new in
-              let was = subst (λ o. IfHeld o vid mac) (entry_other es s leaf (Some e) away) held in
-              m.absent leaf (subst (λ v. IfHeld (entry_at es leaf) v n.mac) (sym same.0) (subst (λ x. IfHeld (entry_at es leaf) vid x) (sym same.1) was)),
-        )
+    -- the leaf beside which it belongs is there
+    pub may_attach : (o : Option ℕ) → Belongs w.words (chain_of n.vid n.mac) (key_of n.vid n.mac) o → IfSome o (λ leaf. PartedAt (entry_at es leaf) (key_of n.vid n.mac) n.bit) → MayAttach w n o s
+    may_attach None b parts = tt
+    may_attach (Some leaf) b parts = (leaf_lt es w h.forest e s lt free leaf b, place_lt es w h.forest e s lt free leaf b, fork_lt es w h.forest e s lt free leaf b, parts.0)
 
     -- a chain beside none of whose leaves it belongs has none
     no_leaves : (b : Belongs w.words (chain_of n.vid n.mac) (key_of n.vid n.mac) None) → target_at w.words (chain_of n.vid n.mac) ≡ target.Nothing
@@ -81,17 +68,14 @@ module _ (pool : Pool) (w : Woods) (shares : List (Option Share)) (moment : ℕ)
         from None r l = r
         from (Some t) r l = absurd l
 
-    attached : (w' : Woods) (o : Option ℕ) → Belongs w.words (chain_of n.vid n.mac) (key_of n.vid n.mac) o → Attaches (set es s (Some e)) w w' n.chain o s → IsForest (set es s (Some e)) w'
-    attached w' None b a = subst (IsForest (set es s (Some e))) (sym (a ∙ ap (λ c. planted w c s) m.chain)) (plant_forest es w h.forest e s lt free (no_leaves b))
-    attached w' (Some leaf) b a =
-        let own_key : keys_of (set es s (Some e)) s ≡ key_of n.vid n.mac = ap key_in (entry_same es s (Some e) lt) in
-        let leaf_key : keys_of (set es s (Some e)) leaf ≡ keys_of es leaf = ap key_in (entry_other es s leaf (Some e) (leaf_not es w h.forest e s lt free leaf b)) in
-        let differs : bit_at (keys_of es leaf) a.bit + bit_at (key_of n.vid n.mac) a.bit ≡ 1 = omega (arith, a.differs, ap (λ k. bit_at k a.bit) own_key, ap (λ k. bit_at k a.bit) leaf_key) in
-        subst (IsForest (set es s (Some e))) (sym (a.after ∙ ap (λ k. grafted w leaf s a.bit (bit_at k a.bit)) own_key)) (graft_forest es w h.forest e s lt free leaf b a.bit a.small differs)
+    attached : (w' : Woods) (o : Option ℕ) → Belongs w.words (chain_of n.vid n.mac) (key_of n.vid n.mac) o → IfSome o (λ leaf. PartedAt (entry_at es leaf) (key_of n.vid n.mac) n.bit) → Attaches w w' n o s
+        → IsForest (set es s (Some e)) w'
+    attached w' None b parts a = subst (IsForest (set es s (Some e))) (sym (a ∙ ap (λ c. planted w c s) m.chain)) (plant_forest es w h.forest e s lt free (no_leaves b))
+    attached w' (Some leaf) b parts a = subst (IsForest (set es s (Some e))) (sym a) (graft_forest es w h.forest e s lt free leaf b n.bit parts.0 parts.1)
 
     module _ (pool' : Pool) (w' : Woods) (shares' : List (Option Share)) (fixed : Bool) (is_fixed : fixed ≡ is_none n.last)
         (entries_is : pool'.entries ≡ set es s (Some e)) (lines_is : pool'.lines ≡ pushed_back (set pool.lines s alone) (last_in (share_at shares n.vid) fixed) s)
-        (shares_is : shares' ≡ shares_with shares n.vid fixed s) (a : Attaches (set es s (Some e)) w w' n.chain n.beside s) where
+        (shares_is : shares' ≡ shares_with shares n.vid fixed s) (a : Attaches w w' n n.beside s) where
       lines_are : pool'.lines ≡ pushed_back (set pool.lines s alone) (line_at own.share (is_none n.last)).last s
       lines_are = lines_is ∙ ap (λ (o : Option Share). pushed_back (set pool.lines s alone) (last_in o fixed) s) own.here ∙ ap (λ f. pushed_back (set pool.lines s alone) (line_at own.share f).last s) is_fixed
 
@@ -101,7 +85,7 @@ module _ (pool : Pool) (w : Woods) (shares : List (Option Share)) (moment : ℕ)
       pub enter_whole : IsWhole pool' w' shares' moment
       enter_whole = record {
         sound = sound_at moment entries_is lines_are shares_are (enter_sound es pool.lines shares moment h.sound n.vid own.share own.here below e refl m.absent m.now s lt free);
-        forest = subst (λ xs. IsForest xs w') (sym entries_is) (attached w' n.beside m.beside a);
+        forest = subst (λ xs. IsForest xs w') (sym entries_is) (attached w' n.beside m.beside m.parts a);
       }
 
       pub enters : (calls : ℕ) → pool'.compared ≡ pool.compared → pool'.visited ≡ pool.visited → Enters (seen pool shares moment calls) (seen pool' shares' moment calls) e

@@ -1,5 +1,5 @@
 -- What holds of the slots, the trees and the segments together holds when an entry has come in place of another.
-use Rattle.std.proofs.Common.{inl, inr, ◌⊎◌, ◌≡◌, ◌≢◌, ℕ, ◌<◌, ◌≤◌, Bool, true, false, ◌&&◌, List, [], ◌∷◌, length, map, set, Option, Some, None, IsSome, is_none, nat_eq, refl, sym, ap, ◌∙◌, subst, arith}
+use Rattle.std.proofs.Common.{inl, inr, ◌⊎◌, ◌≡◌, ◌≢◌, ℕ, ◌<◌, ◌≤◌, Bool, true, false, ◌&&◌, List, [], ◌∷◌, length, map, set, Option, Some, None, IfSome, IsSome, is_none, nat_eq, refl, sym, ap, ◌∙◌, subst, arith}
 use Rattle.std.proofs.lemmas.List.{length-set, set-set}
 use Rattle.std.proofs.lemmas.List.Sums.{sum_by-set}
 use Rattle.std.specs.Option.{option_map}
@@ -14,7 +14,7 @@ use Rattle.shared_tables.specs.Shared.{Shared, rule_at, kept_count, chain_key, H
 use Rattle.shared_tables.specs.Sound.{IsSound, IsLines, IsAged, share_at, shares_without, shares_moved, last_left, HasEndsLeft, line_at, rule_of}
 use Rattle.shared_tables.specs.Woods.{Woods, Uproots, MayGo}
 use Rattle.shared_tables.specs.Trees.{leaves}
-use Rattle.shared_tables.specs.Forest.{Belongs, IsForest}
+use Rattle.shared_tables.specs.Forest.{Belongs, PartedAt, IsForest}
 use Rattle.shared_tables.specs.Whole.{IsWhole, seen, Replaces}
 use Rattle.shared_tables.specs.Admission.{held_of, MayCome}
 use Rattle.shared_tables.proofs.Linked.{by_bool, equal}
@@ -142,12 +142,18 @@ module _ (pool : Pool) (w : Woods) (shares : List (Option Share)) (moment : ℕ)
         (λ yes. subst (λ o. IfHeld o v n.mac) (ap (entry_at (set es s None)) (equal i s yes) ∙ entry_same es s None s_lt) held)
         (λ no. m.absent i (subst (λ o. IfHeld o v n.mac) (entry_other es s i None (apart i s no)) held))
 
+    -- another leaf keeps its key
+    still_parted : (o : Option ℕ) → o ≢ Some s → IfSome o (λ leaf. PartedAt (entry_at es leaf) (key_of v n.mac) n.bit) → IfSome o (λ leaf. PartedAt (entry_at (set es s None) leaf) (key_of v n.mac) n.bit)
+    still_parted None ne p = tt
+    still_parted (Some leaf) ne p = subst (λ (x : Option Held). PartedAt x (key_of v n.mac) n.bit) (sym (entry_other es s leaf None (λ q. ne (ap (λ i. Some i) q)))) p
+
     pub dropped_may_come : n.beside ≢ Some s → MayCome pool'.entries w' moment n
     dropped_may_come ne = record {
       chain = m.chain;
       absent = subst (λ xs. Lacks xs v n.mac) (sym entries_are) lacks;
       now = m.now;
       beside = uproot_belongs es w w' h.forest k.entry s k.at_slot uproots (chain_of v n.mac) (key_of v n.mac) (chain_small v n.mac) n.beside ne m.beside;
+      parts = subst (λ xs. IfSome n.beside (λ leaf. PartedAt (entry_at xs leaf) (key_of v n.mac) n.bit)) (sym entries_are) (still_parted n.beside ne m.parts);
     }
 
     pub dropped_replaces : (new : Shared) (calls : ℕ) → Enters (seen pool' shares' moment calls) new e → Replaces (seen pool shares moment calls) new s e

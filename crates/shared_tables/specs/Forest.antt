@@ -1,5 +1,6 @@
 -- What holds of the trees and the entries together. It states no standard.
 use Rattle.std.specs.Prelude.{◌≡◌, ◌≢◌, ℕ, ◌+◌, ◌<◌, List, [], length, Option, Some, None}
+use Rattle.std.specs.Int.{bit_at}
 use Rattle.std.specs.List.{sum_by}
 use Rattle.shared_tables.specs.declared.forest.Target.{Target}
 use Rattle.shared_tables.specs.declared.forest.Target.TheVariants as target
@@ -19,6 +20,10 @@ key_in (Some e) = key_of e.vid e.mac
 -- the keys of the slots
 abbrev pub keys_of : List (Option Held) → ℕ → ℕ
 keys_of entries i = key_in (entry_at entries i)
+
+-- a bit in which what a slot holds and a key differ
+abbrev pub PartedAt : Option Held → ℕ → ℕ → Type 0
+PartedAt entry key bit = (bit < 64) × (bit_at (key_in entry) bit + bit_at key bit ≡ 1)
 
 -- the slots of a tree's leaves; none where there is no tree
 abbrev pub leaves_of : Option Tree → List ℕ

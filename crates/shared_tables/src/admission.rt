@@ -1,13 +1,12 @@
 //! An entry that comes to its segment: where there is room, or in place of the oldest one, which is dead.
-ghost use Rattle.std.specs.Prelude.{◌≡◌, ◌≢◌, ◌↔◌, ◌+◌, ◌<◌, ℕ, IsTrue, IsSome, Some, length};
-ghost use Rattle.std.specs.Int.{bit_at};
+ghost use Rattle.std.specs.Prelude.{◌≡◌, ◌↔◌, ◌<◌, ℕ, IsTrue, IsSome, Some, length};
 ghost use Rattle.shared_tables.specs.Pool.{entry_at};
 ghost use Rattle.shared_tables.specs.Shared.{rule_at, kept_count, HasRoom, Enters, IsOf};
 ghost use Rattle.shared_tables.specs.Whole.{IsWhole, seen, Replaces};
 ghost use Rattle.shared_tables.specs.Admission.{held_of, MayCome, ComesOrNot, MayAttach, Attaches};
-ghost use Rattle.shared_tables.specs.Threads.{IsHeld};
 ghost use Rattle.shared_tables.specs.Woods.{HasSizes};
 
+use crate::bucket::key;
 use crate::chains::side;
 use crate::entries::{drop_entry, join_share, renew_entry};
 use crate::forest::Forest;
@@ -35,6 +34,8 @@ pub struct Newcomer {
     pub chain: usize,
     /// The leaf of the chain's tree beside which it belongs; none where the chain has no leaves.
     pub beside: Option<SlotId>,
+    /// A bit in which its key and that leaf's differ; 0 where there is none.
+    pub bit: u32,
     pub vid: Vid,
     pub mac: Mac,
     pub place: Place,
@@ -131,42 +132,30 @@ fn enter_in(
     ensures enters { (calls : ℕ) → Enters (seen slots.old shares.old.items moment calls) (seen slots.new shares.new.items moment calls) (held_of newcomer.now) }
 {
     let Newcomer {
-        chain,
-        beside,
         vid,
         mac,
         place,
         last,
+        ..
     } = *newcomer;
     let slot = slots.take(vid, &mac, &place, last);
-    attach(slots, forest, chain, beside, slot);
+    attach(forest, newcomer, slot);
     join_share(slots, shares, vid, last.is_none(), slot);
 }
 
-/// Puts a slot into the tree of its chain, beside a leaf.
-fn attach(slots: &Slots, forest: &mut Forest, chain: usize, beside: Option<SlotId>, slot: SlotId)
+/// Puts the slot of a newcomer into the tree of its chain, beside its leaf.
+fn attach(forest: &mut Forest, newcomer: &Newcomer, slot: SlotId)
     requires sizes { HasSizes forest.old }
-    requires chain { chain < 65536 }
-    requires held { IsHeld slots.now.entries slot }
+    requires chain { newcomer.now.chain < 65536 }
     requires slot { slot < length forest.old.leaves }
-    requires beside { MayAttach slots.now.entries forest.old beside slot }
-    ensures { Attaches slots.now.entries forest.old forest.new chain beside slot }
+    requires beside { MayAttach forest.old newcomer.now newcomer.now.beside slot }
+    ensures { Attaches forest.old forest.new newcomer.now newcomer.now.beside slot }
 {
-    match beside {
-        None => forest.plant(chain, slot),
+    match newcomer.beside {
+        None => forest.plant(newcomer.chain, slot),
         Some(leaf) => {
-            let key = slots.key(slot);
-            let bit = parting(slots.key(leaf), key);
-            forest.graft(leaf, slot, bit, side(key, bit));
+            let side = side(key(newcomer.vid, newcomer.mac), newcomer.bit);
+            forest.graft(leaf, slot, newcomer.bit, side);
         }
     }
-}
-
-/// A bit in which two keys differ.
-fn parting(one: u64, other: u64) -> u32
-    requires { one ≢ other }
-    ensures small { result < 64 }
-    ensures differs { bit_at one result + bit_at other result ≡ 1 }
-{
-    (one ^ other).trailing_zeros()
 }

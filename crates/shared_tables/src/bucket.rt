@@ -1,5 +1,5 @@
 //! Buckets of addresses, and their chains.
-ghost use Rattle.std.specs.Prelude.{◌≡◌, ◌↔◌, IsTrue, ◌<◌, [], ◌∷◌};
+ghost use Rattle.std.specs.Prelude.{◌≡◌, ◌<◌, [], ◌∷◌};
 ghost use Rattle.shared_tables.specs.Bucket.{bucket_of, chain_of, key_of, vid_in, mac_in, spread};
 
 use frame_view::{Mac, Vid};
@@ -35,13 +35,6 @@ pub fn key(vid: Vid, mac: Mac) -> u64
 {
     let [a, b, c, d, e, f] = mac.0;
     joined(vid.get(), a, b, c, d, e, f)
-}
-
-/// Whether a number is the key of an address in a segment.
-pub fn is_key_of(own: u64, vid: Vid, mac: Mac) -> bool
-    ensures { IsTrue result ↔ ((vid_in own ≡ vid) × (mac_in own ≡ mac)) }
-{
-    own == key(vid, mac)
 }
 
 /// The VID in a key.

@@ -17,8 +17,9 @@ use frame_view::{Mac, Vid};
 pub enum Sought {
     /// The slot that holds it.
     At(SlotId),
-    /// No slot holds it. It belongs beside this leaf of its chain's tree; the chain of none has no leaves.
-    Missing(Option<SlotId>),
+    /// No slot holds it. It belongs beside this leaf of its chain's tree, from whose key its own differs in this bit; the
+    /// chain of none has no leaves.
+    Missing(Option<SlotId>, u32),
 }
 
 /// A bit of a key: 0 or 1.
@@ -50,12 +51,11 @@ pub fn find_in(slots: &mut Slots, forest: &Forest, chain: usize, vid: Vid, mac: 
     match read(word) {
         Target::Leaf(number) => {
             let slot = SlotId { number };
-            if slots.same(slot, vid, mac) {
-                Sought::At(slot)
-            } else {
-                Sought::Missing(Some(slot))
+            match slots.differs(slot, key) {
+                None => Sought::At(slot),
+                Some(bit) => Sought::Missing(Some(slot), bit),
             }
         }
-        _ => Sought::Missing(None),
+        _ => Sought::Missing(None, 0),
     }
 }

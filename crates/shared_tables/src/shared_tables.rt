@@ -125,7 +125,7 @@ impl SharedTables {
     {
         match find_in(&mut self.slots, &self.forest, chain, vid, mac) {
             Sought::At(slot) => Some(slot),
-            Sought::Missing(_) => None,
+            Sought::Missing(_, _) => None,
         }
     }
 
@@ -152,7 +152,7 @@ impl SharedTables {
     {
         match find_in(&mut self.slots, &self.forest, chain, vid, *mac) {
             Sought::At(slot) => Outcome::Held(slot),
-            Sought::Missing(beside) => {
+            Sought::Missing(beside, bit) => {
                 let comes = admit_in(
                     &mut self.slots,
                     &mut self.forest,
@@ -161,6 +161,7 @@ impl SharedTables {
                     &Newcomer {
                         chain,
                         beside,
+                        bit,
                         vid,
                         mac: *mac,
                         place: *place,

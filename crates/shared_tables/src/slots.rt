@@ -1,13 +1,14 @@
-//! The slots of a pool. An address is looked for in a slot, and an entry's age is told, by this module alone.
-ghost use Rattle.std.specs.Prelude.{◌≡◌, ℕ, ◌+◌, ◌<◌, ◌≤◌, ◌↔◌, IsTrue, IfOk, IfSome, IsSome, Some, None, Option, false, length, replicate, slice_set};
+//! The slots of a pool. An address is compared, and an entry's age is told, by this module alone.
+ghost use Rattle.std.specs.Prelude.{◌≡◌, ℕ, ◌+◌, ◌<◌, ◌≤◌, IfOk, IfSome, IfNone, IsSome, Some, None, Option, false, length, replicate, slice_set};
 ghost use Rattle.shared_tables.specs.Pool.{Pool, Held, entry_at, links_at, free_count, is_fixed_in, is_dead_in, alone, links_with, IfHeld, taken, freed, renewed, readdressed, place_in, free_pool};
-ghost use Rattle.shared_tables.specs.Forest.{key_in};
+ghost use Rattle.shared_tables.specs.Forest.{PartedAt, key_in};
+ghost use Rattle.std.specs.Int.{bit_at};
 ghost use Rattle.shared_tables.specs.Bucket.{vid_in, mac_in};
 ghost use Rattle.filter_db.specs.Place.{same_place};
 ghost use Rattle.shared_tables.specs.Threads.{link_set};
 ghost use Rattle.shared_tables.specs.Slots.{entry_in, kind_of, moment_of};
 
-use crate::bucket::{is_key_of, key};
+use crate::bucket::key;
 use crate::links::{ALONE, Link, Links, Side, SlotId};
 use filter_db::Place;
 use frame_view::{Mac, Vid};
@@ -53,7 +54,7 @@ pub struct Slots {
     size: u32,
     /// The first slot of the free list: the one that was freed last.
     free: Link,
-    /// How often an address was looked for in a slot, or sent on by a fork.
+    /// How often an address was compared with a slot's, or sent on by a fork.
     compared: Count,
     /// How often an entry's age was told.
     visited: Count,
@@ -93,14 +94,6 @@ fn vacant(next: Link) -> Slot
         place: Place::Local(0),
         kind: Kind::Free,
     }
-}
-
-/// Whether it holds this address of this segment.
-fn is_of(slot: &Slot, vid: Vid, mac: Mac) -> bool
-    requires { IsSome (entry_in slot.now) }
-    ensures { IsTrue result ↔ IfHeld (entry_in slot.now) vid mac }
-{
-    is_key_of(slot.key, vid, mac)
 }
 
 /// Whether its entry is dead, under an ageing in nanoseconds.
@@ -221,6 +214,19 @@ fn links_on(slot: &Slot) -> Links
     }
 }
 
+/// The lowest bit in which two keys differ; none where they are the same.
+#[inline(always)]
+fn parting(one: u64, other: u64) -> Option<u32>
+    ensures same { IfNone result (one ≡ other) }
+    ensures differs { IfSome result (λ bit. (bit < 64) × (bit_at one bit + bit_at other bit ≡ 1)) }
+{
+    if one == other {
+        None
+    } else {
+        Some((one ^ other).trailing_zeros())
+    }
+}
+
 impl Slots {
     /// As many free slots as this, at most 65,536: room for them. `AllocError`: the growth was refused.
     pub fn new(alloc: Global, size: u32) -> Result<Slots, AllocError>
@@ -244,15 +250,18 @@ impl Slots {
         self.size
     }
 
-    /// Whether a slot holds this address of this segment. It is the only way to look for an address in a slot but for a listing.
-    pub fn same(&mut self, slot: SlotId, vid: Vid, mac: Mac) -> bool
+    /// The lowest bit in which the key of what a slot holds and another differ; none where they are the same, and it holds
+    /// that address. It is the only way to compare an address with a slot's but for a listing.
+    #[inline(always)]
+    pub fn differs(&mut self, slot: SlotId, key: u64) -> Option<u32>
         requires in_pool { slot < length self.old.entries }
         requires held { IsSome (entry_at self.old.entries slot) }
-        ensures same { IsTrue result ↔ IfHeld (entry_at self.old.entries slot) vid mac }
+        ensures same { IfNone result (IfHeld (entry_at self.old.entries slot) (vid_in key) (mac_in key)) }
+        ensures bit { IfSome result (PartedAt (entry_at self.old.entries slot) key) }
         ensures pool { self.new ≡ record self.old { compared = self.old.compared + 1 } }
     {
         self.compared.tick();
-        is_of(&self.slots[slot.number as usize], vid, mac)
+        parting(key_of(&self.slots[slot.number as usize]), key)
     }
 
     /// Whether a slot's entry is dead, under an ageing in nanoseconds. It is the only way to tell an entry's age but
@@ -273,16 +282,6 @@ impl Slots {
         ensures { self.new ≡ record self.old { compared = self.old.compared + 1 } }
     {
         self.compared.tick();
-    }
-
-    /// The key of what the slot holds, for the fork that parts it from another one beside it: no address is looked for by it.
-    pub fn key(&self, slot: SlotId) -> u64
-        requires in_pool { slot < length self.now.entries }
-        requires held { IsSome (entry_at self.now.entries slot) }
-        ensures value { result ≡ key_in (entry_at self.now.entries slot) }
-        ensures held { IfHeld (entry_at self.now.entries slot) (vid_in result) (mac_in result) }
-    {
-        key_of(&self.slots[slot.number as usize])
     }
 
     /// Gives the slot's entry another address.

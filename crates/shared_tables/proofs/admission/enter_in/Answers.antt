@@ -3,7 +3,6 @@ use Rattle.shared_tables.specs.declared.links.Links.{Links}
 use Rattle.shared_tables.specs.Pool.{Pool}
 use Rattle.shared_tables.specs.Threads.{HoldsAny, pushed_back}
 use Rattle.shared_tables.specs.Sound.{share_at, last_in}
-use Rattle.shared_tables.specs.Admission.{MayAttach, Attaches}
 use Rattle.shared_tables.proofs.SoundLemmas.{none_is}
 use Rattle.shared_tables.proofs.Admitting.{enter_frees, chain_lt, counts_more, has_ends, lasts, may_attach, enter_whole, enters}
 use Rattle.shared_tables.proofs.admission.enter_in.Goals as goal
@@ -16,9 +15,8 @@ attach-requires-clause-chain c = chain_lt c.args.slots.now c.args.forest.now c.a
 
 pub attach-requires-clause-beside : goal.attach-requires-clause-beside
 attach-requires-clause-beside c =
-    let n = c.args.newcomer.now in let s = c.take-slot.result in
-    subst (λ (p : Pool). MayAttach p.entries c.args.forest.now n.beside s) (sym c.take-slot.ensures.pool)
-    (may_attach c.args.slots.now c.args.forest.now c.args.shares.now.items c.args.moment c.requires.whole n c.requires.room c.requires.may_come s c.take-slot.ensures.free.0 c.take-slot.ensures.free.1 n.beside c.requires.may_come.beside)
+    let n = c.args.newcomer.now in
+    may_attach c.args.slots.now c.args.forest.now c.args.shares.now.items c.args.moment c.requires.whole n c.requires.room c.requires.may_come c.take-slot.result c.take-slot.ensures.free.0 c.take-slot.ensures.free.1 n.beside c.requires.may_come.beside c.requires.may_come.parts
 
 pub join_share-requires-clause-room : goal.join_share-requires-clause-room
 join_share-requires-clause-room c = counts_more c.args.slots.now c.args.forest.now c.args.shares.now.items c.args.moment c.requires.whole c.args.newcomer.now c.requires.room c.requires.may_come
@@ -40,7 +38,7 @@ returns-clause-whole c =
     (ap (λ (p : Pool). p.entries) c.join_share.ensures.pool ∙ ap (λ (p : Pool). p.entries) took)
     (ap (λ (p : Pool). p.lines) c.join_share.ensures.pool ∙ ap (λ (ls : List Links). pushed_back ls (last_in (share_at c.args.shares.now.items n.vid) c.is_none.result) s) (ap (λ (p : Pool). p.lines) took))
     c.join_share.ensures.shares
-    (subst (λ (p : Pool). Attaches p.entries c.args.forest.now c.attach.new.forest n.chain n.beside s) took c.attach.ensures)
+    c.attach.ensures
 
 pub returns-clause-enters : goal.returns-clause-enters
 returns-clause-enters c = λ calls.
@@ -50,7 +48,7 @@ returns-clause-enters c = λ calls.
     (ap (λ (p : Pool). p.entries) c.join_share.ensures.pool ∙ ap (λ (p : Pool). p.entries) took)
     (ap (λ (p : Pool). p.lines) c.join_share.ensures.pool ∙ ap (λ (ls : List Links). pushed_back ls (last_in (share_at c.args.shares.now.items n.vid) c.is_none.result) s) (ap (λ (p : Pool). p.lines) took))
     c.join_share.ensures.shares
-    (subst (λ (p : Pool). Attaches p.entries c.args.forest.now c.attach.new.forest n.chain n.beside s) took c.attach.ensures)
+    c.attach.ensures
     calls
     (ap (λ (p : Pool). p.compared) c.join_share.ensures.pool ∙ ap (λ (p : Pool). p.compared) took)
     (ap (λ (p : Pool). p.visited) c.join_share.ensures.pool ∙ ap (λ (p : Pool). p.visited) took)

@@ -1,9 +1,10 @@
-use Rattle.std.proofs.Common.{arith, ◌≡◌, ◌≢◌, ℕ, ◌+◌, ◌-◌, ◌/◌, ◌%◌, ◌<◌, length, true, false, IsSome, refl, sym, ap, ◌∙◌, subst}
+use Rattle.std.proofs.Common.{arith, ◌≡◌, ◌≢◌, ℕ, ◌+◌, ◌-◌, ◌/◌, ◌%◌, ◌<◌, List, length, Option, Some, None, true, false, IsSome, refl, sym, ap, ◌∙◌, subst}
 use Rattle.std.specs.Int.{bit_at}
 use Rattle.shared_tables.specs.declared.forest.Target.{Target}
 use Rattle.shared_tables.specs.declared.forest.Target.TheVariants as target
 use Rattle.shared_tables.specs.Bucket.{key_of}
-use Rattle.shared_tables.specs.Pool.{Pool, entry_at, IfHeld}
+use Rattle.shared_tables.specs.Pool.{Pool, Held, entry_at, IfHeld}
+use Rattle.shared_tables.specs.Forest.{key_in, PartedAt}
 use Rattle.shared_tables.specs.Woods.{IsFork, target_in, target_at, child_of}
 use Rattle.shared_tables.proofs.ForestLemmas.{leaf_there, fork_told, no_fork_told}
 use Rattle.shared_tables.proofs.Walk.{Walks, walk_starts, walk_on, walk_few, walk_none, walk_leaf, walk_fork, arrives_held, arrives_lacks, arrives_belongs, walk_still}
@@ -43,8 +44,8 @@ invariant_of-slot c =
     let a = walk_leaf old w c.args.vid c.args.mac now c.in-Leaf.number c.requires.forest (subst (Walks old now w c.args.vid c.args.mac) leaf c.loop-slots.invariant) in
     omega (arith, (arrives_held old w c.args.vid c.args.mac c.in-Leaf.number a).in_pool, c.requires.forest.slots, c.requires.forest.sizes.few)
 
-pub same-requires : goal.same-requires
-same-requires c =
+pub differs-requires : goal.differs-requires
+differs-requires c =
     let old = c.args.slots.now in let now = c.loop-slots.slots in let w = c.args.forest.now in
     let leaf = sym c.read.ensures ∙ c.in-Leaf.is in
     let a = walk_leaf old w c.args.vid c.args.mac now c.in-Leaf.number c.requires.forest (subst (Walks old now w c.args.vid c.args.mac) leaf c.loop-slots.invariant) in
@@ -54,36 +55,34 @@ same-requires c =
       held = subst (λ (p : Pool). IsSome (entry_at p.entries c.in-Leaf.number)) (sym c.loop-slots.invariant.same) held.held;
     }
 
-pub returns-then-same : goal.returns-then-same
-returns-then-same c =
-    let old = c.args.slots.now in let now = c.loop-slots.slots in let w = c.args.forest.now in let slot = c.in-Leaf.number in
-    let here = target_in c.loop-slots.word in
-    let leaf : here ≡ target.Leaf slot = sym c.read.ensures ∙ c.in-Leaf.is in
-    let a = walk_leaf old w c.args.vid c.args.mac now slot c.requires.forest (subst (Walks old now w c.args.vid c.args.mac) leaf c.loop-slots.invariant) in
-    let compared : c.same.new.self.compared ≡ now.compared + 1 = ap (λ (p : Pool). p.compared) c.same.ensures.pool in
-    record {
-      found = (subst (λ (p : Pool). IfHeld (entry_at p.entries slot) c.args.vid c.args.mac) c.loop-slots.invariant.same (c.same.ensures.same.0 c.if-same.true), arrives_held old w c.args.vid c.args.mac slot a);
-      pool = c.same.ensures.pool ∙ ap (λ (p : Pool). record p { compared = now.compared + 1 }) c.loop-slots.invariant.same ∙ ap (λ n. record old { compared = n }) (sym compared);
-      counted = omega (arith, compared, c.loop-slots.invariant.counted);
-      compared = omega (arith, compared, walk_few old w c.args.vid c.args.mac now here (leaf_there here slot leaf) c.requires.forest c.loop-slots.invariant);
-    }
+pub returns-in-None-clause-compared : goal.returns-in-None-clause-compared
+returns-in-None-clause-compared c =
+    let old = c.args.slots.now in let now = c.loop-slots.slots in let w = c.args.forest.now in let here = target_in c.loop-slots.word in
+    let leaf : here ≡ target.Leaf c.in-Leaf.number = sym c.read.ensures ∙ c.in-Leaf.is in
+    omega (arith, ap (λ (p : Pool). p.compared) c.in-None.ensures.pool, walk_few old w c.args.vid c.args.mac now here (leaf_there here c.in-Leaf.number leaf) c.requires.forest c.loop-slots.invariant)
 
-pub returns-else-same : goal.returns-else-same
-returns-else-same c =
+-- what differs from its key in a bit isn't the address
+apart_key : (o : Option Held) (vid : ℕ) (mac : List ℕ) (bit : ℕ) → bit_at (key_in o) bit + bit_at (key_of vid mac) bit ≡ 1 → IfHeld o vid mac → ⊥
+apart_key None vid mac bit d h = h
+apart_key (Some e) vid mac bit d h =
+    let same : key_of e.vid e.mac ≡ key_of vid mac = ap (λ v. key_of v e.mac) h.0 ∙ ap (key_of vid) h.1 in
+    let one : bit_at (key_of vid mac) bit + bit_at (key_of vid mac) bit ≡ 1 = subst (λ k. bit_at k bit + bit_at (key_of vid mac) bit ≡ 1) same d in
+    absurd (omega (arith, one))
+
+pub returns-in-Some-clause-found : goal.returns-in-Some-clause-found
+returns-in-Some-clause-found c =
     let old = c.args.slots.now in let now = c.loop-slots.slots in let w = c.args.forest.now in let slot = c.in-Leaf.number in
-    let here = target_in c.loop-slots.word in
-    let leaf : here ≡ target.Leaf slot = sym c.read.ensures ∙ c.in-Leaf.is in
+    let leaf = sym c.read.ensures ∙ c.in-Leaf.is in
     let a = walk_leaf old w c.args.vid c.args.mac now slot c.requires.forest (subst (Walks old now w c.args.vid c.args.mac) leaf c.loop-slots.invariant) in
-    let compared : c.same.new.self.compared ≡ now.compared + 1 = ap (λ (p : Pool). p.compared) c.same.ensures.pool in
-    let differs : IfHeld (entry_at old.entries slot) c.args.vid c.args.mac → ⊥ = λ held.
-    let yes : c.same.result ≡ true = c.same.ensures.same.1 (subst (λ (p : Pool). IfHeld (entry_at p.entries slot) c.args.vid c.args.mac) (sym c.loop-slots.invariant.same) held) in
-    let bad : true ≡ false = sym yes ∙ c.if-same.false in cc in
-    record {
-      found = (arrives_lacks old w c.args.vid c.args.mac slot a differs, arrives_belongs old w c.args.vid c.args.mac slot a);
-      pool = c.same.ensures.pool ∙ ap (λ (p : Pool). record p { compared = now.compared + 1 }) c.loop-slots.invariant.same ∙ ap (λ n. record old { compared = n }) (sym compared);
-      counted = omega (arith, compared, c.loop-slots.invariant.counted);
-      compared = omega (arith, compared, walk_few old w c.args.vid c.args.mac now here (leaf_there here slot leaf) c.requires.forest c.loop-slots.invariant);
-    }
+    let parted = subst (λ k. PartedAt (entry_at old.entries slot) k c.in-Some.bit) c.key-key.ensures.value
+    (subst (λ (p : Pool). PartedAt (entry_at p.entries slot) c.key-key.result c.in-Some.bit) c.loop-slots.invariant.same c.in-Some.ensures.bit) in
+    (arrives_lacks old w c.args.vid c.args.mac slot a (apart_key (entry_at old.entries slot) c.args.vid c.args.mac c.in-Some.bit parted.1), arrives_belongs old w c.args.vid c.args.mac slot a, parted)
+
+pub returns-in-Some-clause-compared : goal.returns-in-Some-clause-compared
+returns-in-Some-clause-compared c =
+    let old = c.args.slots.now in let now = c.loop-slots.slots in let w = c.args.forest.now in let here = target_in c.loop-slots.word in
+    let leaf : here ≡ target.Leaf c.in-Leaf.number = sym c.read.ensures ∙ c.in-Leaf.is in
+    omega (arith, ap (λ (p : Pool). p.compared) c.in-Some.ensures.pool, walk_few old w c.args.vid c.args.mac now here (leaf_there here c.in-Leaf.number leaf) c.requires.forest c.loop-slots.invariant)
 
 -- what is neither a fork nor a leaf is nothing
 nothing_else : (t : Target) → ((n b : ℕ) → t ≢ target.Fork n b) → ((i : ℕ) → t ≢ target.Leaf i) → t ≡ target.Nothing
@@ -98,7 +97,7 @@ returns-in_default c =
     let none = nothing_else (target_in word) (λ n b. no_fork_told word n b no) (λ i q. c.in_default.not-Leaf i (c.read.ensures ∙ q)) in
     let at = subst (Walks old now w c.args.vid c.args.mac) none c.loop-slots.invariant in
     record {
-      found = walk_none old w c.args.vid c.args.mac now c.requires.forest at;
+      found = (let none = walk_none old w c.args.vid c.args.mac now c.requires.forest at in (none.0, none.1, tt));
       pool = c.loop-slots.invariant.same;
       counted = c.loop-slots.invariant.counted;
       compared = omega (arith, walk_still old w c.args.vid c.args.mac now c.requires.forest at);

@@ -6,7 +6,7 @@ use Rattle.shared_tables.proofs.Walk.{Walks}
 use Rattle.shared_tables.proofs.chains.find_in.Given as goal
 
 abbrev pub invariant-loop-slots : goal.invariant-loop-slots
-invariant-loop-slots l = Walks l.initial.slots l.slots l.forest l.vid l.mac (target_in l.word)
+invariant-loop-slots l = Walks l.initial.slots l.slots l.forest l.fn.vid l.fn.mac (target_in l.word)
 
 abbrev pub decreases-loop-slots : goal.decreases-loop-slots
-decreases-loop-slots l = (l.initial.slots.compared + bucket_count (bucket_of l.vid l.mac) l.initial.slots.entries) - l.slots.compared
+decreases-loop-slots l = (l.initial.slots.compared + bucket_count (bucket_of l.fn.vid l.fn.mac) l.initial.slots.entries) - l.slots.compared

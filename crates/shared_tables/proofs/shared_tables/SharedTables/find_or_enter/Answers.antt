@@ -27,24 +27,24 @@ pub returns-after-comes-clause-outcome : goal.returns-after-comes-clause-outcome
 returns-after-comes-clause-outcome c =
     let i = c.self.inside in let now = c.args.self.now in
     let comes = c.admit_in-comes.ensures.comes i.calls.total in
-    let f_is = seen_found i.slots c.find_in.new.slots i.shares.items i.moment i.calls.total c.admit_in-comes.new.slots.compared now c.in-Missing.ensures.pool c.self.view_is (comes_compared _ _ (record { chain = c.args.chain; beside = c.in-Missing.beside; vid = c.args.vid; mac = c.args.mac.now; place = c.args.place.now; last = c.args.last }) c.admit_in-comes.result comes) in
+    let f_is = seen_found i.slots c.find_in.new.slots i.shares.items i.moment i.calls.total c.admit_in-comes.new.slots.compared now c.in-Missing.ensures.pool c.self.view_is (comes_compared _ _ (record { chain = c.args.chain; beside = c.in-Missing.beside; bit = c.in-Missing.bit; vid = c.args.vid; mac = c.args.mac.now; place = c.args.place.now; last = c.args.last }) c.admit_in-comes.result comes) in
     let lacks = subst (λ (p : Pool). Lacks p.entries c.args.vid c.args.mac.now) (sym c.in-Missing.ensures.pool) c.in-Missing.ensures.found.0 in
     elim c.if-comes.branch [
       | then-comes w ↦ outcome_for (seen c.find_in.new.slots c.self.inside.shares.items c.self.inside.moment c.self.inside.calls.total) c.args.self.now (seen c.admit_in-comes.new.slots c.admit_in-comes.new.shares.items c.self.inside.moment c.self.inside.calls.total)
-          (record { chain = c.args.chain; beside = c.in-Missing.beside; vid = c.args.vid; mac = c.args.mac.now; place = c.args.place.now; last = c.args.last }) true c.admit_in-comes.result f_is lacks comes w.if-comes.true c.if-comes.result w.result-is
+          (record { chain = c.args.chain; beside = c.in-Missing.beside; bit = c.in-Missing.bit; vid = c.args.vid; mac = c.args.mac.now; place = c.args.place.now; last = c.args.last }) true c.admit_in-comes.result f_is lacks comes w.if-comes.true c.if-comes.result w.result-is
       | else-comes w ↦ outcome_for (seen c.find_in.new.slots c.self.inside.shares.items c.self.inside.moment c.self.inside.calls.total) c.args.self.now (seen c.admit_in-comes.new.slots c.admit_in-comes.new.shares.items c.self.inside.moment c.self.inside.calls.total)
-          (record { chain = c.args.chain; beside = c.in-Missing.beside; vid = c.args.vid; mac = c.args.mac.now; place = c.args.place.now; last = c.args.last }) false c.admit_in-comes.result f_is lacks comes w.if-comes.false c.if-comes.result w.result-is
+          (record { chain = c.args.chain; beside = c.in-Missing.beside; bit = c.in-Missing.bit; vid = c.args.vid; mac = c.args.mac.now; place = c.args.place.now; last = c.args.last }) false c.admit_in-comes.result f_is lacks comes w.if-comes.false c.if-comes.result w.result-is
     ]
 
 pub returns-after-comes-clause-counted : goal.returns-after-comes-clause-counted
 returns-after-comes-clause-counted c =
     subst (λ (w : Shared). w.compared ≤ c.admit_in-comes.new.slots.compared) c.self.view_is
-    (omega (arith, c.in-Missing.ensures.counted, comes_compared _ _ (record { chain = c.args.chain; beside = c.in-Missing.beside; vid = c.args.vid; mac = c.args.mac.now; place = c.args.place.now; last = c.args.last }) c.admit_in-comes.result (c.admit_in-comes.ensures.comes 0)))
+    (omega (arith, c.in-Missing.ensures.counted, comes_compared _ _ (record { chain = c.args.chain; beside = c.in-Missing.beside; bit = c.in-Missing.bit; vid = c.args.vid; mac = c.args.mac.now; place = c.args.place.now; last = c.args.last }) c.admit_in-comes.result (c.admit_in-comes.ensures.comes 0)))
 
 pub returns-after-comes-clause-compared : goal.returns-after-comes-clause-compared
 returns-after-comes-clause-compared c =
     subst (λ (w : Shared). c.admit_in-comes.new.slots.compared ≤ w.compared + bucket_count (bucket_of c.args.vid c.args.mac.now) w.entries) c.self.view_is
-    (omega (arith, c.in-Missing.ensures.compared, comes_compared _ _ (record { chain = c.args.chain; beside = c.in-Missing.beside; vid = c.args.vid; mac = c.args.mac.now; place = c.args.place.now; last = c.args.last }) c.admit_in-comes.result (c.admit_in-comes.ensures.comes 0)))
+    (omega (arith, c.in-Missing.ensures.compared, comes_compared _ _ (record { chain = c.args.chain; beside = c.in-Missing.beside; bit = c.in-Missing.bit; vid = c.args.vid; mac = c.args.mac.now; place = c.args.place.now; last = c.args.last }) c.admit_in-comes.result (c.admit_in-comes.ensures.comes 0)))
 
 pub returns-after-comes-clause-some_time : goal.returns-after-comes-clause-some_time
 returns-after-comes-clause-some_time c =

@@ -12,15 +12,15 @@ use Rattle.octet_digest.specs.declared.hasher.Sha256.{Sha256}
 
 -- ---- a hasher by its parts
 
-pub of_total : (s : Sha256) (m : List ℕ) → Holds256 s m → s.total ≡ length m % 2 ^ 64
+pub of_total : (s : Sha256) (m : List ℕ) → Holds256 s m → s.count ≡ length m % 2 ^ 64
 unfolding Holds256
 of_total s m held = held.0
 
-pub of_parts : (s : Sha256) (m : List ℕ) → Holds256 s m → IsAbsorbed initial_hash_256 s.state s.buffer m
+pub of_parts : (s : Sha256) (m : List ℕ) → Holds256 s m → IsAbsorbed initial_hash_256 s.hash s.rest m
 unfolding Holds256
 of_parts s m held = held.1
 
-pub from_parts : (s : Sha256) (m : List ℕ) → s.total ≡ length m % 2 ^ 64 → IsAbsorbed initial_hash_256 s.state s.buffer m → Holds256 s m
+pub from_parts : (s : Sha256) (m : List ℕ) → s.count ≡ length m % 2 ^ 64 → IsAbsorbed initial_hash_256 s.hash s.rest m → Holds256 s m
 unfolding Holds256
 from_parts s m total parts = (total, parts)
 
@@ -92,5 +92,5 @@ padding_is n t z j bits total e same =
     take-put_mid (z + 1) j row bits (z + 9) (omega arith) (omega arith) ∙ rw (front, same, count, zeros) refl
 
 -- the hash value behind it
-pub ended : (s : Sha256) (m p : List ℕ) → Holds256 s (m ++ p) → p ≡ padding (length m) → s.state ≡ final_hash initial_hash_256 m
+pub ended : (s : Sha256) (m p : List ℕ) → Holds256 s (m ++ p) → p ≡ padding (length m) → s.hash ≡ final_hash initial_hash_256 m
 ended s m p held e = (of_parts s (m ++ padding (length m)) (rw (← e) held)).0

@@ -50,15 +50,16 @@ fn compress(state: &mut [u32; 8], keyed: &mut Keyed, block: &[u8])
     v = four_rounds(v, &keyed.second);
     v = four_rounds(v, &keyed.third);
     v = four_rounds(v, &keyed.fourth);
+    let [a, b, c, d, e, f, g, h] = v;
     *state = [
-        state[0].wrapping_add(v[0]),
-        state[1].wrapping_add(v[1]),
-        state[2].wrapping_add(v[2]),
-        state[3].wrapping_add(v[3]),
-        state[4].wrapping_add(v[4]),
-        state[5].wrapping_add(v[5]),
-        state[6].wrapping_add(v[6]),
-        state[7].wrapping_add(v[7]),
+        state[0].wrapping_add(a),
+        state[1].wrapping_add(b),
+        state[2].wrapping_add(c),
+        state[3].wrapping_add(d),
+        state[4].wrapping_add(e),
+        state[5].wrapping_add(f),
+        state[6].wrapping_add(g),
+        state[7].wrapping_add(h),
     ];
 }
 

@@ -1,7 +1,7 @@
-//! SHA-256 (FIPS 180-4) for long messages: the hasher of the crate `sha2` once more, with the words of a block's schedule
-//! four at a time in a vector, and blocks read where they lie.
+//! SHA-256 (FIPS 180-4) for long messages: the words of a block's schedule are made four at a time in a vector, and blocks are
+//! read where they lie.
 //!
-//! Its contract is the trait `sha2::Digest`, so that both hashers are used by the same words.
+//! Its contract is the trait `sha2::Digest`, so whatever takes the hasher of that crate takes this one.
 #![tactic(auto)]
 
 mod block;

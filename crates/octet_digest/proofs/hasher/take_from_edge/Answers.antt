@@ -7,4 +7,4 @@ pub returns : goal.returns
 returns c = λ i m edge held.
     let d = c.args.octets.now in
     rw c.take_blocks.ensures
-    (behind_edge i c.args.state.now c.args.rest.now _ m d edge held (kept d _ _ (c.copy_from_slice.ensures.after ∙ take_rest d (length d / 64 * 64))))
+    (behind_edge i c.args.hash.now c.args.rest.now _ m d edge held (kept d _ _ (c.copy_from_slice.ensures.after ∙ take_rest d (length d / 64 * 64))))

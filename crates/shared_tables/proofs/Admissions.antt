@@ -42,8 +42,8 @@ module _ (pool : Pool) (shares : List (Option Share)) (moment v : ℕ) (h : IsSo
   some_span = subst (λ n. 0 < n) (sym span_here) (omega (arith, (h.lined v share here).some_time))
 
   -- the segment has no learned entry
-  pub refuses_none : (calls ageing : ℕ) → share.limit ≤ share.count → share.queue.first ≡ None → Refuses (seen pool shares moment calls) (seen pool shares moment calls) v ageing
-  refuses_none calls ageing le none =
+  pub refuses_none : (calls compared ageing : ℕ) → share.limit ≤ share.count → share.queue.first ≡ None → Refuses (seen pool shares moment calls compared) (seen pool shares moment calls compared) v ageing
+  refuses_none calls compared ageing le none =
       let ages = oldest_none pool.entries pool.lines v share moment (h.lined v share here) none in
       record {
         same = refl;
@@ -60,12 +60,12 @@ module _ (pool : Pool) (shares : List (Option Share)) (moment v : ℕ) (h : IsSo
   oldest_held s first = on_line_held v false pool.entries s (is_oldest s first).ages
 
   -- its oldest entry lives
-  pub refuses_live : (calls ageing s : ℕ) (pool' : Pool) → share.limit ≤ share.count → share.queue.first ≡ Some s → is_dead_in (entry_at pool.entries s) ageing moment ≡ false → pool' ≡ record pool { visited = pool.visited + 1 }
-      → Refuses (seen pool shares moment calls) (seen pool' shares moment calls) v ageing
-  refuses_live calls ageing s pool' le first lives e =
-      let old : Shared = seen pool shares moment calls in
-      let swept = sweep_ends (seen pool shares moment calls) (seen pool shares moment calls) v ageing s (sweep_starts (seen pool shares moment calls) v ageing) (is_oldest s first) lives (record (seen pool shares moment calls) { visited = pool.visited + 1 }) refl in
-      subst (λ (p : Pool). Refuses (seen pool shares moment calls) (seen p shares moment calls) v ageing) (sym e) (record {
+  pub refuses_live : (calls compared ageing s : ℕ) (pool' : Pool) → share.limit ≤ share.count → share.queue.first ≡ Some s → is_dead_in (entry_at pool.entries s) ageing moment ≡ false → pool' ≡ record pool { visited = pool.visited + 1 }
+      → Refuses (seen pool shares moment calls compared) (seen pool' shares moment calls compared) v ageing
+  refuses_live calls compared ageing s pool' le first lives e =
+      let old : Shared = seen pool shares moment calls compared in
+      let swept = sweep_ends (seen pool shares moment calls compared) (seen pool shares moment calls compared) v ageing s (sweep_starts (seen pool shares moment calls compared) v ageing) (is_oldest s first) lives (record (seen pool shares moment calls compared) { visited = pool.visited + 1 }) refl in
+      subst (λ (p : Pool). Refuses (seen pool shares moment calls compared) (seen p shares moment calls compared) v ageing) (sym e) (record {
         same = refl;
         live = swept.live;
         full = at_limit le;
@@ -268,9 +268,8 @@ outcome_for f now new n b comes is lacks h same r e =
     at false k = (lacks, k)
 
 -- the tables behind a look-up
-pub seen_found : (slots slots' : Pool) (shares : List (Option Share)) (moment calls k : ℕ) (now : Shared) → slots' ≡ record slots { compared = slots'.compared } → seen slots shares moment calls ≡ now → k ≡ slots'.compared → seen slots' shares moment calls ≡ record now { compared = k }
-seen_found slots slots' shares moment calls k now same view e =
-    ap (λ (p : Pool). seen p shares moment calls) same ∙ ap (λ (w : Shared). record w { compared = slots'.compared }) view ∙ ap (λ n. record now { compared = n }) (sym e)
+pub seen_found : (slots : Pool) (shares : List (Option Share)) (moment calls was n : ℕ) (now : Shared) → seen slots shares moment calls was ≡ now → seen slots shares moment calls n ≡ record now { compared = n }
+seen_found slots shares moment calls was n now view = ap (λ (w : Shared). record w { compared = n }) view
 
 -- what is found or admitted, behind what was found or came
 pub then_admits : (old mid new : Shared) (v ageing : ℕ) (e : Held) → e.vid ≡ v → is_dead_in (Some e) ageing old.moment ≡ false → ComesTo old mid ageing e outcome.Entered → Sweeps mid new v ageing → FindsOrAdmits old new ageing e outcome.Entered

@@ -88,12 +88,12 @@ module _ (pool : Pool) (w : Woods) (shares : List (Option Share)) (moment : ℕ)
         forest = subst (λ xs. IsForest xs w') (sym entries_is) (attached w' n.beside m.beside m.parts a);
       }
 
-      pub enters : (calls : ℕ) → pool'.compared ≡ pool.compared → pool'.visited ≡ pool.visited → Enters (seen pool shares moment calls) (seen pool' shares' moment calls) e
+      pub enters : (calls compared : ℕ) → pool'.visited ≡ pool.visited → Enters (seen pool shares moment calls compared) (seen pool' shares' moment calls compared) e
       enters calls compared visited = record {
         slot = s;
         in_pool = lt;
         free = free;
         same = same_shared moment calls entries_is
             (ap (map (option_map rule_of)) shares_are ∙ rules_stay shares n.vid own.share (share_with (is_none n.last) s own.share) own.here (rule_of-with_line own.share (is_none n.last) (ends_with (line_at own.share (is_none n.last)) s) (own.share.count + 1)))
-            compared visited;
+            refl visited;
       }

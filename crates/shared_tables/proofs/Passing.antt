@@ -34,7 +34,6 @@ pub record Passes (old now : Pool) (forest : Woods) (was shares : List (Option S
   pub trees : IsForest now.entries forest
   pub has : IsSome (share_at shares v)
   pub rules : map (option_map rule_of) shares ≡ map (option_map rule_of) was
-  pub compared : now.compared ≡ old.compared
   pub visited : now.visited ≡ old.visited
   pub size : length now.entries ≡ length old.entries
   pub each : (i : ℕ) → KeepsOrDrops (seen_there v place) (entry_at old.entries i) (entry_at now.entries i)
@@ -56,7 +55,6 @@ pass_starts pool forest shares moment v place share h trees here =
       trees = trees;
       has = subst (λ (o : Option Share). IsSome o) (sym here) refl;
       rules = refl;
-      compared = refl;
       visited = refl;
       size = refl;
       each = λ i. inl refl;
@@ -124,7 +122,6 @@ module _ (old now : Pool) (forest : Woods) (was shares : List (Option Share)) (m
     trees = a.whole.trees;
     has = a.whole.has;
     rules = a.whole.rules;
-    compared = a.whole.compared;
     visited = a.whole.visited;
     size = a.whole.size;
     each = a.whole.each;
@@ -155,7 +152,6 @@ module _ (old now : Pool) (forest : Woods) (was shares : List (Option Share)) (m
         trees = uproot_forest now.entries forest forest' a.whole.trees pass_stays.entry slot pass_stays.at_slot uproots;
         has = subst (λ (o : Option Share). IsSome o) (sym (ap (λ xs. share_at xs v) shares_are)) still;
         rules = ap (map (option_map rule_of)) shares_are ∙ drop_rules now.entries now.lines shares moment a.whole.sound v slot pass_stays ∙ a.whole.rules;
-        compared = a.whole.compared;
         visited = a.whole.visited;
         size = length-set now.entries slot None ∙ a.whole.size;
         each = λ i. by_bool (nat_eq i slot)
@@ -198,7 +194,6 @@ pass_none old now forest was shares moment v place steps count lt w = record {
   trees = w.trees;
   has = w.has;
   rules = w.rules;
-  compared = w.compared;
   visited = w.visited;
   size = w.size;
   each = w.each;

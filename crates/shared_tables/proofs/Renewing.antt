@@ -197,10 +197,10 @@ module _ (i : Inside) (now : Shared) (e : shared_of i ≡ now) (h : IsSoundInsid
           (renew_forest i.slots.entries i.forest h.forest k.entry (record k.entry { place = place; last = last }) s k.at_slot refl refl);
     }
 
-    pub renewed_seen : ◌≡◌ {A = Shared} (record { entries = pool.entries; rules = map (option_map rule_of) shares; moment = i.moment; calls = i.calls.total; compared = pool.compared; visited = pool.visited })
+    pub renewed_seen : ◌≡◌ {A = Shared} (record { entries = pool.entries; rules = map (option_map rule_of) shares; moment = i.moment; calls = i.calls.total; compared = i.compared.total; visited = pool.visited })
         (record now { entries = set now.entries s (renewed (entry_at now.entries s) place last) })
     renewed_seen =
         same_shared i.moment i.calls.total (ap (λ (p : Pool). p.entries) pool_is)
         (ap (map (option_map rule_of)) shares_is ∙ renew_rules i.slots.entries i.slots.lines i.shares.items i.moment h.sound v s k place last at)
-        (ap (λ (p : Pool). p.compared) pool_is) (ap (λ (p : Pool). p.visited) pool_is)
+        refl (ap (λ (p : Pool). p.visited) pool_is)
         ∙ ap (λ (w : Shared). record w { entries = set w.entries s (renewed (entry_at w.entries s) place last) }) e

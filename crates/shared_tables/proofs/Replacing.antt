@@ -156,8 +156,8 @@ module _ (pool : Pool) (w : Woods) (shares : List (Option Share)) (moment : ℕ)
       parts = subst (λ xs. IfSome n.beside (λ leaf. PartedAt (entry_at xs leaf) (key_of v n.mac) n.bit)) (sym entries_are) (still_parted n.beside ne m.parts);
     }
 
-    pub dropped_replaces : (new : Shared) (calls : ℕ) → Enters (seen pool' shares' moment calls) new e → Replaces (seen pool shares moment calls) new s e
-    dropped_replaces new calls enters = subst (λ x. Enters x new e) (same_shared moment calls entries_are rules_are (ap (λ (p : Pool). p.compared) pool_is) (ap (λ (p : Pool). p.visited) pool_is)) enters
+    pub dropped_replaces : (new : Shared) (calls compared : ℕ) → Enters (seen pool' shares' moment calls compared) new e → Replaces (seen pool shares moment calls compared) new s e
+    dropped_replaces new calls compared enters = subst (λ x. Enters x new e) (same_shared moment calls entries_are rules_are refl (ap (λ (p : Pool). p.visited) pool_is)) enters
 
   -- ---- an entry's slot is used again
 
@@ -217,12 +217,12 @@ module _ (pool : Pool) (w : Woods) (shares : List (Option Share)) (moment : ℕ)
             (relabel_forest es w h.forest k.entry e s k.at_slot (sym same_chain) (subst (λ b. Belongs w.words b (key_of v n.mac) (Some s)) (sym same_chain) at_home));
       }
 
-      pub again_replaces : (calls : ℕ) → Replaces (seen pool shares moment calls) (seen pool'' shares'' moment calls) s e
-      again_replaces calls = record {
+      pub again_replaces : (calls compared : ℕ) → Replaces (seen pool shares moment calls compared) (seen pool'' shares'' moment calls compared) s e
+      again_replaces calls compared = record {
         slot = s;
         in_pool = subst (λ z. s < z) (sym (length-set es s None)) s_lt;
         free = entry_same es s None s_lt;
         same = same_shared moment calls (final ∙ sym (set-set es s None (Some e)))
             (ap (map (option_map rule_of)) shares_is ∙ renew_rules pool'.entries pool'.lines shares moment sound' v s k' n.place n.last m.now)
-            (ap (λ (p : Pool). p.compared) moved_is ∙ ap (λ (p : Pool). p.compared) pool_is) (ap (λ (p : Pool). p.visited) moved_is ∙ ap (λ (p : Pool). p.visited) pool_is);
+            refl (ap (λ (p : Pool). p.visited) moved_is ∙ ap (λ (p : Pool). p.visited) pool_is);
       }

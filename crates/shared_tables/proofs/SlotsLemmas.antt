@@ -16,9 +16,9 @@ use Rattle.shared_tables.specs.Forest.{key_in}
 use Rattle.shared_tables.proofs.Keys.{key_of-key}
 use Rattle.shared_tables.specs.Slots.{entry_in, entry_by, kind_of, moment_of, line_of, pool_with, pool_of, no_slot, all_slots, IsAbsent, IsFreeList, IsFreeAll, IsStocked, IsWithin}
 
-pub same_pool : {es fs : List (Option Held)} {ls ms : List Links} (n v : ℕ) → es ≡ fs → ls ≡ ms
-    → ◌≡◌ {A = Pool} (record { entries = es; lines = ls; compared = n; visited = v }) (record { entries = fs; lines = ms; compared = n; visited = v })
-same_pool n v p r = λ i. record { entries = p i; lines = r i; compared = n; visited = v }
+pub same_pool : {es fs : List (Option Held)} {ls ms : List Links} (v : ℕ) → es ≡ fs → ls ≡ ms
+    → ◌≡◌ {A = Pool} (record { entries = es; lines = ls; visited = v }) (record { entries = fs; lines = ms; visited = v })
+same_pool v p r = λ i. record { entries = p i; lines = r i; visited = v }
 
 -- the slot that was read
 read : (xs : List Slot) (i : ℕ) (old : Slot) → i < length xs → old ≡ get_or xs i old → (e : Option Held) → get_or (map entry_in xs) i e ≡ entry_in old
@@ -35,27 +35,27 @@ held_old : (xs : List Slot) (i : ℕ) (old : Slot) → i < length xs → old ≡
 held_old xs i old lt is held = subst (λ (o : Option Held). IsSome o) (read xs i old lt is None) held
 
 -- what a slot has on its line
-own_links : (xs : List Slot) (n v i : ℕ) (old : Slot) → i < length xs → old ≡ get_or xs i old → IsSome (entry_in old) → old.line ≡ links_at (pool_with xs n v).lines i
-own_links xs n v i old lt is held = sym (line_held old held) ∙ sym (get_or-map line_of xs i old alone lt ∙ ap line_of (sym is))
+own_links : (xs : List Slot) (v i : ℕ) (old : Slot) → i < length xs → old ≡ get_or xs i old → IsSome (entry_in old) → old.line ≡ links_at (pool_with xs v).lines i
+own_links xs v i old lt is held = sym (line_held old held) ∙ sym (get_or-map line_of xs i old alone lt ∙ ap line_of (sym is))
 
 -- a write of other neighbours
-pub pool-set_links : (xs : List Slot) (n v i : ℕ) (links : Links) (old : Slot) → i < length xs → old ≡ get_or xs i old → IsSome (entry_in old)
-    → pool_with (set xs i (record old { line = links })) n v ≡ record (pool_with xs n v) { lines = set (map line_of xs) i links }
-pool-set_links xs n v i links old lt is held =
-    same_pool n v (map-set_same entry_in xs i (record old { line = links }) old (ap entry_in is))
+pub pool-set_links : (xs : List Slot) (v i : ℕ) (links : Links) (old : Slot) → i < length xs → old ≡ get_or xs i old → IsSome (entry_in old)
+    → pool_with (set xs i (record old { line = links })) v ≡ record (pool_with xs v) { lines = set (map line_of xs) i links }
+pool-set_links xs v i links old lt is held =
+    same_pool v (map-set_same entry_in xs i (record old { line = links }) old (ap entry_in is))
     (map-set line_of xs i (record old { line = links }) ∙ ap (set (map line_of xs) i) (line_held (record old { line = links }) held))
 
 -- a write of another entry beside the same neighbours
-pub pool-set_entry : (xs : List Slot) (n v i : ℕ) (s old : Slot) → i < length xs → old ≡ get_or xs i old → s.line ≡ old.line → is_some (entry_in s) ≡ is_some (entry_in old)
-    → pool_with (set xs i s) n v ≡ record (pool_with xs n v) { entries = set (map entry_in xs) i (entry_in s) }
-pool-set_entry xs n v i s old lt is line same =
-    same_pool n v (map-set entry_in xs i s)
+pub pool-set_entry : (xs : List Slot) (v i : ℕ) (s old : Slot) → i < length xs → old ≡ get_or xs i old → s.line ≡ old.line → is_some (entry_in s) ≡ is_some (entry_in old)
+    → pool_with (set xs i s) v ≡ record (pool_with xs v) { entries = set (map entry_in xs) i (entry_in s) }
+pool-set_entry xs v i s old lt is line same =
+    same_pool v (map-set entry_in xs i s)
     (map-set_same line_of xs i s old (ap (λ l. cond (is_some (entry_in s)) l alone) line ∙ ap (λ b. cond b old.line alone) same ∙ ap line_of is))
 
 -- a whole slot written
-pub pool-set : (xs : List Slot) (n v i : ℕ) (s : Slot)
-    → pool_with (set xs i s) n v ≡ record (pool_with xs n v) { entries = set (map entry_in xs) i (entry_in s); lines = set (map line_of xs) i (line_of s) }
-pool-set xs n v i s = same_pool n v (map-set entry_in xs i s) (map-set line_of xs i s)
+pub pool-set : (xs : List Slot) (v i : ℕ) (s : Slot)
+    → pool_with (set xs i s) v ≡ record (pool_with xs v) { entries = set (map entry_in xs) i (entry_in s); lines = set (map line_of xs) i (line_of s) }
+pool-set xs v i s = same_pool v (map-set entry_in xs i s) (map-set line_of xs i s)
 
 -- what the free list says of a slot on it
 module _ (xs : List Slot) where
@@ -121,11 +121,11 @@ module _ (xs : List Slot) where
   }
 
 -- A pool and a slot's number as a method sees them: e is the value's `.view_is`, q is the number's.
-module _ (xs : List Slot) (n v i slot : ℕ) (now : Pool) (e : pool_with xs n v ≡ now) (q : i ≡ slot) where
-  pub forth : (P : Pool → ℕ → Type 0) → P (pool_with xs n v) i → P now slot
+module _ (xs : List Slot) (v i slot : ℕ) (now : Pool) (e : pool_with xs v ≡ now) (q : i ≡ slot) where
+  pub forth : (P : Pool → ℕ → Type 0) → P (pool_with xs v) i → P now slot
   forth P p = subst (λ s. P now s) q (subst (λ w. P w i) e p)
 
-  pub back : (P : Pool → ℕ → Type 0) → P now slot → P (pool_with xs n v) i
+  pub back : (P : Pool → ℕ → Type 0) → P now slot → P (pool_with xs v) i
   back P p = subst (λ w. P w i) (sym e) (subst (λ s. P now s) (sym q) p)
 
   pub in_range : slot < length now.entries → i < length xs
@@ -139,7 +139,7 @@ module _ (xs : List Slot) (n v i slot : ℕ) (now : Pool) (e : pool_with xs n v 
 
   pub links_read : (old : Slot) → old ≡ get_or xs i old → slot < length now.entries → IsSome (entry_at now.entries slot) → old.line ≡ links_at now.lines slot
   links_read old is lt h =
-      own_links xs n v i old (in_range lt) is (held_old xs i old (in_range lt) is (back (λ w s. IsSome (entry_at w.entries s)) h)) ∙ forth (λ w s. links_at (pool_with xs n v).lines i ≡ links_at w.lines s) refl
+      own_links xs v i old (in_range lt) is (held_old xs i old (in_range lt) is (back (λ w s. IsSome (entry_at w.entries s)) h)) ∙ forth (λ w s. links_at (pool_with xs v).lines i ≡ links_at w.lines s) refl
 
   pub held_old_at : (old : Slot) → old ≡ get_or xs i old → slot < length now.entries → IsSome (entry_at now.entries slot) → IsSome (entry_in old)
   held_old_at old is lt h = held_old xs i old (in_range lt) is (back (λ w s. IsSome (entry_at w.entries s)) h)
@@ -157,11 +157,11 @@ some_renewed None place last h = h
 some_renewed (Some e) place last h = refl
 
 -- a write of another place and moment
-pub pool-renew : (xs : List Slot) (n v i : ℕ) (place : Place) (last : Option ℕ) (s old : Slot) → i < length xs → old ≡ get_or xs i old → s.line ≡ old.line → entry_in s ≡ renewed (entry_in old) place last
-    → pool_with (set xs i s) n v ≡ record (pool_with xs n v) { entries = set (map entry_in xs) i (renewed (entry_at (map entry_in xs) i) place last) }
-pool-renew xs n v i place last s old lt is line e =
-    pool-set_entry xs n v i s old lt is line (ap is_some e ∙ is_some-renewed (entry_in old) place last)
-    ∙ ap (λ o. record (pool_with xs n v) { entries = set (map entry_in xs) i o }) (e ∙ ap (λ o. renewed o place last) (sym (read xs i old lt is None)))
+pub pool-renew : (xs : List Slot) (v i : ℕ) (place : Place) (last : Option ℕ) (s old : Slot) → i < length xs → old ≡ get_or xs i old → s.line ≡ old.line → entry_in s ≡ renewed (entry_in old) place last
+    → pool_with (set xs i s) v ≡ record (pool_with xs v) { entries = set (map entry_in xs) i (renewed (entry_at (map entry_in xs) i) place last) }
+pool-renew xs v i place last s old lt is line e =
+    pool-set_entry xs v i s old lt is line (ap is_some e ∙ is_some-renewed (entry_in old) place last)
+    ∙ ap (λ o. record (pool_with xs v) { entries = set (map entry_in xs) i o }) (e ∙ ap (λ o. renewed o place last) (sym (read xs i old lt is None)))
 
 -- the fields of a renewed slot
 pub renewed_entry : (kind : Kind) (key was : ℕ) (before place : Place) (last : Option ℕ) → IsSome (entry_by kind key was before) → entry_by (kind_of last) key (moment_of last) place ≡ renewed (entry_by kind key was before) place last
@@ -227,7 +227,7 @@ module _ (a : Inside) (i slot : ℕ) (now : Pool) (e : pool_of a ≡ now) (q : i
   every = all_slots a.size a.slots.items
 
   pub own_held : IsSome (entry_in (get_or a.slots.items i no_slot))
-  own_held = subst (λ (s : Slot). IsSome (entry_in s)) (none_behind a.slots.items (a.size - length a.slots.items) i) (held_at every a.compared.total a.visited.total i slot now e q lt held)
+  own_held = subst (λ (s : Slot). IsSome (entry_in s)) (none_behind a.slots.items (a.size - length a.slots.items) i) (held_at every a.visited.total i slot now e q lt held)
 
   pub made : i < length a.slots.items
   made = held_made a.slots.items i own_held
@@ -237,21 +237,18 @@ module _ (a : Inside) (i slot : ℕ) (now : Pool) (e : pool_of a ≡ now) (q : i
     among = is ∙ sym (get_or_append_left a.slots.items (replicate (a.size - length a.slots.items) no_slot) old i made)
 
     pub own_entry : entry_in old ≡ entry_at now.entries slot
-    own_entry = entry_read every a.compared.total a.visited.total i slot now e q old among lt
+    own_entry = entry_read every a.visited.total i slot now e q old among lt
 
     pub own_line : old.line ≡ links_at now.lines slot
-    own_line = links_read every a.compared.total a.visited.total i slot now e q old among lt held
+    own_line = links_read every a.visited.total i slot now e q old among lt held
 
     pub own_some : IsSome (entry_in old)
-    own_some = held_old_at every a.compared.total a.visited.total i slot now e q old among lt held
+    own_some = held_old_at every a.visited.total i slot now e q old among lt held
 
 -- A slot that a method writes, which holds an entry before and after: is says that it was read there, e and q are as above.
 module _ (a : Inside) (i slot : ℕ) (now : Pool) (e : pool_of a ≡ now) (q : i ≡ slot) (lt : slot < length now.entries) (held : IsSome (entry_at now.entries slot)) (old s : Slot) (is : old ≡ get_or a.slots.items i old) where
   abbrev xs : List Slot
   xs = all_slots a.size a.slots.items
-
-  abbrev n : ℕ
-  n = a.compared.total
 
   abbrev v : ℕ
   v = a.visited.total
@@ -262,8 +259,8 @@ module _ (a : Inside) (i slot : ℕ) (now : Pool) (e : pool_of a ≡ now) (q : i
   is_among : old ≡ get_or xs i old
   is_among = among a i slot now e q lt held old is
 
-  as_written : pool_with (all_slots a.size (set a.slots.items i s)) n v ≡ pool_with (set xs i s) n v
-  as_written = ap (λ ys. pool_with ys n v) (all-set a.size a.slots.items i s is_made)
+  as_written : pool_with (all_slots a.size (set a.slots.items i s)) v ≡ pool_with (set xs i s) v
+  as_written = ap (λ ys. pool_with ys v) (all-set a.size a.slots.items i s is_made)
 
   -- the free list is the same
   written_free : IsSome (entry_in s) → IsStocked a → ((free : List ℕ) × IsFreeAll (set a.slots.items i s) a.free free) × IsWithin (length (set a.slots.items i s)) a.size (vec_capacity a.slots)
@@ -278,14 +275,14 @@ module _ (a : Inside) (i slot : ℕ) (now : Pool) (e : pool_of a ≡ now) (q : i
     renewed_free = written_free (subst (λ (o : Option Held). IsSome o) (sym entry) (some_renewed (entry_in old) place last held_before))
 
     pub renewed_pool : s.line ≡ old.line
-        → pool_with (all_slots a.size (set a.slots.items i s)) a.compared.total a.visited.total ≡ record now { entries = set now.entries slot (renewed (entry_at now.entries slot) place last) }
+        → pool_with (all_slots a.size (set a.slots.items i s)) a.visited.total ≡ record now { entries = set now.entries slot (renewed (entry_at now.entries slot) place last) }
     renewed_pool line =
         as_written
-        ∙ forth xs n v i slot now e q (λ w k. pool_with (set xs i s) n v ≡ record w { entries = set w.entries k (renewed (entry_at w.entries k) place last) })
-        (pool-renew xs n v i place last s old (in_range xs n v i slot now e q lt) is_among line entry)
+        ∙ forth xs v i slot now e q (λ w k. pool_with (set xs i s) v ≡ record w { entries = set w.entries k (renewed (entry_at w.entries k) place last) })
+        (pool-renew xs v i place last s old (in_range xs v i slot now e q lt) is_among line entry)
 
   pub place_read : place_in (entry_in old) ≡ place_in (entry_at now.entries slot)
-  place_read = ap place_in (entry_read xs n v i slot now e q old is_among lt)
+  place_read = ap place_in (entry_read xs v i slot now e q old is_among lt)
 
   -- it has another address
   module _ (vid : ℕ) (mac : List ℕ) (entry : entry_in s ≡ readdressed (entry_in old) vid mac) where
@@ -293,35 +290,35 @@ module _ (a : Inside) (i slot : ℕ) (now : Pool) (e : pool_of a ≡ now) (q : i
     readdressed_free = written_free (subst (λ (o : Option Held). IsSome o) (sym entry) (subst (λ b. b ≡ true) (sym (is_some-readdressed (entry_in old) vid mac)) held_before))
 
     pub readdressed_pool : s.line ≡ old.line
-        → pool_with (all_slots a.size (set a.slots.items i s)) a.compared.total a.visited.total ≡ record now { entries = set now.entries slot (readdressed (entry_at now.entries slot) vid mac) }
+        → pool_with (all_slots a.size (set a.slots.items i s)) a.visited.total ≡ record now { entries = set now.entries slot (readdressed (entry_at now.entries slot) vid mac) }
     readdressed_pool line =
         as_written
-        ∙ forth xs n v i slot now e q (λ w k. pool_with (set xs i s) n v ≡ record w { entries = set w.entries k (readdressed (entry_at w.entries k) vid mac) })
-        (pool-set_entry xs n v i s old (in_range xs n v i slot now e q lt) is_among line (ap is_some entry ∙ is_some-readdressed (entry_in old) vid mac)
-        ∙ ap (λ o. record (pool_with xs n v) { entries = set (map entry_in xs) i o }) (entry ∙ ap (λ o. readdressed o vid mac) (sym (read xs i old (in_range xs n v i slot now e q lt) is_among None))))
+        ∙ forth xs v i slot now e q (λ w k. pool_with (set xs i s) v ≡ record w { entries = set w.entries k (readdressed (entry_at w.entries k) vid mac) })
+        (pool-set_entry xs v i s old (in_range xs v i slot now e q lt) is_among line (ap is_some entry ∙ is_some-readdressed (entry_in old) vid mac)
+        ∙ ap (λ o. record (pool_with xs v) { entries = set (map entry_in xs) i o }) (entry ∙ ap (λ o. readdressed o vid mac) (sym (read xs i old (in_range xs v i slot now e q lt) is_among None))))
 
   -- it has other neighbours
   module _ (links : Links) (linked : s ≡ record old { line = links }) where
     pub linked_free : IsStocked a → ((free : List ℕ) × IsFreeAll (set a.slots.items i s) a.free free) × IsWithin (length (set a.slots.items i s)) a.size (vec_capacity a.slots)
     linked_free = written_free (subst (λ (o : Option Held). IsSome o) (sym (ap entry_in linked)) held_before)
 
-    pub linked_pool : pool_with (all_slots a.size (set a.slots.items i s)) a.compared.total a.visited.total ≡ record now { lines = set now.lines slot links }
+    pub linked_pool : pool_with (all_slots a.size (set a.slots.items i s)) a.visited.total ≡ record now { lines = set now.lines slot links }
     linked_pool =
         as_written
-        ∙ ap (λ (x : Slot). pool_with (set xs i x) n v) linked
-        ∙ forth xs n v i slot now e q (λ w k. pool_with (set xs i (record old { line = links })) n v ≡ record w { lines = set w.lines k links })
-        (pool-set_links xs n v i links old (in_range xs n v i slot now e q lt) is_among held_before)
+        ∙ ap (λ (x : Slot). pool_with (set xs i x) v) linked
+        ∙ forth xs v i slot now e q (λ w k. pool_with (set xs i (record old { line = links })) v ≡ record w { lines = set w.lines k links })
+        (pool-set_links xs v i links old (in_range xs v i slot now e q lt) is_among held_before)
 
 -- a slot that an entry takes, and one that it leaves
-pub pool-taken : (xs : List Slot) (n v i : ℕ) (s : Slot) (e : Held) → entry_in s ≡ Some e → s.line ≡ alone → pool_with (set xs i s) n v ≡ taken (pool_with xs n v) i e
-pool-taken xs n v i s e entry line =
-    pool-set xs n v i s
-    ∙ same_pool n v (ap (set (map entry_in xs) i) entry) (ap (set (map line_of xs) i) (ap (λ o. cond (is_some o) s.line alone) entry ∙ line))
+pub pool-taken : (xs : List Slot) (v i : ℕ) (s : Slot) (e : Held) → entry_in s ≡ Some e → s.line ≡ alone → pool_with (set xs i s) v ≡ taken (pool_with xs v) i e
+pool-taken xs v i s e entry line =
+    pool-set xs v i s
+    ∙ same_pool v (ap (set (map entry_in xs) i) entry) (ap (set (map line_of xs) i) (ap (λ o. cond (is_some o) s.line alone) entry ∙ line))
 
-pub pool-freed : (xs : List Slot) (n v i : ℕ) (s : Slot) → entry_in s ≡ None → pool_with (set xs i s) n v ≡ freed (pool_with xs n v) i
-pool-freed xs n v i s entry =
-    pool-set xs n v i s
-    ∙ same_pool n v (ap (set (map entry_in xs) i) entry) (ap (set (map line_of xs) i) (ap (λ o. cond (is_some o) s.line alone) entry))
+pub pool-freed : (xs : List Slot) (v i : ℕ) (s : Slot) → entry_in s ≡ None → pool_with (set xs i s) v ≡ freed (pool_with xs v) i
+pool-freed xs v i s entry =
+    pool-set xs v i s
+    ∙ same_pool v (ap (set (map entry_in xs) i) entry) (ap (set (map line_of xs) i) (ap (λ o. cond (is_some o) s.line alone) entry))
 
 -- the free list with its first slot apart
 pub record TakesFirst (xs : List Slot) (i : ℕ) : Type 0 where
@@ -344,10 +341,10 @@ each_alike f zero x = refl
 each_alike f (suc n) x = ap (λ ys. f x ∷ ys) (each_alike f n x)
 
 -- none was made yet
-pub none_made : (size compared visited : ℕ) → pool_with (all_slots size []) compared visited ≡ record { entries = replicate size None; lines = replicate size alone; compared = compared; visited = visited }
-none_made size compared visited =
+pub none_made : (size visited : ℕ) → pool_with (all_slots size []) visited ≡ record { entries = replicate size None; lines = replicate size alone; visited = visited }
+none_made size visited =
     let whole : size - 0 ≡ size = omega arith in
-    ap (λ k. pool_with (replicate k no_slot) compared visited) whole ∙ same_pool compared visited (each_alike entry_in size no_slot) (each_alike line_of size no_slot)
+    ap (λ k. pool_with (replicate k no_slot) visited) whole ∙ same_pool visited (each_alike entry_in size no_slot) (each_alike line_of size no_slot)
 
 -- where no slot that was made is free, there is room for another one
 pub has_room : (size : ℕ) (xs : List Slot) (f : Option ℕ) (is : List ℕ) → IsFreeAll xs f is → f ≡ None → 0 < free_count (map entry_in (all_slots size xs)) → length xs < size

@@ -6,7 +6,7 @@ use Rattle.std.proofs.lemmas.Nat.Bits.{bit_at-lt}
 use Rattle.shared_tables.specs.declared.forest.Target.{Target}
 use Rattle.shared_tables.specs.declared.forest.Target.TheVariants as target
 use Rattle.shared_tables.specs.Bucket.{key_of, bucket_of, chain_of}
-use Rattle.shared_tables.specs.Pool.{Pool, Held, entry_at, IfHeld}
+use Rattle.shared_tables.specs.Pool.{Held, entry_at, IfHeld}
 use Rattle.shared_tables.specs.Line.{is_on, weight}
 use Rattle.shared_tables.specs.Threads.{IsHeld}
 use Rattle.shared_tables.specs.Shared.{chain_key, Lacks, bucket_count}
@@ -24,14 +24,13 @@ Leads at key was now here None = (here ≡ target.Nothing) × (now ≡ was)
 Leads at key was now here (Some whole) = (t : Tree) × IsTree at here t × (descend key t ≡ descend key whole) × (now + length (leaves t) ≤ was + length (leaves whole))
 
 -- the walk has come to a target
-pub record Walks (old now : Pool) (w : Woods) (vid : ℕ) (mac : List ℕ) (here : Target) : Type 0 where
-  pub leads : (k : IsChain old.entries w.words (chain_of vid mac)) → Leads (target_at w.words) (key_of vid mac) old.compared now.compared here k.tree
-  pub same : now ≡ record old { compared = now.compared }
-  pub counted : old.compared ≤ now.compared
+pub record Walks (es : List (Option Held)) (w : Woods) (vid : ℕ) (mac : List ℕ) (was now : ℕ) (here : Target) : Type 0 where
+  pub leads : (k : IsChain es w.words (chain_of vid mac)) → Leads (target_at w.words) (key_of vid mac) was now here k.tree
+  pub counted : was ≤ now
   pub place : ℕ
   pub stands : here ≡ target_at w.words place
 
-module _ (old : Pool) (w : Woods) (vid : ℕ) (mac : List ℕ) where
+module _ (es : List (Option Held)) (w : Woods) (vid : ℕ) (mac : List ℕ) (was : ℕ) where
   abbrev at : ℕ → Target
   at = target_at w.words
 
@@ -41,17 +40,17 @@ module _ (old : Pool) (w : Woods) (vid : ℕ) (mac : List ℕ) where
   abbrev c : ℕ
   c = chain_of vid mac
 
-  pub walk_starts : Walks old old w vid mac (at c)
-  walk_starts = record { leads = λ k. from k.tree k.rooted; same = refl; counted = omega arith; place = c; stands = refl }
+  pub walk_starts : Walks es w vid mac was was (at c)
+  walk_starts = record { leads = λ k. from k.tree k.rooted; counted = omega arith; place = c; stands = refl }
     where
-      from : (o : Option Tree) → IsRooted at (at c) o → Leads at key old.compared old.compared (at c) o
+      from : (o : Option Tree) → IsRooted at (at c) o → Leads at key was was (at c) o
       from None r = (r, refl)
       from (Some t) r = (t, r, refl, omega arith)
 
   -- the walk at a fork, and a step further
-  step_on : (was now m b : ℕ) (o : Option Tree) → Leads at key was now (target.Fork m b) o → Leads at key was (now + 1) (at (child_of m (bit_at key b))) o
-  step_on was now m b None h = let bad : target.Fork m b ≡ target.Nothing = h.0 in cc
-  step_on was now m b (Some whole) h = from h.0 h.1 h.2 h.3
+  step_on : (now m b : ℕ) (o : Option Tree) → Leads at key was now (target.Fork m b) o → Leads at key was (now + 1) (at (child_of m (bit_at key b))) o
+  step_on now m b None h = let bad : target.Fork m b ≡ target.Nothing = h.0 in cc
+  step_on now m b (Some whole) h = from h.0 h.1 h.2 h.3
     where
       from : (t : Tree) → IsTree at (target.Fork m b) t → descend key t ≡ descend key whole → now + length (leaves t) ≤ was + length (leaves whole) → Leads at key was (now + 1) (at (child_of m (bit_at key b))) (Some whole)
       from (Leaf i) k way few = let bad : target.Fork m b ≡ target.Leaf i = k in cc
@@ -75,58 +74,55 @@ module _ (old : Pool) (w : Woods) (vid : ℕ) (mac : List ℕ) where
             omega (arith, few, length-append (leaves l) (leaves r), some_leaf l),
           ))
 
-  pub walk_on : (now now' : Pool) (m b : ℕ) → now' ≡ record now { compared = now.compared + 1 } → Walks old now w vid mac (target.Fork m b) → Walks old now' w vid mac (at (child_of m (bit_at key b)))
-  walk_on now now' m b e h =
-      let compared : now'.compared ≡ now.compared + 1 = ap (λ (p : Pool). p.compared) e in
-      record {
-        leads = λ k. subst (λ n. Leads at key old.compared n (at (child_of m (bit_at key b))) k.tree) (sym compared) (step_on old.compared now.compared m b k.tree (h.leads k));
-        same = e ∙ ap (λ (p : Pool). record p { compared = now.compared + 1 }) h.same ∙ ap (λ n. record old { compared = n }) (sym compared);
-        counted = omega (arith, compared, h.counted);
-        place = child_of m (bit_at key b);
-        stands = refl;
-      }
+  pub walk_on : (now m b : ℕ) → Walks es w vid mac was now (target.Fork m b) → Walks es w vid mac was (now + 1) (at (child_of m (bit_at key b)))
+  walk_on now m b h = record {
+    leads = λ k. step_on now m b k.tree (h.leads k);
+    counted = omega (arith, h.counted);
+    place = child_of m (bit_at key b);
+    stands = refl;
+  }
 
   -- a walk that goes on has compared less than the bucket has
-  pub walk_few : (now : Pool) (here : Target) → here ≢ target.Nothing → IsForest old.entries w → Walks old now w vid mac here → now.compared + 1 ≤ old.compared + bucket_count (bucket_of vid mac) old.entries
+  pub walk_few : (now : ℕ) (here : Target) → here ≢ target.Nothing → IsForest es w → Walks es w vid mac was now here → now + 1 ≤ was + bucket_count (bucket_of vid mac) es
   walk_few now here some h k =
       let own = h.chained c (chain_small vid mac) in
       from own.tree (k.leads own) own.size
     where
-      from : (o : Option Tree) → Leads at key old.compared now.compared here o → length (leaves_of o) ≡ sum_by (weight (chain_key c)) old.entries → now.compared + 1 ≤ old.compared + bucket_count (bucket_of vid mac) old.entries
+      from : (o : Option Tree) → Leads at key was now here o → length (leaves_of o) ≡ sum_by (weight (chain_key c)) es → now + 1 ≤ was + bucket_count (bucket_of vid mac) es
       from None l size = absurd (some l.0)
-      from (Some whole) l size = omega (arith, l.3, some_leaf l.0, size, few_on_chain vid mac old.entries)
+      from (Some whole) l size = omega (arith, l.3, some_leaf l.0, size, few_on_chain vid mac es)
 
   -- what holds the address is the leaf to which its key leads
-  held_leaf : (k : IsChain old.entries w.words c) (i : ℕ) → IfHeld (entry_at old.entries i) vid mac → is_on i (leaves_of k.tree) ≡ true
-  held_leaf k i held = k.members i ∙ key_of_held (entry_at old.entries i) vid mac held
+  held_leaf : (k : IsChain es w.words c) (i : ℕ) → IfHeld (entry_at es i) vid mac → is_on i (leaves_of k.tree) ≡ true
+  held_leaf k i held = k.members i ∙ key_of_held (entry_at es i) vid mac held
 
   key_held : (o : Option Held) → IfHeld o vid mac → key_in o ≡ key
   key_held None h = absurd h
   key_held (Some e) h = ap (λ v. key_of v e.mac) h.0 ∙ ap (key_of vid) h.1
 
   -- the walk has come to nothing
-  pub walk_none : (now : Pool) → IsForest old.entries w → Walks old now w vid mac target.Nothing → Lacks old.entries vid mac × Belongs w.words c key None
+  pub walk_none : (now : ℕ) → IsForest es w → Walks es w vid mac was now target.Nothing → Lacks es vid mac × Belongs w.words c key None
   walk_none now h k =
       let own = h.chained c (chain_small vid mac) in
       from own own.tree refl (k.leads own) own.rooted
     where
-      from : (own : IsChain old.entries w.words c) (o : Option Tree) → own.tree ≡ o → Leads at key old.compared now.compared target.Nothing o → IsRooted at (at c) o → Lacks old.entries vid mac × Belongs w.words c key None
+      from : (own : IsChain es w.words c) (o : Option Tree) → own.tree ≡ o → Leads at key was now target.Nothing o → IsRooted at (at c) o → Lacks es vid mac × Belongs w.words c key None
       from own None is l rooted = (λ i held. let bad : false ≡ true = subst (λ t. is_on i (leaves_of t) ≡ true) is (held_leaf own i held) in cc, record { tree = None; rooted = rooted; leads = tt })
       from own (Some whole) is l rooted = absurd (tree_there at target.Nothing l.0 l.1 refl)
 
   -- the walk has come to a leaf
   pub record Arrives (slot : ℕ) : Type 0 where
-    pub own : IsChain old.entries w.words c
+    pub own : IsChain es w.words c
     pub whole : Tree
     pub is : own.tree ≡ Some whole
     pub way : descend key whole ≡ slot
 
-  pub walk_leaf : (now : Pool) (slot : ℕ) → IsForest old.entries w → Walks old now w vid mac (target.Leaf slot) → Arrives slot
+  pub walk_leaf : (now slot : ℕ) → IsForest es w → Walks es w vid mac was now (target.Leaf slot) → Arrives slot
   walk_leaf now slot h k =
       let own = h.chained c (chain_small vid mac) in
       from own own.tree refl (k.leads own)
     where
-      from : (own : IsChain old.entries w.words c) (o : Option Tree) → own.tree ≡ o → Leads at key old.compared now.compared (target.Leaf slot) o → Arrives slot
+      from : (own : IsChain es w.words c) (o : Option Tree) → own.tree ≡ o → Leads at key was now (target.Leaf slot) o → Arrives slot
       from own None is l = let bad : target.Leaf slot ≡ target.Nothing = l.0 in cc
       from own (Some whole) is l = record { own = own; whole = whole; is = is; way = sym l.2 ∙ tip l.0 l.1 }
         where
@@ -138,37 +134,37 @@ module _ (old : Pool) (w : Woods) (vid : ℕ) (mac : List ℕ) where
     on_whole : is_on slot (leaves a.whole) ≡ true
     on_whole = subst (λ i. is_on i (leaves a.whole) ≡ true) a.way (descend_on key a.whole)
 
-    slot_key : chain_key c (entry_at old.entries slot) ≡ true
+    slot_key : chain_key c (entry_at es slot) ≡ true
     slot_key = sym (a.own.members slot) ∙ ap (λ o. is_on slot (leaves_of o)) a.is ∙ on_whole
 
-    pub arrives_held : IsHeld old.entries slot
-    arrives_held = record { in_pool = in_entries (chain_key c) refl old.entries slot slot_key; held = some_of_key c (entry_at old.entries slot) slot_key }
+    pub arrives_held : IsHeld es slot
+    arrives_held = record { in_pool = in_entries (chain_key c) refl es slot slot_key; held = some_of_key c (entry_at es slot) slot_key }
 
     -- another slot doesn't hold the address
-    pub arrives_lacks : (IfHeld (entry_at old.entries slot) vid mac → ⊥) → Lacks old.entries vid mac
+    pub arrives_lacks : (IfHeld (entry_at es slot) vid mac → ⊥) → Lacks es vid mac
     arrives_lacks differs i held =
         let on : is_on i (leaves a.whole) ≡ true = ap (λ o. is_on i (leaves_of o)) (sym a.is) ∙ held_leaf a.own i held in
-        let parted : AnyParted (keys_of old.entries) (Some a.whole) = subst (AnyParted (keys_of old.entries)) a.is a.own.parted in
-        let there : slot ≡ i = sym a.way ∙ ap (λ k. descend k a.whole) (sym (key_held (entry_at old.entries i) held)) ∙ descend_own (keys_of old.entries) i a.whole parted on in
-        differs (subst (λ j. IfHeld (entry_at old.entries j) vid mac) (sym there) held)
+        let parted : AnyParted (keys_of es) (Some a.whole) = subst (AnyParted (keys_of es)) a.is a.own.parted in
+        let there : slot ≡ i = sym a.way ∙ ap (λ k. descend k a.whole) (sym (key_held (entry_at es i) held)) ∙ descend_own (keys_of es) i a.whole parted on in
+        differs (subst (λ j. IfHeld (entry_at es j) vid mac) (sym there) held)
 
     pub arrives_belongs : Belongs w.words c key (Some slot)
     arrives_belongs = record { tree = Some a.whole; rooted = subst (IsRooted at (at c)) a.is a.own.rooted; leads = a.way }
 
 -- what a step at a fork reads is there
-module _ (old now : Pool) (w : Woods) (vid : ℕ) (mac : List ℕ) (n b : ℕ) (h : IsForest old.entries w) (k : Walks old now w vid mac (target.Fork n b)) where
+module _ (es : List (Option Held)) (w : Woods) (vid : ℕ) (mac : List ℕ) (was now n b : ℕ) (h : IsForest es w) (k : Walks es w vid mac was now (target.Fork n b)) where
   pub walk_bit : b < 64
-  walk_bit = fork_bit old.entries w h k.place n b (sym k.stands)
+  walk_bit = fork_bit es w h k.place n b (sym k.stands)
 
   pub walk_fork : n < length w.forks
-  walk_fork = fork_there old.entries w h k.place n b (sym k.stands)
+  walk_fork = fork_there es w h k.place n b (sym k.stands)
 
 -- a walk to nothing compares nothing
-pub walk_still : (old : Pool) (w : Woods) (vid : ℕ) (mac : List ℕ) (now : Pool) → IsForest old.entries w → Walks old now w vid mac target.Nothing → now.compared ≡ old.compared
-walk_still old w vid mac now h k =
+pub walk_still : (es : List (Option Held)) (w : Woods) (vid : ℕ) (mac : List ℕ) (was now : ℕ) → IsForest es w → Walks es w vid mac was now target.Nothing → now ≡ was
+walk_still es w vid mac was now h k =
     let own = h.chained (chain_of vid mac) (chain_small vid mac) in
     from own.tree (k.leads own)
   where
-    from : (o : Option Tree) → Leads (target_at w.words) (key_of vid mac) old.compared now.compared target.Nothing o → now.compared ≡ old.compared
+    from : (o : Option Tree) → Leads (target_at w.words) (key_of vid mac) was now target.Nothing o → now ≡ was
     from None l = l.1
     from (Some whole) l = absurd (tree_there (target_at w.words) target.Nothing l.0 l.1 refl)

@@ -17,11 +17,10 @@ pub record Held : Type 0 where
   pub place : Place
   pub last : Option ℕ
 
--- the slots, column by column: what each holds, and its neighbours on its line; the counts
+-- the slots, column by column: what each holds, and its neighbours on its line; how often an entry's age was told
 pub record Pool : Type 0 where
   pub entries : List (Option Held)
   pub lines : List Links
-  pub compared : ℕ
   pub visited : ℕ
 
 -- no neighbours
@@ -109,6 +108,5 @@ abbrev pub free_pool : ℕ → Pool
 free_pool size = record {
   entries = replicate size None;
   lines = replicate size alone;
-  compared = 0;
   visited = 0;
 }

@@ -13,7 +13,7 @@ shared_of a = record {
   rules = map (option_map rule_of) a.shares.items;
   moment = a.moment;
   calls = a.calls.total;
-  compared = a.slots.compared;
+  compared = a.compared.total;
   visited = a.slots.visited;
 }
 

@@ -35,11 +35,10 @@ abbrev pub line_of : Slot → Links
 line_of slot = if is_some (entry_in slot) then slot.line else alone
 
 -- the slots, column by column
-abbrev pub pool_with : List Slot → ℕ → ℕ → Pool
-pool_with slots compared visited = record {
+abbrev pub pool_with : List Slot → ℕ → Pool
+pool_with slots visited = record {
   entries = map entry_in slots;
   lines = map line_of slots;
-  compared = compared;
   visited = visited;
 }
 
@@ -53,7 +52,7 @@ all_slots size slots = slots ++ replicate (size - length slots) no_slot
 
 -- the value that contracts see
 abbrev pub pool_of : Inside → Pool
-pool_of a = pool_with (all_slots a.size a.slots.items) a.compared.total a.visited.total
+pool_of a = pool_with (all_slots a.size a.slots.items) a.visited.total
 
 -- the slot isn't on the list
 abbrev pub IsAbsent : ℕ → List ℕ → Type 0

@@ -18,13 +18,13 @@ pub record IsWhole (slots : Pool) (w : Woods) (shares : List (Option Share)) (mo
   pub forest : IsForest slots.entries w
 
 -- what contracts see of them
-abbrev pub seen : Pool → List (Option Share) → ℕ → ℕ → Shared
-seen slots shares moment calls = record {
+abbrev pub seen : Pool → List (Option Share) → ℕ → ℕ → ℕ → Shared
+seen slots shares moment calls compared = record {
   entries = slots.entries;
   rules = map (option_map rule_of) shares;
   moment = moment;
   calls = calls;
-  compared = slots.compared;
+  compared = compared;
   visited = slots.visited;
 }
 

@@ -52,10 +52,10 @@ pub fn admit_in(
     newcomer: &Newcomer,
 ) -> bool
     requires whole { IsWhole slots.old forest.old shares.old.items moment }
-    requires rule { IsSome (rule_at (seen slots.old shares.old.items moment 0).rules newcomer.now.vid) }
+    requires rule { IsSome (rule_at (seen slots.old shares.old.items moment 0 0).rules newcomer.now.vid) }
     requires may_come { MayCome slots.old.entries forest.old moment newcomer.now }
     ensures whole { IsWhole slots.new forest.new shares.new.items moment }
-    ensures comes { (calls : ℕ) → ComesOrNot (seen slots.old shares.old.items moment calls) (seen slots.new shares.new.items moment calls) newcomer.now result }
+    ensures comes { (calls compared : ℕ) → ComesOrNot (seen slots.old shares.old.items moment calls compared) (seen slots.new shares.new.items moment calls compared) newcomer.now result }
 {
     let Some(share) = share::share_at(shares, newcomer.vid) else {
         unreachable!();
@@ -85,11 +85,11 @@ fn replace_in(
     newcomer: &Newcomer,
 )
     requires whole { IsWhole slots.old forest.old shares.old.items moment }
-    requires rule { IsSome (rule_at (seen slots.old shares.old.items moment 0).rules newcomer.now.vid) }
+    requires rule { IsSome (rule_at (seen slots.old shares.old.items moment 0 0).rules newcomer.now.vid) }
     requires held { IsOf (entry_at slots.old.entries slot) newcomer.now.vid }
     requires may_come { MayCome slots.old.entries forest.old moment newcomer.now }
     ensures whole { IsWhole slots.new forest.new shares.new.items moment }
-    ensures replaces { (calls : ℕ) → Replaces (seen slots.old shares.old.items moment calls) (seen slots.new shares.new.items moment calls) slot (held_of newcomer.now) }
+    ensures replaces { (calls compared : ℕ) → Replaces (seen slots.old shares.old.items moment calls compared) (seen slots.new shares.new.items moment calls compared) slot (held_of newcomer.now) }
 {
     if is_slot(newcomer.beside, slot) {
         slots.readdress(slot, newcomer.vid, newcomer.mac);
@@ -126,10 +126,10 @@ fn enter_in(
     newcomer: &Newcomer,
 )
     requires whole { IsWhole slots.old forest.old shares.old.items moment }
-    requires room { HasRoom (rule_at (seen slots.old shares.old.items moment 0).rules newcomer.now.vid) (kept_count newcomer.now.vid slots.old.entries) }
+    requires room { HasRoom (rule_at (seen slots.old shares.old.items moment 0 0).rules newcomer.now.vid) (kept_count newcomer.now.vid slots.old.entries) }
     requires may_come { MayCome slots.old.entries forest.old moment newcomer.now }
     ensures whole { IsWhole slots.new forest.new shares.new.items moment }
-    ensures enters { (calls : ℕ) → Enters (seen slots.old shares.old.items moment calls) (seen slots.new shares.new.items moment calls) (held_of newcomer.now) }
+    ensures enters { (calls compared : ℕ) → Enters (seen slots.old shares.old.items moment calls compared) (seen slots.new shares.new.items moment calls compared) (held_of newcomer.now) }
 {
     let Newcomer {
         vid,

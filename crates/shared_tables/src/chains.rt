@@ -11,6 +11,7 @@ use crate::forest::{Forest, Target, bit_in, fork_in, is_fork, read};
 use crate::links::SlotId;
 use crate::slots::Slots;
 use frame_view::{Mac, Vid};
+use work_count::Count;
 
 /// Where an address is, or where it belongs.
 #[derive(Clone, Copy)]
@@ -32,26 +33,31 @@ pub fn side(key: u64, bit: u32) -> u32
     ((key >> bit) & 1) as u32
 }
 
-/// Where an address stands in its chain's tree.
-pub fn find_in(slots: &mut Slots, forest: &Forest, chain: usize, vid: Vid, mac: Mac) -> Sought
-    requires forest { IsForest slots.old.entries forest.now }
+/// Where an address stands in its chain's tree. Each step down the tree, and the comparison with a leaf, are counted.
+pub fn find_in(
+    slots: &Slots,
+    forest: &Forest,
+    compared: &mut Count,
+    chain: usize,
+    vid: Vid,
+    mac: Mac,
+) -> Sought
+    requires forest { IsForest slots.now.entries forest.now }
     requires chain { chain ≡ chain_of vid mac }
     requires in_range { chain < 65536 }
-    ensures found { Finds slots.old.entries forest.now vid mac result }
-    ensures pool { slots.new ≡ record slots.old { compared = slots.new.compared } }
-    ensures counted { slots.old.compared ≤ slots.new.compared }
-    ensures compared { slots.new.compared ≤ slots.old.compared + bucket_count (bucket_of vid mac) slots.old.entries }
+    ensures found { Finds slots.now.entries forest.now vid mac result }
+    ensures counted { compared.old.total ≤ compared.new.total }
+    ensures compared { compared.new.total ≤ compared.old.total + bucket_count (bucket_of vid mac) slots.now.entries }
 {
     let key = bucket::key(vid, mac);
     let mut word = forest.root(chain);
     while is_fork(word) {
-        slots.step();
-        word = forest.next(fork_in(word), side(key, bit_in(word)));
+        word = forest.next(fork_in(word), side(key, bit_in(word)), compared);
     }
     match read(word) {
         Target::Leaf(number) => {
             let slot = SlotId { number };
-            match slots.differs(slot, key) {
+            match slots.differs(slot, key, compared) {
                 None => Sought::At(slot),
                 Some(bit) => Sought::Missing(Some(slot), bit),
             }

@@ -1,7 +1,7 @@
 //! The trees that find an address: one for each chain, with the slots of its entries as leaves. A fork sends an address
 //! on by one bit of its key, so a way down is never longer than a key has bits. Bits come along a way in any order, each
 //! once: so an entry comes to a leaf, and goes, by a few writes.
-ghost use Rattle.std.specs.Prelude.{◌≡◌, ◌-◌, ◌/◌, ◌%◌, ◌<◌, ◌≤◌, ◌↔◌, IsTrue, IfOk, length};
+ghost use Rattle.std.specs.Prelude.{◌≡◌, ◌+◌, ◌-◌, ◌/◌, ◌%◌, ◌<◌, ◌≤◌, ◌↔◌, IsTrue, IfOk, length};
 ghost use Rattle.shared_tables.specs.Woods.{target_in, IsFork, fork_word, child_of, target_at, number_at, planted, grafted, cleared, pruned, standing, Uproots, MayGo, HasSizes, bare_woods, Names};
 
 use crate::bucket::CHAINS;
@@ -9,6 +9,7 @@ use crate::columns::{Columns, NOTHING};
 use crate::links::SlotId;
 use std::alloc::{AllocError, Global};
 use std::marker::Model;
+use work_count::Count;
 
 /// What stands at a place of the trees.
 #[derive(Clone, Copy)]
@@ -122,14 +123,16 @@ impl Forest {
         self.columns.word(chain)
     }
 
-    /// The word that stands on one side of a fork: 0 or 1.
+    /// The word that stands on one side of a fork: 0 or 1. It is the only way down a tree, and counts the step.
     #[inline(always)]
-    pub fn next(&self, fork: u32, side: u32) -> u32
+    pub fn next(&self, fork: u32, side: u32, compared: &mut Count) -> u32
         requires sizes { HasSizes self.now }
         requires fork { fork < length self.now.forks }
         requires side { side < 2 }
-        ensures { target_in result ≡ target_at self.now.words (child_of fork side) }
+        ensures target { target_in result ≡ target_at self.now.words (child_of fork side) }
+        ensures counted { compared.new.total ≡ compared.old.total + 1 }
     {
+        compared.tick();
         self.columns.word(child(fork, side) as usize)
     }
 

@@ -40,6 +40,8 @@ pub struct SharedTables {
     moment: u64,
     /// The calls that may change something, refused ones too.
     calls: Count,
+    /// How often an address was compared with a slot's, or sent on by a fork.
+    compared: Count,
 }
 
 impl Model for SharedTables {
@@ -77,6 +79,7 @@ impl SharedTables {
             shares: open_shares(alloc, rules)?,
             moment: 0,
             calls: Count::zero(),
+            compared: Count::zero(),
         })
     }
 
@@ -123,7 +126,14 @@ impl SharedTables {
         ensures counted { self.old.compared ≤ self.new.compared }
         ensures compared { self.new.compared ≤ self.old.compared + bucket_count (bucket_of vid mac) self.old.entries }
     {
-        match find_in(&mut self.slots, &self.forest, chain, vid, mac) {
+        match find_in(
+            &self.slots,
+            &self.forest,
+            &mut self.compared,
+            chain,
+            vid,
+            mac,
+        ) {
             Sought::At(slot) => Some(slot),
             Sought::Missing(_, _) => None,
         }
@@ -150,7 +160,14 @@ impl SharedTables {
         ensures compared { self.new.compared ≤ self.old.compared + bucket_count (bucket_of vid mac.now) self.old.entries }
         ensures some_time { 0 < span_of (rule_at self.old.rules vid) }
     {
-        match find_in(&mut self.slots, &self.forest, chain, vid, *mac) {
+        match find_in(
+            &self.slots,
+            &self.forest,
+            &mut self.compared,
+            chain,
+            vid,
+            *mac,
+        ) {
             Sought::At(slot) => Outcome::Held(slot),
             Sought::Missing(beside, bit) => {
                 let comes = admit_in(

@@ -54,8 +54,6 @@ pub struct Slots {
     size: u32,
     /// The first slot of the free list: the one that was freed last.
     free: Link,
-    /// How often an address was compared with a slot's, or sent on by a fork.
-    compared: Count,
     /// How often an entry's age was told.
     visited: Count,
 }
@@ -238,7 +236,6 @@ impl Slots {
             slots,
             size,
             free: Link::NONE,
-            compared: Count::zero(),
             visited: Count::zero(),
         })
     }
@@ -251,16 +248,16 @@ impl Slots {
     }
 
     /// The lowest bit in which the key of what a slot holds and another differ; none where they are the same, and it holds
-    /// that address. It is the only way to compare an address with a slot's but for a listing.
+    /// that address. It is the only way to compare an address with a slot's but for a listing, and counts that.
     #[inline(always)]
-    pub fn differs(&mut self, slot: SlotId, key: u64) -> Option<u32>
-        requires in_pool { slot < length self.old.entries }
-        requires held { IsSome (entry_at self.old.entries slot) }
-        ensures same { IfNone result (IfHeld (entry_at self.old.entries slot) (vid_in key) (mac_in key)) }
-        ensures bit { IfSome result (PartedAt (entry_at self.old.entries slot) key) }
-        ensures pool { self.new ≡ record self.old { compared = self.old.compared + 1 } }
+    pub fn differs(&self, slot: SlotId, key: u64, compared: &mut Count) -> Option<u32>
+        requires in_pool { slot < length self.now.entries }
+        requires held { IsSome (entry_at self.now.entries slot) }
+        ensures same { IfNone result (IfHeld (entry_at self.now.entries slot) (vid_in key) (mac_in key)) }
+        ensures bit { IfSome result (PartedAt (entry_at self.now.entries slot) key) }
+        ensures counted { compared.new.total ≡ compared.old.total + 1 }
     {
-        self.compared.tick();
+        compared.tick();
         parting(key_of(&self.slots[slot.number as usize]), key)
     }
 
@@ -274,14 +271,6 @@ impl Slots {
     {
         self.visited.tick();
         is_dead(&self.slots[slot.number as usize], ageing, now)
-    }
-
-    /// Counts that a fork sent an address on.
-    #[inline(always)]
-    pub fn step(&mut self)
-        ensures { self.new ≡ record self.old { compared = self.old.compared + 1 } }
-    {
-        self.compared.tick();
     }
 
     /// Gives the slot's entry another address.

@@ -41,7 +41,7 @@ returns-clause-whole c =
     c.attach.ensures
 
 pub returns-clause-enters : goal.returns-clause-enters
-returns-clause-enters c = λ calls.
+returns-clause-enters c = λ calls compared.
     let n = c.args.newcomer.now in let s = c.take-slot.result in let took = c.take-slot.ensures.pool in
     enters c.args.slots.now c.args.forest.now c.args.shares.now.items c.args.moment c.requires.whole n c.requires.room c.requires.may_come s c.take-slot.ensures.free.0 c.take-slot.ensures.free.1
     c.join_share.new.slots c.attach.new.forest c.join_share.new.shares.items c.is_none.result (none_is n.last c.is_none.result c.is_none.ensures)
@@ -49,6 +49,5 @@ returns-clause-enters c = λ calls.
     (ap (λ (p : Pool). p.lines) c.join_share.ensures.pool ∙ ap (λ (ls : List Links). pushed_back ls (last_in (share_at c.args.shares.now.items n.vid) c.is_none.result) s) (ap (λ (p : Pool). p.lines) took))
     c.join_share.ensures.shares
     c.attach.ensures
-    calls
-    (ap (λ (p : Pool). p.compared) c.join_share.ensures.pool ∙ ap (λ (p : Pool). p.compared) took)
+    calls compared
     (ap (λ (p : Pool). p.visited) c.join_share.ensures.pool ∙ ap (λ (p : Pool). p.visited) took)

@@ -45,9 +45,9 @@ returns-then-is_slot-clause-whole c = again_whole c.args.slots.now c.args.forest
     (c.is_slot.ensures.0 c.if-is_slot.true) c.renew_entry.new.slots c.renew_entry.new.shares.items c.renew_entry.ensures.pool c.renew_entry.ensures.shares
 
 pub returns-then-is_slot-clause-replaces : goal.returns-then-is_slot-clause-replaces
-returns-then-is_slot-clause-replaces c = λ calls. again_replaces c.args.slots.now c.args.forest.now c.args.shares.now.items c.args.moment c.requires.whole c.args.newcomer.now c.args.slot c.requires.held c.requires.rule c.requires.may_come c.readdress.new.self c.readdress.ensures
-    (c.is_slot.ensures.0 c.if-is_slot.true) c.renew_entry.new.slots c.renew_entry.new.shares.items c.renew_entry.ensures.pool c.renew_entry.ensures.shares calls
+returns-then-is_slot-clause-replaces c = λ calls compared. again_replaces c.args.slots.now c.args.forest.now c.args.shares.now.items c.args.moment c.requires.whole c.args.newcomer.now c.args.slot c.requires.held c.requires.rule c.requires.may_come c.readdress.new.self c.readdress.ensures
+    (c.is_slot.ensures.0 c.if-is_slot.true) c.renew_entry.new.slots c.renew_entry.new.shares.items c.renew_entry.ensures.pool c.renew_entry.ensures.shares calls compared
 
 pub returns-else-is_slot-clause-replaces : goal.returns-else-is_slot-clause-replaces
-returns-else-is_slot-clause-replaces c = λ calls. dropped_replaces c.args.slots.now c.args.forest.now c.args.shares.now.items c.args.moment c.requires.whole c.args.newcomer.now c.args.slot c.requires.held c.requires.rule c.requires.may_come
-    c.drop_entry.new.slots c.drop_entry.new.forest c.drop_entry.new.shares.items c.drop_entry.ensures.pool c.drop_entry.ensures.forest c.drop_entry.ensures.shares _ calls (c.enter_in.ensures.enters calls)
+returns-else-is_slot-clause-replaces c = λ calls compared. dropped_replaces c.args.slots.now c.args.forest.now c.args.shares.now.items c.args.moment c.requires.whole c.args.newcomer.now c.args.slot c.requires.held c.requires.rule c.requires.may_come
+    c.drop_entry.new.slots c.drop_entry.new.forest c.drop_entry.new.shares.items c.drop_entry.ensures.pool c.drop_entry.ensures.forest c.drop_entry.ensures.shares _ calls compared (c.enter_in.ensures.enters calls compared)

@@ -5,8 +5,8 @@ use Rattle.shared_tables.specs.Woods.{target_in}
 use Rattle.shared_tables.proofs.Walk.{Walks}
 use Rattle.shared_tables.proofs.chains.find_in.Given as goal
 
-abbrev pub invariant-loop-slots : goal.invariant-loop-slots
-invariant-loop-slots l = Walks l.initial.slots l.slots l.forest l.fn.vid l.fn.mac (target_in l.word)
+abbrev pub invariant-loop-word : goal.invariant-loop-word
+invariant-loop-word l = Walks l.slots.entries l.forest l.fn.vid l.fn.mac l.initial.compared.total l.compared.total (target_in l.word)
 
-abbrev pub decreases-loop-slots : goal.decreases-loop-slots
-decreases-loop-slots l = (l.initial.slots.compared + bucket_count (bucket_of l.fn.vid l.fn.mac) l.initial.slots.entries) - l.slots.compared
+abbrev pub decreases-loop-word : goal.decreases-loop-word
+decreases-loop-word l = (l.initial.compared.total + bucket_count (bucket_of l.fn.vid l.fn.mac) l.slots.entries) - l.compared.total

@@ -17,6 +17,7 @@ loop-entry-init c =
       passes = pass_starts i.slots i.forest i.shares.items i.moment c.args.vid c.args.place c.in-Some.share c.self.invariant.sound c.self.invariant.forest (share_read _ _ c.args.vid c.share_at.result c.in-Some.share c.deref.ensures.value c.share_at.ensures c.in-Some.is);
       moment = refl;
       calls = refl;
+      compared = refl;
     }
 
 pub links-cursor-requires : goal.links-cursor-requires
@@ -51,6 +52,7 @@ loop-entry-preserved c = elim c.match-slot.branch [
         passes = pass_at c.self.inside.slots c.self.inside.shares.items c.args.vid c.args.place c.match-slot.self-inside _ _ _ _ count (w.cursor-is ∙ ap (λ (l : Links). l.next) w.links-cursor.ensures) w.self-inside-is (pass_drop c.self.inside.slots now.slots now.forest c.self.inside.shares.items now.shares.items now.moment c.args.vid c.args.place slot c.loop-entry._entry count p (stands ∙ w.if-is_same.true) w.drop_entry.new.slots w.drop_entry.new.forest w.drop_entry.new.shares.items w.drop_entry.ensures.pool w.drop_entry.ensures.forest w.drop_entry.ensures.shares);
         moment = ap (λ (i : Inside). i.moment) w.self-inside-is ∙ c.loop-entry.invariant.moment;
         calls = ap (λ (i : Inside). i.calls.total) w.self-inside-is ∙ c.loop-entry.invariant.calls;
+        compared = ap (λ (i : Inside). i.compared.total) w.self-inside-is ∙ c.loop-entry.invariant.compared;
       }
   | in-Some-slot+else-is_same w ↦
       let now = c.loop-entry.self-inside in let slot = w.in-Some-slot.slot in let count = c.in-Some.share.count in
@@ -60,6 +62,7 @@ loop-entry-preserved c = elim c.match-slot.branch [
         passes = pass_at c.self.inside.slots c.self.inside.shares.items c.args.vid c.args.place c.match-slot.self-inside _ _ _ _ count (w.cursor-is ∙ ap (λ (l : Links). l.next) w.links-cursor.ensures) w.self-inside-is (pass_keep c.self.inside.slots now.slots now.forest c.self.inside.shares.items now.shares.items now.moment c.args.vid c.args.place slot c.loop-entry._entry count p (stands ∙ w.if-is_same.false));
         moment = ap (λ (i : Inside). i.moment) w.self-inside-is ∙ c.loop-entry.invariant.moment;
         calls = ap (λ (i : Inside). i.calls.total) w.self-inside-is ∙ c.loop-entry.invariant.calls;
+        compared = ap (λ (i : Inside). i.compared.total) w.self-inside-is ∙ c.loop-entry.invariant.compared;
       }
   | in_default-slot w ↦
       let now = c.loop-entry.self-inside in let count = c.in-Some.share.count in
@@ -68,6 +71,7 @@ loop-entry-preserved c = elim c.match-slot.branch [
         passes = pass_at c.self.inside.slots c.self.inside.shares.items c.args.vid c.args.place c.match-slot.self-inside _ _ _ _ count (w.cursor-is ∙ sym c.slot.ensures ∙ w.in_default-slot.is) w.self-inside-is (pass_none c.self.inside.slots now.slots now.forest c.self.inside.shares.items now.shares.items now.moment c.args.vid c.args.place c.loop-entry._entry count c.loop-entry-test.true p);
         moment = ap (λ (i : Inside). i.moment) w.self-inside-is ∙ c.loop-entry.invariant.moment;
         calls = ap (λ (i : Inside). i.calls.total) w.self-inside-is ∙ c.loop-entry.invariant.calls;
+        compared = ap (λ (i : Inside). i.compared.total) w.self-inside-is ∙ c.loop-entry.invariant.compared;
       }
 ]
 
@@ -80,7 +84,7 @@ returns c =
     let all = pass_ends c.self.inside.slots now.slots now.forest c.self.inside.shares.items now.shares.items now.moment c.args.vid c.args.place c.loop-entry.cursor c.loop-entry._entry c.in-Some.share.count (omega arith) w in
     subst (λ (o : Shared). DropsAll o (shared_of now) (seen_there c.args.vid c.args.place)) c.self.view_is (record {
       some = record {
-        same = λ i. record { entries = now.slots.entries; rules = w.rules i; moment = c.loop-entry.invariant.moment i; calls = c.loop-entry.invariant.calls i; compared = w.compared i; visited = w.visited i };
+        same = λ i. record { entries = now.slots.entries; rules = w.rules i; moment = c.loop-entry.invariant.moment i; calls = c.loop-entry.invariant.calls i; compared = c.loop-entry.invariant.compared i; visited = w.visited i };
         size = w.size;
         each = w.each;
       };

@@ -17,6 +17,6 @@ pub returns-clause-segments : goal.returns-clause-segments
 returns-clause-segments c =
     let i = c.self.inside in let v = c.args.vid in
     let lt : v < length i.shares.items = omega (arith, c.strike.ensures.in_range, c.self.invariant.sound.shares_length) in
-    ap (λ (xs : List (Option Share)). segments_of (shared_by i.slots.entries xs i.moment i.calls.total i.slots.compared i.slots.visited)) c.strike.ensures.items
-    ∙ ended_share i.slots.entries i.shares.items i.moment i.calls.total i.slots.compared i.slots.visited v lt
+    ap (λ (xs : List (Option Share)). segments_of (shared_by i.slots.entries xs i.moment i.calls.total i.compared.total i.slots.visited)) c.strike.ensures.items
+    ∙ ended_share i.slots.entries i.shares.items i.moment i.calls.total i.compared.total i.slots.visited v lt
     ∙ ap (λ (w : Shared). removed v (segments_of w)) c.self.view_is

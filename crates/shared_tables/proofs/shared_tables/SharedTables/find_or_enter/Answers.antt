@@ -1,10 +1,10 @@
-use Rattle.std.proofs.Common.{◌+◌, ◌<◌, ◌≤◌, true, false, IsSome, refl, sym, subst, arith}
-use Rattle.shared_tables.specs.Pool.{Pool, entry_at, IfHeld}
+use Rattle.std.proofs.Common.{◌+◌, ◌<◌, ◌≤◌, true, false, IsSome, sym, subst}
+use Rattle.shared_tables.specs.Pool.{entry_at, IfHeld}
 use Rattle.shared_tables.specs.Threads.{IsHeld}
 use Rattle.shared_tables.specs.Bucket.{bucket_of}
-use Rattle.shared_tables.specs.Shared.{Shared, Lacks, rule_at, span_of, bucket_count}
+use Rattle.shared_tables.specs.Shared.{Shared, rule_at, span_of, bucket_count}
 use Rattle.shared_tables.specs.Whole.{seen}
-use Rattle.shared_tables.proofs.Admissions.{some_span, comes_compared, outcome_for, seen_found, share_there}
+use Rattle.shared_tables.proofs.Admissions.{some_span, outcome_for, seen_found, share_there}
 use Rattle.shared_tables.proofs.shared_tables.SharedTables.find_or_enter.Goals as goal
 use Rattle.shared_tables.proofs.shared_tables.SharedTables.find_or_enter.Goals.{then-comes, else-comes}
 
@@ -16,35 +16,32 @@ returns-in-At c =
       outcome = (
         subst (λ (w : Shared). IfHeld (entry_at w.entries c.in-At.slot) c.args.vid c.args.mac.now) c.self.view_is c.in-At.ensures.found.0,
         subst (λ (w : Shared). IsHeld w.entries c.in-At.slot) c.self.view_is c.in-At.ensures.found.1,
-        seen_found i.slots c.find_in.new.slots i.shares.items i.moment i.calls.total c.find_in.new.slots.compared now c.in-At.ensures.pool c.self.view_is refl,
+        seen_found i.slots i.shares.items i.moment i.calls.total i.compared.total c.find_in.new.compared.total now c.self.view_is,
       );
-      counted = subst (λ (w : Shared). w.compared ≤ c.find_in.new.slots.compared) c.self.view_is c.in-At.ensures.counted;
-      compared = subst (λ (w : Shared). c.find_in.new.slots.compared ≤ w.compared + bucket_count (bucket_of c.args.vid c.args.mac.now) w.entries) c.self.view_is c.in-At.ensures.compared;
+      counted = subst (λ (w : Shared). w.compared ≤ c.find_in.new.compared.total) c.self.view_is c.in-At.ensures.counted;
+      compared = subst (λ (w : Shared). c.find_in.new.compared.total ≤ w.compared + bucket_count (bucket_of c.args.vid c.args.mac.now) w.entries) c.self.view_is c.in-At.ensures.compared;
       some_time = subst (λ (w : Shared). 0 < span_of (rule_at w.rules c.args.vid)) c.self.view_is (some_span i.slots i.shares.items i.moment c.args.vid c.self.invariant.sound k.share k.here);
     }
 
 pub returns-after-comes-clause-outcome : goal.returns-after-comes-clause-outcome
 returns-after-comes-clause-outcome c =
     let i = c.self.inside in let now = c.args.self.now in
-    let comes = c.admit_in-comes.ensures.comes i.calls.total in
-    let f_is = seen_found i.slots c.find_in.new.slots i.shares.items i.moment i.calls.total c.admit_in-comes.new.slots.compared now c.in-Missing.ensures.pool c.self.view_is (comes_compared _ _ (record { chain = c.args.chain; beside = c.in-Missing.beside; bit = c.in-Missing.bit; vid = c.args.vid; mac = c.args.mac.now; place = c.args.place.now; last = c.args.last }) c.admit_in-comes.result comes) in
-    let lacks = subst (λ (p : Pool). Lacks p.entries c.args.vid c.args.mac.now) (sym c.in-Missing.ensures.pool) c.in-Missing.ensures.found.0 in
+    let counted = c.find_in.new.compared.total in
+    let comes = c.admit_in-comes.ensures.comes i.calls.total counted in
+    let f_is = seen_found i.slots i.shares.items i.moment i.calls.total i.compared.total counted now c.self.view_is in
+    let lacks = c.in-Missing.ensures.found.0 in
     elim c.if-comes.branch [
-      | then-comes w ↦ outcome_for (seen c.find_in.new.slots c.self.inside.shares.items c.self.inside.moment c.self.inside.calls.total) c.args.self.now (seen c.admit_in-comes.new.slots c.admit_in-comes.new.shares.items c.self.inside.moment c.self.inside.calls.total)
+      | then-comes w ↦ outcome_for (seen i.slots i.shares.items i.moment i.calls.total counted) c.args.self.now (seen c.admit_in-comes.new.slots c.admit_in-comes.new.shares.items i.moment i.calls.total counted)
           (record { chain = c.args.chain; beside = c.in-Missing.beside; bit = c.in-Missing.bit; vid = c.args.vid; mac = c.args.mac.now; place = c.args.place.now; last = c.args.last }) true c.admit_in-comes.result f_is lacks comes w.if-comes.true c.if-comes.result w.result-is
-      | else-comes w ↦ outcome_for (seen c.find_in.new.slots c.self.inside.shares.items c.self.inside.moment c.self.inside.calls.total) c.args.self.now (seen c.admit_in-comes.new.slots c.admit_in-comes.new.shares.items c.self.inside.moment c.self.inside.calls.total)
+      | else-comes w ↦ outcome_for (seen i.slots i.shares.items i.moment i.calls.total counted) c.args.self.now (seen c.admit_in-comes.new.slots c.admit_in-comes.new.shares.items i.moment i.calls.total counted)
           (record { chain = c.args.chain; beside = c.in-Missing.beside; bit = c.in-Missing.bit; vid = c.args.vid; mac = c.args.mac.now; place = c.args.place.now; last = c.args.last }) false c.admit_in-comes.result f_is lacks comes w.if-comes.false c.if-comes.result w.result-is
     ]
 
 pub returns-after-comes-clause-counted : goal.returns-after-comes-clause-counted
-returns-after-comes-clause-counted c =
-    subst (λ (w : Shared). w.compared ≤ c.admit_in-comes.new.slots.compared) c.self.view_is
-    (omega (arith, c.in-Missing.ensures.counted, comes_compared _ _ (record { chain = c.args.chain; beside = c.in-Missing.beside; bit = c.in-Missing.bit; vid = c.args.vid; mac = c.args.mac.now; place = c.args.place.now; last = c.args.last }) c.admit_in-comes.result (c.admit_in-comes.ensures.comes 0)))
+returns-after-comes-clause-counted c = subst (λ (w : Shared). w.compared ≤ c.find_in.new.compared.total) c.self.view_is c.in-Missing.ensures.counted
 
 pub returns-after-comes-clause-compared : goal.returns-after-comes-clause-compared
-returns-after-comes-clause-compared c =
-    subst (λ (w : Shared). c.admit_in-comes.new.slots.compared ≤ w.compared + bucket_count (bucket_of c.args.vid c.args.mac.now) w.entries) c.self.view_is
-    (omega (arith, c.in-Missing.ensures.compared, comes_compared _ _ (record { chain = c.args.chain; beside = c.in-Missing.beside; bit = c.in-Missing.bit; vid = c.args.vid; mac = c.args.mac.now; place = c.args.place.now; last = c.args.last }) c.admit_in-comes.result (c.admit_in-comes.ensures.comes 0)))
+returns-after-comes-clause-compared c = subst (λ (w : Shared). c.find_in.new.compared.total ≤ w.compared + bucket_count (bucket_of c.args.vid c.args.mac.now) w.entries) c.self.view_is c.in-Missing.ensures.compared
 
 pub returns-after-comes-clause-some_time : goal.returns-after-comes-clause-some_time
 returns-after-comes-clause-some_time c =

@@ -22,12 +22,12 @@ pub returns : goal.returns
 returns c =
     let pool = c.in_ok-new.ensures in let shares = c.in_ok-open_shares.field-0.items in
     record {
-      segments = ap (λ (p : Pool). segments_of (record { entries = p.entries; rules = map (option_map rule_of) shares; moment = 0; calls = c.zero.result.total; compared = p.compared; visited = p.visited })) pool
-          ∙ segments_of_opened c.args.pool c.args.rules.now shares c.zero.result.total 0 0 c.in_ok-open_shares.ensures;
+      segments = ap (λ (p : Pool). segments_of (record { entries = p.entries; rules = map (option_map rule_of) shares; moment = 0; calls = c.zero.result.total; compared = c.zero-2.result.total; visited = p.visited })) pool
+          ∙ segments_of_opened c.args.pool c.args.rules.now shares c.zero.result.total c.zero-2.result.total 0 c.in_ok-open_shares.ensures;
       moment = refl;
       slots = ap (λ (p : Pool). p.entries) pool;
       calls = c.zero.ensures;
-      compared = ap (λ (p : Pool). p.compared) pool;
+      compared = c.zero-2.ensures;
       visited = ap (λ (p : Pool). p.visited) pool;
       paid = omega (arith, ap (λ (p : Pool). p.visited) pool, ap (λ (p : Pool). held_count p.entries) pool, none_held c.args.pool);
     }

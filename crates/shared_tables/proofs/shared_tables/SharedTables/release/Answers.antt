@@ -1,4 +1,4 @@
-use Rattle.std.proofs.Common.{◌≡◌, map, set, None, sym, ap, ◌∙◌, subst, arith}
+use Rattle.std.proofs.Common.{◌≡◌, map, set, None, refl, sym, ap, ◌∙◌, subst, arith}
 use Rattle.std.specs.Option.{option_map}
 use Rattle.shared_tables.specs.Pool.{Pool, entry_at, IfHeld}
 use Rattle.shared_tables.specs.Shared.{Shared, HasRoom, rule_at, kept_count, Lacks}
@@ -35,7 +35,7 @@ returns c =
     record {
       same = same_shared i.moment i.calls.total es
           (ap (map (option_map rule_of)) c.drop_entry.ensures.shares ∙ drop_rules i.slots.entries i.slots.lines i.shares.items i.moment c.self.invariant.sound v s k)
-          (ap (λ (p : Pool). p.compared) pool) (ap (λ (p : Pool). p.visited) pool)
+          refl (ap (λ (p : Pool). p.visited) pool)
           ∙ ap left c.self.view_is;
       room = subst (λ es'. HasRoom (rule_at c.args.self.now.rules v) (kept_count v es')) (sym es)
           (subst (λ (w : Shared). HasRoom (rule_at w.rules v) (kept_count v (set i.slots.entries s None))) c.self.view_is (drop_room i.slots.entries i.slots.lines i.shares.items i.moment c.self.invariant.sound v s k));

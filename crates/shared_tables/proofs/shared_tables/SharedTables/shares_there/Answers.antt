@@ -14,5 +14,5 @@ pub returns : goal.returns
 returns c =
     let i = c.self.inside in
     c.segment_count.ensures ∙ ap (sum_by one_there) c.deref.ensures.value
-    ∙ sym (count_is i.slots.entries i.shares.items i.moment i.calls.total i.slots.compared i.slots.visited c.self.invariant.sound.shares_length)
+    ∙ sym (count_is i.slots.entries i.shares.items i.moment i.calls.total i.compared.total i.slots.visited c.self.invariant.sound.shares_length)
     ∙ ap (λ (w : Shared). segment_count (segments_of w)) c.self.view_is

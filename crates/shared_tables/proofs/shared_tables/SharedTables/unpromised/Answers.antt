@@ -11,4 +11,4 @@ pub returns : goal.returns
 returns c =
     let i = c.self.inside in
     subst (λ (w : Shared). c.size.result - c.sum_of_limits.result + sum_of_limits (segments_of w) ≡ length w.entries) c.self.view_is
-    (omega (arith, c.size.ensures, c.sum_of_limits.ensures, ap (sum_by share_limit) c.deref.ensures.value, c.self.invariant.sound.room, limits_are i.slots.entries i.shares.items i.moment i.calls.total i.slots.compared i.slots.visited c.self.invariant.sound.shares_length))
+    (omega (arith, c.size.ensures, c.sum_of_limits.ensures, ap (sum_by share_limit) c.deref.ensures.value, c.self.invariant.sound.room, limits_are i.slots.entries i.shares.items i.moment i.calls.total i.compared.total i.slots.visited c.self.invariant.sound.shares_length))

@@ -24,6 +24,6 @@ pub returns : goal.returns
 returns c =
     let xs = c.self.inside.slots.items in let i = c.slot.inside.number in
     let every = all_slots c.self.inside.size xs in
-    let n = c.self.inside.compared.total in let v = c.self.inside.visited.total in
-    ap (λ (ys : List Slot). pool_with ys n v) (all-set c.self.inside.size xs i c.vacant.result (made c.self.inside _ _ _ c.self.view_is c.slot.view_is c.requires.in_pool c.requires.held))
-    ∙ forth every n v i _ _ c.self.view_is c.slot.view_is (λ w s. pool_with (set every i c.vacant.result) n v ≡ freed w s) (pool-freed every n v i c.vacant.result c.vacant.ensures.entry)
+    let v = c.self.inside.visited.total in
+    ap (λ (ys : List Slot). pool_with ys v) (all-set c.self.inside.size xs i c.vacant.result (made c.self.inside _ _ _ c.self.view_is c.slot.view_is c.requires.in_pool c.requires.held))
+    ∙ forth every v i _ _ c.self.view_is c.slot.view_is (λ w s. pool_with (set every i c.vacant.result) v ≡ freed w s) (pool-freed every v i c.vacant.result c.vacant.ensures.entry)

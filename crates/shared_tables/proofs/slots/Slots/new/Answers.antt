@@ -13,7 +13,6 @@ invariant_of-result c =
 
 pub returns : goal.returns
 returns c =
-    ap (λ (xs : List Slot). pool_with (all_slots c.args.size xs) c.zero.result.total c.zero-2.result.total) c.in_ok-slots.ensures.items
-    ∙ ap (λ n. pool_with (all_slots c.args.size []) n c.zero-2.result.total) c.zero.ensures
-    ∙ ap (λ n. pool_with (all_slots c.args.size []) 0 n) c.zero-2.ensures
-    ∙ none_made c.args.size 0 0
+    ap (λ (xs : List Slot). pool_with (all_slots c.args.size xs) c.zero.result.total) c.in_ok-slots.ensures.items
+    ∙ ap (λ n. pool_with (all_slots c.args.size []) n) c.zero.ensures
+    ∙ none_made c.args.size 0

@@ -32,14 +32,14 @@ returns-in-Some c =
     let xs = c.self.inside.slots.items in let i = c.slot-in-Some.inside.number in
     let size = c.self.inside.size in
     let every = all_slots size xs in
-    let n = c.self.inside.compared.total in let v = c.self.inside.visited.total in
+    let v = c.self.inside.visited.total in
     let e = c.self.view_is in let q = c.slot-in-Some.view_is in
     let first = first_taken xs c.self.inside.free i c.self.invariant.0.0 c.self.invariant.0.1 (sym c.slot.ensures ∙ c.in-Some.is ∙ ap Some (sym c.slot-in-Some.view_is)) in
     let new : Held = record { vid = c.args.vid; mac = c.args.mac.now; place = c.args.place.now; last = c.args.last } in
     record {
-      free = forth every n v i _ _ e q (λ w s. (s < length w.entries) × (entry_at w.entries s ≡ None)) (free_in_all size xs i first.free.list.1 first.free.list.2);
-      pool = ap (λ (ys : List Slot). pool_with ys n v) (all-set size xs i c.fill.new.slot first.free.list.1)
-          ∙ forth every n v i _ _ e q (λ w s. pool_with (set every i c.fill.new.slot) n v ≡ taken w s new) (pool-taken every n v i c.fill.new.slot new c.fill.ensures.entry c.fill.ensures.line);
+      free = forth every v i _ _ e q (λ w s. (s < length w.entries) × (entry_at w.entries s ≡ None)) (free_in_all size xs i first.free.list.1 first.free.list.2);
+      pool = ap (λ (ys : List Slot). pool_with ys v) (all-set size xs i c.fill.new.slot first.free.list.1)
+          ∙ forth every v i _ _ e q (λ w s. pool_with (set every i c.fill.new.slot) v ≡ taken w s new) (pool-taken every v i c.fill.new.slot new c.fill.ensures.entry c.fill.ensures.line);
     }
 
 pub invariant_of-slot : goal.invariant_of-slot
@@ -66,13 +66,13 @@ returns-in-None c =
     let xs = c.self.inside.slots.items in let s = c.filled.result in
     let size = c.self.inside.size in
     let every = all_slots size xs in
-    let n = c.self.inside.compared.total in let v = c.self.inside.visited.total in
+    let v = c.self.inside.visited.total in
     let room = has_room c.self.inside.size c.self.inside.slots.items c.self.inside.free c.self.invariant.0.0 c.self.invariant.0.1 (sym c.slot.ensures ∙ c.in-None.is) (subst (λ (w : Pool). 0 < free_count w.entries) (sym c.self.view_is) c.requires) in
     let len : length xs ≡ c.len.result = omega (arith, c.len.ensures, c.self.inside.slots.ok.0) in
     let new : Held = record { vid = c.args.vid; mac = c.args.mac.now; place = c.args.place.now; last = c.args.last } in
     record {
-      free = forth every n v (length xs) _ _ c.self.view_is len (λ w k. (k < length w.entries) × (entry_at w.entries k ≡ None)) (next_in_all size xs room);
-      pool = ap (λ (ys : List Slot). pool_with (all_slots size ys) n v) c.push_reserved.ensures.items
-          ∙ ap (λ (ys : List Slot). pool_with ys n v) (all-push size xs s room)
-          ∙ forth every n v (length xs) _ _ c.self.view_is len (λ w k. pool_with (set every (length xs) s) n v ≡ taken w k new) (pool-taken every n v (length xs) s new c.filled.ensures.entry c.filled.ensures.line);
+      free = forth every v (length xs) _ _ c.self.view_is len (λ w k. (k < length w.entries) × (entry_at w.entries k ≡ None)) (next_in_all size xs room);
+      pool = ap (λ (ys : List Slot). pool_with (all_slots size ys) v) c.push_reserved.ensures.items
+          ∙ ap (λ (ys : List Slot). pool_with ys v) (all-push size xs s room)
+          ∙ forth every v (length xs) _ _ c.self.view_is len (λ w k. pool_with (set every (length xs) s) v ≡ taken w k new) (pool-taken every v (length xs) s new c.filled.ensures.entry c.filled.ensures.line);
     }

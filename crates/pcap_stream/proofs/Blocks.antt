@@ -1,10 +1,12 @@
 -- A block whose first octets are handed on.
-use Rattle.std.proofs.Common.{◌≡◌, ◌∙◌, sym, ap, ℕ, ◌+◌, ◌-◌, ◌<◌, ◌≤◌, List, [], ◌++◌, take, drop, length, append_assoc, append-nil, arith, length-drop, Option, None, Some, OnErr, Result, Ok, Err}
+use Rattle.std.proofs.Common.{◌≡◌, ◌∙◌, sym, ap, ℕ, ◌+◌, ◌-◌, ◌<◌, ◌≤◌, List, [], ◌++◌, take, drop, length, append_assoc, append-nil, arith, length-drop, Option, None, Some, OnErr, Result, Ok, Err, Bool, false}
 use lib.Seq.{paste}
+use Rattle.std.proofs.Math.Seq.{drop-length}
 use Rattle.std.proofs.lemmas.List.{drop-take, take-append-drop}
 use Rattle.std.proofs.lemmas.List.Edits.{take-paste}
 use Rattle.std.specs.List.{copy_within}
 use Rattle.std.specs.Io.KnownBytes.{Appends, Keeps, append_known}
+use Rattle.pcap_stream.specs.Block.{IsRest}
 use Rattle.pcap_stream.specs.Sink.{AppendsPart}
 
 -- what is kept of a block, moved to its front
@@ -33,3 +35,14 @@ kept_is_none_more (Some text) (Some more) same = same ∙ sym (append-nil text)
 pub none_of : {T E : Type 0} (old new : Option (List ℕ)) (text : List ℕ) (result : Result T E) → Keeps old new → 0 < length text → OnErr result (AppendsPart old new text)
 none_of old new text (Ok x) same some = tt
 none_of old new text (Err e) same some = (0, some, kept_is_none_more old new same)
+
+-- what is left behind the first octets is a rest
+pub rest_of : {T E : Type 0} (result : Result T E) (old new : List ℕ) (count : ℕ) → new ≡ drop count old → OnErr result (IsRest old new)
+rest_of (Ok x) old new count same = tt
+rest_of (Err e) old new count same = (count, same)
+
+-- and so is nothing, where there was no room
+pub none_is_rest : {T E : Type 0} (result : Result T E) (may_hold : Bool) (old new : List ℕ) → may_hold ≡ false → new ≡ []
+    → OnErr result ((may_hold ≡ false) × IsRest old new)
+none_is_rest (Ok x) may_hold old new full none = tt
+none_is_rest (Err e) may_hold old new full none = (full, (length old, none ∙ sym (drop-length old)))

@@ -1,8 +1,8 @@
 //! An output in blocks.
-ghost use Rattle.std.specs.Prelude.{◌≡◌, ◌≤◌, ◌<◌, ◌+◌, [], ◌++◌, IfOk, OnErr, OnOk, length};
+ghost use Rattle.std.specs.Prelude.{◌≡◌, ◌≤◌, ◌<◌, ◌+◌, [], ◌++◌, IfOk, OnErr, OnOk, length, take};
 ghost use Rattle.std.specs.Io.{WritesAtMost};
 ghost use Rattle.std.specs.Io.KnownBytes.{Appends, Keeps, WriteAppends};
-ghost use Rattle.pcap_stream.specs.Block.{told};
+ghost use Rattle.pcap_stream.specs.Block.{HoldsBack, HoldsRest, IsRest, told};
 ghost use Rattle.pcap_stream.specs.Counts.{CountsRefusals, GoesOnBy};
 ghost use Rattle.pcap_stream.specs.Sink.{AppendsPart};
 
@@ -58,6 +58,8 @@ impl<W: Output> BlockOutput<W> {
     pub fn finish(&mut self) -> Result<(), WriteFault>
         ensures told { Keeps (told self.old) (told self.new) }
         ensures all { OnOk result (self.new.held ≡ []) }
+        ensures gone_on { OnOk result (Appends self.old.written self.new.written self.old.held) }
+        ensures rest { OnErr result (IsRest self.old.held self.new.held) }
         ensures size { self.new.size ≡ self.old.size }
         ensures quiet { OnOk result (self.new.failures ≡ self.old.failures) }
         ensures cause { OnErr result (GoesOnBy 1 self.old.failures self.new.failures) }
@@ -84,6 +86,9 @@ impl<W: Output> BlockOutput<W> {
         ensures bound { WritesAtMost result octets.now }
         ensures appended { WriteAppends (told self.old) (told self.new) result octets.now }
         ensures failures { CountsRefusals self.old.failures self.new.failures result (length octets.now) }
+        ensures held { IfOk result (λ n. HoldsBack (length octets.now) self.old self.new (take n octets.now)) }
+        ensures rest { OnErr result (HoldsRest (length octets.now) self.old self.new) }
+        ensures size { self.new.size ≡ self.old.size }
     {
         if !self.block.may_hold(octets.len()) {
             if self.finish().is_err() {
@@ -107,6 +112,9 @@ impl<W: Output> BlockOutput<W> {
         ensures err { OnErr result (AppendsPart (told self.old) (told self.new) octets.now) }
         ensures quiet { OnOk result (self.new.failures ≡ self.old.failures) }
         ensures cause { OnErr result (GoesOnBy 1 self.old.failures self.new.failures) }
+        ensures held { OnOk result (HoldsBack (length octets.now) self.old self.new octets.now) }
+        ensures rest { OnErr result (HoldsRest (length octets.now) self.old self.new) }
+        ensures size { self.new.size ≡ self.old.size }
     {
         if !self.block.may_hold(octets.len()) {
             self.finish()?;
@@ -138,6 +146,11 @@ impl<W: Output> BlockOutput<W> {
             (before.now ++ (head.now ++ (addresses.now ++ (tag.now ++ body.now))))) }
         ensures quiet { OnOk result (self.new.failures ≡ self.old.failures) }
         ensures cause { OnErr result (GoesOnBy 1 self.old.failures self.new.failures) }
+        ensures held { OnOk result (HoldsBack (length before.now + length head.now + length addresses.now + length tag.now + length body.now)
+            self.old self.new (before.now ++ (head.now ++ (addresses.now ++ (tag.now ++ body.now))))) }
+        ensures rest { OnErr result (HoldsRest (length before.now + length head.now + length addresses.now + length tag.now + length body.now)
+            self.old self.new) }
+        ensures size { self.new.size ≡ self.old.size }
     {
         let size = before.len() + head.len() + addresses.len() + tag.len() + body.len();
         if !self.block.may_hold(size) {
@@ -162,7 +175,14 @@ impl<W: Output> Output for BlockOutput<W> {
     ghost failures = { λ b. b.failures };
 
     #[inline]
-    fn write(&mut self, octets: &[u8]) -> Result<usize, DeviceFault> {
+    fn write(&mut self, octets: &[u8]) -> Result<usize, DeviceFault>
+        ensures bound { WritesAtMost result octets.now }
+        ensures appended { WriteAppends (told self.old) (told self.new) result octets.now }
+        ensures failures { CountsRefusals self.old.failures self.new.failures result (length octets.now) }
+        ensures held { IfOk result (λ n. HoldsBack (length octets.now) self.old self.new (take n octets.now)) }
+        ensures rest { OnErr result (HoldsRest (length octets.now) self.old self.new) }
+        ensures size { self.new.size ≡ self.old.size }
+    {
         if octets.len() > self.block.free() {
             return self.write_on(octets);
         }
@@ -171,7 +191,15 @@ impl<W: Output> Output for BlockOutput<W> {
     }
 
     #[inline(always)]
-    fn write_all(&mut self, octets: &[u8]) -> Result<(), WriteFault> {
+    fn write_all(&mut self, octets: &[u8]) -> Result<(), WriteFault>
+        ensures ok { OnOk result (Appends (told self.old) (told self.new) octets.now) }
+        ensures err { OnErr result (AppendsPart (told self.old) (told self.new) octets.now) }
+        ensures quiet { OnOk result (self.new.failures ≡ self.old.failures) }
+        ensures cause { OnErr result (GoesOnBy 1 self.old.failures self.new.failures) }
+        ensures held { OnOk result (HoldsBack (length octets.now) self.old self.new octets.now) }
+        ensures rest { OnErr result (HoldsRest (length octets.now) self.old self.new) }
+        ensures size { self.new.size ≡ self.old.size }
+    {
         if octets.len() > self.block.free() {
             return self.write_all_on(octets);
         }
@@ -187,7 +215,20 @@ impl<W: Output> Output for BlockOutput<W> {
         addresses: &[u8],
         tag: &[u8],
         body: &[u8],
-    ) -> Result<(), WriteFault> {
+    ) -> Result<(), WriteFault>
+        requires { length before.now + length head.now + length addresses.now + length tag.now ≤ 102 }
+        ensures ok { OnOk result (Appends (told self.old) (told self.new)
+            (before.now ++ (head.now ++ (addresses.now ++ (tag.now ++ body.now))))) }
+        ensures err { OnErr result (AppendsPart (told self.old) (told self.new)
+            (before.now ++ (head.now ++ (addresses.now ++ (tag.now ++ body.now))))) }
+        ensures quiet { OnOk result (self.new.failures ≡ self.old.failures) }
+        ensures cause { OnErr result (GoesOnBy 1 self.old.failures self.new.failures) }
+        ensures held { OnOk result (HoldsBack (length before.now + length head.now + length addresses.now + length tag.now + length body.now)
+            self.old self.new (before.now ++ (head.now ++ (addresses.now ++ (tag.now ++ body.now))))) }
+        ensures rest { OnErr result (HoldsRest (length before.now + length head.now + length addresses.now + length tag.now + length body.now)
+            self.old self.new) }
+        ensures size { self.new.size ≡ self.old.size }
+    {
         let size = before.len() + head.len() + addresses.len() + tag.len() + body.len();
         if size > self.block.free() {
             // a copy of a record's header goes on: so where none does, it need not stand in memory

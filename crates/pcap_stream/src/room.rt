@@ -62,7 +62,8 @@ impl Room {
     /// How many more octets find room before it grows.
     #[inline(always)]
     pub fn free(&self) -> usize
-        ensures { result ≡ self.now.free }
+        ensures value { result ≡ self.now.free }
+        ensures within { length self.now.held + self.now.free ≤ self.now.size }
     {
         self.octets.len() - self.held
     }

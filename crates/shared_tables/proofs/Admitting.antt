@@ -70,8 +70,8 @@ module _ (pool : Pool) (w : Woods) (shares : List (Option Share)) (moment : ℕ)
 
     attached : (w' : Woods) (o : Option ℕ) → Belongs w.words (chain_of n.vid n.mac) (key_of n.vid n.mac) o → IfSome o (λ leaf. PartedAt (entry_at es leaf) (key_of n.vid n.mac) n.bit) → Attaches w w' n o s
         → IsForest (set es s (Some e)) w'
-    attached w' None b parts a = subst (IsForest (set es s (Some e))) (sym (a ∙ ap (λ c. planted w c s) m.chain)) (plant_forest es w h.forest e s lt free (no_leaves b))
-    attached w' (Some leaf) b parts a = subst (IsForest (set es s (Some e))) (sym a) (graft_forest es w h.forest e s lt free leaf b n.bit parts.0 parts.1)
+    attached w' None b parts a = subst (IsForest (set es s (Some e))) (sym (a ∙ ap (λ c. planted w c s) m.chain)) (plant_forest es w h.forest e s lt free (no_leaves b) m.fits)
+    attached w' (Some leaf) b parts a = subst (IsForest (set es s (Some e))) (sym a) (graft_forest es w h.forest e s lt free leaf b n.bit parts.0 parts.1 m.fits)
 
     module _ (pool' : Pool) (w' : Woods) (shares' : List (Option Share)) (fixed : Bool) (is_fixed : fixed ≡ is_none n.last)
         (entries_is : pool'.entries ≡ set es s (Some e)) (lines_is : pool'.lines ≡ pushed_back (set pool.lines s alone) (last_in (share_at shares n.vid) fixed) s)

@@ -10,7 +10,8 @@ use Rattle.shared_tables.specs.Pool.{Held, entry_at}
 use Rattle.shared_tables.specs.Line.{weight}
 use Rattle.shared_tables.specs.Shared.{chain_key}
 use Rattle.shared_tables.specs.Woods.{Woods, target_in, target_at, number_at, child_of, bare_woods}
-use Rattle.shared_tables.specs.Forest.{IsChain, StandsAt, Keeps, IsForest}
+use Rattle.shared_tables.specs.Bucket.{IsKey}
+use Rattle.shared_tables.specs.Forest.{key_in, IsChain, StandsAt, Keeps, IsForest}
 use Rattle.shared_tables.proofs.ForestLemmas.{nothing_word}
 
 module _ (n : ℕ) (few : n ≤ 65536) where
@@ -57,6 +58,7 @@ module _ (n : ℕ) (few : n ≤ 65536) where
       few = omega (arith, few, length-replicate {A = ℕ} n 0);
     };
     slots = omega (arith, length-replicate {A = ℕ} n 0, length-replicate {A = Option Held} n None);
+    keys = λ i. subst (λ (o : Option Held). IsKey (key_in o)) (sym (free i)) (omega arith);
     chained = λ c lt. no_chain c;
     stands = λ p. subst (StandsAt es w p) (sym (nothing p)) tt;
     keeper = λ m. m;

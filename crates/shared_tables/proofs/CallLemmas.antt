@@ -18,7 +18,7 @@ use Rattle.shared_tables.specs.Pool.{entry_at, IfHeld, is_dead_in, is_fixed_in}
 use Rattle.shared_tables.specs.Threads.{IsHeld}
 use Rattle.shared_tables.specs.Shared.{Shared, Rule, rule_at, span_of, bucket_count, vid_key, kept_count, Lacks, IsOrderly, IsAtLimit, HasRoom, Sweeps, Admits, Relearns, Refreshes, Enters, answer_of, live_place}
 use Rattle.shared_tables.specs.Bucket.{bucket_of}
-use Rattle.shared_tables.specs.Work.{ComparesFew}
+use Rattle.shared_tables.specs.Work.{ComparesFew, ComparesByBits}
 use Rattle.shared_tables.specs.Segments.{entry_of, segments_of}
 use Rattle.shared_tables.proofs.Linked.{nat_eq_refl}
 use Rattle.shared_tables.proofs.SegmentsLemmas.{begun, own_segment, HasRule, has_rule, ruled, adjusted_same, own_table, get_found, get_lacks, dead_room, sweep_segments, swept_len, swept_lacks, swept_rules, swept_moment, enter_segments, refresh_segments, release_segments, put, taken_out}
@@ -57,13 +57,15 @@ looks old b f now compared e orderly k =
 pub record Searches (old f : Shared) (now v : ℕ) (mac : List ℕ) : Type 0 where
   pub begun : Begins old f now
   pub compared : ComparesFew old f v mac
+  pub bits : ComparesByBits old f
   pub counted : old.compared ≤ f.compared
 
 searches : (old b f : Shared) (now v : ℕ) (mac : List ℕ) (compared : ℕ) → b ≡ record old { calls = old.calls + 1; moment = now } → IsOrderly b → f ≡ record b { compared = compared }
-    → b.compared ≤ f.compared → f.compared ≤ b.compared + bucket_count (bucket_of v mac) b.entries → Searches old f now v mac
-searches old b f now v mac compared e orderly k more few = record {
+    → b.compared ≤ f.compared → f.compared ≤ b.compared + bucket_count (bucket_of v mac) b.entries → ComparesByBits b f → Searches old f now v mac
+searches old b f now v mac compared e orderly k more few bits = record {
   begun = begins old b f now compared e orderly k;
   compared = subst (λ (w : Shared). f.compared ≤ w.compared + bucket_count (bucket_of v mac) w.entries) e few;
+  bits = subst (λ (w : Shared). ComparesByBits w f) e bits;
   counted = subst (λ (w : Shared). w.compared ≤ f.compared) e more;
 }
 
@@ -74,9 +76,9 @@ pub record Finds (old f : Shared) (now v : ℕ) (mac : List ℕ) (slot : ℕ) : 
   pub in_pool : IsHeld f.entries slot
 
 pub finds : (old b f : Shared) (now v : ℕ) (mac : List ℕ) (slot compared : ℕ) → b ≡ record old { calls = old.calls + 1; moment = now } → IsOrderly b → f ≡ record b { compared = compared }
-    → b.compared ≤ f.compared → f.compared ≤ b.compared + bucket_count (bucket_of v mac) b.entries → IfHeld (entry_at b.entries slot) v mac → IsHeld b.entries slot → Finds old f now v mac slot
-finds old b f now v mac slot compared e orderly k more few held in_pool = record {
-  search = searches old b f now v mac compared e orderly k more few;
+    → b.compared ≤ f.compared → f.compared ≤ b.compared + bucket_count (bucket_of v mac) b.entries → ComparesByBits b f → IfHeld (entry_at b.entries slot) v mac → IsHeld b.entries slot → Finds old f now v mac slot
+finds old b f now v mac slot compared e orderly k more few bits held in_pool = record {
+  search = searches old b f now v mac compared e orderly k more few bits;
   held = subst (λ (w : Shared). IfHeld (entry_at w.entries slot) v mac) (sym k) held;
   in_pool = subst (λ (w : Shared). IsHeld w.entries slot) (sym k) in_pool;
 }
@@ -87,8 +89,8 @@ pub record Misses (old f : Shared) (now v : ℕ) (mac : List ℕ) : Type 0 where
   pub lacks : Lacks f.entries v mac
 
 pub misses : (old b f : Shared) (now v : ℕ) (mac : List ℕ) (compared : ℕ) → b ≡ record old { calls = old.calls + 1; moment = now } → IsOrderly b → f ≡ record b { compared = compared }
-    → b.compared ≤ f.compared → f.compared ≤ b.compared + bucket_count (bucket_of v mac) b.entries → Lacks b.entries v mac → Misses old f now v mac
-misses old b f now v mac compared e orderly k more few lacks = record { search = searches old b f now v mac compared e orderly k more few; lacks = subst (λ (w : Shared). Lacks w.entries v mac) (sym k) lacks }
+    → b.compared ≤ f.compared → f.compared ≤ b.compared + bucket_count (bucket_of v mac) b.entries → ComparesByBits b f → Lacks b.entries v mac → Misses old f now v mac
+misses old b f now v mac compared e orderly k more few bits lacks = record { search = searches old b f now v mac compared e orderly k more few bits; lacks = subst (λ (w : Shared). Lacks w.entries v mac) (sym k) lacks }
 
 -- two changes that do the same to the segment
 pub alike : (v : ℕ) (change other : Segment → Segment) (segments : Segments) → change (segment_at v segments) ≡ other (segment_at v segments) → adjusted v change segments ≡ adjusted v other segments

@@ -16,7 +16,7 @@ use Rattle.shared_tables.proofs.Buckets.{chain_small, chain_excl}
 use Rattle.shared_tables.proofs.TreeLemmas.{same_tree, tree_leaf}
 use Rattle.shared_tables.proofs.Grafting.{one_more, weight_is}
 use Rattle.shared_tables.proofs.Planting.{root_child, root_frame}
-use Rattle.shared_tables.proofs.ForestLemmas.{apart, differ, nothing_word, in_words, written_same, written_other, number_same, number_other, entry_same, entry_other, held_beside, leaf_there, leaf_alone, leaf_place, HasTree, chain_beside, tree_of}
+use Rattle.shared_tables.proofs.ForestLemmas.{apart, differ, nothing_word, in_words, written_same, written_other, number_same, number_other, entry_same, entry_other, keys_gone, held_beside, leaf_there, leaf_alone, leaf_place, HasTree, chain_beside, tree_of}
 
 -- the only leaf of a chain goes
 module _ (es : List (Option Held)) (w : Woods) (h : IsForest es w) (e : Held) (s : ℕ) (here : entry_at es s ≡ Some e) (root : number_at w.leaves s < 65536) where
@@ -177,6 +177,7 @@ module _ (es : List (Option Held)) (w : Woods) (h : IsForest es w) (e : Held) (s
       few = h.sizes.few;
     };
     slots = omega (arith, h.slots, length-set es s None);
+    keys = keys_gone es s own_lt h.keys;
     chained = λ c' clt. by_bool (nat_eq c' c) (λ yes. subst (IsChain es' w'.words) (sym (equal c' c yes)) chain_mine) (λ no. chain_other c' clt no);
     stands = standing_at;
     keeper = keeper';

@@ -6,7 +6,7 @@ use Rattle.std.proofs.lemmas.Bool.{cases_lt}
 use Rattle.std.proofs.lemmas.Bool.Decides.{nat_tests}
 use Rattle.shared_tables.specs.declared.forest.Target.{Target}
 use Rattle.shared_tables.specs.declared.forest.Target.TheVariants as target
-use Rattle.shared_tables.specs.Bucket.{chain_of}
+use Rattle.shared_tables.specs.Bucket.{chain_of, IsKey}
 use Rattle.shared_tables.specs.Pool.{Held, entry_at, IfHeld}
 use Rattle.std.specs.List.{sum_by, range_with_len}
 use Rattle.shared_tables.specs.Line.{is_on, weight}
@@ -14,7 +14,7 @@ use Rattle.shared_tables.specs.Shared.{chain_key}
 use Rattle.shared_tables.specs.Threads.{IsHeld}
 use Rattle.shared_tables.specs.Trees.{Tree, Leaf, Fork, leaves, IsTree, IsParted, descend}
 use Rattle.shared_tables.specs.Woods.{Woods, target_in, IsFork, fork_word, target_at, number_at, child_of}
-use Rattle.shared_tables.specs.Forest.{keys_of, key_in, leaves_of, IsRooted, AnyParted, LeadsTo, IsChain, Belongs, IsBare, StandsAt, IsForest}
+use Rattle.shared_tables.specs.Forest.{keys_of, AreKeys, key_in, leaves_of, IsRooted, AnyParted, LeadsTo, IsChain, Belongs, IsBare, StandsAt, IsForest}
 use Rattle.shared_tables.proofs.Linked.{by_bool, equal, nat_eq_refl}
 use Rattle.shared_tables.proofs.TreeLemmas.{true_false, by_side, same_tree, tree_there, only_leaf, other_right, parted_frame}
 
@@ -100,6 +100,16 @@ entry_same es s e lt = get_or-set_same es s e None lt
 
 pub entry_other : (es : List (Option Held)) (s i : ℕ) (e : Option Held) → i ≢ s → entry_at (set es s e) i ≡ entry_at es i
 entry_other es s i e ne = get_or-set_other es s i e None ne
+
+-- the keys when a slot holds something else
+pub keys_set : (es : List (Option Held)) (s : ℕ) (o : Option Held) → s < length es → IsKey (key_in o) → AreKeys es → AreKeys (set es s o)
+keys_set es s o lt own h i = by_bool (nat_eq i s)
+    (λ yes. subst (λ (x : Option Held). IsKey (key_in x)) (sym (ap (entry_at (set es s o)) (equal i s yes) ∙ entry_same es s o lt)) own)
+    (λ no. subst (λ (x : Option Held). IsKey (key_in x)) (sym (entry_other es s i o (apart i s no))) (h i))
+
+-- where it holds nothing
+pub keys_gone : (es : List (Option Held)) (s : ℕ) → s < length es → AreKeys es → AreKeys (set es s None)
+keys_gone es s lt h = keys_set es s None lt (omega arith) h
 
 -- what a slot holds stays there when another changes
 pub held_beside : (es : List (Option Held)) (s i : ℕ) (e : Option Held) → i ≢ s → IsHeld es i → IsHeld (set es s e) i

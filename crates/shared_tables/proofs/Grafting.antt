@@ -7,7 +7,7 @@ use Rattle.std.specs.Int.{bit_at}
 use Rattle.std.specs.List.{sum_by}
 use Rattle.shared_tables.specs.declared.forest.Target.{Target}
 use Rattle.shared_tables.specs.declared.forest.Target.TheVariants as target
-use Rattle.shared_tables.specs.Bucket.{key_of, chain_of}
+use Rattle.shared_tables.specs.Bucket.{key_of, IsKey, chain_of}
 use Rattle.shared_tables.specs.Pool.{Held, entry_at}
 use Rattle.shared_tables.specs.Line.{is_on, weight}
 use Rattle.shared_tables.specs.Shared.{chain_key}
@@ -19,7 +19,7 @@ use Rattle.shared_tables.proofs.Linked.{by_bool, equal, nat_eq_refl}
 use Rattle.shared_tables.proofs.Threaded.{in_entries}
 use Rattle.shared_tables.proofs.Buckets.{chain_small, chain_excl}
 use Rattle.shared_tables.proofs.TreeLemmas.{true_false, by_side, descend_on, grafted_to, graft_length, graft_on, graft_parted, graft_frame_at, graft_tree_at}
-use Rattle.shared_tables.proofs.ForestLemmas.{some_of_key, apart, differ, leaf_word, fork_is, in_words, written_same, written_other, number_same, number_other, entry_same, entry_other, held_beside, held_here, not_free, bare_at, not_bare, leaf_there, leaf_alone, leaf_place, HasTree, chain_beside, tree_of, chain_of_tree, belongs_there, belongs_leads}
+use Rattle.shared_tables.proofs.ForestLemmas.{some_of_key, apart, differ, leaf_word, fork_is, in_words, written_same, written_other, number_same, number_other, entry_same, entry_other, keys_set, held_beside, held_here, not_free, bare_at, not_bare, leaf_there, leaf_alone, leaf_place, HasTree, chain_beside, tree_of, chain_of_tree, belongs_there, belongs_leads}
 
 -- a target that isn't the leaf stays
 to_same : (leaf n b : ℕ) (t : Target) → t ≢ target.Leaf leaf → grafted_to leaf n b t ≡ t
@@ -290,8 +290,8 @@ module _ (es : List (Option Held)) (w : Woods) (h : IsForest es w) (e : Held) (s
     leaves'_len : length w'.leaves ≡ length w.leaves
     leaves'_len = length-set (set w.leaves s (child_of n side)) leaf (child_of n (1 - side)) ∙ leaves_len
 
-    pub graft_forest : IsForest es' w'
-    graft_forest = record {
+    pub graft_forest : IsKey (key_of e.vid e.mac) → IsForest es' w'
+    graft_forest own = record {
       sizes = record {
         words = omega (arith, words_len, forks_len, h.sizes.words);
         leaves = omega (arith, leaves'_len, forks_len, h.sizes.leaves);
@@ -299,6 +299,7 @@ module _ (es : List (Option Held)) (w : Woods) (h : IsForest es w) (e : Held) (s
         few = omega (arith, forks_len, h.sizes.few);
       };
       slots = omega (arith, forks_len, h.slots, length-set es s (Some e));
+      keys = keys_set es s (Some e) lt own h.keys;
       chained = chained;
       stands = standing_at;
       keeper = h.keeper;

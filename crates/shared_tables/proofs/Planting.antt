@@ -3,7 +3,7 @@ use Rattle.std.proofs.Common.{◌≡◌, ◌≢◌, ℕ, ◌+◌, ◌<◌, true,
 use Rattle.std.proofs.lemmas.List.{length-set}
 use Rattle.shared_tables.specs.declared.forest.Target.{Target}
 use Rattle.shared_tables.specs.declared.forest.Target.TheVariants as target
-use Rattle.shared_tables.specs.Bucket.{chain_of}
+use Rattle.shared_tables.specs.Bucket.{key_of, IsKey, chain_of}
 use Rattle.shared_tables.specs.Pool.{Held, entry_at}
 use Rattle.shared_tables.specs.Line.{is_on}
 use Rattle.shared_tables.specs.Shared.{chain_key}
@@ -14,7 +14,7 @@ use Rattle.shared_tables.proofs.Linked.{by_bool, equal, nat_eq_refl}
 use Rattle.shared_tables.proofs.Buckets.{chain_small, chain_excl}
 use Rattle.shared_tables.proofs.TreeLemmas.{tree_there, tree_frame}
 use Rattle.shared_tables.proofs.Grafting.{free_off, one_more, weight_is}
-use Rattle.shared_tables.proofs.ForestLemmas.{apart, differ, leaf_word, written_same, written_other, number_same, number_other, entry_same, entry_other, held_beside, held_here, not_free, chain_beside}
+use Rattle.shared_tables.proofs.ForestLemmas.{apart, differ, leaf_word, written_same, written_other, number_same, number_other, entry_same, entry_other, keys_set, held_beside, held_here, not_free, chain_beside}
 
 -- only the root of one chain changes
 module _ (words : List ℕ) (c v : ℕ) (c_lt : c < 65536) where
@@ -146,8 +146,8 @@ module _ (es : List (Option Held)) (w : Woods) (h : IsForest es w) (e : Held) (s
       subst (λ m. Keeps w' keeper' m (65536 + c')) (sym (number_other w.spares c n c' (apart c' c no)))
       (keeps (number_at w.spares c') (65536 + c') (λ q. absurd (omega (arith, q, lt, few))) (h.spares c' clt (λ q. some (at_else c' (apart c' c no) ∙ q)))))
 
-  pub plant_forest : IsForest es' w'
-  plant_forest = record {
+  pub plant_forest : IsKey (key_of e.vid e.mac) → IsForest es' w'
+  plant_forest own = record {
     sizes = record {
       words = omega (arith, length-set w.words c s, h.sizes.words);
       leaves = omega (arith, leaves_len, h.sizes.leaves);
@@ -155,6 +155,7 @@ module _ (es : List (Option Held)) (w : Woods) (h : IsForest es w) (e : Held) (s
       few = h.sizes.few;
     };
     slots = omega (arith, h.slots, length-set es s (Some e));
+    keys = keys_set es s (Some e) lt own h.keys;
     chained = λ c' clt. by_bool (nat_eq c' c) (λ yes. subst (IsChain es' w'.words) (sym (equal c' c yes)) chain_mine) (λ no. chain_other c' clt no);
     stands = standing_at;
     keeper = keeper';

@@ -15,7 +15,7 @@ use Rattle.shared_tables.proofs.Threaded.{in_entries}
 use Rattle.shared_tables.proofs.Buckets.{chain_small, chain_excl}
 use Rattle.shared_tables.proofs.TreeLemmas.{true_false, by_side, same_tree, some_leaf, tree_there, only_leaf, other_right, descend_own, parted_frame, prune_length, prune_parted, prune_on, prune_off, prune_leads, pruned_to, prune_frame_at, left_tree, IsLeft, IsShorter}
 use Rattle.shared_tables.proofs.Grafting.{one_more, weight_is}
-use Rattle.shared_tables.proofs.ForestLemmas.{apart, differ, nothing_word, in_words, written_same, written_other, number_same, number_other, entry_same, entry_other, held_beside, not_free, leaf_there, leaf_alone, fork_alone, leaf_place, HasTree, chain_beside, tree_of, chain_of_tree, belongs_leads}
+use Rattle.shared_tables.proofs.ForestLemmas.{apart, differ, nothing_word, in_words, written_same, written_other, number_same, number_other, entry_same, entry_other, keys_gone, held_beside, not_free, leaf_there, leaf_alone, fork_alone, leaf_place, HasTree, chain_beside, tree_of, chain_of_tree, belongs_leads}
 
 fork_there : (t : Target) (n b : ℕ) → t ≡ target.Fork n b → t ≢ target.Nothing
 fork_there t n b h none = let bad : target.Fork n b ≡ target.Nothing = sym h ∙ none in cc
@@ -432,6 +432,7 @@ module _ (es : List (Option Held)) (w : Woods) (h : IsForest es w) (e : Held) (s
       few = omega (arith, forks_len, h.sizes.few);
     };
     slots = omega (arith, forks_len, h.slots, length-set es s None);
+    keys = keys_gone es s own_lt h.keys;
     chained = chained;
     stands = standing_at;
     keeper = keeper';

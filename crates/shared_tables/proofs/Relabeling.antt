@@ -3,7 +3,7 @@ use Rattle.std.proofs.Common.{◌≡◌, ◌≢◌, ℕ, ◌<◌, true, false, L
 use Rattle.std.proofs.lemmas.List.{length-set}
 use Rattle.shared_tables.specs.declared.forest.Target.{Target}
 use Rattle.shared_tables.specs.declared.forest.Target.TheVariants as target
-use Rattle.shared_tables.specs.Bucket.{key_of, chain_of}
+use Rattle.shared_tables.specs.Bucket.{key_of, IsKey, chain_of}
 use Rattle.shared_tables.specs.Pool.{Held, entry_at}
 use Rattle.shared_tables.specs.Line.{is_on}
 use Rattle.shared_tables.specs.Shared.{chain_key}
@@ -16,7 +16,7 @@ use Rattle.shared_tables.proofs.Threaded.{in_entries}
 use Rattle.shared_tables.proofs.Buckets.{chain_small, chain_excl}
 use Rattle.shared_tables.proofs.TreeLemmas.{tree_there, descend_own, parted_again}
 use Rattle.shared_tables.proofs.Grafting.{one_more, weight_is}
-use Rattle.shared_tables.proofs.ForestLemmas.{apart, entry_same, entry_other, held_beside, held_here, HasTree, chain_beside, tree_of, chain_of_tree, belongs_leads}
+use Rattle.shared_tables.proofs.ForestLemmas.{apart, entry_same, entry_other, keys_set, held_beside, held_here, HasTree, chain_beside, tree_of, chain_of_tree, belongs_leads}
 
 module _ (es : List (Option Held)) (w : Woods) (h : IsForest es w) (e f : Held) (s : ℕ) (here : entry_at es s ≡ Some e) (same : chain_of f.vid f.mac ≡ chain_of e.vid e.mac) where
   abbrev c : ℕ
@@ -48,10 +48,11 @@ module _ (es : List (Option Held)) (w : Woods) (h : IsForest es w) (e f : Held) 
   mine : HasTree es w.words c
   mine = let old = h.chained c c_lt in tree_of es w.words c (root_there old.tree (old.members s ∙ keyed) old.rooted) old
 
-  relabels : descend (key_of f.vid f.mac) mine.tree ≡ s → IsForest es' w
-  relabels way = record {
+  relabels : IsKey (key_of f.vid f.mac) → descend (key_of f.vid f.mac) mine.tree ≡ s → IsForest es' w
+  relabels own way = record {
     sizes = h.sizes;
     slots = omega (arith, h.slots, length-set es s (Some f));
+    keys = keys_set es s (Some f) own_lt own h.keys;
     chained = λ c' clt. by_bool (nat_eq c' c) (λ yes. subst (IsChain es' w.words) (sym (equal c' c yes)) chain_mine) (λ no. chain_other c' clt no);
     stands = λ p. stays p (at p) (h.stands p);
     keeper = h.keeper;
@@ -89,9 +90,9 @@ module _ (es : List (Option Held)) (w : Woods) (h : IsForest es w) (e f : Held) 
       stays p (target.Fork m x) k = k
 
   -- the slot is where the new key belongs
-  pub relabel_forest : Belongs w.words c (key_of f.vid f.mac) (Some s) → IsForest es' w
-  relabel_forest b = relabels (belongs_leads es w.words c (key_of f.vid f.mac) s b mine)
+  pub relabel_forest : IsKey (key_of f.vid f.mac) → Belongs w.words c (key_of f.vid f.mac) (Some s) → IsForest es' w
+  relabel_forest own b = relabels own (belongs_leads es w.words c (key_of f.vid f.mac) s b mine)
 
   -- the key stays
   pub renew_forest : key_of f.vid f.mac ≡ key_of e.vid e.mac → IsForest es' w
-  renew_forest q = relabels (ap (λ k. descend k mine.tree) (q ∙ sym (ap key_in here)) ∙ descend_own (keys_of es) s mine.tree mine.parted (mine.members s ∙ keyed))
+  renew_forest q = relabels (subst IsKey (sym (q ∙ sym (ap key_in here))) (h.keys s)) (ap (λ k. descend k mine.tree) (q ∙ sym (ap key_in here)) ∙ descend_own (keys_of es) s mine.tree mine.parted (mine.members s ∙ keyed))

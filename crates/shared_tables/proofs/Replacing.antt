@@ -150,6 +150,7 @@ module _ (pool : Pool) (w : Woods) (shares : List (Option Share)) (moment : ℕ)
     pub dropped_may_come : n.beside ≢ Some s → MayCome pool'.entries w' moment n
     dropped_may_come ne = record {
       chain = m.chain;
+      fits = m.fits;
       absent = subst (λ xs. Lacks xs v n.mac) (sym entries_are) lacks;
       now = m.now;
       beside = uproot_belongs es w w' h.forest k.entry s k.at_slot uproots (chain_of v n.mac) (key_of v n.mac) (chain_small v n.mac) n.beside ne m.beside;
@@ -214,7 +215,7 @@ module _ (pool : Pool) (w : Woods) (shares : List (Option Share)) (moment : ℕ)
       again_whole = record {
         sound = sound_at moment (ap (λ (p : Pool). p.entries) moved_is) (ap (λ (p : Pool). p.lines) moved_is) shares_is (renew_sound pool'.entries pool'.lines shares moment sound' v s k' n.place n.last m.now);
         forest = subst (λ xs. IsForest xs w) (sym final)
-            (relabel_forest es w h.forest k.entry e s k.at_slot (sym same_chain) (subst (λ b. Belongs w.words b (key_of v n.mac) (Some s)) (sym same_chain) at_home));
+            (relabel_forest es w h.forest k.entry e s k.at_slot (sym same_chain) m.fits (subst (λ b. Belongs w.words b (key_of v n.mac) (Some s)) (sym same_chain) at_home));
       }
 
       pub again_replaces : (calls compared : ℕ) → Replaces (seen pool shares moment calls compared) (seen pool'' shares'' moment calls compared) s e

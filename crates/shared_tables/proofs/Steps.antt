@@ -8,7 +8,7 @@ use Rattle.shared_tables.specs.Pool.{Held, entry_at, is_fixed_in, renewed}
 use Rattle.shared_tables.specs.Threads.{IsHeld}
 use Rattle.shared_tables.specs.Line.{weight}
 use Rattle.shared_tables.specs.Shared.{Shared, Rule, rule_at, vid_key, is_held, held_count, HasRoom, IsAtLimit, kept_count, Sweeps, Drops, Enters, Refreshes, Admits, Relearns}
-use Rattle.shared_tables.specs.Work.{ComparesFew, Pays}
+use Rattle.shared_tables.specs.Work.{ComparesFew, ComparesByBits, Pays}
 use Rattle.shared_tables.proofs.Linked.{by_bool}
 use Rattle.shared_tables.proofs.Sweeping.{refresh_held}
 use Rattle.shared_tables.proofs.CallLemmas.{Begins, Searches}
@@ -145,11 +145,13 @@ leaves old f new now k s =
 pub record LeavesSearched (old new : Shared) (now v : ℕ) (mac : List ℕ) : Type 0 where
   pub left : Leaves old new now
   pub compared : ComparesFew old new v mac
+  pub bits : ComparesByBits old new
   pub counted : old.compared ≤ new.compared
 
 pub leaves_searched : (old f new : Shared) (now v : ℕ) (mac : List ℕ) → Searches old f now v mac → IsStep f new → LeavesSearched old new now v mac
 leaves_searched old f new now v mac k s = record {
   left = leaves old f new now k.begun s;
   compared = (let few = k.compared in omega (arith, few, s.compared));
+  bits = (let bits = k.bits in omega (arith, bits, s.compared));
   counted = omega (arith, k.counted, s.compared);
 }

@@ -16,11 +16,11 @@ some_leaf (Leaf i) = omega arith
 some_leaf (Fork n b l r) = omega (arith, some_leaf l, length-append (leaves l) (leaves r))
 
 -- or, and its parts
-left_false : (a b : Bool) → a || b ≡ false → a ≡ false
+pub left_false : (a b : Bool) → a || b ≡ false → a ≡ false
 left_false true b h = h
 left_false false b h = refl
 
-right_false : (a b : Bool) → a || b ≡ false → b ≡ false
+pub right_false : (a b : Bool) → a || b ≡ false → b ≡ false
 right_false true b h = let no : true ≡ false = h in cc
 right_false false b h = h
 

@@ -4,7 +4,7 @@ use Rattle.std.specs.Int.{bit_at}
 use Rattle.shared_tables.specs.declared.admission.Newcomer.{Newcomer}
 use Rattle.shared_tables.specs.declared.admission.Outcome.{Outcome}
 use Rattle.shared_tables.specs.declared.admission.Outcome.TheVariants as outcome
-use Rattle.shared_tables.specs.Bucket.{key_of, chain_of}
+use Rattle.shared_tables.specs.Bucket.{key_of, IsKey, chain_of}
 use Rattle.shared_tables.specs.Pool.{Held, entry_at, IfHeld}
 use Rattle.shared_tables.specs.Threads.{IsHeld}
 use Rattle.shared_tables.specs.Shared.{Shared, rule_at, span_of, Lacks, IsNow, Admits}
@@ -19,6 +19,7 @@ held_of n = record { vid = n.vid; mac = n.mac; place = n.place; last = n.last }
 -- no slot holds its address, which belongs beside its leaf and differs from it in its bit, and it may be written now
 pub record MayCome (entries : List (Option Held)) (forest : Woods) (moment : ℕ) (n : Newcomer) : Type 0 where
   pub chain : n.chain ≡ chain_of n.vid n.mac
+  pub fits : IsKey (key_of n.vid n.mac)
   pub absent : Lacks entries n.vid n.mac
   pub now : IsNow n.last moment
   pub beside : Belongs forest.words (chain_of n.vid n.mac) (key_of n.vid n.mac) n.beside

@@ -1,5 +1,5 @@
 -- The bucket of an address in a segment, and its chain: each bucket has sixteen. It states no standard.
-use Rattle.std.specs.Prelude.{ℕ, ◌+◌, ◌*◌, ◌/◌, ◌%◌, ◌^◌, List, ◌++◌, take, drop}
+use Rattle.std.specs.Prelude.{ℕ, ◌+◌, ◌*◌, ◌/◌, ◌%◌, ◌^◌, ◌<◌, List, ◌++◌, take, drop}
 use Rattle.std.specs.Int.{from_be_bytes, to_be_bytes, w16, w64}
 use Rattle.header_sums.specs.Octets.{octets}
 use Rattle.header_sums.specs.Sum.{total}
@@ -11,6 +11,14 @@ bucket_of vid mac = (total mac + vid) % 4096
 -- the VID and the address side by side, as one number
 abbrev pub key_of : ℕ → List ℕ → ℕ
 key_of vid mac = from_be_bytes w64 (octets 2 vid ++ mac)
+
+-- how many bits such a number has: 12 of the VID, and 48 of the address
+abbrev pub key_bits : ℕ
+key_bits = 60
+
+-- it has no more
+abbrev pub IsKey : ℕ → Type 0
+IsKey key = key < 2 ^ key_bits
 
 -- the VID and the address of such a number
 unfoldable pub vid_in : ℕ → ℕ

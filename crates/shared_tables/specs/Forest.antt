@@ -4,7 +4,7 @@ use Rattle.std.specs.Int.{bit_at}
 use Rattle.std.specs.List.{sum_by}
 use Rattle.shared_tables.specs.declared.forest.Target.{Target}
 use Rattle.shared_tables.specs.declared.forest.Target.TheVariants as target
-use Rattle.shared_tables.specs.Bucket.{key_of}
+use Rattle.shared_tables.specs.Bucket.{key_of, IsKey}
 use Rattle.shared_tables.specs.Pool.{Held, entry_at}
 use Rattle.shared_tables.specs.Line.{is_on, weight}
 use Rattle.shared_tables.specs.Shared.{chain_key}
@@ -20,6 +20,10 @@ key_in (Some e) = key_of e.vid e.mac
 -- the keys of the slots
 abbrev pub keys_of : List (Option Held) → ℕ → ℕ
 keys_of entries i = key_in (entry_at entries i)
+
+-- they have no more bits than a VID and an address
+abbrev pub AreKeys : List (Option Held) → Type 0
+AreKeys entries = (i : ℕ) → IsKey (keys_of entries i)
 
 -- a bit in which what a slot holds and a key differ
 abbrev pub PartedAt : Option Held → ℕ → ℕ → Type 0
@@ -85,6 +89,7 @@ pub record Keeps (w : Woods) (keeper : ℕ → ℕ) (fork by : ℕ) : Type 0 whe
 pub record IsForest (entries : List (Option Held)) (w : Woods) : Type 0 where
   pub sizes : HasSizes w
   pub slots : length w.forks ≡ length entries
+  pub keys : AreKeys entries
   pub chained : (c : ℕ) → c < 65536 → IsChain entries w.words c
   pub stands : (p : ℕ) → StandsAt entries w p (target_at w.words p)
   pub keeper : ℕ → ℕ

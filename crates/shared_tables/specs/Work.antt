@@ -4,7 +4,7 @@ use Rattle.std.specs.List.{sum_by, AllByRecursion}
 use Rattle.shared_tables.specs.Pool.{Held}
 use Rattle.shared_tables.specs.Pool.{entry_at, IfHeld, is_dead_in}
 use Rattle.shared_tables.specs.Line.{weight}
-use Rattle.shared_tables.specs.Bucket.{bucket_of}
+use Rattle.shared_tables.specs.Bucket.{bucket_of, key_bits}
 use Rattle.shared_tables.specs.Shared.{Shared, Rule, rule_at, span_of, bucket_count, held_count}
 
 -- a slot holds an entry that is dead at a moment, under its own segment's ageing
@@ -19,6 +19,11 @@ dead_count rules now entries = sum_by (weight (is_dead rules now)) entries
 -- an address was compared with a slot's at most as often as entries were kept in its bucket
 abbrev pub ComparesFew : Shared → Shared → ℕ → List ℕ → Type 0
 ComparesFew old new vid mac = new.compared ≤ old.compared + bucket_count (bucket_of vid mac) old.entries
+
+-- whatever stands in the pool, an address was compared with a slot's, or sent on by a fork, at most once more often than a
+-- key has bits: each bit sends it on once
+abbrev pub ComparesByBits : Shared → Shared → Type 0
+ComparesByBits old new = new.compared ≤ old.compared + (key_bits + 1)
 
 -- an entry's age was told at most once more than dead entries have gone
 abbrev pub VisitsFew : Shared → Shared → ℕ → Type 0

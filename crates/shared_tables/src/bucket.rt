@@ -1,6 +1,6 @@
 //! Buckets of addresses, and their chains.
 ghost use Rattle.std.specs.Prelude.{◌≡◌, ◌<◌, [], ◌∷◌};
-ghost use Rattle.shared_tables.specs.Bucket.{bucket_of, chain_of, key_of, vid_in, mac_in, spread};
+ghost use Rattle.shared_tables.specs.Bucket.{bucket_of, chain_of, key_of, IsKey, vid_in, mac_in, spread};
 
 use frame_view::{Mac, Vid};
 
@@ -21,6 +21,7 @@ fn joined(vid: u16, a: u8, b: u8, c: u8, d: u8, e: u8, f: u8) -> u64
     ensures value { result ≡ key_of vid (a ∷ b ∷ c ∷ d ∷ e ∷ f ∷ []) }
     ensures vid { vid_in result ≡ vid }
     ensures mac { mac_in result ≡ a ∷ b ∷ c ∷ d ∷ e ∷ f ∷ [] }
+    ensures fits { vid < 4096 → IsKey result }
 {
     let upper = u64::from(u32::from_be_bytes([a, b, c, d]));
     let lower = u64::from(u16::from_be_bytes([e, f]));
@@ -32,6 +33,7 @@ pub fn key(vid: Vid, mac: Mac) -> u64
     ensures value { result ≡ key_of vid mac }
     ensures vid { vid_in result ≡ vid }
     ensures mac { mac_in result ≡ mac }
+    ensures fits { IsKey result }
 {
     let [a, b, c, d, e, f] = mac.0;
     joined(vid.get(), a, b, c, d, e, f)

@@ -4,7 +4,7 @@ ghost use Rattle.std.specs.FinMap.{len};
 ghost use Rattle.filter_db.specs.Table.{stands, learned_as, is_full, has_fixed};
 ghost use Rattle.filter_db.specs.Segment.{aged_all, segment_at, adjusted, learn_in, fix_in, unfix_in, flush_place_in, flush_in, set_ageing_in};
 ghost use Rattle.shared_tables.specs.Segments.{segments_of};
-ghost use Rattle.shared_tables.specs.Work.{ComparesFew, VisitsFew, TellsAtMost, Pays};
+ghost use Rattle.shared_tables.specs.Work.{ComparesFew, ComparesByBits, VisitsFew, TellsAtMost, Pays};
 
 use crate::admission::Outcome;
 use crate::bucket::chain;
@@ -40,6 +40,7 @@ impl Tables for SharedTables {
         ensures pool { length self.new.entries ≡ length self.old.entries }
         ensures entries { self.new.entries ≡ self.old.entries }
         ensures compared { ComparesFew self.old self.new vid mac }
+        ensures compared_by_bits { ComparesByBits self.old self.new }
         ensures visited { VisitsFew self.old self.new now }
         ensures comparisons_stay_counted { self.old.compared ≤ self.new.compared }
         ensures visits_stay_counted { self.old.visited ≤ self.new.visited }
@@ -65,6 +66,7 @@ impl Tables for SharedTables {
         ensures calls { self.new.calls ≡ self.old.calls + 1 }
         ensures pool { length self.new.entries ≡ length self.old.entries }
         ensures compared { ComparesFew self.old self.new vid mac }
+        ensures compared_by_bits { ComparesByBits self.old self.new }
         ensures visited { VisitsFew self.old self.new now }
         ensures known { TellsAtMost 1 self.old self.new vid mac }
         ensures comparisons_stay_counted { self.old.compared ≤ self.new.compared }
@@ -91,6 +93,7 @@ impl Tables for SharedTables {
         ensures calls { self.new.calls ≡ self.old.calls + 1 }
         ensures pool { length self.new.entries ≡ length self.old.entries }
         ensures compared { ComparesFew self.old self.new vid mac }
+        ensures compared_by_bits { ComparesByBits self.old self.new }
         ensures visited { VisitsFew self.old self.new now }
         ensures known { TellsAtMost 0 self.old self.new vid mac }
         ensures comparisons_stay_counted { self.old.compared ≤ self.new.compared }
@@ -120,6 +123,7 @@ impl Tables for SharedTables {
         ensures calls { self.new.calls ≡ self.old.calls + 1 }
         ensures pool { length self.new.entries ≡ length self.old.entries }
         ensures compared { ComparesFew self.old self.new vid mac }
+        ensures compared_by_bits { ComparesByBits self.old self.new }
         ensures visited { self.new.visited ≡ self.old.visited }
         ensures comparisons_stay_counted { self.old.compared ≤ self.new.compared }
         ensures paid { Pays self.old self.new }

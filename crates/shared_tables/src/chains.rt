@@ -4,7 +4,7 @@ ghost use Rattle.std.specs.Int.{bit_at};
 ghost use Rattle.shared_tables.specs.Shared.{bucket_count};
 ghost use Rattle.shared_tables.specs.Forest.{IsForest};
 ghost use Rattle.shared_tables.specs.Whole.{Finds};
-ghost use Rattle.shared_tables.specs.Bucket.{bucket_of, chain_of};
+ghost use Rattle.shared_tables.specs.Bucket.{bucket_of, chain_of, key_of, key_bits, IsKey};
 
 use crate::bucket;
 use crate::forest::{Forest, Target, bit_in, fork_in, is_fork, read};
@@ -48,6 +48,8 @@ pub fn find_in(
     ensures found { Finds slots.now.entries forest.now vid mac result }
     ensures counted { compared.old.total ≤ compared.new.total }
     ensures compared { compared.new.total ≤ compared.old.total + bucket_count (bucket_of vid mac) slots.now.entries }
+    ensures bits { compared.new.total ≤ compared.old.total + (key_bits + 1) }
+    ensures fits { IsKey (key_of vid mac) }
 {
     let key = bucket::key(vid, mac);
     let mut word = forest.root(chain);

@@ -6,6 +6,7 @@ ghost use Rattle.shared_tables.specs.Pool.{entry_at, is_fixed_in};
 ghost use Rattle.shared_tables.specs.Threads.{IsHeld};
 ghost use Rattle.shared_tables.specs.Shared.{rule_at, bucket_count, IsNow, span_of, Sweeps, IsOf, Relearns, Refreshes, Flushes, kept_count, stands_at};
 ghost use Rattle.shared_tables.specs.Standing.{Empties};
+ghost use Rattle.shared_tables.specs.Work.{ComparesByBits};
 
 use crate::SharedTables;
 use crate::admission::Outcome;
@@ -77,6 +78,7 @@ pub fn find_or_admit(
         FindsOrAdmits (record tables.old { compared = tables.new.compared }) tables.new span (record { vid = vid; mac = mac.now; place = place.now; last = last }) result }
     ensures counted { tables.old.compared ≤ tables.new.compared }
     ensures compared { tables.new.compared ≤ tables.old.compared + bucket_count (bucket_of vid mac.now) tables.old.entries }
+    ensures bits { ComparesByBits tables.old tables.new }
 {
     let outcome = tables.find_or_enter(chain, vid, mac, place, last);
     if let Outcome::Entered = outcome {

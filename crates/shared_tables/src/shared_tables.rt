@@ -10,7 +10,7 @@ ghost use Rattle.shared_tables.specs.Shared.{rule_at, Lacks, kept_count, bucket_
 ghost use Rattle.shared_tables.specs.Segments.{segments_of};
 ghost use Rattle.shared_tables.specs.Admission.{ComesTo};
 ghost use Rattle.shared_tables.specs.Bucket.{bucket_of, chain_of};
-ghost use Rattle.shared_tables.specs.Work.{IsPaid};
+ghost use Rattle.shared_tables.specs.Work.{IsPaid, ComparesByBits};
 
 use crate::admission::{Newcomer, Outcome, admit_in};
 use crate::chains::{Sought, find_in};
@@ -125,6 +125,7 @@ impl SharedTables {
         ensures same { self.new ≡ record self.old { compared = self.new.compared } }
         ensures counted { self.old.compared ≤ self.new.compared }
         ensures compared { self.new.compared ≤ self.old.compared + bucket_count (bucket_of vid mac) self.old.entries }
+        ensures bits { ComparesByBits self.old self.new }
     {
         match find_in(
             &self.slots,
@@ -158,6 +159,7 @@ impl SharedTables {
             ComesTo (record self.old { compared = self.new.compared }) self.new span (record { vid = vid; mac = mac.now; place = place.now; last = last }) result }
         ensures counted { self.old.compared ≤ self.new.compared }
         ensures compared { self.new.compared ≤ self.old.compared + bucket_count (bucket_of vid mac.now) self.old.entries }
+        ensures bits { ComparesByBits self.old self.new }
         ensures some_time { 0 < span_of (rule_at self.old.rules vid) }
     {
         match find_in(

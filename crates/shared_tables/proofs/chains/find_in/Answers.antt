@@ -2,12 +2,12 @@ use Rattle.std.proofs.Common.{arith, ◌≡◌, ◌≢◌, ℕ, ◌+◌, ◌-◌
 use Rattle.std.specs.Int.{bit_at}
 use Rattle.shared_tables.specs.declared.forest.Target.{Target}
 use Rattle.shared_tables.specs.declared.forest.Target.TheVariants as target
-use Rattle.shared_tables.specs.Bucket.{key_of}
+use Rattle.shared_tables.specs.Bucket.{key_of, IsKey}
 use Rattle.shared_tables.specs.Pool.{Held, entry_at, IfHeld}
 use Rattle.shared_tables.specs.Forest.{key_in, PartedAt}
 use Rattle.shared_tables.specs.Woods.{IsFork, target_in, target_at, child_of}
 use Rattle.shared_tables.proofs.ForestLemmas.{leaf_there, fork_told, no_fork_told}
-use Rattle.shared_tables.proofs.Walk.{Walks, walk_starts, walk_on, walk_few, walk_none, walk_leaf, walk_fork, arrives_held, arrives_lacks, arrives_belongs, walk_still}
+use Rattle.shared_tables.proofs.Walk.{Walks, walk_starts, walk_on, walk_few, walk_short, walk_none, walk_leaf, walk_fork, arrives_held, arrives_lacks, arrives_belongs, walk_still}
 use Rattle.shared_tables.proofs.chains.find_in.Goals as goal
 
 pub loop-word-init : goal.loop-word-init
@@ -33,7 +33,7 @@ loop-word-preserved c =
     let es = c.args.slots.now.entries in let w = c.args.forest.now in let was = c.args.compared.now.total in let now = c.loop-word.compared.total in let word = c.loop-word.word in
     let m = (word - 65536) / 64 in let b = (word - 65536) % 64 in
     let at = subst (Walks es w c.args.vid c.args.mac was now) (fork_told word (c.is_fork.ensures.0 c.loop-word-test.true)) c.loop-word.invariant in
-    let to = walk_on es w c.args.vid c.args.mac was now m b at in
+    let to = walk_on es w c.args.vid c.args.mac was c.requires.forest now m b at in
     let side : c.side.result ≡ bit_at (key_of c.args.vid c.args.mac) b = c.side.ensures.value ∙ ap (λ k. bit_at k c.bit_in.result) c.key-key.ensures.value ∙ ap (bit_at (key_of c.args.vid c.args.mac)) c.bit_in.ensures in
     subst (λ n. Walks es w c.args.vid c.args.mac was n (target_in c.next-word.result)) (sym c.next-word.ensures.counted)
     (subst (Walks es w c.args.vid c.args.mac was (now + 1)) (ap (λ s. target_at w.words (child_of m s)) (sym side) ∙ ap (λ n. target_at w.words (child_of n c.side.result)) (sym c.fork_in.ensures) ∙ sym c.next-word.ensures.target) to)
@@ -52,6 +52,11 @@ differs-requires c =
     let a = walk_leaf es w c.args.vid c.args.mac was now c.in-Leaf.number c.requires.forest (subst (Walks es w c.args.vid c.args.mac was now) leaf c.loop-word.invariant) in
     let held = arrives_held es w c.args.vid c.args.mac was c.in-Leaf.number a in
     record { in_pool = held.in_pool; held = held.held }
+
+pub returns-in-None-clause-bits : goal.returns-in-None-clause-bits
+returns-in-None-clause-bits c =
+    let es = c.args.slots.now.entries in let w = c.args.forest.now in let was = c.args.compared.now.total in let now = c.loop-word.compared.total in
+    omega (arith, c.in-None.ensures.counted, walk_short es w c.args.vid c.args.mac was now (target_in c.loop-word.word) c.requires.forest c.loop-word.invariant)
 
 pub returns-in-None-clause-compared : goal.returns-in-None-clause-compared
 returns-in-None-clause-compared c =
@@ -75,6 +80,11 @@ returns-in-Some-clause-found c =
     let parted = subst (λ k. PartedAt (entry_at es slot) k c.in-Some.bit) c.key-key.ensures.value c.in-Some.ensures.bit in
     (arrives_lacks es w c.args.vid c.args.mac was slot a (apart_key (entry_at es slot) c.args.vid c.args.mac c.in-Some.bit parted.1), arrives_belongs es w c.args.vid c.args.mac was slot a, parted)
 
+pub returns-in-Some-clause-bits : goal.returns-in-Some-clause-bits
+returns-in-Some-clause-bits c =
+    let es = c.args.slots.now.entries in let w = c.args.forest.now in let was = c.args.compared.now.total in let now = c.loop-word.compared.total in
+    omega (arith, c.in-Some.ensures.counted, walk_short es w c.args.vid c.args.mac was now (target_in c.loop-word.word) c.requires.forest c.loop-word.invariant)
+
 pub returns-in-Some-clause-compared : goal.returns-in-Some-clause-compared
 returns-in-Some-clause-compared c =
     let es = c.args.slots.now.entries in let w = c.args.forest.now in let was = c.args.compared.now.total in let now = c.loop-word.compared.total in let here = target_in c.loop-word.word in
@@ -97,4 +107,6 @@ returns-in_default c =
       found = (let none = walk_none es w c.args.vid c.args.mac was now c.requires.forest at in (none.0, none.1, tt));
       counted = c.loop-word.invariant.counted;
       compared = omega (arith, walk_still es w c.args.vid c.args.mac was now c.requires.forest at);
+      bits = omega (arith, walk_still es w c.args.vid c.args.mac was now c.requires.forest at);
+      fits = subst IsKey c.key-key.ensures.value c.key-key.ensures.fits;
     }

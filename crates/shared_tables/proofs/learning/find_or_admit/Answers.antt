@@ -14,4 +14,5 @@ returns-in_default c = record {
       (λ q. c.in_default.not-Entered q) c.find_or_enter-outcome.ensures.outcome;
   counted = c.find_or_enter-outcome.ensures.counted;
   compared = c.find_or_enter-outcome.ensures.compared;
+  bits = c.find_or_enter-outcome.ensures.bits;
 }

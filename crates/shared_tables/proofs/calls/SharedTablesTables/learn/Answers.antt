@@ -7,20 +7,20 @@ pub returns-in-Held : goal.returns-in-Held
 returns-in-Held c =
     let old = c.args.self.now in let b = c.begin.new.self in let f = c.find_or_admit.new.tables in let v = c.args.vid in let mac = c.args.mac in let now = c.args.now in
     let found = c.in-Held.ensures.outcome in
-    let k = finds old b f now v mac c.in-Held.slot _ c.begin.ensures.after c.begin.ensures.orderly found.2 c.in-Held.ensures.counted c.in-Held.ensures.compared found.0 found.1 in
+    let k = finds old b f now v mac c.in-Held.slot _ c.begin.ensures.after c.begin.ensures.orderly found.2 c.in-Held.ensures.counted c.in-Held.ensures.compared c.in-Held.ensures.bits found.0 found.1 in
     let l = learns_again old f c.relearn.new.tables now v c.requires.time c.requires.has mac c.args.place c.in-Held.slot c.relearn.result k c.relearn.ensures in
-    record { answer = l.answers; after = l.after; moment = l.left.left.moment; calls = l.left.left.calls; pool = l.left.left.pool; compared = l.left.compared; visited = l.visited; known = l.known; comparisons_stay_counted = l.left.counted; visits_stay_counted = l.left.left.counted; paid = l.left.left.paid }
+    record { answer = l.answers; after = l.after; moment = l.left.left.moment; calls = l.left.left.calls; pool = l.left.left.pool; compared = l.left.compared; compared_by_bits = l.left.bits; visited = l.visited; known = l.known; comparisons_stay_counted = l.left.counted; visits_stay_counted = l.left.left.counted; paid = l.left.left.paid }
 
 pub returns-in-Entered : goal.returns-in-Entered
 returns-in-Entered c =
     let old = c.args.self.now in let b = c.begin.new.self in let new = c.find_or_admit.new.tables in let v = c.args.vid in let mac = c.args.mac in let now = c.args.now in
     let l = learns_new old (record c.begin.new.self { compared = c.find_or_admit.new.tables.compared }) new now v c.requires.time c.requires.has mac c.args.place true true refl
-    (misses old b (record c.begin.new.self { compared = c.find_or_admit.new.tables.compared }) now v mac _ c.begin.ensures.after c.begin.ensures.orderly refl c.in-Entered.ensures.counted c.in-Entered.ensures.compared c.in-Entered.ensures.outcome.0) c.in-Entered.ensures.outcome.1 in
-    record { answer = l.answers; after = l.after; moment = l.left.left.moment; calls = l.left.left.calls; pool = l.left.left.pool; compared = l.left.compared; visited = l.visited; known = l.known; comparisons_stay_counted = l.left.counted; visits_stay_counted = l.left.left.counted; paid = l.left.left.paid }
+    (misses old b (record c.begin.new.self { compared = c.find_or_admit.new.tables.compared }) now v mac _ c.begin.ensures.after c.begin.ensures.orderly refl c.in-Entered.ensures.counted c.in-Entered.ensures.compared c.in-Entered.ensures.bits c.in-Entered.ensures.outcome.0) c.in-Entered.ensures.outcome.1 in
+    record { answer = l.answers; after = l.after; moment = l.left.left.moment; calls = l.left.left.calls; pool = l.left.left.pool; compared = l.left.compared; compared_by_bits = l.left.bits; visited = l.visited; known = l.known; comparisons_stay_counted = l.left.counted; visits_stay_counted = l.left.left.counted; paid = l.left.left.paid }
 
 pub returns-in-Full : goal.returns-in-Full
 returns-in-Full c =
     let old = c.args.self.now in let b = c.begin.new.self in let new = c.find_or_admit.new.tables in let v = c.args.vid in let mac = c.args.mac in let now = c.args.now in
     let l = learns_new old (record c.begin.new.self { compared = c.find_or_admit.new.tables.compared }) new now v c.requires.time c.requires.has mac c.args.place false false refl
-    (misses old b (record c.begin.new.self { compared = c.find_or_admit.new.tables.compared }) now v mac _ c.begin.ensures.after c.begin.ensures.orderly refl c.in-Full.ensures.counted c.in-Full.ensures.compared c.in-Full.ensures.outcome.0) c.in-Full.ensures.outcome.1 in
-    record { answer = l.answers; after = l.after; moment = l.left.left.moment; calls = l.left.left.calls; pool = l.left.left.pool; compared = l.left.compared; visited = l.visited; known = l.known; comparisons_stay_counted = l.left.counted; visits_stay_counted = l.left.left.counted; paid = l.left.left.paid }
+    (misses old b (record c.begin.new.self { compared = c.find_or_admit.new.tables.compared }) now v mac _ c.begin.ensures.after c.begin.ensures.orderly refl c.in-Full.ensures.counted c.in-Full.ensures.compared c.in-Full.ensures.bits c.in-Full.ensures.outcome.0) c.in-Full.ensures.outcome.1 in
+    record { answer = l.answers; after = l.after; moment = l.left.left.moment; calls = l.left.left.calls; pool = l.left.left.pool; compared = l.left.compared; compared_by_bits = l.left.bits; visited = l.visited; known = l.known; comparisons_stay_counted = l.left.counted; visits_stay_counted = l.left.left.counted; paid = l.left.left.paid }

@@ -1,7 +1,7 @@
 use Rattle.std.proofs.Common.{◌+◌, ◌<◌, ◌≤◌, true, false, IsSome, sym, subst}
 use Rattle.shared_tables.specs.Pool.{entry_at, IfHeld}
 use Rattle.shared_tables.specs.Threads.{IsHeld}
-use Rattle.shared_tables.specs.Bucket.{bucket_of}
+use Rattle.shared_tables.specs.Bucket.{bucket_of, key_bits}
 use Rattle.shared_tables.specs.Shared.{Shared, rule_at, span_of, bucket_count}
 use Rattle.shared_tables.specs.Whole.{seen}
 use Rattle.shared_tables.proofs.Admissions.{some_span, outcome_for, seen_found, share_there}
@@ -20,6 +20,7 @@ returns-in-At c =
       );
       counted = subst (λ (w : Shared). w.compared ≤ c.find_in.new.compared.total) c.self.view_is c.in-At.ensures.counted;
       compared = subst (λ (w : Shared). c.find_in.new.compared.total ≤ w.compared + bucket_count (bucket_of c.args.vid c.args.mac.now) w.entries) c.self.view_is c.in-At.ensures.compared;
+      bits = subst (λ (w : Shared). c.find_in.new.compared.total ≤ w.compared + (key_bits + 1)) c.self.view_is c.in-At.ensures.bits;
       some_time = subst (λ (w : Shared). 0 < span_of (rule_at w.rules c.args.vid)) c.self.view_is (some_span i.slots i.shares.items i.moment c.args.vid c.self.invariant.sound k.share k.here);
     }
 
@@ -42,6 +43,9 @@ returns-after-comes-clause-counted c = subst (λ (w : Shared). w.compared ≤ c.
 
 pub returns-after-comes-clause-compared : goal.returns-after-comes-clause-compared
 returns-after-comes-clause-compared c = subst (λ (w : Shared). c.find_in.new.compared.total ≤ w.compared + bucket_count (bucket_of c.args.vid c.args.mac.now) w.entries) c.self.view_is c.in-Missing.ensures.compared
+
+pub returns-after-comes-clause-bits : goal.returns-after-comes-clause-bits
+returns-after-comes-clause-bits c = subst (λ (w : Shared). c.find_in.new.compared.total ≤ w.compared + (key_bits + 1)) c.self.view_is c.in-Missing.ensures.bits
 
 pub returns-after-comes-clause-some_time : goal.returns-after-comes-clause-some_time
 returns-after-comes-clause-some_time c =

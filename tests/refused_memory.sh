@@ -2,7 +2,8 @@
 # Where a call needs memory and is refused it, it answers just that, and what it was to extend is as before: each request for
 # memory of the calls below is refused in turn. One program, crates/refused_memory, is built for all of them. It makes a call
 # behind so many other requests, while its request 500 is refused: so the refused request goes from behind the call's last
-# one to its first one, as the others become more.
+# one to its first one, as the others become more. An input of a capture asks for room to read ahead: where it is refused
+# that, it reads a block alone, and the call is done.
 #
 #     tests/refused_memory.sh table    prints how many requests each call makes, as docs/PROVED.md has it
 #     tests/refused_memory.sh count    counts them anew, and prints what the list below has to be
@@ -18,7 +19,8 @@ status=0
 refused=500
 
 # Each call, and how many requests it makes; in front of these come those of another call, and so many more, for what the
-# call is given. Those of none come first of all; they aren't refused here.
+# call is given. Those of none come first of all; they aren't refused here. Where not each refusal is answered as one, all
+# answers stand behind, from that behind the last request to that of the first.
 calls="
 none 1 start 0
 line_of 120 none 0
@@ -31,6 +33,7 @@ put_record 1 none 1
 Source 1 none 0
 Timeline 3 none 0
 classic_of 4 none 0
+CaptureInput 4 none 0 1 done 1 memory 1 done 2 memory
 read_text 1 none 0
 ListTables 3 none 0
 SharedTables 3 none 0
@@ -54,9 +57,9 @@ fail() {
 
 # total NAME: the requests up to the last one of a call
 total() {
-    local name made first more
+    local name made first more answers
     [ "$1" != start ] || { echo 0; return; }
-    read -r name made first more < <(grep "^$1 " <<<"$calls")
+    read -r name made first more answers < <(grep "^$1 " <<<"$calls")
     echo $((made + more + $(total "$first")))
 }
 
@@ -98,10 +101,10 @@ answers() {
 
 # count: the list of calls as it has to be
 count() {
-    local name made first more granted
-    while read -r name made first more; do put_case "$name" 0; done < <(grep . <<<"$calls")
+    local name made first more answers granted
+    while read -r name made first more answers; do put_case "$name" 0; done < <(grep . <<<"$calls")
     run_cases
-    while read -r name made first more; do
+    while read -r name made first more answers; do
         granted=$(said "$name" 0)
         case $granted in
             "done "*) made=$((refused - 1 - ${granted#done } - more - $(total "$first"))) ;;
@@ -117,19 +120,19 @@ if [ "$mode" = count ]; then
     exit "$status"
 fi
 
-while read -r name made first more; do
+while read -r name made first more answers; do
     last=$((refused - 1 - $(total "$name")))
     [ "$name" != none ] || made=0
     for n in $(seq "$last" $((last + made))); do put_case "$name" "$n"; done
 done < <(grep . <<<"$calls")
 run_cases
 
-while read -r name made first more; do
+while read -r name made first more answers; do
     # With the refused request right behind the call's last one it is done, and no request is granted behind it.
     last=$((refused - 1 - $(total "$name")))
     [ "$(said "$name" "$last")" = "done 0" ] || fail "$name behind $last requests answers '$(said "$name" "$last")'"
     [ "$name" != none ] || continue
-    wanted="1 done $made memory"
+    wanted=${answers:-1 done $made memory}
     [ "$(answers "$name")" = "$wanted" ] || fail "$name answers '$(answers "$name")' in place of '$wanted'"
     [ "$mode" != table ] || echo "| \`$name\` | $made |"
 done < <(grep . <<<"$calls")

@@ -1,5 +1,5 @@
 //! What was read of an input and isn't used yet.
-ghost use Rattle.std.specs.Prelude.{◌≡◌, ◌≤◌, ◌<◌, ◌+◌, ◌-◌, ℕ, [], drop, length, max, slice_range, take, IfOk, OnErr, OnOk};
+ghost use Rattle.std.specs.Prelude.{◌≡◌, ◌≤◌, ◌<◌, ◌+◌, ◌-◌, ℕ, [], drop, length, max, slice_range, take, vec_capacity, IfOk, OnErr, OnOk};
 ghost use Rattle.std.specs.Io.{ReadsAtMost};
 ghost use Rattle.std.specs.Io.KnownBytes.{Consumes, IsAtEnd, Keeps, ReadConsumes};
 ghost use Rattle.pcap_stream.specs.Counts.{CountsFaults, GoesOnBy};
@@ -69,13 +69,14 @@ fn move_front(room: &mut [u8], from: usize, to: usize) -> usize
 }
 
 /// Makes a room as long as `most` where it is shorter, or, where memory for that is refused, as long as `wanted`. It says up
-/// to where it may be filled.
+/// to where it may be filled. `AllocError`: memory for `wanted` was refused too.
 fn make_room(room: &mut Vec<u8>, wanted: usize, most: usize) -> Result<usize, AllocError>
     requires { wanted ≤ most }
     ensures end { IfOk result (λ end. (wanted ≤ end) × (end ≤ most) × (end ≤ length room.new.items)) }
     ensures most { length room.new.items ≤ max (length room.old.items) most }
     ensures least { length room.old.items ≤ length room.new.items }
     ensures front { (n : ℕ) → n ≤ length room.old.items → take n room.new.items ≡ take n room.old.items }
+    ensures refused { OnErr result (vec_capacity room.old < wanted) }
 {
     if lengthen(room, most).is_ok() {
         return Ok(most);

@@ -1,5 +1,5 @@
 //! Rooms that grow.
-ghost use Rattle.std.specs.Prelude.{◌≡◌, ◌≤◌, ℕ, length, max, take, OnErr, OnOk};
+ghost use Rattle.std.specs.Prelude.{◌≡◌, ◌≤◌, ◌<◌, ℕ, length, max, take, vec_capacity, OnErr, OnOk};
 
 use std::alloc::AllocError;
 
@@ -8,6 +8,8 @@ pub fn lengthen(room: &mut Vec<u8>, size: usize) -> Result<(), AllocError>
     ensures length { OnOk result (length room.new.items ≡ max (length room.old.items) size) }
     ensures front { (n : ℕ) → n ≤ length room.old.items → take n room.new.items ≡ take n room.old.items }
     ensures err { OnErr result (room.new.items ≡ room.old.items) }
+    ensures refused { OnErr result (vec_capacity room.old < size) }
+    ensures capacity { OnErr result (vec_capacity room.new ≡ vec_capacity room.old) }
 {
     let have = room.len();
     if size > have {

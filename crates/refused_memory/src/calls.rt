@@ -37,6 +37,12 @@ fn make_of_capture(alloc: Global, name: &str, count: u16) -> Result<Answer, Fail
             inputs::two_interfaces(),
             inputs::capture(),
         )),
+        "CaptureInput" => Ok(captures::adapted(
+            alloc,
+            count,
+            inputs::two_interfaces(),
+            inputs::capture(),
+        )),
         "read_text" => Ok(captures::read(alloc, count, inputs::capture())),
         _ => make_opened(alloc, name, count),
     }

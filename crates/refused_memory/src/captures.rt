@@ -2,8 +2,8 @@
 use crate::answer::Answer;
 use dissector::{TextFault, read_text};
 use pcap_io::{put_header, put_record};
-use pcap_stream::{Source, StdInput};
-use pcapng_input::{PcapngError, Selection, classic_of};
+use pcap_stream::{DeviceFault, Input, Source, StdInput};
+use pcapng_input::{CaptureInput, PcapngError, Selection, classic_of};
 use std::alloc::Global;
 use std::test::Fail;
 use test_inputs::memory::request;
@@ -55,6 +55,39 @@ pub(crate) fn classic(alloc: Global, count: u16, text: &[u8], expected: &[u8]) -
     match classic_of(alloc, Selection::Number(1), text) {
         Ok(capture) => Answer::text(capture.as_slice(), expected),
         Err(error) => Answer::of(false, matches!(error, PcapngError::OutOfMemory)),
+    }
+}
+
+/// How many octets of a capture that is told are looked at.
+const TOLD: usize = 64;
+
+/// Puts the octets that an input tells, and says how many there are once they end. It makes no request itself.
+fn tell<R: Input>(input: &mut R, told: &mut [u8; TOLD]) -> Result<usize, DeviceFault> {
+    let mut at = 0;
+    for _read in 0..TOLD {
+        let Some(room) = told.get_mut(at..) else {
+            return Ok(at);
+        };
+        let n = input.read(room)?;
+        if n == 0 {
+            return Ok(at);
+        }
+        at = at.saturating_add(n);
+    }
+    Ok(at)
+}
+
+/// Reads the packets of the second interface as a capture, piece by piece.
+pub(crate) fn adapted(alloc: Global, count: u16, text: &[u8], expected: &[u8]) -> Answer {
+    let mut told = [0; TOLD];
+    request(alloc, count);
+    let input = StdInput::new(text);
+    let Ok(mut input) = CaptureInput::new(alloc, input, Selection::Number(1), 9) else {
+        return Answer::Memory;
+    };
+    match tell(&mut input, &mut told) {
+        Ok(n) => Answer::of(told.get(..n) == Some(expected), false),
+        Err(DeviceFault) => Answer::of(false, input.fault().is_none()),
     }
 }
 

@@ -14,7 +14,7 @@ use std::io::{self, BufReader, Input, Read};
 use std::rt::Files;
 use timeline::Tap;
 
-/// How many octets of a capture are read at once where fewer are asked for, as for a block of pcapng.
+/// How many octets are read at once where fewer are asked for, as for the first ones of a capture, by which its format is told.
 const BLOCK: usize = 32_768;
 
 /// How many reads are made of a file that is read whole, and of a capture, at most.

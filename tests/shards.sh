@@ -81,7 +81,7 @@ in_pairs --settings examples/every_key.toml --changes examples/every_change.toml
 
 # ---- 256 segments in four parts
 
-python3 benchmarks/many_tenants.py "$folder" 256 4 4 >/dev/null || complain "benchmarks/many_tenants.py: status $?"
+python3 bench/many_tenants.py "$folder" 256 4 4 >/dev/null || complain "bench/many_tenants.py: status $?"
 many=(--settings "$folder/settings.toml" --underlay "$folder/underlay.pcap" "$folder/port1.pcap" "$folder/port2.pcap")
 rm -rf "$folder/whole"
 runs whole "" "${many[@]}"

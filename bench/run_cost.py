@@ -1,7 +1,7 @@
 #!/usr/bin/env python3
 """What `tep run` costs: instructions and system calls an event, and the most memory. It is no test.
 
-    benchmarks/run_cost.py [LOAD ..]     the loads of loads.py, by default all
+    bench/run_cost.py [LOAD ..]     the loads of loads.py, by default all
 
 Instructions are those of the events between a run of 10,000 and one of 20,000, as valgrind's callgrind counts them: they
 don't depend on what else the machine does. Memory is told of 20,000 and of 200,000 events. System calls are counted by

@@ -1,7 +1,7 @@
 #!/usr/bin/env bash
 # How many frames a second `tep run` takes on a host of many tenants: 64 segments of 1,000 addresses, or SEGMENTS of
 # ADDRESSES. It is no test: time is promised nowhere.
-#     benchmarks/many_tenants.sh [SEGMENTS [ADDRESSES [ROUNDS]]]
+#     bench/many_tenants.sh [SEGMENTS [ADDRESSES [ROUNDS]]]
 # TEP names another program than ./tep.
 set -eu
 here=$(cd "$(dirname "$0")" && pwd)

@@ -3,7 +3,7 @@
 # long a shard takes to which nothing comes: that part doesn't shrink. The shards take the digests of their captures each by
 # itself, and once more all are lent the same. 256 segments of 256 addresses, or SEGMENTS of ADDRESSES. It is no test: time is
 # promised nowhere.
-#     benchmarks/shards.sh [SEGMENTS [ADDRESSES [ROUNDS]]]
+#     bench/shards.sh [SEGMENTS [ADDRESSES [ROUNDS]]]
 # TEP names another program than ./tep.
 set -eu
 here=$(cd "$(dirname "$0")" && pwd)

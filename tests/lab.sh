@@ -1,0 +1,43 @@
+#!/usr/bin/env bash
+# The captures of examples/lab are what its README says, a run on each decides what was worked out by hand from who sent what, and
+# what a run sends is what the kernel sent. With LAB=1 it makes the captures anew and tries those; that needs root, ip, bridge,
+# ethtool, tcpdump and dumpcap.
+set -u
+cd "$(dirname "$0")/.." || exit 1
+folder=$(mktemp -d)
+trap 'rm -rf "$folder"' EXIT
+lab=examples/lab
+captures=$lab
+status=0
+
+# complain TEXT: a test has failed
+complain() {
+    echo "tests/lab.sh: $*"
+    status=1
+}
+
+# decides DECISIONS SETTINGS CAPTURES UNDERLAY PORT1 PORT2: a run on captures of a folder decides what DECISIONS says, without the
+# numbers and the moments of events
+decides() {
+    local out=$folder/out/$3/$2
+    mkdir -p "$out"
+    ./tep run --settings "$lab/$2" --out "$out" --underlay "$captures/$3/$4" "$captures/$3/$5" "$captures/$3/$6" ||
+        complain "the run on $3 with $2 ends with $?"
+    diff <(sed -E 's/ *#.*//' "$lab/$3/$1") <(cut -d ' ' -f 3- "$out/decisions.txt") || complain "$3 with $2: other decisions"
+}
+
+if [ -n "${LAB:-}" ]; then
+    captures=$folder/lab
+    mkdir "$captures"
+    "$lab/lab.sh" "$captures" || complain "$lab/lab.sh ends with $?"
+fi
+for case in come_in both offloads other_vni port_8472; do
+    decides decisions.txt settings.toml "$case" underlay.pcap port1.pcap port2.pcap
+done
+mv "$folder/out/both/settings.toml" "$folder/out/both/apart"
+decides decisions.txt settings.toml both 'all.pcapng#underlay' 'all.pcapng#swp1' 'all.pcapng#swp2'
+diff -r "$folder/out/both/apart" "$folder/out/both/settings.toml" || complain "dumpcap and tcpdump tell different things"
+decides decisions_vni_5001.txt vni_5001.toml other_vni underlay.pcap port1.pcap port2.pcap
+decides decisions_port_8472.txt port_8472.toml port_8472 underlay.pcap port1.pcap port2.pcap
+PYTHONPATH=examples python3 -B tests/lab.py "$captures" "$folder/out/come_in/settings.toml" || complain "the captures are others"
+exit "$status"

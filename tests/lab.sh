@@ -1,7 +1,7 @@
 #!/usr/bin/env bash
-# The captures of examples/lab are what its README says, a run on each decides what was worked out by hand from who sent what, and
-# what a run sends is what the kernel sent. With LAB=1 it makes the captures anew and tries those; that needs root, ip, bridge,
-# ethtool, tcpdump and dumpcap.
+# The captures of examples/lab are what its README says, a run on each decides what was worked out by hand from who sent what,
+# and what a run sends is what the kernel sent. With LAB=1 it makes the captures anew and tries those; that needs root, ip,
+# bridge, ethtool, tcpdump and dumpcap.
 set -u
 cd "$(dirname "$0")/.." || exit 1
 folder=$(mktemp -d)
@@ -16,8 +16,8 @@ complain() {
     status=1
 }
 
-# decides DECISIONS SETTINGS CAPTURES UNDERLAY PORT1 PORT2: a run on captures of a folder decides what DECISIONS says, without the
-# numbers and the moments of events
+# decides DECISIONS SETTINGS CAPTURES UNDERLAY PORT1 PORT2: a run on captures of a folder decides what DECISIONS says, without
+# the numbers and the moments of events
 decides() {
     local out=$folder/out/$3/$2
     mkdir -p "$out"
@@ -39,5 +39,6 @@ decides decisions.txt settings.toml both 'all.pcapng#underlay' 'all.pcapng#swp1'
 diff -r "$folder/out/both/apart" "$folder/out/both/settings.toml" || complain "dumpcap and tcpdump tell different things"
 decides decisions_vni_5001.txt vni_5001.toml other_vni underlay.pcap port1.pcap port2.pcap
 decides decisions_port_8472.txt port_8472.toml port_8472 underlay.pcap port1.pcap port2.pcap
-PYTHONPATH=examples python3 -B tests/lab.py "$captures" "$folder/out/come_in/settings.toml" || complain "the captures are others"
+PYTHONPATH=examples python3 -B tests/lab.py "$captures" "$folder/out/come_in/settings.toml" ||
+    complain "the captures are others"
 exit "$status"

@@ -1,7 +1,7 @@
 #!/usr/bin/env bash
 # Makes the captures beside it: a Linux bridge with a VXLAN device, two hosts behind it and one behind a peer, each in a network
-# namespace, and what captures have of them where all is right, and where something is wrong. It needs root, ip, bridge, ethtool,
-# tcpdump, dumpcap and Python. Its namespaces end with it.
+# namespace, and what captures have of them where all is right, and where something is wrong. It needs root, ip, bridge,
+# ethtool, tcpdump, dumpcap and Python. Its namespaces end with it.
 #     lab.sh FOLDER
 set -eu
 here=$(cd "$(dirname "$0")" && pwd)

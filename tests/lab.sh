@@ -29,7 +29,7 @@ decides() {
 if [ -n "${LAB:-}" ]; then
     captures=$folder/lab
     mkdir "$captures"
-    "$lab/lab.sh" "$captures" || complain "$lab/lab.sh ends with $?"
+    "$lab/lab.sh" "$captures" || { complain "$lab/lab.sh ends with $?"; exit 1; }
 fi
 for case in come_in both offloads other_vni port_8472; do
     decides decisions.txt settings.toml "$case" underlay.pcap port1.pcap port2.pcap

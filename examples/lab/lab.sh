@@ -8,6 +8,9 @@ here=$(cd "$(dirname "$0")" && pwd)
 
 # Each case has mounts and namespaces of its own.
 if [ $# -eq 1 ]; then
+    for tool in ip bridge ethtool tcpdump dumpcap python3; do
+        command -v "$tool" >/dev/null || { echo "lab.sh: there is no $tool" >&2; exit 1; }
+    done
     for case in come_in offloads other_vni port_8472; do
         mkdir -p "$1/$case"
         unshare -n -m "$here/lab.sh" "$1/$case" "$case"
@@ -40,7 +43,7 @@ tunnel() {
     ip -n "$1" addr add "192.0.2.$2/24" dev underlay
     ip -n "$1" neigh replace "192.0.2.$far" lladdr "02:00:00:00:aa:0$far" dev underlay nud permanent
     # shellcheck disable=SC2086
-    ip -n "$1" link add vxlan type vxlan id "$3" $port local "192.0.2.$2" dev underlay ttl 64 udpcsum 2>/dev/null
+    ip -n "$1" link add vxlan type vxlan id "$3" $port local "192.0.2.$2" dev underlay ttl 64 udpcsum
     ip -n "$1" link set vxlan master br0 up
     bridge -n "$1" fdb append 00:00:00:00:00:00 dev vxlan dst "192.0.2.$far"
 }
@@ -79,6 +82,7 @@ capture() {
 }
 links=(swp1=port1 swp2=port2 underlay=underlay)
 capturing=()
+trap 'kill "${capturing[@]}" 2>/dev/null' EXIT
 for link in "${links[@]}"; do
     capture tcpdump -i "${link%=*}" -Q in -U -s 0 --time-stamp-precision=nano -w "${link#*=}.pcap" &
     capturing+=($!)
@@ -108,6 +112,7 @@ python3 -B "$here/lab.py" send "${sent[@]}"
 sleep 1
 kill "${capturing[@]}"
 wait || true
+trap - EXIT
 if [ "$case" = come_in ]; then
     python3 -B "$here/lab.py" unnamed ../both/all.pcapng
     chmod a+r ../both/all.pcapng

@@ -1,8 +1,9 @@
 -- What holds of the slots, the trees and the segments together holds when an entry has come.
-use Rattle.std.proofs.Common.{◌≡◌, ℕ, ◌+◌, ◌<◌, Bool, List, length, map, set, Option, Some, None, IfSome, is_none, refl, sym, ap, ◌∙◌, subst}
+use Rattle.std.proofs.Common.{◌≡◌, ℕ, ◌+◌, ◌<◌, Bool, List, length, map, set, Option, Some, None, is_none, refl, sym, ap, ◌∙◌, subst}
 use Rattle.std.specs.Option.{option_map}
 use Rattle.shared_tables.specs.declared.share.Share.{Share}
 use Rattle.shared_tables.specs.declared.admission.Newcomer.{Newcomer}
+use Rattle.shared_tables.specs.declared.chains.Beside.{Beside}
 use Rattle.shared_tables.specs.declared.forest.Target.TheVariants as target
 use Rattle.shared_tables.specs.Bucket.{key_of, chain_of}
 use Rattle.shared_tables.specs.Pool.{Pool, Held, entry_at, alone, free_count}
@@ -11,7 +12,7 @@ use Rattle.shared_tables.specs.Shared.{rule_at, kept_count, HasRoom, Enters, lin
 use Rattle.shared_tables.specs.Sound.{share_at, share_with, share_written, shares_with, line_at, last_in, rule_of, CountsMore, HasEnds}
 use Rattle.shared_tables.specs.Woods.{Woods, target_at, planted}
 use Rattle.shared_tables.specs.Trees.{Tree}
-use Rattle.shared_tables.specs.Forest.{IsRooted, LeadsTo, Belongs, PartedAt, IsForest}
+use Rattle.shared_tables.specs.Forest.{IsRooted, LeadsTo, Belongs, BelongsBeside, IsForest}
 use Rattle.shared_tables.specs.Whole.{IsWhole, seen}
 use Rattle.shared_tables.specs.Admission.{held_of, MayCome, MayAttach, Attaches}
 use Rattle.shared_tables.proofs.Buckets.{chain_small}
@@ -56,9 +57,10 @@ module _ (pool : Pool) (w : Woods) (shares : List (Option Share)) (moment : ℕ)
         (holds_more es s e (line_at own.share fixed).last lt (holds_last (line_key n.vid fixed) refl pool.lines es _ _ (lines.list fixed) (lines.thread fixed)))
 
     -- the leaf beside which it belongs is there
-    pub may_attach : (o : Option ℕ) → Belongs w.words (chain_of n.vid n.mac) (key_of n.vid n.mac) o → IfSome o (λ leaf. PartedAt (entry_at es leaf) (key_of n.vid n.mac) n.bit) → MayAttach w n o s
-    may_attach None b parts = tt
-    may_attach (Some leaf) b parts = (leaf_lt es w h.forest e s lt free leaf b, place_lt es w h.forest e s lt free leaf b, fork_lt es w h.forest e s lt free leaf b, parts.0)
+    pub may_attach : (o : Option Beside) → BelongsBeside es w.words (chain_of n.vid n.mac) (key_of n.vid n.mac) o → MayAttach w o s
+    may_attach None b = tt
+    may_attach (Some at) b =
+        (leaf_lt es w h.forest e s lt free at.leaf b.0, place_lt es w h.forest e s lt free at.leaf b.0, fork_lt es w h.forest e s lt free at.leaf b.0, b.1.0)
 
     -- a chain beside none of whose leaves it belongs has none
     no_leaves : (b : Belongs w.words (chain_of n.vid n.mac) (key_of n.vid n.mac) None) → target_at w.words (chain_of n.vid n.mac) ≡ target.Nothing
@@ -68,10 +70,10 @@ module _ (pool : Pool) (w : Woods) (shares : List (Option Share)) (moment : ℕ)
         from None r l = r
         from (Some t) r l = absurd l
 
-    attached : (w' : Woods) (o : Option ℕ) → Belongs w.words (chain_of n.vid n.mac) (key_of n.vid n.mac) o → IfSome o (λ leaf. PartedAt (entry_at es leaf) (key_of n.vid n.mac) n.bit) → Attaches w w' n o s
+    attached : (w' : Woods) (o : Option Beside) → BelongsBeside es w.words (chain_of n.vid n.mac) (key_of n.vid n.mac) o → Attaches w w' n o s
         → IsForest (set es s (Some e)) w'
-    attached w' None b parts a = subst (IsForest (set es s (Some e))) (sym (a ∙ ap (λ c. planted w c s) m.chain)) (plant_forest es w h.forest e s lt free (no_leaves b) m.fits)
-    attached w' (Some leaf) b parts a = subst (IsForest (set es s (Some e))) (sym a) (graft_forest es w h.forest e s lt free leaf b n.bit parts.0 parts.1 m.fits)
+    attached w' None b a = subst (IsForest (set es s (Some e))) (sym (a ∙ ap (λ c. planted w c s) m.chain)) (plant_forest es w h.forest e s lt free (no_leaves b) m.fits)
+    attached w' (Some at) b a = subst (IsForest (set es s (Some e))) (sym a) (graft_forest es w h.forest e s lt free at.leaf b.0 at.bit b.1.0 b.1.1 m.fits)
 
     module _ (pool' : Pool) (w' : Woods) (shares' : List (Option Share)) (fixed : Bool) (is_fixed : fixed ≡ is_none n.last)
         (entries_is : pool'.entries ≡ set es s (Some e)) (lines_is : pool'.lines ≡ pushed_back (set pool.lines s alone) (last_in (share_at shares n.vid) fixed) s)
@@ -85,7 +87,7 @@ module _ (pool : Pool) (w : Woods) (shares : List (Option Share)) (moment : ℕ)
       pub enter_whole : IsWhole pool' w' shares' moment
       enter_whole = record {
         sound = sound_at moment entries_is lines_are shares_are (enter_sound es pool.lines shares moment h.sound n.vid own.share own.here below e refl m.absent m.now s lt free);
-        forest = subst (λ xs. IsForest xs w') (sym entries_is) (attached w' n.beside m.beside m.parts a);
+        forest = subst (λ xs. IsForest xs w') (sym entries_is) (attached w' n.beside m.beside a);
       }
 
       pub enters : (calls compared : ℕ) → pool'.visited ≡ pool.visited → Enters (seen pool shares moment calls compared) (seen pool' shares' moment calls compared) e

@@ -1,5 +1,5 @@
 -- What holds of the trees and the entries together, and what follows.
-use Rattle.std.proofs.Common.{inl, inr, ◌⊎◌, ◌≡◌, ◌≢◌, ℕ, zero, suc, ◌+◌, ◌-◌, ◌*◌, ◌/◌, ◌%◌, ◌<◌, ◌≤◌, Bool, true, false, cond, List, [], ◌∷◌, ◌++◌, length, get_or, set, Option, Some, None, IsSome, nat_eq, nat_lt, refl, sym, ap, ◌∙◌, subst, arith}
+use Rattle.std.proofs.Common.{inl, inr, ◌⊎◌, ◌≡◌, ◌≢◌, ℕ, zero, suc, ◌+◌, ◌-◌, ◌*◌, ◌/◌, ◌%◌, ◌<◌, ◌≤◌, Bool, true, false, cond, List, [], ◌∷◌, ◌++◌, length, set, Option, Some, None, IsSome, nat_eq, nat_lt, refl, sym, ap, ◌∙◌, subst, arith}
 use Rattle.std.proofs.lemmas.List.{get_or-set_same, get_or-set_other, length-set, get_or_past}
 use Rattle.std.proofs.lemmas.List.Sums.{sum_by-set}
 use Rattle.std.proofs.lemmas.Bool.{cases_lt}
@@ -232,22 +232,6 @@ module _ (es : List (Option Held)) (words words' : List ℕ) (c s : ℕ) (o : Op
 
 -- ---- the forks that stand somewhere
 
--- a word's bit is one of a key
-bit_small : (word n b : ℕ) → target_in word ≡ target.Fork n b → b < 64
-unfolding target_in
-bit_small word n b e = go (nat_lt word 65536) (nat_eq word 4294967295) e
-  where
-    go : (x y : Bool) → cond x (target.Leaf word) (cond y target.Nothing (target.Fork ((word - 65536) / 64) ((word - 65536) % 64))) ≡ target.Fork n b → b < 64
-    go true y e = let bad : target.Leaf word ≡ target.Fork n b = e in cc
-    go false true e = let bad : target.Nothing ≡ target.Fork n b = e in cc
-    go false false e =
-        let p : target.Fork ((word - 65536) / 64) ((word - 65536) % 64) ≡ target.Fork n b = e in
-        let q : (word - 65536) % 64 ≡ b = cc in
-        omega (arith, q)
-
 module _ (es : List (Option Held)) (w : Woods) (h : IsForest es w) (p n b : ℕ) (here : target_at w.words p ≡ target.Fork n b) where
-  pub fork_bit : b < 64
-  fork_bit = bit_small (get_or w.words p 4294967295) n b here
-
   pub fork_there : n < length w.forks
   fork_there = (subst (StandsAt es w p) here (h.stands p)).1

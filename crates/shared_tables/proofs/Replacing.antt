@@ -1,11 +1,12 @@
 -- What holds of the slots, the trees and the segments together holds when an entry has come in place of another.
-use Rattle.std.proofs.Common.{inl, inr, ◌⊎◌, ◌≡◌, ◌≢◌, ℕ, ◌<◌, ◌≤◌, Bool, true, false, ◌&&◌, List, [], ◌∷◌, length, map, set, Option, Some, None, IfSome, IsSome, is_none, nat_eq, refl, sym, ap, ◌∙◌, subst, arith}
+use Rattle.std.proofs.Common.{inl, inr, ◌⊎◌, ◌≡◌, ◌≢◌, ℕ, ◌<◌, ◌≤◌, Bool, true, false, ◌&&◌, List, [], ◌∷◌, length, map, set, Option, Some, None, IsSome, is_none, nat_eq, refl, sym, ap, ◌∙◌, subst, arith}
 use Rattle.std.proofs.lemmas.List.{length-set, set-set}
 use Rattle.std.proofs.lemmas.List.Sums.{sum_by-set}
 use Rattle.std.specs.Option.{option_map}
 use Rattle.shared_tables.specs.declared.share.Share.{Share}
 use Rattle.shared_tables.specs.declared.links.Links.{Links}
 use Rattle.shared_tables.specs.declared.admission.Newcomer.{Newcomer}
+use Rattle.shared_tables.specs.declared.chains.Beside.{Beside}
 use Rattle.shared_tables.specs.Bucket.{key_of, chain_of}
 use Rattle.shared_tables.specs.Pool.{Pool, Held, entry_at, links_at, IfHeld, is_fixed_in, renewed, readdressed, vacancy}
 use Rattle.shared_tables.specs.Line.{is_on}
@@ -14,7 +15,7 @@ use Rattle.shared_tables.specs.Shared.{Shared, rule_at, kept_count, chain_key, H
 use Rattle.shared_tables.specs.Sound.{IsSound, IsLines, IsAged, share_at, shares_without, shares_moved, last_left, HasEndsLeft, line_at, rule_of}
 use Rattle.shared_tables.specs.Woods.{Woods, Uproots, MayGo}
 use Rattle.shared_tables.specs.Trees.{leaves}
-use Rattle.shared_tables.specs.Forest.{Belongs, PartedAt, IsForest}
+use Rattle.shared_tables.specs.Forest.{leaf_of, Belongs, BelongsBeside, PartedAt, IsForest}
 use Rattle.shared_tables.specs.Whole.{IsWhole, seen, Replaces}
 use Rattle.shared_tables.specs.Admission.{held_of, MayCome}
 use Rattle.shared_tables.proofs.Linked.{by_bool, equal}
@@ -143,18 +144,20 @@ module _ (pool : Pool) (w : Woods) (shares : List (Option Share)) (moment : ℕ)
         (λ no. m.absent i (subst (λ o. IfHeld o v n.mac) (entry_other es s i None (apart i s no)) held))
 
     -- another leaf keeps its key
-    still_parted : (o : Option ℕ) → o ≢ Some s → IfSome o (λ leaf. PartedAt (entry_at es leaf) (key_of v n.mac) n.bit) → IfSome o (λ leaf. PartedAt (entry_at (set es s None) leaf) (key_of v n.mac) n.bit)
-    still_parted None ne p = tt
-    still_parted (Some leaf) ne p = subst (λ (x : Option Held). PartedAt x (key_of v n.mac) n.bit) (sym (entry_other es s leaf None (λ q. ne (ap (λ i. Some i) q)))) p
+    still_beside : (o : Option Beside) → leaf_of o ≢ Some s → BelongsBeside es w.words (chain_of v n.mac) (key_of v n.mac) o → BelongsBeside (set es s None) w'.words (chain_of v n.mac) (key_of v n.mac) o
+    still_beside None ne b = uproot_belongs es w w' h.forest k.entry s k.at_slot uproots (chain_of v n.mac) (key_of v n.mac) (chain_small v n.mac) None ne b
+    still_beside (Some at) ne b = (
+      uproot_belongs es w w' h.forest k.entry s k.at_slot uproots (chain_of v n.mac) (key_of v n.mac) (chain_small v n.mac) (Some at.leaf) ne b.0,
+      subst (λ (x : Option Held). PartedAt x (key_of v n.mac) at.bit) (sym (entry_other es s at.leaf None (λ q. ne (ap (λ i. Some i) q)))) b.1,
+    )
 
-    pub dropped_may_come : n.beside ≢ Some s → MayCome pool'.entries w' moment n
+    pub dropped_may_come : leaf_of n.beside ≢ Some s → MayCome pool'.entries w' moment n
     dropped_may_come ne = record {
       chain = m.chain;
       fits = m.fits;
       absent = subst (λ xs. Lacks xs v n.mac) (sym entries_are) lacks;
       now = m.now;
-      beside = uproot_belongs es w w' h.forest k.entry s k.at_slot uproots (chain_of v n.mac) (key_of v n.mac) (chain_small v n.mac) n.beside ne m.beside;
-      parts = subst (λ xs. IfSome n.beside (λ leaf. PartedAt (entry_at xs leaf) (key_of v n.mac) n.bit)) (sym entries_are) (still_parted n.beside ne m.parts);
+      beside = subst (λ xs. BelongsBeside xs w'.words (chain_of v n.mac) (key_of v n.mac) n.beside) (sym entries_are) (still_beside n.beside ne m.beside);
     }
 
     pub dropped_replaces : (new : Shared) (calls compared : ℕ) → Enters (seen pool' shares' moment calls compared) new e → Replaces (seen pool shares moment calls compared) new s e
@@ -190,7 +193,7 @@ module _ (pool : Pool) (w : Woods) (shares : List (Option Share)) (moment : ℕ)
     pub again_ends : HasEndsLeft (share_at shares v) (is_fixed_in (entry_at pool'.entries s)) (is_none n.last) (links_at pool'.lines s)
     again_ends = renew_ends pool'.entries pool'.lines shares moment sound' v s k' n.place n.last m.now
 
-    module _ (beside : n.beside ≡ Some s) (pool'' : Pool) (shares'' : List (Option Share))
+    module _ (beside : leaf_of n.beside ≡ Some s) (pool'' : Pool) (shares'' : List (Option Share))
         (moved_is : pool'' ≡ moved pool' s n.place n.last (last_left (share_at shares v) (is_fixed_in (entry_at pool'.entries s)) (is_none n.last) (links_at pool'.lines s)))
         (shares_is : shares'' ≡ shares_moved shares v (is_fixed_in (entry_at pool'.entries s)) (is_none n.last) (links_at pool'.lines s) s) where
       final : pool''.entries ≡ set es s (Some e)
@@ -202,7 +205,11 @@ module _ (pool : Pool) (w : Woods) (shares : List (Option Share)) (moment : ℕ)
       c = chain_of v n.mac
 
       at_home : Belongs w.words c (key_of v n.mac) (Some s)
-      at_home = subst (Belongs w.words c (key_of v n.mac)) beside m.beside
+      at_home = from n.beside beside m.beside
+        where
+          from : (o : Option Beside) → leaf_of o ≡ Some s → BelongsBeside es w.words c (key_of v n.mac) o → Belongs w.words c (key_of v n.mac) (Some s)
+          from None q b = let bad : None ≡ Some s = q in cc
+          from (Some at) q b = subst (Belongs w.words c (key_of v n.mac)) q b.0
 
       same_chain : chain_of k.entry.vid k.entry.mac ≡ c
       same_chain =

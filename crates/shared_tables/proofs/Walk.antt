@@ -15,7 +15,7 @@ use Rattle.shared_tables.specs.Woods.{Woods, target_at, child_of}
 use Rattle.shared_tables.specs.Forest.{keys_of, key_in, leaves_of, IsRooted, AnyParted, IsChain, Belongs, IsForest}
 use Rattle.shared_tables.proofs.Buckets.{few_on_chain, chain_small}
 use Rattle.shared_tables.proofs.TreeLemmas.{some_leaf, by_side, at_zero, at_one, tree_there, descend_on, descend_own}
-use Rattle.shared_tables.proofs.ForestLemmas.{key_of_held, some_of_key, fork_bit, fork_there}
+use Rattle.shared_tables.proofs.ForestLemmas.{key_of_held, some_of_key, fork_there}
 use Rattle.shared_tables.proofs.Threaded.{in_entries}
 use Rattle.shared_tables.proofs.Ways.{Way, way_starts, way_left, way_right, way_few}
 
@@ -183,9 +183,6 @@ module _ (es : List (Option Held)) (w : Woods) (vid : ℕ) (mac : List ℕ) (was
 
 -- what a step at a fork reads is there
 module _ (es : List (Option Held)) (w : Woods) (vid : ℕ) (mac : List ℕ) (was now n b : ℕ) (h : IsForest es w) (k : Walks es w vid mac was now (target.Fork n b)) where
-  pub walk_bit : b < 64
-  walk_bit = fork_bit es w h k.place n b (sym k.stands)
-
   pub walk_fork : n < length w.forks
   walk_fork = fork_there es w h k.place n b (sym k.stands)
 

@@ -1,14 +1,15 @@
 -- An entry that comes to its segment. It serves proofs.
-use Rattle.std.specs.Prelude.{◌≡◌, ℕ, ◌<◌, true, false, Bool, List, length, Option, Some, None, IfSome}
+use Rattle.std.specs.Prelude.{◌≡◌, ℕ, ◌<◌, true, false, Bool, List, length, Option, Some, None}
 use Rattle.std.specs.Int.{bit_at}
 use Rattle.shared_tables.specs.declared.admission.Newcomer.{Newcomer}
 use Rattle.shared_tables.specs.declared.admission.Outcome.{Outcome}
+use Rattle.shared_tables.specs.declared.chains.Beside.{Beside}
 use Rattle.shared_tables.specs.declared.admission.Outcome.TheVariants as outcome
 use Rattle.shared_tables.specs.Bucket.{key_of, IsKey, chain_of}
 use Rattle.shared_tables.specs.Pool.{Held, entry_at, IfHeld}
 use Rattle.shared_tables.specs.Threads.{IsHeld}
 use Rattle.shared_tables.specs.Shared.{Shared, rule_at, span_of, Lacks, IsNow, Admits}
-use Rattle.shared_tables.specs.Forest.{Belongs, PartedAt}
+use Rattle.shared_tables.specs.Forest.{BelongsBeside}
 use Rattle.shared_tables.specs.Woods.{Woods, number_at, planted, grafted}
 use Rattle.shared_tables.specs.Whole.{Makes, Refuses}
 
@@ -16,14 +17,13 @@ use Rattle.shared_tables.specs.Whole.{Makes, Refuses}
 abbrev pub held_of : Newcomer → Held
 held_of n = record { vid = n.vid; mac = n.mac; place = n.place; last = n.last }
 
--- no slot holds its address, which belongs beside its leaf and differs from it in its bit, and it may be written now
+-- no slot holds its address, which belongs where it says, and it may be written now
 pub record MayCome (entries : List (Option Held)) (forest : Woods) (moment : ℕ) (n : Newcomer) : Type 0 where
   pub chain : n.chain ≡ chain_of n.vid n.mac
   pub fits : IsKey (key_of n.vid n.mac)
   pub absent : Lacks entries n.vid n.mac
   pub now : IsNow n.last moment
-  pub beside : Belongs forest.words (chain_of n.vid n.mac) (key_of n.vid n.mac) n.beside
-  pub parts : IfSome n.beside (λ leaf. PartedAt (entry_at entries leaf) (key_of n.vid n.mac) n.bit)
+  pub beside : BelongsBeside entries forest.words (chain_of n.vid n.mac) (key_of n.vid n.mac) n.beside
 
 -- it has come, or hasn't
 abbrev pub ComesOrNot : Shared → Shared → Newcomer → Bool → Type 0
@@ -37,15 +37,15 @@ ComesTo old new span e outcome.Entered = Lacks old.entries e.vid e.mac × Makes 
 ComesTo old new span e outcome.Full = Lacks old.entries e.vid e.mac × Refuses old new e.vid span
 
 -- what putting a slot beside a leaf reads is there
-abbrev pub MayAttach : Woods → Newcomer → Option ℕ → ℕ → Type 0
-MayAttach w n None slot = Unit {0}
-MayAttach w n (Some leaf) slot =
-    (leaf < length w.leaves) × (number_at w.leaves leaf < length w.words) × (number_at w.leaves slot < length w.forks) × (n.bit < 64)
+abbrev pub MayAttach : Woods → Option Beside → ℕ → Type 0
+MayAttach w None slot = Unit {0}
+MayAttach w (Some b) slot =
+    (b.leaf < length w.leaves) × (number_at w.leaves b.leaf < length w.words) × (number_at w.leaves slot < length w.forks) × (b.bit < 64)
 
 -- a slot is the only leaf of its chain, or stands beside another, behind a fork that sends its key to its side
-abbrev pub Attaches : Woods → Woods → Newcomer → Option ℕ → ℕ → Type 0
+abbrev pub Attaches : Woods → Woods → Newcomer → Option Beside → ℕ → Type 0
 Attaches old new n None slot = new ≡ planted old n.chain slot
-Attaches old new n (Some leaf) slot = new ≡ grafted old leaf slot n.bit (bit_at (key_of n.vid n.mac) n.bit)
+Attaches old new n (Some b) slot = new ≡ grafted old b.leaf slot b.bit (bit_at (key_of n.vid n.mac) b.bit)
 
 -- a slot holds the address, or dead entries go and the entry comes, if there is room for it
 abbrev pub FindsOrAdmits : Shared → Shared → ℕ → Held → Outcome → Type 0

@@ -2,6 +2,7 @@
 use Rattle.std.specs.Prelude.{◌≡◌, ◌≢◌, ℕ, ◌+◌, ◌<◌, List, [], length, Option, Some, None}
 use Rattle.std.specs.Int.{bit_at}
 use Rattle.std.specs.List.{sum_by}
+use Rattle.shared_tables.specs.declared.chains.Beside.{Beside}
 use Rattle.shared_tables.specs.declared.forest.Target.{Target}
 use Rattle.shared_tables.specs.declared.forest.Target.TheVariants as target
 use Rattle.shared_tables.specs.Bucket.{key_of, IsKey}
@@ -64,6 +65,17 @@ pub record Belongs (words : List ℕ) (chain key : ℕ) (leaf : Option ℕ) : Ty
   pub tree : Option Tree
   pub rooted : IsRooted (target_at words) (target_at words chain) tree
   pub leads : LeadsTo key tree leaf
+
+-- the leaf beside which an address belongs
+abbrev pub leaf_of : Option Beside → Option ℕ
+leaf_of None = None
+leaf_of (Some b) = Some b.leaf
+
+-- an address belongs beside a leaf of its chain, from whose key its own differs in a bit; beside none where the chain has no
+-- leaves
+abbrev pub BelongsBeside : List (Option Held) → List ℕ → (chain key : ℕ) → Option Beside → Type 0
+BelongsBeside entries words chain key None = Belongs words chain key None
+BelongsBeside entries words chain key (Some b) = Belongs words chain key (Some b.leaf) × PartedAt (entry_at entries b.leaf) key b.bit
 
 -- something stands on both sides of a fork
 abbrev pub HasChildren : List ℕ → ℕ → Type 0

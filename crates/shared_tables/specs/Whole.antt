@@ -1,5 +1,5 @@
 -- The slots, the trees and the segments together. It serves proofs.
-use Rattle.std.specs.Prelude.{◌≡◌, ℕ, ◌⊎◌, ◌+◌, ◌≤◌, false, true, List, map, slice_set, Option, None, IfSome}
+use Rattle.std.specs.Prelude.{◌≡◌, ℕ, ◌⊎◌, ◌+◌, ◌≤◌, false, true, List, map, slice_set, Option, None}
 use Rattle.std.specs.Option.{option_map}
 use Rattle.shared_tables.specs.declared.share.Share.{Share}
 use Rattle.shared_tables.specs.declared.chains.Sought.{Sought}
@@ -9,7 +9,7 @@ use Rattle.shared_tables.specs.Pool.{Pool, Held, entry_at, IfHeld, is_dead_in}
 use Rattle.shared_tables.specs.Threads.{IsHeld}
 use Rattle.shared_tables.specs.Shared.{Shared, rule_at, kept_count, line_key, Lacks, HasRoom, IsAtLimit, IsOldest, Enters}
 use Rattle.shared_tables.specs.Sound.{rule_of, IsSound}
-use Rattle.shared_tables.specs.Forest.{IsForest, Belongs, PartedAt}
+use Rattle.shared_tables.specs.Forest.{IsForest, BelongsBeside}
 use Rattle.shared_tables.specs.Woods.{Woods}
 
 -- what holds of them
@@ -28,11 +28,10 @@ seen slots shares moment calls compared = record {
   visited = slots.visited;
 }
 
--- a slot holds the address, or none does, and it belongs beside a leaf of its chain, from which it differs in a bit
+-- a slot holds the address, or none does, and it is told where it belongs
 abbrev pub Finds : List (Option Held) → Woods → ℕ → List ℕ → Sought → Type 0
 Finds entries w vid mac (At slot) = IfHeld (entry_at entries slot) vid mac × IsHeld entries slot
-Finds entries w vid mac (Missing leaf bit) =
-    Lacks entries vid mac × Belongs w.words (chain_of vid mac) (key_of vid mac) leaf × IfSome leaf (λ l. PartedAt (entry_at entries l) (key_of vid mac) bit)
+Finds entries w vid mac (Missing beside) = Lacks entries vid mac × BelongsBeside entries w.words (chain_of vid mac) (key_of vid mac) beside
 
 -- an entry comes in place of one that has gone
 abbrev pub Replaces : Shared → Shared → ℕ → Held → Type 0

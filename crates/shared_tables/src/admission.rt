@@ -4,10 +4,11 @@ ghost use Rattle.shared_tables.specs.Pool.{entry_at};
 ghost use Rattle.shared_tables.specs.Shared.{rule_at, kept_count, HasRoom, Enters, IsOf};
 ghost use Rattle.shared_tables.specs.Whole.{IsWhole, seen, Replaces};
 ghost use Rattle.shared_tables.specs.Admission.{held_of, MayCome, ComesOrNot, MayAttach, Attaches};
+ghost use Rattle.shared_tables.specs.Forest.{leaf_of};
 ghost use Rattle.shared_tables.specs.Woods.{HasSizes};
 
 use crate::bucket::key;
-use crate::chains::side;
+use crate::chains::{Beside, side};
 use crate::entries::{drop_entry, join_share, renew_entry};
 use crate::forest::Forest;
 use crate::links::SlotId;
@@ -32,10 +33,8 @@ pub enum Outcome {
 pub struct Newcomer {
     /// The chain of its address.
     pub chain: usize,
-    /// The leaf of the chain's tree beside which it belongs; none where the chain has no leaves.
-    pub beside: Option<SlotId>,
-    /// A bit in which its key and that leaf's differ; 0 where there is none.
-    pub bit: u32,
+    /// Where it belongs in the chain's tree; none where the chain has no leaves.
+    pub beside: Option<Beside>,
     pub vid: Vid,
     pub mac: Mac,
     pub place: Place,
@@ -91,7 +90,7 @@ fn replace_in(
     ensures whole { IsWhole slots.new forest.new shares.new.items moment }
     ensures replaces { (calls compared : ℕ) → Replaces (seen slots.old shares.old.items moment calls compared) (seen slots.new shares.new.items moment calls compared) slot (held_of newcomer.now) }
 {
-    if is_slot(newcomer.beside, slot) {
+    if is_leaf(newcomer.beside, slot) {
         slots.readdress(slot, newcomer.vid, newcomer.mac);
         renew_entry(
             slots,
@@ -107,12 +106,12 @@ fn replace_in(
     }
 }
 
-/// Whether it is this slot.
-fn is_slot(one: Option<SlotId>, slot: SlotId) -> bool
-    ensures { IsTrue result ↔ (one ≡ Some slot) }
+/// Whether the leaf is this slot.
+fn is_leaf(beside: Option<Beside>, slot: SlotId) -> bool
+    ensures { IsTrue result ↔ (leaf_of beside ≡ Some slot) }
 {
-    match one {
-        Some(one) => one.number == slot.number,
+    match beside {
+        Some(beside) => beside.leaf.number == slot.number,
         None => false,
     }
 }
@@ -148,14 +147,14 @@ fn attach(forest: &mut Forest, newcomer: &Newcomer, slot: SlotId)
     requires sizes { HasSizes forest.old }
     requires chain { newcomer.now.chain < 65536 }
     requires slot { slot < length forest.old.leaves }
-    requires beside { MayAttach forest.old newcomer.now newcomer.now.beside slot }
+    requires beside { MayAttach forest.old newcomer.now.beside slot }
     ensures { Attaches forest.old forest.new newcomer.now newcomer.now.beside slot }
 {
     match newcomer.beside {
         None => forest.plant(newcomer.chain, slot),
-        Some(leaf) => {
-            let side = side(key(newcomer.vid, newcomer.mac), newcomer.bit);
-            forest.graft(leaf, slot, newcomer.bit, side);
+        Some(Beside { leaf, bit }) => {
+            let side = side(key(newcomer.vid, newcomer.mac), bit);
+            forest.graft(leaf, slot, bit, side);
         }
     }
 }

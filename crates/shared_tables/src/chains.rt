@@ -13,14 +13,20 @@ use crate::slots::Slots;
 use frame_view::{Mac, Vid};
 use work_count::Count;
 
+/// A leaf of a chain's tree beside which an address belongs, and a bit in which its key and that leaf's differ.
+#[derive(Clone, Copy)]
+pub struct Beside {
+    pub leaf: SlotId,
+    pub bit: u32,
+}
+
 /// Where an address is, or where it belongs.
 #[derive(Clone, Copy)]
 pub enum Sought {
     /// The slot that holds it.
     At(SlotId),
-    /// No slot holds it. It belongs beside this leaf of its chain's tree, from whose key its own differs in this bit; the
-    /// chain of none has no leaves.
-    Missing(Option<SlotId>, u32),
+    /// No slot holds it. It belongs beside a leaf; where there is none its chain has no leaves.
+    Missing(Option<Beside>),
 }
 
 /// A bit of a key: 0 or 1.
@@ -61,9 +67,9 @@ pub fn find_in(
             let slot = SlotId { number };
             match slots.differs(slot, key, compared) {
                 None => Sought::At(slot),
-                Some(bit) => Sought::Missing(Some(slot), bit),
+                Some(bit) => Sought::Missing(Some(Beside { leaf: slot, bit })),
             }
         }
-        _ => Sought::Missing(None, 0),
+        _ => Sought::Missing(None),
     }
 }

@@ -25,6 +25,9 @@ pub enum Target {
 /// The first word of a fork; those below it are slots.
 const FORKS: u32 = 65_536;
 
+/// The first of the places on the sides of forks, which come behind the roots.
+const FIRST_SIDE: u32 = CHAINS as u32;
+
 /// How many bits a key has.
 const BITS: u32 = 64;
 
@@ -100,7 +103,7 @@ fn child(fork: u32, side: u32) -> u32
     requires side { side < 2 }
     ensures { result ≡ child_of fork side }
 {
-    CHAINS as u32 + 2 * fork + side
+    FIRST_SIDE + 2 * fork + side
 }
 
 impl Forest {
@@ -179,10 +182,10 @@ impl Forest {
         ensures { Uproots self.old self.new slot }
     {
         let place = self.columns.leaf(slot.number as usize);
-        if place < FORKS {
+        if place < FIRST_SIDE {
             self.clear(place, slot);
         } else {
-            self.prune((place - FORKS) / 2, (place - FORKS) % 2, slot);
+            self.prune((place - FIRST_SIDE) / 2, (place - FIRST_SIDE) % 2, slot);
         }
     }
 

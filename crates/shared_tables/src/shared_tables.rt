@@ -136,7 +136,7 @@ impl SharedTables {
             mac,
         ) {
             Sought::At(slot) => Some(slot),
-            Sought::Missing(_, _) => None,
+            Sought::Missing(_) => None,
         }
     }
 
@@ -171,7 +171,7 @@ impl SharedTables {
             *mac,
         ) {
             Sought::At(slot) => Outcome::Held(slot),
-            Sought::Missing(beside, bit) => {
+            Sought::Missing(beside) => {
                 let comes = admit_in(
                     &mut self.slots,
                     &mut self.forest,
@@ -180,7 +180,6 @@ impl SharedTables {
                     &Newcomer {
                         chain,
                         beside,
-                        bit,
                         vid,
                         mac: *mac,
                         place: *place,

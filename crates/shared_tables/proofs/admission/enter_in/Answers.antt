@@ -16,7 +16,7 @@ attach-requires-clause-chain c = chain_lt c.args.slots.now c.args.forest.now c.a
 pub attach-requires-clause-beside : goal.attach-requires-clause-beside
 attach-requires-clause-beside c =
     let n = c.args.newcomer.now in
-    may_attach c.args.slots.now c.args.forest.now c.args.shares.now.items c.args.moment c.requires.whole n c.requires.room c.requires.may_come c.take-slot.result c.take-slot.ensures.free.0 c.take-slot.ensures.free.1 n.beside c.requires.may_come.beside c.requires.may_come.parts
+    may_attach c.args.slots.now c.args.forest.now c.args.shares.now.items c.args.moment c.requires.whole n c.requires.room c.requires.may_come c.take-slot.result c.take-slot.ensures.free.0 c.take-slot.ensures.free.1 n.beside c.requires.may_come.beside
 
 pub join_share-requires-clause-room : goal.join_share-requires-clause-room
 join_share-requires-clause-room c = counts_more c.args.slots.now c.args.forest.now c.args.shares.now.items c.args.moment c.requires.whole c.args.newcomer.now c.requires.room c.requires.may_come

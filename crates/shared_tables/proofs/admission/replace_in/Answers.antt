@@ -1,4 +1,5 @@
 use Rattle.std.proofs.Common.{◌≡◌, ◌≢◌, true, false, Some, sym, ◌∙◌}
+use Rattle.shared_tables.specs.Forest.{leaf_of}
 use Rattle.shared_tables.proofs.Replacing.{may_drop, may_leave, dropped_whole, dropped_room, dropped_may_come, dropped_replaces, again_threaded, again_last, again_ends, again_whole, again_replaces}
 use Rattle.shared_tables.proofs.admission.replace_in.Goals as goal
 
@@ -36,18 +37,18 @@ enter_in-requires-clause-room c = dropped_room c.args.slots.now c.args.forest.no
 
 pub enter_in-requires-clause-may_come : goal.enter_in-requires-clause-may_come
 enter_in-requires-clause-may_come c =
-    let other : c.args.newcomer.now.beside ≢ Some c.args.slot = λ q. let yes : c.is_slot.result ≡ true = c.is_slot.ensures.1 q in let bad : true ≡ false = sym yes ∙ c.if-is_slot.false in cc in
+    let other : leaf_of c.args.newcomer.now.beside ≢ Some c.args.slot = λ q. let yes : c.is_leaf.result ≡ true = c.is_leaf.ensures.1 q in let bad : true ≡ false = sym yes ∙ c.if-is_leaf.false in cc in
     dropped_may_come c.args.slots.now c.args.forest.now c.args.shares.now.items c.args.moment c.requires.whole c.args.newcomer.now c.args.slot c.requires.held c.requires.rule c.requires.may_come
     c.drop_entry.new.slots c.drop_entry.new.forest c.drop_entry.new.shares.items c.drop_entry.ensures.pool c.drop_entry.ensures.forest c.drop_entry.ensures.shares other
 
-pub returns-then-is_slot-clause-whole : goal.returns-then-is_slot-clause-whole
-returns-then-is_slot-clause-whole c = again_whole c.args.slots.now c.args.forest.now c.args.shares.now.items c.args.moment c.requires.whole c.args.newcomer.now c.args.slot c.requires.held c.requires.rule c.requires.may_come c.readdress.new.self c.readdress.ensures
-    (c.is_slot.ensures.0 c.if-is_slot.true) c.renew_entry.new.slots c.renew_entry.new.shares.items c.renew_entry.ensures.pool c.renew_entry.ensures.shares
+pub returns-then-is_leaf-clause-whole : goal.returns-then-is_leaf-clause-whole
+returns-then-is_leaf-clause-whole c = again_whole c.args.slots.now c.args.forest.now c.args.shares.now.items c.args.moment c.requires.whole c.args.newcomer.now c.args.slot c.requires.held c.requires.rule c.requires.may_come c.readdress.new.self c.readdress.ensures
+    (c.is_leaf.ensures.0 c.if-is_leaf.true) c.renew_entry.new.slots c.renew_entry.new.shares.items c.renew_entry.ensures.pool c.renew_entry.ensures.shares
 
-pub returns-then-is_slot-clause-replaces : goal.returns-then-is_slot-clause-replaces
-returns-then-is_slot-clause-replaces c = λ calls compared. again_replaces c.args.slots.now c.args.forest.now c.args.shares.now.items c.args.moment c.requires.whole c.args.newcomer.now c.args.slot c.requires.held c.requires.rule c.requires.may_come c.readdress.new.self c.readdress.ensures
-    (c.is_slot.ensures.0 c.if-is_slot.true) c.renew_entry.new.slots c.renew_entry.new.shares.items c.renew_entry.ensures.pool c.renew_entry.ensures.shares calls compared
+pub returns-then-is_leaf-clause-replaces : goal.returns-then-is_leaf-clause-replaces
+returns-then-is_leaf-clause-replaces c = λ calls compared. again_replaces c.args.slots.now c.args.forest.now c.args.shares.now.items c.args.moment c.requires.whole c.args.newcomer.now c.args.slot c.requires.held c.requires.rule c.requires.may_come c.readdress.new.self c.readdress.ensures
+    (c.is_leaf.ensures.0 c.if-is_leaf.true) c.renew_entry.new.slots c.renew_entry.new.shares.items c.renew_entry.ensures.pool c.renew_entry.ensures.shares calls compared
 
-pub returns-else-is_slot-clause-replaces : goal.returns-else-is_slot-clause-replaces
-returns-else-is_slot-clause-replaces c = λ calls compared. dropped_replaces c.args.slots.now c.args.forest.now c.args.shares.now.items c.args.moment c.requires.whole c.args.newcomer.now c.args.slot c.requires.held c.requires.rule c.requires.may_come
+pub returns-else-is_leaf-clause-replaces : goal.returns-else-is_leaf-clause-replaces
+returns-else-is_leaf-clause-replaces c = λ calls compared. dropped_replaces c.args.slots.now c.args.forest.now c.args.shares.now.items c.args.moment c.requires.whole c.args.newcomer.now c.args.slot c.requires.held c.requires.rule c.requires.may_come
     c.drop_entry.new.slots c.drop_entry.new.forest c.drop_entry.new.shares.items c.drop_entry.ensures.pool c.drop_entry.ensures.forest c.drop_entry.ensures.shares _ calls compared (c.enter_in.ensures.enters calls compared)

@@ -78,7 +78,7 @@ returns-in-Some-clause-found c =
     let leaf = sym c.read.ensures ∙ c.in-Leaf.is in
     let a = walk_leaf es w c.args.vid c.args.mac was now slot c.requires.forest (subst (Walks es w c.args.vid c.args.mac was now) leaf c.loop-word.invariant) in
     let parted = subst (λ k. PartedAt (entry_at es slot) k c.in-Some.bit) c.key-key.ensures.value c.in-Some.ensures.bit in
-    (arrives_lacks es w c.args.vid c.args.mac was slot a (apart_key (entry_at es slot) c.args.vid c.args.mac c.in-Some.bit parted.1), arrives_belongs es w c.args.vid c.args.mac was slot a, parted)
+    (arrives_lacks es w c.args.vid c.args.mac was slot a (apart_key (entry_at es slot) c.args.vid c.args.mac c.in-Some.bit parted.1), (arrives_belongs es w c.args.vid c.args.mac was slot a, parted))
 
 pub returns-in-Some-clause-bits : goal.returns-in-Some-clause-bits
 returns-in-Some-clause-bits c =
@@ -104,7 +104,7 @@ returns-in_default c =
     let none = nothing_else (target_in word) (λ n b. no_fork_told word n b no) (λ i q. c.in_default.not-Leaf i (c.read.ensures ∙ q)) in
     let at = subst (Walks es w c.args.vid c.args.mac was now) none c.loop-word.invariant in
     record {
-      found = (let none = walk_none es w c.args.vid c.args.mac was now c.requires.forest at in (none.0, none.1, tt));
+      found = walk_none es w c.args.vid c.args.mac was now c.requires.forest at;
       counted = c.loop-word.invariant.counted;
       compared = omega (arith, walk_still es w c.args.vid c.args.mac was now c.requires.forest at);
       bits = omega (arith, walk_still es w c.args.vid c.args.mac was now c.requires.forest at);

@@ -36,9 +36,10 @@ refuses_within() {
 }
 
 # What a slot of the pool holds is told by `differs` and `dead`, and to a listing by `live_row`, alone: no other module reads a
-# slot's fields.
-refuses_within shared_tables reads private-field 3 <<'TEXT'
-//! Reads what a slot holds past the slots' own module.
+# slot's fields. Nor does one go down a tree but by `next`, which counts.
+refuses_within shared_tables reads private-field 4 <<'TEXT'
+//! Reads what a slot holds, and what stands behind a fork, past their own modules.
+use crate::forest::Forest;
 use crate::slots::{Slot, Slots};
 
 /// The VID and the address of an entry.
@@ -54,6 +55,11 @@ pub fn moment_of(slot: &Slot) -> u64 {
 /// How many slots there are.
 pub fn count_of(slots: &Slots) -> usize {
     slots.slots.len()
+}
+
+/// What stands at a place of the trees.
+pub fn word_at(forest: &Forest, place: usize) -> u32 {
+    forest.columns.word(place)
 }
 
 #[test]

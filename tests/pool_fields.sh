@@ -34,3 +34,13 @@ struct Slot { key: u64, last: u64, line: Links, place: Place, kind: Kind, }
 struct SlotId { number: u32, }
 struct Slots { slots: Vec<Slot>, size: u32, free: Link, visited: Count, }
 TEXT
+
+# What compares an address or goes down a tree is handed the count that it ticks, and a body could hand on a new one, which no
+# contract shows. So new counts are made where the tables are opened, and nowhere else.
+diff - <(grep -c 'Count::zero()' crates/shared_tables/src/*.rt crates/shared_tables/src/*/*.rt | grep -v ':0$') <<'TEXT' || {
+crates/shared_tables/src/shared_tables.rt:2
+crates/shared_tables/src/slots.rt:1
+TEXT
+    echo "tests/pool_fields.sh: counts are made elsewhere"
+    exit 1
+}

@@ -22,7 +22,7 @@ enum Side { Previous, Next, }
 enum Sought { At(SlotId), Missing(Option<Beside>), }
 enum Target { Nothing, Leaf(u32), Fork(u32, u32), }
 struct Beside { leaf: SlotId, bit: u32, }
-struct Columns { numbers: Vec<u32>, leaves: usize, forks: usize, spares: usize, }
+struct Columns { numbers: Vec<u32>, leaves: usize, forks: usize, }
 struct Ends { first: Link, last: Link, }
 struct Forest { columns: Columns, }
 struct Link { word: u32, }

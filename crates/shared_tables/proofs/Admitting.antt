@@ -1,6 +1,7 @@
 -- What holds of the slots, the trees and the segments together holds when an entry has come.
 use Rattle.std.proofs.Common.{◌≡◌, ℕ, ◌+◌, ◌<◌, Bool, List, length, map, set, Option, Some, None, is_none, refl, sym, ap, ◌∙◌, subst}
 use Rattle.std.specs.Option.{option_map}
+use Rattle.std.specs.Int.{bit_at}
 use Rattle.shared_tables.specs.declared.share.Share.{Share}
 use Rattle.shared_tables.specs.declared.admission.Newcomer.{Newcomer}
 use Rattle.shared_tables.specs.declared.chains.Beside.{Beside}
@@ -10,7 +11,7 @@ use Rattle.shared_tables.specs.Pool.{Pool, Held, entry_at, alone, free_count}
 use Rattle.shared_tables.specs.Threads.{HoldsAny, pushed_back, ends_with}
 use Rattle.shared_tables.specs.Shared.{rule_at, kept_count, HasRoom, Enters, line_key}
 use Rattle.shared_tables.specs.Sound.{share_at, share_with, share_written, shares_with, line_at, last_in, rule_of, CountsMore, HasEnds}
-use Rattle.shared_tables.specs.Woods.{Woods, target_at, planted}
+use Rattle.shared_tables.specs.Woods.{Woods, target_at, number_at, place_by, planted, grafted}
 use Rattle.shared_tables.specs.Trees.{Tree}
 use Rattle.shared_tables.specs.Forest.{IsRooted, LeadsTo, Belongs, BelongsBeside, IsForest}
 use Rattle.shared_tables.specs.Whole.{IsWhole, seen}
@@ -38,8 +39,8 @@ module _ (pool : Pool) (w : Woods) (shares : List (Option Share)) (moment : ℕ)
   pub enter_frees : 0 < free_count es
   enter_frees = enter_free es pool.lines shares moment n.vid own.share h.sound own.here below
 
-  pub chain_lt : n.chain < 65536
-  chain_lt = subst (λ c. c < 65536) (sym m.chain) (chain_small n.vid n.mac)
+  pub chain_lt : n.chain < 262144
+  chain_lt = subst (λ c. c < 262144) (sym m.chain) (chain_small n.vid n.mac)
 
   pub counts_more : CountsMore (share_at shares n.vid)
   counts_more = subst (λ (o : Option Share). CountsMore o) (sym own.here) below
@@ -57,10 +58,14 @@ module _ (pool : Pool) (w : Woods) (shares : List (Option Share)) (moment : ℕ)
         (holds_more es s e (line_at own.share fixed).last lt (holds_last (line_key n.vid fixed) refl pool.lines es _ _ (lines.list fixed) (lines.thread fixed)))
 
     -- the leaf beside which it belongs is there
-    pub may_attach : (o : Option Beside) → BelongsBeside es w.words (chain_of n.vid n.mac) (key_of n.vid n.mac) o → MayAttach w o s
+    pub may_attach : (o : Option Beside) → BelongsBeside es w.words (chain_of n.vid n.mac) (key_of n.vid n.mac) o → MayAttach w n.chain o s
     may_attach None b = tt
-    may_attach (Some at) b =
-        (leaf_lt es w h.forest e s lt free at.leaf b.0, place_lt es w h.forest e s lt free at.leaf b.0, fork_lt es w h.forest e s lt free at.leaf b.0, b.1.0)
+    may_attach (Some at) b = (
+      leaf_lt es w h.forest e s lt free at.leaf b.0,
+      subst (λ c. place_by c (number_at w.leaves at.leaf) < length w.words) (sym m.chain) (place_lt es w h.forest e s lt free at.leaf b.0),
+      fork_lt es w h.forest e s lt free at.leaf b.0,
+      b.1.0,
+    )
 
     -- a chain beside none of whose leaves it belongs has none
     no_leaves : (b : Belongs w.words (chain_of n.vid n.mac) (key_of n.vid n.mac) None) → target_at w.words (chain_of n.vid n.mac) ≡ target.Nothing
@@ -73,7 +78,9 @@ module _ (pool : Pool) (w : Woods) (shares : List (Option Share)) (moment : ℕ)
     attached : (w' : Woods) (o : Option Beside) → BelongsBeside es w.words (chain_of n.vid n.mac) (key_of n.vid n.mac) o → Attaches w w' n o s
         → IsForest (set es s (Some e)) w'
     attached w' None b a = subst (IsForest (set es s (Some e))) (sym (a ∙ ap (λ c. planted w c s) m.chain)) (plant_forest es w h.forest e s lt free (no_leaves b) m.fits)
-    attached w' (Some at) b a = subst (IsForest (set es s (Some e))) (sym a) (graft_forest es w h.forest e s lt free at.leaf b.0 at.bit b.1.0 b.1.1 m.fits)
+    attached w' (Some at) b a =
+        subst (IsForest (set es s (Some e))) (sym (a ∙ ap (λ c. grafted w c at.leaf s at.bit (bit_at (key_of n.vid n.mac) at.bit)) m.chain))
+        (graft_forest es w h.forest e s lt free at.leaf b.0 at.bit b.1.0 b.1.1 m.fits)
 
     module _ (pool' : Pool) (w' : Woods) (shares' : List (Option Share)) (fixed : Bool) (is_fixed : fixed ≡ is_none n.last)
         (entries_is : pool'.entries ≡ set es s (Some e)) (lines_is : pool'.lines ≡ pushed_back (set pool.lines s alone) (last_in (share_at shares n.vid) fixed) s)

@@ -22,11 +22,11 @@ module _ (n : ℕ) (few : n ≤ 65536) where
   es = replicate n None
 
   nothing : (p : ℕ) → target_at w.words p ≡ target.Nothing
-  nothing p = from (cases_lt p (65536 + 2 * n))
+  nothing p = from (cases_lt p (262144 + 2 * n))
     where
-      from : (p < 65536 + 2 * n) ⊎ (65536 + 2 * n ≤ p) → target_at w.words p ≡ target.Nothing
-      from (inl lt) = ap target_in (get_or-replicate (65536 + 2 * n) p 4294967295 4294967295 lt) ∙ nothing_word
-      from (inr le) = ap target_in (get_or_past w.words p 4294967295 (omega (arith, le, length-replicate {A = ℕ} (65536 + 2 * n) 4294967295))) ∙ nothing_word
+      from : (p < 262144 + 2 * n) ⊎ (262144 + 2 * n ≤ p) → target_at w.words p ≡ target.Nothing
+      from (inl lt) = ap target_in (get_or-replicate (262144 + 2 * n) p 4294967295 4294967295 lt) ∙ nothing_word
+      from (inr le) = ap target_in (get_or_past w.words p 4294967295 (omega (arith, le, length-replicate {A = ℕ} (262144 + 2 * n) 4294967295))) ∙ nothing_word
 
   free : (i : ℕ) → entry_at es i ≡ None
   free i = from (cases_lt i n)
@@ -52,9 +52,8 @@ module _ (n : ℕ) (few : n ≤ 65536) where
   pub bare_forest : IsForest es w
   bare_forest = record {
     sizes = record {
-      words = omega (arith, length-replicate {A = ℕ} (65536 + 2 * n) 4294967295, length-replicate {A = ℕ} n 0);
+      words = omega (arith, length-replicate {A = ℕ} (262144 + 2 * n) 4294967295, length-replicate {A = ℕ} n 0);
       leaves = omega (arith, length-range_with_len 0 n, length-replicate {A = ℕ} n 0);
-      spares = length-replicate {A = ℕ} 65536 0;
       few = omega (arith, few, length-replicate {A = ℕ} n 0);
     };
     slots = omega (arith, length-replicate {A = ℕ} n 0, length-replicate {A = Option Held} n None);

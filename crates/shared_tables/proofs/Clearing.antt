@@ -8,28 +8,29 @@ use Rattle.shared_tables.specs.Pool.{Held, entry_at}
 use Rattle.shared_tables.specs.Line.{is_on}
 use Rattle.shared_tables.specs.Shared.{chain_key}
 use Rattle.shared_tables.specs.Trees.{Tree, Leaf, leaves, IsTree, descend}
-use Rattle.shared_tables.specs.Woods.{Woods, target_at, number_at, child_of, cleared}
-use Rattle.shared_tables.specs.Forest.{leaves_of, IsRooted, LeadsTo, IsChain, Belongs, HasChildren, StandsAt, Keeps, IsForest}
+use Rattle.shared_tables.specs.Woods.{Woods, target_at, number_at, child_of, place_by, cleared}
+use Rattle.shared_tables.specs.Forest.{leaves_of, IsRooted, LeadsTo, IsChain, Belongs, HasChildren, StandsAt, spare_of, Keeps, IsForest}
 use Rattle.shared_tables.proofs.Linked.{by_bool, equal, nat_eq_refl}
 use Rattle.shared_tables.proofs.Threaded.{in_entries}
 use Rattle.shared_tables.proofs.Buckets.{chain_small, chain_excl}
-use Rattle.shared_tables.proofs.TreeLemmas.{same_tree, tree_leaf}
+use Rattle.shared_tables.proofs.Places.{place_top, leaf_place, leaf_alone}
+use Rattle.shared_tables.proofs.TreeLemmas.{same_tree}
 use Rattle.shared_tables.proofs.Grafting.{one_more, weight_is}
 use Rattle.shared_tables.proofs.Planting.{root_child, root_frame}
-use Rattle.shared_tables.proofs.ForestLemmas.{apart, differ, nothing_word, in_words, written_same, written_other, number_same, number_other, entry_same, entry_other, keys_gone, held_beside, leaf_there, leaf_alone, leaf_place, HasTree, chain_beside, tree_of}
+use Rattle.shared_tables.proofs.ForestLemmas.{apart, differ, nothing_word, written_same, written_other, entry_same, entry_other, keys_gone, held_beside, leaf_there, HasTree, chain_beside, tree_of}
 
 -- the only leaf of a chain goes
-module _ (es : List (Option Held)) (w : Woods) (h : IsForest es w) (e : Held) (s : ℕ) (here : entry_at es s ≡ Some e) (root : number_at w.leaves s < 65536) where
+module _ (es : List (Option Held)) (w : Woods) (h : IsForest es w) (e : Held) (s : ℕ) (here : entry_at es s ≡ Some e) (root : number_at w.leaves s < 262144) where
   abbrev pub c : ℕ
   c = chain_of e.vid e.mac
 
   abbrev n : ℕ
-  n = number_at w.spares c
+  n = number_at w.leaves s
 
   abbrev at : ℕ → Target
   at = target_at w.words
 
-  c_lt : c < 65536
+  c_lt : c < 262144
   c_lt = chain_small e.vid e.mac
 
   keyed : chain_key c (entry_at es s) ≡ true
@@ -44,37 +45,21 @@ module _ (es : List (Option Held)) (w : Woods) (h : IsForest es w) (e : Held) (s
   old : IsChain es w.words c
   old = h.chained c c_lt
 
-  some_root : (t : Option Tree) → is_on s (leaves_of t) ≡ true → IsRooted at (at c) t → at (number_at w.leaves s) ≡ target.Leaf s
+  some_root : (t : Option Tree) → is_on s (leaves_of t) ≡ true → IsRooted at (at c) t → at (place_by c n) ≡ target.Leaf s
   some_root None on k = let bad : false ≡ true = on in cc
-  some_root (Some t) on k = leaf_place es w h s c t k on
-
-  on_old : is_on s (leaves_of old.tree) ≡ true
-  on_old = old.members s ∙ keyed
-
-  at_own : at (number_at w.leaves s) ≡ target.Leaf s
-  at_own = some_root old.tree on_old old.rooted
-
-  pub place_lt : number_at w.leaves s < length w.words
-  place_lt = in_words w.words (number_at w.leaves s) (leaf_there (at (number_at w.leaves s)) s at_own)
-
-  -- a root where the slot stands is that of its chain
-  of_root : (r : ℕ) → r < 65536 → at r ≡ target.Leaf s → r ≡ c
-  of_root r rlt q =
-      let k = tree_of es w.words r (leaf_there (at r) s q) (h.chained r rlt) in
-      let is : chain_key r (entry_at es s) ≡ true = sym (k.members s) ∙ tree_leaf at (at r) s k.tree q k.rooted in
-      sym (equal c r (sym (ap (chain_key r) here) ∙ is))
-
-  pub root_is : number_at w.leaves s ≡ c
-  root_is = of_root (number_at w.leaves s) root at_own
+  some_root (Some t) on k = leaf_place es w h s c c t (λ _. refl) k on
 
   at_root : at c ≡ target.Leaf s
-  at_root = ap at (sym root_is) ∙ at_own
+  at_root = ap at (sym (place_top c n root)) ∙ some_root old.tree (old.members s ∙ keyed) old.rooted
+
+  pub place_lt : n < length w.words
+  place_lt = omega (arith, root, h.sizes.words)
 
   abbrev es' : List (Option Held)
   es' = set es s None
 
   abbrev w' : Woods
-  w' = cleared w c s
+  w' = cleared w c
 
   abbrev at' : ℕ → Target
   at' = target_at w'.words
@@ -105,14 +90,14 @@ module _ (es : List (Option Held)) (w : Woods) (h : IsForest es w) (e : Held) (s
     size = omega (arith, ap (λ t. length (leaves t)) tree_is, mine.size, one_more es c s None own_lt, weight_is c (entry_at es s) true keyed, weight_is c None false refl);
   }
 
-  chain_other : (c' : ℕ) → c' < 65536 → nat_eq c' c ≡ false → IsChain es' w'.words c'
+  chain_other : (c' : ℕ) → c' < 262144 → nat_eq c' c ≡ false → IsChain es' w'.words c'
   chain_other c' clt ne =
       let k = h.chained c' clt in
       chain_beside es w.words w'.words c' s None own_lt (chain_excl c c' ne (entry_at es s) keyed) refl k
       (subst (λ t. IsRooted at' t k.tree) (sym (at_else c' (apart c' c ne))) (root_frame w.words c 4294967295 c_lt (at c') k.tree k.rooted))
 
   not_own : (p : ℕ) → p ≢ c → at p ≢ target.Leaf s
-  not_own p ne q = ne (sym (leaf_alone es w h p s q) ∙ root_is)
+  not_own p ne q = ne (sym (leaf_alone es w h c p s keyed q) ∙ place_top c n root)
 
   forks_stay : (m : ℕ) → HasChildren w.words m → HasChildren w'.words m
   forks_stay m k = (λ q. k.0 (sym (child_same m 0) ∙ q), λ q. k.1 (sym (child_same m 1) ∙ q))
@@ -121,7 +106,7 @@ module _ (es : List (Option Held)) (w : Woods) (h : IsForest es w) (e : Held) (s
   stays p ne target.Nothing q k = tt
   stays p ne (target.Leaf i) q k =
       let away : i ≢ s = λ r. not_own p ne (q ∙ ap target.Leaf r) in
-      (number_other w.leaves s n i away ∙ k.0, held_beside es s i None away k.1)
+      (k.0, held_beside es s i None away k.1)
   stays p ne (target.Fork m x) q k = (k.0, k.1, forks_stay m k.2)
 
   standing_at : (p : ℕ) → StandsAt es' w' p (at' p)
@@ -130,7 +115,7 @@ module _ (es : List (Option Held)) (w : Woods) (h : IsForest es w) (e : Held) (s
       (λ no. subst (StandsAt es' w' p) (sym (at_else p (apart p c no))) (stays p (apart p c no) (at p) refl (h.stands p)))
 
   spare : Keeps w h.keeper n (65536 + c)
-  spare = h.spares c c_lt (leaf_there (at c) s at_root)
+  spare = subst (λ t. Keeps w h.keeper (spare_of w t) (65536 + c)) at_root (h.spares c c_lt (leaf_there (at c) s at_root))
 
   -- the slot keeps the chain's fork
   keeper' : ℕ → ℕ
@@ -156,24 +141,29 @@ module _ (es : List (Option Held)) (w : Woods) (h : IsForest es w) (e : Held) (s
 
   frees : (i : ℕ) → i < length es' → entry_at es' i ≡ None → Keeps w' keeper' (number_at w'.leaves i) i
   frees i ilt is = by_bool (nat_eq i s)
-      (λ yes. subst (λ k. Keeps w' keeper' (number_at w'.leaves k) k) (sym (equal i s yes)) (subst (λ m. Keeps w' keeper' m s) (sym (number_same w.leaves s n s_lt)) keeps_own))
+      (λ yes. subst (λ k. Keeps w' keeper' (number_at w'.leaves k) k) (sym (equal i s yes)) keeps_own)
       (λ no.
       let few : length es < 65537 = omega (arith, h.slots, h.sizes.few) in
       let away : i ≢ s = apart i s no in
       let within : i < length es = subst (λ z. i < z) (length-set es s None) ilt in
-      subst (λ m. Keeps w' keeper' m i) (sym (number_other w.leaves s n i away)) (keeps (number_at w.leaves i) i (λ q. absurd (omega (arith, q, within, few))) (h.frees i within (sym (entry_other es s i None away) ∙ is))))
+      keeps (number_at w.leaves i) i (λ q. absurd (omega (arith, q, within, few))) (h.frees i within (sym (entry_other es s i None away) ∙ is)))
 
-  spares : (c' : ℕ) → c' < 65536 → at' c' ≢ target.Nothing → Keeps w' keeper' (number_at w'.spares c') (65536 + c')
+  spares : (c' : ℕ) → c' < 262144 → at' c' ≢ target.Nothing → Keeps w' keeper' (spare_of w' (at' c')) (65536 + c')
   spares c' clt some =
       let ne : c' ≢ c = λ q. some (ap at' q ∙ at_none) in
-      keeps (number_at w.spares c') (65536 + c') (λ q. ne (omega (arith, q))) (h.spares c' clt (λ q. some (at_else c' ne ∙ q)))
+      subst (λ t. Keeps w' keeper' (spare_of w' t) (65536 + c')) (sym (at_else c' ne))
+      (same_spare (at c') (keeps (spare_of w (at c')) (65536 + c') (λ q. ne (omega (arith, q))) (h.spares c' clt (λ q. some (at_else c' ne ∙ q)))))
+    where
+      same_spare : (t : Target) → Keeps w' keeper' (spare_of w t) (65536 + c') → Keeps w' keeper' (spare_of w' t) (65536 + c')
+      same_spare target.Nothing k = k
+      same_spare (target.Leaf i) k = k
+      same_spare (target.Fork m x) k = k
 
   pub clear_forest : IsForest es' w'
   clear_forest = record {
     sizes = record {
       words = omega (arith, length-set w.words c 4294967295, h.sizes.words);
-      leaves = omega (arith, length-set w.leaves s n, h.sizes.leaves);
-      spares = h.sizes.spares;
+      leaves = h.sizes.leaves;
       few = h.sizes.few;
     };
     slots = omega (arith, h.slots, length-set es s None);

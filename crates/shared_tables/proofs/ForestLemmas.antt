@@ -145,22 +145,8 @@ not_bare words n s p lt h some q = some (ap (target_at words) q ∙ bare_at word
 pub leaf_there : (t : Target) (i : ℕ) → t ≡ target.Leaf i → t ≢ target.Nothing
 leaf_there t i h none = let bad : target.Leaf i ≡ target.Nothing = sym h ∙ none in cc
 
-module _ (es : List (Option Held)) (w : Woods) (h : IsForest es w) where
-  -- what stands at a place stands there alone
-  pub leaf_alone : (p i : ℕ) → target_at w.words p ≡ target.Leaf i → number_at w.leaves i ≡ p
-  leaf_alone p i e = (subst (StandsAt es w p) e (h.stands p)).0
-
-  pub fork_alone : (p n b : ℕ) → target_at w.words p ≡ target.Fork n b → number_at w.forks n ≡ p
-  fork_alone p n b e = (subst (StandsAt es w p) e (h.stands p)).0
-
-  -- a leaf of a tree stands where it is kept as standing
-  pub leaf_place : (i p : ℕ) (t : Tree) → IsTree (target_at w.words) (target_at w.words p) t → is_on i (leaves t) ≡ true → target_at w.words (number_at w.leaves i) ≡ target.Leaf i
-  leaf_place i p (Leaf j) k on =
-      let same = only_leaf i j on in
-      ap (target_at w.words) (ap (number_at w.leaves) same ∙ leaf_alone p j k) ∙ k ∙ ap target.Leaf (sym same)
-  leaf_place i p (Fork n b l r) k on = by_bool (is_on i (leaves l))
-      (λ yes. leaf_place i (child_of n 0) l k.1 yes)
-      (λ no. leaf_place i (child_of n 1) r k.2 (other_right i n b l r on no))
+pub fork_stands : (t : Target) (n b : ℕ) → t ≡ target.Fork n b → t ≢ target.Nothing
+fork_stands t n b h none = let bad : target.Fork n b ≡ target.Nothing = sym h ∙ none in cc
 
 -- the tree of a chain that has a leaf
 pub record HasTree (es : List (Option Held)) (words : List ℕ) (c : ℕ) : Type 0 where

@@ -13,13 +13,14 @@ use Rattle.shared_tables.specs.Line.{is_on, weight}
 use Rattle.shared_tables.specs.Shared.{chain_key}
 use Rattle.shared_tables.specs.Threads.{IsHeld}
 use Rattle.shared_tables.specs.Trees.{Tree, leaves, descend, with_twig}
-use Rattle.shared_tables.specs.Woods.{Woods, target_at, number_at, child_of, fork_word, grafted}
-use Rattle.shared_tables.specs.Forest.{keys_of, key_in, leaves_of, IsRooted, IsChain, Belongs, HasChildren, StandsAt, Keeps, IsForest}
+use Rattle.shared_tables.specs.Woods.{Woods, target_at, number_at, child_of, fork_word, place_by, grafted}
+use Rattle.shared_tables.specs.Forest.{keys_of, key_in, leaves_of, IsRooted, IsChain, Belongs, HasChildren, IsPlaced, StandsAt, spare_of, Keeps, IsForest}
 use Rattle.shared_tables.proofs.Linked.{by_bool, equal, nat_eq_refl}
 use Rattle.shared_tables.proofs.Threaded.{in_entries}
 use Rattle.shared_tables.proofs.Buckets.{chain_small, chain_excl}
 use Rattle.shared_tables.proofs.TreeLemmas.{true_false, by_side, descend_on, grafted_to, graft_length, graft_on, graft_parted, graft_frame_at, graft_tree_at}
-use Rattle.shared_tables.proofs.ForestLemmas.{some_of_key, apart, differ, leaf_word, fork_is, in_words, written_same, written_other, number_same, number_other, entry_same, entry_other, keys_set, held_beside, held_here, not_free, bare_at, not_bare, leaf_there, leaf_alone, leaf_place, HasTree, chain_beside, tree_of, chain_of_tree, belongs_there, belongs_leads}
+use Rattle.shared_tables.proofs.Places.{placed_child, leaf_placed, leaf_place, leaf_alone}
+use Rattle.shared_tables.proofs.ForestLemmas.{some_of_key, apart, differ, leaf_word, fork_is, in_words, written_same, written_other, number_same, number_other, entry_same, entry_other, keys_set, held_beside, held_here, not_free, bare_at, not_bare, leaf_there, HasTree, chain_beside, tree_of, chain_of_tree, belongs_there, belongs_leads}
 
 -- a target that isn't the leaf stays
 to_same : (leaf n b : ℕ) (t : Target) → t ≢ target.Leaf leaf → grafted_to leaf n b t ≡ t
@@ -61,8 +62,11 @@ module _ (es : List (Option Held)) (w : Woods) (h : IsForest es w) (e : Held) (s
   abbrev n : ℕ
   n = number_at w.leaves s
 
+  abbrev number : ℕ
+  number = number_at w.leaves leaf
+
   abbrev place : ℕ
-  place = number_at w.leaves leaf
+  place = place_by c number
 
   abbrev at : ℕ → Target
   at = target_at w.words
@@ -70,7 +74,7 @@ module _ (es : List (Option Held)) (w : Woods) (h : IsForest es w) (e : Held) (s
   abbrev es' : List (Option Held)
   es' = set es s (Some e)
 
-  c_lt : c < 65536
+  c_lt : c < 262144
   c_lt = chain_small e.vid e.mac
 
   mine : HasTree es w.words c
@@ -92,7 +96,7 @@ module _ (es : List (Option Held)) (w : Woods) (h : IsForest es w) (e : Held) (s
   leaf_not = not_free es leaf s leaf_held free
 
   at_place : at place ≡ target.Leaf leaf
-  at_place = leaf_place es w h leaf c mine.tree mine.rooted on_mine
+  at_place = leaf_place es w h leaf c c mine.tree (λ _. refl) mine.rooted on_mine
 
   pub place_lt : place < length w.words
   place_lt = in_words w.words place (leaf_there (at place) leaf at_place)
@@ -123,7 +127,7 @@ module _ (es : List (Option Held)) (w : Woods) (h : IsForest es w) (e : Held) (s
     side = bit_at key b
 
     abbrev w' : Woods
-    w' = grafted w leaf s b side
+    w' = grafted w c leaf s b side
 
     abbrev at' : ℕ → Target
     at' = target_at w'.words
@@ -169,7 +173,7 @@ module _ (es : List (Option Held)) (w : Woods) (h : IsForest es w) (e : Held) (s
     at_else p q r t = written_other words2 (child_of n (1 - side)) leaf p t ∙ written_other words1 (child_of n side) s p r ∙ written_other w.words place (fork_word n b) p q
 
     not_leaf : (p : ℕ) → p ≢ place → at p ≢ target.Leaf leaf
-    not_leaf p ne q = ne (sym (leaf_alone es w h p leaf q))
+    not_leaf p ne q = ne (sym (leaf_alone es w h c p leaf leaf_key q))
 
     moves : (p : ℕ) → at p ≢ target.Nothing → at' p ≡ grafted_to leaf n b (at p)
     moves p some = by_bool (nat_eq p place)
@@ -198,20 +202,20 @@ module _ (es : List (Option Held)) (w : Woods) (h : IsForest es w) (e : Held) (s
           size = omega (arith, graft_length key s n b mine.tree, mine.size, one_more es c s (Some e) lt, weight_is c (entry_at es s) false (free_off es c s free), weight_is c (Some e) true keyed);
         })
 
-    nothing_stays : (p : ℕ) → p < 65536 → at p ≡ target.Nothing → at' p ≡ target.Nothing
+    nothing_stays : (p : ℕ) → p < 262144 → at p ≡ target.Nothing → at' p ≡ target.Nothing
     nothing_stays p plt e = at_else p (λ q. place_there (ap at (sym q) ∙ e)) (λ q. absurd (omega (arith, plt, q))) (λ q. absurd (omega (arith, plt, q))) ∙ e
 
-    rooted_other : (c' : ℕ) → c' < 65536 → (t : Option Tree) → is_on leaf (leaves_of t) ≡ false → IsRooted at (at c') t → IsRooted at' (at' c') t
+    rooted_other : (c' : ℕ) → c' < 262144 → (t : Option Tree) → is_on leaf (leaves_of t) ≡ false → IsRooted at (at c') t → IsRooted at' (at' c') t
     rooted_other c' clt None off k = nothing_stays c' clt k
     rooted_other c' clt (Some t) off k = graft_frame_at at at' leaf n b moves c' t k off
 
-    chain_other : (c' : ℕ) → c' < 65536 → nat_eq c' c ≡ false → IsChain es' w'.words c'
+    chain_other : (c' : ℕ) → c' < 262144 → nat_eq c' c ≡ false → IsChain es' w'.words c'
     chain_other c' clt ne =
         let old = h.chained c' clt in
         let off : chain_key c' (entry_at es leaf) ≡ false = chain_excl c c' ne (entry_at es leaf) leaf_key in
         chain_beside es w.words w'.words c' s (Some e) lt (free_off es c' s free) (chain_excl c c' ne (Some e) keyed) old (rooted_other c' clt old.tree (old.members leaf ∙ off) old.rooted)
 
-    chained : (c' : ℕ) → c' < 65536 → IsChain es' w'.words c'
+    chained : (c' : ℕ) → c' < 262144 → IsChain es' w'.words c'
     chained c' clt = by_bool (nat_eq c' c) (λ yes. subst (IsChain es' w'.words) (sym (equal c' c yes)) chain_mine) (λ no. chain_other c' clt no)
 
     -- ---- who stands where
@@ -229,7 +233,7 @@ module _ (es : List (Option Held)) (w : Woods) (h : IsForest es w) (e : Held) (s
     number_else i p q = number_other (set w.leaves s (child_of n side)) leaf (child_of n (1 - side)) i p ∙ number_other w.leaves s (child_of n side) i q
 
     forks_len : length w'.forks ≡ length w.forks
-    forks_len = length-set w.forks n place
+    forks_len = length-set w.forks n number
 
     children_stay : (m : ℕ) → HasChildren w.words m → HasChildren w'.words m
     children_stay m k = (moves_there (child_of m 0) k.0, moves_there (child_of m 1) k.1)
@@ -246,20 +250,20 @@ module _ (es : List (Option Held)) (w : Woods) (h : IsForest es w) (e : Held) (s
     stays p ne target.Nothing q k = tt
     stays p ne (target.Leaf i) q k =
         let away : i ≢ s = not_free es i s k.1 free in
-        (number_else i (λ r. not_leaf p ne (q ∙ ap target.Leaf r)) away ∙ k.0, held_beside es s i (Some e) away k.1)
+        (subst (λ x. IsPlaced x p) (sym (number_else i (λ r. not_leaf p ne (q ∙ ap target.Leaf r)) away)) k.0, held_beside es s i (Some e) away k.1)
     stays p ne (target.Fork m x) q k =
-        (number_other w.forks n place m (not_own m k.2) ∙ k.0, subst (λ z. m < z) (sym forks_len) k.1, children_stay m k.2)
+        (subst (λ x. IsPlaced x p) (sym (number_other w.forks n number m (not_own m k.2))) k.0, subst (λ z. m < z) (sym forks_len) k.1, children_stay m k.2)
 
     to_target : (p : ℕ) (t : Target) → at' p ≡ t → StandsAt es' w' p t → StandsAt es' w' p (at' p)
     to_target p t q k = subst (StandsAt es' w' p) (sym q) k
 
     standing_at : (p : ℕ) → StandsAt es' w' p (at' p)
     standing_at p = by_bool (nat_eq p place)
-        (λ yes. subst (λ q. StandsAt es' w' q (at' q)) (sym (equal p place yes)) (to_target place (target.Fork n b) at_there (number_same w.forks n place fork_lt, subst (λ z. n < z) (sym forks_len) fork_lt, own_children)))
+        (λ yes. subst (λ q. StandsAt es' w' q (at' q)) (sym (equal p place yes)) (to_target place (target.Fork n b) at_there (subst (λ x. IsPlaced x place) (sym (number_same w.forks n number fork_lt)) (leaf_placed es w h place leaf at_place), subst (λ z. n < z) (sym forks_len) fork_lt, own_children)))
         (λ no. by_bool (nat_eq p (child_of n side))
-        (λ yes. subst (λ q. StandsAt es' w' q (at' q)) (sym (equal p (child_of n side) yes)) (to_target (child_of n side) (target.Leaf s) at_own (number_own, held_here es s e lt)))
+        (λ yes. subst (λ q. StandsAt es' w' q (at' q)) (sym (equal p (child_of n side) yes)) (to_target (child_of n side) (target.Leaf s) at_own (subst (λ x. IsPlaced x (child_of n side)) (sym number_own) (placed_child (child_of n side) (omega arith)), held_here es s e lt)))
         (λ no'. by_bool (nat_eq p (child_of n (1 - side)))
-        (λ yes. subst (λ q. StandsAt es' w' q (at' q)) (sym (equal p (child_of n (1 - side)) yes)) (to_target (child_of n (1 - side)) (target.Leaf leaf) at_other (number_leaf, held_beside es s leaf (Some e) leaf_not leaf_held)))
+        (λ yes. subst (λ q. StandsAt es' w' q (at' q)) (sym (equal p (child_of n (1 - side)) yes)) (to_target (child_of n (1 - side)) (target.Leaf leaf) at_other (subst (λ x. IsPlaced x (child_of n (1 - side))) (sym number_leaf) (placed_child (child_of n (1 - side)) (omega arith)), held_beside es s leaf (Some e) leaf_not leaf_held)))
         (λ nor. to_target p (at p) (at_else p (apart p place no) (apart p (child_of n side) no') (apart p (child_of n (1 - side)) nor)) (stays p (apart p place no) (at p) refl (h.stands p)))))
 
     -- ---- who keeps what
@@ -279,10 +283,26 @@ module _ (es : List (Option Held)) (w : Woods) (h : IsForest es w) (e : Held) (s
         let beside : i ≢ leaf = λ q. not_free es leaf i leaf_held was (sym q) in
         subst (λ m. Keeps w' h.keeper m i) (sym (number_else i beside away)) (keeps (number_at w.leaves i) i away (h.frees i (subst (λ z. i < z) (length-set es s (Some e)) ilt) was))
 
-    spares : (c' : ℕ) → c' < 65536 → at' c' ≢ target.Nothing → Keeps w' h.keeper (number_at w'.spares c') (65536 + c')
+    -- what another place has keeps its number
+    spare_else : (p : ℕ) → p ≢ place → (t : Target) → at p ≡ t → StandsAt es w p t → spare_of w' t ≡ spare_of w t
+    spare_else p ne target.Nothing q k = refl
+    spare_else p ne (target.Leaf i) q k = number_else i (λ r. not_leaf p ne (q ∙ ap target.Leaf r)) (not_free es i s k.1 free)
+    spare_else p ne (target.Fork m x) q k = number_other w.forks n number m (not_own m k.2)
+
+    spare_same : (c' : ℕ) → c' < 262144 → spare_of w' (at' c') ≡ spare_of w (at c')
+    spare_same c' clt = by_bool (nat_eq c' place)
+        (λ yes.
+        ap (λ p. spare_of w' (at' p)) (equal c' place yes) ∙ ap (spare_of w') at_there ∙ number_same w.forks n number fork_lt
+        ∙ ap (spare_of w) (sym at_place) ∙ ap (λ p. spare_of w (at p)) (sym (equal c' place yes)))
+        (λ no.
+        ap (spare_of w') (at_else c' (apart c' place no) (λ q. absurd (omega (arith, clt, q))) (λ q. absurd (omega (arith, clt, q))))
+        ∙ spare_else c' (apart c' place no) (at c') refl (h.stands c'))
+
+    spares : (c' : ℕ) → c' < 262144 → at' c' ≢ target.Nothing → Keeps w' h.keeper (spare_of w' (at' c')) (65536 + c')
     spares c' clt some =
         let few : length es < 65537 = omega (arith, h.slots, h.sizes.few) in
-        keeps (number_at w.spares c') (65536 + c') (λ q. absurd (omega (arith, q, lt, few))) (h.spares c' clt (λ none. some (nothing_stays c' clt none)))
+        subst (λ m. Keeps w' h.keeper m (65536 + c')) (sym (spare_same c' clt))
+        (keeps (spare_of w (at c')) (65536 + c') (λ q. absurd (omega (arith, q, lt, few))) (h.spares c' clt (λ none. some (nothing_stays c' clt none))))
 
     words_len : length w'.words ≡ length w.words
     words_len = length-set words2 (child_of n (1 - side)) leaf ∙ words2_len
@@ -295,7 +315,6 @@ module _ (es : List (Option Held)) (w : Woods) (h : IsForest es w) (e : Held) (s
       sizes = record {
         words = omega (arith, words_len, forks_len, h.sizes.words);
         leaves = omega (arith, leaves'_len, forks_len, h.sizes.leaves);
-        spares = h.sizes.spares;
         few = omega (arith, forks_len, h.sizes.few);
       };
       slots = omega (arith, forks_len, h.slots, length-set es s (Some e));

@@ -6,6 +6,7 @@ pub mod SlotsLemmas
 pub mod Threaded
 pub mod TreeLemmas
 pub mod ForestLemmas
+pub mod Places
 pub mod Ways
 pub mod Walk
 pub mod SoundLemmas

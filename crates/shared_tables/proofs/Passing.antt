@@ -4,7 +4,7 @@ use Rattle.std.proofs.lemmas.List.{get_or-set_same, get_or-set_other, length-set
 use Rattle.std.specs.Option.{option_map}
 use Rattle.filter_db.specs.declared.place.Place.{Place}
 use Rattle.filter_db.specs.Place.{same_place}
-use Rattle.shared_tables.specs.Pool.{Held}
+use Rattle.shared_tables.specs.Pool.{Held, chain_in}
 use Rattle.shared_tables.specs.declared.links.Links.{Links}
 use Rattle.shared_tables.specs.declared.share.Share.{Share}
 use Rattle.shared_tables.specs.declared.shared_tables.SharedTables.TheInside.{Inside}
@@ -144,7 +144,7 @@ module _ (old now : Pool) (forest : Woods) (was shares : List (Option Share)) (m
   ends = ends_without (record { first = a.whole.first; last = a.whole.last }) (links_at now.lines slot)
 
   -- its entry goes
-  pub pass_drop : stands_at place (entry_at now.entries slot) ≡ true → (now' : Pool) (forest' : Woods) (shares' : List (Option Share)) → now' ≡ dropped now slot → Uproots forest forest' slot
+  pub pass_drop : stands_at place (entry_at now.entries slot) ≡ true → (now' : Pool) (forest' : Woods) (shares' : List (Option Share)) → now' ≡ dropped now slot → Uproots forest forest' (chain_in (entry_at now.entries slot)) slot
       → shares' ≡ shares_without shares v (is_fixed_in (entry_at now.entries slot)) (links_at now.lines slot) → Passes old now' forest' was shares' moment v place (links_at now.lines slot).next (steps + 1) count
   pass_drop there now' forest' shares' e uproots shares_are =
       subst (λ (p : Pool). Passes old p forest' was shares' moment v place (links_at now.lines slot).next (steps + 1) count) (sym e) (record {

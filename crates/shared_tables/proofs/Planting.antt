@@ -9,15 +9,15 @@ use Rattle.shared_tables.specs.Line.{is_on}
 use Rattle.shared_tables.specs.Shared.{chain_key}
 use Rattle.shared_tables.specs.Trees.{Tree, Leaf}
 use Rattle.shared_tables.specs.Woods.{Woods, target_at, number_at, child_of, planted}
-use Rattle.shared_tables.specs.Forest.{leaves_of, IsRooted, IsChain, HasChildren, StandsAt, Keeps, IsForest}
+use Rattle.shared_tables.specs.Forest.{leaves_of, IsRooted, IsChain, HasChildren, IsPlaced, StandsAt, spare_of, Keeps, IsForest}
 use Rattle.shared_tables.proofs.Linked.{by_bool, equal, nat_eq_refl}
 use Rattle.shared_tables.proofs.Buckets.{chain_small, chain_excl}
 use Rattle.shared_tables.proofs.TreeLemmas.{tree_there, tree_frame}
 use Rattle.shared_tables.proofs.Grafting.{free_off, one_more, weight_is}
-use Rattle.shared_tables.proofs.ForestLemmas.{apart, differ, leaf_word, written_same, written_other, number_same, number_other, entry_same, entry_other, keys_set, held_beside, held_here, not_free, chain_beside}
+use Rattle.shared_tables.proofs.ForestLemmas.{apart, differ, leaf_word, written_same, written_other, entry_same, entry_other, keys_set, held_beside, held_here, not_free, chain_beside}
 
 -- only the root of one chain changes
-module _ (words : List ℕ) (c v : ℕ) (c_lt : c < 65536) where
+module _ (words : List ℕ) (c v : ℕ) (c_lt : c < 262144) where
   pub root_child : (m s : ℕ) → target_at (set words c v) (child_of m s) ≡ target_at words (child_of m s)
   root_child m s = written_other words c v (child_of m s) (λ q. absurd (omega (arith, q, c_lt)))
 
@@ -45,7 +45,7 @@ module _ (es : List (Option Held)) (w : Woods) (h : IsForest es w) (e : Held) (s
   abbrev at' : ℕ → Target
   at' = target_at w'.words
 
-  c_lt : c < 65536
+  c_lt : c < 262144
   c_lt = chain_small e.vid e.mac
 
   s_lt : s < length w.leaves
@@ -87,7 +87,7 @@ module _ (es : List (Option Held)) (w : Woods) (h : IsForest es w) (e : Held) (s
         size = omega (arith, was.0, old.size, one_more es c s (Some e) lt, weight_is c (entry_at es s) false (free_off es c s free), weight_is c (Some e) true keyed);
       }
 
-  chain_other : (c' : ℕ) → c' < 65536 → nat_eq c' c ≡ false → IsChain es' w'.words c'
+  chain_other : (c' : ℕ) → c' < 262144 → nat_eq c' c ≡ false → IsChain es' w'.words c'
   chain_other c' clt ne =
       let k = h.chained c' clt in
       chain_beside es w.words w'.words c' s (Some e) lt (free_off es c' s free) (chain_excl c c' ne (Some e) keyed) k
@@ -96,19 +96,18 @@ module _ (es : List (Option Held)) (w : Woods) (h : IsForest es w) (e : Held) (s
   forks_stay : (m : ℕ) → HasChildren w.words m → HasChildren w'.words m
   forks_stay m k = (λ q. k.0 (sym (child_same m 0) ∙ q), λ q. k.1 (sym (child_same m 1) ∙ q))
 
-  leaves_len : length w'.leaves ≡ length w.leaves
-  leaves_len = length-set w.leaves s c
-
   stays : (p : ℕ) (t : Target) → StandsAt es w p t → StandsAt es' w' p t
   stays p target.Nothing k = tt
-  stays p (target.Leaf i) k =
-      let away : i ≢ s = not_free es i s k.1 free in
-      (number_other w.leaves s c i away ∙ k.0, held_beside es s i (Some e) away k.1)
+  stays p (target.Leaf i) k = (k.0, held_beside es s i (Some e) (not_free es i s k.1 free) k.1)
   stays p (target.Fork m x) k = (k.0, k.1, forks_stay m k.2)
+
+  -- the slot's number is the fork that it kept
+  at_top : IsPlaced n c
+  at_top = record { behind = λ le. absurd (omega (arith, le, c_lt)); top = λ _. omega (arith, own_fork.there, h.sizes.few) }
 
   standing_at : (p : ℕ) → StandsAt es' w' p (at' p)
   standing_at p = by_bool (nat_eq p c)
-      (λ yes. subst (λ q. StandsAt es' w' q (at' q)) (sym (equal p c yes)) (subst (StandsAt es' w' c) (sym at_root) (number_same w.leaves s c s_lt, held_here es s e lt)))
+      (λ yes. subst (λ q. StandsAt es' w' q (at' q)) (sym (equal p c yes)) (subst (StandsAt es' w' c) (sym at_root) (at_top, held_here es s e lt)))
       (λ no. subst (StandsAt es' w' p) (sym (at_else p (apart p c no))) (stays p (at p) (h.stands p)))
 
   -- the chain keeps the slot's fork
@@ -136,22 +135,27 @@ module _ (es : List (Option Held)) (w : Woods) (h : IsForest es w) (e : Held) (s
   frees : (i : ℕ) → i < length es' → entry_at es' i ≡ None → Keeps w' keeper' (number_at w'.leaves i) i
   frees i ilt is =
       let away : i ≢ s = λ q. let bad : Some e ≡ None = sym (entry_same es s (Some e) lt) ∙ ap (entry_at es') (sym q) ∙ is in cc in
-      subst (λ m. Keeps w' keeper' m i) (sym (number_other w.leaves s c i away)) (keeps (number_at w.leaves i) i away (h.frees i (subst (λ z. i < z) (length-set es s (Some e)) ilt) (sym (entry_other es s i (Some e) away) ∙ is)))
+      keeps (number_at w.leaves i) i away (h.frees i (subst (λ z. i < z) (length-set es s (Some e)) ilt) (sym (entry_other es s i (Some e) away) ∙ is))
 
-  spares : (c' : ℕ) → c' < 65536 → at' c' ≢ target.Nothing → Keeps w' keeper' (number_at w'.spares c') (65536 + c')
+  spares : (c' : ℕ) → c' < 262144 → at' c' ≢ target.Nothing → Keeps w' keeper' (spare_of w' (at' c')) (65536 + c')
   spares c' clt some = by_bool (nat_eq c' c)
-      (λ yes. subst (λ x. Keeps w' keeper' (number_at w'.spares x) (65536 + x)) (sym (equal c' c yes)) (subst (λ m. Keeps w' keeper' m (65536 + c)) (sym (number_same w.spares c n (omega (arith, c_lt, h.sizes.spares)))) keeps_own))
+      (λ yes. subst (λ x. Keeps w' keeper' (spare_of w' (at' x)) (65536 + x)) (sym (equal c' c yes)) (subst (λ t. Keeps w' keeper' (spare_of w' t) (65536 + c)) (sym at_root) keeps_own))
       (λ no.
       let few : length es < 65537 = omega (arith, h.slots, h.sizes.few) in
-      subst (λ m. Keeps w' keeper' m (65536 + c')) (sym (number_other w.spares c n c' (apart c' c no)))
-      (keeps (number_at w.spares c') (65536 + c') (λ q. absurd (omega (arith, q, lt, few))) (h.spares c' clt (λ q. some (at_else c' (apart c' c no) ∙ q)))))
+      let stays_there : at' c' ≡ at c' = at_else c' (apart c' c no) in
+      subst (λ t. Keeps w' keeper' (spare_of w' t) (65536 + c')) (sym stays_there)
+      (same_spare (at c') (keeps (spare_of w (at c')) (65536 + c') (λ q. absurd (omega (arith, q, lt, few))) (h.spares c' clt (λ q. some (stays_there ∙ q))))))
+    where
+      same_spare : (t : Target) → Keeps w' keeper' (spare_of w t) (65536 + c') → Keeps w' keeper' (spare_of w' t) (65536 + c')
+      same_spare target.Nothing k = k
+      same_spare (target.Leaf i) k = k
+      same_spare (target.Fork m x) k = k
 
   pub plant_forest : IsKey (key_of e.vid e.mac) → IsForest es' w'
   plant_forest own = record {
     sizes = record {
       words = omega (arith, length-set w.words c s, h.sizes.words);
-      leaves = omega (arith, leaves_len, h.sizes.leaves);
-      spares = omega (arith, length-set w.spares c n, h.sizes.spares);
+      leaves = h.sizes.leaves;
       few = h.sizes.few;
     };
     slots = omega (arith, h.slots, length-set es s (Some e));

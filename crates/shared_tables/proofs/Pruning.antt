@@ -8,17 +8,15 @@ use Rattle.shared_tables.specs.Pool.{Held, entry_at}
 use Rattle.shared_tables.specs.Line.{is_on}
 use Rattle.shared_tables.specs.Shared.{chain_key}
 use Rattle.shared_tables.specs.Trees.{Tree, Leaf, Fork, leaves, IsTree, descend, without}
-use Rattle.shared_tables.specs.Woods.{Woods, Names, target_at, number_at, child_of, standing, pruned}
-use Rattle.shared_tables.specs.Forest.{keys_of, key_in, leaves_of, IsRooted, AnyParted, LeadsTo, IsChain, Belongs, HasChildren, StandsAt, Keeps, IsForest}
+use Rattle.shared_tables.specs.Woods.{Woods, Names, target_at, number_at, child_of, place_by, standing, pruned}
+use Rattle.shared_tables.specs.Forest.{keys_of, key_in, leaves_of, IsRooted, AnyParted, LeadsTo, IsChain, Belongs, HasChildren, IsPlaced, StandsAt, spare_of, Keeps, IsForest}
 use Rattle.shared_tables.proofs.Linked.{by_bool, equal, nat_eq_refl}
 use Rattle.shared_tables.proofs.Threaded.{in_entries}
 use Rattle.shared_tables.proofs.Buckets.{chain_small, chain_excl}
 use Rattle.shared_tables.proofs.TreeLemmas.{true_false, by_side, same_tree, some_leaf, tree_there, only_leaf, other_right, descend_own, parted_frame, prune_length, prune_parted, prune_on, prune_off, prune_leads, pruned_to, prune_frame_at, left_tree, IsLeft, IsShorter}
 use Rattle.shared_tables.proofs.Grafting.{one_more, weight_is}
-use Rattle.shared_tables.proofs.ForestLemmas.{apart, differ, nothing_word, in_words, written_same, written_other, number_same, number_other, entry_same, entry_other, keys_gone, held_beside, not_free, leaf_there, leaf_alone, fork_alone, leaf_place, HasTree, chain_beside, tree_of, chain_of_tree, belongs_leads}
-
-fork_there : (t : Target) (n b : ℕ) → t ≡ target.Fork n b → t ≢ target.Nothing
-fork_there t n b h none = let bad : target.Fork n b ≡ target.Nothing = sym h ∙ none in cc
+use Rattle.shared_tables.proofs.Places.{place_behind, placed, placed_alone, leaf_placed, fork_placed, leaf_place, leaf_alone, fork_alone}
+use Rattle.shared_tables.proofs.ForestLemmas.{apart, differ, nothing_word, in_words, written_same, written_other, number_same, number_other, entry_same, entry_other, keys_gone, held_beside, not_free, leaf_there, fork_stands, HasTree, chain_beside, tree_of, chain_of_tree, belongs_leads}
 
 -- a target that isn't the fork stays
 to_same : (fork : ℕ) (rest t : Target) → ((b : ℕ) → t ≢ target.Fork fork b) → pruned_to fork rest t ≡ t
@@ -59,33 +57,29 @@ standing_forks target.Nothing place w = refl
 standing_forks (target.Leaf j) place w = refl
 standing_forks (target.Fork m c) place w = length-set w.forks m place
 
-standing_spares : (t : Target) (place : ℕ) (w : Woods) → (standing t place w).spares ≡ w.spares
-standing_spares target.Nothing place w = refl
-standing_spares (target.Leaf j) place w = refl
-standing_spares (target.Fork m c) place w = refl
-
--- where a fork of a tree stands
-record ForkPlace (at : ℕ → Target) (fork : ℕ) : Type 0 where
+-- where a fork of a chain's tree stands
+record ForkPlace (at : ℕ → Target) (c fork : ℕ) : Type 0 where
   place : ℕ
+  home : place < 262144 → place ≡ c
   bit : ℕ
   here : at place ≡ target.Fork fork bit
   tree : Tree
   stands : IsTree at (at place) tree
 
 -- the fork before a leaf that stands behind one
-fork_before : (at : ℕ → Target) (s fork side : ℕ) → side < 2 → ((p : ℕ) → at p ≡ target.Leaf s → p ≡ child_of fork side) → (p : ℕ) (t : Tree) → IsTree at (at p) t → is_on s (leaves t) ≡ true → (at p ≡ target.Leaf s) ⊎ ForkPlace at fork
-fork_before at s fork side two only p (Leaf i) h on = inl (h ∙ ap target.Leaf (sym (only_leaf s i on)))
-fork_before at s fork side two only p (Fork n b l r) h on = by_bool (is_on s (leaves l))
-    (λ yes. from 0 (omega arith) (fork_before at s fork side two only (child_of n 0) l h.1 yes))
-    (λ no. from 1 (omega arith) (fork_before at s fork side two only (child_of n 1) r h.2 (other_right s n b l r on no)))
+fork_before : (at : ℕ → Target) (c s fork side : ℕ) → side < 2 → ((p : ℕ) → at p ≡ target.Leaf s → p ≡ child_of fork side) → (p : ℕ) (t : Tree) → (p < 262144 → p ≡ c) → IsTree at (at p) t → is_on s (leaves t) ≡ true → (at p ≡ target.Leaf s) ⊎ ForkPlace at c fork
+fork_before at c s fork side two only p (Leaf i) home h on = inl (h ∙ ap target.Leaf (sym (only_leaf s i on)))
+fork_before at c s fork side two only p (Fork n b l r) home h on = by_bool (is_on s (leaves l))
+    (λ yes. from 0 (omega arith) (fork_before at c s fork side two only (child_of n 0) l (λ lt. absurd (omega (arith, lt))) h.1 yes))
+    (λ no. from 1 (omega arith) (fork_before at c s fork side two only (child_of n 1) r (λ lt. absurd (omega (arith, lt))) h.2 (other_right s n b l r on no)))
   where
-    from : (z : ℕ) → z < 2 → (at (child_of n z) ≡ target.Leaf s) ⊎ ForkPlace at fork → (at p ≡ target.Leaf s) ⊎ ForkPlace at fork
+    from : (z : ℕ) → z < 2 → (at (child_of n z) ≡ target.Leaf s) ⊎ ForkPlace at c fork → (at p ≡ target.Leaf s) ⊎ ForkPlace at c fork
     from z zlt (inl q) =
         let same : n ≡ fork = omega (arith, only (child_of n z) q, zlt, two) in
-        inr (record { place = p; bit = b; here = h.0 ∙ ap (λ k. target.Fork k b) same; tree = Fork n b l r; stands = h })
+        inr (record { place = p; home = home; bit = b; here = h.0 ∙ ap (λ k. target.Fork k b) same; tree = Fork n b l r; stands = h })
     from z zlt (inr k) = inr k
 
-module _ (es : List (Option Held)) (w : Woods) (h : IsForest es w) (e : Held) (s : ℕ) (here : entry_at es s ≡ Some e) (behind : 65536 ≤ number_at w.leaves s) where
+module _ (es : List (Option Held)) (w : Woods) (h : IsForest es w) (e : Held) (s : ℕ) (here : entry_at es s ≡ Some e) (behind : 262144 ≤ number_at w.leaves s) where
   abbrev c : ℕ
   c = chain_of e.vid e.mac
 
@@ -93,10 +87,10 @@ module _ (es : List (Option Held)) (w : Woods) (h : IsForest es w) (e : Held) (s
   place = number_at w.leaves s
 
   abbrev fork : ℕ
-  fork = (place - 65536) / 2
+  fork = (place - 262144) / 2
 
   abbrev side : ℕ
-  side = (place - 65536) % 2
+  side = (place - 262144) % 2
 
   abbrev at : ℕ → Target
   at = target_at w.words
@@ -105,7 +99,7 @@ module _ (es : List (Option Held)) (w : Woods) (h : IsForest es w) (e : Held) (s
   es' = set es s None
 
   abbrev w' : Woods
-  w' = pruned w fork side s
+  w' = pruned w c fork side s
 
   abbrev at' : ℕ → Target
   at' = target_at w'.words
@@ -116,7 +110,7 @@ module _ (es : List (Option Held)) (w : Woods) (h : IsForest es w) (e : Held) (s
   place_is : place ≡ child_of fork side
   place_is = omega (arith, behind)
 
-  c_lt : c < 65536
+  c_lt : c < 262144
   c_lt = chain_small e.vid e.mac
 
   keyed : chain_key c (entry_at es s) ≡ true
@@ -142,7 +136,7 @@ module _ (es : List (Option Held)) (w : Woods) (h : IsForest es w) (e : Held) (s
   on_mine = mine.members s ∙ keyed
 
   at_place : at place ≡ target.Leaf s
-  at_place = leaf_place es w h s c mine.tree mine.rooted on_mine
+  at_place = ap at (sym (place_behind c place behind)) ∙ leaf_place es w h s c c mine.tree (λ _. refl) mine.rooted on_mine
 
   at_own : at (child_of fork side) ≡ target.Leaf s
   at_own = ap at (sym place_is) ∙ at_place
@@ -154,32 +148,39 @@ module _ (es : List (Option Held)) (w : Woods) (h : IsForest es w) (e : Held) (s
   fork_lt = omega (arith, place_lt, behind, h.sizes.words)
 
   only : (p : ℕ) → at p ≡ target.Leaf s → p ≡ child_of fork side
-  only p q = sym (leaf_alone es w h p s q) ∙ place_is
+  only p q = sym (leaf_alone es w h c p s keyed q) ∙ place_behind c place behind ∙ place_is
 
   not_root : at c ≢ target.Leaf s
-  not_root q = omega (arith, leaf_alone es w h c s q, behind, c_lt)
+  not_root q = omega (arith, sym (place_behind c place behind) ∙ leaf_alone es w h c c s keyed q, behind, c_lt)
 
-  before : ForkPlace at fork
-  before = from (fork_before at s fork side two only c mine.tree mine.rooted on_mine)
+  before : ForkPlace at c fork
+  before = from (fork_before at c s fork side two only c mine.tree (λ _. refl) mine.rooted on_mine)
     where
-      from : (at c ≡ target.Leaf s) ⊎ ForkPlace at fork → ForkPlace at fork
+      from : (at c ≡ target.Leaf s) ⊎ ForkPlace at c fork → ForkPlace at c fork
       from (inl q) = absurd (not_root q)
       from (inr k) = k
 
   abbrev above : ℕ
   above = number_at w.forks fork
 
-  above_is : above ≡ before.place
-  above_is = fork_alone es w h before.place fork before.bit before.here
+  -- where it stands
+  abbrev top : ℕ
+  top = place_by c above
 
-  at_above : at above ≡ target.Fork fork before.bit
-  at_above = ap at above_is ∙ before.here
+  top_is : top ≡ before.place
+  top_is = placed c before.place above before.home (fork_placed es w h before.place fork before.bit before.here)
 
-  above_there : at above ≢ target.Nothing
-  above_there = fork_there (at above) fork before.bit at_above
+  at_above : at top ≡ target.Fork fork before.bit
+  at_above = ap at top_is ∙ before.here
 
-  pub above_lt : above < length w.words
-  above_lt = in_words w.words above above_there
+  above_placed : IsPlaced above top
+  above_placed = fork_placed es w h top fork before.bit at_above
+
+  above_there : at top ≢ target.Nothing
+  above_there = fork_stands (at top) fork before.bit at_above
+
+  pub above_lt : top < length w.words
+  above_lt = in_words w.words top above_there
 
   children : HasChildren w.words fork
   children = (subst (StandsAt es w before.place) before.here (h.stands before.place)).2
@@ -211,12 +212,12 @@ module _ (es : List (Option Held)) (w : Woods) (h : IsForest es w) (e : Held) (s
       absurd (omega (arith, ap (λ t. length (leaves t)) r_is, length-append (leaves l) (leaves r), some_leaf l)))
 
   -- it stands at no place of its own
-  not_behind : (z : ℕ) → z < 2 → above ≢ child_of fork z
+  not_behind : (z : ℕ) → z < 2 → top ≢ child_of fork z
   not_behind z zlt q = shorter before.bit before.tree (subst (λ y. IsTree at y before.tree) before.here before.stands) z zlt (ap at (sym q) ∙ at_above)
 
   -- where it stands alone
-  fork_only : (p b : ℕ) → at p ≡ target.Fork fork b → p ≡ above
-  fork_only p b q = sym (fork_alone es w h p fork b q)
+  fork_only : (p b : ℕ) → at p ≡ target.Fork fork b → p ≡ top
+  fork_only p b q = fork_alone es w h p top fork b before.bit q at_above
 
   rest_not_fork : (b : ℕ) → rest ≢ target.Fork fork b
   rest_not_fork b q = not_behind (1 - side) other_lt (sym (fork_only (child_of fork (1 - side)) b q))
@@ -230,13 +231,13 @@ module _ (es : List (Option Held)) (w : Woods) (h : IsForest es w) (e : Held) (s
   sibling = get_or w.words (child_of fork (1 - side)) 4294967295
 
   abbrev words1 : List ℕ
-  words1 = set w.words above sibling
+  words1 = set w.words top sibling
 
   abbrev words2 : List ℕ
   words2 = set words1 (child_of fork 0) 4294967295
 
   words1_len : length words1 ≡ length w.words
-  words1_len = length-set w.words above sibling
+  words1_len = length-set w.words top sibling
 
   words2_len : length words2 ≡ length w.words
   words2_len = length-set words1 (child_of fork 0) 4294967295 ∙ words1_len
@@ -250,24 +251,24 @@ module _ (es : List (Option Held)) (w : Woods) (h : IsForest es w) (e : Held) (s
   at_zero : at' (child_of fork 0) ≡ target.Nothing
   at_zero = written_other words2 (child_of fork 1) 4294967295 (child_of fork 0) sides_apart ∙ written_same words1 (child_of fork 0) 4294967295 (omega (arith, child_lt 0 (omega arith), words1_len)) ∙ nothing_word
 
-  at_rest : at' above ≡ rest
+  at_rest : at' top ≡ rest
   at_rest =
-      written_other words2 (child_of fork 1) 4294967295 above (not_behind 1 (omega arith))
-      ∙ written_other words1 (child_of fork 0) 4294967295 above (not_behind 0 (omega arith))
-      ∙ written_same w.words above sibling above_lt
+      written_other words2 (child_of fork 1) 4294967295 top (not_behind 1 (omega arith))
+      ∙ written_other words1 (child_of fork 0) 4294967295 top (not_behind 0 (omega arith))
+      ∙ written_same w.words top sibling above_lt
 
-  at_else : (p : ℕ) → p ≢ above → p ≢ child_of fork 0 → p ≢ child_of fork 1 → at' p ≡ at p
-  at_else p q r t = written_other words2 (child_of fork 1) 4294967295 p t ∙ written_other words1 (child_of fork 0) 4294967295 p r ∙ written_other w.words above sibling p q
+  at_else : (p : ℕ) → p ≢ top → p ≢ child_of fork 0 → p ≢ child_of fork 1 → at' p ≡ at p
+  at_else p q r t = written_other words2 (child_of fork 1) 4294967295 p t ∙ written_other words1 (child_of fork 0) 4294967295 p r ∙ written_other w.words top sibling p q
 
   moves : (p : ℕ) → at p ≢ target.Nothing → p ≢ child_of fork 0 → p ≢ child_of fork 1 → at' p ≡ pruned_to fork rest (at p)
-  moves p some r t = by_bool (nat_eq p above)
-      (λ yes. ap at' (equal p above yes) ∙ at_rest ∙ sym (to_rest fork before.bit rest) ∙ ap (pruned_to fork rest) (sym at_above) ∙ ap (λ q. pruned_to fork rest (at q)) (sym (equal p above yes)))
-      (λ no. at_else p (apart p above no) r t ∙ sym (to_same fork rest (at p) (λ b q. apart p above no (fork_only p b q))))
+  moves p some r t = by_bool (nat_eq p top)
+      (λ yes. ap at' (equal p top yes) ∙ at_rest ∙ sym (to_rest fork before.bit rest) ∙ ap (pruned_to fork rest) (sym at_above) ∙ ap (λ q. pruned_to fork rest (at q)) (sym (equal p top yes)))
+      (λ no. at_else p (apart p top no) r t ∙ sym (to_same fork rest (at p) (λ b q. apart p top no (fork_only p b q))))
 
   moves_there : (p : ℕ) → at p ≢ target.Nothing → p ≢ child_of fork 0 → p ≢ child_of fork 1 → at' p ≢ target.Nothing
   moves_there p some r t = subst (λ y. y ≢ target.Nothing) (sym (moves p some r t)) (to_there fork rest (at p) rest_there some)
 
-  root_not : (p z : ℕ) → p < 65536 → p ≢ child_of fork z
+  root_not : (p z : ℕ) → p < 262144 → p ≢ child_of fork z
   root_not p z plt q = omega (arith, plt, q)
 
   -- ---- the chains
@@ -304,20 +305,20 @@ module _ (es : List (Option Held)) (w : Woods) (h : IsForest es w) (e : Held) (s
             size = omega (arith, short, mine.size, one_more es c s None own_lt, weight_is c (entry_at es s) true keyed, weight_is c None false refl);
           })
 
-  nothing_stays : (p : ℕ) → p < 65536 → at p ≡ target.Nothing → at' p ≡ target.Nothing
+  nothing_stays : (p : ℕ) → p < 262144 → at p ≡ target.Nothing → at' p ≡ target.Nothing
   nothing_stays p plt q = at_else p (λ r. above_there (ap at (sym r) ∙ q)) (root_not p 0 plt) (root_not p 1 plt) ∙ q
 
-  rooted_other : (c' : ℕ) → c' < 65536 → (t : Option Tree) → is_on s (leaves_of t) ≡ false → IsRooted at (at c') t → IsRooted at' (at' c') t
+  rooted_other : (c' : ℕ) → c' < 262144 → (t : Option Tree) → is_on s (leaves_of t) ≡ false → IsRooted at (at c') t → IsRooted at' (at' c') t
   rooted_other c' clt None off k = nothing_stays c' clt k
   rooted_other c' clt (Some t) off k = prune_frame_at at at' s fork side two at_own moves c' clt t k off
 
-  chain_other : (c' : ℕ) → c' < 65536 → nat_eq c' c ≡ false → IsChain es' w'.words c'
+  chain_other : (c' : ℕ) → c' < 262144 → nat_eq c' c ≡ false → IsChain es' w'.words c'
   chain_other c' clt ne =
       let k = h.chained c' clt in
       let off : chain_key c' (entry_at es s) ≡ false = chain_excl c c' ne (entry_at es s) keyed in
       chain_beside es w.words w'.words c' s None own_lt off refl k (rooted_other c' clt k.tree (k.members s ∙ off) k.rooted)
 
-  chained : (c' : ℕ) → c' < 65536 → IsChain es' w'.words c'
+  chained : (c' : ℕ) → c' < 262144 → IsChain es' w'.words c'
   chained c' clt = by_bool (nat_eq c' c) (λ yes. subst (IsChain es' w'.words) (sym (equal c' c yes)) (chain_left left refl)) (λ no. chain_other c' clt no)
 
   -- ---- who stands where
@@ -346,42 +347,42 @@ module _ (es : List (Option Held)) (w : Woods) (h : IsForest es w) (e : Held) (s
     moves_there (child_of m 1) k.1 (not_child m 1 0 (omega arith) (omega arith) ne) (not_child m 1 1 (omega arith) (omega arith) ne),
   )
 
-  rests : (t : Target) → rest ≡ t → StandsAt es w (child_of fork (1 - side)) t → StandsAt es' w' above t
+  rests : (t : Target) → rest ≡ t → StandsAt es w (child_of fork (1 - side)) t → StandsAt es' w' top t
   rests target.Nothing q k = tt
   rests (target.Leaf i) q k =
       let away : i ≢ s = λ r. rest_not (q ∙ ap target.Leaf r) in
       let into : number_at moved.leaves i ≡ above = ap (λ (t : Target). number_at (standing t above w).leaves i) q ∙ number_same w.leaves i above (omega (arith, k.1.in_pool, h.slots, h.sizes.leaves)) in
-      (number_other moved.leaves s fork i away ∙ into, held_beside es s i None away k.1)
+      (subst (λ x. IsPlaced x top) (sym (number_other moved.leaves s fork i away ∙ into)) above_placed, held_beside es s i None away k.1)
   rests (target.Fork m x) q k =
       let away : m ≢ fork = λ r. rest_not_fork x (q ∙ ap (λ n. target.Fork n x) r) in
       let into : number_at moved.forks m ≡ above = ap (λ (t : Target). number_at (standing t above w).forks m) q ∙ number_same w.forks m above k.1 in
-      (into, subst (λ z. m < z) (sym forks_len) k.1, children_stay m away k.2)
+      (subst (λ x. IsPlaced x top) (sym into) above_placed, subst (λ z. m < z) (sym forks_len) k.1, children_stay m away k.2)
 
-  stays : (p : ℕ) → p ≢ above → p ≢ child_of fork 0 → p ≢ child_of fork 1 → (t : Target) → at p ≡ t → StandsAt es w p t → StandsAt es' w' p t
+  stays : (p : ℕ) → p ≢ top → p ≢ child_of fork 0 → p ≢ child_of fork 1 → (t : Target) → at p ≡ t → StandsAt es w p t → StandsAt es' w' p t
   stays p ne r t target.Nothing q k = tt
   stays p ne r t (target.Leaf i) q k =
       let away : i ≢ s = λ x. no_side p side two r t (only p (q ∙ ap target.Leaf x)) in
-      let other : rest ≢ target.Leaf i = λ x. no_side p (1 - side) other_lt r t (sym k.0 ∙ leaf_alone es w h (child_of fork (1 - side)) i x) in
-      (number_else i away other ∙ k.0, held_beside es s i None away k.1)
+      let other : rest ≢ target.Leaf i = λ x. no_side p (1 - side) other_lt r t (placed_alone (number_at w.leaves i) p (child_of fork (1 - side)) (omega arith) k.0 (leaf_placed es w h (child_of fork (1 - side)) i x)) in
+      (subst (λ x. IsPlaced x p) (sym (number_else i away other)) k.0, held_beside es s i None away k.1)
     where
       no_side : (p z : ℕ) → z < 2 → p ≢ child_of fork 0 → p ≢ child_of fork 1 → p ≢ child_of fork z
       no_side p z zlt r t q = by_side z zlt (λ e0. r (q ∙ ap (child_of fork) e0)) (λ e1. t (q ∙ ap (child_of fork) e1))
   stays p ne r t (target.Fork m x) q k =
       let away : m ≢ fork = λ y. ne (fork_only p x (q ∙ ap (λ n. target.Fork n x) y)) in
-      let other : (b : ℕ) → rest ≢ target.Fork m b = λ b y. no_side p (1 - side) other_lt r t (sym k.0 ∙ fork_alone es w h (child_of fork (1 - side)) m b y) in
-      (standing_fork rest above w m other ∙ k.0, subst (λ z. m < z) (sym forks_len) k.1, children_stay m away k.2)
+      let other : (b : ℕ) → rest ≢ target.Fork m b = λ b y. no_side p (1 - side) other_lt r t (fork_alone es w h p (child_of fork (1 - side)) m x b q y) in
+      (subst (λ x. IsPlaced x p) (sym (standing_fork rest above w m other)) k.0, subst (λ z. m < z) (sym forks_len) k.1, children_stay m away k.2)
     where
       no_side : (p z : ℕ) → z < 2 → p ≢ child_of fork 0 → p ≢ child_of fork 1 → p ≢ child_of fork z
       no_side p z zlt r t q = by_side z zlt (λ e0. r (q ∙ ap (child_of fork) e0)) (λ e1. t (q ∙ ap (child_of fork) e1))
 
   standing_at : (p : ℕ) → StandsAt es' w' p (at' p)
-  standing_at p = by_bool (nat_eq p above)
-      (λ yes. subst (λ q. StandsAt es' w' q (at' q)) (sym (equal p above yes)) (subst (StandsAt es' w' above) (sym at_rest) (rests rest refl (h.stands (child_of fork (1 - side))))))
+  standing_at p = by_bool (nat_eq p top)
+      (λ yes. subst (λ q. StandsAt es' w' q (at' q)) (sym (equal p top yes)) (subst (StandsAt es' w' top) (sym at_rest) (rests rest refl (h.stands (child_of fork (1 - side))))))
       (λ no. by_bool (nat_eq p (child_of fork 0))
       (λ yes. subst (λ q. StandsAt es' w' q (at' q)) (sym (equal p (child_of fork 0) yes)) (subst (StandsAt es' w' (child_of fork 0)) (sym at_zero) tt))
       (λ no'. by_bool (nat_eq p (child_of fork 1))
       (λ yes. subst (λ q. StandsAt es' w' q (at' q)) (sym (equal p (child_of fork 1) yes)) (subst (StandsAt es' w' (child_of fork 1)) (sym at_one) tt))
-      (λ nor. subst (StandsAt es' w' p) (sym (at_else p (apart p above no) (apart p (child_of fork 0) no') (apart p (child_of fork 1) nor))) (stays p (apart p above no) (apart p (child_of fork 0) no') (apart p (child_of fork 1) nor) (at p) refl (h.stands p)))))
+      (λ nor. subst (StandsAt es' w' p) (sym (at_else p (apart p top no) (apart p (child_of fork 0) no') (apart p (child_of fork 1) nor))) (stays p (apart p top no) (apart p (child_of fork 0) no') (apart p (child_of fork 1) nor) (at p) refl (h.stands p)))))
 
   -- ---- who keeps what
 
@@ -417,8 +418,32 @@ module _ (es : List (Option Held)) (w : Woods) (h : IsForest es w) (e : Held) (s
       let other : rest ≢ target.Leaf i = λ q. not_free es i i (subst (StandsAt es w (child_of fork (1 - side))) q (h.stands (child_of fork (1 - side)))).1 was refl in
       subst (λ m. Keeps w' keeper' m i) (sym (number_else i away other)) (keeps (number_at w.leaves i) i (h.frees i (subst (λ z. i < z) (length-set es s None) ilt) was)))
 
-  spares : (c' : ℕ) → c' < 65536 → at' c' ≢ target.Nothing → Keeps w' keeper' (number_at w'.spares c') (65536 + c')
-  spares c' clt some = subst (λ (xs : List ℕ). Keeps w' keeper' (number_at xs c') (65536 + c')) (sym (standing_spares rest above w)) (keeps (number_at w.spares c') (65536 + c') (h.spares c' clt (λ none. some (nothing_stays c' clt none))))
+  -- what stands at the fork's place has its number
+  spare_rest : (t : Target) → rest ≡ t → StandsAt es w (child_of fork (1 - side)) t → spare_of w' t ≡ above
+  spare_rest target.Nothing q k = absurd (rest_there q)
+  spare_rest (target.Leaf i) q k =
+      let away : i ≢ s = λ r. rest_not (q ∙ ap target.Leaf r) in
+      number_other moved.leaves s fork i away ∙ ap (λ (t : Target). number_at (standing t above w).leaves i) q ∙ number_same w.leaves i above (omega (arith, k.1.in_pool, h.slots, h.sizes.leaves))
+  spare_rest (target.Fork m x) q k = ap (λ (t : Target). number_at (standing t above w).forks m) q ∙ number_same w.forks m above k.1
+
+  -- and what stands elsewhere at a top its own
+  spare_else : (p : ℕ) → p < 262144 → (t : Target) → at p ≡ t → StandsAt es w p t → spare_of w' t ≡ spare_of w t
+  spare_else p plt target.Nothing q k = refl
+  spare_else p plt (target.Leaf i) q k =
+      let away : i ≢ s = λ x. absurd (omega (arith, plt, only p (q ∙ ap target.Leaf x))) in
+      let other : rest ≢ target.Leaf i = λ x. absurd (omega (arith, plt, placed_alone (number_at w.leaves i) p (child_of fork (1 - side)) (omega arith) k.0 (leaf_placed es w h (child_of fork (1 - side)) i x))) in
+      number_else i away other
+  spare_else p plt (target.Fork m x) q k = standing_fork rest above w m (λ b y. absurd (omega (arith, plt, fork_alone es w h p (child_of fork (1 - side)) m x b q y)))
+
+  spare_same : (c' : ℕ) → c' < 262144 → spare_of w' (at' c') ≡ spare_of w (at c')
+  spare_same c' clt = by_bool (nat_eq c' top)
+      (λ yes.
+      ap (λ p. spare_of w' (at' p)) (equal c' top yes) ∙ ap (spare_of w') at_rest ∙ spare_rest rest refl (h.stands (child_of fork (1 - side)))
+      ∙ ap (spare_of w) (sym at_above) ∙ ap (λ p. spare_of w (at p)) (sym (equal c' top yes)))
+      (λ no. ap (spare_of w') (at_else c' (apart c' top no) (root_not c' 0 clt) (root_not c' 1 clt)) ∙ spare_else c' clt (at c') refl (h.stands c'))
+
+  spares : (c' : ℕ) → c' < 262144 → at' c' ≢ target.Nothing → Keeps w' keeper' (spare_of w' (at' c')) (65536 + c')
+  spares c' clt some = subst (λ m. Keeps w' keeper' m (65536 + c')) (sym (spare_same c' clt)) (keeps (spare_of w (at c')) (65536 + c') (h.spares c' clt (λ none. some (nothing_stays c' clt none))))
 
   words_len : length w'.words ≡ length w.words
   words_len = length-set words2 (child_of fork 1) 4294967295 ∙ words2_len
@@ -428,7 +453,6 @@ module _ (es : List (Option Held)) (w : Woods) (h : IsForest es w) (e : Held) (s
     sizes = record {
       words = omega (arith, words_len, forks_len, h.sizes.words);
       leaves = omega (arith, leaves_len, forks_len, h.sizes.leaves);
-      spares = ap length (standing_spares rest above w) ∙ h.sizes.spares;
       few = omega (arith, forks_len, h.sizes.few);
     };
     slots = omega (arith, forks_len, h.slots, length-set es s None);
@@ -461,7 +485,7 @@ module _ (es : List (Option Held)) (w : Woods) (h : IsForest es w) (e : Held) (s
     leads = prune_leads (keys_of es s) key s leaf mine.tree (differ leaf s ne) own_way way;
   }
 
-  belongs_beside : (c' key : ℕ) → c' < 65536 → nat_eq c' c ≡ false → (leaf : Option ℕ) → Belongs w.words c' key leaf → Belongs w'.words c' key leaf
+  belongs_beside : (c' key : ℕ) → c' < 262144 → nat_eq c' c ≡ false → (leaf : Option ℕ) → Belongs w.words c' key leaf → Belongs w'.words c' key leaf
   belongs_beside c' key clt ne leaf b = record { tree = b.tree; rooted = from b.tree b.rooted; leads = b.leads }
     where
       k : IsChain es w.words c'
@@ -477,7 +501,7 @@ module _ (es : List (Option Held)) (w : Woods) (h : IsForest es w) (e : Held) (s
           let same : t ≡ own.tree = same_tree at (at c') t own.tree r own.rooted in
           rooted_other c' clt (Some t) (ap (λ u. is_on s (leaves u)) same ∙ own.members s ∙ off) r
 
-  pub prune_belongs : (c' key : ℕ) → c' < 65536 → (leaf : Option ℕ) → leaf ≢ Some s → Belongs w.words c' key leaf → Belongs w'.words c' key leaf
+  pub prune_belongs : (c' key : ℕ) → c' < 262144 → (leaf : Option ℕ) → leaf ≢ Some s → Belongs w.words c' key leaf → Belongs w'.words c' key leaf
   prune_belongs c' key clt leaf ne b = by_bool (nat_eq c' c)
       (λ yes. subst (λ x. Belongs w'.words x key leaf) (sym (equal c' c yes)) (here_belongs leaf ne (subst (λ x. Belongs w.words x key leaf) (equal c' c yes) b)))
       (λ no. belongs_beside c' key clt no leaf b)

@@ -28,7 +28,7 @@ module _ (es : List (Option Held)) (w : Woods) (h : IsForest es w) (e f : Held) 
   abbrev es' : List (Option Held)
   es' = set es s (Some f)
 
-  c_lt : c < 65536
+  c_lt : c < 262144
   c_lt = chain_small e.vid e.mac
 
   keyed : chain_key c (entry_at es s) ≡ true
@@ -79,7 +79,7 @@ module _ (es : List (Option Held)) (w : Woods) (h : IsForest es w) (e f : Held) 
         size = omega (arith, mine.size, one_more es c s (Some f) own_lt, weight_is c (entry_at es s) true keyed, weight_is c (Some f) true keyed_new);
       })
 
-      chain_other : (c' : ℕ) → c' < 65536 → nat_eq c' c ≡ false → IsChain es' w.words c'
+      chain_other : (c' : ℕ) → c' < 262144 → nat_eq c' c ≡ false → IsChain es' w.words c'
       chain_other c' clt ne = let k = h.chained c' clt in chain_beside es w.words w.words c' s (Some f) own_lt (chain_excl c c' ne (entry_at es s) keyed) (chain_excl c c' ne (Some f) keyed_new) k k.rooted
 
       stays : (p : ℕ) (t : Target) → StandsAt es w p t → StandsAt es' w p t

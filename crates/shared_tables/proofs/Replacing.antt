@@ -8,7 +8,7 @@ use Rattle.shared_tables.specs.declared.links.Links.{Links}
 use Rattle.shared_tables.specs.declared.admission.Newcomer.{Newcomer}
 use Rattle.shared_tables.specs.declared.chains.Beside.{Beside}
 use Rattle.shared_tables.specs.Bucket.{key_of, chain_of}
-use Rattle.shared_tables.specs.Pool.{Pool, Held, entry_at, links_at, IfHeld, is_fixed_in, renewed, readdressed, vacancy}
+use Rattle.shared_tables.specs.Pool.{Pool, Held, chain_in, entry_at, links_at, IfHeld, is_fixed_in, renewed, readdressed, vacancy}
 use Rattle.shared_tables.specs.Line.{is_on}
 use Rattle.shared_tables.specs.Threads.{HoldsAny, dropped, moved}
 use Rattle.shared_tables.specs.Shared.{Shared, rule_at, kept_count, chain_key, HasRoom, Lacks, IsOf, Enters, line_key, same_bool, last_at, last_in_entry}
@@ -117,10 +117,10 @@ module _ (pool : Pool) (w : Woods) (shares : List (Option Share)) (moment : ℕ)
   pub may_drop : IsThreaded es ls shares v s
   may_drop = threaded es ls shares moment h.sound v s k
 
-  pub may_leave : MayGo w s
+  pub may_leave : MayGo w (chain_in (entry_at es s)) s
   may_leave = may_go es w h.forest k.entry s k.at_slot
 
-  module _ (pool' : Pool) (w' : Woods) (shares' : List (Option Share)) (pool_is : pool' ≡ dropped pool s) (uproots : Uproots w w' s) (shares_is : shares' ≡ shares_without shares v (is_fixed_in (entry_at es s)) (links_at ls s)) where
+  module _ (pool' : Pool) (w' : Woods) (shares' : List (Option Share)) (pool_is : pool' ≡ dropped pool s) (uproots : Uproots w w' (chain_in (entry_at es s)) s) (shares_is : shares' ≡ shares_without shares v (is_fixed_in (entry_at es s)) (links_at ls s)) where
     abbrev entries_are : pool'.entries ≡ set es s None
     entries_are = ap (λ (p : Pool). p.entries) pool_is
 

@@ -10,7 +10,7 @@ use Rattle.shared_tables.specs.Pool.{Held, entry_at, IfHeld}
 use Rattle.shared_tables.specs.Threads.{IsHeld}
 use Rattle.shared_tables.specs.Shared.{Shared, rule_at, span_of, Lacks, IsNow, Admits}
 use Rattle.shared_tables.specs.Forest.{BelongsBeside}
-use Rattle.shared_tables.specs.Woods.{Woods, number_at, planted, grafted}
+use Rattle.shared_tables.specs.Woods.{Woods, number_at, place_by, planted, grafted}
 use Rattle.shared_tables.specs.Whole.{Makes, Refuses}
 
 -- the entry of a newcomer
@@ -37,15 +37,15 @@ ComesTo old new span e outcome.Entered = Lacks old.entries e.vid e.mac × Makes 
 ComesTo old new span e outcome.Full = Lacks old.entries e.vid e.mac × Refuses old new e.vid span
 
 -- what putting a slot beside a leaf reads is there
-abbrev pub MayAttach : Woods → Option Beside → ℕ → Type 0
-MayAttach w None slot = Unit {0}
-MayAttach w (Some b) slot =
-    (b.leaf < length w.leaves) × (number_at w.leaves b.leaf < length w.words) × (number_at w.leaves slot < length w.forks) × (b.bit < 64)
+abbrev pub MayAttach : Woods → ℕ → Option Beside → ℕ → Type 0
+MayAttach w chain None slot = Unit {0}
+MayAttach w chain (Some b) slot =
+    (b.leaf < length w.leaves) × (place_by chain (number_at w.leaves b.leaf) < length w.words) × (number_at w.leaves slot < length w.forks) × (b.bit < 64)
 
 -- a slot is the only leaf of its chain, or stands beside another, behind a fork that sends its key to its side
 abbrev pub Attaches : Woods → Woods → Newcomer → Option Beside → ℕ → Type 0
 Attaches old new n None slot = new ≡ planted old n.chain slot
-Attaches old new n (Some b) slot = new ≡ grafted old b.leaf slot b.bit (bit_at (key_of n.vid n.mac) b.bit)
+Attaches old new n (Some b) slot = new ≡ grafted old n.chain b.leaf slot b.bit (bit_at (key_of n.vid n.mac) b.bit)
 
 -- a slot holds the address, or dead entries go and the entry comes, if there is room for it
 abbrev pub FindsOrAdmits : Shared → Shared → ℕ → Held → Outcome → Type 0

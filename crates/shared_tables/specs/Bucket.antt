@@ -1,4 +1,4 @@
--- The bucket of an address in a segment, and its chain: each bucket has sixteen. It states no standard.
+-- The bucket of an address in a segment, and its chain: each bucket has sixty-four. It states no standard.
 use Rattle.std.specs.Prelude.{ℕ, ◌+◌, ◌*◌, ◌/◌, ◌%◌, ◌^◌, ◌<◌, List, ◌++◌, take, drop}
 use Rattle.std.specs.Int.{from_be_bytes, to_be_bytes, w16, w64}
 use Rattle.header_sums.specs.Octets.{octets}
@@ -28,10 +28,10 @@ vid_in key = from_be_bytes w16 (take 2 (to_be_bytes w64 key))
 unfoldable pub mac_in : ℕ → List ℕ
 mac_in key = drop 2 (to_be_bytes w64 key)
 
--- the upper four of the lower 64 bits of a product: 2^64 over the golden ratio sends near keys far apart
+-- the upper six of the lower 64 bits of a product: 2^64 over the golden ratio sends near keys far apart
 unfoldable pub spread : ℕ → ℕ
-spread key = (key * 11400714819323198485) % 2 ^ 64 / 2 ^ 60 % 16
+spread key = (key * 11400714819323198485) % 2 ^ 64 / 2 ^ 58 % 64
 
--- the chain of an address in a segment: one of the sixteen of its bucket
+-- the chain of an address in a segment: one of the sixty-four of its bucket
 unfoldable pub chain_of : ℕ → List ℕ → ℕ
-chain_of vid mac = bucket_of vid mac * 16 + spread (key_of vid mac)
+chain_of vid mac = bucket_of vid mac * 64 + spread (key_of vid mac)

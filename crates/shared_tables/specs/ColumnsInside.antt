@@ -8,12 +8,10 @@ abbrev pub columns_of : Inside → Woods
 columns_of a = record {
   words = take a.leaves a.numbers.items;
   leaves = take (a.forks - a.leaves) (drop a.leaves a.numbers.items);
-  forks = take (a.spares - a.forks) (drop a.forks a.numbers.items);
-  spares = drop a.spares a.numbers.items;
+  forks = drop a.forks a.numbers.items;
 }
 
 -- they begin one behind another
 pub record AreInOrder (a : Inside) : Type 0 where
   pub leaves : a.leaves ≤ a.forks
-  pub forks : a.forks ≤ a.spares
-  pub spares : a.spares ≤ length a.numbers.items
+  pub forks : a.forks ≤ length a.numbers.items

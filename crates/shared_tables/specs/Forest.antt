@@ -1,5 +1,5 @@
 -- What holds of the trees and the entries together. It states no standard.
-use Rattle.std.specs.Prelude.{◌≡◌, ◌≢◌, ℕ, ◌+◌, ◌<◌, List, [], length, Option, Some, None}
+use Rattle.std.specs.Prelude.{◌≡◌, ◌≢◌, ℕ, ◌+◌, ◌<◌, ◌≤◌, List, [], length, Option, Some, None}
 use Rattle.std.specs.Int.{bit_at}
 use Rattle.std.specs.List.{sum_by}
 use Rattle.shared_tables.specs.declared.chains.Beside.{Beside}
@@ -85,11 +85,22 @@ HasChildren words fork = (target_at words (child_of fork 0) ≢ target.Nothing) 
 abbrev pub IsBare : List ℕ → ℕ → Type 0
 IsBare words fork = (target_at words (child_of fork 0) ≡ target.Nothing) × (target_at words (child_of fork 1) ≡ target.Nothing)
 
--- what stands at a place is kept as standing there: a slot that holds an entry, or a fork
+-- a number says a place: one behind a fork is its own, and the top of a chain has a smaller one
+pub record IsPlaced (number place : ℕ) : Type 0 where
+  pub behind : 262144 ≤ place → number ≡ place
+  pub top : place < 262144 → number < 262144
+
+-- what stands at a place has a number that says so: a slot that holds an entry, or a fork
 abbrev pub StandsAt : List (Option Held) → Woods → ℕ → Target → Type 0
 StandsAt entries w place target.Nothing = Unit {0}
-StandsAt entries w place (target.Leaf i) = (number_at w.leaves i ≡ place) × IsHeld entries i
-StandsAt entries w place (target.Fork n b) = (number_at w.forks n ≡ place) × (n < length w.forks) × HasChildren w.words n
+StandsAt entries w place (target.Leaf i) = IsPlaced (number_at w.leaves i) place × IsHeld entries i
+StandsAt entries w place (target.Fork n b) = IsPlaced (number_at w.forks n) place × (n < length w.forks) × HasChildren w.words n
+
+-- the fork that a chain keeps: the number of what stands at its top
+abbrev pub spare_of : Woods → Target → ℕ
+spare_of w target.Nothing = 0
+spare_of w (target.Leaf i) = number_at w.leaves i
+spare_of w (target.Fork n b) = number_at w.forks n
 
 -- a fork that no tree has is kept by one keeper alone: a slot, by its number, or a chain, by its number over 65,536
 pub record Keeps (w : Woods) (keeper : ℕ → ℕ) (fork by : ℕ) : Type 0 where
@@ -102,8 +113,8 @@ pub record IsForest (entries : List (Option Held)) (w : Woods) : Type 0 where
   pub sizes : HasSizes w
   pub slots : length w.forks ≡ length entries
   pub keys : AreKeys entries
-  pub chained : (c : ℕ) → c < 65536 → IsChain entries w.words c
+  pub chained : (c : ℕ) → c < 262144 → IsChain entries w.words c
   pub stands : (p : ℕ) → StandsAt entries w p (target_at w.words p)
   pub keeper : ℕ → ℕ
   pub frees : (i : ℕ) → i < length entries → entry_at entries i ≡ None → Keeps w keeper (number_at w.leaves i) i
-  pub spares : (c : ℕ) → c < 65536 → target_at w.words c ≢ target.Nothing → Keeps w keeper (number_at w.spares c) (65536 + c)
+  pub spares : (c : ℕ) → c < 262144 → target_at w.words c ≢ target.Nothing → Keeps w keeper (spare_of w (target_at w.words c)) (65536 + c)

@@ -1,16 +1,15 @@
--- The trees of the chains, as they are kept: numbers in four columns. It states no standard.
+-- The trees of the chains, as they are kept: numbers in three columns. It states no standard.
 use Rattle.std.specs.Prelude.{◌≡◌, ◌≢◌, ℕ, ◌+◌, ◌-◌, ◌*◌, ◌/◌, ◌%◌, ◌<◌, ◌≤◌, List, length, nat_eq, nat_lt, slice_index_or, slice_set, replicate, if◌then◌else◌}
 use Rattle.std.specs.List.{range_with_len}
 use Rattle.shared_tables.specs.declared.forest.Target.{Target}
 use Rattle.shared_tables.specs.declared.forest.Target.TheVariants.{Nothing, Leaf, Fork}
 
--- what stands at each place; where each slot's leaf stands, or which fork a free slot keeps; where each fork stands;
--- which fork each chain keeps
+-- what stands at each place; a number of each slot, and one of each fork. That of a slot or a fork in a tree says where it
+-- stands: it is a place behind a fork, or a fork that the chain keeps at whose top it stands. That of a free slot is a fork that it keeps
 pub record Woods : Type 0 where
   pub words : List ℕ
   pub leaves : List ℕ
   pub forks : List ℕ
-  pub spares : List ℕ
 
 -- what a word says: below 65,536 a slot, the greatest of 32 bits nothing, each other one a fork and a bit
 unfoldable pub target_in : ℕ → Target
@@ -37,13 +36,12 @@ number_at numbers i = slice_index_or numbers i 0
 
 -- the place on one side of a fork
 abbrev pub child_of : ℕ → ℕ → ℕ
-child_of fork side = 65536 + 2 * fork + side
+child_of fork side = 262144 + 2 * fork + side
 
 -- there are as many forks as slots, and two places for each behind the roots
 pub record HasSizes (w : Woods) : Type 0 where
-  pub words : length w.words ≡ 65536 + 2 * length w.forks
+  pub words : length w.words ≡ 262144 + 2 * length w.forks
   pub leaves : length w.leaves ≡ length w.forks
-  pub spares : length w.spares ≡ 65536
   pub few : length w.forks ≤ 65536
 
 -- a target's number is one of a slot, or of a fork
@@ -55,66 +53,63 @@ Names w (Fork fork bit) = fork < length w.forks
 -- trees without leaves, where each slot keeps the fork of its number
 abbrev pub bare_woods : ℕ → Woods
 bare_woods size = record {
-  words = replicate (65536 + 2 * size) 4294967295;
+  words = replicate (262144 + 2 * size) 4294967295;
   leaves = range_with_len 0 size;
   forks = replicate size 0;
-  spares = replicate 65536 0;
 }
 
--- the trees where a target stands at a place
+-- the trees where a target has another number
 abbrev pub standing : Target → ℕ → Woods → Woods
-standing Nothing place w = w
-standing (Leaf slot) place w = record w { leaves = slice_set w.leaves slot place }
-standing (Fork fork bit) place w = record w { forks = slice_set w.forks fork place }
+standing Nothing number w = w
+standing (Leaf slot) number w = record w { leaves = slice_set w.leaves slot number }
+standing (Fork fork bit) number w = record w { forks = slice_set w.forks fork number }
+
+-- where what has a number in a chain's tree stands
+unfoldable pub place_by : ℕ → ℕ → ℕ
+place_by chain number = if nat_lt number 262144 then chain else number
 
 -- a slot as the only leaf of a chain, which keeps its fork
 abbrev pub planted : Woods → ℕ → ℕ → Woods
-planted w chain slot = record w {
-  words = slice_set w.words chain slot;
-  leaves = slice_set w.leaves slot chain;
-  spares = slice_set w.spares chain (number_at w.leaves slot);
-}
+planted w chain slot = record w { words = slice_set w.words chain slot }
 
--- a fork where a leaf stood, with the leaf and a slot behind it
-abbrev pub grafted : Woods → ℕ → ℕ → ℕ → ℕ → Woods
-grafted w leaf slot bit side =
-    let place = number_at w.leaves leaf in
+-- a fork where a leaf of a chain's tree stood, with the leaf and a slot behind it
+abbrev pub grafted : Woods → ℕ → ℕ → ℕ → ℕ → ℕ → Woods
+grafted w chain leaf slot bit side =
+    let number = number_at w.leaves leaf in
     let fork = number_at w.leaves slot in
     let own = child_of fork side in
     let other = child_of fork (1 - side) in
     record w {
-      words = slice_set (slice_set (slice_set w.words place (fork_word fork bit)) own slot) other leaf;
+      words = slice_set (slice_set (slice_set w.words (place_by chain number) (fork_word fork bit)) own slot) other leaf;
       leaves = slice_set (slice_set w.leaves slot own) leaf other;
-      forks = slice_set w.forks fork place;
+      forks = slice_set w.forks fork number;
     }
 
--- without the only leaf of a chain, which gives the slot the fork that it kept
-abbrev pub cleared : Woods → ℕ → ℕ → Woods
-cleared w chain slot = record w {
-  words = slice_set w.words chain 4294967295;
-  leaves = slice_set w.leaves slot (number_at w.spares chain);
-}
+-- without the only leaf of a chain, which keeps the chain's fork then
+abbrev pub cleared : Woods → ℕ → Woods
+cleared w chain = record w { words = slice_set w.words chain 4294967295 }
 
--- without a fork and the leaf on one side of it: what stands on the other takes the fork's place, and the slot keeps the
--- fork
-abbrev pub pruned : Woods → ℕ → ℕ → ℕ → Woods
-pruned w fork side slot =
+-- without a fork of a chain's tree and the leaf on one side of it: what stands on the other takes the fork's place, and the slot
+-- keeps the fork
+abbrev pub pruned : Woods → ℕ → ℕ → ℕ → ℕ → Woods
+pruned w chain fork side slot =
     let sibling = slice_index_or w.words (child_of fork (1 - side)) 4294967295 in
     let above = number_at w.forks fork in
     let moved = standing (target_in sibling) above w in
     record moved {
-      words = slice_set (slice_set (slice_set w.words above sibling) (child_of fork 0) 4294967295) (child_of fork 1) 4294967295;
+      words = slice_set (slice_set (slice_set w.words (place_by chain above) sibling) (child_of fork 0) 4294967295) (child_of fork 1) 4294967295;
       leaves = slice_set moved.leaves slot fork;
     }
 
--- what letting a slot behind a fork go reads is in the columns
-pub record MayGo (w : Woods) (slot : ℕ) : Type 0 where
+-- what letting a slot of a chain's tree go reads is in the columns
+pub record MayGo (w : Woods) (chain slot : ℕ) : Type 0 where
+  pub chain_there : chain < 262144
   pub slot_there : slot < length w.leaves
   pub place : number_at w.leaves slot < length w.words
-  pub above : 65536 ≤ number_at w.leaves slot → number_at w.forks ((number_at w.leaves slot - 65536) / 2) < length w.words
-  pub sibling : 65536 ≤ number_at w.leaves slot → Names w (target_at w.words (child_of ((number_at w.leaves slot - 65536) / 2) (1 - (number_at w.leaves slot - 65536) % 2)))
+  pub above : 262144 ≤ number_at w.leaves slot → place_by chain (number_at w.forks ((number_at w.leaves slot - 262144) / 2)) < length w.words
+  pub sibling : 262144 ≤ number_at w.leaves slot → Names w (target_at w.words (child_of ((number_at w.leaves slot - 262144) / 2) (1 - (number_at w.leaves slot - 262144) % 2)))
 
--- a slot has left its tree
-pub record Uproots (old new : Woods) (slot : ℕ) : Type 0 where
-  pub alone : number_at old.leaves slot < 65536 → new ≡ cleared old (number_at old.leaves slot) slot
-  pub behind : 65536 ≤ number_at old.leaves slot → new ≡ pruned old ((number_at old.leaves slot - 65536) / 2) ((number_at old.leaves slot - 65536) % 2) slot
+-- a slot has left the tree of its chain
+pub record Uproots (old new : Woods) (chain slot : ℕ) : Type 0 where
+  pub alone : number_at old.leaves slot < 262144 → new ≡ cleared old chain
+  pub behind : 262144 ≤ number_at old.leaves slot → new ≡ pruned old chain ((number_at old.leaves slot - 262144) / 2) ((number_at old.leaves slot - 262144) % 2) slot

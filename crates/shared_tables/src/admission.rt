@@ -43,6 +43,7 @@ pub struct Newcomer {
 }
 
 /// Makes an entry of a newcomer, if its segment has room, or the oldest of its learned entries is dead, which goes then.
+#[inline(always)]
 pub fn admit_in(
     slots: &mut Slots,
     forest: &mut Forest,
@@ -117,6 +118,7 @@ fn is_leaf(beside: Option<Beside>, slot: SlotId) -> bool
 }
 
 /// Makes an entry of a newcomer: a leaf of its chain's tree, and last on its line.
+#[inline(always)]
 fn enter_in(
     slots: &mut Slots,
     forest: &mut Forest,
@@ -143,18 +145,19 @@ fn enter_in(
 }
 
 /// Puts the slot of a newcomer into the tree of its chain, beside its leaf.
+#[inline(always)]
 fn attach(forest: &mut Forest, newcomer: &Newcomer, slot: SlotId)
     requires sizes { HasSizes forest.old }
-    requires chain { newcomer.now.chain < 65536 }
+    requires chain { newcomer.now.chain < 262144 }
     requires slot { slot < length forest.old.leaves }
-    requires beside { MayAttach forest.old newcomer.now.beside slot }
+    requires beside { MayAttach forest.old newcomer.now.chain newcomer.now.beside slot }
     ensures { Attaches forest.old forest.new newcomer.now newcomer.now.beside slot }
 {
     match newcomer.beside {
         None => forest.plant(newcomer.chain, slot),
         Some(Beside { leaf, bit }) => {
             let side = side(key(newcomer.vid, newcomer.mac), bit);
-            forest.graft(leaf, slot, bit, side);
+            forest.graft(newcomer.chain, leaf, slot, bit, side);
         }
     }
 }

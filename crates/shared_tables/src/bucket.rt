@@ -8,7 +8,7 @@ use frame_view::{Mac, Vid};
 const BUCKETS: usize = 4096;
 
 /// How many chains each of them has.
-const CHAINS_EACH: usize = 16;
+const CHAINS_EACH: usize = 64;
 
 /// How many chains there are.
 pub const CHAINS: usize = BUCKETS * CHAINS_EACH;
@@ -71,23 +71,23 @@ fn bucket_by_key(key: u64) -> usize
 #[tactic(auto, unfolding(crate::specs::Bucket::spread))]
 fn spread(key: u64) -> usize
     ensures value { result ≡ spread key }
-    ensures in_range { result < 16 }
+    ensures in_range { result < 64 }
 {
-    (key.wrapping_mul(GOLDEN) >> 60) as usize % CHAINS_EACH
+    (key.wrapping_mul(GOLDEN) >> 58) as usize % CHAINS_EACH
 }
 
-/// The chain of a key, below 65,536.
+/// The chain of a key, below 262,144.
 pub fn chain_by_key(key: u64) -> usize
     ensures value { result ≡ chain_of (vid_in key) (mac_in key) }
-    ensures in_range { result < 65536 }
+    ensures in_range { result < 262144 }
 {
     bucket_by_key(key) * CHAINS_EACH + spread(key)
 }
 
-/// The chain of an address in a segment, below 65,536.
+/// The chain of an address in a segment, below 262,144.
 pub fn chain(vid: Vid, mac: Mac) -> usize
     ensures value { result ≡ chain_of vid mac }
-    ensures in_range { result < 65536 }
+    ensures in_range { result < 262144 }
 {
     chain_by_key(key(vid, mac))
 }

@@ -50,7 +50,7 @@ pub fn find_in(
 ) -> Sought
     requires forest { IsForest slots.now.entries forest.now }
     requires chain { chain ≡ chain_of vid mac }
-    requires in_range { chain < 65536 }
+    requires in_range { chain < 262144 }
     ensures found { Finds slots.now.entries forest.now vid mac result }
     ensures counted { compared.old.total ≤ compared.new.total }
     ensures compared { compared.new.total ≤ compared.old.total + bucket_count (bucket_of vid mac) slots.now.entries }

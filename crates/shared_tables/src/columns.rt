@@ -10,16 +10,15 @@ use std::marker::Model;
 /// The word of nothing.
 pub const NOTHING: u32 = u32::MAX;
 
-/// The four columns of the trees one behind another in one list, for which memory is asked once: what stands at each
-/// place; for each slot that holds an entry the place where it stands, for each free slot a fork that no tree has; for each
-/// fork of a tree the place where it stands; for each chain that has leaves a fork that no tree has.
+/// The three columns of the trees one behind another in one list, for which memory is asked once: what stands at each
+/// place; a number of each slot; a number of each fork. What stands behind a fork has its place as its number; what stands
+/// at the top of a chain a fork that no tree has, which the chain keeps; and a free slot one that it keeps.
 #[derive(Drop)]
 pub struct Columns {
     numbers: Vec<u32>,
     /// Where each but the first of them begins.
     leaves: usize,
     forks: usize,
-    spares: usize,
 }
 
 impl Model for Columns {
@@ -65,16 +64,14 @@ impl Columns {
     {
         let slots = size as usize;
         let leaves = CHAINS + 2 * slots;
-        let mut numbers = Vec::with_capacity(alloc, leaves + 2 * slots + CHAINS)?;
+        let mut numbers = Vec::with_capacity(alloc, leaves + 2 * slots)?;
         fill(&mut numbers, NOTHING, leaves);
         count_up(&mut numbers, size);
         fill(&mut numbers, 0, slots);
-        fill(&mut numbers, 0, CHAINS);
         Ok(Columns {
             numbers,
             leaves,
             forks: leaves + slots,
-            spares: leaves + 2 * slots,
         })
     }
 
@@ -105,15 +102,6 @@ impl Columns {
         self.numbers[self.forks + fork]
     }
 
-    /// The number of a chain.
-    #[inline(always)]
-    pub fn spare(&self, chain: usize) -> u32
-        requires { chain < length self.now.spares }
-        ensures { result ≡ number_at self.now.spares chain }
-    {
-        self.numbers[self.spares + chain]
-    }
-
     /// Says what stands at a place.
     #[inline(always)]
     pub fn set_word(&mut self, place: usize, word: u32)
@@ -139,14 +127,5 @@ impl Columns {
         ensures { self.new ≡ record self.old { forks = slice_set self.old.forks fork number } }
     {
         self.numbers[self.forks + fork] = number;
-    }
-
-    /// Gives a chain another number.
-    #[inline(always)]
-    pub fn set_spare(&mut self, chain: usize, number: u32)
-        requires { chain < length self.old.spares }
-        ensures { self.new ≡ record self.old { spares = slice_set self.old.spares chain number } }
-    {
-        self.numbers[self.spares + chain] = number;
     }
 }

@@ -1,6 +1,6 @@
 //! Entries that come to their segment, entries that are renewed, and entries that go.
 ghost use Rattle.std.specs.Prelude.{◌≡◌, ℕ, ◌<◌, Some, None, Option, IfSome, IsSome, vec_len, is_none, false, slice_set};
-ghost use Rattle.shared_tables.specs.Pool.{Pool, links_at, entry_at, is_fixed_in, renewed, place_in};
+ghost use Rattle.shared_tables.specs.Pool.{Pool, chain_in, links_at, entry_at, is_fixed_in, renewed, place_in};
 ghost use Rattle.shared_tables.specs.Woods.{HasSizes, MayGo, Uproots};
 ghost use Rattle.shared_tables.specs.Threads.{IsHeld, HoldsAny, dropped, moved, pushed_back};
 ghost use Rattle.shared_tables.specs.Sound.{share_at, share_moved, CountsSome, CountsMore, HasEnds, HasEndsLeft, share_without, shares_without, shares_moved, shares_with, last_left, last_in};
@@ -152,15 +152,15 @@ pub fn drop_entry(
     requires line_previous { HoldsAny slots.old.entries (links_at slots.old.lines slot).previous }
     requires line_next { HoldsAny slots.old.entries (links_at slots.old.lines slot).next }
     requires sizes { HasSizes forest.old }
-    requires may_go { MayGo forest.old slot }
+    requires may_go { MayGo forest.old (chain_in (entry_at slots.old.entries slot)) slot }
     requires shares { vec_len shares.old ≡ 4096 }
     requires counted { CountsSome (share_at shares.old.items vid) }
     ensures pool { slots.new ≡ dropped slots.old slot }
-    ensures forest { Uproots forest.old forest.new slot }
+    ensures forest { Uproots forest.old forest.new (chain_in (entry_at slots.old.entries slot)) slot }
     ensures shares { let e = entry_at slots.old.entries slot in
         shares.new.items ≡ shares_without shares.old.items vid (is_fixed_in e) (links_at slots.old.lines slot) }
 {
-    forest.uproot(slot);
+    forest.uproot(slots.chain(slot), slot);
     let Some(share) = &mut shares[usize::from(vid.get())] else {
         unreachable!();
     };

@@ -2,7 +2,7 @@
 //! on by one bit of its key, so a way down is never longer than a key has bits. Bits come along a way in any order, each
 //! once: so an entry comes to a leaf, and goes, by a few writes.
 ghost use Rattle.std.specs.Prelude.{◌≡◌, ◌+◌, ◌-◌, ◌/◌, ◌%◌, ◌<◌, ◌≤◌, ◌↔◌, IsTrue, IfOk, length};
-ghost use Rattle.shared_tables.specs.Woods.{target_in, IsFork, fork_word, child_of, target_at, number_at, planted, grafted, cleared, pruned, standing, Uproots, MayGo, HasSizes, bare_woods, Names};
+ghost use Rattle.shared_tables.specs.Woods.{target_in, IsFork, fork_word, child_of, target_at, number_at, place_by, planted, grafted, cleared, pruned, standing, Uproots, MayGo, HasSizes, bare_woods, Names};
 
 use crate::bucket::CHAINS;
 use crate::columns::{Columns, NOTHING};
@@ -25,13 +25,13 @@ pub enum Target {
 /// The first word of a fork; those below it are slots.
 const FORKS: u32 = 65_536;
 
-/// The first of the places on the sides of forks, which come behind the roots.
+/// The first of the places on the sides of forks, which come behind the roots. A smaller number is no such place.
 const FIRST_SIDE: u32 = CHAINS as u32;
 
 /// How many bits a key has.
 const BITS: u32 = 64;
 
-/// The trees over the slots of a pool. There are as many forks as slots. A place is a number: first come the roots of
+/// The trees over the slots of a pool. There are as many forks as slots. A place is a number: first come the tops of
 /// the chains, then two places for each fork.
 #[derive(Drop)]
 pub struct Forest {
@@ -106,6 +106,19 @@ fn child(fork: u32, side: u32) -> u32
     FIRST_SIDE + 2 * fork + side
 }
 
+/// The place where what has a number in a chain's tree stands.
+#[inline(always)]
+#[tactic(auto, unfolding(crate::specs::Woods::place_by))]
+fn place_by(chain: usize, number: u32) -> usize
+    ensures { result ≡ place_by chain number }
+{
+    if number < FIRST_SIDE {
+        chain
+    } else {
+        number as usize
+    }
+}
+
 impl Forest {
     /// Trees without leaves over so many slots, at most 65,536. `AllocError`: a growth was refused.
     pub fn new(alloc: Global, size: u32) -> Result<Forest, AllocError>
@@ -139,96 +152,92 @@ impl Forest {
         self.columns.word(child(fork, side) as usize)
     }
 
-    /// Makes a slot the only leaf of a chain.
+    /// Makes a slot the only leaf of a chain, which keeps the slot's fork.
     pub fn plant(&mut self, chain: usize, slot: SlotId)
         requires sizes { HasSizes self.old }
-        requires chain { chain < 65536 }
-        requires slot { slot < length self.old.leaves }
+        requires chain { chain < 262144 }
         ensures { self.new ≡ planted self.old chain slot }
     {
-        let fork = self.columns.leaf(slot.number as usize);
-        self.columns.set_spare(chain, fork);
         self.columns.set_word(chain, slot.number);
-        self.columns.set_leaf(slot.number as usize, chain as u32);
     }
 
-    /// Puts a fork in the place of a leaf, with the leaf and a slot behind it: the slot on this side, 0 or 1.
-    pub fn graft(&mut self, leaf: SlotId, slot: SlotId, bit: u32, side: u32)
+    /// Puts a fork in the place of a leaf of a chain's tree, with the leaf and a slot behind it: the slot on this side, 0 or
+    /// 1.
+    pub fn graft(&mut self, chain: usize, leaf: SlotId, slot: SlotId, bit: u32, side: u32)
         requires sizes { HasSizes self.old }
         requires leaf { leaf < length self.old.leaves }
         requires slot { slot < length self.old.leaves }
         requires bit { bit < 64 }
         requires side { side < 2 }
-        requires place { number_at self.old.leaves leaf < length self.old.words }
+        requires place { place_by chain (number_at self.old.leaves leaf) < length self.old.words }
         requires fork { number_at self.old.leaves slot < length self.old.forks }
-        ensures { self.new ≡ grafted self.old leaf slot bit side }
+        ensures { self.new ≡ grafted self.old chain leaf slot bit side }
     {
-        let place = self.columns.leaf(leaf.number as usize);
+        let number = self.columns.leaf(leaf.number as usize);
         let fork = self.columns.leaf(slot.number as usize);
         let own = child(fork, side);
         let other = child(fork, 1 - side);
-        self.columns.set_word(place as usize, fork_word(fork, bit));
-        self.columns.set_fork(fork as usize, place);
+        self.columns
+            .set_word(place_by(chain, number), fork_word(fork, bit));
+        self.columns.set_fork(fork as usize, number);
         self.columns.set_word(own as usize, slot.number);
         self.columns.set_leaf(slot.number as usize, own);
         self.columns.set_word(other as usize, leaf.number);
         self.columns.set_leaf(leaf.number as usize, other);
     }
 
-    /// Takes a slot out of its tree, which keeps a fork then.
-    pub fn uproot(&mut self, slot: SlotId)
+    /// Takes a slot out of the tree of its chain; the slot keeps a fork then.
+    pub fn uproot(&mut self, chain: usize, slot: SlotId)
         requires sizes { HasSizes self.old }
-        requires may_go { MayGo self.old slot }
-        ensures { Uproots self.old self.new slot }
+        requires may_go { MayGo self.old chain slot }
+        ensures { Uproots self.old self.new chain slot }
     {
-        let place = self.columns.leaf(slot.number as usize);
-        if place < FIRST_SIDE {
-            self.clear(place, slot);
+        let number = self.columns.leaf(slot.number as usize);
+        if number < FIRST_SIDE {
+            self.clear(chain);
         } else {
-            self.prune((place - FIRST_SIDE) / 2, (place - FIRST_SIDE) % 2, slot);
+            self.prune(chain, (number - FIRST_SIDE) / 2, (number - FIRST_SIDE) % 2, slot);
         }
     }
 
-    /// Takes the only leaf of a chain away.
-    fn clear(&mut self, chain: u32, slot: SlotId)
+    /// Takes the only leaf of a chain away, which keeps the chain's fork.
+    fn clear(&mut self, chain: usize)
         requires sizes { HasSizes self.old }
-        requires chain { chain < 65536 }
-        requires slot { slot < length self.old.leaves }
-        ensures { self.new ≡ cleared self.old chain slot }
+        requires chain { chain < 262144 }
+        ensures { self.new ≡ cleared self.old chain }
     {
-        let fork = self.columns.spare(chain as usize);
-        self.columns.set_word(chain as usize, NOTHING);
-        self.columns.set_leaf(slot.number as usize, fork);
+        self.columns.set_word(chain, NOTHING);
     }
 
-    /// Takes a fork away with the leaf on one side of it: what stands on the other side takes the fork's place.
-    fn prune(&mut self, fork: u32, side: u32, slot: SlotId)
+    /// Takes a fork of a chain's tree away with the leaf on one side of it: what stands on the other side takes the fork's
+    /// place.
+    fn prune(&mut self, chain: usize, fork: u32, side: u32, slot: SlotId)
         requires sizes { HasSizes self.old }
         requires fork { fork < length self.old.forks }
         requires side { side < 2 }
         requires slot { slot < length self.old.leaves }
-        requires above { number_at self.old.forks fork < length self.old.words }
+        requires above { place_by chain (number_at self.old.forks fork) < length self.old.words }
         requires sibling { Names self.old (target_at self.old.words (child_of fork (1 - side))) }
-        ensures { self.new ≡ pruned self.old fork side slot }
+        ensures { self.new ≡ pruned self.old chain fork side slot }
     {
         let sibling = self.columns.word(child(fork, 1 - side) as usize);
         let above = self.columns.fork(fork as usize);
         self.stand(read(sibling), above);
-        self.columns.set_word(above as usize, sibling);
+        self.columns.set_word(place_by(chain, above), sibling);
         self.columns.set_word(child(fork, 0) as usize, NOTHING);
         self.columns.set_word(child(fork, 1) as usize, NOTHING);
         self.columns.set_leaf(slot.number as usize, fork);
     }
 
-    /// Keeps where a target stands.
-    fn stand(&mut self, target: Target, place: u32)
+    /// Gives a target another number.
+    fn stand(&mut self, target: Target, number: u32)
         requires { Names self.old target }
-        ensures { self.new ≡ standing target place self.old }
+        ensures { self.new ≡ standing target number self.old }
     {
         match target {
             Target::Nothing => {}
-            Target::Leaf(slot) => self.columns.set_leaf(slot as usize, place),
-            Target::Fork(fork, _) => self.columns.set_fork(fork as usize, place),
+            Target::Leaf(slot) => self.columns.set_leaf(slot as usize, number),
+            Target::Fork(fork, _) => self.columns.set_fork(fork as usize, number),
         }
     }
 }

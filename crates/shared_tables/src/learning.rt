@@ -71,7 +71,7 @@ pub fn find_or_admit(
     last: Option<u64>,
 ) -> Outcome
     requires chain { chain ≡ chain_of vid mac.now }
-    requires in_range { chain < 65536 }
+    requires in_range { chain < 262144 }
     requires rule { IsSome (rule_at tables.old.rules vid) }
     requires now { IsNow last tables.old.moment }
     ensures outcome { let span = span_of (rule_at tables.old.rules vid) in

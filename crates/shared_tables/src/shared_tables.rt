@@ -118,7 +118,7 @@ impl SharedTables {
     /// The slot of an address, which is on this chain.
     pub(crate) fn find(&mut self, chain: usize, vid: Vid, mac: Mac) -> Option<SlotId>
         requires chain { chain ≡ chain_of vid mac }
-        requires in_range { chain < 65536 }
+        requires in_range { chain < 262144 }
         ensures found { IfSome result (λ s. IfHeld (entry_at self.old.entries s) vid mac) }
         ensures held { IfSome result (IsHeld self.old.entries) }
         ensures none { IfNone result (Lacks self.old.entries vid mac) }
@@ -152,7 +152,7 @@ impl SharedTables {
         last: Option<u64>,
     ) -> Outcome
         requires chain { chain ≡ chain_of vid mac.now }
-        requires in_range { chain < 65536 }
+        requires in_range { chain < 262144 }
         requires rule { IsSome (rule_at self.old.rules vid) }
         requires now { IsNow last self.old.moment }
         ensures outcome { let span = span_of (rule_at self.old.rules vid) in

@@ -1,6 +1,6 @@
 //! The slots of a pool. An address is compared, and an entry's age is told, by this module alone.
 ghost use Rattle.std.specs.Prelude.{◌≡◌, ℕ, ◌+◌, ◌<◌, ◌≤◌, IfOk, IfSome, IfNone, IsSome, Some, None, Option, false, length, replicate, slice_set};
-ghost use Rattle.shared_tables.specs.Pool.{Pool, Held, entry_at, links_at, free_count, is_fixed_in, is_dead_in, alone, links_with, IfHeld, taken, freed, renewed, readdressed, place_in, free_pool};
+ghost use Rattle.shared_tables.specs.Pool.{Pool, chain_in, Held, entry_at, links_at, free_count, is_fixed_in, is_dead_in, alone, links_with, IfHeld, taken, freed, renewed, readdressed, place_in, free_pool};
 ghost use Rattle.shared_tables.specs.Forest.{PartedAt, key_in};
 ghost use Rattle.std.specs.Int.{bit_at};
 ghost use Rattle.shared_tables.specs.Bucket.{vid_in, mac_in};
@@ -8,7 +8,7 @@ ghost use Rattle.filter_db.specs.Place.{same_place};
 ghost use Rattle.shared_tables.specs.Threads.{link_set};
 ghost use Rattle.shared_tables.specs.Slots.{entry_in, kind_of, moment_of};
 
-use crate::bucket::key;
+use crate::bucket::{chain_by_key, key};
 use crate::links::{ALONE, Link, Links, Side, SlotId};
 use filter_db::Place;
 use frame_view::{Mac, Vid};
@@ -299,6 +299,16 @@ impl Slots {
         ensures { result ≡ links_at self.now.lines slot }
     {
         links_on(&self.slots[slot.number as usize])
+    }
+
+    /// The chain of the address that a slot holds, below 262,144.
+    #[inline(always)]
+    pub fn chain(&self, slot: SlotId) -> usize
+        requires in_pool { slot < length self.now.entries }
+        requires held { IsSome (entry_at self.now.entries slot) }
+        ensures { result ≡ chain_in (entry_at self.now.entries slot) }
+    {
+        chain_by_key(key_of(&self.slots[slot.number as usize]))
     }
 
     /// Where the slot's entry stands.

@@ -6,5 +6,5 @@ use Rattle.shared_tables.proofs.bucket.chain_by_key.Goals as goal
 
 pub returns-clause-value : goal.returns-clause-value
 returns-clause-value c =
-    ap (λ n. n * 16 + c.spread.result) c.bucket_by_key.ensures.value ∙ ap (λ n. bucket_of (vid_in c.args.key) (mac_in c.args.key) * 16 + n) c.spread.ensures.value
+    ap (λ n. n * 64 + c.spread.result) c.bucket_by_key.ensures.value ∙ ap (λ n. bucket_of (vid_in c.args.key) (mac_in c.args.key) * 64 + n) c.spread.ensures.value
     ∙ chain_is c.args.key (vid_in c.args.key) (mac_in c.args.key) (key_of-key c.args.key c.ranges.key.fits)

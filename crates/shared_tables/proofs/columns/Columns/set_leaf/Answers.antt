@@ -6,6 +6,6 @@ use Rattle.shared_tables.proofs.columns.Columns.set_leaf.Goals as goal
 pub returns : goal.returns
 returns c =
     let a = c.self.inside in
-    let there : c.args.slot < length (split a.leaves a.forks a.spares a.numbers.items).leaves = subst (λ (w : Woods). c.args.slot < length w.leaves) (sym c.self.view_is) c.requires in
-    subst (λ (w : Woods). split a.leaves a.forks a.spares (slice_set a.numbers.items (a.leaves + c.args.slot) c.args.number) ≡ record w { leaves = slice_set w.leaves c.args.slot c.args.number }) c.self.view_is
-    (leaf_set a.leaves a.forks a.spares a.numbers.items c.args.slot c.args.number c.self.invariant.leaves c.self.invariant.forks there)
+    let there : c.args.slot < length (split a.leaves a.forks a.numbers.items).leaves = subst (λ (w : Woods). c.args.slot < length w.leaves) (sym c.self.view_is) c.requires in
+    subst (λ (w : Woods). split a.leaves a.forks (slice_set a.numbers.items (a.leaves + c.args.slot) c.args.number) ≡ record w { leaves = slice_set w.leaves c.args.slot c.args.number }) c.self.view_is
+    (leaf_set a.leaves a.forks a.numbers.items c.args.slot c.args.number c.self.invariant.leaves there)

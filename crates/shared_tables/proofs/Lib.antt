@@ -30,6 +30,8 @@ pub mod Steps
 pub mod Answering
 pub mod Passing
 pub mod Sweeping
+pub mod Counting
+pub mod Knowing
 pub mod StandingLemmas
 pub mod Lining
 pub mod ListingLemmas

@@ -24,7 +24,7 @@ pub record Frees (old new : Shared) (vid ageing : ℕ) : Type 0 where
   pub counted : old.visited ≤ new.visited
 
 -- no entry of a queue was seen before the first
-aged_least : (es : List (Option Held)) (is : List ℕ) (low high j : ℕ) → IsAged es low is high → is_on j is ≡ true → low ≤ last_at es j
+pub aged_least : (es : List (Option Held)) (is : List ℕ) (low high j : ℕ) → IsAged es low is high → is_on j is ≡ true → low ≤ last_at es j
 aged_least es [] low high j h on = let bad : false ≡ true = on in cc
 aged_least es (i ∷ is) low high j h on = from (nat_eq j i) refl (is_on j is) refl (aged_least es is (last_at es i) high j h.1)
   where
@@ -75,7 +75,7 @@ of_ages v (Some e) h = equal e.vid v (first (nat_eq e.vid v) (same_bool false (i
     first false b h = h
 
 -- what ages and is dead was seen no later than what ages and lives
-dead_of : (v : ℕ) (o : Option Held) (ageing now : ℕ) → line_key v false o ≡ true → is_dead_in o ageing now ≡ not (nat_lt (now - last_in_entry o) ageing)
+pub dead_of : (v : ℕ) (o : Option Held) (ageing now : ℕ) → line_key v false o ≡ true → is_dead_in o ageing now ≡ not (nat_lt (now - last_in_entry o) ageing)
 dead_of v None ageing now h = let bad : false ≡ true = h in cc
 dead_of v (Some e) ageing now h = at e.last (second (nat_eq e.vid v) (same_bool false (is_none e.last)) h)
   where
@@ -87,7 +87,7 @@ dead_of v (Some e) ageing now h = at e.last (second (nat_eq e.vid v) (same_bool 
     at None k = let bad : false ≡ true = k in cc
     at (Some last) k = refl
 
-later_lives : (now a b ageing : ℕ) → a ≤ b → not (nat_lt (now - a) ageing) ≡ false → not (nat_lt (now - b) ageing) ≡ false
+pub later_lives : (now a b ageing : ℕ) → a ≤ b → not (nat_lt (now - a) ageing) ≡ false → not (nat_lt (now - b) ageing) ≡ false
 later_lives now a b ageing le h = grind (arith, nat_tests)
 
 pub sweep_starts : (old : Shared) (v ageing : ℕ) → Frees old old v ageing

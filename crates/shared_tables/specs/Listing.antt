@@ -1,6 +1,7 @@
 -- The live entries of a segment, as the slots have them. It serves proofs.
-use Rattle.std.specs.Prelude.{◌≡◌, ℕ, ◌&&◌, Bool, List, ◌++◌, map, Option, Some, None, nat_eq, if◌then◌else◌}
+use Rattle.std.specs.Prelude.{◌≡◌, ℕ, ◌+◌, ◌&&◌, Bool, true, false, List, ◌++◌, length, map, Option, Some, None, nat_eq, if◌then◌else◌}
 use Rattle.std.specs.List.{filter_map}
+use Rattle.std.specs.Option.{option_map}
 use Rattle.filter_db.specs.declared.entry.Entry.{Entry}
 use Rattle.filter_db.specs.Table.{is_live}
 use Rattle.filter_db.specs.Rows.{Rows}
@@ -13,6 +14,10 @@ use Rattle.shared_tables.specs.Segments.{entry_of}
 abbrev pub live_row : ℕ → ℕ → ℕ → Option Held → Option (List ℕ × Entry)
 live_row vid ageing now None = None
 live_row vid ageing now (Some e) = if nat_eq e.vid vid && is_live ageing now (entry_of e) then Some (e.mac, entry_of e) else None
+
+-- its entry, if it is of the segment and live
+abbrev pub live_entry : ℕ → ℕ → ℕ → Option Held → Option Entry
+live_entry vid ageing now o = option_map (λ (row : List ℕ × Entry). row.1) (live_row vid ageing now o)
 
 -- the rows of slots
 abbrev pub live_rows : ℕ → ℕ → ℕ → List (Option Held) → Rows
@@ -28,3 +33,11 @@ pub record ListsLine (entries : List (Option Held)) (vid : ℕ) (fixed : Bool) (
   pub slots : List ℕ
   pub all : AreSlotsOf entries vid fixed slots
   pub rows : new ≡ old ++ live_rows vid ageing now (map (entry_at entries) slots)
+
+-- so many entries of a segment are live, of those of its age queue and the fixed ones together
+pub record CountsLive (entries : List (Option Held)) (vid ageing now told : ℕ) : Type 0 where
+  pub queue : List ℕ
+  pub fixed : List ℕ
+  pub aged : AreSlotsOf entries vid false queue
+  pub others : AreSlotsOf entries vid true fixed
+  pub count : length (live_rows vid ageing now (map (entry_at entries) queue)) + length (live_rows vid ageing now (map (entry_at entries) fixed)) ≡ told

@@ -26,6 +26,7 @@ use std::alloc::{AllocError, Global};
 use std::marker::Model;
 use work_count::Count;
 
+mod known;
 mod listing;
 mod standing;
 

@@ -2,7 +2,8 @@
 //! tunnels (RFC 7348, 4.1; RFC 8926, 2). No tunnel header is in sight: it knows frames and places.
 //!
 //! [`bridge_step`] learns where a frame's source stands and then answers where the frame goes: a [`Verdict`]. A
-//! [`Bridge`] is one segment's configuration, and the tables are handed in.
+//! [`Bridge`] is one segment's configuration, and the tables are handed in. [`send_toward`] answers where a frame goes by where
+//! its destination stands, without tables.
 #![tactic(auto)]
 
 mod bridge;
@@ -13,5 +14,5 @@ mod verdict;
 
 pub use bridge::Bridge;
 pub use outlets::Outlets;
-pub use step::{bridge_step, bridge_step_into};
+pub use step::{bridge_step, bridge_step_into, send_toward};
 pub use verdict::Verdict;

@@ -1,7 +1,7 @@
 //! One step.
 ghost use Rattle.std.specs.Prelude.{◌≡◌, ◌≤◌, IsSome, OnErr, [], ◌++◌, if◌then◌else◌, length};
 ghost use Rattle.filter_db.specs.Segment.{segment_at, aged_all};
-ghost use Rattle.tunnel_learning.specs.Bridge.{config_of, to_place, everywhere, local_places, remote_places, is_local_outlet, outlets, learned};
+ghost use Rattle.tunnel_learning.specs.Bridge.{config_of, to_place, everywhere, local_places, remote_places, is_local_outlet, outlets, learned, toward};
 ghost use Rattle.vlan_ports.specs.Row.{row_at};
 ghost use Rattle.tunnel_learning.specs.declared.bridge.Bridge.{Bridge as ABridge};
 ghost use Rattle.filter_db.specs.declared.place.Place.TheVariants.{Local};
@@ -67,6 +67,24 @@ pub fn bridge_step_into<T: Tables>(
         return everywhere(bridge, from, places);
     }
     match tables.look(bridge.vid, frame.dst(), now) {
+        Some(to) => to_place(bridge, from, &to, places),
+        None => everywhere(bridge, from, places),
+    }
+}
+
+/// Where a frame from a place goes, into an empty list, by where its destination stands, if that is known (IEEE 802.1Q, 8.6
+/// and 8.8); that of a group isn't. After an `Err`, one of those of [`bridge_step_into`], the list is empty.
+pub fn send_toward(
+    bridge: &Bridge,
+    from: &Place,
+    to: Option<Place>,
+    places: &mut Outlets,
+) -> Result<(), Reason>
+    requires { places.old.items ≡ [] }
+    ensures verdict { put_or places.new.items result ≡ toward (config_of bridge.now) from.now to }
+    ensures empty { OnErr result (places.new.items ≡ []) }
+{
+    match to {
         Some(to) => to_place(bridge, from, &to, places),
         None => everywhere(bridge, from, places),
     }

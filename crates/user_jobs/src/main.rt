@@ -3,8 +3,8 @@
 //!
 //! Jobs: `switch`, a run over a switch's hour; `colliding`, one over addresses that were chosen to collide; `onefile`, one
 //! over a pcapng file of a whole switch; `explain`, packets taken apart; `parts`, a run in parts, with digests and a merge;
-//! `watched`, full tables, changes, stories, listings and counts; and `all`, each of them. SIZE is the number of events or
-//! packets of a round.
+//! `watched`, full tables, changes, stories, listings and counts; `listed`, stories and listings of stations that came in
+//! order; and `all`, each of them. SIZE is the number of events or packets of a round.
 #![tactic(auto)]
 
 mod devices;
@@ -12,6 +12,7 @@ mod digest;
 mod draws;
 mod explained;
 mod fault;
+mod listed;
 mod parts;
 mod runs;
 mod tape;
@@ -23,6 +24,7 @@ use digest::Digest;
 use draws::Draws;
 use explained::explained;
 use fault::JobFault;
+use listed::listed;
 use parts::parts;
 use runs::{colliding, one_file, switch_hours};
 use std::alloc::Global;
@@ -46,6 +48,7 @@ fn rounds(
         "explain" => explained(alloc, digest, draws, count, size),
         "parts" => parts(alloc, digest, draws, count, size),
         "watched" => watched(alloc, digest, draws, count, size),
+        "listed" => listed(alloc, digest, draws, count, size),
         _ => Err(JobFault::Words),
     }
 }
@@ -76,6 +79,7 @@ fn perform<R: AllocGlobal + Print>(rt: &R, words: &[String]) -> Result<(), JobFa
         "explain",
         "parts",
         "watched",
+        "listed",
     ] {
         if asked.as_str() == job || asked.as_str() == "all" {
             let mut digest = Digest::new();

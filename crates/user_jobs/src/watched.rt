@@ -97,7 +97,7 @@ fn watched_run(
 }
 
 /// Adds what was told.
-fn add_told(digest: &mut Digest, onlooker: Onlooker<'_, '_>) -> Result<(), JobFault> {
+pub fn add_told(digest: &mut Digest, onlooker: Onlooker<'_, '_>) -> Result<(), JobFault> {
     let Onlooker { reports, counts } = onlooker;
     for is_found in reports.found() {
         digest.add_number(u64::from(*is_found));

@@ -189,6 +189,17 @@ if command -v editcap >/dev/null; then
     ends 0 "" explain -s $a "$folder/underlay.pcapng"
     prints "$folder/explained"
 fi
+# An outbound packet is no input of the underlay: it is left out, and a check counts it.
+mkdir "$folder/directions"
+tests/pcapng.py --directions "$folder/directions" $underlay >"$folder/rows" || complain "no captures with directions"
+packets=$(grep -c '^[0-9]' "$folder/explained")
+[ "$(wc -l <"$folder/rows")" = 44 ] || complain "$(wc -l <"$folder/rows") captures with directions"
+while IFS=$'\t' read -r file is_taken what; do
+    ends 0 "" explain -s $a "$folder/directions/$file"
+    if [ "$is_taken" = taken ]; then prints "$folder/explained" && told=""; else prints /dev/null && told="u: left out $packets outbound packets"; fi
+    ends 0 "" check -s $a -u "$folder/directions/$file"
+    [ "$(grep "outbound" "$folder/stdout")" = "$told" ] || complain "a check of $what: $(cat "$folder/stdout")"
+done <"$folder/rows"
 # A text that ends within a block is a cut capture.
 head -c $(($(stat -c %s "$folder/underlay.pcapng") - 1)) "$folder/underlay.pcapng" >"$folder/cut.pcapng"
 ends 0 "" explain -s $a "$folder/cut.pcapng"

@@ -49,6 +49,7 @@ summary_words n (Some span) = count_words n ++ codes ", first " ++ moment_text s
 
 -- how often a note is so
 abbrev pub note_count : Note → ℕ
+note_count (notes.LeftOut count) = count
 note_count (notes.Falls count) = count
 note_count (notes.CutShort count) = count
 note_count (notes.TooLong tap count) = count
@@ -56,6 +57,8 @@ note_count (notes.CutEnd is_cut) = if is_cut then 1 else 0
 
 -- a note in words
 abbrev pub note_words : Note → List ℕ
+note_words (notes.LeftOut count) =
+    if count == 1 then codes "left out 1 outbound packet" else codes "left out " ++ decimal count ++ codes " outbound packets"
 note_words (notes.Falls count) =
     if count == 1 then codes "1 record earlier than one before it" else decimal count ++ codes " records earlier than one before them"
 note_words (notes.CutShort count) = if count == 1 then codes "1 record cut at capture" else decimal count ++ codes " records cut at capture"
@@ -77,7 +80,8 @@ heading_text r =
 -- the lines of what may be unmeant
 unfoldable pub notes_text : Report → List ℕ
 notes_text r =
-    line_text r.tap (notes.Falls r.survey.tally.falls)
+    line_text r.tap (notes.LeftOut r.left_out)
+    ++ line_text r.tap (notes.Falls r.survey.tally.falls)
     ++ line_text r.tap (notes.CutShort r.survey.tally.cut_short)
     ++ line_text r.tap (notes.TooLong r.tap r.survey.tally.too_long)
     ++ line_text r.tap (notes.CutEnd r.survey.is_cut)

@@ -80,6 +80,8 @@ impl fmt::Display for Summary {
 /// What may be unmeant about a capture.
 #[derive(Clone, Copy)]
 enum Note {
+    /// So many packets are outbound, and no records.
+    LeftOut(u64),
     /// So many records are earlier than one before them.
     Falls(u64),
     /// So many records have fewer octets than their frame had.
@@ -96,7 +98,10 @@ impl Note {
         ensures { result ≡ note_count self }
     {
         match self {
-            Note::Falls(count) | Note::CutShort(count) | Note::TooLong(_, count) => count,
+            Note::LeftOut(count)
+            | Note::Falls(count)
+            | Note::CutShort(count)
+            | Note::TooLong(_, count) => count,
             Note::CutEnd(is_cut) => u64::from(is_cut),
         }
     }
@@ -107,6 +112,8 @@ impl fmt::Display for Note {
 
     fn fmt<W: fmt::Write>(&self, f: &mut fmt::Formatter<W>) -> fmt::Result {
         match self {
+            Note::LeftOut(1) => write!(f, "left out 1 outbound packet"),
+            Note::LeftOut(count) => write!(f, "left out {count} outbound packets"),
             Note::Falls(1) => write!(f, "1 record earlier than one before it"),
             Note::Falls(count) => write!(f, "{count} records earlier than one before them"),
             Note::CutShort(1) => write!(f, "1 record cut at capture"),
@@ -152,6 +159,8 @@ pub struct Report {
     pub tap: Tap,
     /// Whether the file is a pcapng capture, which is read as a classic one.
     pub is_pcapng: bool,
+    /// How many packets of it are left out, since they are outbound.
+    pub left_out: u64,
     pub survey: Survey,
 }
 
@@ -198,6 +207,10 @@ impl fmt::Display for Notes {
     fn fmt<W: fmt::Write>(&self, f: &mut fmt::Formatter<W>) -> fmt::Result {
         let tap = self.0.tap;
         let tally = self.0.survey.tally;
+        let left_out = Line {
+            tap,
+            note: Note::LeftOut(self.0.left_out),
+        };
         let falls = Line {
             tap,
             note: Note::Falls(tally.falls),
@@ -214,6 +227,6 @@ impl fmt::Display for Notes {
             tap,
             note: Note::CutEnd(self.0.survey.is_cut),
         };
-        write!(f, "{falls}{cut_short}{too_long}{cut_end}")
+        write!(f, "{left_out}{falls}{cut_short}{too_long}{cut_end}")
     }
 }

@@ -2,7 +2,7 @@
 use Rattle.std.proofs.Common.{◌≡◌, ◌∙◌, refl, sym, ap, subst, ℕ, List, [], ◌∷◌, ◌++◌, length, take, drop, arith, append_assoc, Option, None, Some, Result, Ok, Err}
 use Rattle.std.specs.Prelude.{option_map}
 use Rattle.std.specs.Io.KnownBytes.{Consumes, IsAtEnd, Keeps, ReadConsumes}
-use Rattle.pcapng_input.specs.Adapted.{Over, Plain, Stand, Told, Within, told_at, told_behind}
+use Rattle.pcapng_input.specs.Adapted.{Over, Plain, Stand, Told, Within, told_at, told_behind, told_plain}
 use Rattle.pcapng_input.specs.Adapter.{Adapter, Gathered, IsAllTold, KeepsFault, KeepsTold, TellsBehind, told, told_fault, told_from, told_octets}
 use Rattle.pcapng_input.specs.Front.{GivesPackets}
 use Rattle.pcapng_input.specs.Reading.{Context}
@@ -126,17 +126,17 @@ tells_fault (Some x) (Some y) given p = ap (λ (t : Told). t.fault) p
 
 -- ---- at the end
 
-pub over : (a : Adapter) → a.ready ≡ [] → a.stand ≡ Over → IsAllTold (told a)
-over a none is = by_rest a.below.supply.rest
+pub over : (a : Adapter) (left_out : ℕ) → a.ready ≡ [] → a.stand ≡ Over left_out → IsAllTold left_out (told a)
+over a left_out none is = by_rest a.below.supply.rest
   where
-    by_rest : (rest : Option (List ℕ)) → IsAllTold (option_map (told_from a) rest)
+    by_rest : (rest : Option (List ℕ)) → IsAllTold left_out (option_map (told_from a) rest)
     by_rest None = tt
     by_rest (Some rest) =
         ap (λ t. told_behind t (told_at a.selection a.stand (a.below.held ++ rest))) none ∙ ap (λ s. told_behind [] (told_at a.selection s (a.below.held ++ rest))) is
 
-pub all_at_end : (a : Option Told) → IsAllTold a → IsAtEnd (octets_of a)
-all_at_end None is = tt
-all_at_end (Some t) is = ap (λ (t : Told). t.octets) is
+pub all_at_end : (left_out : ℕ) (a : Option Told) → IsAllTold left_out a → IsAtEnd (octets_of a)
+all_at_end left_out None is = tt
+all_at_end left_out (Some t) is = ap (λ (t : Told). t.octets) is
 
 pub reads_none : (a : Option Told) → Consumes (octets_of a) (octets_of a) []
 reads_none None = tt
@@ -154,7 +154,7 @@ pub record IsPlain (a : Adapter) : Type 0 where
   pub ready : a.ready ≡ []
   pub held : a.below.held ≡ []
 
-plain_from : (a : Adapter) (rest : List ℕ) → IsPlain a → told_from a rest ≡ record { octets = rest; fault = None }
+plain_from : (a : Adapter) (rest : List ℕ) → IsPlain a → told_from a rest ≡ told_plain rest
 plain_from a rest is =
     ap (λ t. told_behind t (told_at a.selection a.stand (a.below.held ++ rest))) is.ready
     ∙ ap (λ s. told_behind [] (told_at a.selection s (a.below.held ++ rest))) is.stand
@@ -185,15 +185,12 @@ fault_plain a b result octets p q is =
     (λ x y. KeepsFault (fault_of (option_map (told_from a) x)) (fault_of (option_map (told_from b) y))) (λ y. tt)
     (λ s t. ap (λ (t : Told). t.fault) (plain_from b t q) ∙ sym (ap (λ (t : Told). t.fault) (plain_from a s p)))
 
-pub all_plain : (a : Adapter) → IsPlain a → IsAtEnd a.below.supply.rest → IsAllTold (told a)
+pub all_plain : (a : Adapter) → IsPlain a → IsAtEnd a.below.supply.rest → IsAllTold 0 (told a)
 all_plain a is end = by_rest a.below.supply.rest end
   where
-    by_rest : (rest : Option (List ℕ)) → IsAtEnd rest → IsAllTold (option_map (told_from a) rest)
+    by_rest : (rest : Option (List ℕ)) → IsAtEnd rest → IsAllTold 0 (option_map (told_from a) rest)
     by_rest None end = tt
-    by_rest (Some rest) end = plain_from a rest is ∙ ap (λ t. plain t) end
-      where
-        plain : List ℕ → Told
-        plain t = record { octets = t; fault = None }
+    by_rest (Some rest) end = plain_from a rest is ∙ ap (λ t. told_plain t) end
 
 pub nil_of : (l : List ℕ) → length l ≡ 0 → l ≡ []
 nil_of [] e = refl

@@ -8,7 +8,7 @@ use Rattle.pcap_io.specs.Style.{number_of}
 use Rattle.pcap_io.specs.Written.{written_header}
 use Rattle.pcap_io.specs.declared.style.Order.{Order}
 use Rattle.pcapng_input.proofs.Grown.{four_front, is_section-front}
-use Rattle.pcapng_input.specs.Adapted.{Begun, Faulty, Over, Passing, Plain, Stand, Told, Within, behind_other, is_adapted, is_of_one, packets_closing, told_at, told_behind, told_packets, told_reading, told_text}
+use Rattle.pcapng_input.specs.Adapted.{Begun, Faulty, Over, Passing, Plain, Stand, Told, Within, behind_other, is_adapted, is_of_one, packets_closing, told_at, told_behind, told_packets, told_plain, told_reading, told_text}
 use Rattle.pcapng_input.specs.Adapter.{Adapter, Gathered, IsFetched, KeepsTold, told, told_from}
 use Rattle.pcapng_input.specs.Block.{is_section}
 use Rattle.pcapng_input.specs.Reading.{Context, EndsCut, EndsFaulty, PacketReading, block_fault_at, ended, packets_in, start}
@@ -43,7 +43,7 @@ stays selection stand ready text is = ap (λ t. told_behind t (told_at selection
 -- ---- the first octets
 
 abbrev plain : List ℕ → Told
-plain text = record { octets = text; fault = None }
+plain text = told_plain text
 
 pub begins_pcapng : (selection : Selection) (context : Context) (ready held rest : List ℕ) → is_of_one selection ≡ false → context ≡ start → ready ≡ written_header
     → (nat_le 4 (length held) && is_section held) ≡ true
@@ -103,19 +103,19 @@ begins_plain selection ready held rest is_more all front is end long =
 
 abbrev closing : Selection → Context → Order → ℕ → List ℕ → Bool → Bool → PacketReading
 closing selection context order size text short same =
-    if short then ended EndsCut
+    if short then ended context EndsCut
     else if same then packets_in selection (behind_other context size) (drop 4 text)
-    else ended (EndsFaulty (block_fault_at context BadLength))
+    else ended context (EndsFaulty (block_fault_at context BadLength))
 
 -- a text that ends in front of the second length is cut
 pub ends_cut : (selection : Selection) (context : Context) (order : Order) (size left : ℕ) (ready held rest : List ℕ) (is_more : Bool) → is_more ≡ false → ready ≡ 0 ∷ []
     → length held < left + 4 → IsRest is_more rest
-    → told_behind ready (told_at selection Over (held ++ rest)) ≡ told_at selection (Passing context order size left) (held ++ rest)
+    → told_behind ready (told_at selection (Over context.left_out) (held ++ rest)) ≡ told_at selection (Passing context order size left) (held ++ rest)
 ends_cut selection context order size left ready held rest is_more none cut part end =
     let same : held ++ rest ≡ held = ap (λ t. held ++ t) (end none) ∙ append-nil held in
     let tail = drop left (held ++ rest) in
     let short : nat_lt (length tail) 4 ≡ true = lt-ltb (length tail) 4 (omega (arith, length-drop left (held ++ rest), ap length same)) in
-    ap (λ t. told_behind t (told_at selection Over (held ++ rest))) cut
+    ap (λ t. told_behind t (told_at selection (Over context.left_out) (held ++ rest))) cut
     ∙ sym (ap (λ b. told_reading (closing selection context order size tail b (number_of order 4 tail == size))) short)
 
 -- octets in front of the second length are passed over
@@ -131,12 +131,12 @@ passes_some selection context order size left less ready held rest none fits is 
 -- another second length is a fault
 pub ends_faulty : (selection : Selection) (context : Context) (order : Order) (size : ℕ) (fault : PcapngFault) (ready held rest more : List ℕ) → ready ≡ [] → 4 ≤ length held
     → (number_of order 4 held ≡ size → ⊥) → fault ≡ block_fault_at context BadLength
-    → told_behind ready (told_at selection (Faulty fault) more) ≡ told_at selection (Passing context order size 0) (held ++ rest)
+    → told_behind ready (told_at selection (Faulty context.left_out fault) more) ≡ told_at selection (Passing context order size 0) (held ++ rest)
 ends_faulty selection context order size fault ready held rest more none four other is =
     let text = held ++ rest in
     let whole : nat_lt (length text) 4 ≡ false = le-ltb (length text) 4 (omega (arith, four, length-append held rest)) in
     let differs : (number_of order 4 text == size) ≡ false = ne_eqb (number_of order 4 text) size (λ e. other (sym (four_front order held rest four) ∙ e)) in
-    ap (λ t. told_behind t (told_at selection (Faulty fault) more)) none ∙ ap (λ f. told_at selection (Faulty f) more) is
+    ap (λ t. told_behind t (told_at selection (Faulty context.left_out fault) more)) none ∙ ap (λ f. told_at selection (Faulty context.left_out f) more) is
     ∙ sym (ap (λ b. told_reading (closing selection context order size text b (number_of order 4 text == size))) whole
     ∙ ap (λ b. told_reading (closing selection context order size text false b)) differs)
 

@@ -129,7 +129,7 @@ settled_as selection context new old octets is_more ready s end none fits is = b
         ap (λ (c : Context). told_behind ready (told_at selection (Within c) (old.held ++ rest))) first ∙ stays selection (Within context) ready (old.held ++ rest) empty
 
     ended_with : List ℕ → Told
-    ended_with t = record { octets = t; fault = None }
+    ended_with t = record { octets = t; fault = None; left_out = context.left_out }
 
     by_settled : (s : Settled) → IsRestOf is_more octets old s → IsSettled selection context new (take octets old.held) ready is_more s
         → Leads selection (Within context) old new ready (behind_of old octets s) (state_settled octets s)
@@ -141,11 +141,12 @@ settled_as selection context new old octets is_more ready s end none fits is = b
         still selection (Within context) (Within new) old (behind_of old octets settled.Taken) is_more ready end refl
         (λ rest e. sym (is.3 (drop octets old.held ++ rest)) ∙ told_all rest)
     by_settled settled.Ended none is =
-        still selection (Within context) Over old (behind_of old octets settled.Ended) is_more ready end refl
-        (λ rest e. ap (λ t. ended_with t) (append-nil ready) ∙ sym (is.1 (drop octets old.held ++ rest) (no_rest none.0 rest e)) ∙ told_all rest)
+        still selection (Within context) (Over new.left_out) old (behind_of old octets settled.Ended) is_more ready end refl
+        (λ rest e. ap (λ (c : Context). told_behind ready (told_at selection (Over c.left_out) (old.held ++ rest))) is.0 ∙ ap (λ t. ended_with t) (append-nil ready) ∙ sym (is.1 (drop octets old.held ++ rest) (no_rest none.0 rest e)) ∙ told_all rest)
     by_settled (settled.Refused fault) none is =
-        still selection (Within context) (Faulty fault) old (behind_of old octets (settled.Refused fault)) is_more ready end refl
-        (λ rest e. ap (λ t. told_behind t (told_at selection (Faulty fault) (old.held ++ rest))) is.0
+        still selection (Within context) (Faulty new.left_out fault) old (behind_of old octets (settled.Refused fault)) is_more ready end refl
+        (λ rest e. ap (λ t. told_behind t (told_at selection (Faulty new.left_out fault) (old.held ++ rest))) is.0
+        ∙ ap (λ (c : Context). told_at selection (Faulty c.left_out fault) (old.held ++ rest)) is.1
         ∙ sym (is.2 (drop octets old.held ++ rest) (no_rest none.0 rest e)) ∙ told_all rest)
     by_settled (settled.Long order size) none is =
         let left = size - (4 + octets) in
@@ -292,7 +293,7 @@ pub body_cut : (selection : Selection) (context : Context) (old mid : Gathered) 
     → IsFetched wanted old mid is_more → is_more ≡ false → ready ≡ 0 ∷ [] → length old.held < left + 4
     → Leads selection (Passing context order size left) old context ready mid state.Over
 body_cut selection context old mid wanted is_more ready order size left fetched none cut part =
-    lead selection (Passing context order size left) Over old mid mid wanted is_more ready fetched refl
+    lead selection (Passing context order size left) (Over context.left_out) old mid mid wanted is_more ready fetched refl
     (λ rest end. ends_cut selection context order size left ready mid.held rest is_more none cut less end)
   where
     less : length mid.held < left + 4
@@ -314,11 +315,12 @@ end_more selection context new old mid wanted is_more ready order size fetched n
     ∙ stays selection (Passing context order size 0) ready (mid.held ++ rest) none)
 
 pub end_faulty : (selection : Selection) (context new : Context) (old mid : Gathered) (wanted : ℕ) (is_more : Bool) (ready : List ℕ) (order : Order) (size : ℕ) (fault : PcapngFault)
-    → IsFetched wanted old mid is_more → ready ≡ [] → 4 ≤ length mid.held → (number_of order 4 mid.held ≡ size → ⊥) → fault ≡ block_fault_at context BadLength
+    → new ≡ context → IsFetched wanted old mid is_more → ready ≡ [] → 4 ≤ length mid.held → (number_of order 4 mid.held ≡ size → ⊥) → fault ≡ block_fault_at context BadLength
     → Leads selection (Passing context order size 0) old new ready mid (state.Faulty fault)
-end_faulty selection context new old mid wanted is_more ready order size fault fetched none four other is =
-    lead selection (Passing context order size 0) (Faulty fault) old mid mid wanted is_more ready fetched refl
-    (λ rest end. ends_faulty selection context order size fault ready mid.held rest (mid.held ++ rest) none four other is)
+end_faulty selection context new old mid wanted is_more ready order size fault same fetched none four other is =
+    lead selection (Passing context order size 0) (Faulty new.left_out fault) old mid mid wanted is_more ready fetched refl
+    (λ rest end. ap (λ (c : Context). told_behind ready (told_at selection (Faulty c.left_out fault) (mid.held ++ rest))) same
+    ∙ ends_faulty selection context order size fault ready mid.held rest (mid.held ++ rest) none four other is)
 
 pub end_whole : (selection : Selection) (context after : Context) (old mid new : Gathered) (wanted : ℕ) (is_more : Bool) (ready : List ℕ) (order : Order) (size : ℕ)
     → IsFetched wanted old mid is_more → new ≡ record { held = []; supply = mid.supply } → ready ≡ [] → length mid.held ≡ 4 → number_of order 4 mid.held ≡ size

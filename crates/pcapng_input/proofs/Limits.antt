@@ -11,7 +11,7 @@ use Rattle.pcap_io.specs.Style.{number_of, second}
 use Rattle.pcap_io.specs.declared.style.Order.{Order}
 use Rattle.pcapng_input.specs.Block.{AnotherBlock, Block, CutShort, NextBlock, NoBlock, Refused, block_at, block_by_order, end_by_size, interface_description, is_no_length, is_of_packet, is_read, longest_block, next_block, obsolete_packet, order_at, section_header, simple_packet}
 use Rattle.pcapng_input.specs.Interface.{described}
-use Rattle.pcapng_input.specs.Meaning.{IsMeantWithinLimits, block_meaning, head_in, head_size, interface_in, interface_meaning, packet_in, packet_meaning, section_in}
+use Rattle.pcapng_input.specs.Meaning.{IsMeantWithinLimits, block_meaning, head_in, head_size, interface_in, interface_meaning, is_outbound, packet_in, packet_meaning, record_meaning, section_in}
 use Rattle.pcapng_input.specs.Moments.{offset_moment, round, sign_bit, tellable, ticks_in_nanoseconds}
 use Rattle.pcapng_input.specs.Packet.{captured_length, enhanced_head, moment_by, obsolete_head, packet_by, packet_record, selected_record, record_at, simple_head}
 use Rattle.pcapng_input.specs.Reading.{Context, PacketReading, Step, first_packets, found_before, packets_in, packets_of, reading_by_block, reading_by_step, start, step_by, step_of}
@@ -20,7 +20,7 @@ use Rattle.pcapng_input.specs.declared.fault.BlockFault.TheVariants.{BadLength, 
 use Rattle.pcapng_input.specs.declared.interface.Interface.{Interface}
 use Rattle.pcapng_input.specs.declared.interface.Selection.{Selection}
 use Rattle.pcapng_input.specs.declared.meaning.BlockMeaning.{BlockMeaning}
-use Rattle.pcapng_input.specs.declared.meaning.BlockMeaning.TheVariants.{Described, Nothing, Packet, Section}
+use Rattle.pcapng_input.specs.declared.meaning.BlockMeaning.TheVariants.{Described, Nothing, Outbound, Packet, Section}
 use Rattle.pcapng_input.specs.declared.packet.PacketHead.{PacketHead}
 
 -- ---- moments
@@ -99,10 +99,14 @@ abbrev pub IsToldWithinLimits : Result BlockMeaning BlockFault → Type 0
 IsToldWithinLimits (Err fault) = Unit {0}
 IsToldWithinLimits (Ok meant) = IsMeantWithinLimits meant
 
-packet_meaning-limits : (found : Result (Option Record) BlockFault) → IsFoundWithinLimits found → IsToldWithinLimits (packet_meaning found)
-packet_meaning-limits (Err fault) limits = tt
-packet_meaning-limits (Ok None) limits = tt
-packet_meaning-limits (Ok (Some r)) limits = limits
+packet_meaning-limits : (block : Block) (found : Result (Option Record) BlockFault) → IsFoundWithinLimits found → IsToldWithinLimits (packet_meaning block found)
+packet_meaning-limits block (Err fault) limits = tt
+packet_meaning-limits block (Ok None) limits = tt
+packet_meaning-limits block (Ok (Some r)) limits = by_direction (is_outbound (length r.octets) block)
+  where
+    by_direction : (b : Bool) → IsMeantWithinLimits (record_meaning b r)
+    by_direction true = tt
+    by_direction false = limits
 
 -- ---- blocks
 
@@ -130,9 +134,9 @@ packet_in-limits : (interfaces : List Interface) (last : ℕ) (block : Block) �
 unfolding packet_in
 packet_in-limits interfaces last block h limit = by_room (nat_lt (length block.body) (head_size block.kind))
   where
-    by_room : (b : Bool) → IsToldWithinLimits (if b then Err ShortBlock else packet_meaning (packet_record interfaces last (head_in block) (drop (head_size block.kind) block.body)))
+    by_room : (b : Bool) → IsToldWithinLimits (if b then Err ShortBlock else packet_meaning block (packet_record interfaces last (head_in block) (drop (head_size block.kind) block.body)))
     by_room true = tt
-    by_room false = packet_meaning-limits _ (packet_record-limits interfaces last (head_in block) (drop (head_size block.kind) block.body) limit (head_fits block h))
+    by_room false = packet_meaning-limits block _ (packet_record-limits interfaces last (head_in block) (drop (head_size block.kind) block.body) limit (head_fits block h))
 
 section_in-limits : (block : Block) → IsToldWithinLimits (section_in block)
 unfolding section_in
@@ -181,6 +185,7 @@ step_by-sound context block (Err fault) limit limits = tt
 step_by-sound context block (Ok Section) limit limits = (tt, limit)
 step_by-sound context block (Ok (Described interface)) limit limits = (tt, limit)
 step_by-sound context block (Ok (Packet r)) limit limits = (limits, limits.moment)
+step_by-sound context block (Ok Outbound) limit limits = (tt, limit)
 step_by-sound context block (Ok Nothing) limit limits = (tt, limit)
 
 step_of-sound : (selection : Selection) (context : Context) (block : Block) → IsText block.body → context.last ≤ last_moment → IsStepSound (step_of selection context block)

@@ -4,7 +4,7 @@ use Rattle.std.specs.List.{flat_map}
 use Rattle.std.specs.Prelude.{ℕ, length, ◌&&◌, ◌||◌, nat_le, option_map, if◌then◌else◌}
 use Rattle.pcap_io.specs.Record.{Record}
 use Rattle.pcap_io.specs.Written.{written, written_header, written_record}
-use Rattle.pcapng_input.specs.Adapted.{Begun, TellsClassic, Told, Within, is_adapted, is_of_one, told_at, told_behind, told_packets, told_reading, told_text}
+use Rattle.pcapng_input.specs.Adapted.{Begun, TellsClassic, Told, Within, is_adapted, is_of_one, told_at, told_behind, told_packets, told_plain, told_reading, told_text}
 use Rattle.pcapng_input.specs.Adapter.{Adapter, told, told_from}
 use Rattle.pcapng_input.specs.Block.{is_section}
 use Rattle.pcapng_input.specs.Classic.{capture_by, classic_text}
@@ -32,7 +32,7 @@ one selection rest is =
     sym (ap (λ b. if b || (nat_le 4 (length rest) && is_section rest) then told_packets selection rest else plain rest) is)
   where
     plain : List ℕ → Told
-    plain text = record { octets = text; fault = None }
+    plain text = told_plain text
 
 -- an input of the packets of one interface
 pub opens_one : (selection : Selection) (a : Adapter) (context : Context) (x : Option (List ℕ)) → is_of_one selection ≡ true → a.selection ≡ selection
@@ -48,22 +48,18 @@ opens_one selection a context x of_one same header stand first held is =
 
 -- ---- what is told of a pcapng text is its classic capture
 
-octets_told : List ℕ → Told
-octets_told text = record { octets = text; fault = None }
-
-by_end : (records : List Record) (end : TextEnd)
-    → TellsClassic (told_behind written_header (told_reading (record { records = records; end = end }))) (capture_by (written records) end)
-unfolding octets_told
-by_end records EndsWhole = ap (λ t. octets_told (written_header ++ t)) (append-nil (flat_map written_record records))
-by_end records EndsCut = ap octets_told (sym (append_assoc written_header (flat_map written_record records) (0 ∷ [])))
-by_end records (EndsFaulty fault) = refl
+by_end : (records : List Record) (end : TextEnd) (left_out : ℕ)
+    → TellsClassic (told_behind written_header (told_reading (record { records = records; end = end; left_out = left_out }))) (capture_by (written records) end)
+by_end records EndsWhole left_out = (ap (λ t. written_header ++ t) (append-nil (flat_map written_record records)), refl)
+by_end records EndsCut left_out = (sym (append_assoc written_header (flat_map written_record records) (0 ∷ [])), refl)
+by_end records (EndsFaulty fault) left_out = refl
 
 pub tells_classic : (selection : Selection) (text : List ℕ) → is_adapted selection text ≡ true → TellsClassic (told_text selection text) (classic_text selection text)
-unfolding told_text classic_text octets_told
+unfolding told_text classic_text
 tells_classic selection text is =
-    subst (λ t. TellsClassic t (classic_text selection text)) (sym (ap (λ b. if b then told_packets selection text else octets_told text) is))
-    (by_end (packets_of selection text).records (packets_of selection text).end)
+    subst (λ t. TellsClassic t (classic_text selection text)) (sym (ap (λ b. if b then told_packets selection text else told_plain text) is))
+    (by_end (packets_of selection text).records (packets_of selection text).end (packets_of selection text).left_out)
 
-pub tells_others : (selection : Selection) (text : List ℕ) → is_adapted selection text ≡ false → told_text selection text ≡ record { octets = text; fault = None }
-unfolding told_text octets_told
-tells_others selection text is = ap (λ b. if b then told_packets selection text else octets_told text) is
+pub tells_others : (selection : Selection) (text : List ℕ) → is_adapted selection text ≡ false → told_text selection text ≡ told_plain text
+unfolding told_text
+tells_others selection text is = ap (λ b. if b then told_packets selection text else told_plain text) is

@@ -48,9 +48,9 @@ step_other selection context block size other is =
 -- the packets behind a block that is passed over, by whether its second length is there, and the same
 abbrev closing : Selection → Context → ℕ → List ℕ → Bool → Bool → PacketReading
 closing selection context size text short same =
-    if short then ended EndsCut
+    if short then ended context EndsCut
     else if same then packets_in selection (behind_other context size) (drop 4 text)
-    else ended (EndsFaulty (block_fault_at context BadLength))
+    else ended context (EndsFaulty (block_fault_at context BadLength))
 
 -- a block with more octets than there is room for is passed over
 pub passes : (selection : Selection) (context : Context) (held rest : List ℕ) (order : Order) → 12 ≤ length held → IsCutBlock context.order held order

@@ -81,7 +81,7 @@ packets-next selection context text =
 
 -- no further block
 pub packets-end : (selection : Selection) (context : Context) (text : List ℕ) (end : BlockEnd) → NoBlock end ≡ next_block context.order text
-    → packets_in selection context text ≡ ended (end_at context end)
+    → packets_in selection context text ≡ ended context (end_at context end)
 packets-end selection context text end is =
     packets-next selection context text ∙ ap (reading_by_block (packets_in selection) selection context) (sym is)
 
@@ -96,7 +96,7 @@ packets-behind selection context text block rest step is done =
 -- a block with a fault
 pub packets-faulty : (selection : Selection) (context : Context) (text : List ℕ) (block : Block) (rest : List ℕ) (fault : BlockFault)
     → AnotherBlock block rest ≡ next_block context.order text → step_of selection context block ≡ Err fault
-    → packets_in selection context text ≡ ended (EndsFaulty (block_fault_at context fault))
+    → packets_in selection context text ≡ ended context (EndsFaulty (block_fault_at context fault))
 packets-faulty selection context text block rest fault is done =
     packets-next selection context text ∙ ap (reading_by_block (packets_in selection) selection context) (sym is)
     ∙ ap (reading_by_step (packets_in selection) context rest) done

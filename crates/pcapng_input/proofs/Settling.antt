@@ -39,11 +39,11 @@ told_found None reading = refl
 told_found (Some r) reading =
     let front = flat_map written_record reading.records in
     let first : flat_map written_record (r ∷ reading.records) ≡ written_record r ++ front = flat_map-cons written_record r reading.records in
-    ap (λ t. told_behind t (told_end reading.end)) first
-    ∙ ap (λ t. with_octets t (told_end reading.end)) (append_assoc (written_record r) front (told_end reading.end).octets)
+    ap (λ t. told_behind t (told_end reading.left_out reading.end)) first
+    ∙ ap (λ t. with_octets t (told_end reading.left_out reading.end)) (append_assoc (written_record r) front (told_end reading.left_out reading.end).octets)
   where
     with_octets : List ℕ → Told → Told
-    with_octets t told = record { octets = t; fault = told.fault }
+    with_octets t told = record { octets = t; fault = told.fault; left_out = told.left_out }
 
 -- a block was found in what is held: it is found with the rest behind it
 block_grown : (context : Context) (held rest behind : List ℕ) (block : Block) → AnotherBlock block behind ≡ next_block context.order held
@@ -103,19 +103,19 @@ settles_faulty selection context new held behind ready is_more block fault order
   λ rest end.
       let here = block_grown context held rest behind block (next ∙ ap (λ o. next_block o held) order_is) fits in
       ap told_reading (packets-faulty selection context (held ++ rest) block rest fault.fault here is.0)
-      ∙ ap (λ f. told_reading (ended (EndsFaulty f))) (sym is.1),
+      ∙ ap (λ f. told_reading (ended context (EndsFaulty f))) (sym is.1),
 )
 
 -- no rest
 at_end : (held rest : List ℕ) → rest ≡ [] → held ++ rest ≡ held
 at_end held rest end = ap (λ t. held ++ t) end ∙ append-nil held
 
-abbrev told_as : List ℕ → Told
-told_as octets = record { octets = octets; fault = None }
+abbrev told_as : Context → List ℕ → Told
+told_as context octets = record { octets = octets; fault = None; left_out = context.left_out }
 
 -- no block is left, and nothing behind what is held
 settles_ended : (selection : Selection) (context : Context) (held ready : List ℕ) (is_more : Bool) (end : BlockEnd) → NoBlock end ≡ next_block context.order held → is_more ≡ false
-    → told_reading (ended (end_at context end)) ≡ told_as ready → IsSettled selection context context held ready is_more settled.Ended
+    → told_reading (ended context (end_at context end)) ≡ told_as context ready → IsSettled selection context context held ready is_more settled.Ended
 settles_ended selection context held ready is_more end here last told = (
   refl,
   λ rest none.
@@ -129,7 +129,7 @@ pub settles_whole : (selection : Selection) (context : Context) (held ready : Li
     → order ≡ context.order → NoBlock AllRead ≡ next_block order held → Long is_more held → ready ≡ [] → IsSettled selection context context held ready is_more settled.Ended
 settles_whole selection context held ready is_more order order_is next long none =
     let here = next ∙ ap (λ o. next_block o held) order_is in
-    settles_ended selection context held ready is_more AllRead here (by_more is_more refl here) (ap (λ t. told_as t) (sym none))
+    settles_ended selection context held ready is_more AllRead here (by_more is_more refl here) (ap (λ t. told_as context t) (sym none))
   where
     by_more : (b : Bool) → is_more ≡ b → NoBlock AllRead ≡ next_block context.order held → is_more ≡ false
     by_more false e here = e
@@ -139,7 +139,7 @@ settles_whole selection context held ready is_more order order_is next long none
 pub settles_cut : (selection : Selection) (context : Context) (held ready : List ℕ) (is_more : Bool) (order : Option Order)
     → order ≡ context.order → NoBlock CutShort ≡ next_block order held → is_more ≡ false → ready ≡ 0 ∷ [] → IsSettled selection context context held ready is_more settled.Ended
 settles_cut selection context held ready is_more order order_is next last cut =
-    settles_ended selection context held ready is_more CutShort (next ∙ ap (λ o. next_block o held) order_is) last (ap (λ t. told_as t) (sym cut))
+    settles_ended selection context held ready is_more CutShort (next ∙ ap (λ o. next_block o held) order_is) last (ap (λ t. told_as context t) (sym cut))
 
 -- what stands there is no block
 pub settles_refused : (selection : Selection) (context : Context) (held ready : List ℕ) (is_more : Bool) (order : Option Order) (fault : BlockFault) (told : PcapngFault)
@@ -150,7 +150,7 @@ settles_refused selection context held ready is_more order fault told order_is n
   refl,
   λ rest end.
       ap told_reading (packets-end selection context (held ++ rest) (Refused fault) (by_more rest end is_more refl))
-      ∙ ap (λ f. told_reading (ended (EndsFaulty f))) (sym is),
+      ∙ ap (λ f. told_reading (ended context (EndsFaulty f))) (sym is),
 )
   where
     here : NoBlock (Refused fault) ≡ next_block context.order held

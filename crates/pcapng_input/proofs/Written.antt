@@ -10,7 +10,7 @@ use Rattle.pcapng_input.proofs.Readings.{packets-behind, packets-end, packets-fa
 use Rattle.pcapng_input.specs.Block.{AllRead, AnotherBlock, Block, CutShort, NoBlock, Refused, next_block}
 use Rattle.pcapng_input.specs.Classic.{IsErrorOf, capture_by, classic_text, found_text}
 use Rattle.pcapng_input.specs.Context.{IsStepError}
-use Rattle.pcapng_input.specs.Reading.{Context, EndsCut, EndsFaulty, EndsWhole, PacketReading, TextEnd, block_fault_at, found_before, packets_in, packets_of, start, step_of}
+use Rattle.pcapng_input.specs.Reading.{Context, EndsCut, EndsFaulty, EndsWhole, PacketReading, TextEnd, block_fault_at, ended, found_before, packets_in, packets_of, start, step_of}
 use Rattle.pcapng_input.specs.declared.fault.BlockFault.{BlockFault}
 use Rattle.pcapng_input.specs.declared.fault.PcapngError.{PcapngError}
 use Rattle.pcapng_input.specs.declared.fault.PcapngError.TheVariants.{Faulty, OutOfMemory}
@@ -56,7 +56,7 @@ goes_on selection text out new_out context new rest behind block found order ord
     same_end (Some r) more = refl
 
 -- no more packets
-stops : (selection : Selection) (text out : List ℕ) (context : Context) (rest : List ℕ) (end : TextEnd) → packets_in selection context rest ≡ record { records = []; end = end }
+stops : (selection : Selection) (text out : List ℕ) (context : Context) (rest : List ℕ) (end : TextEnd) → packets_in selection context rest ≡ ended context end
     → IsSoFar selection text out context rest → classic_text selection text ≡ capture_by out end
 unfolding classic_text
 stops selection text out context rest end here so_far =

@@ -2,7 +2,7 @@
 use Rattle.std.specs.Prelude.{◌≡◌, ◌≤◌, ℕ, Bool, false, List, [], ◌++◌, length, Option, Some, None, option_map, ⊤}
 use Rattle.std.specs.Io.KnownBytes.{Consumes, IsAtEnd}
 use Rattle.pcap_stream.specs.Supply.{Supply}
-use Rattle.pcapng_input.specs.Adapted.{Stand, Told, met, told_at, told_behind}
+use Rattle.pcapng_input.specs.Adapted.{Stand, Told, left_out_at, met, told_at, told_behind}
 use Rattle.pcapng_input.specs.declared.fault.PcapngFault.{PcapngFault}
 use Rattle.pcapng_input.specs.declared.interface.Selection.{Selection}
 
@@ -39,6 +39,10 @@ told_fault a = option_map (λ (t : Told). t.fault) (told a)
 abbrev pub met_fault : Adapter → Option PcapngFault
 met_fault a = met a.stand
 
+-- how many packets were left out yet
+abbrev pub left_out_by : Adapter → ℕ
+left_out_by a = left_out_at a.stand
+
 -- ---- one read below. It serves proofs.
 
 -- some octets were taken behind those that were held, and none only at the end
@@ -67,7 +71,7 @@ KeepsFault None new = ⊤
 KeepsFault (Some old) None = ⊥
 KeepsFault (Some old) (Some new) = new ≡ old
 
--- all was told, and there was no fault
-abbrev pub IsAllTold : Option Told → Type 0
-IsAllTold None = ⊤
-IsAllTold (Some t) = t ≡ record { octets = []; fault = None }
+-- all was told, there was no fault, and so many packets were left out
+abbrev pub IsAllTold : ℕ → Option Told → Type 0
+IsAllTold left_out None = ⊤
+IsAllTold left_out (Some t) = t ≡ record { octets = []; fault = None; left_out = left_out }

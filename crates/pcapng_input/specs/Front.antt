@@ -1,7 +1,7 @@
 -- The packets that a text of blocks begins with, and the records that are given of them. It serves proofs.
-use Rattle.std.specs.Prelude.{◌≡◌, ◌≤◌, ℕ, ◌+◌, ◌-◌, ◌%◌, not, Bool, true, false, List, ◌++◌, length, drop, slice_get, Option, Some, None, Ok, ⊤}
+use Rattle.std.specs.Prelude.{◌≡◌, ◌<◌, ◌≤◌, ℕ, ◌+◌, ◌-◌, ◌%◌, nat_lt, if◌then◌else◌, not, Bool, true, false, List, ◌++◌, length, drop, slice_get, Option, Some, None, Ok, ⊤}
 use Rattle.header_sums.specs.Octets.{part}
-use Rattle.pcap_io.specs.Record.{IsWithinLimits}
+use Rattle.pcap_io.specs.Record.{IsWithinLimits, Record}
 use Rattle.pcap_io.specs.Style.{number_of}
 use Rattle.pcap_io.specs.declared.style.Order.{Order}
 use Rattle.pcapng_input.specs.Adapted.{told_behind, told_reading}
@@ -33,13 +33,21 @@ pub record IsEnhanced (order : Order) (text : List ℕ) (size : ℕ) : Type 0 wh
 abbrev pub body_of : List ℕ → ℕ → List ℕ
 body_of text size = part 8 (size - 12) text
 
+-- behind a packet and its padding there is no room for an option
+abbrev pub HasNoOptions : List ℕ → Record → Type 0
+HasNoOptions body r = length (drop 20 body) < length r.octets + 4
+
+-- the packet of a block, of which these octets stand behind its head, where behind it there is no room for an option
+abbrev pub bare_packet : ℕ → List ℕ → Record → FrontPacket
+bare_packet size octets r = if nat_lt (length octets) (length r.octets + 4) then front.Selected size r else front.Unknown
+
 -- what is found in front of a text
 abbrev pub IsFrontPacket : Order → List Interface → ℕ → List ℕ → FrontPacket → Type 0
 IsFrontPacket order interfaces last text (front.Other size) =
     IsEnhanced order text size × (is_other (slice_get interfaces (number_of order 4 (body_of text size))) ≡ true)
 IsFrontPacket order interfaces last text (front.Selected size r) =
     IsEnhanced order text size × (packet_record interfaces last (enhanced_head order (body_of text size)) (drop 20 (body_of text size)) ≡ Ok (Some r))
-    × IsWithinLimits r
+    × IsWithinLimits r × HasNoOptions (body_of text size) r
 IsFrontPacket order interfaces last text front.Unknown = ⊤
 
 -- behind the first octets of a text, so many of which are used, these are given, and the other packets are still to come

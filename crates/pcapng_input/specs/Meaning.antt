@@ -1,16 +1,17 @@
 -- What a block means (draft-ietf-opsawg-pcapng, 4.1 to 4.4 and A.1).
-use Rattle.std.specs.Prelude.{ℕ, ◌==◌, nat_lt, if◌then◌else◌, List, length, drop, Option, Some, None, Result, Ok, Err, ⊤}
+use Rattle.std.specs.Prelude.{ℕ, ◌+◌, ◌==◌, ◌&&◌, not, nat_lt, if◌then◌else◌, Bool, List, length, drop, Option, Some, None, Result, Ok, Err, ⊤}
 use Rattle.pcap_io.specs.Record.{IsWithinLimits, Record}
 use Rattle.pcap_io.specs.Style.{number_of}
 use Rattle.pcapng_input.specs.Block.{Block, interface_description, is_of_packet, obsolete_packet, section_header, simple_packet}
 use Rattle.pcapng_input.specs.Interface.{described}
-use Rattle.pcapng_input.specs.Packet.{enhanced_head, obsolete_head, packet_record, simple_head}
+use Rattle.pcapng_input.specs.Options.{padded}
+use Rattle.pcapng_input.specs.Packet.{enhanced_head, is_outbound_in, obsolete_head, packet_record, simple_head}
 use Rattle.pcapng_input.specs.declared.fault.BlockFault.{BlockFault}
 use Rattle.pcapng_input.specs.declared.fault.BlockFault.TheVariants.{BadVersion, ShortBlock, TooManyInterfaces}
 use Rattle.pcapng_input.specs.declared.interface.Interface.{Interface}
 use Rattle.pcapng_input.specs.declared.interface.Selection.{Selection}
 use Rattle.pcapng_input.specs.declared.meaning.BlockMeaning.{BlockMeaning}
-use Rattle.pcapng_input.specs.declared.meaning.BlockMeaning.TheVariants.{Described, Nothing, Packet, Section}
+use Rattle.pcapng_input.specs.declared.meaning.BlockMeaning.TheVariants.{Described, Nothing, Outbound, Packet, Section}
 use Rattle.pcapng_input.specs.declared.packet.PacketHead.{PacketHead}
 
 -- the interfaces of a section at most
@@ -36,12 +37,6 @@ interface_in selection interfaces block =
     then interface_meaning (described selection (length interfaces) block.order block.body)
     else Err TooManyInterfaces
 
--- the record of a packet, or nothing where its interface isn't selected
-abbrev pub packet_meaning : Result (Option Record) BlockFault → Result BlockMeaning BlockFault
-packet_meaning (Err fault) = Err fault
-packet_meaning (Ok None) = Ok Nothing
-packet_meaning (Ok (Some r)) = Ok (Packet r)
-
 -- the octets in front of a packet's, in a block of this type
 abbrev pub head_size : ℕ → ℕ
 head_size kind = if kind == simple_packet then 4 else 20
@@ -53,11 +48,29 @@ head_in block =
     else if block.kind == obsolete_packet then obsolete_head block.order block.body
     else enhanced_head block.order block.body
 
+-- the text behind so many octets of a packet, padded to 32 bits: the block's options
+abbrev pub behind_octets : ℕ → Block → List ℕ
+behind_octets size block = drop (head_size block.kind + padded size) block.body
+
+-- a packet of so many octets is outbound by the options of its block: a simple packet block has none
+abbrev pub is_outbound : ℕ → Block → Bool
+is_outbound size block = not (block.kind == simple_packet) && is_outbound_in block.order (behind_octets size block)
+
+-- what the record of a packet means: one that is outbound is left out
+abbrev pub record_meaning : Bool → Record → BlockMeaning
+record_meaning is_left_out r = if is_left_out then Outbound else Packet r
+
+-- a packet's meaning by its record: nothing where its interface isn't selected
+abbrev pub packet_meaning : Block → Result (Option Record) BlockFault → Result BlockMeaning BlockFault
+packet_meaning block (Err fault) = Err fault
+packet_meaning block (Ok None) = Ok Nothing
+packet_meaning block (Ok (Some r)) = Ok (record_meaning (is_outbound (length r.octets) block) r)
+
 -- a packet behind one at that moment, in a section with these interfaces
 unfoldable pub packet_in : List Interface → ℕ → Block → Result BlockMeaning BlockFault
 packet_in interfaces last block =
     if nat_lt (length block.body) (head_size block.kind) then Err ShortBlock
-    else packet_meaning (packet_record interfaces last (head_in block) (drop (head_size block.kind) block.body))
+    else packet_meaning block (packet_record interfaces last (head_in block) (drop (head_size block.kind) block.body))
 
 -- what a block means, by its type: one of another type means nothing, whatever it holds
 unfoldable pub block_meaning : Selection → List Interface → ℕ → Block → Result BlockMeaning BlockFault
@@ -72,4 +85,5 @@ abbrev pub IsMeantWithinLimits : BlockMeaning → Type 0
 IsMeantWithinLimits Section = ⊤
 IsMeantWithinLimits (Described interface) = ⊤
 IsMeantWithinLimits (Packet r) = IsWithinLimits r
+IsMeantWithinLimits Outbound = ⊤
 IsMeantWithinLimits Nothing = ⊤

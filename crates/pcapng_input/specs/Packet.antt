@@ -1,10 +1,11 @@
 -- Packets (draft-ietf-opsawg-pcapng, 4.3, 4.4 and A.1), as records of a classic capture.
-use Rattle.std.specs.Prelude.{ℕ, ◌+◌, ◌*◌, ◌==◌, nat_lt, not, if◌then◌else◌, min, List, length, take, drop, Option, Some, None, unwrap_or, Result, Ok, Err, slice_get}
+use Rattle.std.specs.Prelude.{ℕ, ◌+◌, ◌*◌, ◌%◌, ◌==◌, ◌&&◌, nat_lt, not, if◌then◌else◌, Bool, false, min, List, length, take, drop, Option, Some, None, unwrap_or, Result, Ok, Err, slice_get}
 use Rattle.pcap_io.specs.Header.{ethernet}
 use Rattle.pcap_io.specs.Record.{Record, longest}
 use Rattle.pcap_io.specs.Style.{number_of}
 use Rattle.pcap_io.specs.declared.style.Order.{Order}
 use Rattle.pcapng_input.specs.Moments.{offset_moment, ticks_in_nanoseconds}
+use Rattle.pcapng_input.specs.Options.{block_options, option_value}
 use Rattle.pcapng_input.specs.declared.fault.BlockFault.{BlockFault}
 use Rattle.pcapng_input.specs.declared.fault.BlockFault.TheVariants.{BadLink, BadMoment, ShortBlock, TooLarge, UnknownInterface}
 use Rattle.pcapng_input.specs.declared.interface.Interface.{Interface}
@@ -31,6 +32,24 @@ obsolete_head order body = timed_head (number_of order 2 body) order body
 -- in a simple packet block stands the original length alone, in front of the octets: it is of interface 0
 unfoldable pub simple_head : Order → List ℕ → PacketHead
 simple_head order body = record { interface = 0; ticks = None; captured = None; original = number_of order 4 body }
+
+-- ---- the direction of a packet
+
+-- the options `epb_flags` of an enhanced (4.3.1) and `pack_flags` of an obsolete packet block (A.1)
+abbrev pub packet_flags : ℕ
+packet_flags = 2
+
+-- flags have 32 bits, the lowest two of which tell the direction: 0 isn't known, 1 is inbound, 2 is outbound, and 3 is reserved.
+-- Where an option of this code has another length, the direction isn't known
+abbrev pub is_outbound_by : Order → Option (List ℕ) → Bool
+is_outbound_by order None = false
+is_outbound_by order (Some flags) = length flags == 4 && number_of order 4 flags % 4 == 2
+
+-- the packet is outbound by the options of its block that this text begins with
+unfoldable pub is_outbound_in : Order → List ℕ → Bool
+is_outbound_in order text = is_outbound_by order (option_value packet_flags (block_options order text).options)
+
+-- ---- a packet's record
 
 -- a length limited by a snapshot length, 0 of which is no limit
 abbrev pub snapped : ℕ → ℕ → ℕ

@@ -19,8 +19,8 @@ stand_of state.Plain context = Plain
 stand_of state.Within context = Within context
 stand_of (state.Passing order size left) context = Passing context order size left
 stand_of state.NoMemory context = Within context
-stand_of state.Over context = Over
-stand_of (state.Faulty fault) context = Faulty fault
+stand_of state.Over context = Over context.left_out
+stand_of (state.Faulty fault) context = Faulty context.left_out fault
 
 -- how many octets of a block are wanted: its first 12, and then all, by the length that these tell
 abbrev pub size_wanted : ℕ → ℕ
@@ -84,9 +84,9 @@ IsSettled selection old new held ready is_more settled.Taken =
     (new.blocks ≡ old.blocks + 1) × (old.offset + 12 ≤ new.offset) × (new.offset ≤ old.offset + length held)
     × ((rest : List ℕ) → TellsBlock selection old held (told_behind ready (told_reading (packets_in selection new rest))) rest)
 IsSettled selection old new held ready is_more settled.Ended =
-    (new ≡ old) × ((rest : List ℕ) → IsRest is_more rest → TellsBlock selection old held (record { octets = ready; fault = None }) rest)
+    (new ≡ old) × ((rest : List ℕ) → IsRest is_more rest → TellsBlock selection old held (record { octets = ready; fault = None; left_out = old.left_out }) rest)
 IsSettled selection old new held ready is_more (settled.Refused fault) =
-    (ready ≡ []) × (new ≡ old) × ((rest : List ℕ) → IsRest is_more rest → TellsBlock selection old held (record { octets = []; fault = Some fault }) rest)
+    (ready ≡ []) × (new ≡ old) × ((rest : List ℕ) → IsRest is_more rest → TellsBlock selection old held (record { octets = []; fault = Some fault; left_out = old.left_out }) rest)
 IsSettled selection old new held ready is_more settled.NoMemory = (ready ≡ []) × (new ≡ old)
 
 -- a block that is passed over has its second length behind so many octets
@@ -126,8 +126,8 @@ steps_at Begun below = steps_within below
 steps_at Plain below = steps_within below
 steps_at (Within context) below = steps_within below
 steps_at (Passing context order size left) below = steps_within below
-steps_at Over below = 0
-steps_at (Faulty fault) below = 0
+steps_at (Over left_out) below = 0
+steps_at (Faulty left_out fault) below = 0
 
 -- and by its state: none where memory was refused
 abbrev pub steps_of : State → Gathered → ℕ

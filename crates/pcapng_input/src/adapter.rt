@@ -4,7 +4,7 @@ ghost use Rattle.std.specs.Io.{ReadsAtMost};
 ghost use Rattle.std.specs.Io.KnownBytes.{ReadConsumes};
 ghost use Rattle.pcap_stream.specs.Supply.{Spends};
 ghost use Rattle.pcapng_input.specs.Adapted.{is_of_one, told_text};
-ghost use Rattle.pcapng_input.specs.Adapter.{IsAllTold, KeepsFault, KeepsTold, TellsBehind, met_fault, told, told_fault, told_octets};
+ghost use Rattle.pcapng_input.specs.Adapter.{IsAllTold, KeepsFault, KeepsTold, TellsBehind, left_out_by, met_fault, told, told_fault, told_octets};
 ghost use Rattle.pcapng_input.specs.State.{steps_at};
 
 use crate::context::Context;
@@ -114,12 +114,22 @@ impl<'s, R: Input> Adapter<'s, R> {
         }
     }
 
+    /// How many packets were left out yet, since they are outbound.
+    pub fn left_out(&self) -> u64
+        ensures { result ≡ left_out_by self.now }
+    {
+        match self.state {
+            State::Begun | State::Plain => 0,
+            _ => self.context.left_out(),
+        }
+    }
+
     /// Gives what is told next, by as many reads below as it takes.
     pub fn give(&mut self, octets: &mut [u8]) -> Result<usize, DeviceFault>
         ensures bound { ReadsAtMost result octets.new }
         ensures taken { ReadConsumes (told_octets self.old) (told_octets self.new) result octets.new }
         ensures fault { KeepsFault (told_fault self.old) (told_fault self.new) }
-        ensures all { IfOk result (λ n. n ≡ 0 → 0 < length octets.new → IsAllTold (told self.new)) }
+        ensures all { IfOk result (λ n. n ≡ 0 → 0 < length octets.new → IsAllTold (left_out_by self.new) (told self.new)) }
         ensures spent { Spends self.old.below.supply self.new.below.supply }
     {
         if octets.is_empty() {

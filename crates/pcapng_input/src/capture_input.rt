@@ -5,7 +5,7 @@ ghost use Rattle.std.specs.Io.KnownBytes.{ReadConsumes};
 ghost use Rattle.pcap_stream.specs.Counts.{CountsFaults, GoesOnBy};
 ghost use Rattle.pcap_stream.specs.Supply.{Spends};
 ghost use Rattle.pcapng_input.specs.Adapted.{told_text};
-ghost use Rattle.pcapng_input.specs.Adapter.{IsAllTold, KeepsFault, met_fault, told, told_fault, told_octets};
+ghost use Rattle.pcapng_input.specs.Adapter.{IsAllTold, KeepsFault, left_out_by, met_fault, told, told_fault, told_octets};
 
 use crate::adapter::Adapter;
 use crate::fault::PcapngFault;
@@ -13,7 +13,8 @@ use crate::interface::Selection;
 use pcap_stream::{DeviceFault, Input};
 use std::alloc::{AllocError, Global};
 
-/// An input of a capture: a pcapng one is told as the classic capture of its packets, and any other octet for octet.
+/// An input of a capture: a pcapng one is told as the classic capture of its packets but for outbound ones, which are left out
+/// and counted, and any other octet for octet.
 ///
 /// It keeps what it read ahead, in room for 65,536 octets or for the longest block so far, at most 327,680; the octets of one
 /// record, in room for the longest so far, at most 262,160; and what the section describes. It reads only where the block in
@@ -65,6 +66,14 @@ impl<'s, R: Input> CaptureInput<'s, R> {
     {
         self.adapter.fault()
     }
+
+    /// How many packets of the pcapng text were left out yet, since they are outbound: of all once a read answered that nothing
+    /// comes, or a fault was met.
+    pub fn left_out(&self) -> u64
+        ensures { result ≡ left_out_by self.now.adapter }
+    {
+        self.adapter.left_out()
+    }
 }
 
 impl<'s, R: Input> Input for CaptureInput<'s, R> {
@@ -80,7 +89,7 @@ impl<'s, R: Input> Input for CaptureInput<'s, R> {
         ensures calls { GoesOnBy 1 self.old.calls self.new.calls }
         ensures failures { CountsFaults self.old.failures self.new.failures result }
         ensures fault { KeepsFault (told_fault self.old.adapter) (told_fault self.new.adapter) }
-        ensures all { IfOk result (λ n. n ≡ 0 → 0 < length octets.new → IsAllTold (told self.new.adapter)) }
+        ensures all { IfOk result (λ n. n ≡ 0 → 0 < length octets.new → IsAllTold (left_out_by self.new.adapter) (told self.new.adapter)) }
         ensures spent { Spends self.old.adapter.below.supply self.new.adapter.below.supply }
     {
         self.calls = self.calls.wrapping_add(1);

@@ -51,7 +51,8 @@ fn put_found(out: &mut Vec<u8>, found: Option<Record<'_>>) -> Result<(), AllocEr
 }
 
 /// The classic capture whose records are the packets of a pcapng text, in order, of the interfaces that are selected:
-/// little-endian, in nanoseconds, link type Ethernet.
+/// little-endian, in nanoseconds, link type Ethernet. Packets that the option `epb_flags` or `pack_flags` tells as outbound are
+/// left out.
 ///
 /// `Faulty`: the text's first fault. `OutOfMemory`: memory was refused. A text that ends within a block gives a capture
 /// that ends within a record's header. A simple packet block has no moment: its record has that of the one before it,

@@ -27,12 +27,13 @@ pub struct Given {
     pub given: usize,
 }
 
-/// What is known in front of a block: its section, the packet before it, and its place.
+/// What is known in front of a block: its section, the packet before it, how many were left out, and its place.
 #[derive(Drop)]
 pub struct Context {
     order: Option<Order>,
     interfaces: Vec<Interface>,
     last: u64,
+    left_out: u64,
     blocks: u64,
     offset: u64,
 }
@@ -48,11 +49,12 @@ impl Model for Context {
       order = c.order;
       interfaces = c.interfaces.items;
       last = c.last;
+      left_out = c.left_out;
       blocks = c.blocks;
       offset = c.offset;
     } };
 
-    ghost invariant = { λ c. c.last ≤ last_moment };
+    ghost invariant = { λ c. (c.last ≤ last_moment) × (c.left_out ≤ c.blocks) };
 }
 
 impl Context {
@@ -64,6 +66,7 @@ impl Context {
             order: None,
             interfaces: Vec::new(alloc),
             last: 0,
+            left_out: 0,
             blocks: 0,
             offset: 0,
         }
@@ -74,6 +77,13 @@ impl Context {
         ensures { result ≡ self.now.order }
     {
         self.order
+    }
+
+    /// How many packets were left out.
+    pub fn left_out(&self) -> u64
+        ensures { result ≡ self.now.left_out }
+    {
+        self.left_out
     }
 
     /// A fault of the block that stands here.
@@ -182,6 +192,7 @@ impl Context {
             }
             BlockMeaning::Described(interface) => self.interfaces.push(*interface)?,
             BlockMeaning::Packet(record) => self.last = record.moment,
+            BlockMeaning::Outbound => self.left_out += 1,
             BlockMeaning::Nothing => {}
         }
         self.blocks += 1;

@@ -1,12 +1,13 @@
 //! The packet that a text of blocks begins with.
 ghost use Rattle.std.specs.Prelude.{◌≡◌, ◌≤◌, length, IfSome};
 ghost use Rattle.pcap_io.specs.Record.{last_moment};
-ghost use Rattle.pcapng_input.specs.Front.{IsEnhanced, IsFrontPacket, body_of};
+ghost use Rattle.pcapng_input.specs.Front.{IsEnhanced, IsFrontPacket, bare_packet, body_of};
 
 use crate::block::{EMPTY_BLOCK, ENHANCED_PACKET, LONGEST_BLOCK, is_pcapng};
 use crate::interface::Interface;
 use crate::meaning::behind_head;
 use crate::number::number4;
+use crate::option::OPTION_HEADER;
 use crate::packet::{TIMED_HEAD, enhanced_head, packet_record};
 use pcap_io::{Order, Record};
 
@@ -20,7 +21,7 @@ pub enum FrontPacket<'a> {
     Other(usize),
     /// One of an interface that is, in a block of so many octets.
     Selected(usize, Record<'a>),
-    /// Something else than a whole enhanced packet block without a fault.
+    /// Something else than a whole enhanced packet block without options and without a fault.
     Unknown,
 }
 
@@ -40,6 +41,17 @@ fn enhanced_block(order: Order, text: &[u8]) -> Option<usize>
         return None;
     }
     Some(size)
+}
+
+/// The packet of a block of so many octets, whose own these begin with, where behind it there is no room for an option.
+#[inline(always)]
+fn bare_packet<'a>(size: usize, octets: &[u8], packet: Record<'a>) -> FrontPacket<'a>
+    ensures { result ≡ bare_packet size octets.now packet.entry }
+{
+    if octets.len() < packet.octets.len() + OPTION_HEADER {
+        return FrontPacket::Selected(size, packet);
+    }
+    FrontPacket::Unknown
 }
 
 /// The packet that a text of blocks begins with, in a section with these interfaces, behind a packet at this moment. What one
@@ -67,7 +79,7 @@ pub fn front_packet<'a>(
     let head = enhanced_head(order, body);
     let octets = behind_head(body, TIMED_HEAD);
     match packet_record(interfaces, last, head, octets) {
-        Ok(Some(record)) => FrontPacket::Selected(size, record),
+        Ok(Some(record)) => bare_packet(size, octets, record),
         _ => FrontPacket::Unknown,
     }
 }

@@ -1,7 +1,7 @@
 //! What blocks mean.
 ghost use Rattle.std.specs.Prelude.{◌≡◌, ◌≤◌, length, drop, IfOk, IfSome};
-ghost use Rattle.pcap_io.specs.Record.{IsWithinLimits, last_moment};
-ghost use Rattle.pcapng_input.specs.Meaning.{IsMeantWithinLimits, block_meaning, head_in, head_size, interface_in, packet_in, packet_meaning, section_in};
+ghost use Rattle.pcap_io.specs.Record.{IsWithinLimits, last_moment, longest};
+ghost use Rattle.pcapng_input.specs.Meaning.{IsMeantWithinLimits, behind_octets, block_meaning, head_in, head_size, interface_in, is_outbound, packet_in, packet_meaning, record_meaning, section_in};
 
 use crate::block::{
     Block, INTERFACE_DESCRIPTION, OBSOLETE_PACKET, SECTION_HEADER, SIMPLE_PACKET, is_of_packet,
@@ -10,7 +10,8 @@ use crate::fault::BlockFault;
 use crate::interface::{Interface, Selection, described};
 use crate::number::number2;
 use crate::packet::{
-    PacketHead, SIMPLE_HEAD, TIMED_HEAD, enhanced_head, obsolete_head, packet_record, simple_head,
+    PacketHead, SIMPLE_HEAD, TIMED_HEAD, enhanced_head, is_outbound_in, obsolete_head,
+    packet_record, simple_head,
 };
 use pcap_io::Record;
 
@@ -29,6 +30,8 @@ pub enum BlockMeaning<'a> {
     Described(Interface),
     /// A packet of an interface that is selected.
     Packet(Record<'a>),
+    /// An outbound packet of such an interface, which is left out.
+    Outbound,
     /// Nothing that a classic capture tells.
     Nothing,
 }
@@ -90,21 +93,6 @@ pub fn behind_head<'a>(body: &'a [u8], head: usize) -> &'a [u8]
     &body[head..]
 }
 
-/// What the record of a packet means, if there is one.
-fn packet_meaning<'a>(
-    found: Result<Option<Record<'a>>, BlockFault>,
-) -> Result<BlockMeaning<'a>, BlockFault>
-    requires { IfOk found (λ found. IfSome found IsWithinLimits) }
-    ensures value { result ≡ packet_meaning found.entry }
-    ensures limits { IfOk result IsMeantWithinLimits }
-{
-    match found {
-        Ok(Some(record)) => Ok(BlockMeaning::Packet(record)),
-        Ok(None) => Ok(BlockMeaning::Nothing),
-        Err(fault) => Err(fault),
-    }
-}
-
 /// The octets in front of a packet's, in a block of this type.
 fn head_size(kind: u32) -> usize
     ensures { result ≡ head_size kind }
@@ -113,6 +101,57 @@ fn head_size(kind: u32) -> usize
         SIMPLE_HEAD
     } else {
         TIMED_HEAD
+    }
+}
+
+/// The text behind so many octets of a packet, padded to 32 bits: the options of its block.
+fn behind_octets<'a>(size: usize, block: &Block<'a>) -> &'a [u8]
+    requires { size ≤ longest }
+    ensures { result.now ≡ behind_octets size block.now }
+{
+    let at = head_size(block.kind) + (size + 3) / 4 * 4;
+    if at < block.body.len() {
+        return &block.body[at..];
+    }
+    &[]
+}
+
+/// Whether a packet of so many octets is outbound by the options of its block.
+fn is_outbound(size: usize, block: &Block<'_>) -> bool
+    requires { size ≤ longest }
+    ensures { result ≡ is_outbound size block.now }
+{
+    block.kind != SIMPLE_PACKET && is_outbound_in(block.order, behind_octets(size, block))
+}
+
+/// What a packet's record means.
+fn record_meaning<'a>(is_left_out: bool, packet: Record<'a>) -> BlockMeaning<'a>
+    requires { IsWithinLimits packet }
+    ensures value { result ≡ record_meaning is_left_out packet.entry }
+    ensures limits { IsMeantWithinLimits result }
+{
+    if is_left_out {
+        return BlockMeaning::Outbound;
+    }
+    BlockMeaning::Packet(packet)
+}
+
+/// What a packet of this block means by its record, if there is one.
+fn packet_meaning<'a>(
+    block: &Block<'a>,
+    found: Result<Option<Record<'a>>, BlockFault>,
+) -> Result<BlockMeaning<'a>, BlockFault>
+    requires { IfOk found (λ found. IfSome found IsWithinLimits) }
+    ensures value { result ≡ packet_meaning block.now found.entry }
+    ensures limits { IfOk result IsMeantWithinLimits }
+{
+    match found {
+        Ok(Some(record)) => {
+            let is_left_out = is_outbound(record.octets.len(), block);
+            Ok(record_meaning(is_left_out, record))
+        }
+        Ok(None) => Ok(BlockMeaning::Nothing),
+        Err(fault) => Err(fault),
     }
 }
 
@@ -145,7 +184,7 @@ fn packet_in<'a>(
     }
     let head = head_in(block);
     let octets = behind_head(block.body, size);
-    packet_meaning(packet_record(interfaces, last, head, octets))
+    packet_meaning(block, packet_record(interfaces, last, head, octets))
 }
 
 /// What a block means in a section with these interfaces, behind a packet at this moment.

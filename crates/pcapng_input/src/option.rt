@@ -8,7 +8,7 @@ use pcap_io::Order;
 use std::marker::Model;
 
 /// The octets in front of an option's value.
-const OPTION_HEADER: usize = 4;
+pub const OPTION_HEADER: usize = 4;
 
 /// An option.
 #[derive(Drop)]

@@ -1,12 +1,13 @@
 //! Packets.
-ghost use Rattle.std.specs.Prelude.{◌≡◌, ◌≤◌, length, IfOk, IfSome};
+ghost use Rattle.std.specs.Prelude.{◌≡◌, ◌≤◌, length, option_map, IfOk, IfSome};
 ghost use Rattle.pcap_io.specs.Record.{IsWithinLimits, last_moment};
-ghost use Rattle.pcapng_input.specs.Packet.{enhanced_head, moment_by, obsolete_head, packet_record, selected_record, simple_head, timed_head};
+ghost use Rattle.pcapng_input.specs.Packet.{enhanced_head, is_outbound_by, is_outbound_in, moment_by, obsolete_head, packet_record, selected_record, simple_head, timed_head};
 
 use crate::fault::BlockFault;
 use crate::interface::Interface;
 use crate::moment::{offset_moment, ticks_in_nanoseconds};
 use crate::number::{number2, number4};
+use crate::option::value_of;
 use pcap_io::{LONGEST, Order, Record};
 
 /// The link type of Ethernet, the one that is read.
@@ -17,6 +18,12 @@ pub const TIMED_HEAD: usize = 20;
 
 /// The octets in front of a packet's in a simple packet block.
 pub const SIMPLE_HEAD: usize = 4;
+
+/// The options `epb_flags` and `pack_flags`.
+const FLAGS: u16 = 2;
+
+/// What the two lowest bits of flags are where a packet is outbound.
+const OUTBOUND: u32 = 2;
 
 /// The numbers in front of a packet's octets.
 #[derive(Clone, Copy)]
@@ -157,4 +164,22 @@ pub fn packet_record<'a>(
         return Ok(None);
     }
     selected_record(*interface, last, head, octets)
+}
+
+/// Whether a packet with these flags is outbound. Of flags that don't have four octets it isn't known.
+fn is_outbound_by(order: Order, flags: Option<&[u8]>) -> bool
+    ensures { result ≡ is_outbound_by order (option_map (λ flags. flags.now) flags.entry) }
+{
+    match flags {
+        None => false,
+        Some(flags) => flags.len() == 4 && number4(order, flags) % 4 == OUTBOUND,
+    }
+}
+
+/// Whether a packet is outbound by the options of its block, with which a text begins.
+#[tactic(auto, unfolding(crate::specs::Packet::is_outbound_in))]
+pub fn is_outbound_in(order: Order, text: &[u8]) -> bool
+    ensures { result ≡ is_outbound_in order text.now }
+{
+    is_outbound_by(order, value_of(order, text, FLAGS))
 }

@@ -155,6 +155,7 @@ fn look_at_capture<'a, R: Files + Input + AllocGlobal + Print>(
             Report {
                 tap,
                 is_pcapng: kind == FileKind::Pcapng,
+                left_out: capture.input().left_out(),
                 survey,
             },
         ),

@@ -45,6 +45,7 @@ fn told(alloc: Global, tap: Tap, text: &[u8], fails_at: u64) -> Result<String, F
             let report = Report {
                 tap,
                 is_pcapng: false,
+                left_out: 0,
                 survey,
             };
             Ok(format!(in alloc; "{report}")?)

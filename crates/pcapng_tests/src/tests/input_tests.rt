@@ -13,7 +13,7 @@ use test_inputs::capture_texts::LITTLE_NANO;
 use test_inputs::{Pieces, in_pieces};
 
 /// An input of a text that comes at most so many octets at a time; the read of this number fails, none where it is 0.
-fn opened<'a>(
+pub fn opened<'a>(
     alloc: Global,
     text: &'a [u8],
     selection: Selection<'a>,
@@ -44,7 +44,7 @@ fn printed(alloc: Global, fault: Option<PcapngFault>) -> Result<String, AllocErr
 }
 
 /// Adds what an input tells, asked for so many octets at once, and says whether it came to the end.
-fn read_on(
+pub fn read_on(
     alloc: Global,
     input: &mut CaptureInput<'_, Pieces<'_>>,
     told: &mut Vec<u8>,

@@ -14,7 +14,7 @@ returns-then-number4-size-clause-leads g c =
     let four : 4 ≤ length c.fetch.new.self.held = omega (arith, c.if-held-lt-SECOND_LENGTH.false, ap length same) in
     λ selection.
     end_faulty selection c.args.context.now c.args.context.now c.args.gathered.now c.fetch.new.self 4 c.in_ok-is_more.is_more c.args.ready.now c.args.order c.args.size c.fault.result
-    c.in_ok-is_more.ensures.fetched c.requires.empty four (λ e. c.if-number4-size.true (c.number4.ensures ∙ ap (number_of c.args.order 4) same ∙ e)) c.fault.ensures
+    refl c.in_ok-is_more.ensures.fetched c.requires.empty four (λ e. c.if-number4-size.true (c.number4.ensures ∙ ap (number_of c.args.order 4) same ∙ e)) c.fault.ensures
 
 pub returns-clause-leads : goal.returns-clause-leads
 returns-clause-leads g c =

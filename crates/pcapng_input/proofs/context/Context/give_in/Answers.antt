@@ -47,6 +47,6 @@ loop-size-preserved c =
       used = omega (arith, whole.fits, length-drop used text, loop.used);
       given = c.in-Some.ensures.fits;
       gives = gives_packet c.args.self.now mid c.skip-in-Selected.new.self text (take c.loop-size.done.given c.loop-size.room) (take c.in-Some.end c.put_record.new.room)
-          c.args.order used size packet loop.gives loop.order whole is.1 after c.in-Some.ensures.text;
+          c.args.order used size packet loop.gives loop.order whole is.1 is.3 after c.in-Some.ensures.text;
       order = ap (λ (x : Context). x.order) after ∙ loop.order;
     }

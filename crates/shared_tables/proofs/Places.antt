@@ -15,7 +15,7 @@ use Rattle.shared_tables.proofs.Buckets.{chain_same}
 use Rattle.shared_tables.proofs.TreeLemmas.{same_tree, tree_leaf, only_leaf, other_right, on_left, descend_on}
 use Rattle.shared_tables.proofs.ForestLemmas.{leaf_there, fork_stands, HasTree, tree_of}
 
--- a small number is that of a chain's top
+-- a small number is that of what stands at a root
 pub place_top : (c n : ℕ) → n < 262144 → place_by c n ≡ c
 unfolding place_by
 place_top c n lt =

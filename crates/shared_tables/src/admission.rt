@@ -70,7 +70,9 @@ pub fn admit_in(
     if !slots.dead(oldest, u64::from(share.ageing) * 1_000_000_000, moment) {
         return false;
     }
-    replace_in(slots, forest, shares, moment, oldest, newcomer);
+    // a copy of its own: so a newcomer that comes where there is room never stands in memory
+    let other = *newcomer;
+    replace_in(slots, forest, shares, moment, oldest, &other);
     true
 }
 

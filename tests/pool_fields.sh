@@ -36,8 +36,8 @@ struct Slots { slots: Vec<Slot>, size: u32, free: Link, visited: Count, }
 TEXT
 
 # What compares an address or goes down a tree is handed the count that it ticks, and a body could hand on a new one, which no
-# contract shows. So new counts are made where the tables are opened, and where an entry is asked for, which is no call of a
-# bridge: nowhere else.
+# contract shows. So new counts are made where the tables are opened, and for what is told of tables that are lent shared, which
+# no call of a bridge asks for (known.rt), and nowhere else.
 diff - <(grep -c 'Count::zero()' crates/shared_tables/src/*.rt crates/shared_tables/src/*/*.rt | grep -v ':0$') <<'TEXT' || {
 crates/shared_tables/src/shared_tables.rt:2
 crates/shared_tables/src/slots.rt:1

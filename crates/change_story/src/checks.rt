@@ -22,7 +22,7 @@ use std::alloc::{AllocError, Global};
 use underlay::Tunnels;
 
 /// The checks of a change at a moment, which isn't before any earlier one, each with what it saw. `AllocError`: there was no
-/// room for them, or for lists of entries.
+/// room for them.
 pub(crate) fn checks_of(
     alloc: Global,
     state: &EndpointState,
@@ -33,14 +33,13 @@ pub(crate) fn checks_of(
     ensures { IfOk result (λ checks. checks.items ≡ specs.checks (state_at now state.now) change) }
 {
     let mut checks = Vec::new(alloc);
-    put_checks(&mut checks, alloc, state, now, change)?;
+    put_checks(&mut checks, state, now, change)?;
     Ok(checks)
 }
 
 /// Puts the checks of a change behind others.
 fn put_checks(
     checks: &mut Vec<Check>,
-    alloc: Global,
     state: &EndpointState,
     now: u64,
     change: Change,
@@ -53,8 +52,8 @@ fn put_checks(
         Change::RemoveFlood { vid, addr, tunnel } => {
             put_leaving(checks, state, vid, addr, tunnel)
         }
-        Change::Fix { vid, mac, target } => put_fixing(checks, alloc, state, now, vid, mac, target),
-        Change::Unfix { vid, mac } => put_unfixing(checks, alloc, state, now, vid, mac),
+        Change::Fix { vid, mac, target } => put_fixing(checks, state, now, vid, mac, target),
+        Change::Unfix { vid, mac } => put_unfixing(checks, state, now, vid, mac),
         Change::SetAgeing { vid, seconds } => put_ageing(checks, state, vid, seconds),
         Change::SetLearning { vid, .. } => put_segment_alone(checks, state, vid),
         Change::SetMember { vid, port, .. } => put_membership(checks, state, vid, port),
@@ -218,7 +217,6 @@ fn put_leaving(
 /// Of a fixed entry that is to come.
 fn put_fixing(
     checks: &mut Vec<Check>,
-    alloc: Global,
     state: &EndpointState,
     now: u64,
     vid: Vid,
@@ -235,27 +233,19 @@ fn put_fixing(
         Some(segment) => {
             put(checks, mac_check(mac))?;
             put_target(checks, state, &segment, target)?;
-            let room = entry_room(alloc, state, now, vid, mac, segment.limit)?;
-            put(checks, room)
+            put(checks, entry_room(state, now, vid, mac, segment.limit))
         }
     }
 }
 
 /// The room of a segment's table, which may have so many entries, for a fixed one.
-fn entry_room(
-    alloc: Global,
-    state: &EndpointState,
-    now: u64,
-    vid: Vid,
-    mac: Mac,
-    limit: u32,
-) -> Result<Check, AllocError>
+fn entry_room(state: &EndpointState, now: u64, vid: Vid, mac: Mac, limit: u32) -> Check
     requires time { moment_of state.now ≤ now }
-    ensures { IfOk result (λ check. check ≡ specs.room_check limit mac ((state_at now state.now).tables vid)) }
+    ensures { result ≡ specs.room_check limit mac ((state_at now state.now).tables vid) }
 {
-    let stood = state.entry(alloc, vid, mac, now)?;
-    let entries = state.entry_count(alloc, vid, now)?;
-    Ok(room_check(limit, stood, entries))
+    let stood = state.entry(vid, mac, now);
+    let entries = state.entry_count(vid, now);
+    room_check(limit, stood, entries)
 }
 
 /// Of the place where a fixed entry of a segment is to stand.
@@ -305,7 +295,6 @@ fn put_remote(
 /// Of a fixed entry that is to go.
 fn put_unfixing(
     checks: &mut Vec<Check>,
-    alloc: Global,
     state: &EndpointState,
     now: u64,
     vid: Vid,
@@ -319,7 +308,7 @@ fn put_unfixing(
     match put_segment(checks, state, vid)? {
         None => Ok(()),
         Some(_) => {
-            let stood = state.entry(alloc, vid, mac, now)?;
+            let stood = state.entry(vid, mac, now);
             put(checks, fixed_check(stood))
         }
     }

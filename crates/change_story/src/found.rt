@@ -1,5 +1,5 @@
 //! What a change finds of what it changes.
-ghost use Rattle.std.specs.Prelude.{◌≡◌, ◌≤◌, length, IfOk};
+ghost use Rattle.std.specs.Prelude.{◌≡◌, ◌≤◌, length};
 ghost use Rattle.std.specs.Option.{option_map};
 ghost use Rattle.vlan_ports.specs.Ports.{is_port, is_up, egress_at};
 ghost use Rattle.endpoint_state.specs.Held.{moment_of, settings_of, state_at};
@@ -11,30 +11,23 @@ use crate::seen::Seen;
 use crate::segment::segment_in;
 use endpoint_state::{Change, EndpointState};
 use frame_view::Vid;
-use std::alloc::{AllocError, Global};
 use vlan_ports::PortSet;
 
-/// What a change at a moment, which isn't before any earlier one, finds of what it changes. `AllocError`: there was no room
-/// for a list of entries.
-pub(crate) fn found(
-    alloc: Global,
-    state: &EndpointState,
-    now: u64,
-    change: Change,
-) -> Result<Option<Seen>, AllocError>
+/// What a change at a moment, which isn't before any earlier one, finds of what it changes.
+pub(crate) fn found(state: &EndpointState, now: u64, change: Change) -> Option<Seen>
     requires time { moment_of state.now ≤ now }
-    ensures { IfOk result (λ seen. seen ≡ found (state_at now state.now) change) }
+    ensures { result ≡ found (state_at now state.now) change }
 {
     match change {
-        Change::SetAgeing { vid, .. } => Ok(ageing_of(state, vid)),
-        Change::SetLearning { vid, .. } => Ok(learning_of(state, vid)),
-        Change::SetMember { vid, port, .. } => Ok(member_of(state, vid, port)),
-        Change::PortUp { port } => Ok(up_of(state, port)),
-        Change::PortDown { port } => Ok(up_of(state, port)),
-        Change::Flush { vid } => entries_of(alloc, state, now, vid),
-        Change::RemoveSegment { vid } => entries_of(alloc, state, now, vid),
-        Change::SetLimit { vid, .. } => entries_of(alloc, state, now, vid),
-        _ => Ok(None),
+        Change::SetAgeing { vid, .. } => ageing_of(state, vid),
+        Change::SetLearning { vid, .. } => learning_of(state, vid),
+        Change::SetMember { vid, port, .. } => member_of(state, vid, port),
+        Change::PortUp { port } => up_of(state, port),
+        Change::PortDown { port } => up_of(state, port),
+        Change::Flush { vid } => entries_of(state, now, vid),
+        Change::RemoveSegment { vid } => entries_of(state, now, vid),
+        Change::SetLimit { vid, .. } => entries_of(state, now, vid),
+        _ => None,
     }
 }
 
@@ -90,22 +83,13 @@ fn up_of(state: &EndpointState, port: u8) -> Option<Seen>
 }
 
 /// How many entries the table of a segment has, and how many it may have.
-fn entries_of(
-    alloc: Global,
-    state: &EndpointState,
-    now: u64,
-    vid: Vid,
-) -> Result<Option<Seen>, AllocError>
+fn entries_of(state: &EndpointState, now: u64, vid: Vid) -> Option<Seen>
     requires time { moment_of state.now ≤ now }
     ensures { let B = state_at now state.now in
-        IfOk result (λ seen. seen ≡ option_map (entries_in (B.tables vid)) (segment_in B.settings vid)) }
+        result ≡ option_map (entries_in (B.tables vid)) (segment_in B.settings vid) }
 {
-    match segment_in(state, vid) {
-        None => Ok(None),
-        Some(segment) => {
-            let entries = state.entry_count(alloc, vid, now)?;
-            let limit = segment.limit;
-            Ok(Some(Seen::Entries { entries, limit }))
-        }
-    }
+    let segment = segment_in(state, vid)?;
+    let entries = state.entry_count(vid, now);
+    let limit = segment.limit;
+    Some(Seen::Entries { entries, limit })
 }

@@ -26,7 +26,7 @@ use underlay::Tunnels;
 /// The story of an event of this number by which a change comes to an endpoint, in the state in which it comes: what it asks
 /// for, what each check saw, a line each, in the order of the checks up to the one that refuses, what it finds of what it
 /// changes where none refuses it, and last the decision line. A change has no story that would come before the last event.
-/// The endpoint stays as it is. `AllocError`: there was no room for the text, or for lists of checks and entries.
+/// The endpoint stays as it is. `AllocError`: there was no room for the text, or for the list of checks.
 pub fn story_of_change(
     alloc: Global,
     endpoint: &Endpoint,
@@ -65,7 +65,7 @@ fn put_facts(
     let fault = refusal(&checks);
     put_change(text, *change)?;
     put_told(text, &checks)?;
-    put_found(text, alloc, state, now, *change, fault)?;
+    put_found(text, state, now, *change, fault)?;
     Ok(fault)
 }
 
@@ -105,7 +105,6 @@ fn refusal(checks: &[Check]) -> Option<ChangeFault>
 /// Puts what a change finds of what it changes, unless it is refused.
 fn put_found(
     text: &mut String,
-    alloc: Global,
     state: &EndpointState,
     now: u64,
     change: Change,
@@ -117,13 +116,10 @@ fn put_found(
 {
     match fault {
         Some(_) => Ok(()),
-        None => {
-            let seen = found(alloc, state, now, change)?;
-            match seen {
-                Some(seen) => put_seen(text, seen),
-                None => Ok(()),
-            }
-        }
+        None => match found(state, now, change) {
+            Some(seen) => put_seen(text, seen),
+            None => Ok(()),
+        },
     }
 }
 

@@ -11,7 +11,6 @@ use Rattle.frame_view.specs.declared.reason.Reason.{Reason}
 use Rattle.std.proofs.Common.{Result, subst}
 use Rattle.filter_db.specs.Segment.{Segment}
 use Rattle.shared_tables.specs.Segments.{segments_of}
-use Rattle.tunnel_learning.specs.Bridge.{Config, toward}
 use Rattle.underlay.specs.Overlay.{Overlay}
 use Rattle.underlay.specs.declared.segment.Segment.{Segment as Tunneled}
 use Rattle.filter_db.specs.declared.entry.Entry.{Entry}
@@ -60,11 +59,6 @@ came-table t vid from f S s is =
     ∙ ap (λ (o : Option SegmentSettings). table_learned t from f o (S.tables vid)) is
 
 -- ---- where a frame goes
-
--- whether the segment learns is of no account there
-pub toward-same : (c : Config) (b : Bool) (from : Place) (o : Option Place) → toward (record c { learning = b }) from o ≡ toward c from o
-toward-same c b from None = refl
-toward-same c b from (Some to) = refl
 
 has-table : (o : Option Segment) (f : Segment → BridgeSettings) (k : BridgeSettings → Option SegmentSettings) → IsSome (option_and_then k (option_map f o)) → IsSome o
 has-table None f k h = h

@@ -1,5 +1,4 @@
 pub mod AfterLemmas
-pub mod AloneLemmas
 pub mod ChangeLemmas
 pub mod EffectLemmas
 pub mod EverywhereLemmas

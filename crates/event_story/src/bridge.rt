@@ -13,15 +13,14 @@ use endpoint_core::Came;
 use endpoint_state::EndpointState;
 use filter_db::{Entry, Place};
 use frame_view::Reason;
-use std::alloc::{AllocError, Global};
+use std::alloc::AllocError;
 use tunnel_learning::Bridge;
 
 /// Puts what there is to tell of a frame that came to a segment at a moment, and that is dropped for this reason, if it
 /// is, behind some facts. `left` is the moment of the last event. Neither moment is before that of the tables.
-/// `AllocError`: there was no room for the facts, or for lists of entries.
+/// `AllocError`: there was no room for the facts.
 pub(crate) fn put_bridge_facts(
     facts: &mut Vec<Fact>,
-    alloc: Global,
     state: &EndpointState,
     left: u64,
     now: u64,
@@ -36,10 +35,10 @@ pub(crate) fn put_bridge_facts(
     let vid = came.segment();
     let from = came.place();
     let frame = came.frame();
-    let source = state.entry(alloc, vid, frame.src(), now)?;
-    let entries = state.entry_count(alloc, vid, now)?;
-    let before = state.entry(alloc, vid, frame.dst(), left)?;
-    let destination = state.destination(alloc, now, vid, from, frame)?;
+    let source = state.entry(vid, frame.src(), now);
+    let entries = state.entry_count(vid, now);
+    let before = state.entry(vid, frame.dst(), left);
+    let destination = state.destination(now, vid, from, frame);
     let stood = stood_fact(now, state.ageing(vid), before, destination);
     let limit = state.limit(vid);
     let bridge = state.bridge(vid);

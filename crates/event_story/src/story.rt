@@ -27,7 +27,7 @@ use timeline::{Event, Happening, Tap};
 /// The story of an event of this number, in the state in which it comes to an endpoint: what each test saw, a line each,
 /// in the order of the tests up to the one that refuses, what the bridge knows of both addresses, and last the decision
 /// line. A change has none, nor has an event that can't come: before the last one, or at a port that isn't there. The
-/// endpoint stays as it is. `AllocError`: there was no room for the text, or for lists of entries.
+/// endpoint stays as it is. `AllocError`: there was no room for the text, or for the facts.
 pub fn story_of_event(
     alloc: Global,
     endpoint: &Endpoint,
@@ -106,7 +106,7 @@ fn frame_story(
         IfOk result (λ text. text.items ≡ told number event.now (frame_facts t s.bridges (aged t s.bridges) port original octets.now) (answer s (frame_at t port original octets.now))) }
 {
     let came = endpoint.frame_from(port, original, octets);
-    let decision = endpoint.foresee_frame(alloc, event.moment, port, original, octets)?;
+    let decision = endpoint.foresee_frame(event.moment, port, original, octets);
     let ports = endpoint.state().ports();
     let mut facts = Vec::new(alloc);
     put_local_facts(&mut facts, ports, port, original, octets, &came)?;
@@ -128,7 +128,7 @@ fn packet_story(
         IfOk result (λ text. text.items ≡ told number event.now (arrival_facts t s.bridges (aged t s.bridges) original octets.now) (answer s (packet_at t original octets.now))) }
 {
     let came = endpoint.frame_in(original, octets);
-    let decision = endpoint.foresee_packet(alloc, event.moment, original, octets)?;
+    let decision = endpoint.foresee_packet(event.moment, original, octets);
     let under = endpoint.state().under();
     let mut facts = Vec::new(alloc);
     put_packet_facts(&mut facts, under, original, octets, &came)?;
@@ -153,7 +153,7 @@ fn came_story(
 {
     let left = endpoint.now();
     let state = endpoint.state();
-    put_came_facts(&mut facts, alloc, state, left, event.moment, came, decision)?;
+    put_came_facts(&mut facts, state, left, event.moment, came, decision)?;
     let text = told(alloc, number, event, &facts, decision)?;
     Ok(text)
 }
@@ -162,7 +162,6 @@ fn came_story(
 /// leaves at each outlet. `left` is the moment of the last event.
 fn put_came_facts(
     facts: &mut Vec<Fact>,
-    alloc: Global,
     state: &EndpointState,
     left: u64,
     now: u64,
@@ -176,7 +175,7 @@ fn put_came_facts(
 {
     match came {
         Ok(came) => {
-            put_bridge_facts(facts, alloc, state, left, now, came, decision.dropped())?;
+            put_bridge_facts(facts, state, left, now, came, decision.dropped())?;
             let (segment, frame) = (came.segment(), came.frame());
             put_outlet_facts(facts, state, segment, frame, decision.outcomes())
         }

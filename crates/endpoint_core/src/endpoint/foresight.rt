@@ -12,7 +12,6 @@ use crate::arrival::{Came, come_at, come_by};
 use crate::{Course, Decision, Endpoint, nothing_came};
 use endpoint_state::EndpointState;
 use frame_view::Refused;
-use std::alloc::{AllocError, Global};
 use tunnel_learning::Verdict;
 
 impl Endpoint {
@@ -85,82 +84,62 @@ impl Endpoint {
     }
 
     /// What would be decided of a frame at a local port, as [`Endpoint::frame`] decides it; the endpoint stays as it is.
-    /// `now` isn't before `self.now()`, and the port is 1 to `ports()`. `AllocError`: there was no room for lists of
-    /// entries.
+    /// `now` isn't before `self.now()`, and the port is 1 to `ports()`.
     pub fn foresee_frame<'a>(
         &self,
-        alloc: Global,
         now: u64,
         port: u8,
         original: u32,
         octets: &'a [u8],
-    ) -> Result<Decision<'a>, AllocError>
+    ) -> Decision<'a>
         requires moment { (state_of self.now).moment ≤ now }
         requires low { 1 ≤ port }
         requires high { port ≤ length (state_of self.now).bridges.settings.ports.ports }
-        ensures { IfOk result (λ d. Decided (octets_of d) ≡ answer (state_of self.now) (frame_at now port original octets.now)) }
+        ensures { Decided (octets_of result) ≡ answer (state_of self.now) (frame_at now port original octets.now) }
     {
         let came = self.frame_from(port, original, octets);
-        let decision = foreseen(&self.state, alloc, now, came)?;
-        Ok(decision)
+        foreseen(&self.state, now, came)
     }
 
     /// What would be decided of a packet from the underlay, as [`Endpoint::packet`] decides it; the endpoint stays as it is.
-    /// `now` isn't before `self.now()`. `AllocError`: there was no room for lists of entries.
-    pub fn foresee_packet<'a>(
-        &self,
-        alloc: Global,
-        now: u64,
-        original: u32,
-        octets: &'a [u8],
-    ) -> Result<Decision<'a>, AllocError>
+    /// `now` isn't before `self.now()`.
+    pub fn foresee_packet<'a>(&self, now: u64, original: u32, octets: &'a [u8]) -> Decision<'a>
         requires { (state_of self.now).moment ≤ now }
-        ensures { IfOk result (λ d. Decided (octets_of d) ≡ answer (state_of self.now) (packet_at now original octets.now)) }
+        ensures { Decided (octets_of result) ≡ answer (state_of self.now) (packet_at now original octets.now) }
     {
         let came = self.frame_in(original, octets);
-        let decision = foreseen(&self.state, alloc, now, came)?;
-        Ok(decision)
+        foreseen(&self.state, now, came)
     }
 }
 
 /// What would be decided of a frame or a packet that came to a segment, or to none.
-fn foreseen<'a>(
-    state: &EndpointState,
-    alloc: Global,
-    now: u64,
-    came: Result<Came<'a>, Refused>,
-) -> Result<Decision<'a>, AllocError>
+fn foreseen<'a>(state: &EndpointState, now: u64, came: Result<Came<'a>, Refused>) -> Decision<'a>
     requires time { moment_of state.now ≤ now }
     requires there { IfOk came (λ x. IsSome (segment_at (settings_of state.now) x.vid)) }
     requires short { IfOk came (λ x. length x.frame.body ≤ 65549) }
     requires reached { IfOk came (λ x. is_reached (settings_of state.now).overlay x.vid x.from ≡ true) }
-    ensures { IfOk result (λ d. octets_of d ≡ decided now (state_at now state.now) came.entry) }
+    ensures { octets_of result ≡ decided now (state_at now state.now) came.entry }
 {
     match came {
-        Ok(came) => foreseen_in(state, alloc, now, came),
-        Err(refused) => Ok(Decision::of(state, &Err(refused), &[])),
+        Ok(came) => foreseen_in(state, now, came),
+        Err(refused) => Decision::of(state, &Err(refused), &[]),
     }
 }
 
 /// What the bridge of its segment would decide of a frame.
-fn foreseen_in<'a>(
-    state: &EndpointState,
-    alloc: Global,
-    now: u64,
-    came: Came<'a>,
-) -> Result<Decision<'a>, AllocError>
+fn foreseen_in<'a>(state: &EndpointState, now: u64, came: Came<'a>) -> Decision<'a>
     requires time { moment_of state.now ≤ now }
     requires there { IsSome (segment_at (settings_of state.now) came.vid) }
     requires short { length came.frame.body ≤ 65549 }
     requires reached { is_reached (settings_of state.now).overlay came.vid came.from ≡ true }
-    ensures { IfOk result (λ d. octets_of d ≡ decided_in now (state_at now state.now) came.entry) }
+    ensures { octets_of result ≡ decided_in now (state_at now state.now) came.entry }
 {
-    let verdict = state.foresee(alloc, now, came.vid, came.from, &came.frame)?;
+    let verdict = state.foresee(now, came.vid, came.from, &came.frame);
     match verdict {
-        Verdict::Outlets(places) => Ok(Decision::of(state, &Ok(came), places.as_slice())),
+        Verdict::Outlets(places) => Decision::of(state, &Ok(came), places.as_slice()),
         Verdict::Dropped(reason) => {
             let refused = Refused::within(came.vid, reason);
-            Ok(Decision::of(state, &Err(refused), &[]))
+            Decision::of(state, &Err(refused), &[])
         }
     }
 }

@@ -3,13 +3,10 @@ ghost use Rattle.std.specs.Prelude.{◌≡◌, ◌≤◌, ◌&&◌, IfOk, IsSome
 ghost use Rattle.std.specs.List.{list_all};
 ghost use Rattle.std.specs.Option.{option_map};
 ghost use Rattle.std.specs.FinMap.{get, len};
-ghost use Rattle.std.specs.FinMap.Entries.{find};
 ghost use Rattle.std.specs.Ordering.{eq_by_cmp};
 ghost use Rattle.frame_view.specs.Address.{is_group};
 ghost use Rattle.filter_db.specs.declared.entry.Entry.{Entry};
-ghost use Rattle.filter_db.specs.Database.{segments_of};
-ghost use Rattle.filter_db.specs.Segment.{aged_all, segment_at as table_at};
-ghost use Rattle.filter_db.specs.Table.{Table, mac_cmp, is_learned, learn, stands};
+ghost use Rattle.filter_db.specs.Table.{Table, mac_cmp, is_learned, learn};
 ghost use Rattle.tunnel_learning.specs.Bridge as bridges;
 ghost use Rattle.tunnel_learning.specs.Verdict.{seen};
 ghost use Rattle.endpoint_state.specs.Held.{settings_of, state_at, moment_of};
@@ -18,73 +15,39 @@ ghost use Rattle.endpoint_state.specs.Sound.{is_reached};
 ghost use Rattle.endpoint_state.specs.Step.{can_leave, after_frame, verdict};
 
 use crate::EndpointState;
-use filter_db::{Entry, ListTables, Place, TableRule, Tables};
+use filter_db::{Entry, Place};
 use frame_view::{BridgeFrame, Mac, Vid};
-use std::alloc::{AllocError, Global};
-use tunnel_learning::{Bridge, Verdict, bridge_step};
+use tunnel_learning::{Bridge, Outlets, Verdict, send_toward};
 
 impl EndpointState {
-    /// What the table of a segment has of an address at a moment, which isn't before the tables' own. `AllocError`: there
-    /// was no room for a list of its entries.
-    pub fn entry(
-        &self,
-        alloc: Global,
-        vid: Vid,
-        mac: Mac,
-        now: u64,
-    ) -> Result<Option<Entry>, AllocError>
+    /// What the table of a segment has of an address at a moment, which isn't before the tables' own.
+    pub fn entry(&self, vid: Vid, mac: Mac, now: u64) -> Option<Entry>
         requires { moment_of self.now ≤ now }
-        ensures { IfOk result (λ entry. entry ≡ get ((state_at now self.now).tables vid) mac) }
+        ensures { result ≡ get ((state_at now self.now).tables vid) mac }
     {
-        let rows = self.entries(alloc, vid, now)?;
-        Ok(entry_of(&rows, mac))
+        self.parts.tables.entry(vid, mac, now)
     }
 
-    /// How many live entries the table of a segment has at a moment, which isn't before the tables' own. `AllocError`: there
-    /// was no room for a list of them.
-    pub fn entry_count(&self, alloc: Global, vid: Vid, now: u64) -> Result<usize, AllocError>
+    /// How many live entries the table of a segment has at a moment, which isn't before the tables' own.
+    pub fn entry_count(&self, vid: Vid, now: u64) -> usize
         requires { moment_of self.now ≤ now }
-        ensures { IfOk result (λ count. count ≡ len ((state_at now self.now).tables vid)) }
+        ensures { result ≡ len ((state_at now self.now).tables vid) }
     {
-        let rows = self.entries(alloc, vid, now)?;
-        Ok(rows.len())
-    }
-
-    /// What the table of a segment has of an address at a moment, which isn't before the tables' own, and how many live
-    /// entries it has, of one list of them. `AllocError`: there was no room for it.
-    fn entry_among(
-        &self,
-        alloc: Global,
-        vid: Vid,
-        mac: Mac,
-        now: u64,
-    ) -> Result<(Option<Entry>, usize), AllocError>
-        requires { moment_of self.now ≤ now }
-        ensures entry { IfOk result (λ found. found.0 ≡ get ((state_at now self.now).tables vid) mac) }
-        ensures count { IfOk result (λ found. found.1 ≡ len ((state_at now self.now).tables vid)) }
-    {
-        let rows = self.entries(alloc, vid, now)?;
-        Ok((entry_of(&rows, mac), rows.len()))
+        self.parts.tables.entry_count(vid, now)
     }
 
     /// What the table of a segment has of a frame's destination, once the frame came to it from a place at a moment: its
-    /// source is learned first. `AllocError`: there was no room for a list of entries.
-    pub fn destination(
-        &self,
-        alloc: Global,
-        now: u64,
-        vid: Vid,
-        from: Place,
-        frame: &BridgeFrame,
-    ) -> Result<Option<Entry>, AllocError>
+    /// source is learned first.
+    pub fn destination(&self, now: u64, vid: Vid, from: Place, frame: &BridgeFrame) -> Option<Entry>
         requires time { moment_of self.now ≤ now }
         requires there { IsSome (segment_at (settings_of self.now) vid) }
-        ensures { IfOk result (λ entry. entry ≡ get ((after_frame now vid from frame.now (state_at now self.now)).tables vid) frame.now.dst) }
+        ensures { result ≡ get ((after_frame now vid from frame.now (state_at now self.now)).tables vid) frame.now.dst }
     {
-        let (stood, count) = self.entry_among(alloc, vid, frame.dst(), now)?;
+        let stood = self.entry(vid, frame.dst(), now);
+        let count = self.entry_count(vid, now);
         let learning = self.bridge(vid).learning;
         let limit = self.limit(vid);
-        Ok(after_learning(
+        after_learning(
             learning,
             limit,
             count,
@@ -93,31 +56,23 @@ impl EndpointState {
             frame.src(),
             frame.dst(),
             stood,
-        ))
+        )
     }
 
     /// Where a step would send a frame that came to a segment from a place that it can send to, at a moment that isn't
-    /// before any earlier one. `AllocError`: there was no room for lists of entries.
-    pub fn foresee(
-        &self,
-        alloc: Global,
-        now: u64,
-        vid: Vid,
-        from: Place,
-        frame: &BridgeFrame,
-    ) -> Result<Verdict, AllocError>
+    /// before any earlier one.
+    pub fn foresee(&self, now: u64, vid: Vid, from: Place, frame: &BridgeFrame) -> Verdict
         requires time { moment_of self.now ≤ now }
         requires there { IsSome (segment_at (settings_of self.now) vid) }
         requires reached { is_reached (settings_of self.now).overlay vid from ≡ true }
-        ensures verdict { IfOk result (λ v. seen v ≡ verdict now vid from frame.now (state_at now self.now)) }
-        ensures leaves { IfOk result (λ v. IfOk (seen v) (λ places. IsTrue (list_all (can_leave (settings_of self.now) vid) places))) }
+        ensures verdict { seen result ≡ verdict now vid from frame.now (state_at now self.now) }
+        ensures leaves { IfOk (seen result) (λ places. IsTrue (list_all (can_leave (settings_of self.now) vid) places)) }
     {
         // It tells the invariant.
         let _ = &self.parts;
-        let stood = self.destination(alloc, now, vid, from, frame)?;
+        let stood = self.destination(now, vid, from, frame);
         let bridge = self.bridge(vid);
-        let verdict = toward(alloc, &bridge, from, frame, place_of(stood))?;
-        Ok(verdict)
+        toward(&bridge, from, frame, place_of(stood))
     }
 }
 
@@ -169,60 +124,16 @@ fn place_of(entry: Option<Entry>) -> Option<Place>
     entry.map(|entry| entry.place)
 }
 
-/// Where a bridge sends a frame whose destination stands at a place, or isn't known. The bridge itself is asked, over a
-/// table that has nothing else.
-fn toward(
-    alloc: Global,
-    bridge: &Bridge,
-    from: Place,
-    frame: &BridgeFrame,
-    to: Option<Place>,
-) -> Result<Verdict, AllocError>
-    ensures { IfOk result (λ v. seen v ≡ bridges.toward (bridges.config_of bridge.now) from (if is_group frame.now.dst then None else to)) }
+/// Where a bridge sends a frame whose destination stands at a place, or isn't known.
+fn toward(bridge: &Bridge, from: Place, frame: &BridgeFrame, to: Option<Place>) -> Verdict
+    ensures { seen result ≡ bridges.toward (bridges.config_of bridge.now) from (if is_group frame.now.dst then None else to) }
 {
-    let vid = bridge.vid;
-    let mut tables = alone(alloc, vid, frame.dst(), to)?;
-    let asked = Bridge {
-        vid,
-        learning: false,
-        groups: bridge.groups,
-        ports: bridge.ports,
-        flood: bridge.flood,
-    };
-    Ok(bridge_step(&mut tables, &asked, 0, from, frame))
-}
-
-/// The table of a segment that knows where one address stands, or nothing.
-fn alone(alloc: Global, vid: Vid, mac: Mac, to: Option<Place>) -> Result<ListTables, AllocError>
-    ensures there { IfOk result (λ tables. IsSome (segments_of tables vid)) }
-    ensures moment { IfOk result (λ tables. tables.moment ≡ 0) }
-    ensures stands { IfOk result (λ tables. stands mac (table_at vid (aged_all 0 (segments_of tables))).entries ≡ to) }
-{
-    let rule = TableRule {
-        vid,
-        limit: 1,
-        ageing: 10,
-    };
-    let mut tables = ListTables::open(alloc, &[rule])?;
-    match to {
-        None => Ok(tables),
-        Some(place) => {
-            let _ = tables.fix(vid, mac, place, 0);
-            Ok(tables)
-        }
+    let known = if frame.dst().is_group() { None } else { to };
+    let mut places = Outlets::new();
+    match send_toward(bridge, &from, known, &mut places) {
+        Ok(()) => Verdict::Outlets(places),
+        Err(reason) => Verdict::Dropped(reason),
     }
-}
-
-/// What rows have of an address.
-fn entry_of(rows: &[(Mac, Entry)], mac: Mac) -> Option<Entry>
-    ensures { result ≡ find mac_cmp mac rows.now }
-{
-    for row in rows {
-        if is_same(mac, row.0) {
-            return Some(row.1);
-        }
-    }
-    None
 }
 
 /// Whether two addresses are one.

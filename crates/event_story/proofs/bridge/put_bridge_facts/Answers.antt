@@ -26,16 +26,16 @@ returns c =
     let dst = c.dst.ensures ∙ ap (λ (f : Frame). f.dst) frame in
     let told =
     bridge-told t S.ports (L.tables x.vid) (B.tables x.vid) ((after_frame t x.vid x.from x.frame B).tables x.vid) x c.args.dropped (segment_at S x.vid)
-    (bridges.config_of c.bridge-bridge.result) c.limit-limit.result c.ageing.result c.in_ok-entries.entries c.place-from.result c.in_ok-source.source c.in_ok-before.before c.in_ok-destination.destination c.is_group-group.result c.stood_fact-stood.result
+    (bridges.config_of c.bridge-bridge.result) c.limit-limit.result c.ageing.result c.entry_count-entries.result c.place-from.result c.entry-source.result c.entry-before.result c.destination-destination.result c.is_group-group.result c.stood_fact-stood.result
     c.requires.there
     (subst (λ (v : ℕ). IfSome (segment_at S v) (λ s. bridges.config_of c.bridge-bridge.result ≡ config_of S.ports s)) vid c.bridge-bridge.ensures.config)
     (subst (λ (v : ℕ). IfSome (segment_at S v) (λ s. c.limit-limit.result ≡ s.limit)) vid c.limit-limit.ensures)
     (subst (λ (v : ℕ). IfSome (segment_at S v) (λ s. c.ageing.result ≡ nanoseconds s.ageing)) vid c.ageing.ensures)
-    (c.in_ok-entries.ensures ∙ ap (λ (v : ℕ). len (B.tables v)) vid)
+    (c.entry_count-entries.ensures ∙ ap (λ (v : ℕ). len (B.tables v)) vid)
     from
-    (c.in_ok-source.ensures ∙ (λ i. get (B.tables (vid i)) (src i)))
-    (c.in_ok-before.ensures ∙ (λ i. get (L.tables (vid i)) (dst i)))
-    (c.in_ok-destination.ensures ∙ (λ i. get ((after_frame t (vid i) (from i) (frame i) B).tables (vid i)) (frame i).dst))
+    (c.entry-source.ensures ∙ (λ i. get (B.tables (vid i)) (src i)))
+    (c.entry-before.ensures ∙ (λ i. get (L.tables (vid i)) (dst i)))
+    (c.destination-destination.ensures ∙ (λ i. get ((after_frame t (vid i) (from i) (frame i) B).tables (vid i)) (frame i).dst))
     (c.is_group-group.ensures ∙ ap is_group (c.dst-2.ensures ∙ ap (λ (f : Frame). f.dst) frame))
     c.stood_fact-stood.ensures in
     subst (λ (fs : List Fact). OnOk c.put_told.result (c.put_told.new.facts.items ≡ c.args.facts.now.items ++ fs)) told c.put_told.ensures

@@ -20,11 +20,11 @@ returns c =
     let ports = s.bridges.settings.ports in
     let b = c.args.octets.now in
     let came = c.frame_from-came.result in
-    let d = octets_of c.in_ok-decision.decision in
+    let d = octets_of c.foresee_frame-decision.result in
     let own = c.ports-ports.ensures.value ∙ ap (λ (h : Held). (settings_of h).ports) c.state.ensures.value in
     let saw = c.in_ok-put_local_facts.ensures
     ∙ ap (λ (fs : List Fact). fs ++ local_facts_of c.ports-ports.result.now c.args.port c.args.original b came) c.new-facts.ensures.items
     ∙ ap (λ (p : Ports). local_facts_of p c.args.port c.args.original b came) own in
     c.in_ok-text.ensures
     ∙ ap (λ (fs : List Fact). told c.args.number e (fs ++ came_facts e.moment s.bridges S came d) (Decided d)) saw
-    ∙ came-told (local_facts_of ports c.args.port c.args.original b) e.moment c.args.number e s.bridges S came (came_at ports c.args.port c.args.original b) d c.frame_from-came.ensures.value c.in_ok-decision.ensures
+    ∙ came-told (local_facts_of ports c.args.port c.args.original b) e.moment c.args.number e s.bridges S came (came_at ports c.args.port c.args.original b) d c.frame_from-came.ensures.value c.foresee_frame-decision.ensures

@@ -20,11 +20,11 @@ returns c =
     let overlay = s.bridges.settings.overlay in
     let b = c.args.octets.now in
     let came = c.frame_in-came.result in
-    let d = octets_of c.in_ok-decision.decision in
+    let d = octets_of c.foresee_packet-decision.result in
     let own = c.under-under.ensures.value ∙ ap (λ (h : Held). (settings_of h).overlay) c.state.ensures.value in
     let saw = c.in_ok-put_packet_facts.ensures
     ∙ ap (λ (fs : List Fact). fs ++ packet_facts_of c.under-under.result.now c.args.original b came) c.new-facts.ensures.items
     ∙ ap (λ (o : Overlay). packet_facts_of o c.args.original b came) own in
     c.in_ok-text.ensures
     ∙ ap (λ (fs : List Fact). told c.args.number e (fs ++ came_facts e.moment s.bridges S came d) (Decided d)) saw
-    ∙ came-told (packet_facts_of overlay c.args.original b) e.moment c.args.number e s.bridges S came (came_by overlay c.args.original b) d c.frame_in-came.ensures.value c.in_ok-decision.ensures
+    ∙ came-told (packet_facts_of overlay c.args.original b) e.moment c.args.number e s.bridges S came (came_by overlay c.args.original b) d c.frame_in-came.ensures.value c.foresee_packet-decision.ensures

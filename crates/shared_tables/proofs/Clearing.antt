@@ -13,7 +13,7 @@ use Rattle.shared_tables.specs.Forest.{leaves_of, IsRooted, LeadsTo, IsChain, Be
 use Rattle.shared_tables.proofs.Linked.{by_bool, equal, nat_eq_refl}
 use Rattle.shared_tables.proofs.Threaded.{in_entries}
 use Rattle.shared_tables.proofs.Buckets.{chain_small, chain_excl}
-use Rattle.shared_tables.proofs.Places.{place_top, leaf_place, leaf_alone}
+use Rattle.shared_tables.proofs.Places.{place_root, leaf_place, leaf_alone}
 use Rattle.shared_tables.proofs.TreeLemmas.{same_tree}
 use Rattle.shared_tables.proofs.Grafting.{one_more, weight_is}
 use Rattle.shared_tables.proofs.Planting.{root_child, root_frame}
@@ -50,7 +50,7 @@ module _ (es : List (Option Held)) (w : Woods) (h : IsForest es w) (e : Held) (s
   some_root (Some t) on k = leaf_place es w h s c c t (λ _. refl) k on
 
   at_root : at c ≡ target.Leaf s
-  at_root = ap at (sym (place_top c n root)) ∙ some_root old.tree (old.members s ∙ keyed) old.rooted
+  at_root = ap at (sym (place_root c n root)) ∙ some_root old.tree (old.members s ∙ keyed) old.rooted
 
   pub place_lt : n < length w.words
   place_lt = omega (arith, root, h.sizes.words)
@@ -97,7 +97,7 @@ module _ (es : List (Option Held)) (w : Woods) (h : IsForest es w) (e : Held) (s
       (subst (λ t. IsRooted at' t k.tree) (sym (at_else c' (apart c' c ne))) (root_frame w.words c 4294967295 c_lt (at c') k.tree k.rooted))
 
   not_own : (p : ℕ) → p ≢ c → at p ≢ target.Leaf s
-  not_own p ne q = ne (sym (leaf_alone es w h c p s keyed q) ∙ place_top c n root)
+  not_own p ne q = ne (sym (leaf_alone es w h c p s keyed q) ∙ place_root c n root)
 
   forks_stay : (m : ℕ) → HasChildren w.words m → HasChildren w'.words m
   forks_stay m k = (λ q. k.0 (sym (child_same m 0) ∙ q), λ q. k.1 (sym (child_same m 1) ∙ q))

@@ -16,9 +16,9 @@ use Rattle.shared_tables.proofs.TreeLemmas.{same_tree, tree_leaf, only_leaf, oth
 use Rattle.shared_tables.proofs.ForestLemmas.{leaf_there, fork_stands, HasTree, tree_of}
 
 -- a small number is that of what stands at a root
-pub place_top : (c n : ℕ) → n < 262144 → place_by c n ≡ c
+pub place_root : (c n : ℕ) → n < 262144 → place_by c n ≡ c
 unfolding place_by
-place_top c n lt =
+place_root c n lt =
     let yes : nat_lt n 262144 ≡ true = grind (arith, nat_tests, lt) in
     ap (λ b. cond b c n) yes
 
@@ -34,19 +34,19 @@ pub placed : (c p n : ℕ) → (p < 262144 → p ≡ c) → IsPlaced n p → pla
 placed c p n home k = from (cases_lt p 262144)
   where
     from : (p < 262144) ⊎ (262144 ≤ p) → place_by c n ≡ p
-    from (inl lt) = place_top c n (k.top lt) ∙ sym (home lt)
+    from (inl lt) = place_root c n (k.root lt) ∙ sym (home lt)
     from (inr le) = place_behind c n (omega (arith, le, k.behind le)) ∙ k.behind le
 
 -- a place behind a fork is its own number
 pub placed_child : (p : ℕ) → 262144 ≤ p → IsPlaced p p
-placed_child p le = record { behind = λ _. refl; top = λ lt. absurd (omega (arith, lt, le)) }
+placed_child p le = record { behind = λ _. refl; root = λ lt. absurd (omega (arith, lt, le)) }
 
 -- no other place has its number
 pub placed_alone : (n p q : ℕ) → 262144 ≤ q → IsPlaced n p → IsPlaced n q → p ≡ q
 placed_alone n p q le k j = from (cases_lt p 262144)
   where
     from : (p < 262144) ⊎ (262144 ≤ p) → p ≡ q
-    from (inl lt) = absurd (omega (arith, k.top lt, j.behind le, le))
+    from (inl lt) = absurd (omega (arith, k.root lt, j.behind le, le))
     from (inr behind) = sym (k.behind behind) ∙ j.behind le
 
 module _ (es : List (Option Held)) (w : Woods) (h : IsForest es w) where
@@ -68,19 +68,19 @@ module _ (es : List (Option Held)) (w : Woods) (h : IsForest es w) where
       (λ yes. leaf_place i c (child_of n 0) l (λ lt. absurd (omega (arith, lt))) k.1 yes)
       (λ no. leaf_place i c (child_of n 1) r (λ lt. absurd (omega (arith, lt))) k.2 (other_right i n b l r on no))
 
-  -- the top at which a slot stands is that of its chain
-  pub leaf_top : (c p i : ℕ) → chain_key c (entry_at es i) ≡ true → at p ≡ target.Leaf i → p < 262144 → p ≡ c
-  leaf_top c p i keyed q lt =
+  -- the root at which a slot stands is that of its chain
+  pub leaf_root : (c p i : ℕ) → chain_key c (entry_at es i) ≡ true → at p ≡ target.Leaf i → p < 262144 → p ≡ c
+  leaf_root c p i keyed q lt =
       let k = tree_of es w.words p (leaf_there (at p) i q) (h.chained p lt) in
       chain_same p c (entry_at es i) (sym (k.members i) ∙ tree_leaf at (at p) i k.tree q k.rooted) keyed
 
   -- a slot stands at one place
   pub leaf_alone : (c p i : ℕ) → chain_key c (entry_at es i) ≡ true → at p ≡ target.Leaf i → place_by c (number_at w.leaves i) ≡ p
-  leaf_alone c p i keyed q = placed c p (number_at w.leaves i) (leaf_top c p i keyed q) (leaf_placed p i q)
+  leaf_alone c p i keyed q = placed c p (number_at w.leaves i) (leaf_root c p i keyed q) (leaf_placed p i q)
 
-  -- a fork that stands at two tops has leaves of both chains
-  fork_top : (p q n b d : ℕ) → at p ≡ target.Fork n b → at q ≡ target.Fork n d → p < 262144 → q < 262144 → p ≡ q
-  fork_top p q n b d one two plt qlt =
+  -- a fork that stands at two roots has leaves of both chains
+  fork_root : (p q n b d : ℕ) → at p ≡ target.Fork n b → at q ≡ target.Fork n d → p < 262144 → q < 262144 → p ≡ q
+  fork_root p q n b d one two plt qlt =
       let k = tree_of es w.words p (fork_stands (at p) n b one) (h.chained p plt) in
       let j = tree_of es w.words q (fork_stands (at q) n d two) (h.chained q qlt) in
       from k.tree j.tree k.rooted j.rooted k.members j.members
@@ -103,6 +103,6 @@ module _ (es : List (Option Held)) (w : Woods) (h : IsForest es w) where
   fork_alone p q n b d one two = from (cases_lt p 262144) (cases_lt q 262144)
     where
       from : (p < 262144) ⊎ (262144 ≤ p) → (q < 262144) ⊎ (262144 ≤ q) → p ≡ q
-      from (inl plt) (inl qlt) = fork_top p q n b d one two plt qlt
+      from (inl plt) (inl qlt) = fork_root p q n b d one two plt qlt
       from k (inr le) = placed_alone (number_at w.forks n) p q le (fork_placed p n b one) (fork_placed q n d two)
       from (inr le) (inl qlt) = sym (placed_alone (number_at w.forks n) q p le (fork_placed q n d two) (fork_placed p n b one))

@@ -102,12 +102,12 @@ module _ (es : List (Option Held)) (w : Woods) (h : IsForest es w) (e : Held) (s
   stays p (target.Fork m x) k = (k.0, k.1, forks_stay m k.2)
 
   -- the slot's number is the fork that it kept
-  at_top : IsPlaced n c
-  at_top = record { behind = λ le. absurd (omega (arith, le, c_lt)); top = λ _. omega (arith, own_fork.there, h.sizes.few) }
+  root_placed : IsPlaced n c
+  root_placed = record { behind = λ le. absurd (omega (arith, le, c_lt)); root = λ _. omega (arith, own_fork.there, h.sizes.few) }
 
   standing_at : (p : ℕ) → StandsAt es' w' p (at' p)
   standing_at p = by_bool (nat_eq p c)
-      (λ yes. subst (λ q. StandsAt es' w' q (at' q)) (sym (equal p c yes)) (subst (StandsAt es' w' c) (sym at_root) (at_top, held_here es s e lt)))
+      (λ yes. subst (λ q. StandsAt es' w' q (at' q)) (sym (equal p c yes)) (subst (StandsAt es' w' c) (sym at_root) (root_placed, held_here es s e lt)))
       (λ no. subst (StandsAt es' w' p) (sym (at_else p (apart p c no))) (stays p (at p) (h.stands p)))
 
   -- the chain keeps the slot's fork

@@ -426,7 +426,7 @@ module _ (es : List (Option Held)) (w : Woods) (h : IsForest es w) (e : Held) (s
       number_other moved.leaves s fork i away ∙ ap (λ (t : Target). number_at (standing t above w).leaves i) q ∙ number_same w.leaves i above (omega (arith, k.1.in_pool, h.slots, h.sizes.leaves))
   spare_rest (target.Fork m x) q k = ap (λ (t : Target). number_at (standing t above w).forks m) q ∙ number_same w.forks m above k.1
 
-  -- and what stands elsewhere at a top its own
+  -- and what stands elsewhere at a root its own
   spare_else : (p : ℕ) → p < 262144 → (t : Target) → at p ≡ t → StandsAt es w p t → spare_of w' t ≡ spare_of w t
   spare_else p plt target.Nothing q k = refl
   spare_else p plt (target.Leaf i) q k =

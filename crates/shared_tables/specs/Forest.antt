@@ -85,10 +85,10 @@ HasChildren words fork = (target_at words (child_of fork 0) ≢ target.Nothing) 
 abbrev pub IsBare : List ℕ → ℕ → Type 0
 IsBare words fork = (target_at words (child_of fork 0) ≡ target.Nothing) × (target_at words (child_of fork 1) ≡ target.Nothing)
 
--- a number says a place: one behind a fork is its own, and the top of a chain has a smaller one
+-- a number says a place: one behind a fork is its own, and the root of a chain has a smaller one
 pub record IsPlaced (number place : ℕ) : Type 0 where
   pub behind : 262144 ≤ place → number ≡ place
-  pub top : place < 262144 → number < 262144
+  pub root : place < 262144 → number < 262144
 
 -- what stands at a place has a number that says so: a slot that holds an entry, or a fork
 abbrev pub StandsAt : List (Option Held) → Woods → ℕ → Target → Type 0
@@ -96,7 +96,7 @@ StandsAt entries w place target.Nothing = Unit {0}
 StandsAt entries w place (target.Leaf i) = IsPlaced (number_at w.leaves i) place × IsHeld entries i
 StandsAt entries w place (target.Fork n b) = IsPlaced (number_at w.forks n) place × (n < length w.forks) × HasChildren w.words n
 
--- the fork that a chain keeps: the number of what stands at its top
+-- the fork that a chain keeps: the number of what stands at its root
 abbrev pub spare_of : Woods → Target → ℕ
 spare_of w target.Nothing = 0
 spare_of w (target.Leaf i) = number_at w.leaves i

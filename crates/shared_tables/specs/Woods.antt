@@ -5,7 +5,7 @@ use Rattle.shared_tables.specs.declared.forest.Target.{Target}
 use Rattle.shared_tables.specs.declared.forest.Target.TheVariants.{Nothing, Leaf, Fork}
 
 -- what stands at each place; a number of each slot, and one of each fork. That of a slot or a fork in a tree says where it
--- stands: it is a place behind a fork, or a fork that the chain keeps at whose top it stands. That of a free slot is a fork that it keeps
+-- stands: it is a place behind a fork, or a fork that the chain keeps at whose root it stands. That of a free slot is a fork that it keeps
 pub record Woods : Type 0 where
   pub words : List ℕ
   pub leaves : List ℕ

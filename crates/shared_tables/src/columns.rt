@@ -12,7 +12,7 @@ pub const NOTHING: u32 = u32::MAX;
 
 /// The three columns of the trees one behind another in one list, for which memory is asked once: what stands at each
 /// place; a number of each slot; a number of each fork. What stands behind a fork has its place as its number; what stands
-/// at the top of a chain a fork that no tree has, which the chain keeps; and a free slot one that it keeps.
+/// at the root of a chain a fork that no tree has, which the chain keeps; and a free slot one that it keeps.
 #[derive(Drop)]
 pub struct Columns {
     numbers: Vec<u32>,

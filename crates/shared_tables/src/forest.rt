@@ -31,7 +31,7 @@ const FIRST_SIDE: u32 = CHAINS as u32;
 /// How many bits a key has.
 const BITS: u32 = 64;
 
-/// The trees over the slots of a pool. There are as many forks as slots. A place is a number: first come the tops of
+/// The trees over the slots of a pool. There are as many forks as slots. A place is a number: first come the roots of
 /// the chains, then two places for each fork.
 #[derive(Drop)]
 pub struct Forest {

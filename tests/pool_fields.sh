@@ -24,15 +24,15 @@ enum Target { Nothing, Leaf(u32), Fork(u32, u32), }
 struct Beside { leaf: SlotId, bit: u32, }
 struct Columns { numbers: Vec<u32>, leaves: usize, forks: usize, }
 struct Ends { first: Link, last: Link, }
-struct Forest { columns: Columns, }
 struct Link { word: u32, }
 struct Links { previous: Link, next: Link, }
-struct Newcomer { chain: usize, beside: Option<Beside>, vid: Vid, mac: Mac, place: Place, last: Option<u64>, }
+struct Newcomer { tree: usize, beside: Option<Beside>, vid: Vid, mac: Mac, place: Place, last: Option<u64>, }
 struct Share { limit: u32, ageing: u32, count: u32, queue: Ends, fixed: Ends, }
-struct SharedTables { slots: Slots, forest: Forest, shares: Vec<Option<Share>>, moment: u64, calls: Count, compared: Count, }
+struct SharedTables { slots: Slots, trees: Trees, shares: Vec<Option<Share>>, moment: u64, calls: Count, compared: Count, }
 struct Slot { key: u64, last: u64, line: Links, place: Place, kind: Kind, }
 struct SlotId { number: u32, }
 struct Slots { slots: Vec<Slot>, size: u32, free: Link, visited: Count, }
+struct Trees { columns: Columns, }
 TEXT
 
 # What compares an address or goes down a tree is handed the count that it ticks, and a body could hand on a new one, which no

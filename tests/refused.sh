@@ -39,7 +39,7 @@ refuses_within() {
 # slot's fields. Nor does one go down a tree but by `next`, which counts.
 refuses_within shared_tables reads private-field 4 <<'TEXT'
 //! Reads what a slot holds, and what stands behind a fork, past their own modules.
-use crate::forest::Forest;
+use crate::trees::Trees;
 use crate::slots::{Slot, Slots};
 
 /// The VID and the address of an entry.
@@ -58,8 +58,8 @@ pub fn count_of(slots: &Slots) -> usize {
 }
 
 /// What stands at a place of the trees.
-pub fn word_at(forest: &Forest, place: usize) -> u32 {
-    forest.columns.word(place)
+pub fn word_at(trees: &Trees, place: usize) -> u32 {
+    trees.columns.word(place)
 }
 
 #[test]

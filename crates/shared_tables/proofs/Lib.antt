@@ -1,41 +1,12 @@
-pub mod Linked
-pub mod Buckets
-mod ColumnsLemmas
-pub mod Keys
-pub mod SlotsLemmas
-pub mod Threaded
-pub mod TreeLemmas
-pub mod ForestLemmas
-pub mod Places
-pub mod Ways
-pub mod Walk
-pub mod SoundLemmas
-pub mod Entering
-pub mod Grafting
-pub mod Planting
-pub mod Clearing
-pub mod Pruning
-pub mod Relabeling
-pub mod Uprooting
-pub mod Bare
-pub mod Leaving
-pub mod Dropping
-pub mod Renewing
-pub mod OpenedLemmas
-pub mod Tabled
-pub mod SegmentsLemmas
-pub mod CallLemmas
-pub mod WorkLemmas
-pub mod Steps
-pub mod Answering
-pub mod Passing
-pub mod Sweeping
-pub mod Counting
-pub mod Knowing
-pub mod StandingLemmas
-pub mod Lining
-pub mod ListingLemmas
-pub mod Admitting
-pub mod Parting
-pub mod Replacing
-pub mod Admissions
+-- Lemmas in three folders; beside them the folders of the functions, whose files cite them.
+--
+-- OnTrees cites nothing of the others but Linked (lists of slots) and Threaded: TreeLemmas and Ways are about one tree,
+-- TreesOfLemmas and Places about the trees and the entries; Planting, Grafting, Relabeling, Clearing and Pruning stand upon
+-- these, one for each change, and Uprooting upon the last two. Walk is what a look-up stands upon.
+-- OnEntries cites OnTrees: SoundLemmas stands upon Linked and Threaded; Entering, Leaving, Dropping and Renewing upon
+-- SoundLemmas; Admitting and Replacing join these with the trees' changes, and Admissions tells what came of it.
+-- OnCalls cites OnEntries alone: Tabled and SegmentsLemmas turn slots into tables; CallLemmas, Steps and WorkLemmas are about
+-- any call, Answering and StandingLemmas about each; ListingLemmas, Counting and Knowing about what is told without a call.
+pub mod OnTrees
+pub mod OnEntries
+pub mod OnCalls

@@ -1,4 +1,4 @@
--- The bucket of an address in a segment, and its chain: each bucket has sixty-four. It states no standard.
+-- The bucket of an address in a segment, and its tree: each bucket has sixty-four. It states no standard.
 use Rattle.std.specs.Prelude.{ℕ, ◌+◌, ◌*◌, ◌/◌, ◌%◌, ◌^◌, ◌<◌, List, ◌++◌, take, drop}
 use Rattle.std.specs.Int.{from_be_bytes, to_be_bytes, w16, w64}
 use Rattle.header_sums.specs.Octets.{octets}
@@ -32,6 +32,6 @@ mac_in key = drop 2 (to_be_bytes w64 key)
 unfoldable pub spread : ℕ → ℕ
 spread key = (key * 11400714819323198485) % 2 ^ 64 / 2 ^ 58 % 64
 
--- the chain of an address in a segment: one of the sixty-four of its bucket
-unfoldable pub chain_of : ℕ → List ℕ → ℕ
-chain_of vid mac = bucket_of vid mac * 64 + spread (key_of vid mac)
+-- the tree of an address in a segment: one of the sixty-four of its bucket
+unfoldable pub tree_of : ℕ → List ℕ → ℕ
+tree_of vid mac = bucket_of vid mac * 64 + spread (key_of vid mac)

@@ -1,10 +1,10 @@
 -- What the list of the trees' numbers stands for. It states no standard.
 use Rattle.std.specs.Prelude.{◌-◌, ◌≤◌, take, drop, length}
 use Rattle.shared_tables.specs.declared.columns.Columns.TheInside.{Inside}
-use Rattle.shared_tables.specs.Woods.{Woods}
+use Rattle.shared_tables.specs.Trees.{Trees}
 
 -- the columns, each up to the next
-abbrev pub columns_of : Inside → Woods
+abbrev pub columns_of : Inside → Trees
 columns_of a = record {
   words = take a.leaves a.numbers.items;
   leaves = take (a.forks - a.leaves) (drop a.leaves a.numbers.items);

@@ -13,8 +13,8 @@ pub mod Slots
 pub mod Sound
 pub mod Standing
 pub mod Threads
+pub mod Tree
 pub mod Trees
-pub mod Woods
-pub mod Forest
+pub mod TreesOf
 pub mod Whole
 pub mod Work

@@ -7,7 +7,7 @@ use Rattle.shared_tables.specs.declared.links.Side.TheVariants.{Previous, Next}
 use Rattle.filter_db.specs.declared.place.Place.{Place}
 use Rattle.filter_db.specs.Place.{no_place}
 use Rattle.filter_db.specs.Table.{is_young}
-use Rattle.shared_tables.specs.Bucket.{bucket_of, chain_of}
+use Rattle.shared_tables.specs.Bucket.{bucket_of, tree_of}
 
 -- an entry: an address of a segment, where it stands, and the last moment at which it was seen there; None where it is
 -- fixed
@@ -54,10 +54,10 @@ abbrev pub bucket_in : Option Held → ℕ
 bucket_in None = 0
 bucket_in (Some e) = bucket_of e.vid e.mac
 
--- its chain
-abbrev pub chain_in : Option Held → ℕ
-chain_in None = 0
-chain_in (Some e) = chain_of e.vid e.mac
+-- its tree
+abbrev pub tree_in : Option Held → ℕ
+tree_in None = 0
+tree_in (Some e) = tree_of e.vid e.mac
 
 -- where it stands
 abbrev pub place_in : Option Held → Place

@@ -3,7 +3,7 @@ use Rattle.std.specs.Prelude.{◌≡◌, ℕ, ◌⊎◌, ◌+◌, ◌<◌, ◌�
 use Rattle.std.specs.List.{sum_by}
 use Rattle.std.specs.Option.{option_map}
 use Rattle.shared_tables.specs.Pool.{Held}
-use Rattle.shared_tables.specs.Pool.{entry_at, IfHeld, bucket_in, chain_in, is_dead_in, is_fixed_in, renewed}
+use Rattle.shared_tables.specs.Pool.{entry_at, IfHeld, bucket_in, tree_in, is_dead_in, is_fixed_in, renewed}
 use Rattle.filter_db.specs.declared.tables.Learned.{Learned}
 use Rattle.filter_db.specs.declared.tables.Learned.TheVariants as learned
 use Rattle.filter_db.specs.declared.place.Place.{Place}
@@ -39,10 +39,10 @@ abbrev pub bucket_key : ℕ → Option Held → Bool
 bucket_key bucket None = false
 bucket_key bucket (Some e) = nat_eq (bucket_in (Some e)) bucket
 
--- it holds an entry of the chain
-abbrev pub chain_key : ℕ → Option Held → Bool
-chain_key chain None = false
-chain_key chain (Some e) = nat_eq (chain_in (Some e)) chain
+-- it holds an entry of the tree
+abbrev pub tree_key : ℕ → Option Held → Bool
+tree_key tree None = false
+tree_key tree (Some e) = nat_eq (tree_in (Some e)) tree
 
 -- both, or neither
 abbrev pub same_bool : Bool → Bool → Bool

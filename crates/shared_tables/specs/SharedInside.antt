@@ -19,4 +19,4 @@ shared_of a = record {
 
 -- what holds of the fields
 abbrev pub IsSoundInside : Inside → Type 0
-IsSoundInside a = IsWhole a.slots a.forest a.shares.items a.moment
+IsSoundInside a = IsWhole a.slots a.trees a.shares.items a.moment

@@ -1,64 +1,115 @@
--- The tree of a chain, whatever places its forks have. It states no standard.
-use Rattle.std.specs.Prelude.{◌≡◌, ℕ, true, List, [], ◌∷◌, ◌++◌, Option, Some, None, nat_eq, if◌then◌else◌}
-use Rattle.std.specs.Int.{bit_at}
-use Rattle.shared_tables.specs.declared.forest.Target.{Target}
-use Rattle.shared_tables.specs.declared.forest.Target.TheVariants as target
-use Rattle.shared_tables.specs.Line.{is_on}
-use Rattle.shared_tables.specs.Woods.{child_of}
+-- The trees, as they are kept: numbers in three columns. It states no standard.
+use Rattle.std.specs.Prelude.{◌≡◌, ◌≢◌, ℕ, ◌+◌, ◌-◌, ◌*◌, ◌/◌, ◌%◌, ◌<◌, ◌≤◌, List, length, nat_eq, nat_lt, slice_index_or, slice_set, replicate, if◌then◌else◌}
+use Rattle.std.specs.List.{range_with_len}
+use Rattle.shared_tables.specs.declared.trees.Target.{Target}
+use Rattle.shared_tables.specs.declared.trees.Target.TheVariants.{Nothing, Leaf, Fork}
 
--- a leaf with its slot, or a fork with its number, the bit that parts its leaves, and what is behind it
-pub data Tree : Type 0 where
-  Leaf : (slot : ℕ) → Tree
-  Fork : (fork bit : ℕ) (left right : Tree) → Tree
+-- what stands at each place; a number of each slot, and one of each fork. That of a slot or a fork in a tree says where it
+-- stands: it is a place behind a fork, or a fork that the tree keeps at whose root it stands. That of a free slot is a fork that it keeps
+pub record Trees : Type 0 where
+  pub words : List ℕ
+  pub leaves : List ℕ
+  pub forks : List ℕ
 
--- the slots of the leaves
-abbrev pub leaves : Tree → List ℕ
-leaves (Leaf i) = i ∷ []
-leaves (Fork n b l r) = leaves l ++ leaves r
+-- what a word says: below 65,536 a slot, the greatest of 32 bits nothing, each other one a fork and a bit
+unfoldable pub target_in : ℕ → Target
+target_in word =
+    if nat_lt word 65536 then Leaf word
+    else if nat_eq word 4294967295 then Nothing
+    else Fork ((word - 65536) / 64) ((word - 65536) % 64)
 
--- what stands at each place is the tree, from a target on
-abbrev pub IsTree : (ℕ → Target) → Target → Tree → Type 0
-IsTree at here (Leaf i) = here ≡ target.Leaf i
-IsTree at here (Fork n b l r) = (here ≡ target.Fork n b) × IsTree at (at (child_of n 0)) l × IsTree at (at (child_of n 1)) r
+-- a word says that a fork stands there
+abbrev pub IsFork : ℕ → Type 0
+IsFork word = (65536 ≤ word) × (word ≢ 4294967295)
 
--- the keys of the leaves have this bit
-abbrev pub HaveBit : (ℕ → ℕ) → ℕ → ℕ → Tree → Type 0
-HaveBit keys bit value t = (i : ℕ) → is_on i (leaves t) ≡ true → bit_at (keys i) bit ≡ value
+-- the word of a fork
+abbrev pub fork_word : ℕ → ℕ → ℕ
+fork_word fork bit = 65536 + fork * 64 + bit
 
--- each fork's bit is 0 in the keys to its left, and 1 to its right
-abbrev pub IsParted : (ℕ → ℕ) → Tree → Type 0
-IsParted keys (Leaf i) = Unit {0}
-IsParted keys (Fork n b l r) = HaveBit keys b 0 l × HaveBit keys b 1 r × IsParted keys l × IsParted keys r
+-- what stands at a place
+abbrev pub target_at : List ℕ → ℕ → Target
+target_at words place = target_in (slice_index_or words place 4294967295)
 
--- one of two, by a bit
-abbrev pub by_bit : {A : Type 0} → ℕ → A → A → A
-by_bit bit zero one = if nat_eq bit 0 then zero else one
+-- a number of a column
+abbrev pub number_at : List ℕ → ℕ → ℕ
+number_at numbers i = slice_index_or numbers i 0
 
--- the leaf to which a key leads
-abbrev pub descend : ℕ → Tree → ℕ
-descend key (Leaf i) = i
-descend key (Fork n b l r) = by_bit (bit_at key b) (descend key l) (descend key r)
+-- the place on one side of a fork
+abbrev pub child_of : ℕ → ℕ → ℕ
+child_of fork side = 262144 + 2 * fork + side
 
--- a fork with two leaves: the slot on the side of its bit
-abbrev pub twig : ℕ → ℕ → ℕ → ℕ → ℕ → Tree
-twig fork bit side slot leaf = by_bit side (Fork fork bit (Leaf slot) (Leaf leaf)) (Fork fork bit (Leaf leaf) (Leaf slot))
+-- there are as many forks as slots, and two places for each behind the roots
+pub record HasSizes (w : Trees) : Type 0 where
+  pub words : length w.words ≡ 262144 + 2 * length w.forks
+  pub leaves : length w.leaves ≡ length w.forks
+  pub few : length w.forks ≤ 65536
 
--- the tree with a twig in the place of the leaf to which a key leads
-abbrev pub with_twig : ℕ → ℕ → ℕ → ℕ → Tree → Tree
-with_twig key slot fork bit (Leaf i) = twig fork bit (bit_at key bit) slot i
-with_twig key slot fork bit (Fork n b l r) = by_bit (bit_at key b) (Fork n b (with_twig key slot fork bit l) r) (Fork n b l (with_twig key slot fork bit r))
+-- a target's number is one of a slot, or of a fork
+abbrev pub Names : Trees → Target → Type 0
+Names w Nothing = Unit {0}
+Names w (Leaf slot) = slot < length w.leaves
+Names w (Fork fork bit) = fork < length w.forks
 
--- a fork with another tree on the left; where there is none, the right one
-abbrev pub with_left : ℕ → ℕ → Option Tree → Tree → Tree
-with_left n b None r = r
-with_left n b (Some l) r = Fork n b l r
+-- trees without leaves, where each slot keeps the fork of its number
+abbrev pub bare_trees : ℕ → Trees
+bare_trees size = record {
+  words = replicate (262144 + 2 * size) 4294967295;
+  leaves = range_with_len 0 size;
+  forks = replicate size 0;
+}
 
--- and on the right
-abbrev pub with_right : ℕ → ℕ → Tree → Option Tree → Tree
-with_right n b l None = l
-with_right n b l (Some r) = Fork n b l r
+-- the trees where a target has another number
+abbrev pub standing : Target → ℕ → Trees → Trees
+standing Nothing number w = w
+standing (Leaf slot) number w = record w { leaves = slice_set w.leaves slot number }
+standing (Fork fork bit) number w = record w { forks = slice_set w.forks fork number }
 
--- the tree without the leaf to which a key leads
-abbrev pub without : ℕ → Tree → Option Tree
-without key (Leaf i) = None
-without key (Fork n b l r) = by_bit (bit_at key b) (Some (with_left n b (without key l) r)) (Some (with_right n b l (without key r)))
+-- where what has a number in a tree stands
+unfoldable pub place_by : ℕ → ℕ → ℕ
+place_by tree number = if nat_lt number 262144 then tree else number
+
+-- a slot as the only leaf of a tree, which keeps its fork
+abbrev pub planted : Trees → ℕ → ℕ → Trees
+planted w tree slot = record w { words = slice_set w.words tree slot }
+
+-- a fork where a leaf of a tree stood, with the leaf and a slot behind it
+abbrev pub grafted : Trees → ℕ → ℕ → ℕ → ℕ → ℕ → Trees
+grafted w tree leaf slot bit side =
+    let number = number_at w.leaves leaf in
+    let fork = number_at w.leaves slot in
+    let own = child_of fork side in
+    let other = child_of fork (1 - side) in
+    record w {
+      words = slice_set (slice_set (slice_set w.words (place_by tree number) (fork_word fork bit)) own slot) other leaf;
+      leaves = slice_set (slice_set w.leaves slot own) leaf other;
+      forks = slice_set w.forks fork number;
+    }
+
+-- without the only leaf of a tree, which keeps the tree's fork then
+abbrev pub cleared : Trees → ℕ → Trees
+cleared w tree = record w { words = slice_set w.words tree 4294967295 }
+
+-- without a fork of a tree and the leaf on one side of it: what stands on the other takes the fork's place, and the slot
+-- keeps the fork
+abbrev pub pruned : Trees → ℕ → ℕ → ℕ → ℕ → Trees
+pruned w tree fork side slot =
+    let sibling = slice_index_or w.words (child_of fork (1 - side)) 4294967295 in
+    let above = number_at w.forks fork in
+    let moved = standing (target_in sibling) above w in
+    record moved {
+      words = slice_set (slice_set (slice_set w.words (place_by tree above) sibling) (child_of fork 0) 4294967295) (child_of fork 1) 4294967295;
+      leaves = slice_set moved.leaves slot fork;
+    }
+
+-- what letting a slot of a tree go reads is in the columns
+pub record MayGo (w : Trees) (tree slot : ℕ) : Type 0 where
+  pub number_there : tree < 262144
+  pub slot_there : slot < length w.leaves
+  pub place : number_at w.leaves slot < length w.words
+  pub above : 262144 ≤ number_at w.leaves slot → place_by tree (number_at w.forks ((number_at w.leaves slot - 262144) / 2)) < length w.words
+  pub sibling : 262144 ≤ number_at w.leaves slot → Names w (target_at w.words (child_of ((number_at w.leaves slot - 262144) / 2) (1 - (number_at w.leaves slot - 262144) % 2)))
+
+-- a slot has left its tree
+pub record Uproots (old new : Trees) (tree slot : ℕ) : Type 0 where
+  pub alone : number_at old.leaves slot < 262144 → new ≡ cleared old tree
+  pub behind : 262144 ≤ number_at old.leaves slot → new ≡ pruned old tree ((number_at old.leaves slot - 262144) / 2) ((number_at old.leaves slot - 262144) % 2) slot

@@ -2,20 +2,20 @@
 use Rattle.std.specs.Prelude.{◌≡◌, ℕ, ◌⊎◌, ◌+◌, ◌≤◌, false, true, List, map, slice_set, Option, None}
 use Rattle.std.specs.Option.{option_map}
 use Rattle.shared_tables.specs.declared.share.Share.{Share}
-use Rattle.shared_tables.specs.declared.chains.Sought.{Sought}
-use Rattle.shared_tables.specs.declared.chains.Sought.TheVariants.{At, Missing}
-use Rattle.shared_tables.specs.Bucket.{key_of, chain_of}
+use Rattle.shared_tables.specs.declared.look_up.Sought.{Sought}
+use Rattle.shared_tables.specs.declared.look_up.Sought.TheVariants.{At, Missing}
+use Rattle.shared_tables.specs.Bucket.{key_of, tree_of}
 use Rattle.shared_tables.specs.Pool.{Pool, Held, entry_at, IfHeld, is_dead_in}
 use Rattle.shared_tables.specs.Threads.{IsHeld}
 use Rattle.shared_tables.specs.Shared.{Shared, rule_at, kept_count, line_key, Lacks, HasRoom, IsAtLimit, IsOldest, Enters}
 use Rattle.shared_tables.specs.Sound.{rule_of, IsSound}
-use Rattle.shared_tables.specs.Forest.{IsForest, BelongsBeside}
-use Rattle.shared_tables.specs.Woods.{Woods}
+use Rattle.shared_tables.specs.TreesOf.{AreTreesOf, BelongsBeside}
+use Rattle.shared_tables.specs.Trees.{Trees}
 
 -- what holds of them
-pub record IsWhole (slots : Pool) (w : Woods) (shares : List (Option Share)) (moment : ℕ) : Type 0 where
+pub record IsWhole (slots : Pool) (w : Trees) (shares : List (Option Share)) (moment : ℕ) : Type 0 where
   pub sound : IsSound slots.entries slots.lines shares moment
-  pub forest : IsForest slots.entries w
+  pub trees : AreTreesOf slots.entries w
 
 -- what contracts see of them
 abbrev pub seen : Pool → List (Option Share) → ℕ → ℕ → ℕ → Shared
@@ -29,9 +29,9 @@ seen slots shares moment calls compared = record {
 }
 
 -- a slot holds the address, or none does, and it is told where it belongs
-abbrev pub Finds : List (Option Held) → Woods → ℕ → List ℕ → Sought → Type 0
+abbrev pub Finds : List (Option Held) → Trees → ℕ → List ℕ → Sought → Type 0
 Finds entries w vid mac (At slot) = IfHeld (entry_at entries slot) vid mac × IsHeld entries slot
-Finds entries w vid mac (Missing beside) = Lacks entries vid mac × BelongsBeside entries w.words (chain_of vid mac) (key_of vid mac) beside
+Finds entries w vid mac (Missing beside) = Lacks entries vid mac × BelongsBeside entries w.words (tree_of vid mac) (key_of vid mac) beside
 
 -- an entry comes in place of one that has gone
 abbrev pub Replaces : Shared → Shared → ℕ → Held → Type 0

@@ -4,16 +4,16 @@ ghost use Rattle.shared_tables.specs.Pool.{entry_at};
 ghost use Rattle.shared_tables.specs.Shared.{rule_at, kept_count, HasRoom, Enters, IsOf};
 ghost use Rattle.shared_tables.specs.Whole.{IsWhole, seen, Replaces};
 ghost use Rattle.shared_tables.specs.Admission.{held_of, MayCome, ComesOrNot, MayAttach, Attaches};
-ghost use Rattle.shared_tables.specs.Forest.{leaf_of};
-ghost use Rattle.shared_tables.specs.Woods.{HasSizes};
+ghost use Rattle.shared_tables.specs.TreesOf.{leaf_of};
+ghost use Rattle.shared_tables.specs.Trees.{HasSizes};
 
 use crate::bucket::key;
-use crate::chains::{Beside, side};
 use crate::entries::{drop_entry, join_share, renew_entry};
-use crate::forest::Forest;
 use crate::links::SlotId;
+use crate::look_up::{Beside, side};
 use crate::share::{self, Share};
 use crate::slots::Slots;
+use crate::trees::Trees;
 use filter_db::Place;
 use frame_view::{Mac, Vid};
 
@@ -31,9 +31,9 @@ pub enum Outcome {
 /// An entry that no slot holds yet.
 #[derive(Clone, Copy)]
 pub struct Newcomer {
-    /// The chain of its address.
-    pub chain: usize,
-    /// Where it belongs in the chain's tree; none where the chain has no leaves.
+    /// The number of its address's tree.
+    pub tree: usize,
+    /// Where it belongs in the tree; none where that has no leaves.
     pub beside: Option<Beside>,
     pub vid: Vid,
     pub mac: Mac,
@@ -46,22 +46,22 @@ pub struct Newcomer {
 #[inline(always)]
 pub fn admit_in(
     slots: &mut Slots,
-    forest: &mut Forest,
+    trees: &mut Trees,
     shares: &mut Vec<Option<Share>>,
     moment: u64,
     newcomer: &Newcomer,
 ) -> bool
-    requires whole { IsWhole slots.old forest.old shares.old.items moment }
+    requires whole { IsWhole slots.old trees.old shares.old.items moment }
     requires rule { IsSome (rule_at (seen slots.old shares.old.items moment 0 0).rules newcomer.now.vid) }
-    requires may_come { MayCome slots.old.entries forest.old moment newcomer.now }
-    ensures whole { IsWhole slots.new forest.new shares.new.items moment }
+    requires may_come { MayCome slots.old.entries trees.old moment newcomer.now }
+    ensures whole { IsWhole slots.new trees.new shares.new.items moment }
     ensures comes { (calls compared : ℕ) → ComesOrNot (seen slots.old shares.old.items moment calls compared) (seen slots.new shares.new.items moment calls compared) newcomer.now result }
 {
     let Some(share) = share::share_at(shares, newcomer.vid) else {
         unreachable!();
     };
     if share.count < share.limit {
-        enter_in(slots, forest, shares, moment, newcomer);
+        enter_in(slots, trees, shares, moment, newcomer);
         return true;
     }
     let Some(oldest) = share.queue.first.slot() else {
@@ -72,7 +72,7 @@ pub fn admit_in(
     }
     // a copy of its own: so a newcomer that comes where there is room never stands in memory
     let other = *newcomer;
-    replace_in(slots, forest, shares, moment, oldest, &other);
+    replace_in(slots, trees, shares, moment, oldest, &other);
     true
 }
 
@@ -80,17 +80,17 @@ pub fn admit_in(
 /// takes its place in the tree.
 fn replace_in(
     slots: &mut Slots,
-    forest: &mut Forest,
+    trees: &mut Trees,
     shares: &mut Vec<Option<Share>>,
     moment: u64,
     slot: SlotId,
     newcomer: &Newcomer,
 )
-    requires whole { IsWhole slots.old forest.old shares.old.items moment }
+    requires whole { IsWhole slots.old trees.old shares.old.items moment }
     requires rule { IsSome (rule_at (seen slots.old shares.old.items moment 0 0).rules newcomer.now.vid) }
     requires held { IsOf (entry_at slots.old.entries slot) newcomer.now.vid }
-    requires may_come { MayCome slots.old.entries forest.old moment newcomer.now }
-    ensures whole { IsWhole slots.new forest.new shares.new.items moment }
+    requires may_come { MayCome slots.old.entries trees.old moment newcomer.now }
+    ensures whole { IsWhole slots.new trees.new shares.new.items moment }
     ensures replaces { (calls compared : ℕ) → Replaces (seen slots.old shares.old.items moment calls compared) (seen slots.new shares.new.items moment calls compared) slot (held_of newcomer.now) }
 {
     if is_leaf(newcomer.beside, slot) {
@@ -104,8 +104,8 @@ fn replace_in(
             newcomer.last,
         );
     } else {
-        drop_entry(slots, forest, shares, newcomer.vid, slot);
-        enter_in(slots, forest, shares, moment, newcomer);
+        drop_entry(slots, trees, shares, newcomer.vid, slot);
+        enter_in(slots, trees, shares, moment, newcomer);
     }
 }
 
@@ -119,19 +119,19 @@ fn is_leaf(beside: Option<Beside>, slot: SlotId) -> bool
     }
 }
 
-/// Makes an entry of a newcomer: a leaf of its chain's tree, and last on its line.
+/// Makes an entry of a newcomer: a leaf of its tree, and last on its line.
 #[inline(always)]
 fn enter_in(
     slots: &mut Slots,
-    forest: &mut Forest,
+    trees: &mut Trees,
     shares: &mut Vec<Option<Share>>,
     moment: u64,
     newcomer: &Newcomer,
 )
-    requires whole { IsWhole slots.old forest.old shares.old.items moment }
+    requires whole { IsWhole slots.old trees.old shares.old.items moment }
     requires room { HasRoom (rule_at (seen slots.old shares.old.items moment 0 0).rules newcomer.now.vid) (kept_count newcomer.now.vid slots.old.entries) }
-    requires may_come { MayCome slots.old.entries forest.old moment newcomer.now }
-    ensures whole { IsWhole slots.new forest.new shares.new.items moment }
+    requires may_come { MayCome slots.old.entries trees.old moment newcomer.now }
+    ensures whole { IsWhole slots.new trees.new shares.new.items moment }
     ensures enters { (calls compared : ℕ) → Enters (seen slots.old shares.old.items moment calls compared) (seen slots.new shares.new.items moment calls compared) (held_of newcomer.now) }
 {
     let Newcomer {
@@ -142,24 +142,24 @@ fn enter_in(
         ..
     } = *newcomer;
     let slot = slots.take(vid, &mac, &place, last);
-    attach(forest, newcomer, slot);
+    attach(trees, newcomer, slot);
     join_share(slots, shares, vid, last.is_none(), slot);
 }
 
-/// Puts the slot of a newcomer into the tree of its chain, beside its leaf.
+/// Puts the slot of a newcomer into its tree, beside its leaf.
 #[inline(always)]
-fn attach(forest: &mut Forest, newcomer: &Newcomer, slot: SlotId)
-    requires sizes { HasSizes forest.old }
-    requires chain { newcomer.now.chain < 262144 }
-    requires slot { slot < length forest.old.leaves }
-    requires beside { MayAttach forest.old newcomer.now.chain newcomer.now.beside slot }
-    ensures { Attaches forest.old forest.new newcomer.now newcomer.now.beside slot }
+fn attach(trees: &mut Trees, newcomer: &Newcomer, slot: SlotId)
+    requires sizes { HasSizes trees.old }
+    requires tree { newcomer.now.tree < 262144 }
+    requires slot { slot < length trees.old.leaves }
+    requires beside { MayAttach trees.old newcomer.now.tree newcomer.now.beside slot }
+    ensures { Attaches trees.old trees.new newcomer.now newcomer.now.beside slot }
 {
     match newcomer.beside {
-        None => forest.plant(newcomer.chain, slot),
+        None => trees.plant(newcomer.tree, slot),
         Some(Beside { leaf, bit }) => {
             let side = side(key(newcomer.vid, newcomer.mac), bit);
-            forest.graft(newcomer.chain, leaf, slot, bit, side);
+            trees.graft(newcomer.tree, leaf, slot, bit, side);
         }
     }
 }

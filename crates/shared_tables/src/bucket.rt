@@ -1,17 +1,17 @@
-//! Buckets of addresses, and their chains.
+//! Buckets of addresses, and their trees.
 ghost use Rattle.std.specs.Prelude.{◌≡◌, ◌<◌, [], ◌∷◌};
-ghost use Rattle.shared_tables.specs.Bucket.{bucket_of, chain_of, key_of, IsKey, vid_in, mac_in, spread};
+ghost use Rattle.shared_tables.specs.Bucket.{bucket_of, tree_of, key_of, IsKey, vid_in, mac_in, spread};
 
 use frame_view::{Mac, Vid};
 
 /// How many there are.
 const BUCKETS: usize = 4096;
 
-/// How many chains each of them has.
-const CHAINS_EACH: usize = 64;
+/// How many trees each of them has.
+const TREES_EACH: usize = 64;
 
-/// How many chains there are.
-pub const CHAINS: usize = BUCKETS * CHAINS_EACH;
+/// How many trees there are.
+pub const TREES: usize = BUCKETS * TREES_EACH;
 
 /// 2^64 over the golden ratio.
 const GOLDEN: u64 = 0x9E37_79B9_7F4A_7C15;
@@ -67,27 +67,27 @@ fn bucket_by_key(key: u64) -> usize
     (words % BUCKETS as u64) as usize
 }
 
-/// Which of its bucket's chains a key is on.
+/// Which of its bucket's trees a key is in.
 #[tactic(auto, unfolding(crate::specs::Bucket::spread))]
 fn spread(key: u64) -> usize
     ensures value { result ≡ spread key }
     ensures in_range { result < 64 }
 {
-    (key.wrapping_mul(GOLDEN) >> 58) as usize % CHAINS_EACH
+    (key.wrapping_mul(GOLDEN) >> 58) as usize % TREES_EACH
 }
 
-/// The chain of a key, below 262,144.
-pub fn chain_by_key(key: u64) -> usize
-    ensures value { result ≡ chain_of (vid_in key) (mac_in key) }
+/// The number of a key's tree, below 262,144.
+pub fn tree_by_key(key: u64) -> usize
+    ensures value { result ≡ tree_of (vid_in key) (mac_in key) }
     ensures in_range { result < 262144 }
 {
-    bucket_by_key(key) * CHAINS_EACH + spread(key)
+    bucket_by_key(key) * TREES_EACH + spread(key)
 }
 
-/// The chain of an address in a segment, below 262,144.
-pub fn chain(vid: Vid, mac: Mac) -> usize
-    ensures value { result ≡ chain_of vid mac }
+/// The number of the tree of an address in a segment, below 262,144.
+pub fn tree_of(vid: Vid, mac: Mac) -> usize
+    ensures value { result ≡ tree_of vid mac }
     ensures in_range { result < 262144 }
 {
-    chain_by_key(key(vid, mac))
+    tree_by_key(key(vid, mac))
 }

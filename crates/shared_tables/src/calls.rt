@@ -7,7 +7,7 @@ ghost use Rattle.shared_tables.specs.Segments.{segments_of};
 ghost use Rattle.shared_tables.specs.Work.{ComparesFew, ComparesByBits, VisitsFew, TellsAtMost, Pays};
 
 use crate::admission::Outcome;
-use crate::bucket::chain;
+use crate::bucket::tree_of;
 use crate::{SharedTables, learning};
 use filter_db::{Learned, NotThere, Place, TableFull, Tables};
 use frame_view::{Mac, Vid};
@@ -48,8 +48,8 @@ impl Tables for SharedTables {
     {
         self.count_call();
         let ageing = self.span(vid);
-        let chain = chain(vid, mac);
-        match self.find(chain, vid, mac) {
+        let tree = tree_of(vid, mac);
+        match self.find(tree, vid, mac) {
             Some(slot) => self.place_if_live(slot, ageing, now),
             None => None,
         }
@@ -74,8 +74,8 @@ impl Tables for SharedTables {
         ensures paid { Pays self.old self.new }
     {
         self.begin(now);
-        let chain = chain(vid, mac);
-        match learning::find_or_admit(self, chain, vid, &mac, &place, Some(now)) {
+        let tree = tree_of(vid, mac);
+        match learning::find_or_admit(self, tree, vid, &mac, &place, Some(now)) {
             Outcome::Held(slot) => learning::relearn(self, vid, slot, &place),
             Outcome::Entered => Learned::New,
             Outcome::Full => Learned::Full,
@@ -101,8 +101,8 @@ impl Tables for SharedTables {
         ensures paid { Pays self.old self.new }
     {
         self.begin(now);
-        let chain = chain(vid, mac);
-        match learning::find_or_admit(self, chain, vid, &mac, &place, None) {
+        let tree = tree_of(vid, mac);
+        match learning::find_or_admit(self, tree, vid, &mac, &place, None) {
             Outcome::Held(slot) => {
                 self.refresh(vid, slot, &place, None);
                 Ok(())
@@ -129,8 +129,8 @@ impl Tables for SharedTables {
         ensures paid { Pays self.old self.new }
     {
         self.begin(now);
-        let chain = chain(vid, mac);
-        match self.find(chain, vid, mac) {
+        let tree = tree_of(vid, mac);
+        match self.find(tree, vid, mac) {
             Some(slot) if self.is_fixed(slot) => {
                 self.release(vid, slot);
                 Ok(())

@@ -1,9 +1,9 @@
 //! The numbers of the trees, in one list.
 ghost use Rattle.std.specs.Prelude.{◌≡◌, ◌+◌, ◌*◌, ◌<◌, ◌≤◌, ◌++◌, ℕ, IfOk, length, replicate, slice_index_or, slice_set, vec_capacity};
 ghost use Rattle.std.specs.List.{range_with_len};
-ghost use Rattle.shared_tables.specs.Woods.{number_at, bare_woods};
+ghost use Rattle.shared_tables.specs.Trees.{number_at, bare_trees};
 
-use crate::bucket::CHAINS;
+use crate::bucket::TREES;
 use std::alloc::{AllocError, Global};
 use std::marker::Model;
 
@@ -12,7 +12,7 @@ pub const NOTHING: u32 = u32::MAX;
 
 /// The three columns of the trees one behind another in one list, for which memory is asked once: what stands at each
 /// place; a number of each slot; a number of each fork. What stands behind a fork has its place as its number; what stands
-/// at the root of a chain a fork that no tree has, which the chain keeps; and a free slot one that it keeps.
+/// at the root of a tree a fork that no tree has, which the tree keeps; and a free slot one that it keeps.
 #[derive(Drop)]
 pub struct Columns {
     numbers: Vec<u32>,
@@ -22,9 +22,9 @@ pub struct Columns {
 }
 
 impl Model for Columns {
-    ghost use Rattle.shared_tables.specs.Woods.{Woods};
+    ghost use Rattle.shared_tables.specs.Trees.{Trees};
 
-    ghost Value = { Woods };
+    ghost Value = { Trees };
 
     ghost use Rattle.shared_tables.specs.ColumnsInside.{columns_of, AreInOrder};
 
@@ -60,10 +60,10 @@ impl Columns {
     /// `AllocError`: the growth was refused.
     pub fn new(alloc: Global, size: u32) -> Result<Columns, AllocError>
         requires { size ≤ 65536 }
-        ensures { IfOk result (λ w. w ≡ bare_woods size) }
+        ensures { IfOk result (λ w. w ≡ bare_trees size) }
     {
         let slots = size as usize;
-        let leaves = CHAINS + 2 * slots;
+        let leaves = TREES + 2 * slots;
         let mut numbers = Vec::with_capacity(alloc, leaves + 2 * slots)?;
         fill(&mut numbers, NOTHING, leaves);
         count_up(&mut numbers, size);

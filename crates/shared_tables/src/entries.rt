@@ -1,15 +1,15 @@
 //! Entries that come to their segment, entries that are renewed, and entries that go.
 ghost use Rattle.std.specs.Prelude.{◌≡◌, ℕ, ◌<◌, Some, None, Option, IfSome, IsSome, vec_len, is_none, false, slice_set};
-ghost use Rattle.shared_tables.specs.Pool.{Pool, chain_in, links_at, entry_at, is_fixed_in, renewed, place_in};
-ghost use Rattle.shared_tables.specs.Woods.{HasSizes, MayGo, Uproots};
+ghost use Rattle.shared_tables.specs.Pool.{Pool, tree_in, links_at, entry_at, is_fixed_in, renewed, place_in};
+ghost use Rattle.shared_tables.specs.Trees.{HasSizes, MayGo, Uproots};
 ghost use Rattle.shared_tables.specs.Threads.{IsHeld, HoldsAny, dropped, moved, pushed_back};
 ghost use Rattle.shared_tables.specs.Sound.{share_at, share_moved, CountsSome, CountsMore, HasEnds, HasEndsLeft, share_without, shares_without, shares_moved, shares_with, last_left, last_in};
 
-use crate::forest::Forest;
 use crate::links::SlotId;
 use crate::share::{self, Share};
 use crate::slots::Slots;
 use crate::threads;
+use crate::trees::Trees;
 use filter_db::Place;
 use frame_view::Vid;
 
@@ -143,7 +143,7 @@ pub fn join_share(
 /// Takes an entry of a segment out of its tree and off its line, and frees its slot.
 pub fn drop_entry(
     slots: &mut Slots,
-    forest: &mut Forest,
+    trees: &mut Trees,
     shares: &mut Vec<Option<Share>>,
     vid: Vid,
     slot: SlotId,
@@ -151,16 +151,16 @@ pub fn drop_entry(
     requires held { IsHeld slots.old.entries slot }
     requires line_previous { HoldsAny slots.old.entries (links_at slots.old.lines slot).previous }
     requires line_next { HoldsAny slots.old.entries (links_at slots.old.lines slot).next }
-    requires sizes { HasSizes forest.old }
-    requires may_go { MayGo forest.old (chain_in (entry_at slots.old.entries slot)) slot }
+    requires sizes { HasSizes trees.old }
+    requires may_go { MayGo trees.old (tree_in (entry_at slots.old.entries slot)) slot }
     requires shares { vec_len shares.old ≡ 4096 }
     requires counted { CountsSome (share_at shares.old.items vid) }
     ensures pool { slots.new ≡ dropped slots.old slot }
-    ensures forest { Uproots forest.old forest.new (chain_in (entry_at slots.old.entries slot)) slot }
+    ensures trees { Uproots trees.old trees.new (tree_in (entry_at slots.old.entries slot)) slot }
     ensures shares { let e = entry_at slots.old.entries slot in
         shares.new.items ≡ shares_without shares.old.items vid (is_fixed_in e) (links_at slots.old.lines slot) }
 {
-    forest.uproot(slots.chain(slot), slot);
+    trees.uproot(slots.tree_of(slot), slot);
     let Some(share) = &mut shares[usize::from(vid.get())] else {
         unreachable!();
     };

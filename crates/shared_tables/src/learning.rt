@@ -1,6 +1,6 @@
 //! How entries come, stay and go: each step over the slots of one segment.
 ghost use Rattle.std.specs.Prelude.{◌≡◌, ℕ, ◌+◌, ◌<◌, ◌≤◌, IsSome, Some, None, Option, false};
-ghost use Rattle.shared_tables.specs.Bucket.{bucket_of, chain_of};
+ghost use Rattle.shared_tables.specs.Bucket.{bucket_of, tree_of};
 ghost use Rattle.shared_tables.specs.Admission.{FindsOrAdmits};
 ghost use Rattle.shared_tables.specs.Pool.{entry_at, is_fixed_in};
 ghost use Rattle.shared_tables.specs.Threads.{IsHeld};
@@ -60,18 +60,18 @@ pub fn fit(tables: &mut SharedTables, vid: Vid, limit: u32)
     }
 }
 
-/// The slot of an address on this chain; where no slot holds it, an entry comes, if there is room for it.
+/// The slot of an address in this tree; where no slot holds it, an entry comes, if there is room for it.
 #[inline(always)]
 pub fn find_or_admit(
     tables: &mut SharedTables,
-    chain: usize,
+    tree: usize,
     vid: Vid,
     mac: &Mac,
     place: &Place,
     last: Option<u64>,
 ) -> Outcome
-    requires chain { chain ≡ chain_of vid mac.now }
-    requires in_range { chain < 262144 }
+    requires tree { tree ≡ tree_of vid mac.now }
+    requires in_range { tree < 262144 }
     requires rule { IsSome (rule_at tables.old.rules vid) }
     requires now { IsNow last tables.old.moment }
     ensures outcome { let span = span_of (rule_at tables.old.rules vid) in
@@ -80,7 +80,7 @@ pub fn find_or_admit(
     ensures compared { tables.new.compared ≤ tables.old.compared + bucket_count (bucket_of vid mac.now) tables.old.entries }
     ensures bits { ComparesByBits tables.old tables.new }
 {
-    let outcome = tables.find_or_enter(chain, vid, mac, place, last);
+    let outcome = tables.find_or_enter(tree, vid, mac, place, last);
     if let Outcome::Entered = outcome {
         sweep(tables, vid);
     }

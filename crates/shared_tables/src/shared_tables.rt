@@ -9,17 +9,17 @@ ghost use Rattle.shared_tables.specs.Threads.{IsHeld};
 ghost use Rattle.shared_tables.specs.Shared.{rule_at, Lacks, kept_count, bucket_count, IsNow, HasRoom, Refreshes, IsOf, span_of, NoneAges, IsOldest, IsOrderly, live_place, with_ageing, DropsPlace, stands_at};
 ghost use Rattle.shared_tables.specs.Segments.{segments_of};
 ghost use Rattle.shared_tables.specs.Admission.{ComesTo};
-ghost use Rattle.shared_tables.specs.Bucket.{bucket_of, chain_of};
+ghost use Rattle.shared_tables.specs.Bucket.{bucket_of, tree_of};
 ghost use Rattle.shared_tables.specs.Work.{IsPaid, ComparesByBits};
 
 use crate::admission::{Newcomer, Outcome, admit_in};
-use crate::chains::{Sought, find_in};
 use crate::entries::{drop_entry, renew_entry, see_entry};
-use crate::forest::Forest;
 use crate::links::SlotId;
+use crate::look_up::{Sought, find_in};
 use crate::opening::open_shares;
 use crate::share::{self, Share};
 use crate::slots::Slots;
+use crate::trees::Trees;
 use filter_db::{Place, TableRule};
 use frame_view::{Mac, Vid};
 use std::alloc::{AllocError, Global};
@@ -34,8 +34,8 @@ mod standing;
 #[derive(Drop)]
 pub struct SharedTables {
     slots: Slots,
-    /// For each chain the tree of its entries.
-    forest: Forest,
+    /// The trees, whose leaves are the slots that hold entries.
+    trees: Trees,
     /// At the place of each VID the share of its segment.
     shares: Vec<Option<Share>>,
     moment: u64,
@@ -76,7 +76,7 @@ impl SharedTables {
     {
         Ok(SharedTables {
             slots: Slots::new(alloc, pool)?,
-            forest: Forest::new(alloc, pool)?,
+            trees: Trees::new(alloc, pool)?,
             shares: open_shares(alloc, rules)?,
             moment: 0,
             calls: Count::zero(),
@@ -116,10 +116,10 @@ impl SharedTables {
         self.moment = now;
     }
 
-    /// The slot of an address, which is on this chain.
-    pub(crate) fn find(&mut self, chain: usize, vid: Vid, mac: Mac) -> Option<SlotId>
-        requires chain { chain ≡ chain_of vid mac }
-        requires in_range { chain < 262144 }
+    /// The slot of an address, which is in this tree.
+    pub(crate) fn find(&mut self, tree: usize, vid: Vid, mac: Mac) -> Option<SlotId>
+        requires tree { tree ≡ tree_of vid mac }
+        requires in_range { tree < 262144 }
         ensures found { IfSome result (λ s. IfHeld (entry_at self.old.entries s) vid mac) }
         ensures held { IfSome result (IsHeld self.old.entries) }
         ensures none { IfNone result (Lacks self.old.entries vid mac) }
@@ -128,32 +128,25 @@ impl SharedTables {
         ensures compared { self.new.compared ≤ self.old.compared + bucket_count (bucket_of vid mac) self.old.entries }
         ensures bits { ComparesByBits self.old self.new }
     {
-        match find_in(
-            &self.slots,
-            &self.forest,
-            &mut self.compared,
-            chain,
-            vid,
-            mac,
-        ) {
+        match find_in(&self.slots, &self.trees, &mut self.compared, tree, vid, mac) {
             Sought::At(slot) => Some(slot),
             Sought::Missing(_) => None,
         }
     }
 
-    /// The slot of an address, which is on this chain; where no slot holds it, an entry comes, if the segment has room or
+    /// The slot of an address, which is in this tree; where no slot holds it, an entry comes, if the segment has room or
     /// its oldest entry is dead.
     #[inline(always)]
     pub(crate) fn find_or_enter(
         &mut self,
-        chain: usize,
+        tree: usize,
         vid: Vid,
         mac: &Mac,
         place: &Place,
         last: Option<u64>,
     ) -> Outcome
-        requires chain { chain ≡ chain_of vid mac.now }
-        requires in_range { chain < 262144 }
+        requires tree { tree ≡ tree_of vid mac.now }
+        requires in_range { tree < 262144 }
         requires rule { IsSome (rule_at self.old.rules vid) }
         requires now { IsNow last self.old.moment }
         ensures outcome { let span = span_of (rule_at self.old.rules vid) in
@@ -165,9 +158,9 @@ impl SharedTables {
     {
         match find_in(
             &self.slots,
-            &self.forest,
+            &self.trees,
             &mut self.compared,
-            chain,
+            tree,
             vid,
             *mac,
         ) {
@@ -175,11 +168,11 @@ impl SharedTables {
             Sought::Missing(beside) => {
                 let comes = admit_in(
                     &mut self.slots,
-                    &mut self.forest,
+                    &mut self.trees,
                     &mut self.shares,
                     self.moment,
                     &Newcomer {
-                        chain,
+                        tree,
                         beside,
                         vid,
                         mac: *mac,
@@ -227,7 +220,7 @@ impl SharedTables {
     {
         drop_entry(
             &mut self.slots,
-            &mut self.forest,
+            &mut self.trees,
             &mut self.shares,
             vid,
             slot,
@@ -359,7 +352,7 @@ impl SharedTables {
                 if self.slots.place(slot).is_same(place) {
                     drop_entry(
                         &mut self.slots,
-                        &mut self.forest,
+                        &mut self.trees,
                         &mut self.shares,
                         vid,
                         slot,

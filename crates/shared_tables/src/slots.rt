@@ -1,14 +1,14 @@
 //! The slots of a pool. An address is compared, and an entry's age is told, by this module alone.
 ghost use Rattle.std.specs.Prelude.{◌≡◌, ℕ, ◌+◌, ◌<◌, ◌≤◌, IfOk, IfSome, IfNone, IsSome, Some, None, Option, false, length, replicate, slice_set};
-ghost use Rattle.shared_tables.specs.Pool.{Pool, chain_in, Held, entry_at, links_at, free_count, is_fixed_in, is_dead_in, alone, links_with, IfHeld, taken, freed, renewed, readdressed, place_in, free_pool};
-ghost use Rattle.shared_tables.specs.Forest.{PartedAt, key_in};
+ghost use Rattle.shared_tables.specs.Pool.{Pool, tree_in, Held, entry_at, links_at, free_count, is_fixed_in, is_dead_in, alone, links_with, IfHeld, taken, freed, renewed, readdressed, place_in, free_pool};
+ghost use Rattle.shared_tables.specs.TreesOf.{PartedAt, key_in};
 ghost use Rattle.std.specs.Int.{bit_at};
 ghost use Rattle.shared_tables.specs.Bucket.{vid_in, mac_in};
 ghost use Rattle.filter_db.specs.Place.{same_place};
 ghost use Rattle.shared_tables.specs.Threads.{link_set};
 ghost use Rattle.shared_tables.specs.Slots.{entry_in, kind_of, moment_of};
 
-use crate::bucket::{chain_by_key, key};
+use crate::bucket::{key, tree_by_key};
 use crate::links::{ALONE, Link, Links, Side, SlotId};
 use filter_db::Place;
 use frame_view::{Mac, Vid};
@@ -29,7 +29,7 @@ pub enum Kind {
     Fixed,
 }
 
-/// A slot. A slot that holds an entry is a leaf of the tree of its address's chain, and on one line of its segment: the
+/// A slot. A slot that holds an entry is a leaf of its address's tree, and on one line of its segment: the
 /// age queue, in the order in which the entries were last seen, or the list of the fixed entries, in the order in which
 /// they were fixed. It leaves both when its entry goes. A free slot is on the free list, with the next free one behind it
 /// on its line; it leaves that when an entry takes it.
@@ -301,14 +301,14 @@ impl Slots {
         links_on(&self.slots[slot.number as usize])
     }
 
-    /// The chain of the address that a slot holds, below 262,144.
+    /// The tree of the address that a slot holds, below 262,144.
     #[inline(always)]
-    pub fn chain(&self, slot: SlotId) -> usize
+    pub fn tree_of(&self, slot: SlotId) -> usize
         requires in_pool { slot < length self.now.entries }
         requires held { IsSome (entry_at self.now.entries slot) }
-        ensures { result ≡ chain_in (entry_at self.now.entries slot) }
+        ensures { result ≡ tree_in (entry_at self.now.entries slot) }
     {
-        chain_by_key(key_of(&self.slots[slot.number as usize]))
+        tree_by_key(key_of(&self.slots[slot.number as usize]))
     }
 
     /// Where the slot's entry stands.

@@ -11,9 +11,9 @@ ghost use Rattle.shared_tables.specs.Shared.{Lacks};
 ghost use Rattle.shared_tables.specs.Sound.{IsLines};
 ghost use Rattle.shared_tables.specs.Threads.{IsHeld};
 
-use crate::bucket::chain;
-use crate::chains::{Sought, find_in};
+use crate::bucket::tree_of;
 use crate::links::SlotId;
+use crate::look_up::{Sought, find_in};
 use crate::share::{Share, share_at};
 use crate::shared_tables::SharedTables;
 use crate::slots::Slots;
@@ -58,9 +58,9 @@ impl SharedTables {
         let mut steps = Count::zero();
         match find_in(
             &self.slots,
-            &self.forest,
+            &self.trees,
             &mut steps,
-            chain(vid, mac),
+            tree_of(vid, mac),
             vid,
             mac,
         ) {

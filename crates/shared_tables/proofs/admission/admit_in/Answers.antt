@@ -5,10 +5,10 @@ use Rattle.shared_tables.specs.Shared.{rule_at, span_of, IsOf}
 use Rattle.shared_tables.specs.Sound.{IsSound, share_at}
 use Rattle.shared_tables.specs.Whole.{seen, Replaces}
 use Rattle.shared_tables.specs.Admission.{held_of}
-use Rattle.shared_tables.proofs.SoundLemmas.{share_read, has_share}
-use Rattle.shared_tables.proofs.Sweeping.{of_ages}
-use Rattle.shared_tables.proofs.Dropping.{stays, drop_room}
-use Rattle.shared_tables.proofs.Admissions.{has_room, span_here, refuses_none, refuses_live, is_oldest, oldest_held}
+use Rattle.shared_tables.proofs.OnEntries.SoundLemmas.{share_read, has_share}
+use Rattle.shared_tables.proofs.OnEntries.Sweeping.{of_ages}
+use Rattle.shared_tables.proofs.OnEntries.Dropping.{stays, drop_room}
+use Rattle.shared_tables.proofs.OnEntries.Admissions.{has_room, span_here, refuses_none, refuses_live, is_oldest, oldest_held}
 use Rattle.shared_tables.proofs.admission.admit_in.Goals as goal
 
 here : (shares now : List (Option Share)) (v : ℕ) (o : Option Share) (share : Share) → now ≡ shares → o ≡ share_at now v → o ≡ Some share → share_at shares v ≡ Some share

@@ -1,6 +1,6 @@
 use Rattle.std.proofs.Common.{rules, ◌≡◌, ◌+◌, ◌*◌, ◌∷◌, [], ◌∙◌, refl, ap, arith}
 use Rattle.shared_tables.specs.Bucket.{key_of, vid_in, mac_in}
-use Rattle.shared_tables.proofs.Keys.{vid_in-key, mac_in-key, six_text}
+use Rattle.shared_tables.proofs.OnTrees.Keys.{vid_in-key, mac_in-key, six_text}
 use Rattle.shared_tables.proofs.bucket.joined.Goals as goal
 
 pub returns : goal.returns

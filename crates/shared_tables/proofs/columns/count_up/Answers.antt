@@ -1,7 +1,7 @@
 use Rattle.std.proofs.Common.{ℕ, ◌++◌, List, [], ◌∷◌, length, ap, sym, ◌∙◌, arith, length-append}
 use Rattle.std.specs.List.{range_with_len}
 use Rattle.std.proofs.lemmas.List.{append_assoc}
-use Rattle.shared_tables.proofs.ForestLemmas.{numbers_push}
+use Rattle.shared_tables.proofs.OnTrees.TreesOfLemmas.{numbers_push}
 use Rattle.shared_tables.proofs.columns.count_up.Goals as goal
 
 pub loop-number-preserved : goal.loop-number-preserved

@@ -1,6 +1,6 @@
 use Rattle.std.proofs.Common.{ℕ, ◌++◌, List, [], ◌∷◌, length, replicate, ap, sym, ◌∙◌, arith, length-append}
 use Rattle.std.proofs.lemmas.List.{append_assoc}
-use Rattle.shared_tables.proofs.ColumnsLemmas.{replicate_push}
+use Rattle.shared_tables.proofs.OnTrees.ColumnsLemmas.{replicate_push}
 use Rattle.shared_tables.proofs.columns.fill.Goals as goal
 
 pub loop-word-preserved : goal.loop-word-preserved

@@ -1,5 +1,5 @@
 use Rattle.shared_tables.specs.Shared.{held_count}
-use Rattle.shared_tables.proofs.StandingLemmas.{Emptying}
+use Rattle.shared_tables.proofs.OnCalls.StandingLemmas.{Emptying}
 use Rattle.shared_tables.proofs.learning.empty.Given as goal
 
 abbrev pub invariant-loop-slot : goal.invariant-loop-slot

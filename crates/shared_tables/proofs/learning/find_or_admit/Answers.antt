@@ -1,6 +1,6 @@
 use Rattle.std.proofs.Common.{refl}
 use Rattle.shared_tables.specs.Shared.{rule_at, span_of}
-use Rattle.shared_tables.proofs.Admissions.{admits_behind, else_admits}
+use Rattle.shared_tables.proofs.OnEntries.Admissions.{admits_behind, else_admits}
 use Rattle.shared_tables.proofs.learning.find_or_admit.Goals as goal
 
 pub returns-in-Entered-clause-outcome : goal.returns-in-Entered-clause-outcome

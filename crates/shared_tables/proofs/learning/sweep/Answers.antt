@@ -1,5 +1,5 @@
 use Rattle.std.proofs.Common.{false}
-use Rattle.shared_tables.proofs.Threaded.{on_line_held}
+use Rattle.shared_tables.proofs.OnEntries.Threaded.{on_line_held}
 use Rattle.shared_tables.proofs.learning.sweep.Goals as goal
 
 pub dead-requires : goal.dead-requires

@@ -1,5 +1,5 @@
 use Rattle.shared_tables.specs.Shared.{held_count}
-use Rattle.shared_tables.proofs.Sweeping.{Frees}
+use Rattle.shared_tables.proofs.OnEntries.Sweeping.{Frees}
 use Rattle.shared_tables.proofs.learning.sweep.Given as goal
 
 abbrev pub invariant-loop-slot : goal.invariant-loop-slot

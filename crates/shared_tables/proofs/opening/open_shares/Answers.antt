@@ -1,7 +1,7 @@
 use Rattle.std.proofs.Common.{rules, ◌<◌, sym, subst, arith}
 use Rattle.std.proofs.lemmas.List.{take_all}
 use Rattle.shared_tables.specs.Opened.{AreOpened}
-use Rattle.shared_tables.proofs.OpenedLemmas.{opened_none, opened_more}
+use Rattle.shared_tables.proofs.OnEntries.OpenedLemmas.{opened_none, opened_more}
 use Rattle.shared_tables.proofs.opening.open_shares.Goals as goal
 
 pub loop-rule-init : goal.loop-rule-init

@@ -1,5 +1,5 @@
 use Rattle.std.proofs.Common.{arith}
-use Rattle.shared_tables.proofs.SlotsLemmas.{key_is, key_held}
+use Rattle.shared_tables.proofs.OnEntries.SlotsLemmas.{key_is, key_held}
 use Rattle.shared_tables.proofs.slots.key_of.Goals as goal
 
 pub returns-clause-value : goal.returns-clause-value

@@ -1,5 +1,5 @@
 use Rattle.std.proofs.Common.{arith}
-use Rattle.shared_tables.proofs.Parting.{parting_small, parting_differs}
+use Rattle.shared_tables.proofs.OnTrees.Parting.{parting_small, parting_differs}
 use Rattle.shared_tables.proofs.slots.parting.Goals as goal
 
 pub returns-else-one-other-clause-differs : goal.returns-else-one-other-clause-differs

@@ -1,4 +1,4 @@
-use Rattle.shared_tables.proofs.SlotsLemmas.{readdressed_entry}
+use Rattle.shared_tables.proofs.OnEntries.SlotsLemmas.{readdressed_entry}
 use Rattle.shared_tables.proofs.slots.readdress.Goals as goal
 
 pub returns-clause-entry : goal.returns-clause-entry

@@ -1,7 +1,7 @@
 use Rattle.std.proofs.Common.{true, false, refl, sym, ◌∙◌}
 use Rattle.std.proofs.lemmas.Bool.{false≢true}
-use Rattle.shared_tables.proofs.CallLemmas.{finds, misses}
-use Rattle.shared_tables.proofs.Answering.{fixes_again, fixes_new}
+use Rattle.shared_tables.proofs.OnCalls.CallLemmas.{finds, misses}
+use Rattle.shared_tables.proofs.OnCalls.Answering.{fixes_again, fixes_new}
 use Rattle.shared_tables.proofs.calls.SharedTablesTables.fix.Goals as goal
 
 pub returns-in-Held : goal.returns-in-Held

@@ -1,6 +1,6 @@
 use Rattle.filter_db.specs.Segment.{flush_place_in}
-use Rattle.shared_tables.proofs.SegmentsLemmas.{flush_place_segments}
-use Rattle.shared_tables.proofs.Answering.{lets_go}
+use Rattle.shared_tables.proofs.OnCalls.SegmentsLemmas.{flush_place_segments}
+use Rattle.shared_tables.proofs.OnCalls.Answering.{lets_go}
 use Rattle.shared_tables.proofs.calls.SharedTablesTables.flush_place.Goals as goal
 
 pub returns : goal.returns

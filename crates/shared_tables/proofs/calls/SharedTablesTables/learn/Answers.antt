@@ -1,6 +1,6 @@
 use Rattle.std.proofs.Common.{true, false, refl}
-use Rattle.shared_tables.proofs.CallLemmas.{finds, misses}
-use Rattle.shared_tables.proofs.Answering.{learns_again, learns_new}
+use Rattle.shared_tables.proofs.OnCalls.CallLemmas.{finds, misses}
+use Rattle.shared_tables.proofs.OnCalls.Answering.{learns_again, learns_new}
 use Rattle.shared_tables.proofs.calls.SharedTablesTables.learn.Goals as goal
 
 pub returns-in-Held : goal.returns-in-Held

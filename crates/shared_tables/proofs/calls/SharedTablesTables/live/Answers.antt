@@ -2,11 +2,11 @@ use Rattle.std.proofs.Common.{sym, ap, ◌∙◌, subst}
 use Rattle.std.specs.FinMap.{len}
 use Rattle.filter_db.specs.Segment.{Segment}
 use Rattle.shared_tables.specs.Shared.{Sweeps}
-use Rattle.shared_tables.proofs.CallLemmas.{own_is, rule_there, span_is, stays_all}
-use Rattle.shared_tables.proofs.SegmentsLemmas.{sweep_segments, swept_len}
-use Rattle.shared_tables.proofs.WorkLemmas.{visits_of}
-use Rattle.shared_tables.proofs.Steps.{leaves}
-use Rattle.shared_tables.proofs.Answering.{sweeps_first}
+use Rattle.shared_tables.proofs.OnCalls.CallLemmas.{own_is, rule_there, span_is, stays_all}
+use Rattle.shared_tables.proofs.OnCalls.SegmentsLemmas.{sweep_segments, swept_len}
+use Rattle.shared_tables.proofs.OnCalls.WorkLemmas.{visits_of}
+use Rattle.shared_tables.proofs.OnCalls.Steps.{leaves}
+use Rattle.shared_tables.proofs.OnCalls.Answering.{sweeps_first}
 use Rattle.shared_tables.proofs.calls.SharedTablesTables.live.Goals as goal
 
 pub returns : goal.returns

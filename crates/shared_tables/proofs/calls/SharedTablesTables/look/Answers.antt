@@ -4,7 +4,7 @@ use Rattle.filter_db.specs.Segment.{Segment}
 use Rattle.shared_tables.specs.Pool.{entry_at, IfHeld}
 use Rattle.shared_tables.specs.Threads.{IsHeld}
 use Rattle.shared_tables.specs.Shared.{Shared, Lacks, live_place, span_of, rule_at}
-use Rattle.shared_tables.proofs.CallLemmas.{Begins, looks, own_is, span_is, look_found, look_none}
+use Rattle.shared_tables.proofs.OnCalls.CallLemmas.{Begins, looks, own_is, span_is, look_found, look_none}
 use Rattle.shared_tables.proofs.calls.SharedTablesTables.look.Goals as goal
 
 pub returns-in-Some-clause-answer : goal.returns-in-Some-clause-answer

@@ -1,11 +1,11 @@
 use Rattle.std.proofs.Common.{sym, ap, ◌∙◌, subst}
 use Rattle.filter_db.specs.Segment.{adjusted, set_ageing_in}
 use Rattle.shared_tables.specs.Segments.{segments_of}
-use Rattle.shared_tables.proofs.CallLemmas.{changes}
-use Rattle.shared_tables.proofs.SegmentsLemmas.{seconds_segments}
-use Rattle.shared_tables.proofs.WorkLemmas.{Visits, visits_of}
-use Rattle.shared_tables.proofs.Steps.{leaves, ruled_step}
-use Rattle.shared_tables.proofs.Answering.{sweeps_first}
+use Rattle.shared_tables.proofs.OnCalls.CallLemmas.{changes}
+use Rattle.shared_tables.proofs.OnCalls.SegmentsLemmas.{seconds_segments}
+use Rattle.shared_tables.proofs.OnCalls.WorkLemmas.{Visits, visits_of}
+use Rattle.shared_tables.proofs.OnCalls.Steps.{leaves, ruled_step}
+use Rattle.shared_tables.proofs.OnCalls.Answering.{sweeps_first}
 use Rattle.shared_tables.proofs.calls.SharedTablesTables.set_ageing.Goals as goal
 
 pub returns : goal.returns

@@ -1,7 +1,7 @@
 use Rattle.std.proofs.Common.{refl, sym, ◌∙◌}
 use Rattle.std.proofs.lemmas.Bool.{false≢true}
-use Rattle.shared_tables.proofs.CallLemmas.{finds, misses}
-use Rattle.shared_tables.proofs.Answering.{unfixes, unfixes_learned, unfixes_none}
+use Rattle.shared_tables.proofs.OnCalls.CallLemmas.{finds, misses}
+use Rattle.shared_tables.proofs.OnCalls.Answering.{unfixes, unfixes_learned, unfixes_none}
 use Rattle.shared_tables.proofs.calls.SharedTablesTables.unfix.Goals as goal
 
 pub returns-in-Some : goal.returns-in-Some

@@ -2,7 +2,7 @@ use Rattle.std.proofs.Common.{◌≡◌, ℕ, ◌+◌, ◌*◌, ◌++◌, List, 
 use Rattle.std.specs.List.{range_with_len}
 use Rattle.std.proofs.lemmas.List.{append_assoc, length-replicate}
 use Rattle.std.proofs.lemmas.List.FromFn.{length-range_with_len}
-use Rattle.shared_tables.proofs.ColumnsLemmas.{split, parts}
+use Rattle.shared_tables.proofs.OnTrees.ColumnsLemmas.{split, parts}
 use Rattle.shared_tables.proofs.columns.Columns.new.Goals as goal
 
 pub fill-requires-2 : goal.fill-requires-2

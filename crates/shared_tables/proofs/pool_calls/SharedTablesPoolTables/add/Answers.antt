@@ -1,8 +1,8 @@
 use Rattle.std.proofs.Common.{length, ap, ◌∙◌, arith}
 use Rattle.filter_db.specs.Standing.{added}
-use Rattle.shared_tables.proofs.CallLemmas.{Begins, begins_plain}
-use Rattle.shared_tables.proofs.SegmentsLemmas.{begun}
-use Rattle.shared_tables.proofs.StandingLemmas.{rules_limits}
+use Rattle.shared_tables.proofs.OnCalls.CallLemmas.{Begins, begins_plain}
+use Rattle.shared_tables.proofs.OnCalls.SegmentsLemmas.{begun}
+use Rattle.shared_tables.proofs.OnCalls.StandingLemmas.{rules_limits}
 use Rattle.shared_tables.proofs.pool_calls.SharedTablesPoolTables.add.Goals as goal
 
 pub begin_share-requires-clause-room : goal.begin_share-requires-clause-room

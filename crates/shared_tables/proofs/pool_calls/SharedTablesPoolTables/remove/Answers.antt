@@ -1,10 +1,10 @@
 use Rattle.std.proofs.Common.{ap, ◌∙◌}
 use Rattle.filter_db.specs.Standing.{removed}
 use Rattle.shared_tables.specs.Segments.{segments_of}
-use Rattle.shared_tables.proofs.CallLemmas.{Begins, begins_plain}
-use Rattle.shared_tables.proofs.SegmentsLemmas.{begun}
-use Rattle.shared_tables.proofs.StandingLemmas.{cleared, empty_segments, emptied_none, removed-adjusted}
-use Rattle.shared_tables.proofs.Steps.{leaves, drop_step, ruled_step}
+use Rattle.shared_tables.proofs.OnCalls.CallLemmas.{Begins, begins_plain}
+use Rattle.shared_tables.proofs.OnCalls.SegmentsLemmas.{begun}
+use Rattle.shared_tables.proofs.OnCalls.StandingLemmas.{cleared, empty_segments, emptied_none, removed-adjusted}
+use Rattle.shared_tables.proofs.OnCalls.Steps.{leaves, drop_step, ruled_step}
 use Rattle.shared_tables.proofs.pool_calls.SharedTablesPoolTables.remove.Goals as goal
 
 pub end_share-requires : goal.end_share-requires

@@ -4,12 +4,12 @@ use Rattle.filter_db.specs.Segment.{Segment, segment_at, adjusted}
 use Rattle.filter_db.specs.Standing.{set_limit_in}
 use Rattle.shared_tables.specs.Shared.{Shared, kept_count}
 use Rattle.shared_tables.specs.Segments.{segments_of}
-use Rattle.shared_tables.proofs.CallLemmas.{changes}
-use Rattle.shared_tables.proofs.SegmentsLemmas.{own_segment, sweep_segments, swept_len, swept_unique}
-use Rattle.shared_tables.proofs.StandingLemmas.{Fits_in, fit_few, fit_rules, fit_size, fit_segments, rules_limits, rules_limit}
-use Rattle.shared_tables.proofs.WorkLemmas.{Visits, visits_of}
-use Rattle.shared_tables.proofs.Steps.{leaves, fit_step, fit_visits, ruled_step}
-use Rattle.shared_tables.proofs.Answering.{sweeps_first}
+use Rattle.shared_tables.proofs.OnCalls.CallLemmas.{changes}
+use Rattle.shared_tables.proofs.OnCalls.SegmentsLemmas.{own_segment, sweep_segments, swept_len, swept_unique}
+use Rattle.shared_tables.proofs.OnCalls.StandingLemmas.{Fits_in, fit_few, fit_rules, fit_size, fit_segments, rules_limits, rules_limit}
+use Rattle.shared_tables.proofs.OnCalls.WorkLemmas.{Visits, visits_of}
+use Rattle.shared_tables.proofs.OnCalls.Steps.{leaves, fit_step, fit_visits, ruled_step}
+use Rattle.shared_tables.proofs.OnCalls.Answering.{sweeps_first}
 use Rattle.shared_tables.proofs.pool_calls.SharedTablesPoolTables.set_limit.Goals as goal
 
 pub set_most-requires-clause-few : goal.set_most-requires-clause-few

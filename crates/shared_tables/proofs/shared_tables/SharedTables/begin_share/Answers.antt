@@ -5,8 +5,8 @@ use Rattle.shared_tables.specs.declared.share.Share.{Share}
 use Rattle.shared_tables.specs.Shared.{Shared, rule_at}
 use Rattle.shared_tables.specs.Sound.{share_at, share_limit}
 use Rattle.shared_tables.specs.Segments.{segments_of}
-use Rattle.shared_tables.proofs.SoundLemmas.{sound_at}
-use Rattle.shared_tables.proofs.StandingLemmas.{shared_by, limits_are, no_share, absent_none, begin_sound, begun_share}
+use Rattle.shared_tables.proofs.OnEntries.SoundLemmas.{sound_at}
+use Rattle.shared_tables.proofs.OnCalls.StandingLemmas.{shared_by, limits_are, no_share, absent_none, begin_sound, begun_share}
 use Rattle.shared_tables.proofs.shared_tables.SharedTables.begin_share.Goals as goal
 
 pub invariant_of-self : goal.invariant_of-self
@@ -17,7 +17,7 @@ invariant_of-self c =
     let wanted = subst (λ (w : Shared). sum_of_limits (segments_of w) + rule.limit ≤ length w.entries) (sym c.self.view_is) c.requires.room in
     let room : sum_by share_limit i.shares.items + rule.limit ≤ length i.slots.entries =
     omega (arith, wanted, limits_are i.slots.entries i.shares.items i.moment i.calls.total i.compared.total i.slots.visited c.self.invariant.sound.shares_length) in
-    record { sound = sound_at i.moment refl refl c.open_share.ensures.items (begin_sound i.slots.entries i.slots.lines i.shares.items i.moment rule.vid lt c.self.invariant.sound rule c.requires.some_time absent room); forest = c.self.invariant.forest }
+    record { sound = sound_at i.moment refl refl c.open_share.ensures.items (begin_sound i.slots.entries i.slots.lines i.shares.items i.moment rule.vid lt c.self.invariant.sound rule c.requires.some_time absent room); trees = c.self.invariant.trees }
 
 pub returns-clause-segments : goal.returns-clause-segments
 returns-clause-segments c =

@@ -1,4 +1,4 @@
-use Rattle.shared_tables.proofs.SoundLemmas.{orderly}
+use Rattle.shared_tables.proofs.OnEntries.SoundLemmas.{orderly}
 use Rattle.shared_tables.proofs.shared_tables.SharedTables.count_call.Goals as goal
 
 pub returns-clause-orderly : goal.returns-clause-orderly

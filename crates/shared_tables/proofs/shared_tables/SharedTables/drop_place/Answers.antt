@@ -3,10 +3,10 @@ use Rattle.shared_tables.specs.declared.links.Links.{Links}
 use Rattle.shared_tables.specs.declared.shared_tables.SharedTables.TheInside.{Inside}
 use Rattle.shared_tables.specs.Shared.{Shared, DropsAll}
 use Rattle.shared_tables.specs.SharedInside.{shared_of}
-use Rattle.shared_tables.proofs.Dropping.{threaded}
-use Rattle.shared_tables.proofs.Uprooting.{may_go}
-use Rattle.shared_tables.proofs.Passing.{Passes, seen_there, pass_starts, pass_held, pass_stays, pass_keep, pass_drop, pass_none, pass_ends, pass_at, pass_stands}
-use Rattle.shared_tables.proofs.SoundLemmas.{share_read}
+use Rattle.shared_tables.proofs.OnEntries.Dropping.{threaded}
+use Rattle.shared_tables.proofs.OnTrees.Uprooting.{may_go}
+use Rattle.shared_tables.proofs.OnEntries.Passing.{Passes, seen_there, pass_starts, pass_held, pass_stays, pass_keep, pass_drop, pass_none, pass_ends, pass_at, pass_stands}
+use Rattle.shared_tables.proofs.OnEntries.SoundLemmas.{share_read}
 use Rattle.shared_tables.proofs.shared_tables.SharedTables.drop_place.Goals as goal
 use Rattle.shared_tables.proofs.shared_tables.SharedTables.drop_place.Goals.{in-Some-slot+then-is_same, in-Some-slot+else-is_same, in_default-slot}
 
@@ -14,7 +14,7 @@ pub loop-entry-init : goal.loop-entry-init
 loop-entry-init c =
     let i = c.self.inside in
     record {
-      passes = pass_starts i.slots i.forest i.shares.items i.moment c.args.vid c.args.place c.in-Some.share c.self.invariant.sound c.self.invariant.forest (share_read _ _ c.args.vid c.share_at.result c.in-Some.share c.deref.ensures.value c.share_at.ensures c.in-Some.is);
+      passes = pass_starts i.slots i.trees i.shares.items i.moment c.args.vid c.args.place c.in-Some.share c.self.invariant.sound c.self.invariant.trees (share_read _ _ c.args.vid c.share_at.result c.in-Some.share c.deref.ensures.value c.share_at.ensures c.in-Some.is);
       moment = refl;
       calls = refl;
       compared = refl;
@@ -23,52 +23,52 @@ loop-entry-init c =
 pub links-cursor-requires : goal.links-cursor-requires
 links-cursor-requires c =
     let now = c.loop-entry.self-inside in let slot = c.in-Some-slot.slot in let count = c.in-Some.share.count in
-    let w = subst (λ (o : Option ℕ). Passes c.self.inside.slots now.slots now.forest c.self.inside.shares.items now.shares.items now.moment c.args.vid c.args.place o c.loop-entry._entry count) (sym c.slot.ensures ∙ c.in-Some-slot.is) c.loop-entry.invariant.passes in
-    let held = pass_held c.self.inside.slots now.slots now.forest c.self.inside.shares.items now.shares.items now.moment c.args.vid c.args.place slot c.loop-entry._entry count w in
+    let w = subst (λ (o : Option ℕ). Passes c.self.inside.slots now.slots now.trees c.self.inside.shares.items now.shares.items now.moment c.args.vid c.args.place o c.loop-entry._entry count) (sym c.slot.ensures ∙ c.in-Some-slot.is) c.loop-entry.invariant.passes in
+    let held = pass_held c.self.inside.slots now.slots now.trees c.self.inside.shares.items now.shares.items now.moment c.args.vid c.args.place slot c.loop-entry._entry count w in
     record { in_pool = held.in_pool; held = held.held }
 
 pub place-requires : goal.place-requires
 place-requires c =
     let now = c.loop-entry.self-inside in let slot = c.in-Some-slot.slot in let count = c.in-Some.share.count in
-    let w = subst (λ (o : Option ℕ). Passes c.self.inside.slots now.slots now.forest c.self.inside.shares.items now.shares.items now.moment c.args.vid c.args.place o c.loop-entry._entry count) (sym c.slot.ensures ∙ c.in-Some-slot.is) c.loop-entry.invariant.passes in
-    let held = pass_held c.self.inside.slots now.slots now.forest c.self.inside.shares.items now.shares.items now.moment c.args.vid c.args.place slot c.loop-entry._entry count w in
+    let w = subst (λ (o : Option ℕ). Passes c.self.inside.slots now.slots now.trees c.self.inside.shares.items now.shares.items now.moment c.args.vid c.args.place o c.loop-entry._entry count) (sym c.slot.ensures ∙ c.in-Some-slot.is) c.loop-entry.invariant.passes in
+    let held = pass_held c.self.inside.slots now.slots now.trees c.self.inside.shares.items now.shares.items now.moment c.args.vid c.args.place slot c.loop-entry._entry count w in
     record { in_pool = held.in_pool; held = held.held }
 
 pub drop_entry-requires : goal.drop_entry-requires
 drop_entry-requires c =
     let now = c.loop-entry.self-inside in let slot = c.in-Some-slot.slot in let count = c.in-Some.share.count in
-    let w = subst (λ (o : Option ℕ). Passes c.self.inside.slots now.slots now.forest c.self.inside.shares.items now.shares.items now.moment c.args.vid c.args.place o c.loop-entry._entry count) (sym c.slot.ensures ∙ c.in-Some-slot.is) c.loop-entry.invariant.passes in
-    let own = pass_stays c.self.inside.slots now.slots now.forest c.self.inside.shares.items now.shares.items now.moment c.args.vid c.args.place slot c.loop-entry._entry count w in
-    let k = threaded now.slots.entries now.slots.lines now.shares.items now.moment w.sound c.args.vid slot (pass_stays c.self.inside.slots now.slots now.forest c.self.inside.shares.items now.shares.items now.moment c.args.vid c.args.place slot c.loop-entry._entry count w) in
-    record { held = k.held; line_previous = k.line_previous; line_next = k.line_next; sizes = w.trees.sizes; may_go = may_go now.slots.entries now.forest w.trees own.entry slot own.at_slot; shares = omega (arith, w.sound.shares_length, now.shares.ok.0); counted = k.counted }
+    let w = subst (λ (o : Option ℕ). Passes c.self.inside.slots now.slots now.trees c.self.inside.shares.items now.shares.items now.moment c.args.vid c.args.place o c.loop-entry._entry count) (sym c.slot.ensures ∙ c.in-Some-slot.is) c.loop-entry.invariant.passes in
+    let own = pass_stays c.self.inside.slots now.slots now.trees c.self.inside.shares.items now.shares.items now.moment c.args.vid c.args.place slot c.loop-entry._entry count w in
+    let k = threaded now.slots.entries now.slots.lines now.shares.items now.moment w.sound c.args.vid slot (pass_stays c.self.inside.slots now.slots now.trees c.self.inside.shares.items now.shares.items now.moment c.args.vid c.args.place slot c.loop-entry._entry count w) in
+    record { held = k.held; line_previous = k.line_previous; line_next = k.line_next; sizes = w.grown.sizes; may_go = may_go now.slots.entries now.trees w.grown own.entry slot own.at_slot; shares = omega (arith, w.sound.shares_length, now.shares.ok.0); counted = k.counted }
 
 pub loop-entry-preserved : goal.loop-entry-preserved
 loop-entry-preserved c = elim c.match-slot.branch [
   | in-Some-slot+then-is_same w ↦
       let now = c.loop-entry.self-inside in let slot = w.in-Some-slot.slot in let count = c.in-Some.share.count in
-      let p = subst (λ (o : Option ℕ). Passes c.self.inside.slots now.slots now.forest c.self.inside.shares.items now.shares.items now.moment c.args.vid c.args.place o c.loop-entry._entry count) (sym c.slot.ensures ∙ w.in-Some-slot.is) c.loop-entry.invariant.passes in
-      let stands = pass_stands c.self.inside.slots now.slots now.forest c.self.inside.shares.items now.shares.items now.moment c.args.vid c.args.place slot c.loop-entry._entry count p w.place.result w.is_same.result w.place.ensures w.is_same.ensures in
+      let p = subst (λ (o : Option ℕ). Passes c.self.inside.slots now.slots now.trees c.self.inside.shares.items now.shares.items now.moment c.args.vid c.args.place o c.loop-entry._entry count) (sym c.slot.ensures ∙ w.in-Some-slot.is) c.loop-entry.invariant.passes in
+      let stands = pass_stands c.self.inside.slots now.slots now.trees c.self.inside.shares.items now.shares.items now.moment c.args.vid c.args.place slot c.loop-entry._entry count p w.place.result w.is_same.result w.place.ensures w.is_same.ensures in
       record {
-        passes = pass_at c.self.inside.slots c.self.inside.shares.items c.args.vid c.args.place c.match-slot.self-inside _ _ _ _ count (w.cursor-is ∙ ap (λ (l : Links). l.next) w.links-cursor.ensures) w.self-inside-is (pass_drop c.self.inside.slots now.slots now.forest c.self.inside.shares.items now.shares.items now.moment c.args.vid c.args.place slot c.loop-entry._entry count p (stands ∙ w.if-is_same.true) w.drop_entry.new.slots w.drop_entry.new.forest w.drop_entry.new.shares.items w.drop_entry.ensures.pool w.drop_entry.ensures.forest w.drop_entry.ensures.shares);
+        passes = pass_at c.self.inside.slots c.self.inside.shares.items c.args.vid c.args.place c.match-slot.self-inside _ _ _ _ count (w.cursor-is ∙ ap (λ (l : Links). l.next) w.links-cursor.ensures) w.self-inside-is (pass_drop c.self.inside.slots now.slots now.trees c.self.inside.shares.items now.shares.items now.moment c.args.vid c.args.place slot c.loop-entry._entry count p (stands ∙ w.if-is_same.true) w.drop_entry.new.slots w.drop_entry.new.trees w.drop_entry.new.shares.items w.drop_entry.ensures.pool w.drop_entry.ensures.trees w.drop_entry.ensures.shares);
         moment = ap (λ (i : Inside). i.moment) w.self-inside-is ∙ c.loop-entry.invariant.moment;
         calls = ap (λ (i : Inside). i.calls.total) w.self-inside-is ∙ c.loop-entry.invariant.calls;
         compared = ap (λ (i : Inside). i.compared.total) w.self-inside-is ∙ c.loop-entry.invariant.compared;
       }
   | in-Some-slot+else-is_same w ↦
       let now = c.loop-entry.self-inside in let slot = w.in-Some-slot.slot in let count = c.in-Some.share.count in
-      let p = subst (λ (o : Option ℕ). Passes c.self.inside.slots now.slots now.forest c.self.inside.shares.items now.shares.items now.moment c.args.vid c.args.place o c.loop-entry._entry count) (sym c.slot.ensures ∙ w.in-Some-slot.is) c.loop-entry.invariant.passes in
-      let stands = pass_stands c.self.inside.slots now.slots now.forest c.self.inside.shares.items now.shares.items now.moment c.args.vid c.args.place slot c.loop-entry._entry count p w.place.result w.is_same.result w.place.ensures w.is_same.ensures in
+      let p = subst (λ (o : Option ℕ). Passes c.self.inside.slots now.slots now.trees c.self.inside.shares.items now.shares.items now.moment c.args.vid c.args.place o c.loop-entry._entry count) (sym c.slot.ensures ∙ w.in-Some-slot.is) c.loop-entry.invariant.passes in
+      let stands = pass_stands c.self.inside.slots now.slots now.trees c.self.inside.shares.items now.shares.items now.moment c.args.vid c.args.place slot c.loop-entry._entry count p w.place.result w.is_same.result w.place.ensures w.is_same.ensures in
       record {
-        passes = pass_at c.self.inside.slots c.self.inside.shares.items c.args.vid c.args.place c.match-slot.self-inside _ _ _ _ count (w.cursor-is ∙ ap (λ (l : Links). l.next) w.links-cursor.ensures) w.self-inside-is (pass_keep c.self.inside.slots now.slots now.forest c.self.inside.shares.items now.shares.items now.moment c.args.vid c.args.place slot c.loop-entry._entry count p (stands ∙ w.if-is_same.false));
+        passes = pass_at c.self.inside.slots c.self.inside.shares.items c.args.vid c.args.place c.match-slot.self-inside _ _ _ _ count (w.cursor-is ∙ ap (λ (l : Links). l.next) w.links-cursor.ensures) w.self-inside-is (pass_keep c.self.inside.slots now.slots now.trees c.self.inside.shares.items now.shares.items now.moment c.args.vid c.args.place slot c.loop-entry._entry count p (stands ∙ w.if-is_same.false));
         moment = ap (λ (i : Inside). i.moment) w.self-inside-is ∙ c.loop-entry.invariant.moment;
         calls = ap (λ (i : Inside). i.calls.total) w.self-inside-is ∙ c.loop-entry.invariant.calls;
         compared = ap (λ (i : Inside). i.compared.total) w.self-inside-is ∙ c.loop-entry.invariant.compared;
       }
   | in_default-slot w ↦
       let now = c.loop-entry.self-inside in let count = c.in-Some.share.count in
-      let p = subst (λ (o : Option ℕ). Passes c.self.inside.slots now.slots now.forest c.self.inside.shares.items now.shares.items now.moment c.args.vid c.args.place o c.loop-entry._entry count) (sym c.slot.ensures ∙ w.in_default-slot.is) c.loop-entry.invariant.passes in
+      let p = subst (λ (o : Option ℕ). Passes c.self.inside.slots now.slots now.trees c.self.inside.shares.items now.shares.items now.moment c.args.vid c.args.place o c.loop-entry._entry count) (sym c.slot.ensures ∙ w.in_default-slot.is) c.loop-entry.invariant.passes in
       record {
-        passes = pass_at c.self.inside.slots c.self.inside.shares.items c.args.vid c.args.place c.match-slot.self-inside _ _ _ _ count (w.cursor-is ∙ sym c.slot.ensures ∙ w.in_default-slot.is) w.self-inside-is (pass_none c.self.inside.slots now.slots now.forest c.self.inside.shares.items now.shares.items now.moment c.args.vid c.args.place c.loop-entry._entry count c.loop-entry-test.true p);
+        passes = pass_at c.self.inside.slots c.self.inside.shares.items c.args.vid c.args.place c.match-slot.self-inside _ _ _ _ count (w.cursor-is ∙ sym c.slot.ensures ∙ w.in_default-slot.is) w.self-inside-is (pass_none c.self.inside.slots now.slots now.trees c.self.inside.shares.items now.shares.items now.moment c.args.vid c.args.place c.loop-entry._entry count c.loop-entry-test.true p);
         moment = ap (λ (i : Inside). i.moment) w.self-inside-is ∙ c.loop-entry.invariant.moment;
         calls = ap (λ (i : Inside). i.calls.total) w.self-inside-is ∙ c.loop-entry.invariant.calls;
         compared = ap (λ (i : Inside). i.compared.total) w.self-inside-is ∙ c.loop-entry.invariant.compared;
@@ -76,12 +76,12 @@ loop-entry-preserved c = elim c.match-slot.branch [
 ]
 
 pub invariant_of-self : goal.invariant_of-self
-invariant_of-self c = record { sound = c.loop-entry.invariant.passes.sound; forest = c.loop-entry.invariant.passes.trees }
+invariant_of-self c = record { sound = c.loop-entry.invariant.passes.sound; trees = c.loop-entry.invariant.passes.grown }
 
 pub returns : goal.returns
 returns c =
     let now = c.loop-entry.self-inside in let w = c.loop-entry.invariant.passes in
-    let all = pass_ends c.self.inside.slots now.slots now.forest c.self.inside.shares.items now.shares.items now.moment c.args.vid c.args.place c.loop-entry.cursor c.loop-entry._entry c.in-Some.share.count (omega arith) w in
+    let all = pass_ends c.self.inside.slots now.slots now.trees c.self.inside.shares.items now.shares.items now.moment c.args.vid c.args.place c.loop-entry.cursor c.loop-entry._entry c.in-Some.share.count (omega arith) w in
     subst (λ (o : Shared). DropsAll o (shared_of now) (seen_there c.args.vid c.args.place)) c.self.view_is (record {
       some = record {
         same = λ i. record { entries = now.slots.entries; rules = w.rules i; moment = c.loop-entry.invariant.moment i; calls = c.loop-entry.invariant.calls i; compared = c.loop-entry.invariant.compared i; visited = w.visited i };

@@ -10,9 +10,9 @@ use Rattle.shared_tables.specs.Segments.{segments_of}
 use Rattle.shared_tables.specs.Shared.{Rule, Shared, rule_at, span_of}
 use Rattle.shared_tables.specs.SharedInside.{shared_of}
 use Rattle.shared_tables.specs.Sound.{rule_of, share_at}
-use Rattle.shared_tables.proofs.Lining.{both_listed}
-use Rattle.shared_tables.proofs.ListingLemmas.{listed, listed_none}
-use Rattle.shared_tables.proofs.SoundLemmas.{rule_is, share_read}
+use Rattle.shared_tables.proofs.OnCalls.Lining.{both_listed}
+use Rattle.shared_tables.proofs.OnCalls.ListingLemmas.{listed, listed_none}
+use Rattle.shared_tables.proofs.OnEntries.SoundLemmas.{rule_is, share_read}
 use Rattle.shared_tables.proofs.shared_tables.SharedTables.entries.Goals as goal
 
 pub returns-in_default : goal.returns-in_default

@@ -6,8 +6,8 @@ use Rattle.shared_tables.specs.declared.share.Share.{Share}
 use Rattle.shared_tables.specs.Listing.{CountsLive}
 use Rattle.shared_tables.specs.Shared.{IsUnique, Shared, rule_at}
 use Rattle.shared_tables.specs.Sound.{rule_of, share_at}
-use Rattle.shared_tables.proofs.Knowing.{count_nowhere, known_count}
-use Rattle.shared_tables.proofs.SoundLemmas.{rule_is, share_read}
+use Rattle.shared_tables.proofs.OnCalls.Knowing.{count_nowhere, known_count}
+use Rattle.shared_tables.proofs.OnEntries.SoundLemmas.{rule_is, share_read}
 use Rattle.shared_tables.proofs.shared_tables.SharedTables.entry_count.Goals as goal
 
 pub live_count-requires : goal.live_count-requires

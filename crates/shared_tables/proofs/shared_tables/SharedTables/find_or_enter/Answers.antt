@@ -4,7 +4,7 @@ use Rattle.shared_tables.specs.Threads.{IsHeld}
 use Rattle.shared_tables.specs.Bucket.{bucket_of, key_bits}
 use Rattle.shared_tables.specs.Shared.{Shared, rule_at, span_of, bucket_count}
 use Rattle.shared_tables.specs.Whole.{seen}
-use Rattle.shared_tables.proofs.Admissions.{some_span, outcome_for, seen_found, share_there}
+use Rattle.shared_tables.proofs.OnEntries.Admissions.{some_span, outcome_for, seen_found, share_there}
 use Rattle.shared_tables.proofs.shared_tables.SharedTables.find_or_enter.Goals as goal
 use Rattle.shared_tables.proofs.shared_tables.SharedTables.find_or_enter.Goals.{then-comes, else-comes}
 
@@ -33,9 +33,9 @@ returns-after-comes-clause-outcome c =
     let lacks = c.in-Missing.ensures.found.0 in
     elim c.if-comes.branch [
       | then-comes w ↦ outcome_for (seen i.slots i.shares.items i.moment i.calls.total counted) c.args.self.now (seen c.admit_in-comes.new.slots c.admit_in-comes.new.shares.items i.moment i.calls.total counted)
-          (record { chain = c.args.chain; beside = c.in-Missing.beside; vid = c.args.vid; mac = c.args.mac.now; place = c.args.place.now; last = c.args.last }) true c.admit_in-comes.result f_is lacks comes w.if-comes.true c.if-comes.result w.result-is
+          (record { tree = c.args.tree; beside = c.in-Missing.beside; vid = c.args.vid; mac = c.args.mac.now; place = c.args.place.now; last = c.args.last }) true c.admit_in-comes.result f_is lacks comes w.if-comes.true c.if-comes.result w.result-is
       | else-comes w ↦ outcome_for (seen i.slots i.shares.items i.moment i.calls.total counted) c.args.self.now (seen c.admit_in-comes.new.slots c.admit_in-comes.new.shares.items i.moment i.calls.total counted)
-          (record { chain = c.args.chain; beside = c.in-Missing.beside; vid = c.args.vid; mac = c.args.mac.now; place = c.args.place.now; last = c.args.last }) false c.admit_in-comes.result f_is lacks comes w.if-comes.false c.if-comes.result w.result-is
+          (record { tree = c.args.tree; beside = c.in-Missing.beside; vid = c.args.vid; mac = c.args.mac.now; place = c.args.place.now; last = c.args.last }) false c.admit_in-comes.result f_is lacks comes w.if-comes.false c.if-comes.result w.result-is
     ]
 
 pub returns-after-comes-clause-counted : goal.returns-after-comes-clause-counted

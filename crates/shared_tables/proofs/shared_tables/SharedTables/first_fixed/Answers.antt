@@ -1,6 +1,6 @@
 use Rattle.shared_tables.specs.Standing.{NoneFixed, IsFixedOf}
-use Rattle.shared_tables.proofs.SoundLemmas.{share_read, first_seen}
-use Rattle.shared_tables.proofs.StandingLemmas.{fixed_if_none, fixed_if_some}
+use Rattle.shared_tables.proofs.OnEntries.SoundLemmas.{share_read, first_seen}
+use Rattle.shared_tables.proofs.OnCalls.StandingLemmas.{fixed_if_none, fixed_if_some}
 use Rattle.shared_tables.proofs.shared_tables.SharedTables.first_fixed.Goals as goal
 
 pub returns-in-Some : goal.returns-in-Some

@@ -1,6 +1,6 @@
 use Rattle.std.proofs.Common.{◌∙◌, ap}
 use Rattle.shared_tables.specs.Shared.{kept_count, Shared}
-use Rattle.shared_tables.proofs.SoundLemmas.{kept_is, share_read}
+use Rattle.shared_tables.proofs.OnEntries.SoundLemmas.{kept_is, share_read}
 use Rattle.shared_tables.proofs.shared_tables.SharedTables.kept.Goals as goal
 
 pub returns : goal.returns

@@ -1,6 +1,6 @@
 use Rattle.shared_tables.specs.Shared.{NoneAges, IsOldest}
-use Rattle.shared_tables.proofs.SoundLemmas.{share_read, first_seen}
-use Rattle.shared_tables.proofs.Sweeping.{oldest_if_none, oldest_if_some}
+use Rattle.shared_tables.proofs.OnEntries.SoundLemmas.{share_read, first_seen}
+use Rattle.shared_tables.proofs.OnEntries.Sweeping.{oldest_if_none, oldest_if_some}
 use Rattle.shared_tables.proofs.shared_tables.SharedTables.oldest.Goals as goal
 
 pub returns : goal.returns

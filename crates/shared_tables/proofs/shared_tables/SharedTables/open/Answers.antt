@@ -4,10 +4,10 @@ use Rattle.shared_tables.specs.Pool.{Pool}
 use Rattle.shared_tables.specs.Shared.{held_count}
 use Rattle.shared_tables.specs.Segments.{segments_of}
 use Rattle.shared_tables.specs.Sound.{rule_of}
-use Rattle.shared_tables.proofs.SoundLemmas.{sound_at}
-use Rattle.shared_tables.proofs.OpenedLemmas.{open_sound, segments_of_opened, none_held}
-use Rattle.shared_tables.specs.Forest.{IsForest}
-use Rattle.shared_tables.proofs.Bare.{bare_forest}
+use Rattle.shared_tables.proofs.OnEntries.SoundLemmas.{sound_at}
+use Rattle.shared_tables.proofs.OnEntries.OpenedLemmas.{open_sound, segments_of_opened, none_held}
+use Rattle.shared_tables.specs.TreesOf.{AreTreesOf}
+use Rattle.shared_tables.proofs.OnTrees.Bare.{bare_trees_of}
 use Rattle.shared_tables.proofs.shared_tables.SharedTables.open.Goals as goal
 
 pub invariant_of-result : goal.invariant_of-result
@@ -15,7 +15,7 @@ invariant_of-result c =
     let pool = c.in_ok-new.ensures in let shares = c.in_ok-open_shares.field-0.items in
     record {
       sound = sound_at 0 (ap (λ (p : Pool). p.entries) pool) (ap (λ (p : Pool). p.lines) pool) refl (open_sound c.args.pool c.args.rules.now shares c.in_ok-open_shares.ensures c.requires.room);
-      forest = subst (λ es. IsForest es c.in_ok-new-2.field-0) (sym (ap (λ (p : Pool). p.entries) pool)) (subst (λ w. IsForest (replicate c.args.pool None) w) (sym c.in_ok-new-2.ensures) (bare_forest c.args.pool c.requires.size));
+      trees = subst (λ es. AreTreesOf es c.in_ok-new-2.field-0) (sym (ap (λ (p : Pool). p.entries) pool)) (subst (λ w. AreTreesOf (replicate c.args.pool None) w) (sym c.in_ok-new-2.ensures) (bare_trees_of c.args.pool c.requires.size));
     }
 
 pub returns : goal.returns

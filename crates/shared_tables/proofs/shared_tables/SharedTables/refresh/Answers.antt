@@ -1,5 +1,5 @@
 use Rattle.std.proofs.Common.{arith}
-use Rattle.shared_tables.proofs.Renewing.{renewable, renewed_whole, renewed_seen}
+use Rattle.shared_tables.proofs.OnEntries.Renewing.{renewable, renewed_whole, renewed_seen}
 use Rattle.shared_tables.proofs.shared_tables.SharedTables.refresh.Goals as goal
 
 pub renew_entry-requires : goal.renew_entry-requires

@@ -3,10 +3,10 @@ use Rattle.std.specs.Option.{option_map}
 use Rattle.shared_tables.specs.Pool.{Pool, entry_at, IfHeld}
 use Rattle.shared_tables.specs.Shared.{Shared, HasRoom, rule_at, kept_count, Lacks}
 use Rattle.shared_tables.specs.Sound.{rule_of}
-use Rattle.shared_tables.proofs.SoundLemmas.{sound_at, same_shared}
-use Rattle.shared_tables.specs.Forest.{IsForest}
-use Rattle.shared_tables.proofs.Uprooting.{may_go, uproot_forest}
-use Rattle.shared_tables.proofs.Dropping.{stays_inside, threaded, drop_sound, drop_rules, drop_room, drop_lacks}
+use Rattle.shared_tables.proofs.OnEntries.SoundLemmas.{sound_at, same_shared}
+use Rattle.shared_tables.specs.TreesOf.{AreTreesOf}
+use Rattle.shared_tables.proofs.OnTrees.Uprooting.{may_go, uproot_trees}
+use Rattle.shared_tables.proofs.OnEntries.Dropping.{stays_inside, threaded, drop_sound, drop_rules, drop_room, drop_lacks}
 use Rattle.shared_tables.proofs.shared_tables.SharedTables.release.Goals as goal
 
 pub drop_entry-requires : goal.drop_entry-requires
@@ -14,7 +14,7 @@ drop_entry-requires c =
     let i = c.self.inside in let h = c.self.invariant in let s = c.args.slot in let v = c.args.vid in
     let k = threaded i.slots.entries i.slots.lines i.shares.items i.moment h.sound v s (stays_inside i c.args.self.now v s c.self.view_is c.requires.held c.requires.rule) in
     let own = stays_inside i c.args.self.now v s c.self.view_is c.requires.held c.requires.rule in
-    record { held = k.held; line_previous = k.line_previous; line_next = k.line_next; sizes = h.forest.sizes; may_go = may_go i.slots.entries i.forest h.forest own.entry s own.at_slot; shares = omega (arith, h.sound.shares_length, i.shares.ok.0); counted = k.counted }
+    record { held = k.held; line_previous = k.line_previous; line_next = k.line_next; sizes = h.trees.sizes; may_go = may_go i.slots.entries i.trees h.trees own.entry s own.at_slot; shares = omega (arith, h.sound.shares_length, i.shares.ok.0); counted = k.counted }
 
 pub invariant_of-self : goal.invariant_of-self
 invariant_of-self c =
@@ -23,7 +23,7 @@ invariant_of-self c =
     let es : c.drop_entry.new.slots.entries ≡ set i.slots.entries s None = ap (λ (p : Pool). p.entries) pool in
     record {
       sound = sound_at i.moment es (ap (λ (p : Pool). p.lines) pool) c.drop_entry.ensures.shares (drop_sound i.slots.entries i.slots.lines i.shares.items i.moment c.self.invariant.sound v s own);
-      forest = subst (λ xs. IsForest xs c.drop_entry.new.forest) (sym es) (uproot_forest i.slots.entries i.forest c.drop_entry.new.forest c.self.invariant.forest own.entry s own.at_slot c.drop_entry.ensures.forest);
+      trees = subst (λ xs. AreTreesOf xs c.drop_entry.new.trees) (sym es) (uproot_trees i.slots.entries i.trees c.drop_entry.new.trees c.self.invariant.trees own.entry s own.at_slot c.drop_entry.ensures.trees);
     }
 
 pub returns : goal.returns

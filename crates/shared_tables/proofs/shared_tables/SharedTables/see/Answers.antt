@@ -6,7 +6,7 @@ use Rattle.shared_tables.specs.Threads.{HoldsAny, moved}
 use Rattle.shared_tables.specs.Shared.{Shared}
 use Rattle.shared_tables.specs.SharedInside.{shared_of}
 use Rattle.shared_tables.specs.Sound.{share_at, shares_moved, last_left, HasEndsLeft}
-use Rattle.shared_tables.proofs.Renewing.{renewable, renewed_whole, renewed_seen}
+use Rattle.shared_tables.proofs.OnEntries.Renewing.{renewable, renewed_whole, renewed_seen}
 use Rattle.shared_tables.proofs.shared_tables.SharedTables.see.Goals as goal
 
 -- the entry was learned

@@ -7,8 +7,8 @@ use Rattle.shared_tables.specs.Shared.{Shared, kept_count}
 use Rattle.shared_tables.specs.Sound.{share_at, share_limit}
 use Rattle.shared_tables.specs.Segments.{segments_of}
 use Rattle.shared_tables.specs.Standing.{with_limit}
-use Rattle.shared_tables.proofs.SoundLemmas.{sound_at, share_read}
-use Rattle.shared_tables.proofs.StandingLemmas.{shared_by, limits_are, limit_at, limit_sound, limited_share}
+use Rattle.shared_tables.proofs.OnEntries.SoundLemmas.{sound_at, share_read}
+use Rattle.shared_tables.proofs.OnCalls.StandingLemmas.{shared_by, limits_are, limit_at, limit_sound, limited_share}
 use Rattle.shared_tables.proofs.shared_tables.SharedTables.set_most.Goals as goal
 
 pub invariant_of-self : goal.invariant_of-self
@@ -19,7 +19,7 @@ invariant_of-self c =
     let wanted = subst (λ (w : Shared). sum_of_limits (segments_of w) + limit ≤ length w.entries + (segment_at v (segments_of w)).limit) (sym c.self.view_is) c.requires.room in
     let room : sum_by share_limit i.shares.items + limit ≤ length i.slots.entries + share.limit =
     omega (arith, wanted, limits_are i.slots.entries i.shares.items i.moment i.calls.total i.compared.total i.slots.visited c.self.invariant.sound.shares_length, limit_at i.slots.entries i.shares.items i.moment i.calls.total i.compared.total i.slots.visited v share here) in
-    record { sound = sound_at i.moment refl refl c.set_share.ensures.items (limit_sound i.slots.entries i.slots.lines i.shares.items i.moment v lt c.self.invariant.sound share limit here (subst (λ (w : Shared). kept_count v w.entries ≤ limit) (sym c.self.view_is) c.requires.few) room); forest = c.self.invariant.forest }
+    record { sound = sound_at i.moment refl refl c.set_share.ensures.items (limit_sound i.slots.entries i.slots.lines i.shares.items i.moment v lt c.self.invariant.sound share limit here (subst (λ (w : Shared). kept_count v w.entries ≤ limit) (sym c.self.view_is) c.requires.few) room); trees = c.self.invariant.trees }
 
 pub returns-in-Some-clause-segments : goal.returns-in-Some-clause-segments
 returns-in-Some-clause-segments c =

@@ -4,7 +4,7 @@ use Rattle.filter_db.specs.Standing.{segment_count}
 use Rattle.shared_tables.specs.Shared.{Shared}
 use Rattle.shared_tables.specs.Segments.{segments_of}
 use Rattle.shared_tables.specs.Standing.{one_there}
-use Rattle.shared_tables.proofs.StandingLemmas.{count_is, few_there}
+use Rattle.shared_tables.proofs.OnCalls.StandingLemmas.{count_is, few_there}
 use Rattle.shared_tables.proofs.shared_tables.SharedTables.shares_there.Goals as goal
 
 pub segment_count-requires : goal.segment_count-requires

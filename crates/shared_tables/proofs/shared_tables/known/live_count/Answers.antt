@@ -1,8 +1,7 @@
 use Rattle.std.proofs.Common.{ℕ, ◌-◌, is_some, Option, sym, ap, ◌∙◌, subst, arith}
 use Rattle.shared_tables.specs.declared.links.Links.{Links}
-use Rattle.shared_tables.specs.Listing.{CountsLive, live_row}
-use Rattle.shared_tables.specs.Pool.{entry_at}
-use Rattle.shared_tables.proofs.Counting.{Counts, count_starts, count_on, count_some, count_all, count_ends, count_lives, walk_held}
+use Rattle.shared_tables.specs.Listing.{CountsLive}
+use Rattle.shared_tables.proofs.OnCalls.Counting.{Counts, count_starts, count_on, count_some, count_all, count_ends, count_lives, walk_held}
 use Rattle.shared_tables.proofs.shared_tables.known.live_count.Goals as goal
 
 pub loop-entry-init : goal.loop-entry-init

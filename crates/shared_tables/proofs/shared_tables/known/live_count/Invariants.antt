@@ -1,4 +1,4 @@
-use Rattle.shared_tables.proofs.Counting.{Counts}
+use Rattle.shared_tables.proofs.OnCalls.Counting.{Counts}
 use Rattle.shared_tables.proofs.shared_tables.known.live_count.Given as goal
 
 -- the walk is at the cursor, what it passed is dead, and the rest is counted

@@ -1,6 +1,6 @@
 use Rattle.std.proofs.Common.{rules}
 use Rattle.std.proofs.lemmas.List.Sorted.{answers_always}
-use Rattle.shared_tables.proofs.ListingLemmas.{ordered}
+use Rattle.shared_tables.proofs.OnCalls.ListingLemmas.{ordered}
 use Rattle.shared_tables.proofs.shared_tables.listing.put_in_order.Goals as goal
 
 pub returns : goal.returns

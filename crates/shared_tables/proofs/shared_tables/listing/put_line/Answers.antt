@@ -1,7 +1,7 @@
 use Rattle.std.proofs.Common.{◌*◌, ℕ, Option, sym, ap, ◌∙◌, subst, arith}
 use Rattle.shared_tables.specs.declared.links.Links.{Links}
 use Rattle.shared_tables.specs.Listing.{ListsLine}
-use Rattle.shared_tables.proofs.Lining.{Lists, list_starts, list_held, list_on, list_ends, list_all}
+use Rattle.shared_tables.proofs.OnCalls.Lining.{Lists, list_starts, list_held, list_on, list_ends, list_all}
 use Rattle.shared_tables.proofs.shared_tables.listing.put_line.Goals as goal
 
 pub loop-entry-init : goal.loop-entry-init

@@ -1,4 +1,4 @@
-use Rattle.shared_tables.proofs.Lining.{Lists}
+use Rattle.shared_tables.proofs.OnCalls.Lining.{Lists}
 use Rattle.shared_tables.proofs.shared_tables.listing.put_line.Given as goal
 
 -- the walk is at the cursor, and what it passed is listed

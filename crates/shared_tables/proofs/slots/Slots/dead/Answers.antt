@@ -1,6 +1,6 @@
 use Rattle.std.proofs.Common.{Option, ◌∙◌, ap, arith}
 use Rattle.shared_tables.specs.Pool.{Held, is_dead_in}
-use Rattle.shared_tables.proofs.SlotsLemmas.{made, own_entry}
+use Rattle.shared_tables.proofs.OnEntries.SlotsLemmas.{made, own_entry}
 use Rattle.shared_tables.proofs.slots.Slots.dead.Goals as goal
 
 pub index-requires : goal.index-requires

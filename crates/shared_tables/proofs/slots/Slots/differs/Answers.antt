@@ -1,11 +1,11 @@
 use Rattle.std.proofs.Common.{◌≡◌, ◌+◌, Option, ◌∙◌, ap, subst, arith}
 use Rattle.std.specs.Int.{bit_at}
 use Rattle.shared_tables.specs.Bucket.{vid_in, mac_in}
-use Rattle.shared_tables.specs.Forest.{key_in}
+use Rattle.shared_tables.specs.TreesOf.{key_in}
 use Rattle.shared_tables.specs.Slots.{entry_in}
 use Rattle.shared_tables.specs.Pool.{Held, IfHeld}
-use Rattle.shared_tables.proofs.Parting.{if_none, if_some}
-use Rattle.shared_tables.proofs.SlotsLemmas.{made, own_entry, own_some}
+use Rattle.shared_tables.proofs.OnTrees.Parting.{if_none, if_some}
+use Rattle.shared_tables.proofs.OnEntries.SlotsLemmas.{made, own_entry, own_some}
 use Rattle.shared_tables.proofs.slots.Slots.differs.Goals as goal
 
 pub index-requires : goal.index-requires

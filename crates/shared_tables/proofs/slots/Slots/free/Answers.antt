@@ -2,7 +2,7 @@ use Rattle.std.proofs.Common.{◌≡◌, ℕ, set, Option, List, Some, ap, sym, 
 use Rattle.shared_tables.specs.declared.slots.Slot.{Slot}
 use Rattle.shared_tables.specs.Pool.{freed}
 use Rattle.shared_tables.specs.Slots.{all_slots, pool_with, IsFreeAll}
-use Rattle.shared_tables.proofs.SlotsLemmas.{all-set, forth, frees, made, made_still, own_held, pool-freed}
+use Rattle.shared_tables.proofs.OnEntries.SlotsLemmas.{all-set, forth, frees, made, made_still, own_held, pool-freed}
 use Rattle.shared_tables.proofs.slots.Slots.free.Goals as goal
 
 pub index_mut-requires : goal.index_mut-requires

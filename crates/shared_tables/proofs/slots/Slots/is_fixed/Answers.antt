@@ -1,6 +1,6 @@
 use Rattle.std.proofs.Common.{◌∙◌, ap, arith}
 use Rattle.shared_tables.specs.Pool.{is_fixed_in}
-use Rattle.shared_tables.proofs.SlotsLemmas.{made, own_entry}
+use Rattle.shared_tables.proofs.OnEntries.SlotsLemmas.{made, own_entry}
 use Rattle.shared_tables.proofs.slots.Slots.is_fixed.Goals as goal
 
 pub index-requires : goal.index-requires

@@ -1,5 +1,5 @@
 use Rattle.std.proofs.Common.{◌∙◌, arith}
-use Rattle.shared_tables.proofs.SlotsLemmas.{made, own_line}
+use Rattle.shared_tables.proofs.OnEntries.SlotsLemmas.{made, own_line}
 use Rattle.shared_tables.proofs.slots.Slots.links.Goals as goal
 
 pub index-requires : goal.index-requires

@@ -1,7 +1,7 @@
 use Rattle.std.proofs.Common.{Option, ◌∙◌, ap, arith}
 use Rattle.shared_tables.specs.Listing.{live_row}
 use Rattle.shared_tables.specs.Pool.{Held}
-use Rattle.shared_tables.proofs.SlotsLemmas.{made, own_entry}
+use Rattle.shared_tables.proofs.OnEntries.SlotsLemmas.{made, own_entry}
 use Rattle.shared_tables.proofs.slots.Slots.live_row.Goals as goal
 
 pub index-requires : goal.index-requires

@@ -1,7 +1,7 @@
 use Rattle.std.proofs.Common.{List, [], length, None, ◌∙◌, refl, ap, subst, sym, arith}
 use Rattle.shared_tables.specs.declared.slots.Slot.{Slot}
 use Rattle.shared_tables.specs.Slots.{IsFreeAll, all_slots, pool_with}
-use Rattle.shared_tables.proofs.SlotsLemmas.{none_made}
+use Rattle.shared_tables.proofs.OnEntries.SlotsLemmas.{none_made}
 use Rattle.shared_tables.proofs.slots.Slots.new.Goals as goal
 
 pub invariant_of-result : goal.invariant_of-result

@@ -1,7 +1,7 @@
 use Rattle.std.proofs.Common.{◌≡◌, Option, IfSome, refl, subst, arith}
 use Rattle.filter_db.specs.declared.place.Place.{Place}
 use Rattle.shared_tables.specs.Pool.{Held}
-use Rattle.shared_tables.proofs.SlotsLemmas.{made, of_place, own_entry}
+use Rattle.shared_tables.proofs.OnEntries.SlotsLemmas.{made, of_place, own_entry}
 use Rattle.shared_tables.proofs.slots.Slots.place.Goals as goal
 
 pub index-requires : goal.index-requires

@@ -1,5 +1,5 @@
 use Rattle.std.proofs.Common.{arith}
-use Rattle.shared_tables.proofs.SlotsLemmas.{made, own_some, readdressed_free, readdressed_pool}
+use Rattle.shared_tables.proofs.OnEntries.SlotsLemmas.{made, own_some, readdressed_free, readdressed_pool}
 use Rattle.shared_tables.proofs.slots.Slots.readdress.Goals as goal
 
 pub index_mut-requires : goal.index_mut-requires

@@ -1,5 +1,5 @@
 use Rattle.std.proofs.Common.{arith}
-use Rattle.shared_tables.proofs.SlotsLemmas.{made, own_some, renewed_free, renewed_pool}
+use Rattle.shared_tables.proofs.OnEntries.SlotsLemmas.{made, own_some, renewed_free, renewed_pool}
 use Rattle.shared_tables.proofs.slots.Slots.renew.Goals as goal
 
 pub index_mut-requires : goal.index_mut-requires

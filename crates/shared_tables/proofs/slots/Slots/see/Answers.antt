@@ -1,7 +1,7 @@
 use Rattle.std.proofs.Common.{set, Some, ap, ◌∙◌, arith}
 use Rattle.filter_db.specs.declared.place.Place.{Place}
 use Rattle.shared_tables.specs.Pool.{entry_at, is_fixed_in, renewed}
-use Rattle.shared_tables.proofs.SlotsLemmas.{made, own_entry, own_some, renewed_free, renewed_pool, place_read}
+use Rattle.shared_tables.proofs.OnEntries.SlotsLemmas.{made, own_entry, own_some, renewed_free, renewed_pool, place_read}
 use Rattle.shared_tables.proofs.slots.Slots.see.Goals as goal
 
 pub index_mut-requires : goal.index_mut-requires

@@ -1,7 +1,7 @@
 use Rattle.std.proofs.Common.{set, ap, ◌∙◌, arith}
 use Rattle.shared_tables.specs.declared.links.Links.{Links}
 use Rattle.shared_tables.specs.Pool.{links_with}
-use Rattle.shared_tables.proofs.SlotsLemmas.{made, linked_free, linked_pool, own_line}
+use Rattle.shared_tables.proofs.OnEntries.SlotsLemmas.{made, linked_free, linked_pool, own_line}
 use Rattle.shared_tables.proofs.slots.Slots.set_link.Goals as goal
 
 pub index_mut-requires : goal.index_mut-requires

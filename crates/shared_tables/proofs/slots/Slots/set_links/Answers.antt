@@ -1,5 +1,5 @@
 use Rattle.std.proofs.Common.{arith}
-use Rattle.shared_tables.proofs.SlotsLemmas.{made, linked_free, linked_pool}
+use Rattle.shared_tables.proofs.OnEntries.SlotsLemmas.{made, linked_free, linked_pool}
 use Rattle.shared_tables.proofs.slots.Slots.set_links.Goals as goal
 
 pub index_mut-requires : goal.index_mut-requires

@@ -2,7 +2,7 @@ use Rattle.std.proofs.Common.{rules, ◌≡◌, Option, IfSome, subst, arith}
 use Rattle.filter_db.specs.declared.place.Place.{Place}
 use Rattle.filter_db.specs.Place.{same_place}
 use Rattle.shared_tables.specs.Pool.{Held}
-use Rattle.shared_tables.proofs.SlotsLemmas.{made, of_place, own_entry}
+use Rattle.shared_tables.proofs.OnEntries.SlotsLemmas.{made, of_place, own_entry}
 use Rattle.shared_tables.proofs.slots.Slots.stands_at.Goals as goal
 
 pub index-requires : goal.index-requires

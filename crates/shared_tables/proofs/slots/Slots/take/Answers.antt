@@ -3,7 +3,7 @@ use Rattle.std.proofs.lemmas.List.{get_or_read}
 use Rattle.shared_tables.specs.declared.slots.Slot.{Slot}
 use Rattle.shared_tables.specs.Pool.{Pool, Held, entry_at, taken, free_count}
 use Rattle.shared_tables.specs.Slots.{all_slots, pool_with, no_slot, entry_in, IsFreeAll}
-use Rattle.shared_tables.proofs.SlotsLemmas.{all-push, all-set, first_taken, forth, free_in_all, frees_none, has_room, made_still, next_in_all, pool-taken, takes}
+use Rattle.shared_tables.proofs.OnEntries.SlotsLemmas.{all-push, all-set, first_taken, forth, free_in_all, frees_none, has_room, made_still, next_in_all, pool-taken, takes}
 use Rattle.shared_tables.proofs.slots.Slots.take.Goals as goal
 
 pub index-requires : goal.index-requires

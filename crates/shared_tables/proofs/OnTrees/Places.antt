@@ -1,0 +1,108 @@
+-- Where what has a number stands, and that it stands there alone.
+use Rattle.std.proofs.Common.{inl, inr, ◌⊎◌, ◌≡◌, ℕ, ◌<◌, ◌≤◌, true, false, cond, List, Option, nat_lt, refl, sym, ap, ◌∙◌, subst, arith}
+use Rattle.std.proofs.lemmas.Bool.{cases_lt}
+use Rattle.std.proofs.lemmas.Bool.Decides.{nat_tests}
+use Rattle.shared_tables.specs.declared.trees.Target.{Target}
+use Rattle.shared_tables.specs.declared.trees.Target.TheVariants as target
+use Rattle.shared_tables.specs.Pool.{Held, entry_at}
+use Rattle.shared_tables.specs.Line.{is_on}
+use Rattle.shared_tables.specs.Shared.{tree_key}
+use Rattle.shared_tables.specs.Tree.{Tree, Leaf, Fork, leaves, IsTree, descend}
+use Rattle.shared_tables.specs.Trees.{Trees, target_at, number_at, child_of, place_by}
+use Rattle.shared_tables.specs.TreesOf.{IsPlaced, StandsAt, AreTreesOf}
+use Rattle.shared_tables.proofs.OnEntries.Linked.{by_bool}
+use Rattle.shared_tables.proofs.OnTrees.Buckets.{tree_same}
+use Rattle.shared_tables.proofs.OnTrees.TreeLemmas.{same_tree, tree_leaf, only_leaf, other_right, on_left, descend_on}
+use Rattle.shared_tables.proofs.OnTrees.TreesOfLemmas.{leaf_there, fork_stands, some_tree}
+
+-- a small number is that of what stands at a root
+pub place_root : (c n : ℕ) → n < 262144 → place_by c n ≡ c
+unfolding place_by
+place_root c n lt =
+    let yes : nat_lt n 262144 ≡ true = grind (arith, nat_tests, lt) in
+    ap (λ b. cond b c n) yes
+
+-- each other one is a place
+pub place_behind : (c n : ℕ) → 262144 ≤ n → place_by c n ≡ n
+unfolding place_by
+place_behind c n le =
+    let no : nat_lt n 262144 ≡ false = grind (arith, nat_tests, le) in
+    ap (λ b. cond b c n) no
+
+-- a number says a place of a tree
+pub placed : (c p n : ℕ) → (p < 262144 → p ≡ c) → IsPlaced n p → place_by c n ≡ p
+placed c p n home k = from (cases_lt p 262144)
+  where
+    from : (p < 262144) ⊎ (262144 ≤ p) → place_by c n ≡ p
+    from (inl lt) = place_root c n (k.root lt) ∙ sym (home lt)
+    from (inr le) = place_behind c n (omega (arith, le, k.behind le)) ∙ k.behind le
+
+-- a place behind a fork is its own number
+pub placed_child : (p : ℕ) → 262144 ≤ p → IsPlaced p p
+placed_child p le = record { behind = λ _. refl; root = λ lt. absurd (omega (arith, lt, le)) }
+
+-- no other place has its number
+pub placed_alone : (n p q : ℕ) → 262144 ≤ q → IsPlaced n p → IsPlaced n q → p ≡ q
+placed_alone n p q le k j = from (cases_lt p 262144)
+  where
+    from : (p < 262144) ⊎ (262144 ≤ p) → p ≡ q
+    from (inl lt) = absurd (omega (arith, k.root lt, j.behind le, le))
+    from (inr behind) = sym (k.behind behind) ∙ j.behind le
+
+module _ (es : List (Option Held)) (w : Trees) (h : AreTreesOf es w) where
+  abbrev at : ℕ → Target
+  at = target_at w.words
+
+  pub leaf_placed : (p i : ℕ) → at p ≡ target.Leaf i → IsPlaced (number_at w.leaves i) p
+  leaf_placed p i q = (subst (StandsAt es w p) q (h.stands p)).0
+
+  pub fork_placed : (p n b : ℕ) → at p ≡ target.Fork n b → IsPlaced (number_at w.forks n) p
+  fork_placed p n b q = (subst (StandsAt es w p) q (h.stands p)).0
+
+  -- a leaf of a tree stands where its number says
+  pub leaf_place : (i c p : ℕ) (t : Tree) → (p < 262144 → p ≡ c) → IsTree at (at p) t → is_on i (leaves t) ≡ true → at (place_by c (number_at w.leaves i)) ≡ target.Leaf i
+  leaf_place i c p (Leaf j) home k on =
+      let same = only_leaf i j on in
+      ap (λ x. at (place_by c (number_at w.leaves x))) same ∙ ap at (placed c p (number_at w.leaves j) home (leaf_placed p j k)) ∙ k ∙ ap target.Leaf (sym same)
+  leaf_place i c p (Fork n b l r) home k on = by_bool (is_on i (leaves l))
+      (λ yes. leaf_place i c (child_of n 0) l (λ lt. absurd (omega (arith, lt))) k.1 yes)
+      (λ no. leaf_place i c (child_of n 1) r (λ lt. absurd (omega (arith, lt))) k.2 (other_right i n b l r on no))
+
+  -- the root at which a slot stands is that of its tree
+  pub leaf_root : (c p i : ℕ) → tree_key c (entry_at es i) ≡ true → at p ≡ target.Leaf i → p < 262144 → p ≡ c
+  leaf_root c p i keyed q lt =
+      let k = some_tree es w.words p (leaf_there (at p) i q) (h.numbered p lt) in
+      tree_same p c (entry_at es i) (sym (k.members i) ∙ tree_leaf at (at p) i k.tree q k.rooted) keyed
+
+  -- a slot stands at one place
+  pub leaf_alone : (c p i : ℕ) → tree_key c (entry_at es i) ≡ true → at p ≡ target.Leaf i → place_by c (number_at w.leaves i) ≡ p
+  leaf_alone c p i keyed q = placed c p (number_at w.leaves i) (leaf_root c p i keyed q) (leaf_placed p i q)
+
+  -- a fork that stands at two roots has leaves of both trees
+  fork_root : (p q n b d : ℕ) → at p ≡ target.Fork n b → at q ≡ target.Fork n d → p < 262144 → q < 262144 → p ≡ q
+  fork_root p q n b d one two plt qlt =
+      let k = some_tree es w.words p (fork_stands (at p) n b one) (h.numbered p plt) in
+      let j = some_tree es w.words q (fork_stands (at q) n d two) (h.numbered q qlt) in
+      from k.tree j.tree k.rooted j.rooted k.members j.members
+    where
+      from : (t u : Tree) → IsTree at (at p) t → IsTree at (at q) u → ((i : ℕ) → is_on i (leaves t) ≡ tree_key p (entry_at es i)) → ((i : ℕ) → is_on i (leaves u) ≡ tree_key q (entry_at es i)) → p ≡ q
+      from (Leaf i) u k j m o = let bad : target.Fork n b ≡ target.Leaf i = sym one ∙ k in cc
+      from (Fork x a l r) (Leaf i) k j m o = let bad : target.Fork n d ≡ target.Leaf i = sym two ∙ j in cc
+      from (Fork x a l r) (Fork y e l' r') k j m o =
+          let is : target.Fork n b ≡ target.Fork x a = sym one ∙ k.0 in
+          let so : target.Fork n d ≡ target.Fork y e = sym two ∙ j.0 in
+          let same : x ≡ y = cc in
+          let left : l ≡ l' = same_tree at (at (child_of y 0)) l l' (subst (λ z. IsTree at (at (child_of z 0)) l) same k.1) j.1 in
+          let i = descend 0 l in
+          let here : is_on i (leaves (Fork x a l r)) ≡ true = on_left i x a l r (descend_on 0 l) in
+          let there : is_on i (leaves (Fork y e l' r')) ≡ true = on_left i y e l' r' (subst (λ t. is_on i (leaves t) ≡ true) left (descend_on 0 l)) in
+          tree_same p q (entry_at es i) (sym (m i) ∙ here) (sym (o i) ∙ there)
+
+  -- a fork stands at one place
+  pub fork_alone : (p q n b d : ℕ) → at p ≡ target.Fork n b → at q ≡ target.Fork n d → p ≡ q
+  fork_alone p q n b d one two = from (cases_lt p 262144) (cases_lt q 262144)
+    where
+      from : (p < 262144) ⊎ (262144 ≤ p) → (q < 262144) ⊎ (262144 ≤ q) → p ≡ q
+      from (inl plt) (inl qlt) = fork_root p q n b d one two plt qlt
+      from k (inr le) = placed_alone (number_at w.forks n) p q le (fork_placed p n b one) (fork_placed q n d two)
+      from (inr le) (inl qlt) = sym (placed_alone (number_at w.forks n) q p le (fork_placed q n d two) (fork_placed p n b one))

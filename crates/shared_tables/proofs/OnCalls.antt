@@ -9,4 +9,5 @@ pub mod Counting
 pub mod Knowing
 pub mod StandingLemmas
 pub mod Lining
+pub mod Slotwise
 pub mod ListingLemmas

@@ -1,10 +1,11 @@
 -- The live entries of a segment, as the slots have them. It serves proofs.
 use Rattle.std.specs.Prelude.{◌≡◌, ℕ, ◌+◌, ◌&&◌, Bool, true, false, List, ◌++◌, length, map, Option, Some, None, nat_eq, if◌then◌else◌}
 use Rattle.std.specs.List.{filter_map}
+use Rattle.std.specs.FinMap.{from_entries}
 use Rattle.std.specs.Option.{option_map}
 use Rattle.filter_db.specs.declared.entry.Entry.{Entry}
-use Rattle.filter_db.specs.Table.{is_live}
-use Rattle.filter_db.specs.Rows.{Rows}
+use Rattle.filter_db.specs.Table.{is_live, mac_cmp}
+use Rattle.filter_db.specs.Rows.{Rows, AreUnique}
 use Rattle.shared_tables.specs.Line.{IsApart, is_on}
 use Rattle.shared_tables.specs.Pool.{Held, entry_at}
 use Rattle.shared_tables.specs.Shared.{line_key}
@@ -33,6 +34,11 @@ pub record ListsLine (entries : List (Option Held)) (vid : ℕ) (fixed : Bool) (
   pub slots : List ℕ
   pub all : AreSlotsOf entries vid fixed slots
   pub rows : new ≡ old ++ live_rows vid ageing now (map (entry_at entries) slots)
+
+-- rows have each address once, and make the table that the live ones of all slots make
+pub record HasLive (entries : List (Option Held)) (vid ageing now : ℕ) (rows : Rows) : Type 0 where
+  pub unique : AreUnique rows
+  pub table : from_entries {R = mac_cmp} rows ≡ from_entries {R = mac_cmp} (live_rows vid ageing now entries)
 
 -- so many entries of a segment are live, of those of its age queue and the fixed ones together
 pub record CountsLive (entries : List (Option Held)) (vid ageing now told : ℕ) : Type 0 where

@@ -7,7 +7,8 @@
 //! and a free list finds a slot: none of these calls takes memory, and no segment takes a slot that another's limit
 //! promises. Contracts see how often an address was compared with a slot's or sent on by a fork, and how often an entry's
 //! age was told.
-//! [`SharedTables::entries`] lists the live entries of a segment; it takes memory, and is no call of a bridge.
+//! [`SharedTables::entries`] lists the live entries of a segment; it takes memory, and is no call of a bridge. Nor are
+//! [`SharedTables::entry`] and [`SharedTables::entry_count`], which take none.
 #![tactic(auto)]
 
 mod admission;

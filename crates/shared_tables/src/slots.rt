@@ -18,6 +18,8 @@ use work_count::Count;
 
 mod listing;
 
+pub use listing::put_row;
+
 /// What stands in a slot.
 #[derive(Clone, Copy)]
 pub enum Kind {
@@ -248,7 +250,7 @@ impl Slots {
     }
 
     /// The lowest bit in which the key of what a slot holds and another differ; none where they are the same, and it holds
-    /// that address. It is the only way to compare an address with a slot's but for a listing, and counts that.
+    /// that address. It is the only way to compare an address with a slot's, and counts that.
     #[inline(always)]
     pub fn differs(&self, slot: SlotId, key: u64, compared: &mut Count) -> Option<u32>
         requires in_pool { slot < length self.now.entries }
@@ -262,7 +264,7 @@ impl Slots {
     }
 
     /// Whether a slot's entry is dead, under an ageing in nanoseconds. It is the only way to tell an entry's age but
-    /// for a listing.
+    /// for what lists entries or tells one to whoever is lent the tables shared.
     pub fn dead(&mut self, slot: SlotId, ageing: u64, now: u64) -> bool
         requires in_pool { slot < length self.old.entries }
         requires held { IsSome (entry_at self.old.entries slot) }

@@ -12,7 +12,7 @@ use Rattle.filter_db.specs.Table.{mac_cmp, live}
 use Rattle.shared_tables.specs.declared.links.Links.{Links}
 use Rattle.shared_tables.specs.declared.share.Share.{Share}
 use Rattle.shared_tables.specs.Line.{first_of, is_on, IsApart, IsLinked}
-use Rattle.shared_tables.specs.Listing.{live_row, live_rows, AreSlotsOf, ListsLine}
+use Rattle.shared_tables.specs.Listing.{live_row, live_rows, AreSlotsOf, HasLive, ListsLine}
 use Rattle.shared_tables.specs.Pool.{Held, IfHeld, entry_at, links_at}
 use Rattle.shared_tables.specs.Segments.{entry_of, kept_table}
 use Rattle.shared_tables.specs.Shared.{IsUnique, Lacks, line_key, same_bool}
@@ -274,3 +274,12 @@ both_listed es v a t none one both unique empty aged fixed =
       subst AreUnique (sym is) (both_unique es v unique aged.slots fixed.slots aged.all fixed.all a t),
       ap (from_entries {R = mac_cmp}) is ∙ both_table es v unique aged.slots fixed.slots aged.all fixed.all a t,
     )
+
+pub lines_listed : (es : List (Option Held)) (v a t : ℕ) (none one both : Rows) → IsUnique es → none ≡ [] → ListsLine es v false a t none one → ListsLine es v true a t one both → HasLive es v a t both
+lines_listed es v a t none one both unique empty aged fixed = let k = both_listed es v a t none one both unique empty aged fixed in record { unique = k.0; table = k.1 }
+
+-- and of the slots in their order
+pub slots_listed : (es : List (Option Held)) (v a t : ℕ) (none all : Rows) → IsUnique es → none ≡ [] → all ≡ none ++ live_rows v a t es → HasLive es v a t all
+slots_listed es v a t none all unique empty is =
+    let same : all ≡ live_rows v a t es = is ∙ ap (λ (rs : Rows). rs ++ live_rows v a t es) empty in
+    record { unique = subst AreUnique (sym same) (live_unique v a t es unique); table = ap (from_entries {R = mac_cmp}) same }

@@ -10,7 +10,6 @@ use Rattle.shared_tables.specs.Segments.{segments_of}
 use Rattle.shared_tables.specs.Shared.{Rule, Shared, rule_at, span_of}
 use Rattle.shared_tables.specs.SharedInside.{shared_of}
 use Rattle.shared_tables.specs.Sound.{rule_of, share_at}
-use Rattle.shared_tables.proofs.OnCalls.Lining.{both_listed}
 use Rattle.shared_tables.proofs.OnCalls.ListingLemmas.{listed, listed_none}
 use Rattle.shared_tables.proofs.OnEntries.SoundLemmas.{rule_is, share_read}
 use Rattle.shared_tables.proofs.shared_tables.SharedTables.entries.Goals as goal
@@ -22,19 +21,17 @@ returns-in_default c =
     let none = sym (c.share_at.ensures ∙ ap (λ (shares : List (Option Share)). share_at shares v) c.deref.ensures.value) ∙ c.in_default.is in
     c.new.ensures.items ∙ listed_none c.args.self.now v c.args.now (subst (λ (s : Shared). rule_at s.rules v ≡ None) c.self.view_is (get_or-map (option_map rule_of) i.shares.items v None ∙ ap (option_map rule_of) none))
 
-pub put_line-requires : goal.put_line-requires
-put_line-requires c =
+pub put_live-requires : goal.put_live-requires
+put_live-requires c =
     let i = c.self.inside in
-    (i.moment, c.self.invariant.sound.lined c.args.vid c.in-Some.share (share_read _ _ c.args.vid c.share_at.result c.in-Some.share c.deref.ensures.value c.share_at.ensures c.in-Some.is))
-
-pub put_line-requires-2 : goal.put_line-requires-2
-put_line-requires-2 c =
-    let i = c.self.inside in
-    (i.moment, c.self.invariant.sound.lined c.args.vid c.in-Some.share (share_read _ _ c.args.vid c.share_at.result c.in-Some.share c.deref.ensures.value c.share_at.ensures c.in-Some.is))
+    record {
+      lines = (i.moment, c.self.invariant.sound.lined c.args.vid c.in-Some.share (share_read _ _ c.args.vid c.share_at.result c.in-Some.share c.deref.ensures.value c.share_at.ensures c.in-Some.is));
+      unique = c.self.invariant.sound.unique;
+      empty = c.new-rows.ensures.items;
+    }
 
 pub put_in_order-requires : goal.put_in_order-requires
-put_in_order-requires c =
-    (both_listed c.self.inside.slots.entries c.args.vid (nanoseconds c.in-Some.share.ageing) c.args.now _ _ _ c.self.invariant.sound.unique c.new-rows.ensures.items c.in_ok-put_line.ensures c.in_ok-put_line-2.ensures).0
+put_in_order-requires c = c.in_ok-put_live.ensures.unique
 
 pub returns : goal.returns
 returns c =
@@ -44,10 +41,9 @@ returns c =
     let a = nanoseconds share.ageing in
     let t = c.args.now in
     let here = rule_is i.shares.items v share (share_read _ _ v c.share_at.result share c.deref.ensures.value c.share_at.ensures c.in-Some.is) in
-    let both = both_listed i.slots.entries v a t _ _ _ c.self.invariant.sound.unique c.new-rows.ensures.items c.in_ok-put_line.ensures c.in_ok-put_line-2.ensures in
     let le : (shared_of i).moment ≤ t = subst (λ (s : Shared). s.moment ≤ t) (sym c.self.view_is) c.requires in
     c.put_in_order.ensures
-    ∙ ap entries both.1
+    ∙ ap entries c.in_ok-put_live.ensures.table
     ∙ sym (ap (λ (o : Option Rule). entries (from_entries {R = mac_cmp} (live_rows v (span_of o) t i.slots.entries))) here)
     ∙ listed (shared_of i) v t (rule_of share) here c.self.invariant.sound.unique le
     ∙ ap (λ (s : Shared). entries (segment_at v (aged_all t (segments_of s))).entries) c.self.view_is

@@ -352,6 +352,33 @@ sed "s/^\(capture p2 [0-9]*\) .*/\1 $(sha256sum </dev/null | cut -d ' ' -f 1)/" 
 runs lent 16-4094,none --digests "$folder/others" "${whole[@]}"
 refused 1 "part lent: it was made from another capture p2 than the first part" merge --out out one lent
 
+# ---- a capture that grows while a part runs
+
+# The capture of port 1 ends behind its first record, at one second. That of port 3 goes on for ten times as many octets as a
+# pipe and the run's blocks hold, and port 2's output is a pipe: so port 1's capture was read to its end before the first
+# octet of records comes out of the pipe, and the run waits for its reader before its own end.
+head -c 100 examples/port1.pcap >"$folder/short.pcap"
+tail -c +25 examples/port3.pcap >"$folder/records"
+for _ in {1..14}; do
+    cat "$folder/records" "$folder/records" >"$folder/doubled"
+    mv "$folder/doubled" "$folder/records"
+done
+cat <(head -c 24 examples/port3.pcap) "$folder/records" >"$folder/long.pcap"
+growing=("${a[@]}" "$folder/short.pcap" examples/port2.pcap "$folder/long.pcap")
+mkdir "$folder/growing"
+mkfifo "$folder/growing/port2.pcap"
+./tep run --out "$folder/growing" --segments 16-4094,none "${growing[@]}" 2>"$folder/stderr" &
+# shellcheck disable=SC2016
+timeout 60 sh -c '{ head -c 1000 && tail -c 76 examples/port1.pcap >>"$1" && cat; } <"$2" >/dev/null' \
+    sh "$folder/short.pcap" "$folder/growing/port2.pcap" || complain "nothing came out of the run of a growing capture"
+wait $!
+[ $? -eq 1 ] || complain "a part is made of a capture that grew"
+[ "$(cat "$folder/stderr")" = "$folder/short.pcap: it had another number of octets when it was read again for its digest" ] ||
+    complain "a part of a capture that grew: '$(cat "$folder/stderr")'"
+[ -e "$folder/growing/shard.txt" ] && [ ! -s "$folder/growing/shard.txt" ] || complain "the shard.txt of a part whose capture grew tells something"
+runs grown 1-15 "${growing[@]}"
+refused 1 "part growing: shard.txt: the first line is not 'tep shard 1'" merge --out out growing grown
+
 # ---- lists of segments that are none, and captures that can be read only once
 
 for list in "1,,2|an item of the list is empty" "0|an item of the list is no VID of 1 to 4094, no range of them and not 'none'" \

@@ -43,7 +43,7 @@ pub enum Failure<'a> {
     /// twice.
     #[error("{0} can be read only once, and without --digests a part reads its captures twice")]
     ReadOnce(&'a str),
-    /// The text of this file doesn't lend a part its digests.
+    /// The text of this file doesn't lend a part its digests, or the capture of this name isn't what a part has the digest of.
     #[error("{0}: {1}")]
     Digests(&'a str, DigestsFailure),
     /// The part in this folder is wrong.
@@ -54,7 +54,7 @@ pub enum Failure<'a> {
     Parting(PartingFault),
 }
 
-/// Why a text doesn't lend a part its digests.
+/// Why a part has no digests of what it read.
 #[derive(Debug, Drop, Error)]
 pub enum DigestsFailure {
     /// It is no text of digests.
@@ -63,6 +63,9 @@ pub enum DigestsFailure {
     /// They are of other captures.
     #[error("{0}")]
     Other(LentFault),
+    /// The file is a capture of a part that no digests are lent to, and became longer or shorter while the part ran.
+    #[error("it had another number of octets when it was read again for its digest")]
+    Changed,
 }
 
 /// What is wrong with a part of a run.

@@ -1,17 +1,19 @@
 //! Parts of a run: some of its segments, and what they were made from.
-ghost use Rattle.std.specs.Prelude.{◌≡◌, [], Ok, IfSome};
+ghost use Rattle.std.specs.Prelude.{◌≡◌, [], Ok, IfOk, IfSome};
 ghost use Rattle.overlay_config.specs.Change.{IsRising, changes_in};
 ghost use Rattle.overlay_settings.specs.Rules.{EachBehind};
+ghost use Rattle.shard_record.specs.Lent.{HaveOctets};
 
 use crate::digests::{lent_digests, take_digests};
 use crate::runs::{Done, Scope, Texts, run_on_files_with};
 use arrayvec::ArrayVec;
+use capture_run::RunFault;
 use overlay_config::TimedChange;
 use program_faults::{DigestsFailure, Failure, OutputFile};
 use program_files::{Names, count_events};
 use segment_set::SegmentSet;
 use sha2::{Digest, Sha256};
-use shard_record::{CaptureDigests, MOST_PORTS, ShardRecord, see_octets, text_of};
+use shard_record::{CaptureDigests, LentFault, MOST_PORTS, ShardRecord, see_octets, text_of};
 use std::alloc::Global;
 use std::io::{Input, Write};
 use std::rt::Files;
@@ -53,7 +55,8 @@ impl<F: Write + Drop> Ran<F> {
 /// made from is still to be written.
 ///
 /// Where no digests of the captures are lent, these are read a second time for them, so that none of them may be one that can
-/// be read only once. Where they are lent, the captures have to have as many octets as the digests tell.
+/// be read only once. Each way the captures have to have as many octets as the digests tell, so that a part of a capture that
+/// grew or was cut in the meantime is refused.
 pub fn run_part<'a, R: Files + Input + AllocGlobal, T: Watch>(
     rt: &R,
     names: Names<'_, 'a>,
@@ -147,21 +150,46 @@ fn lent_to<'a, R: Files + AllocGlobal>(
     }
 }
 
-/// The digests of captures behind a run that read so many octets of each: those that are lent, where they tell the same numbers,
-/// or their own.
+/// The digests of captures behind a run that read so many octets of each: those that are lent or, where none are, their own;
+/// either have to tell the same numbers.
 fn digests_behind<'a, R: Files + Input + AllocGlobal>(
     rt: &R,
     names: Names<'_, 'a>,
     lent: Option<(&'a str, CaptureDigests)>,
     ports: &[u64],
     underlay: u64,
-) -> Result<CaptureDigests, Failure<'a>> {
-    let Some((name, digests)) = lent else {
-        return take_digests(rt, names.underlay, names.ports);
+) -> Result<CaptureDigests, Failure<'a>>
+    ensures { IfOk result (λ digests. HaveOctets digests.ports.items digests.underlay ports.now underlay) }
+{
+    match lent {
+        Some((name, digests)) => match see_octets(&digests, ports, underlay) {
+            Ok(()) => Ok(digests),
+            Err(fault) => Err(Failure::Digests(name, DigestsFailure::Other(fault))),
+        },
+        None => own_digests(rt, names, ports, underlay),
+    }
+}
+
+/// The digests of captures of which a run read so many octets each, from a second reading that finds as many.
+fn own_digests<'a, R: Files + Input + AllocGlobal>(
+    rt: &R,
+    names: Names<'_, 'a>,
+    ports: &[u64],
+    underlay: u64,
+) -> Result<CaptureDigests, Failure<'a>>
+    ensures { IfOk result (λ digests. HaveOctets digests.ports.items digests.underlay ports.now underlay) }
+{
+    let digests = match take_digests(rt, names.underlay, names.ports) {
+        Ok(digests) => digests,
+        Err(failure) => return Err(failure),
     };
     match see_octets(&digests, ports, underlay) {
         Ok(()) => Ok(digests),
-        Err(fault) => Err(Failure::Digests(name, DigestsFailure::Other(fault))),
+        Err(LentFault::Octets(tap)) => Err(Failure::Digests(
+            names.capture(tap),
+            DigestsFailure::Changed,
+        )),
+        Err(LentFault::Ports) => Err(Failure::Run(RunFault::PortCount)),
     }
 }
 

@@ -379,6 +379,62 @@ wait $!
 runs grown 1-15 "${growing[@]}"
 refused 1 "part growing: shard.txt: the first line is not 'tep shard 1'" merge --out out growing grown
 
+# ---- what an earlier part left of itself goes before its outputs change
+
+outputs=(decisions.txt port1.pcap port2.pcap port3.pcap underlay.pcap)
+texts=(shard.txt summary.txt tables.txt)
+merged_files=$(printf '%s\n' "${outputs[@]}")
+
+# was_part: the folder old holds a part, with its tables and its counts
+was_part() {
+    rm -rf "$folder/old"
+    runs old 1-15 --tables --summary "${whole[@]}"
+    [ "$(ls "$folder/old")" = "$(printf '%s\n' "${outputs[@]}" "${texts[@]}" | LC_ALL=C sort)" ] || complain "a part leaves $(ls "$folder/old")"
+}
+
+rm -rf "$folder/whole"
+runs whole "" "${whole[@]}"
+was_part
+runs old "" "${whole[@]}"
+[ "$(ls "$folder/old")" = "$merged_files" ] || complain "a whole run leaves of a part: $(ls "$folder/old")"
+was_part
+./tep merge --out "$folder/old" "$folder/one" "$folder/other" || complain "a merge into a part's folder"
+diff -r "$folder/whole" "$folder/old" || complain "a merge leaves something of a part"
+was_part
+runs old 16-4094,none "${whole[@]}"
+diff -r "$folder/other" "$folder/old" || complain "a part leaves something of an earlier one"
+
+# What can't be taken away is told, and no output was touched.
+for word in "${texts[@]}"; do
+    for how in "run ${whole[*]}" "run --segments 16-4094,none ${whole[*]}" "merge $folder/one $folder/other"; do
+        was_part
+        rm "$folder/old/$word"
+        mkdir "$folder/old/$word"
+        rm -rf "$folder/before"
+        cp -r "$folder/old" "$folder/before"
+        # shellcheck disable=SC2086
+        ./tep $how --out "$folder/old" 2>"$folder/stderr"
+        [ $? -eq 3 ] && [ "$(head -n 1 "$folder/stderr")" = "write $word" ] || complain "$how where $word is a folder: $(cat "$folder/stderr")"
+        for output in "${outputs[@]}"; do
+            cmp "$folder/before/$output" "$folder/old/$output" || complain "$how where $word is a folder changes $output"
+        done
+    done
+done
+
+# None of these files may be read by a whole run, nor be a part's that is merged; and what is printed into one of them stays.
+cp examples/port1.pcap "$folder/vids/tables.txt"
+refused 3 "write tables.txt" run --out vids --settings "$PWD/examples/a.toml" --underlay "$PWD/examples/underlay.pcap" vids/tables.txt \
+    "$PWD/examples/port2.pcap" "$PWD/examples/port3.pcap"
+cmp examples/port1.pcap "$folder/vids/tables.txt" || complain "a capture is gone"
+mkdir "$folder/linked"
+ln "$folder/other/shard.txt" "$folder/linked/tables.txt"
+refused 3 "write tables.txt" merge --out linked one other
+[ "$(ls "$folder/linked")" = tables.txt ] || complain "a merge that was refused left $(ls "$folder/linked")"
+was_part
+./tep run --summary --out "$folder/old" "${whole[@]}" >"$folder/old/summary.txt" || complain "a run that prints beside its outputs"
+runs whole "" --summary "${whole[@]}"
+cmp "$folder/stdout" "$folder/old/summary.txt" || complain "what a run prints beside its outputs: $(cat "$folder/old/summary.txt")"
+
 # ---- lists of segments that are none, and captures that can be read only once
 
 for list in "1,,2|an item of the list is empty" "0|an item of the list is no VID of 1 to 4094, no range of them and not 'none'" \

@@ -6,7 +6,7 @@ use dissector::tap_of;
 use pcap_stream::Source;
 use program_faults::{Failure, OutputFile, ShardFailure, read_text};
 use program_files::{
-    PartInput, count_events, is_same, open_lines, open_outputs, open_part_file, path_of,
+    PartInput, count_events, drop_part, is_same, open_lines, open_outputs, open_part_file, path_of,
 };
 use segment_set::SegmentSet;
 use shard_merge::{Capture, MergeFault, Part, PartFault, RecordsFault, Target, merge_streams};
@@ -56,6 +56,7 @@ pub fn merge<'a, R: Files + AllocGlobal>(
         Err(failure) => return Err(failure),
     };
     let opened = open_outputs(rt, out, false, count)?;
+    drop_part(rt, out)?;
     let mut outputs = opened.emptied(rt.alloc(), BLOCK)?;
     let merged = merge_streams(
         parts.as_mut_slice(),
@@ -170,27 +171,36 @@ fn see_events<'a, R: Files + AllocGlobal>(
     }
 }
 
-/// The output of this number: the decision lines, the underlay's capture, and then the ports' captures.
-fn output_at(index: usize) -> OutputFile {
-    match index {
-        0 => OutputFile::Decisions,
-        1 => OutputFile::Underlay,
-        number => OutputFile::Port(number.saturating_sub(1)),
+/// How many files a part leaves besides the captures of its ports.
+const BESIDE_PORTS: usize = 5;
+
+/// The file of this number of a part with so many ports: the decision lines, the underlay's capture, the ports' captures, and
+/// then what the part says of itself and leaves besides.
+fn file_at(index: usize, ports: usize) -> OutputFile {
+    match index.checked_sub(ports.saturating_add(2)) {
+        Some(0) => OutputFile::Shard,
+        Some(1) => OutputFile::Tables,
+        Some(_) => OutputFile::Summary,
+        None => match index {
+            0 => OutputFile::Decisions,
+            1 => OutputFile::Underlay,
+            number => OutputFile::Port(number.saturating_sub(1)),
+        },
     }
 }
 
-/// Refuses an output that is one of the parts' files.
+/// Refuses an output that is one of the parts' files, and so a text that a merge takes away.
 fn spare_parts<'a, R: Files + AllocGlobal>(
     rt: &R,
     out: &str,
     folders: &[&'a str],
     count: usize,
 ) -> Result<(), Failure<'a>> {
-    for index in 0..count.saturating_add(2) {
-        let path = path_of(rt.alloc(), out, output_at(index))?;
+    for index in 0..count.saturating_add(BESIDE_PORTS) {
+        let path = path_of(rt.alloc(), out, file_at(index, count))?;
         if let Ok(found) = fs::metadata(rt, path.as_path()) {
             if is_of_a_part(rt, folders, count, &found)? {
-                return Err(Failure::Write(output_at(index)));
+                return Err(Failure::Write(file_at(index, count)));
             }
         }
     }
@@ -208,8 +218,8 @@ fn is_of_a_part<R: Files + AllocGlobal>(
         return Ok(false);
     }
     for folder in folders {
-        for index in 0..count.saturating_add(2) {
-            let path = path_of(rt.alloc(), *folder, output_at(index))?;
+        for index in 0..count.saturating_add(BESIDE_PORTS) {
+            let path = path_of(rt.alloc(), *folder, file_at(index, count))?;
             if is_same(rt, path.as_path(), found) {
                 return Ok(true);
             }

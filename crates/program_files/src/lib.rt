@@ -16,5 +16,5 @@ pub use inputs::{
 pub use names::{Names, is_same};
 pub use outputs::{Opened, Outputs, Written, open_outputs, path_of, spare_inputs};
 pub use part_inputs::{PartInput, count_events, open_lines, open_part_file};
-pub use part_texts::{drop_texts, leave_text};
+pub use part_texts::{drop_part, drop_texts, leave_text};
 pub use printing::print_text;

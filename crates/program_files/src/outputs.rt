@@ -32,11 +32,11 @@ pub struct Opened<F: Drop> {
     shard: Option<F>,
 }
 
-/// Refuses an output that is one of the files that are read: to write it would be to cut what is still to be read.
+/// Refuses an output that is one of the files that are read: to write it would be to cut what is still to be read. The same of
+/// what a part leaves besides, which a whole run takes away.
 pub fn spare_inputs<R: Files + AllocGlobal>(
     rt: &R,
     folder: &str,
-    is_part: bool,
     names: Names<'_, '_>,
 ) -> Result<(), Failure<'static>> {
     for index in 0..names.ports.len() {
@@ -44,12 +44,9 @@ pub fn spare_inputs<R: Files + AllocGlobal>(
     }
     spare(rt, folder, names, OutputFile::Underlay)?;
     spare(rt, folder, names, OutputFile::Decisions)?;
-    if is_part {
-        spare(rt, folder, names, OutputFile::Shard)?;
-        spare(rt, folder, names, OutputFile::Tables)?;
-        spare(rt, folder, names, OutputFile::Summary)?;
-    }
-    Ok(())
+    spare(rt, folder, names, OutputFile::Shard)?;
+    spare(rt, folder, names, OutputFile::Tables)?;
+    spare(rt, folder, names, OutputFile::Summary)
 }
 
 /// Refuses this output if it is one of the files that are read.

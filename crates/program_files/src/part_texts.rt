@@ -1,17 +1,43 @@
 //! What a part of a run leaves of what it told: its tables at the end, and its counts.
+use crate::names::is_same;
 use crate::outputs::path_of;
 use program_faults::{Failure, OutputFile};
 use std::fs::{self, OpenOptions};
 use std::io::Write;
+use std::path::Path;
 use std::rt::Files;
 
-/// Removes what an earlier run left in a folder, so that none of it passes for this run's.
+/// The file that standard output is.
+const STANDARD_OUTPUT_FILE: &str = "/dev/stdout";
+
+/// Removes the tables and the counts that an earlier part left in a folder, so that none of them passes for this part's.
 pub fn drop_texts<R: Files + AllocGlobal>(rt: &R, folder: &str) -> Result<(), Failure<'static>> {
     drop_text(rt, folder, OutputFile::Tables)?;
     drop_text(rt, folder, OutputFile::Summary)
 }
 
-/// Removes a file, where there is one. A pipe or a device stays.
+/// Removes what an earlier part left in a folder besides its outputs, where something else than a part is to be written there:
+/// first what it was made from, without which no merge takes the folder.
+pub fn drop_part<R: Files + AllocGlobal>(rt: &R, folder: &str) -> Result<(), Failure<'static>> {
+    drop_unprinted(rt, folder, OutputFile::Shard)?;
+    drop_unprinted(rt, folder, OutputFile::Tables)?;
+    drop_unprinted(rt, folder, OutputFile::Summary)
+}
+
+/// Removes a file, where there is one, but for the file that standard output is: in that will stand what is printed.
+fn drop_unprinted<R: Files + AllocGlobal>(
+    rt: &R,
+    folder: &str,
+    output: OutputFile,
+) -> Result<(), Failure<'static>> {
+    let path = path_of(rt.alloc(), folder, output)?;
+    match fs::metadata(rt, path.as_path()) {
+        Ok(found) if is_same(rt, Path::new(STANDARD_OUTPUT_FILE), &found) => Ok(()),
+        _ => drop_text(rt, folder, output),
+    }
+}
+
+/// Removes a file, where there is one. A pipe or a device stays, and a folder in its place is refused.
 fn drop_text<R: Files + AllocGlobal>(
     rt: &R,
     folder: &str,
@@ -22,6 +48,7 @@ fn drop_text<R: Files + AllocGlobal>(
         Ok(found) if found.is_file() => {
             fs::remove_file(rt, path.as_path()).map_err(|_| Failure::Write(output))
         }
+        Ok(found) if found.is_dir() => Err(Failure::Write(output)),
         _ => Ok(()),
     }
 }

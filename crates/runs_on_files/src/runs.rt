@@ -11,8 +11,8 @@ use overlay_config::{Settings, TimedChange, changes_of, settings_of};
 use pcapng_input::PcapngFault;
 use program_faults::Failure;
 use program_files::{
-    Capture, Names, Outputs, drop_texts, open_capture, open_captures, open_outputs, read_file,
-    read_if_given, spare_inputs,
+    Capture, Names, Outputs, drop_part, drop_texts, open_capture, open_captures, open_outputs,
+    read_file, read_if_given, spare_inputs,
 };
 use segment_set::SegmentSet;
 use std::alloc::{AllocError, Global};
@@ -285,7 +285,8 @@ fn done_on<F: Read + Drop, I: Read + Drop>(
     })
 }
 
-/// Opens the outputs of so many ports and empties them, where none of them is a file that is read.
+/// Opens the outputs of so many ports and empties them, where none of them is a file that is read. What an earlier part left
+/// besides is taken away before.
 fn prepare_outputs<'a, R: Files + Input + AllocGlobal>(
     rt: &R,
     names: Names<'_, 'a>,
@@ -295,7 +296,7 @@ fn prepare_outputs<'a, R: Files + Input + AllocGlobal>(
 ) -> Result<Outputs<R::File>, Failure<'a>>
     ensures { IfOk result (λ outputs. length outputs.ports.items ≡ count) }
 {
-    spare_inputs(rt, folder, is_part, names)?;
+    spare_inputs(rt, folder, names)?;
     // A read of a pipe may wait for whoever writes into it, and what came of an event has to be out by then.
     let block = if names.are_regular_files(rt) {
         BLOCK
@@ -303,8 +304,11 @@ fn prepare_outputs<'a, R: Files + Input + AllocGlobal>(
         0
     };
     let opened = open_outputs(rt, folder, is_part, count)?;
+    // What says of outputs that they are a part's goes before they change.
     if is_part {
         drop_texts(rt, folder)?;
+    } else {
+        drop_part(rt, folder)?;
     }
     let outputs = opened.emptied(rt.alloc(), block)?;
     Ok(outputs)

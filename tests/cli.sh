@@ -184,6 +184,14 @@ ends 0 "" explain -s $a "$folder/underlay.pcapng"
 prints "$folder/explained"
 ends 0 "" explain -s $a - <"$folder/underlay.pcapng"
 prints "$folder/explained"
+# The same with a length of the frame check sequence, 4, among the interface's options: it is passed over.
+{
+    head -c 28 "$folder/underlay.pcapng"
+    printf '\0\0\0\1\0\0\0\60\0\1\0\0\0\0\0\0\0\2\0\4eth0\0\11\0\1\11\0\0\0\0\15\0\1\4\0\0\0\0\0\0\0\0\0\0\60'
+    tail -c +69 "$folder/underlay.pcapng"
+} >"$folder/checked.pcapng"
+ends 0 "" explain -s $a "$folder/checked.pcapng"
+prints "$folder/explained"
 if command -v editcap >/dev/null; then
     editcap -F pcapng $underlay "$folder/underlay.pcapng"
     ends 0 "" explain -s $a "$folder/underlay.pcapng"
@@ -200,6 +208,10 @@ while IFS=$'\t' read -r file is_taken what; do
     ends 0 "" check -s $a -u "$folder/directions/$file"
     [ "$(grep "outbound" "$folder/stdout")" = "$told" ] || complain "a check of $what: $(cat "$folder/stdout")"
 done <"$folder/rows"
+# A name of more than digits is one, whatever number it could be.
+tests/pcapng.py "$folder/signed.pcapng" eth0="${ports[0]}" +0=$underlay
+ends 0 "" explain -s $a "$folder/signed.pcapng#+0"
+prints "$folder/explained"
 # A text that ends within a block is a cut capture.
 head -c $(($(stat -c %s "$folder/underlay.pcapng") - 1)) "$folder/underlay.pcapng" >"$folder/cut.pcapng"
 ends 0 "" explain -s $a "$folder/cut.pcapng"
@@ -428,5 +440,25 @@ for words in "" "--help" "--version" "check --settings $a" "explain --settings $
     got=$?
     [ $got -eq 3 ] && [ "$(cat "$folder/stderr")" = "write stdout" ] || complain "tep $words on a full device: status $got, '$(cat "$folder/stderr")'"
 done
+
+# looks STATUS LINE WORDS..: a look that can't be printed ends so, on a full device and where standard output is closed
+looks() {
+    local status=$1 line=$2 got
+    shift 2
+    ./tep check "$@" >/dev/full 2>"$folder/stderr"
+    got=$?
+    [ $got -eq "$status" ] && [ "$(head -n 1 "$folder/stderr")" = "$line" ] || complain "tep check $* on a full device: status $got, '$(cat "$folder/stderr")'"
+    ./tep check "$@" >&- 2>"$folder/stderr"
+    got=$?
+    [ $got -eq "$status" ] && [ "$(head -n 1 "$folder/stderr")" = "$line" ] || complain "tep check $* without standard output: status $got, '$(cat "$folder/stderr")'"
+}
+
+# What is refused is told in front of that it can't be printed, and at the end stands that.
+looks 3 "write stdout" --settings $a --changes $changes "${ports[@]}"
+looks 1 "settings: Missing segment.1.vni" --settings "$folder/no_vni.toml"
+looks 1 "changes: NotToml" --settings $a --changes "${ports[0]}"
+looks 1 "captures: PortCount" --settings $a "${ports[0]}"
+looks 1 "p2: NotPcap" --settings $a "${ports[0]}" $a "${ports[2]}"
+looks 3 "read $folder/nowhere" --settings $a "${ports[0]}" "$folder/nowhere" "${ports[2]}"
 
 [ "$failures" -eq 0 ]

@@ -435,10 +435,20 @@ was_part
 runs whole "" --summary "${whole[@]}"
 cmp "$folder/stdout" "$folder/old/summary.txt" || complain "what a run prints beside its outputs: $(cat "$folder/old/summary.txt")"
 
+# ---- all segments as a part
+
+rm -rf "$folder/whole"
+runs whole "" "${whole[@]}"
+runs all all "${whole[@]}"
+grep -qx 'segments all' "$folder/all/shard.txt" || complain "the part of all segments: $(cat "$folder/all/shard.txt")"
+is_whole all
+refused 1 "more than one part has segment 1" merge --out out all one
+
 # ---- lists of segments that are none, and captures that can be read only once
 
 for list in "1,,2|an item of the list is empty" "0|an item of the list is no VID of 1 to 4094, no range of them and not 'none'" \
-    "9-3|a range of the list ends below its begin" "1-3,2|two items of the list ask for the same"; do
+    "9-3|a range of the list ends below its begin" "1-3,2|two items of the list ask for the same" \
+    "all,none|an item of the list is no VID of 1 to 4094, no range of them and not 'none'"; do
     (
         ./tep run --out "$folder/out" --segments "${list%|*}" "${whole[@]}" >/dev/null 2>"$folder/stderr"
         [ $? -eq 1 ] && [ "$(cat "$folder/stderr")" = "segments: ${list#*|}" ]

@@ -54,14 +54,14 @@ pub type Capture<'a, F, I> = Source<CountInput<ClassicInput<'a, F, I>>>;
 /// The records of a capture whose first octets were looked at.
 pub type SeenCapture<'a, F, I> = Source<CaptureInput<'a, Peeked<Blocks<F, I>>>>;
 
-/// The interfaces that the words ask for: one by its number or by its name, or all.
+/// The interfaces that the words ask for: one by its number, which is of digits alone, or by its name, or all.
 fn selection_of(interface: Option<&str>) -> Selection<'_> {
     let Some(interface) = interface else {
         return Selection::All;
     };
     match interface.parse::<u32>() {
-        Ok(number) => Selection::Number(number),
-        Err(_) => Selection::Name(interface.as_bytes()),
+        Ok(number) if !interface.starts_with('+') => Selection::Number(number),
+        _ => Selection::Name(interface.as_bytes()),
     }
 }
 

@@ -22,8 +22,28 @@ struct Named<'t, 'a> {
     text: &'t [u8],
 }
 
+/// What a look found, and whether all of it was told.
+#[derive(Drop)]
+struct Seen<'a> {
+    /// The first fault that a run would meet.
+    found: Result<(), Failure<'a>>,
+    /// The first that couldn't be printed.
+    told: Result<(), Failure<'static>>,
+}
+
+impl<'a> Seen<'a> {
+    /// What was seen at a later look too.
+    fn and(self, later: Seen<'a>) -> Seen<'a> {
+        Seen {
+            found: self.found.and(later.found),
+            told: self.told.and(later.told),
+        }
+    }
+}
+
 /// Looks at the texts and the captures, and prints what is in them: where and why a text is refused; which changes will be
-/// refused; what each capture holds. The first fault is answered that a run would meet.
+/// refused; what each capture holds. The first fault is answered that a run would meet; and only where there is none, that
+/// something couldn't be printed.
 pub fn check<'a, R: Files + Input + AllocGlobal + Print>(
     rt: &R,
     settings: &'a str,
@@ -41,27 +61,29 @@ pub fn check<'a, R: Files + Input + AllocGlobal + Print>(
         name: changes.unwrap_or(""),
         text: changes_text.as_slice(),
     };
-    let (read, told) = check_texts(rt, settings, changes)?;
-    let counted = print_foreseen(rt, read, told, ports.len());
-    let seen = look_at_captures(rt, underlay, ports);
-    counted.and(seen)
+    let (read, told) = match read_texts(rt.alloc(), settings.text, changes.text) {
+        Ok(texts) => texts,
+        Err(fault) => {
+            // Where it can't be printed, the fault still tells that and why the text is refused.
+            let _ = print_refused(rt, settings, changes, &fault);
+            return Err(Failure::Run(fault));
+        }
+    };
+    let counted = print_counts(rt, &read, told.as_slice());
+    let texts = Seen {
+        found: see_count(read.ports().len(), ports.len()),
+        told: counted.and(print_foreseen(rt, read, told)),
+    };
+    let seen = texts.and(look_at_captures(rt, underlay, ports));
+    seen.found.and(seen.told)
 }
 
-/// Prints what is in the texts and answers it, or where and why the first that is refused is.
-fn check_texts<'a, R: AllocGlobal + Print>(
-    rt: &R,
-    settings: Named<'_, 'a>,
-    changes: Named<'_, 'a>,
-) -> Result<(Settings, Vec<TimedChange>), Failure<'a>> {
-    match read_texts(rt.alloc(), settings.text, changes.text) {
-        Ok((read, told)) => {
-            print_counts(rt, &read, told.as_slice())?;
-            Ok((read, told))
-        }
-        Err(fault) => {
-            print_refused(rt, settings, changes, &fault)?;
-            Err(Failure::Run(fault))
-        }
+/// Sees that so many ports have as many captures, unless no port's capture is named.
+fn see_count(ports: usize, captures: usize) -> Result<(), Failure<'static>> {
+    if captures == 0 || captures == ports {
+        Ok(())
+    } else {
+        Err(Failure::Run(RunFault::PortCount))
     }
 }
 
@@ -101,37 +123,31 @@ fn print_advice<R: AllocGlobal + Print>(
     print_text(rt, told.as_slice())
 }
 
-/// Prints the changes that the settings will refuse at their moments. The number of captures is that of the ports, unless no
-/// port's capture is named.
-fn print_foreseen<'a, R: AllocGlobal + Print>(
+/// Prints the changes that the settings will refuse at their moments.
+fn print_foreseen<R: AllocGlobal + Print>(
     rt: &R,
     settings: Settings,
     changes: Vec<TimedChange>,
-    captures: usize,
-) -> Result<(), Failure<'a>> {
-    let is_counted = captures == 0 || captures == settings.ports().len();
+) -> Result<(), Failure<'static>> {
     let mut text = String::new(rt.alloc());
     for refusal in &foresee(rt.alloc(), settings, changes.as_slice())? {
         writeln!(text, "{refusal}")?;
     }
-    print_text(rt, text.as_bytes())?;
-    if is_counted {
-        Ok(())
-    } else {
-        Err(Failure::Run(RunFault::PortCount))
-    }
+    print_text(rt, text.as_bytes())
 }
 
-/// Prints what is in each capture that is named, ports rising and then the underlay, and answers the first fault.
+/// Prints what is in each capture that is named, ports rising and then the underlay.
 fn look_at_captures<'a, R: Files + Input + AllocGlobal + Print>(
     rt: &R,
     underlay: Option<&'a str>,
     ports: &[&'a str],
-) -> Result<(), Failure<'a>> {
-    let mut seen = Ok(());
+) -> Seen<'a> {
+    let mut seen = Seen {
+        found: Ok(()),
+        told: Ok(()),
+    };
     for (index, name) in ports.iter().enumerate() {
-        let looked = look_at_capture(rt, tap_of(index), *name);
-        seen = seen.and(looked);
+        seen = seen.and(look_at_capture(rt, tap_of(index), *name));
     }
     match underlay {
         Some(name) => seen.and(look_at_capture(rt, Tap::Underlay, name)),
@@ -144,25 +160,33 @@ fn look_at_capture<'a, R: Files + Input + AllocGlobal + Print>(
     rt: &R,
     tap: Tap,
     name: &'a str,
-) -> Result<(), Failure<'a>> {
+) -> Seen<'a> {
     let (kind, mut capture) = match open_seen(rt, name) {
         Ok(seen) => seen,
-        Err(failure) => return Err(failure),
+        Err(failure) => {
+            return Seen {
+                found: Err(failure),
+                told: Ok(()),
+            };
+        }
     };
     match survey_capture(&mut capture, tap) {
-        Ok(survey) => print_report(
-            rt,
-            Report {
-                tap,
-                is_pcapng: kind == FileKind::Pcapng,
-                left_out: capture.input().left_out(),
-                survey,
-            },
-        ),
-        Err(fault) => {
-            let told = print_kind(rt, tap, kind, fault);
-            told.and(Err(failure_of(tap, name, &capture, fault)))
-        }
+        Ok(survey) => Seen {
+            found: Ok(()),
+            told: print_report(
+                rt,
+                Report {
+                    tap,
+                    is_pcapng: kind == FileKind::Pcapng,
+                    left_out: capture.input().left_out(),
+                    survey,
+                },
+            ),
+        },
+        Err(fault) => Seen {
+            found: Err(failure_of(tap, name, &capture, fault)),
+            told: print_kind(rt, tap, kind, fault),
+        },
     }
 }
 

@@ -201,7 +201,7 @@ sed 's/^events .*/events 07/' "$folder/other/shard.txt" | broken shard.txt "shar
 head -n 1 "$folder/other/decisions.txt" | broken decisions.txt "decisions.txt has another number of events than shard.txt says"
 head -c -1 "$folder/other/decisions.txt" | broken decisions.txt "line NoEnd"
 sed '1s/^/x/' "$folder/other/decisions.txt" | broken decisions.txt "line Number"
-tac "$folder/other/decisions.txt" | broken decisions.txt "event 7 behind a later one"
+sed '2s/^[0-9]* /1 /' "$folder/other/decisions.txt" | broken decisions.txt "event 1 behind a later one"
 sed '2s/^[0-9]* /2 /' "$folder/other/decisions.txt" | broken decisions.txt "event 2 doubled"
 sed '1s/p2=/p9=/' "$folder/other/decisions.txt" | broken decisions.txt "p9 isn't there"
 { printf '%05000d ' 0; cat "$folder/other/decisions.txt"; } | broken decisions.txt "long line"
@@ -209,6 +209,27 @@ head -c 24 "$folder/other/port2.pcap" | broken port2.pcap "p2 Missing"
 head -c -1 "$folder/other/port2.pcap" | broken port2.pcap "p2 Missing"
 cat "$folder/other/port2.pcap" <(tail -c +25 "$folder/other/port2.pcap") | broken port2.pcap "p2 LeftOver"
 head -c 20 "$folder/other/underlay.pcap" | broken underlay.pcap "u NotPcap"
+
+# missing NUMBER LINES EVENTS: where these lines are gone from the second part, whose events are 2, 4, 7 and 9 and whose shard.txt
+# then tells so many events, the first number that no part has is told
+missing() {
+    rm -rf "$folder/broken"
+    cp -r "$folder/other" "$folder/broken"
+    sed -i "$2d" "$folder/broken/decisions.txt"
+    sed -i "s/^events .*/events $3/" "$folder/broken/shard.txt"
+    refused 1 "missing $1" merge --out out one broken
+    rm -f "$folder"/out/*
+}
+
+missing 2 1 3
+missing 7 3 3
+missing 4 2,3 2
+missing 2 1,3 1
+rm -rf "$folder/broken"
+cp -r "$folder/other" "$folder/broken"
+tac "$folder/other/decisions.txt" >"$folder/broken/decisions.txt"
+refused 1 "missing 2" merge --out out one broken
+rm -f "$folder"/out/*
 
 # ---- tables and counts of parts
 

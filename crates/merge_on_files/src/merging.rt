@@ -296,6 +296,7 @@ fn open_capture<'a, R: Files + AllocGlobal>(
 fn failure_of<'a>(folders: &[&'a str], fault: MergeFault) -> Failure<'a> {
     match fault {
         MergeFault::Read(part) => Failure::Read(name_of(folders, part)),
+        MergeFault::Missing(number) => Failure::Missing(number),
         MergeFault::Part(part, fault) => Failure::in_part(name_of(folders, part), fault),
         MergeFault::Write(Target::Decisions) => Failure::Write(OutputFile::Decisions),
         MergeFault::Write(Target::Capture(Tap::Underlay)) => Failure::Write(OutputFile::Underlay),

@@ -27,12 +27,15 @@ use Rattle.stream_run.specs.Stage.{Drains, StandAt}
 use Rattle.shard_merge.specs.Coming.{Holds, HoldsAll, Shard, UnlessPart}
 use Rattle.shard_merge.specs.Left.{UnlessDevice}
 use Rattle.shard_merge.specs.Merged.{IsRising, Piece, merged, side_by_side, texts_of_pieces}
+use Rattle.shard_merge.specs.Numbers.{AreNumbered, numbers}
 use Rattle.shard_merge.specs.Whole.{Adds, AllHold, AllRise, AreParts, cut_lines}
 use Rattle.shard_merge.specs.declared.fault.MergeFault.{MergeFault}
 use Rattle.segment_shards.specs.Pieces.{PartAll, Told, pieces_in, pieces_of}
 use Rattle.segment_shards.proofs.ChangeTexts.{text-names}
-use Rattle.segment_shards.proofs.Merging.{merged-rises, part-of_run, part-rises, run-merged}
+use Rattle.segment_shards.proofs.Merging.{merged-rises, part-of_run, part-rises, pieces-merged, run-merged}
 use Rattle.segment_shards.proofs.Vids.{vids-told}
+use Rattle.segment_shards.proofs.Writing.{numbers-rise}
+use Rattle.shard_merge.proofs.Missing.{unless_device}
 use Rattle.part_files.specs.Files.{HoldCaptures, Merges, OpenedOver, OpensWith, Part, RanOver, ReadOver, segments_of, shards_of}
 use Rattle.part_files.proofs.Lists.{all-two, map-length}
 use Rattle.part_files.proofs.Opening.{part-holds}
@@ -164,6 +167,15 @@ module _ (settings changes : List ℕ) (texts : List (Vec ℕ Global)) (text : L
       apart = merged-rises (segments_of parts) (settings_told s) (changes_of x) timeline parted (vids-told s (texts_meet settings s settings_are)) (text-names changes cs changes_are);
     }
 
+    -- none of their numbers is missing
+    numbered-own : (parts : List Part) → PartAll (segments_of parts) → AreNumbered (merged (map own_pieces (segments_of parts)))
+    unfolding x ts
+    numbered-own parts parted = (
+      length timeline.events,
+      ap numbers (pieces-merged (segments_of parts) (settings_told s) (changes_of x) timeline parted (vids-told s (texts_meet settings s settings_are)) (text-names changes cs changes_are))
+          ∙ numbers-rise (settings_told s) (changes_of x) timeline,
+    )
+
     merged-own : (parts : List Part) → PartAll (segments_of parts) → texts_of_pieces (length texts) (merged (map own_pieces (segments_of parts))) (side_by_side (map own_cuts (segments_of parts))) ≡ o
     unfolding x ts
     merged-own parts parted = run-merged (segments_of parts) s x timeline o is parted (texts_meet settings s settings_are) (text-names changes cs changes_are)
@@ -184,7 +196,10 @@ module _ (settings changes : List ℕ) (texts : List (Vec ℕ Global)) (text : L
       let held = are-parts settings changes texts text s cs settings_are changes_are w.timeline w.o w.is parts parted all opened readable in
       let its_pieces = own_pieces settings changes texts text s cs settings_are changes_are w.timeline w.o w.is in
       let its_cuts = own_cuts settings changes texts text s cs settings_are changes_are w.timeline w.o w.is in
-      let adds = merges (map its_pieces (segments_of parts)) (map its_cuts (segments_of parts)) (subst (λ (n : ℕ). AreParts n (map its_pieces (segments_of parts)) (map its_cuts (segments_of parts)) (shards_of parts)) (sym many) held) in
+      let numbered = numbered-own settings changes texts text s cs settings_are changes_are w.timeline w.o w.is parts parted in
+      let adds = unless_device (merged (map its_pieces (segments_of parts)))
+      (Adds (texts_of_pieces (length old) (merged (map its_pieces (segments_of parts))) (side_by_side (map its_cuts (segments_of parts)))) old old_underlay written new new_underlay now)
+      result numbered (merges (map its_pieces (segments_of parts)) (map its_cuts (segments_of parts)) (subst (λ (n : ℕ). AreParts n (map its_pieces (segments_of parts)) (map its_cuts (segments_of parts)) (shards_of parts)) (sym many) held)) in
       let same = ap (λ (n : ℕ). texts_of_pieces n (merged (map its_pieces (segments_of parts))) (side_by_side (map its_cuts (segments_of parts)))) many
       ∙ merged-own settings changes texts text s cs settings_are changes_are w.timeline w.o w.is parts parted in (
         w.o,

@@ -23,8 +23,8 @@ use Rattle.stream_run.specs.Over.{IsRunOverAmong}
 use Rattle.stream_run.specs.Stage.{Drains}
 use Rattle.shard_merge.specs.Coming.{Holds, HoldsAll, Shard, UnlessPart}
 use Rattle.shard_merge.specs.Copied.{Opens}
-use Rattle.shard_merge.specs.Left.{UnlessDevice}
 use Rattle.shard_merge.specs.Merged.{Piece, merged, side_by_side, texts_of_pieces}
+use Rattle.shard_merge.specs.Numbers.{UnlessMissing}
 use Rattle.shard_merge.specs.Whole.{Adds, AreParts}
 use Rattle.shard_merge.specs.declared.fault.MergeFault.{MergeFault}
 
@@ -106,11 +106,11 @@ segments_of parts = map (λ (p : Part). p.segments) parts
 abbrev pub shards_of : List Part → List Shard
 shards_of parts = map (λ (p : Part). p.shard) parts
 
--- a merge of parts that are opened: of whatever pieces these hold, it puts the texts to its outputs
+-- a merge of parts that are opened: of whatever pieces these hold, it puts the texts to its outputs, or tells which is missing
 abbrev pub Merges : List Shard → List Drain → Drain → Option (List ℕ) → List Drain → Drain → Option (List ℕ) → Result (Unit {0}) MergeFault → Type 0
 Merges shards old old_underlay written new new_underlay now result =
     (pieces : List (List Piece)) (cuts : List (List Cut)) → AreParts (length old) pieces cuts shards
-    → UnlessDevice result (Adds (texts_of_pieces (length old) (merged pieces) (side_by_side cuts)) old old_underlay written new new_underlay now)
+    → UnlessMissing result (merged pieces) (Adds (texts_of_pieces (length old) (merged pieces) (side_by_side cuts)) old old_underlay written new new_underlay now)
 
 -- ---- what comes in
 

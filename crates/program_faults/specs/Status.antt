@@ -27,3 +27,4 @@ failure_status_of (failures.ReadOnce name) = 1
 failure_status_of (failures.Digests name fault) = 1
 failure_status_of (failures.Shard folder fault) = 1
 failure_status_of (failures.Parting fault) = 1
+failure_status_of (failures.Missing number) = 1

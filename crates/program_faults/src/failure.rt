@@ -52,6 +52,9 @@ pub enum Failure<'a> {
     /// Parts aren't a whole run.
     #[error("{0}")]
     Parting(PartingFault),
+    /// Where the event of this number was to come, no part has it, and one has an event of a greater one.
+    #[error("missing {0}")]
+    Missing(u64),
 }
 
 /// Why a part has no digests of what it read.
@@ -162,7 +165,8 @@ impl<'a> Failure<'a> {
             | Failure::ReadOnce(_)
             | Failure::Digests(..)
             | Failure::Shard(..)
-            | Failure::Parting(_) => 1,
+            | Failure::Parting(_)
+            | Failure::Missing(_) => 1,
             Failure::Read(_) | Failure::Write(_) => 3,
         }
     }

@@ -6,4 +6,5 @@ mod Lining
 mod Ending
 mod Finishing
 mod Merging
+pub mod Missing
 mod WholeTexts

@@ -1,8 +1,9 @@
 -- The events of all parts, one after another.
-use Rattle.std.proofs.Common.{◌≡◌, ◌≢◌, ◌∙◌, refl, sym, ap, subst, ℕ, ◌<◌, ◌==◌, Bool, true, false, List, [], ◌∷◌, ◌++◌, length, slice_index_or, slice_set, append_assoc, append-nil, arith, Option}
+use Rattle.std.proofs.Common.{◌≡◌, ◌≢◌, ◌∙◌, refl, sym, ap, subst, ℕ, zero, suc, ◌+◌, ◌<◌, ◌==◌, Bool, true, false, List, [], ◌∷◌, ◌++◌, length, slice_index_or, slice_set, append_assoc, append-nil, arith, Option}
 use Rattle.std.proofs.KnownBytes.{Appends-nil, Appends-trans}
 use Rattle.std.proofs.lemmas.Bool.{eqb-true, eqb-false}
-use Rattle.std.proofs.lemmas.List.{get_or-set_same, get_or-set_other, length-set}
+use Rattle.std.proofs.lemmas.List.{get_or-set_same, get_or-set_other, length-set, map-append}
+use Rattle.std.specs.List.{range_with_len}
 use Rattle.std.specs.Io.KnownBytes.{Appends}
 use Rattle.pcap_stream.specs.Sink.{Drain}
 use Rattle.timeline.specs.declared.source.Tap.{Tap}
@@ -10,6 +11,7 @@ use Rattle.shard_merge.specs.Coming.{Holds, Shard, next_coming}
 use Rattle.shard_merge.specs.Firsts.{IsFirst, IsLater, IsNone, IsNoSooner}
 use Rattle.shard_merge.specs.Left.{AreAdded, IsAdded, of_tap}
 use Rattle.shard_merge.specs.Merged.{IsRising, Piece, capture_at, lines_in, merged, records_at}
+use Rattle.shard_merge.specs.Numbers.{AreNumbered, IsMissing, numbers}
 use Rattle.shard_merge.specs.Whole.{AllHold, AllRise, PutsAll}
 use Rattle.shard_merge.specs.declared.first.First.{First}
 use Rattle.shard_merge.specs.declared.part.Coming.TheVariants as coming
@@ -51,6 +53,7 @@ pub record MergedSoFar (ports : ℕ) (pieces : List Piece) (cuts : List (List (L
   pub holds : AllHold ports left cuts parts
   pub rise : AllRise left
   pub above : IsRising last (merged left)
+  pub numbered : numbers done ≡ range_with_len 1 last
   pub added : AreAdded (λ tap. capture_at tap done) old old_underlay new new_underlay
   pub lines : Appends written now (lines_in done)
 
@@ -63,6 +66,7 @@ none_merged_yet ports pieces cuts parts sinks underlay written holds rise above 
   holds = holds;
   rise = rise;
   above = above;
+  numbered = refl;
   added = added_none sinks underlay;
   lines = Appends-nil written;
 }
@@ -134,23 +138,56 @@ lines_both : (a b : List Piece) → lines_in (a ++ b) ≡ lines_in a ++ lines_in
 lines_both [] b = refl
 lines_both (p ∷ a) b = ap (λ l. p.line ++ l) (lines_both a b) ∙ sym (append_assoc p.line (lines_in a) (lines_in b))
 
+numbers_both : (a b : List Piece) → numbers (a ++ b) ≡ numbers a ++ numbers b
+numbers_both a b = map-append (λ (p : Piece). p.number) a b
+
+range_more : (a n : ℕ) → range_with_len a (suc n) ≡ range_with_len a n ++ (a + n) ∷ []
+range_more a zero = ap (λ k. k ∷ []) (omega arith)
+range_more a (suc n) = ap (λ l. a ∷ l) (range_more (a + 1) n ∙ ap (λ k. range_with_len (a + 1) n ++ k ∷ []) (omega arith))
+
+-- the one that would come next is missing where a greater one comes
+pub next_missing : (ports : ℕ) (pieces : List Piece) (cuts : List (List (List ℕ))) (last : ℕ) (parts : List Shard) (first : First) (old : List Drain) (old_underlay : Drain) (written : Option (List ℕ))
+    (new : List Drain) (new_underlay : Drain) (now : Option (List ℕ))
+    → (so_far : MergedSoFar ports pieces cuts last parts old old_underlay written new new_underlay now) → NextPiece ports so_far.left cuts parts first → last + 1 < first.number
+    → IsMissing (last + 1) pieces
+next_missing ports pieces cuts last parts first old old_underlay written new new_underlay now so_far next greater = record {
+  count = last;
+  is = refl;
+  next = first.number;
+  greater = greater;
+  behind = numbers rest;
+  numbered = ap numbers (so_far.whole ∙ ap (λ l. so_far.done ++ l) next.comes) ∙ numbers_both so_far.done (next.p ∷ rest)
+      ∙ (λ i. so_far.numbered i ++ next.number i ∷ numbers rest);
+}
+  where
+    rest : List Piece
+    rest = merged (slice_set so_far.left first.index next.behind)
+
 pub one_merged : (ports : ℕ) (pieces : List Piece) (cuts : List (List (List ℕ))) (last : ℕ) (parts : List Shard) (first : First) (new : Shard) (old : List Drain) (old_underlay : Drain) (written : Option (List ℕ))
     (mid : List Drain) (mid_underlay : Drain) (now : Option (List ℕ)) (sinks : List Drain) (underlay : Drain) (then_ : Option (List ℕ))
-    → (so_far : MergedSoFar ports pieces cuts last parts old old_underlay written mid mid_underlay now) → (next : NextPiece ports so_far.left cuts parts first) → first.index < length parts → length mid ≡ length old
+    → (so_far : MergedSoFar ports pieces cuts last parts old old_underlay written mid mid_underlay now) → (next : NextPiece ports so_far.left cuts parts first) → first.index < length parts → first.number ≡ last + 1 → length mid ≡ length old
     → Holds ports next.behind (slice_index_or cuts first.index []) new → AreAdded (λ t. records_at t next.p.records) mid mid_underlay sinks underlay → Appends now then_ next.p.line
     → MergedSoFar ports pieces cuts first.number (slice_set parts first.index new) old old_underlay written sinks underlay then_
-one_merged ports pieces cuts last parts first new old old_underlay written mid mid_underlay now sinks underlay then_ so_far next there many holds added line = record {
+one_merged ports pieces cuts last parts first new old old_underlay written mid mid_underlay now sinks underlay then_ so_far next there on many holds added line = record {
   left = slice_set so_far.left first.index next.behind;
   done = so_far.done ++ one;
   whole = so_far.whole ∙ ap (λ l. so_far.done ++ l) next.comes ∙ sym (append_assoc so_far.done one (merged (slice_set so_far.left first.index next.behind)));
   holds = holds_set ports so_far.left cuts parts first.index next.behind new so_far.holds there holds;
   rise = next.rise;
   above = (above_last ports so_far.left cuts parts first last next so_far.above).1;
+  numbered = numbers_both so_far.done one ∙ (λ i. so_far.numbered i ++ next.number i ∷ [])
+      ∙ ap (λ n. range_with_len 1 last ++ n ∷ []) its_number ∙ sym (range_more 1 last) ∙ ap (λ n. range_with_len 1 n) counted;
   added = λ t at. subst (λ l. IsAdded l (of_tap old old_underlay t) (of_tap sinks underlay t)) (sym (grown t))
       (added_both (λ t. capture_at t so_far.done) (λ t. records_at t next.p.records) old old_underlay mid mid_underlay sinks underlay many so_far.added added t at);
   lines = subst (Appends written then_) (sym (lines_both so_far.done one ∙ ap (λ l. lines_in so_far.done ++ l) (append-nil next.p.line))) (Appends-trans written now then_ (lines_in so_far.done) next.p.line so_far.lines line);
 }
   where
+    its_number : first.number ≡ 1 + last
+    its_number = omega (arith, on)
+
+    counted : suc last ≡ first.number
+    counted = omega (arith, on)
+
     one : List Piece
     one = next.p ∷ []
 
@@ -161,15 +198,18 @@ one_merged ports pieces cuts last parts first new old old_underlay written mid m
 
 pub all_merged : (ports : ℕ) (pieces : List Piece) (cuts : List (List (List ℕ))) (last : ℕ) (parts : List Shard) (d : Shard) (old : List Drain) (old_underlay : Drain) (written : Option (List ℕ)) (new : List Drain) (new_underlay : Drain) (now : Option (List ℕ))
     → MergedSoFar ports pieces cuts last parts old old_underlay written new new_underlay now → ((s : Shard) (k : ℕ) → k < length parts → IsNone (slice_index_or parts k s).coming)
-    → PutsAll ports pieces cuts parts old old_underlay written new new_underlay now
-all_merged ports pieces cuts last parts d old old_underlay written new new_underlay now so_far none = record {
-  hold = record {
-    many_cuts = so_far.holds.many_cuts;
-    each = λ s k lt. subst (λ l. Holds ports l (slice_index_or cuts k []) (slice_index_or parts k s)) (empty s k lt) (so_far.holds.each s k lt);
-  };
-  added = subst (λ l. AreAdded (λ t. capture_at t l) old old_underlay new new_underlay) whole so_far.added;
-  lines = subst (λ l. Appends written now (lines_in l)) whole so_far.lines;
-}
+    → AreNumbered pieces × PutsAll ports pieces cuts parts old old_underlay written new new_underlay now
+all_merged ports pieces cuts last parts d old old_underlay written new new_underlay now so_far none = (
+  (last, ap numbers (sym whole) ∙ so_far.numbered),
+  record {
+    hold = record {
+      many_cuts = so_far.holds.many_cuts;
+      each = λ s k lt. subst (λ l. Holds ports l (slice_index_or cuts k []) (slice_index_or parts k s)) (empty s k lt) (so_far.holds.each s k lt);
+    };
+    added = subst (λ l. AreAdded (λ t. capture_at t l) old old_underlay new new_underlay) whole so_far.added;
+    lines = subst (λ l. Appends written now (lines_in l)) whole so_far.lines;
+  },
+)
   where
     empty : (s : Shard) (k : ℕ) → k < length parts → slice_index_or so_far.left k [] ≡ []
     empty s k lt = no_event (slice_index_or so_far.left k []) (slice_index_or cuts k []) (subst IsNone (so_far.holds.each s k lt).next.coming (none s k lt))

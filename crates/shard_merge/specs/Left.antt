@@ -55,6 +55,7 @@ AreAdded text old old_underlay new new_underlay = (tap : Tap) → IsTap (length 
 abbrev pub IsDeviceFault : MergeFault → Type 0
 IsDeviceFault (faults.Read part) = ⊤
 IsDeviceFault (faults.Write target) = ⊤
+IsDeviceFault (faults.Missing number) = ⊥
 IsDeviceFault (faults.Part part fault) = ⊥
 
 module _ {T : Type 0} where

@@ -1,5 +1,6 @@
 pub mod Words
 pub mod Merged
+pub mod Numbers
 pub mod Left
 pub mod Copied
 pub mod Moved

@@ -86,6 +86,9 @@ pub enum MergeFault {
     /// A write to this output failed, or took none of some octets.
     #[error("write {0}")]
     Write(Target),
+    /// Where the event of this number was to come, no part has it, and one has an event of a greater one.
+    #[error("missing {0}")]
+    Missing(u64),
     /// This part is wrong.
     #[error("part {0}: {1}")]
     Part(usize, PartFault),

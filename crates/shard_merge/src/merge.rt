@@ -7,6 +7,7 @@ ghost use Rattle.timeline.specs.declared.timeline.Cut.{Cut};
 ghost use Rattle.shard_merge.specs.Coming.{Shard};
 ghost use Rattle.shard_merge.specs.Left.{AreAdded, UnlessDevice};
 ghost use Rattle.shard_merge.specs.Merged.{IsRising, Piece, merged, side_by_side, texts_of_pieces};
+ghost use Rattle.shard_merge.specs.Numbers.{UnlessMissing};
 ghost use Rattle.shard_merge.specs.Whole.{Adds, AllHold, AllRise, AreParts, HaveAll, OnlyCuts, PutsAll, PutsAt, behind};
 
 use crate::fault::{MergeFault, PartFault, Target};
@@ -18,9 +19,9 @@ use timeline::Tap;
 /// Puts the outputs of the parts of a run together, to outputs of as many captures.
 ///
 /// Decision lines come in order of their events' numbers, and behind them those of cut captures, part by part; records in
-/// the order that the lines tell. Where the parts hold the texts of a run's events, each event in one of them, the outputs
-/// hold the texts of all these events then, unless a read or a write fails. Everything else is a fault; what was written
-/// before it stands.
+/// the order that the lines tell. Where the parts hold the texts of a run's events, each event in one of them and numbered from
+/// 1 on, the outputs hold the texts of all these events then, unless a read or a write fails. Where numbers from 1 to the last
+/// are missing, the first of them is told. Everything else is a fault; what was written before it stands.
 pub fn merge_streams<R: Input, W: Output>(
     parts: &mut [Part<R>],
     port_sinks: &mut [Sink<W>],
@@ -29,7 +30,7 @@ pub fn merge_streams<R: Input, W: Output>(
 ) -> Result<(), MergeFault>
     requires few { length port_sinks.old ≤ 255 }
     ensures { (pieces : List (List Piece)) (cuts : List (List Cut)) → AreParts (length port_sinks.old) pieces cuts parts.old
-        → UnlessDevice result (Adds (texts_of_pieces (length port_sinks.old) (merged pieces) (side_by_side cuts)) port_sinks.old underlay_sink.old (W.written decisions.old) port_sinks.new underlay_sink.new (W.written decisions.new)) }
+        → UnlessMissing result (merged pieces) (Adds (texts_of_pieces (length port_sinks.old) (merged pieces) (side_by_side cuts)) port_sinks.old underlay_sink.old (W.written decisions.old) port_sinks.new underlay_sink.new (W.written decisions.new)) }
 {
     if let Err(fault) = see_counts(parts, port_sinks.len()) {
         return Err(fault);
@@ -90,7 +91,7 @@ fn put_at<R: Input, W: Output>(
     parts[index].put_event(index, port_sinks, underlay_sink, decisions)
 }
 
-/// Puts the events of all parts to the outputs, in order of their numbers.
+/// Puts the events of all parts to the outputs, in order of their numbers, of which none may be missing.
 fn put_events<R: Input, W: Output>(
     parts: &mut [Part<R>],
     port_sinks: &mut [Sink<W>],
@@ -100,12 +101,16 @@ fn put_events<R: Input, W: Output>(
     requires { HaveAll (length port_sinks.old) parts.old }
     ensures counts { HaveAll (length port_sinks.old) parts.new }
     ensures events { (pieces : List (List Piece)) (cuts : List (List (List ℕ))) → AllHold (length port_sinks.old) pieces cuts parts.old → AllRise pieces → IsRising 0 (merged pieces)
-        → UnlessDevice result (PutsAll (length port_sinks.old) (merged pieces) cuts parts.new port_sinks.old underlay_sink.old (W.written decisions.old) port_sinks.new underlay_sink.new (W.written decisions.new)) }
+        → UnlessMissing result (merged pieces) (PutsAll (length port_sinks.old) (merged pieces) cuts parts.new port_sinks.old underlay_sink.old (W.written decisions.old) port_sinks.new underlay_sink.new (W.written decisions.new)) }
 {
     let mut last = 0;
     while let Some(first) = find_first(parts) {
         if first.number <= last {
             return Err(behind(last, first.index, first.number));
+        }
+        let next = last + 1;
+        if first.number > next {
+            return Err(MergeFault::Missing(next));
         }
         if let Err(fault) = put_at(parts, first.index, port_sinks, underlay_sink, decisions) {
             return Err(fault);

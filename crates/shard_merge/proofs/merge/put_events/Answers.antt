@@ -4,7 +4,8 @@ use Rattle.shard_merge.specs.Coming.{Shard}
 use Rattle.shard_merge.specs.Merged.{merged}
 use Rattle.shard_merge.specs.Whole.{HaveAll}
 use Rattle.shard_merge.specs.declared.part.Coming.TheVariants as coming
-use Rattle.shard_merge.proofs.Merging.{MergedSoFar, above_last, all_merged, counts_set, next_piece, none_merged_yet, one_merged}
+use Rattle.shard_merge.proofs.Merging.{MergedSoFar, above_last, all_merged, counts_set, next_missing, next_piece, none_merged_yet, one_merged}
+use Rattle.shard_merge.proofs.Missing.{device_stops}
 use Rattle.shard_merge.proofs.merge.put_events.Goals as goal
 
 -- a part of nothing, for places where there is none
@@ -28,6 +29,13 @@ returns-then-first-last-clause-events g c = λ pieces cuts holds rise above.
     let next = next_piece (length c.args.port_sinks.now) so_far.left cuts c.loop-first.parts c.in-Some.first fresh so_far.holds so_far.rise c.in-Some.ensures in
     absurd (omega (arith, c.if-first-last.true, (above_last (length c.args.port_sinks.now) so_far.left cuts c.loop-first.parts c.in-Some.first c.loop-first.last next so_far.above).0))
 
+pub returns-then-first-next-clause-events : goal.returns-then-first-next-clause-events
+returns-then-first-next-clause-events g c = λ pieces cuts holds rise above.
+    let so_far = c.loop-first.invariant.events pieces cuts holds rise above in
+    let next = next_piece (length c.args.port_sinks.now) so_far.left cuts c.loop-first.parts c.in-Some.first fresh so_far.holds so_far.rise c.in-Some.ensures in
+    next_missing (length c.args.port_sinks.now) (merged pieces) cuts c.loop-first.last c.loop-first.parts c.in-Some.first c.args.port_sinks.now c.args.underlay_sink.now (g.W.Output.written c.args.decisions.now)
+    c.loop-first.port_sinks c.loop-first.underlay_sink (g.W.Output.written c.loop-first.decisions) so_far next (omega (arith, c.if-first-next.true))
+
 pub put_at-requires-clause-there : goal.put_at-requires-clause-there
 put_at-requires-clause-there g c = c.in-Some.ensures.there
 
@@ -46,7 +54,7 @@ returns-in-Err-clause-events g c = λ pieces cuts holds rise above.
     let so_far = c.loop-first.invariant.events pieces cuts holds rise above in
     let next = next_piece (length c.args.port_sinks.now) so_far.left cuts c.loop-first.parts c.in-Some.first fresh so_far.holds so_far.rise c.in-Some.ensures in
     let put = c.in-Err.ensures fresh in
-    put.event (length c.args.port_sinks.now) next.p next.behind (slice_index_or cuts c.in-Some.first.index []) (next.holds fresh)
+    device_stops (merged pieces) _ (put.event (length c.args.port_sinks.now) next.p next.behind (slice_index_or cuts c.in-Some.first.index []) (next.holds fresh))
 
 pub loop-first-preserved : goal.loop-first-preserved
 loop-first-preserved g c =
@@ -60,11 +68,12 @@ loop-first-preserved g c =
       events = λ pieces cuts holds rise above.
           let so_far = c.loop-first.invariant.events pieces cuts holds rise above in
           let next = next_piece (length c.args.port_sinks.now) so_far.left cuts c.loop-first.parts c.in-Some.first fresh so_far.holds so_far.rise c.in-Some.ensures in
+          let above = above_last (length c.args.port_sinks.now) so_far.left cuts c.loop-first.parts c.in-Some.first c.loop-first.last next so_far.above in
           let done = put.event (length c.args.port_sinks.now) next.p next.behind (slice_index_or cuts c.in-Some.first.index []) (next.holds fresh) in
           subst (λ (l : List Shard). MergedSoFar (length c.args.port_sinks.now) (merged pieces) cuts c.in-Some.first.number l c.args.port_sinks.now c.args.underlay_sink.now (g.W.Output.written c.args.decisions.now) c.put_at.new.port_sinks c.put_at.new.underlay_sink (g.W.Output.written c.put_at.new.decisions)) (sym put.changed)
           (one_merged (length c.args.port_sinks.now) (merged pieces) cuts c.loop-first.last c.loop-first.parts c.in-Some.first put.behind_it c.args.port_sinks.now c.args.underlay_sink.now (g.W.Output.written c.args.decisions.now)
           c.loop-first.port_sinks c.loop-first.underlay_sink (g.W.Output.written c.loop-first.decisions) c.put_at.new.port_sinks c.put_at.new.underlay_sink (g.W.Output.written c.put_at.new.decisions)
-          so_far next c.in-Some.ensures.there c.loop-first.invariant.sinks done.0 done.1 done.2);
+          so_far next c.in-Some.ensures.there (omega (arith, above.0, c.if-first-next.false)) c.loop-first.invariant.sinks done.0 done.1 done.2);
     }
 
 pub returns-clause-events : goal.returns-clause-events

@@ -13,8 +13,8 @@ complain() {
     failures=$((failures + 1))
 }
 
-# checks STATUS FAULT WORDS..: `tep check` with these words, in the folder, ends so, says this line on standard error, or
-# nothing where it is empty, and prints what stands on standard input
+# checks STATUS FAULT WORDS..: `tep check` with these words, in the folder, ends so, says this on standard error, or nothing
+# where it is empty, and prints what stands on standard input
 checks() {
     local status=$1 fault=$2 got
     shift 2
@@ -114,7 +114,8 @@ ok: 3 ports, 2 segments, 0 changes
 p1: pcap little-endian microseconds ethernet, 1 record, first 1.000000000, last 1.000000000
 p1: ends in the middle of a record
 T
-checks 3 "read absent.pcap" -s smallest.toml absent.pcap <<'T'
+checks 3 "read absent.pcap
+  absent.pcap: no such file" -s smallest.toml absent.pcap <<'T'
 ok: 1 ports, 1 segments, 0 changes
 T
 [ "$failures" -eq 0 ]

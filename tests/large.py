@@ -57,8 +57,9 @@ class Folder:
 
 
 def ended(run):
-    """The exit status and what stands on standard error."""
-    return run.wait(), run.stderr.read().decode().strip()
+    """The exit status and the first line on standard error: the fault, below which stands why."""
+    said = run.stderr.read().decode().splitlines()
+    return run.wait(), said[0] if said else ""
 
 
 def asks(truth, what):

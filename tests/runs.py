@@ -195,7 +195,10 @@ class Run:
 
     def said(self):
         """The decision lines, or the line of the fault that the run stopped at."""
-        return self.files["decisions.txt"].decode() if self.status == 0 else self.stderr
+        if self.status == 0:
+            return self.files["decisions.txt"].decode()
+        # Below a fault stands why.
+        return "".join(self.stderr.splitlines(keepends=True)[:1])
 
     def capture(self, tap):
         """What left at a tap."""

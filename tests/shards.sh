@@ -159,14 +159,15 @@ runs second 16-4094,none --settings examples/b.toml --changes examples/changes.t
 runs captured 16-4094,none "${a[@]}" --changes examples/changes.toml examples/port1.pcap examples/port3.pcap examples/port3.pcap
 runs under 16-4094,none --settings examples/a.toml --changes examples/changes.toml --underlay examples/port1.pcap "${ports[@]}"
 
-# refused STATUS FAULT WORDS..: the program ends so, and says this in a line; where a part is named by its folder, it is told so
+# refused STATUS FAULT WORDS..: the program ends so, and says this in its first line; where a part is named by its folder, it is
+# told so
 refused() {
     local status=$1 fault=$2 got
     shift 2
     (cd "$folder" && "$tep" "$@") >"$folder/stdout" 2>"$folder/stderr"
     got=$?
     [ "$got" -eq "$status" ] || complain "tep $*: status $got in place of $status"
-    [ "$(cat "$folder/stderr")" = "$fault" ] || complain "tep $*: '$(cat "$folder/stderr")' in place of '$fault'"
+    [ "$(head -n 1 "$folder/stderr")" = "$fault" ] || complain "tep $*: '$(cat "$folder/stderr")' in place of '$fault'"
     [ ! -s "$folder/stdout" ] || complain "tep $* prints something"
 }
 tep=$PWD/tep

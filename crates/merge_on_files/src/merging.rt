@@ -64,10 +64,9 @@ pub fn merge<'a, R: Files + AllocGlobal>(
         &mut outputs.underlay,
         &mut outputs.decisions,
     );
-    let finished = outputs.finish();
     match merged {
-        Ok(()) => finished.map(|_| told),
-        Err(fault) => Err(failure_of(folders, fault)),
+        Ok(()) => outputs.finish().map(|_| told),
+        Err(fault) => Err(outputs.finish_behind(failure_of(folders, fault))),
     }
 }
 

@@ -21,6 +21,7 @@ failure_status_of (failures.Run fault) = status_of fault
 failure_status_of (failures.Pcapng tap fault) = 1
 failure_status_of (failures.Read name) = 3
 failure_status_of (failures.Write output) = 3
+failure_status_of (failures.WriteFailed output fault) = 3
 failure_status_of (failures.NoEvent name) = 1
 failure_status_of (failures.Segments fault) = 1
 failure_status_of (failures.ReadOnce name) = 1

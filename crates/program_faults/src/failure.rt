@@ -6,7 +6,9 @@ ghost use Rattle.program_faults.specs.declared.failure.Failure.TheVariants as fa
 ghost use Rattle.program_faults.specs.declared.failure.ShardFailure.TheVariants as shards;
 ghost use Rattle.program_faults.specs.declared.text.TextFault.TheVariants.{OutOfMemory, Read};
 
+use crate::one_line::OneLine;
 use crate::status::exit_code;
+use crate::system_fault::SystemFault;
 use crate::text::TextFault;
 use capture_run::RunFault;
 use pcapng_input::PcapngFault;
@@ -14,11 +16,11 @@ use segment_set::ListFault;
 use shard_merge::PartFault;
 use shard_record::{Difference, DigestsFault, LentFault, PartingFault, ShardFault};
 use std::alloc::AllocError;
-use std::fmt;
+use std::{fmt, io};
 use thiserror::Error;
 use timeline::Tap;
 
-/// Why the program gives up. It prints as one line on standard error.
+/// Why the program gives up. It prints as one line on standard error, with names as [`OneLine`] prints them.
 #[derive(Debug, Drop, Error)]
 pub enum Failure<'a> {
     /// A text or a capture is refused, or memory was.
@@ -28,26 +30,29 @@ pub enum Failure<'a> {
     #[error("{0}: {1}")]
     Pcapng(Tap, PcapngFault),
     /// The file of this name, as it was given, couldn't be read.
-    #[error("read {0}")]
+    #[error("read {name}", name = OneLine(*.0))]
     Read(&'a str),
-    /// This couldn't be written.
+    /// This couldn't be written: it is one of the files that are read, or nobody told why.
     #[error("write {0}")]
     Write(OutputFile),
+    /// This couldn't be written, and the system told why.
+    #[error("write {0}")]
+    WriteFailed(OutputFile, SystemFault),
     /// No event has one of the names that were asked for, of which this is the first.
-    #[error("why: no event {0}")]
+    #[error("why: no event {name}", name = OneLine(*.0))]
     NoEvent(&'a str),
     /// The list of the segments of a part is refused.
     #[error("segments: {0}")]
     Segments(ListFault),
     /// The capture of this name is standard input or no regular file, and a part that no digests are lent to reads its captures
     /// twice.
-    #[error("{0} can be read only once, and without --digests a part reads its captures twice")]
+    #[error("{name} can be read only once, and without --digests a part reads its captures twice", name = OneLine(*.0))]
     ReadOnce(&'a str),
     /// The text of this file doesn't lend a part its digests, or the capture of this name isn't what a part has the digest of.
-    #[error("{0}: {1}")]
+    #[error("{name}: {1}", name = OneLine(*.0))]
     Digests(&'a str, DigestsFailure),
     /// The part in this folder is wrong.
-    #[error("part {0}: {1}")]
+    #[error("part {name}: {1}", name = OneLine(*.0))]
     Shard(&'a str, ShardFailure),
     /// Parts aren't a whole run.
     #[error("{0}")]
@@ -98,7 +103,7 @@ pub enum ShardFailure {
 }
 
 /// What is written: a file within the folder for outputs, or the text on standard output.
-#[derive(Clone, Copy, Debug, Drop)]
+#[derive(Clone, Copy, Debug, PartialEq, Eq)]
 pub enum OutputFile {
     /// The capture of the port of this number.
     Port(usize),
@@ -145,6 +150,16 @@ impl<'a> Failure<'a> {
         }
     }
 
+    /// That this couldn't be written for an error.
+    pub fn writing(output: OutputFile, error: &io::Error) -> Failure<'static>
+        ensures { failure_status_of result ≡ 3 }
+    {
+        match SystemFault::of(error) {
+            Some(fault) => Failure::WriteFailed(output, fault),
+            None => Failure::Write(output),
+        }
+    }
+
     /// That the part in this folder is wrong.
     pub fn in_part(folder: &'a str, fault: PartFault) -> Failure<'a>
         ensures { result ≡ failures.Shard folder.entry (shards.Part fault) }
@@ -167,7 +182,7 @@ impl<'a> Failure<'a> {
             | Failure::Shard(..)
             | Failure::Parting(_)
             | Failure::Missing(_) => 1,
-            Failure::Read(_) | Failure::Write(_) => 3,
+            Failure::Read(_) | Failure::Write(_) | Failure::WriteFailed(..) => 3,
         }
     }
 }

@@ -55,7 +55,7 @@ pub type Capture<'a, F, I> = Source<CountInput<ClassicInput<'a, F, I>>>;
 pub type SeenCapture<'a, F, I> = Source<CaptureInput<'a, Peeked<Blocks<F, I>>>>;
 
 /// The interfaces that the words ask for: one by its number, which is of digits alone, or by its name, or all.
-fn selection_of(interface: Option<&str>) -> Selection<'_> {
+pub fn selection_of(interface: Option<&str>) -> Selection<'_> {
     let Some(interface) = interface else {
         return Selection::All;
     };
@@ -90,20 +90,35 @@ pub fn open_named<'a, R: Files + Input + AllocGlobal>(
     rt: &R,
     name: &'a str,
 ) -> Result<ClassicInput<'a, R::File, R::Reader>, Failure<'a>> {
+    open_for(rt, name, CAPTURE_READS)
+}
+
+/// Opens what a capture's name stands for, to read it in so many reads at most.
+fn open_for<'a, R: Files + Input + AllocGlobal>(
+    rt: &R,
+    name: &'a str,
+    reads: u64,
+) -> Result<ClassicInput<'a, R::File, R::Reader>, Failure<'a>> {
     let asked = capture_name(name);
     let input = match open_blocks(rt, name, asked.file) {
         Ok(input) => input,
         Err(failure) => return Err(failure),
     };
-    match CaptureInput::new(
-        rt.alloc(),
-        input,
-        selection_of(asked.interface),
-        CAPTURE_READS,
-    ) {
+    match CaptureInput::new(rt.alloc(), input, selection_of(asked.interface), reads) {
         Ok(input) => Ok(input),
         Err(error) => Err(Failure::from(error)),
     }
+}
+
+/// How many reads are made of a capture for how it begins, at most.
+const FRONT_READS: u64 = 4;
+
+/// Opens what a capture's name stands for, to look at how it begins. Nothing of it is read yet, and little may be.
+pub fn open_front<'a, R: Files + Input + AllocGlobal>(
+    rt: &R,
+    name: &'a str,
+) -> Result<ClassicInput<'a, R::File, R::Reader>, Failure<'a>> {
+    open_for(rt, name, FRONT_READS)
 }
 
 /// Opens a capture, and looks at its first octets.

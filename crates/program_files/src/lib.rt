@@ -2,18 +2,24 @@
 //! is printed. Which of them a run takes, and what comes out of it, stands above.
 #![tactic(auto)]
 
+mod file_causes;
 mod inputs;
+mod interface_list;
 mod names;
+mod output_device;
 mod outputs;
 mod part_inputs;
 mod part_texts;
 mod printing;
 
+pub use file_causes::{head_of_file, read_fault};
 pub use inputs::{
     Blocks, CAPTURE_READS, Capture, ClassicInput, Device, SeenCapture, open_capture, open_captures,
-    open_named, open_seen, read_file, read_if_given, read_underlay,
+    open_front, open_named, open_seen, read_file, read_if_given, read_underlay, selection_of,
 };
-pub use names::{Names, is_same};
+pub use interface_list::{Described, MOST_INTERFACES, Reach, interfaces_of_file};
+pub use names::{Names, RunInput, file_of, is_read_once, is_regular_file, is_same};
+pub use output_device::OutputDevice;
 pub use outputs::{Opened, Outputs, Written, open_outputs, path_of, spare_inputs};
 pub use part_inputs::{PartInput, count_events, open_lines, open_part_file};
 pub use part_texts::{drop_part, drop_texts, leave_text};

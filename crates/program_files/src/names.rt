@@ -1,5 +1,6 @@
 //! The names of what a run reads, and which files they are.
 use command_line::{STANDARD_INPUT, capture_name};
+use std::fmt;
 use std::fs::{self, Metadata};
 use std::os::unix::fs::{FileTypeExt, MetadataExt};
 use std::path::Path;
@@ -55,30 +56,72 @@ impl<'a> Names<'_, 'a> {
 
     /// Whether what stands at a path is read under one of these names, or another name of the same file.
     pub fn contain<R: Files>(self, rt: &R, path: Path<'_>) -> bool {
+        self.reader_of(rt, path).is_some()
+    }
+
+    /// What is read of the file that stands at a path, under one of these names or another name of the same file.
+    pub fn reader_of<R: Files>(self, rt: &R, path: Path<'_>) -> Option<RunInput> {
         let Ok(found) = fs::metadata(rt, path) else {
-            return false;
+            return None;
         };
         // To write into a device takes nothing from who reads it.
         if found.file_type().is_char_device() {
-            return false;
+            return None;
         }
-        is_same(rt, Path::new(self.settings), &found)
-            || self
-                .changes
-                .is_some_and(|name| is_same(rt, Path::new(name), &found))
-            || self
-                .digests
-                .is_some_and(|name| is_same(rt, Path::new(name), &found))
-            || is_same(rt, Path::new(file_of(self.underlay)), &found)
-            || self
-                .ports
-                .iter()
-                .any(|name| is_same(rt, Path::new(file_of(*name)), &found))
+        if is_same(rt, Path::new(self.settings), &found) {
+            return Some(RunInput::Settings);
+        }
+        if is_one(rt, self.changes, &found) {
+            return Some(RunInput::Changes);
+        }
+        if is_one(rt, self.digests, &found) {
+            return Some(RunInput::Digests);
+        }
+        if is_same(rt, Path::new(file_of(self.underlay)), &found) {
+            return Some(RunInput::Underlay);
+        }
+        for (index, name) in self.ports.iter().enumerate() {
+            if is_same(rt, Path::new(file_of(*name)), &found) {
+                return Some(RunInput::Port(index.saturating_add(1)));
+            }
+        }
+        None
+    }
+}
+
+/// What a run reads. It prints in a few words.
+#[derive(Clone, Copy, Debug)]
+pub enum RunInput {
+    Settings,
+    Changes,
+    Digests,
+    Underlay,
+    /// The capture of the port of this number.
+    Port(usize),
+}
+
+impl fmt::Display for RunInput {
+    fn fmt<W: fmt::Write>(&self, f: &mut fmt::Formatter<W>) -> fmt::Result {
+        match self {
+            RunInput::Settings => f.write_str("the settings"),
+            RunInput::Changes => f.write_str("the changes"),
+            RunInput::Digests => f.write_str("the text of digests"),
+            RunInput::Underlay => f.write_str("the capture of the underlay"),
+            RunInput::Port(number) => write!(f, "the capture of port {number}"),
+        }
+    }
+}
+
+/// Whether a name that may be left out leads to this file.
+fn is_one<R: Files>(rt: &R, name: Option<&str>, found: &Metadata) -> bool {
+    match name {
+        Some(name) => is_same(rt, Path::new(name), found),
+        None => false,
     }
 }
 
 /// The file that a capture's name stands for.
-fn file_of(name: &str) -> &str {
+pub fn file_of(name: &str) -> &str {
     let file = capture_name(name).file;
     if file == STANDARD_INPUT {
         STANDARD_INPUT_FILE
@@ -96,12 +139,12 @@ pub fn is_same<R: Files>(rt: &R, path: Path<'_>, found: &Metadata) -> bool {
 }
 
 /// Whether a capture can be read only once: a pipe, and standard input, be it a file or not, since it goes on where it was left.
-fn is_read_once<R: Files>(rt: &R, name: &str) -> bool {
+pub fn is_read_once<R: Files>(rt: &R, name: &str) -> bool {
     capture_name(name).file == STANDARD_INPUT || !is_regular_file(rt, name)
 }
 
 /// Whether a capture's name stands for a regular file.
-fn is_regular_file<R: Files>(rt: &R, name: &str) -> bool {
+pub fn is_regular_file<R: Files>(rt: &R, name: &str) -> bool {
     match fs::metadata(rt, file_of(name)) {
         Ok(metadata) => metadata.is_file(),
         Err(_) => false,

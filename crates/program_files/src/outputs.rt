@@ -2,8 +2,9 @@
 ghost use Rattle.std.specs.Prelude.{◌≡◌, IfOk, length};
 
 use crate::names::Names;
+use crate::output_device::OutputDevice;
 use pcap_stream::{BlockOutput, Sink, StdOutput};
-use program_faults::{Failure, OutputFile};
+use program_faults::{Failure, OutputFile, SystemFault};
 use std::alloc::{AllocError, Global};
 use std::fs::{OpenFile, OpenOptions};
 use std::io::{self, Write};
@@ -11,7 +12,7 @@ use std::path::{Path, PathBuf};
 use std::rt::Files;
 
 /// A file that is written in blocks.
-pub type Written<F> = BlockOutput<StdOutput<F>>;
+pub type Written<F> = BlockOutput<StdOutput<OutputDevice<F>>>;
 
 /// What a run writes: the ports' captures rising, the underlay's, and the decision lines. A part of a run also says what it
 /// was made from.
@@ -124,7 +125,7 @@ fn open<R: Files + AllocGlobal>(
         .write(true)
         .create(true)
         .open(rt, path.as_path())
-        .map_err(|_| Failure::Write(output))
+        .map_err(|error| Failure::writing(output, &error))
 }
 
 impl<F: Write + OpenFile + Drop> Opened<F> {
@@ -141,8 +142,8 @@ impl<F: Write + OpenFile + Drop> Opened<F> {
         } = self;
         // A part that stops says of nothing that it was made from it.
         if let Some(file) = &shard {
-            if cut(file).is_err() {
-                return Err(Failure::Write(OutputFile::Shard));
+            if let Err(error) = cut(file) {
+                return Err(Failure::writing(OutputFile::Shard, &error));
             }
         }
         let mut ports = Vec::new(alloc);
@@ -179,10 +180,10 @@ fn empty<F: Write + OpenFile + Drop>(
     output: OutputFile,
     block: usize,
 ) -> Result<Written<F>, Failure<'static>> {
-    if cut(&file).is_err() {
-        return Err(Failure::Write(output));
+    if let Err(error) = cut(&file) {
+        return Err(Failure::writing(output, &error));
     }
-    match BlockOutput::new(alloc, StdOutput::new(file), block) {
+    match BlockOutput::new(alloc, StdOutput::new(OutputDevice::new(file)), block) {
         Ok(written) => Ok(written),
         Err(error) => Err(Failure::from(error)),
     }
@@ -217,6 +218,49 @@ impl<F: Write + Drop> Outputs<F> {
             .and(flush(OutputFile::Decisions, decisions))?;
         Ok(shard)
     }
+
+    /// Writes what the blocks still hold, behind a run or a merge that gave up for this failure. Where that is a write into
+    /// one of these files it answers it with what the system told, and else the same.
+    pub fn finish_behind<'a>(self, failure: Failure<'a>) -> Failure<'a> {
+        let Outputs {
+            ports,
+            underlay,
+            decisions,
+            ..
+        } = self;
+        let mut told = failure;
+        for (index, port) in ports.into_iter().enumerate() {
+            let flushed = flush(OutputFile::Port(index + 1), port.into_inner());
+            told = with_cause(told, flushed);
+        }
+        told = with_cause(told, flush(OutputFile::Underlay, underlay.into_inner()));
+        with_cause(told, flush(OutputFile::Decisions, decisions))
+    }
+}
+
+/// The file that couldn't be written, and what the system told of it.
+fn cause_of(flushed: Result<(), Failure<'static>>) -> Option<(OutputFile, SystemFault)> {
+    match flushed {
+        Err(Failure::WriteFailed(file, fault)) => Some((file, fault)),
+        _ => None,
+    }
+}
+
+/// A failure, with what the system told of it where it is the same file that couldn't be finished.
+fn with_cause<'a>(failure: Failure<'a>, flushed: Result<(), Failure<'static>>) -> Failure<'a> {
+    match failure {
+        Failure::Write(output) => match cause_of(flushed) {
+            Some((file, fault)) => {
+                if file == output {
+                    Failure::WriteFailed(file, fault)
+                } else {
+                    Failure::Write(output)
+                }
+            }
+            None => Failure::Write(output),
+        },
+        other => other,
+    }
 }
 
 /// Writes what a file's block still holds.
@@ -224,11 +268,13 @@ fn flush<F: Write + Drop>(
     output: OutputFile,
     mut written: Written<F>,
 ) -> Result<(), Failure<'static>> {
-    if written.finish().is_err() {
-        return Err(Failure::Write(output));
+    let finished = written.finish();
+    let mut device = written.into_inner().into_inner();
+    if finished.is_err() || device.has_failed() {
+        return Err(device.failure(output));
     }
-    match written.into_inner().into_inner().flush() {
+    match device.flush() {
         Ok(()) => Ok(()),
-        Err(_) => Err(Failure::Write(output)),
+        Err(error) => Err(Failure::writing(output, &error)),
     }
 }

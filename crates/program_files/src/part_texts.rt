@@ -46,7 +46,7 @@ fn drop_text<R: Files + AllocGlobal>(
     let path = path_of(rt.alloc(), folder, output)?;
     match fs::metadata(rt, path.as_path()) {
         Ok(found) if found.is_file() => {
-            fs::remove_file(rt, path.as_path()).map_err(|_| Failure::Write(output))
+            fs::remove_file(rt, path.as_path()).map_err(|error| Failure::writing(output, &error))
         }
         Ok(found) if found.is_dir() => Err(Failure::Write(output)),
         _ => Ok(()),
@@ -66,11 +66,12 @@ pub fn leave_text<R: Files + AllocGlobal>(
         .create(true)
         .truncate(true)
         .open(rt, path.as_path());
-    let Ok(mut file) = opened else {
-        return Err(Failure::Write(output));
+    let mut file = match opened {
+        Ok(file) => file,
+        Err(error) => return Err(Failure::writing(output, &error)),
     };
     match file.write_all(text) {
         Ok(()) => Ok(()),
-        Err(_) => Err(Failure::Write(output)),
+        Err(error) => Err(Failure::writing(output, &error)),
     }
 }

@@ -4,8 +4,9 @@ use std::io::{self, Write};
 
 /// Prints a text on standard output.
 pub fn print_text(rt: &impl Print, text: &[u8]) -> Result<(), Failure<'static>> {
-    if is_lost(io::writer(rt).write_all(text)) {
-        return Err(Failure::Write(OutputFile::Stdout));
+    match io::writer(rt).write_all(text) {
+        Ok(()) => Ok(()),
+        Err(error) if is_lost(Err(error)) => Err(Failure::writing(OutputFile::Stdout, &error)),
+        Err(_) => Ok(()),
     }
-    Ok(())
 }

@@ -2,6 +2,7 @@
 #![tactic(auto)]
 
 mod digests;
+mod headers;
 mod parts;
 mod runs;
 

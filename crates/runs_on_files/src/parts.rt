@@ -129,7 +129,7 @@ fn write_shard<F: Write + Drop>(file: F, text: &[u8]) -> Result<(), Failure<'sta
     let mut file = file;
     match file.write_all(text) {
         Ok(()) => Ok(()),
-        Err(_) => Err(Failure::Write(OutputFile::Shard)),
+        Err(error) => Err(Failure::writing(OutputFile::Shard, &error)),
     }
 }
 

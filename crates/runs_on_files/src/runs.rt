@@ -5,6 +5,7 @@ ghost use Rattle.overlay_config.specs.Settings.{settings_in};
 ghost use Rattle.overlay_settings.specs.Rules.{EachBehind};
 ghost use Rattle.stream_run.specs.Begun.{IsUnread};
 
+use crate::headers::see_headers;
 use capture_run::{RunFault, of_changes, of_settings};
 use dissector::{failure_of_run, tap_of};
 use overlay_config::{Settings, TimedChange, changes_of, settings_of};
@@ -93,7 +94,8 @@ pub struct Done<F: Drop> {
 /// Runs on captures, and writes what comes out into a folder as it comes. Someone looks on.
 ///
 /// Where the settings, the changes or the number of captures are refused, or an output is one of the files that are read,
-/// nothing is made or written; where an output can't be opened, what stands in the others is kept.
+/// nothing is made or written; where an output can't be opened, or a capture that is a regular file begins as none does, what
+/// stands in the outputs is kept.
 pub fn run_on_files<'a, R: Files + Input + AllocGlobal, T: Watch>(
     rt: &R,
     names: Names<'_, 'a>,
@@ -258,13 +260,12 @@ fn run_on_read<'a, R: Files + Input + AllocGlobal, T: Watch>(
         segments,
         watch,
     );
-    let finished = outputs.finish();
     match run {
-        Ok(()) => match finished {
+        Ok(()) => match outputs.finish() {
             Ok(shard) => Ok(shard),
             Err(failure) => Err(failure),
         },
-        Err(fault) => Err(failure_of(names, fault, ports, underlay)),
+        Err(fault) => Err(outputs.finish_behind(failure_of(names, fault, ports, underlay))),
     }
 }
 
@@ -285,8 +286,8 @@ fn done_on<F: Read + Drop, I: Read + Drop>(
     })
 }
 
-/// Opens the outputs of so many ports and empties them, where none of them is a file that is read. What an earlier part left
-/// besides is taken away before.
+/// Opens the outputs of so many ports and empties them, where none of them is a file that is read and no capture that can be
+/// looked at begins as none does. What an earlier part left besides is taken away before.
 fn prepare_outputs<'a, R: Files + Input + AllocGlobal>(
     rt: &R,
     names: Names<'_, 'a>,
@@ -304,6 +305,7 @@ fn prepare_outputs<'a, R: Files + Input + AllocGlobal>(
         0
     };
     let opened = open_outputs(rt, folder, is_part, count)?;
+    see_headers(rt, names)?;
     // What says of outputs that they are a part's goes before they change.
     if is_part {
         drop_texts(rt, folder)?;

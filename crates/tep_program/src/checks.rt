@@ -1,4 +1,6 @@
 //! A look at what a run is to read, before it does.
+use crate::interfaces::missing_interface;
+use crate::swapped::swapped_lines;
 use capture_run::RunFault;
 use capture_survey::{Report, SurveyFault, survey_capture};
 use config_text::SettingsFault;
@@ -7,7 +9,7 @@ use file_kind::FileKind;
 use foreseen_changes::foresee;
 use overlay_config::{Settings, TimedChange};
 use pcap_io::CaptureFault;
-use program_faults::Failure;
+use program_faults::{Failure, OneLine};
 use program_files::{SeenCapture, open_seen, print_text, read_file, read_if_given};
 use std::fmt::Write;
 use std::io::{Input, Read};
@@ -75,7 +77,8 @@ pub fn check<'a, R: Files + Input + AllocGlobal + Print>(
         told: counted.and(print_foreseen(rt, read, told)),
     };
     let seen = texts.and(look_at_captures(rt, underlay, ports));
-    seen.found.and(seen.told)
+    let swapped = print_swapped(rt, settings.text, underlay, ports);
+    seen.found.and(seen.told).and(swapped)
 }
 
 /// Sees that so many ports have as many captures, unless no port's capture is named.
@@ -119,7 +122,16 @@ fn print_advice<R: AllocGlobal + Print>(
     fault: &SettingsFault,
 ) -> Result<(), Failure<'static>> {
     let at = syntax_error_at(rt.alloc(), named.text)?;
-    let told = advice(rt.alloc(), kind, named.name, named.text, fault, at.as_ref())?;
+    let shown = OneLine(named.name);
+    let name = format!(in rt.alloc(); "{shown}")?;
+    let told = advice(
+        rt.alloc(),
+        kind,
+        name.as_str(),
+        named.text,
+        fault,
+        at.as_ref(),
+    )?;
     print_text(rt, told.as_slice())
 }
 
@@ -155,6 +167,22 @@ fn look_at_captures<'a, R: Files + Input + AllocGlobal + Print>(
     }
 }
 
+/// Prints which captures look as if they stood in each other's place.
+fn print_swapped<R: Files + Input + AllocGlobal + Print>(
+    rt: &R,
+    settings: &[u8],
+    underlay: Option<&str>,
+    ports: &[&str],
+) -> Result<(), Failure<'static>> {
+    match underlay {
+        Some(underlay) => {
+            let lines = swapped_lines(rt, settings, underlay, ports)?;
+            print_text(rt, lines.as_bytes())
+        }
+        None => Ok(()),
+    }
+}
+
 /// Prints what is in a capture.
 fn look_at_capture<'a, R: Files + Input + AllocGlobal + Print>(
     rt: &R,
@@ -171,18 +199,18 @@ fn look_at_capture<'a, R: Files + Input + AllocGlobal + Print>(
         }
     };
     match survey_capture(&mut capture, tap) {
-        Ok(survey) => Seen {
-            found: Ok(()),
-            told: print_report(
-                rt,
-                Report {
-                    tap,
-                    is_pcapng: kind == FileKind::Pcapng,
-                    left_out: capture.input().left_out(),
-                    survey,
-                },
-            ),
-        },
+        Ok(survey) => {
+            let report = Report {
+                tap,
+                is_pcapng: kind == FileKind::Pcapng,
+                left_out: capture.input().left_out(),
+                survey,
+            };
+            Seen {
+                found: Ok(()),
+                told: print_report(rt, report).and(print_missing(rt, name)),
+            }
+        }
         Err(fault) => Seen {
             found: Err(failure_of(tap, name, &capture, fault)),
             told: print_kind(rt, tap, kind, fault),
@@ -194,6 +222,17 @@ fn look_at_capture<'a, R: Files + Input + AllocGlobal + Print>(
 fn print_report<R: AllocGlobal + Print>(rt: &R, report: Report) -> Result<(), Failure<'static>> {
     let text = format!(in rt.alloc(); "{report}")?;
     print_text(rt, text.as_bytes())
+}
+
+/// Prints which interfaces a capture has, where none of them is asked for by its name.
+fn print_missing<R: Files + AllocGlobal + Print>(
+    rt: &R,
+    name: &str,
+) -> Result<(), Failure<'static>> {
+    match missing_interface(rt, name)? {
+        Some(line) => print_text(rt, line.as_bytes()),
+        None => Ok(()),
+    }
 }
 
 /// Prints what a file is, where it is no capture that is read.

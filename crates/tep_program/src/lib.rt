@@ -5,7 +5,14 @@
 //! [`start`] gets the words of the process; [`run`] is handed them.
 #![tactic(auto)]
 
+mod causes;
 mod checks;
+mod interfaces;
+mod link;
+mod named;
+mod notes;
 mod program;
+mod refusals;
+mod swapped;
 
 pub use program::{run, start};

@@ -7,7 +7,9 @@ ghost use Rattle.overlay_settings.specs.Rules.{EachBehind};
 ghost use Rattle.program_faults.specs.Status.{failure_status_of};
 ghost use Rattle.tep_program.specs.Status.{IsStatusOf};
 
+use crate::causes::tell_causes;
 use crate::checks::check;
+use crate::notes::tell_notes;
 use capture_run::{RunFault, of_settings};
 use clap::error::ErrorKind as Refusal;
 use dissector::{Line, LineFault, Values, explain_bytes, line_of, sample, segments_of};
@@ -60,8 +62,15 @@ pub fn run<'a, R: Files + Input + AllocGlobal + Print + Eprint>(rt: &R, words: &
 {
     match line_of(rt.alloc(), words) {
         Ok(line) => match perform(rt, &line) {
-            Ok(()) => 0,
-            Err(failure) => stopped(rt, &failure),
+            Ok(()) => {
+                tell_notes(rt, &line);
+                0
+            }
+            Err(failure) => {
+                let status = stopped(rt, &failure);
+                tell_causes(rt, &line, &failure);
+                status
+            }
         },
         Err(LineFault::OutOfMemory) => stopped(rt, &Failure::Run(RunFault::OutOfMemory)),
         Err(LineFault::NoValue) => words_refused(rt, &LineFault::NoValue),

@@ -1,0 +1,50 @@
+//! A file that is written, and why a write into it failed.
+use program_faults::{Failure, OutputFile, SystemFault};
+use std::io::{self, ErrorKind, Write};
+
+/// A file that is written. It keeps what the system told of the last write that failed.
+#[derive(Drop)]
+pub struct OutputDevice<F: Write + Drop> {
+    file: F,
+    fault: Option<SystemFault>,
+}
+
+impl<F: Write + Drop> OutputDevice<F> {
+    /// A file of which no write has failed.
+    pub fn new(file: F) -> OutputDevice<F> {
+        OutputDevice { file, fault: None }
+    }
+
+    /// That it couldn't be written, with what the system told of it.
+    pub fn failure(&self, output: OutputFile) -> Failure<'static> {
+        match self.fault {
+            Some(fault) => Failure::WriteFailed(output, fault),
+            None => Failure::Write(output),
+        }
+    }
+
+    /// Whether a write failed that wasn't tried again.
+    pub fn has_failed(&self) -> bool {
+        self.fault.is_some()
+    }
+}
+
+impl<F: Write + Drop> Write for OutputDevice<F> {
+    ghost contents = { λ d. F.contents d.file };
+
+    fn write(&mut self, octets: &[u8]) -> io::Result<usize> {
+        match self.file.write(octets) {
+            Ok(count) => Ok(count),
+            Err(error) => {
+                if error.kind() != ErrorKind::Interrupted {
+                    self.fault = SystemFault::of(&error);
+                }
+                Err(error)
+            }
+        }
+    }
+
+    fn flush(&mut self) -> io::Result<()> {
+        self.file.flush()
+    }
+}

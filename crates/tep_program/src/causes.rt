@@ -1,0 +1,228 @@
+//! Why a line gave up, as far as it is known: lines on standard error below its fault, each begun by two spaces.
+use crate::named::{capture_at, folder_of, is_text, names_of};
+use crate::notes::tell_notes;
+use crate::refusals::{tell_part_capture, tell_pcapng, tell_refused};
+use command_line::{STANDARD_INPUT, capture_name};
+use dissector::Line;
+use program_faults::{Failure, OneLine, OutputFile, ShardFailure, SystemFault};
+use program_files::{file_of, is_same, path_of, read_fault};
+use shard_merge::PartFault;
+use std::alloc::AllocError;
+use std::fs;
+use std::io::ErrorKind;
+use std::rt::Files;
+
+/// The most ports that a run has.
+const MOST_PORTS: usize = 16;
+
+/// The texts of a part that a merge reads first.
+const PART_TEXTS: [OutputFile; 3] = [
+    OutputFile::Shard,
+    OutputFile::Decisions,
+    OutputFile::Underlay,
+];
+
+/// Tells why a line gave up. Where memory is refused for that, the fault alone is told.
+pub fn tell_causes<R: Files + AllocGlobal + Eprint>(
+    rt: &R,
+    line: &Line<'_>,
+    failure: &Failure<'_>,
+) {
+    let _ = tell(rt, line, failure);
+}
+
+/// Tells why a line gave up.
+fn tell<R: Files + AllocGlobal + Eprint>(
+    rt: &R,
+    line: &Line<'_>,
+    failure: &Failure<'_>,
+) -> Result<(), AllocError> {
+    match failure {
+        Failure::Read(name) => tell_unread(rt, line, *name),
+        Failure::Write(output) => tell_spared(rt, line, *output),
+        Failure::WriteFailed(output, fault) => tell_unwritten(rt, line, *output, *fault),
+        Failure::Run(fault) => tell_refused(rt, line, fault),
+        Failure::Pcapng(tap, fault) => match capture_at(line, *tap) {
+            Some(name) => tell_pcapng(rt, name, *fault),
+            None => Ok(()),
+        },
+        // An event may be missing since its capture has no such interface.
+        Failure::NoEvent(_) => {
+            tell_notes(rt, line);
+            Ok(())
+        }
+        Failure::Shard(folder, ShardFailure::Part(PartFault::Capture(tap, fault))) => {
+            tell_part_capture(rt, *folder, *tap, *fault)
+        }
+        _ => Ok(()),
+    }
+}
+
+/// Tells why a file can't be read, or a part.
+fn tell_unread<R: Files + AllocGlobal + Eprint>(
+    rt: &R,
+    line: &Line<'_>,
+    name: &str,
+) -> Result<(), AllocError> {
+    if let Line::Merge { shards, .. } = line {
+        return tell_unread_part(rt, name, shards.as_slice());
+    }
+    if is_text(line, name) {
+        if let Some(fault) = read_fault(rt, name) {
+            tell_fault(rt, name, fault);
+        }
+    } else {
+        tell_unread_capture(rt, name);
+    }
+    Ok(())
+}
+
+/// Tells why a capture can't be read.
+fn tell_unread_capture<R: Files + Eprint>(rt: &R, name: &str) {
+    let path = file_of(name);
+    let Some(fault) = read_fault(rt, path) else {
+        return;
+    };
+    if capture_name(name).file == STANDARD_INPUT {
+        let _ = eprintln!(rt; "  standard input is closed");
+        return;
+    }
+    tell_fault(rt, path, fault);
+    if path != name && fs::metadata(rt, name).is_ok() {
+        let whole = OneLine(name);
+        let _ = eprintln!(rt; "  {whole} is a file: {whole}# names it");
+    }
+}
+
+/// Tells why the system refused a file.
+fn tell_fault(rt: &impl Eprint, path: &str, fault: SystemFault) {
+    let shown = OneLine(path);
+    let _ = eprintln!(rt; "  {shown}: {fault}");
+}
+
+/// Tells which file of a part can't be read.
+fn tell_unread_part<R: Files + AllocGlobal + Eprint>(
+    rt: &R,
+    folder: &str,
+    shards: &[&str],
+) -> Result<(), AllocError> {
+    if let Err(error) = fs::metadata(rt, folder) {
+        if error.kind() == ErrorKind::NotFound {
+            let shown = OneLine(folder);
+            let _ = eprintln!(rt; "  {shown}: no such folder");
+            return Ok(());
+        }
+    }
+    for output in PART_TEXTS {
+        if tell_unread_file(rt, folder, output)? {
+            return Ok(());
+        }
+    }
+    for index in 0..MOST_PORTS {
+        let output = OutputFile::Port(index + 1);
+        if is_in_one(rt, shards, output)? && tell_unread_file(rt, folder, output)? {
+            return Ok(());
+        }
+    }
+    Ok(())
+}
+
+/// Tells why a file in a folder can't be read, and says whether it can't.
+fn tell_unread_file<R: Files + AllocGlobal + Eprint>(
+    rt: &R,
+    folder: &str,
+    output: OutputFile,
+) -> Result<bool, AllocError> {
+    let path = path_of(rt.alloc(), folder, output)?;
+    let name = path.as_path().as_str();
+    match read_fault(rt, name) {
+        Some(fault) => {
+            tell_fault(rt, name, fault);
+            Ok(true)
+        }
+        None => Ok(false),
+    }
+}
+
+/// Whether one of these folders has such a file.
+fn is_in_one<R: Files + AllocGlobal>(
+    rt: &R,
+    folders: &[&str],
+    output: OutputFile,
+) -> Result<bool, AllocError> {
+    for folder in folders {
+        let path = path_of(rt.alloc(), *folder, output)?;
+        if fs::metadata(rt, path.as_path()).is_ok() {
+            return Ok(true);
+        }
+    }
+    Ok(false)
+}
+
+/// Tells which of the files that are read an output is.
+fn tell_spared<R: Files + AllocGlobal + Eprint>(
+    rt: &R,
+    line: &Line<'_>,
+    output: OutputFile,
+) -> Result<(), AllocError> {
+    let Some(folder) = folder_of(line) else {
+        return Ok(());
+    };
+    let path = path_of(rt.alloc(), folder, output)?;
+    let shown = OneLine(path.as_path().as_str());
+    if let Some(names) = names_of(line) {
+        if let Some(input) = names.reader_of(rt, path.as_path()) {
+            let _ = eprintln!(rt; "  {shown} is {input} itself");
+        }
+        return Ok(());
+    }
+    let (Line::Merge { shards, .. }, Ok(found)) = (line, fs::metadata(rt, path.as_path())) else {
+        return Ok(());
+    };
+    for shard in shards {
+        for index in 0..MOST_PORTS + PART_TEXTS.len() {
+            let part = path_of(rt.alloc(), *shard, part_file(index))?;
+            if is_same(rt, part.as_path(), &found) {
+                let itself = OneLine(part.as_path().as_str());
+                let _ = eprintln!(rt; "  {shown} is {itself} itself");
+                return Ok(());
+            }
+        }
+    }
+    Ok(())
+}
+
+/// The file of this number in the folder of a part.
+fn part_file(index: usize) -> OutputFile {
+    match index {
+        0 => OutputFile::Shard,
+        1 => OutputFile::Decisions,
+        2 => OutputFile::Underlay,
+        number => OutputFile::Port(number.saturating_sub(2)),
+    }
+}
+
+/// Tells why an output couldn't be written.
+fn tell_unwritten<R: Files + AllocGlobal + Eprint>(
+    rt: &R,
+    line: &Line<'_>,
+    output: OutputFile,
+    fault: SystemFault,
+) -> Result<(), AllocError> {
+    if output == OutputFile::Stdout {
+        let _ = eprintln!(rt; "  standard output: {fault}");
+        return Ok(());
+    }
+    let Some(folder) = folder_of(line) else {
+        return Ok(());
+    };
+    let path = path_of(rt.alloc(), folder, output)?;
+    let name = path.as_path().as_str();
+    if fault.is_not_there() {
+        let shown = OneLine(name);
+        let _ = eprintln!(rt; "  {shown}: no such folder");
+    } else {
+        tell_fault(rt, name, fault);
+    }
+    Ok(())
+}

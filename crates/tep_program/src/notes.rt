@@ -1,0 +1,114 @@
+//! What is to be told of a line that is done: lines on standard error, each begun by two spaces.
+use crate::interfaces::{missing_interface, several_interfaces};
+use crate::named::folder_of;
+use dissector::Line;
+use program_faults::{OneLine, OutputFile};
+use program_files::path_of;
+use std::alloc::AllocError;
+use std::fs;
+use std::rt::Files;
+
+/// The most ports that a run has.
+const MOST_PORTS: usize = 16;
+
+/// What a part leaves besides, and a whole run doesn't.
+const OF_A_PART: [OutputFile; 3] = [OutputFile::Shard, OutputFile::Tables, OutputFile::Summary];
+
+/// Tells of a line that is done which names of interfaces have none, and which outputs of an earlier run lie there. Where
+/// memory is refused for that, it isn't told.
+pub fn tell_notes<R: Files + AllocGlobal + Eprint>(rt: &R, line: &Line<'_>) {
+    let _ = tell(rt, line);
+}
+
+/// Tells what is to be told of a line that is done.
+fn tell<R: Files + AllocGlobal + Eprint>(rt: &R, line: &Line<'_>) -> Result<(), AllocError> {
+    match line {
+        Line::Run {
+            underlay,
+            ports,
+            segments,
+            ..
+        } => {
+            for name in ports {
+                tell_missing(rt, *name)?;
+            }
+            tell_missing(rt, *underlay)?;
+            tell_left(rt, line, ports.len(), segments.is_some())
+        }
+        Line::Digest { underlay, ports } => {
+            for name in ports {
+                tell_missing(rt, *name)?;
+            }
+            tell_missing(rt, *underlay)
+        }
+        Line::Explain { capture, .. } => {
+            tell_missing(rt, *capture)?;
+            print_note(rt, several_interfaces(rt, *capture)?);
+            Ok(())
+        }
+        Line::Merge { shards, .. } => match shards.first() {
+            Some(first) => tell_left(rt, line, ports_in(rt, *first)?, false),
+            None => Ok(()),
+        },
+        _ => Ok(()),
+    }
+}
+
+/// Prints a note, where there is one.
+fn print_note(rt: &impl Eprint, note: Option<String>) {
+    if let Some(note) = note {
+        let _ = eprint!(rt; "{note}");
+    }
+}
+
+/// Tells which interfaces a capture has, where none of them is asked for by its name.
+fn tell_missing<R: Files + AllocGlobal + Eprint>(rt: &R, name: &str) -> Result<(), AllocError> {
+    print_note(rt, missing_interface(rt, name)?);
+    Ok(())
+}
+
+/// How many ports the part in this folder has.
+fn ports_in<R: Files + AllocGlobal>(rt: &R, folder: &str) -> Result<usize, AllocError> {
+    for index in 0..MOST_PORTS {
+        let path = path_of(rt.alloc(), folder, OutputFile::Port(index + 1))?;
+        if fs::metadata(rt, path.as_path()).is_err() {
+            return Ok(index);
+        }
+    }
+    Ok(MOST_PORTS)
+}
+
+/// Tells which outputs lie in the folder that a run of so many ports doesn't write.
+fn tell_left<R: Files + AllocGlobal + Eprint>(
+    rt: &R,
+    line: &Line<'_>,
+    ports: usize,
+    is_part: bool,
+) -> Result<(), AllocError> {
+    let Some(folder) = folder_of(line) else {
+        return Ok(());
+    };
+    for index in ports..MOST_PORTS {
+        tell_if_there(rt, folder, OutputFile::Port(index + 1))?;
+    }
+    if !is_part {
+        for output in OF_A_PART {
+            tell_if_there(rt, folder, output)?;
+        }
+    }
+    Ok(())
+}
+
+/// Tells of an output that lies there and isn't of this run.
+fn tell_if_there<R: Files + AllocGlobal + Eprint>(
+    rt: &R,
+    folder: &str,
+    output: OutputFile,
+) -> Result<(), AllocError> {
+    let path = path_of(rt.alloc(), folder, output)?;
+    if fs::metadata(rt, path.as_path()).is_ok() {
+        let shown = OneLine(path.as_path().as_str());
+        let _ = eprintln!(rt; "  {shown}: of an earlier run, not of this one");
+    }
+    Ok(())
+}

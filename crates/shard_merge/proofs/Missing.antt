@@ -26,7 +26,10 @@ jumps_not : (a n count next : ℕ) (behind : List ℕ) → range_with_len a n �
 jumps_not a zero zero next behind is greater = absurd cc
 jumps_not a zero (suc count) next behind is greater = absurd cc
 jumps_not a (suc n) zero next behind is greater = let first : a ≡ next = cc in omega (arith, first, greater)
-jumps_not a (suc n) (suc count) next behind is greater = jumps_not (a + 1) n count next behind cc (omega (arith, greater))
+jumps_not a (suc n) (suc count) next behind is greater =
+    let rest : range_with_len (a + 1) n ≡ range_with_len (a + 1) count ++ next ∷ behind = cc in
+    let far : a + 1 + count < next = omega (arith, greater) in
+    jumps_not (a + 1) n count next behind rest far
 
 -- where none is missing a merge is stopped by a device alone
 none_missing : (pieces : List Piece) (number : ℕ) → AreNumbered pieces → IsMissing number pieces → ⊥

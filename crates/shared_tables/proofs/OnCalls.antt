@@ -11,3 +11,4 @@ pub mod StandingLemmas
 pub mod Lining
 pub mod Slotwise
 pub mod ListingLemmas
+pub mod Worded

@@ -18,7 +18,7 @@ use work_count::Count;
 
 mod listing;
 
-pub use listing::put_row;
+pub use listing::put_word;
 
 /// What stands in a slot.
 #[derive(Clone, Copy)]

@@ -5,6 +5,7 @@ use Rattle.std.proofs.lemmas.Nat.{be_bytes_2, be_bytes_8, from_be_bytes-to_be_by
 use Rattle.header_sums.specs.Octets.{octets, IsText}
 use Rattle.header_sums.specs.Sum.{total}
 use Rattle.shared_tables.specs.Bucket.{bucket_of, key_of, vid_in, mac_in}
+use Rattle.shared_tables.specs.Listing.{IsAddress}
 
 module _ (vid : ℕ) (mac : List ℕ) (fits : vid < 2 ^ 16) (six : length mac ≡ 6) (text : IsText mac) where
   small : (i : ℕ) → get_or (octets 2 vid ++ mac) i 0 < 256
@@ -42,6 +43,19 @@ module _ (key : ℕ) where
   unfolding vid_in mac_in
   key_of-key fits =
       ap (λ t. from_be_bytes w64 (t ++ mac_in key)) (be_bytes_2 (take 2 (to_be_bytes w64 key)) (vid_in key) refl first_small refl) ∙ from_be_bytes-to_be_bytes_8 key fits
+
+  mac_small : (i : ℕ) → get_or (drop 2 (to_be_bytes w64 key)) i 0 < 256
+  mac_small zero = omega arith
+  mac_small (suc zero) = omega arith
+  mac_small (suc (suc zero)) = omega arith
+  mac_small (suc (suc (suc zero))) = omega arith
+  mac_small (suc (suc (suc (suc zero)))) = omega arith
+  mac_small (suc (suc (suc (suc (suc zero))))) = omega arith
+  mac_small (suc (suc (suc (suc (suc (suc i)))))) = omega arith
+
+  pub address_in-key : IsAddress (mac_in key)
+  unfolding mac_in
+  address_in-key = (refl, mac_small)
 
   -- the bucket is that of all eight octets
   pub bucket_in_key : total (to_be_bytes w64 key) % 4096 ≡ bucket_of (vid_in key) (mac_in key)

@@ -1,32 +1,31 @@
 //! The live entries of a segment, listed.
-ghost use Rattle.std.specs.Prelude.{◌≡◌, ◌≤◌, ℕ, [], IfOk, OnOk};
-ghost use Rattle.std.specs.FinMap.{entries, from_entries};
-ghost use Rattle.filter_db.specs.Rows.{AreUnique};
-ghost use Rattle.filter_db.specs.Table.{mac_cmp, nanoseconds};
+ghost use Rattle.std.specs.Prelude.{◌≡◌, ◌≤◌, ◌%◌, ℕ, [], IfOk, OnOk};
+ghost use Rattle.std.specs.FinMap.{entries};
+ghost use Rattle.filter_db.specs.Table.{nanoseconds};
 ghost use Rattle.filter_db.specs.Segment.{aged_all, segment_at};
-ghost use Rattle.shared_tables.specs.Listing.{HasLive, ListsLine};
+ghost use Rattle.shared_tables.specs.Listing.{held_rows, rows_in, AreHeld, AreWords, HasLive, ListsLine};
 ghost use Rattle.shared_tables.specs.Segments.{segments_of};
 ghost use Rattle.shared_tables.specs.Shared.{IsUnique};
 ghost use Rattle.shared_tables.specs.Sound.{IsLines, line_at};
 
 use super::known::span_of;
-use crate::links::Link;
+use crate::links::{Link, SlotId};
 use crate::share::{Share, share_at};
 use crate::shared_tables::SharedTables;
-use crate::slots::{Slots, put_row};
+use crate::slots::{Slots, put_word};
 use filter_db::Entry;
 use frame_view::{Mac, Vid};
 use std::alloc::{AllocError, Global};
 
 /// A listing goes over the slots where a segment has more than one in so many of them: that costs as much as to go along its
-/// lines where it has one in some tens, and finds addresses in order that came in order.
-const SLOTS_EACH: u32 = 64;
+/// lines and to sort what stands there in any order, and finds addresses in order that came in order.
+const SLOTS_EACH: u32 = 16;
 
 impl SharedTables {
     /// The live entries of a segment at a moment, each with its address, in the order of the addresses; none where the
     /// VID has no segment. The moment isn't before the tables' own. It goes along the two lines of the segment once, or over
-    /// the slots where the segment has many of them, and then sorts what it found; it counts nothing: no bridge asks for
-    /// it. `AllocError`: there was no room for the list.
+    /// the slots where the segment has many of them, sorts words of the addresses and slots that it found, and takes the rows
+    /// in that order; it counts nothing: no bridge asks for it. `AllocError`: there was no room for the list.
     pub fn entries(
         &self,
         alloc: Global,
@@ -40,17 +39,18 @@ impl SharedTables {
         let Some(share) = share_at(&self.shares, vid) else {
             return Ok(Vec::new(alloc));
         };
-        let mut rows = Vec::new(alloc);
-        put_live(&mut rows, &self.slots, vid, &share, now)?;
-        put_in_order(&mut rows);
+        let mut words = Vec::with_capacity(alloc, share.count as usize)?;
+        put_live(&mut words, &self.slots, vid, &share, now)?;
+        words.sort_unstable();
+        let rows = rows_of(alloc, &self.slots, &words)?;
         Ok(rows)
     }
 }
 
-/// Puts the live entries of a segment, each with its address, into an empty list: in the order of the slots, in which
+/// Puts the words of the live entries of a segment into an empty list: in the order of the slots, in which
 /// addresses stand as they came, or in that of its lines, in which they were last seen.
 fn put_live(
-    rows: &mut Vec<(Mac, Entry)>,
+    words: &mut Vec<u64>,
     slots: &Slots,
     vid: Vid,
     share: &Share,
@@ -58,15 +58,17 @@ fn put_live(
 ) -> Result<(), AllocError>
     requires lines { (moment : ℕ) × IsLines slots.now.entries slots.now.lines vid share.now moment }
     requires unique { IsUnique slots.now.entries }
-    requires empty { rows.old.items ≡ [] }
-    ensures { OnOk result (HasLive slots.now.entries vid (nanoseconds share.now.ageing) now rows.new.items) }
+    requires empty { words.old.items ≡ [] }
+    ensures live { let es = slots.now.entries in let a = nanoseconds share.now.ageing in
+        OnOk result (HasLive es vid a now (rows_in es vid a now words.new.items)) }
+    ensures words { OnOk result (AreWords slots.now.entries vid (nanoseconds share.now.ageing) now words.new.items) }
 {
     if slots.size() / SLOTS_EACH < share.count {
-        slots.put_live(rows, vid, span_of(share), now)?;
+        slots.put_live(words, vid, span_of(share), now)?;
         return Ok(());
     }
-    put_line(rows, slots, vid, share, false, now)?;
-    put_line(rows, slots, vid, share, true, now)?;
+    put_line(words, slots, vid, share, false, now)?;
+    put_line(words, slots, vid, share, true, now)?;
     Ok(())
 }
 
@@ -81,10 +83,9 @@ fn first_of(share: &Share, fixed: bool) -> Link
     }
 }
 
-/// Puts the live ones among the fixed entries of a segment, or among those of its age queue, each with its address, behind
-/// these rows.
+/// Puts the words of the live ones among the fixed entries of a segment, or among those of its age queue, behind these.
 fn put_line(
-    rows: &mut Vec<(Mac, Entry)>,
+    words: &mut Vec<u64>,
     slots: &Slots,
     vid: Vid,
     share: &Share,
@@ -92,7 +93,10 @@ fn put_line(
     now: u64,
 ) -> Result<(), AllocError>
     requires { (moment : ℕ) × IsLines slots.now.entries slots.now.lines vid share.now moment }
-    ensures { OnOk result (ListsLine slots.now.entries vid fixed (nanoseconds share.now.ageing) now rows.old.items rows.new.items) }
+    ensures line { let es = slots.now.entries in let a = nanoseconds share.now.ageing in
+        OnOk result (ListsLine es vid fixed a now (rows_in es vid a now words.old.items) (rows_in es vid a now words.new.items)) }
+    ensures words { let es = slots.now.entries in let a = nanoseconds share.now.ageing in
+        OnOk result (AreWords es vid a now words.old.items → AreWords es vid a now words.new.items) }
 {
     let ageing = span_of(share);
     let mut cursor = first_of(share, fixed);
@@ -100,20 +104,29 @@ fn put_line(
         let Some(slot) = cursor.slot() else {
             return Ok(());
         };
-        put_row(rows, slots.live_row(slot, vid, ageing, now))?;
+        put_word(words, slots.live_word(slot, vid, ageing, now))?;
         cursor = slots.links(slot).next;
     }
     Ok(())
 }
 
-/// Puts the rows of different addresses in the order of these.
-fn put_in_order(rows: &mut Vec<(Mac, Entry)>)
-    requires { AreUnique rows.old.items }
-    ensures { rows.new.items ≡ entries (from_entries {R = mac_cmp} rows.old.items) }
+/// The rows of the slots whose numbers the words tell, in their order.
+fn rows_of(alloc: Global, slots: &Slots, words: &[u64]) -> Result<Vec<(Mac, Entry)>, AllocError>
+    requires { AreHeld slots.now.entries words.now }
+    ensures { IfOk result (λ rows. rows.items ≡ held_rows slots.now.entries words.now) }
 {
-    rows.sort_unstable_by_key(
-        |row|
-            ensures { result ≡ row.now.0 }
-        { row.0.0 },
-    );
+    let mut rows = Vec::with_capacity(alloc, words.len())?;
+    for word in words {
+        rows.push_reserved(slots.row(slot_of(*word)));
+    }
+    Ok(rows)
+}
+
+/// The slot whose number a word tells.
+fn slot_of(word: u64) -> SlotId
+    ensures { result ≡ word % 65536 }
+{
+    SlotId {
+        number: (word % 0x1_0000) as u32,
+    }
 }

@@ -274,13 +274,13 @@ ends 0 check -s two.toml -u 1.pcap tunnel.pcap 2.pcap </dev/null
 ends 0 check -s two.toml -u tunnel.pcap 1.pcap 2.pcap </dev/null
 grep -q swapped "$folder/stdout" && complain "check tells of a swap: $(cat "$folder/stdout")"
 
-# Outputs of an earlier run.
+# Outputs of an earlier run. What a part left besides is gone behind a whole run.
 touch "$folder/out/port3.pcap" "$folder/out/port16.pcap" "$folder/out/shard.txt"
 runs 0 1.pcap 2.pcap <<'T'
   out/port3.pcap: of an earlier run, not of this one
   out/port16.pcap: of an earlier run, not of this one
-  out/shard.txt: of an earlier run, not of this one
 T
+[ -e "$folder/out/shard.txt" ] && complain "a whole run leaves the shard.txt of an earlier part"
 runs 0 --segments 1-4094,none 1.pcap 2.pcap <<'T'
   out/port3.pcap: of an earlier run, not of this one
   out/port16.pcap: of an earlier run, not of this one

@@ -11,9 +11,6 @@ use std::rt::Files;
 /// The most ports that a run has.
 const MOST_PORTS: usize = 16;
 
-/// What a part leaves besides, and a whole run doesn't.
-const OF_A_PART: [OutputFile; 3] = [OutputFile::Shard, OutputFile::Tables, OutputFile::Summary];
-
 /// Tells of a line that is done which names of interfaces have none, and which outputs of an earlier run lie there. Where
 /// memory is refused for that, it isn't told.
 pub fn tell_notes<R: Files + AllocGlobal + Eprint>(rt: &R, line: &Line<'_>) {
@@ -26,14 +23,13 @@ fn tell<R: Files + AllocGlobal + Eprint>(rt: &R, line: &Line<'_>) -> Result<(), 
         Line::Run {
             underlay,
             ports,
-            segments,
             ..
         } => {
             for name in ports {
                 tell_missing(rt, *name)?;
             }
             tell_missing(rt, *underlay)?;
-            tell_left(rt, line, ports.len(), segments.is_some())
+            tell_left(rt, line, ports.len())
         }
         Line::Digest { underlay, ports } => {
             for name in ports {
@@ -47,7 +43,7 @@ fn tell<R: Files + AllocGlobal + Eprint>(rt: &R, line: &Line<'_>) -> Result<(), 
             Ok(())
         }
         Line::Merge { shards, .. } => match shards.first() {
-            Some(first) => tell_left(rt, line, ports_in(rt, *first)?, false),
+            Some(first) => tell_left(rt, line, ports_in(rt, *first)?),
             None => Ok(()),
         },
         _ => Ok(()),
@@ -78,23 +74,18 @@ fn ports_in<R: Files + AllocGlobal>(rt: &R, folder: &str) -> Result<usize, Alloc
     Ok(MOST_PORTS)
 }
 
-/// Tells which outputs lie in the folder that a run of so many ports doesn't write.
+/// Tells which captures of ports lie in the folder that a run of so many ports doesn't write. What an earlier part left besides
+/// is gone: a run and a merge take it away first.
 fn tell_left<R: Files + AllocGlobal + Eprint>(
     rt: &R,
     line: &Line<'_>,
     ports: usize,
-    is_part: bool,
 ) -> Result<(), AllocError> {
     let Some(folder) = folder_of(line) else {
         return Ok(());
     };
     for index in ports..MOST_PORTS {
         tell_if_there(rt, folder, OutputFile::Port(index + 1))?;
-    }
-    if !is_part {
-        for output in OF_A_PART {
-            tell_if_there(rt, folder, output)?;
-        }
     }
     Ok(())
 }

@@ -220,7 +220,7 @@ module _ (segments : Segments) where
     pub over_firsts : (fault : StreamFault) (turns : List Turn) (ports : List Stream) (underlay : Stream) → BeginsIn {T = Unit {0}} (texts_octets texts) text turns ports underlay (Err fault) → StandAt start new (empty_outputs (length texts))
         → LeavesOver segments s changes texts text start new (Err fault)
     over_firsts (stream.Run (faults.Record place n f)) turns ports underlay h at =
-        record { k = 0; faulty = h.0; in_front = none_in_front (texts_octets texts) text; before = inl (refl, h.1); stands = subst (StandAt start new) (sym (texts_are [] whole.events 1 refl (omega arith))) at }
+        record { k = 0; most = omega arith; faulty = h.0; in_front = none_in_front (texts_octets texts) text; before = inl (refl, h.1); stands = subst (StandAt start new) (sym (texts_are [] whole.events 1 refl (omega arith))) at }
     over_firsts (stream.Run (faults.Settings f)) turns ports underlay h at = absurd h
     over_firsts (stream.Run (faults.Changes f)) turns ports underlay h at = absurd h
     over_firsts (stream.Run faults.PortCount) turns ports underlay h at = absurd h
@@ -252,6 +252,7 @@ module _ (segments : Segments) where
         → LeadsBehind {T = Unit {0}} segments changes (opened (settings_told s)) start new (empty_outputs (length texts)) es more (Err fault) → Ordered es more (Err fault) → StopInFront (texts_octets texts) text (es ++ more) → LeavesOver segments s changes texts text start new (Err fault)
     over_events (stream.Run (faults.Record place n f)) run es more rest is h part at ordered in_front = record {
       k = length es;
+      most = omega (arith, ap length is, length-append es (more ++ rest));
       faulty = h.0;
       in_front = front_of_all es (more ++ rest) (length es) is refl (subst (StopInFront (texts_octets texts) text) (ap (λ l. es ++ l) part ∙ append-nil es) in_front);
       before = inr (subst (EndBefore place n) (sym (first_events whole es (more ++ rest) is)) h.1);

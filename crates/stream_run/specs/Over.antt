@@ -80,6 +80,7 @@ pub record StandsAmong (segments : Segments) (s : Settings) (changes : List Time
 -- capture has one sooner
 pub record StandsBefore (segments : Segments) (place : Tap) (n : ℕ) (fault : RecordFault) (s : Settings) (changes : List TimedChange) (texts : List (Vec ℕ Global)) (text : List ℕ) (old new : Drains) : Type 0 where
   pub k : ℕ
+  pub most : k ≤ length (whole_records changes texts text).events
   pub faulty : IsFaultyAt (texts_octets texts) text place n fault
   pub in_front : StopInFront (texts_octets texts) text (take k (whole_records changes texts text).events)
   pub before : ((k ≡ 0) × (n ≡ 1)) ⊎ EndBefore place n (take k (whole_records changes texts text).events)

@@ -2,11 +2,14 @@
 use Rattle.std.proofs.Common.{◌≡◌, ◌≢◌, ◌∙◌, refl, sym, ap, subst, ℕ, ◌+◌, ◌<◌, ◌≤◌, List, length, slice_set, slice_index_or, arith, Ok, Err, inl, inr}
 use Rattle.std.proofs.lemmas.List.{length-set}
 use Rattle.pcap_stream.specs.Source.{Stream}
+use Rattle.pcap_stream.specs.declared.fault.SourceFault.{SourceFault}
+use Rattle.pcap_stream.specs.declared.fault.SourceFault.TheVariants as source
 use Rattle.timeline.specs.declared.source.Tap.{Tap}
 use Rattle.timeline.specs.declared.source.Tap.TheVariants.{Port, Underlay}
 use Rattle.overlay_settings.specs.declared.change.TimedChange.{TimedChange}
 use Rattle.endpoint_core.specs.Step.{State}
-use Rattle.stream_run.specs.Begun.{AreAtFirst, IsNoWrite}
+use Rattle.stream_run.specs.Begun.{AreAtFirst, OnlyReads}
+use Rattle.stream_run.specs.Fault.{fault_of}
 use Rattle.stream_run.specs.Fetched.{IsMoment, IsOpen}
 use Rattle.stream_run.specs.Over.{BeginsIn}
 use Rattle.stream_run.specs.Read.{AreQuiet, ReadsWith}
@@ -22,6 +25,14 @@ use Rattle.stream_run.proofs.Readying.{IsAsked, asked_capture, reads_fault, read
 use Rattle.stream_run.proofs.Running.{quiet_on}
 
 -- ---- one fetch
+
+-- what a source's fault is as one of the run
+pub fault_only_reads : (tap : Tap) (n : ℕ) (fault : SourceFault) → OnlyReads (Err (fault_of tap n fault))
+fault_only_reads tap n source.Read = tt
+fault_only_reads tap n source.NotPcap = tt
+fault_only_reads tap n source.BadLink = tt
+fault_only_reads tap n source.TooLarge = tt
+fault_only_reads tap n source.BadFraction = tt
 
 -- the first of a capture
 pub asked_first : (changes : List TimedChange) (index : ℕ) (ports : List Stream) (underlay : Stream) (new : List Stream) (new_underlay : Stream) (turn : Turn)
@@ -96,12 +107,6 @@ module _ (changes : List TimedChange) (index : ℕ) (ports : List Stream) (under
 
   pub fetch_stops : (fault : StreamFault) → FetchesAt changes index 0 0 now now_underlay new new_underlay (Err fault) → ReadsWith {T = Unit {0}} ports underlay new new_underlay (Err fault)
   fetch_stops fault fetched = reads_behind {T = Unit {0}} ports now new underlay now_underlay new_underlay (Err fault) so_far.quiet (reads_fault changes index 0 0 now now_underlay new new_underlay fault fetched)
-
-  pub fetch_no_write : (fault : StreamFault) → FetchesAt changes index 0 0 now now_underlay new new_underlay (Err fault) → IsNoWrite (Err fault)
-  fetch_no_write fault (inl h) = let never = h.3 in absurd cc
-  fetch_no_write (stream.Run f) (inr h) = tt
-  fetch_no_write (stream.Read place) (inr h) = tt
-  fetch_no_write (stream.Write target) (inr h) = absurd h.4.reads
 
   pub faults_told : (fault : StreamFault) (new_turns : List Turn) → FetchesAt changes index 0 0 now now_underlay new new_underlay (Err fault) → (texts : List (List ℕ)) (text : List ℕ) → AreAtFirst texts text ports underlay
       → BeginsIn {T = Unit {0}} texts text new_turns new new_underlay (Err fault)

@@ -89,7 +89,7 @@ module _ (segments : Segments) where
           over_events segments s changes texts text start run.drains fault run on.es on.more told.rest (all_are on.es on.more told.rest told.first) told.ends on.part
           (subst (λ st. LeadsBehind {T = Unit {0}} segments changes st start run.drains (empty_outputs (length texts)) on.es on.more (Err fault)) is (on.outputs start (empty_outputs (length texts)) at))
           (subst (λ st. EndsInOrder {T = Unit {0}} segments changes st start run.drains (empty_outputs (length texts)) on.es on.more (Err fault)) is (on.order start (empty_outputs (length texts)) at))
-          told.in_front
+          told.in_front on.numbered
 
       pub reach_run : (fault : StreamFault) → IsRunOn segments changes (run_at ports underlay turns state 0 d) run (Err fault) → ReachesOver segments s changes texts text start run.drains run.ports run.underlay (Err fault)
       reach_run fault on =
@@ -97,7 +97,7 @@ module _ (segments : Segments) where
           reach_events segments s changes texts text start run.drains fault run on.es on.more told.rest (all_are on.es on.more told.rest told.first) told.ends on.part
           (subst (λ st. LeadsBehind {T = Unit {0}} segments changes st start run.drains (empty_outputs (length texts)) on.es on.more (Err fault)) is (on.outputs start (empty_outputs (length texts)) at))
           (subst (λ st. EndsInOrder {T = Unit {0}} segments changes st start run.drains (empty_outputs (length texts)) on.es on.more (Err fault)) is (on.order start (empty_outputs (length texts)) at))
-          told.in_front told.read_on
+          told.in_front on.numbered told.read_on
 
       -- it goes through all of them
       no_more : (on : IsRunOn segments changes (run_at ports underlay turns state 0 d) run (Ok tt)) → (whole_records changes texts text).events ≡ on.es
@@ -156,7 +156,7 @@ module _ (segments : Segments) where
             seen_events segments s changes texts text start run.drains sees end old_watch fault run on.run.es on.run.more told.rest new_watch (all_are on.run.es on.run.more told.rest told.first) told.ends on.run.part
             (subst (λ st. LeadsBehind {T = Unit {0}} segments changes st start run.drains (empty_outputs (length texts)) on.run.es on.run.more (Err fault)) is (on.run.outputs start (empty_outputs (length texts)) at))
             (subst (λ st. EndsInOrder {T = Unit {0}} segments changes st start run.drains (empty_outputs (length texts)) on.run.es on.run.more (Err fault)) is (on.run.order start (empty_outputs (length texts)) at))
-            told.in_front
+            told.in_front on.run.numbered
             (sees_all (on.run.es ++ on.run.more) new_watch on.seen)
 
         pub seen_lines : (new : Drains) (target : Target) (new_watch : T) (on : IsWatchedRun segments sees changes (run_at ports underlay turns state 0 d) run old_watch new_watch (Ok tt))

@@ -1,5 +1,5 @@
 -- What a run leaves at each of its ends.
-use Rattle.std.proofs.Common.{◌≡◌, ◌∙◌, refl, sym, ap, subst, ℕ, zero, suc, ◌+◌, ◌-◌, ◌<◌, ◌≤◌, List, [], ◌∷◌, ◌++◌, length, take, drop, slice_index_or, arith, length-append, Option, Some, None, Result, Ok, Err, inl, inr}
+use Rattle.std.proofs.Common.{◌≡◌, ◌∙◌, refl, sym, ap, subst, ℕ, zero, suc, ◌+◌, ◌-◌, ◌<◌, ◌≤◌, ◌⊎◌, List, [], ◌∷◌, ◌++◌, length, take, drop, slice_index_or, arith, length-append, Option, Some, None, Result, Ok, Err, inl, inr}
 use Rattle.std.specs.Prelude.{slice_get}
 use Rattle.std.specs.Option.{option_map_or}
 use Rattle.std.proofs.Math.Seq.{take-append_seam}
@@ -17,11 +17,12 @@ use Rattle.overlay_config.specs.Change.{IsRising, moment_before}
 use Rattle.endpoint_state.specs.Opened.{settings_told}
 use Rattle.endpoint_core.specs.Step.{State, opened}
 use Rattle.capture_run.specs.Writing.{empty_outputs, with_cuts}
-use Rattle.stream_run.specs.Begun.{AreBegun, IsNoWrite, OpensInTurn, first_turns, no_turn}
+use Rattle.capture_run.specs.declared.fault.RunFault.TheVariants as faults
+use Rattle.stream_run.specs.Begun.{AreBegun, OnlyReads, OpensInTurn, first_turns, no_turn}
 use Rattle.stream_run.specs.Fetched.{IsMoment, IsOpen}
-use Rattle.stream_run.specs.Left.{Leaves, WritesWith, texts_of}
-use Rattle.stream_run.specs.Stage.{Drains, FailedAt, StandAt, StandBetween, no_texts}
-use Rattle.stream_run.specs.Steps.{AreReady, AreTimely, EndsInOrder, IsAt, IsPart, LeadsBehind, LendsWhere, moment_at, run_at, source_at, texts_behind}
+use Rattle.stream_run.specs.Left.{Ends, Leaves, WritesWith, texts_of}
+use Rattle.stream_run.specs.Stage.{AreWell, Drains, FailedAt, StandAt, StandBetween, no_texts}
+use Rattle.stream_run.specs.Steps.{AreReady, AreTimely, EndsInOrder, EndsNumbered, IsAt, IsPart, LeadsBehind, LendsWhere, moment_at, run_at, source_at, texts_behind}
 use Rattle.stream_run.specs.Turns.{IsNoSooner}
 use Rattle.stream_run.specs.declared.fault.StreamFault.{StreamFault}
 use Rattle.stream_run.specs.declared.fault.StreamFault.TheVariants as stream
@@ -122,62 +123,92 @@ opened_all ports underlay new new_underlay many begun place index at =
     let also = subst (λ n. IsAt n index place) many at in
     (begun place index (place_last (length ports) index place also) also).open_
 
-pub opens_no_write : (ports : List Stream) (underlay : Stream) (new : List Stream) (new_underlay : Stream) (fault : StreamFault) → OpensInTurn ports underlay new new_underlay (Err fault) → IsNoWrite (Err fault)
-opens_no_write ports underlay new new_underlay (stream.Run f) h = tt
-opens_no_write ports underlay new new_underlay (stream.Read place) h = tt
-opens_no_write ports underlay new new_underlay (stream.Write target) h = absurd h
+pub opens_only_reads : (ports : List Stream) (underlay : Stream) (new : List Stream) (new_underlay : Stream) (fault : StreamFault) → OpensInTurn ports underlay new new_underlay (Err fault) → OnlyReads (Err fault)
+opens_only_reads ports underlay new new_underlay (stream.Run (faults.Settings f)) h = tt
+opens_only_reads ports underlay new new_underlay (stream.Run (faults.Changes f)) h = tt
+opens_only_reads ports underlay new new_underlay (stream.Run faults.PortCount) h = tt
+opens_only_reads ports underlay new new_underlay (stream.Run (faults.Capture place f)) h = tt
+opens_only_reads ports underlay new new_underlay (stream.Run (faults.Record place n f)) h = tt
+opens_only_reads ports underlay new new_underlay (stream.Run faults.OutOfMemory) h = absurd h
+opens_only_reads ports underlay new new_underlay (stream.Read place) h = tt
+opens_only_reads ports underlay new new_underlay (stream.Write target) h = absurd h
 
 pub none_at : (start : Drains) (n : ℕ) → length start.ports ≡ n → StandAt start start (no_texts n)
 none_at start n many = stands_still_at start (no_texts n) (λ k lt. nothing_at n k) (length-replicate n [] ∙ sym many) refl refl
 
 module _ (segments : Segments) where
-  module _ (s : Settings) (changes : List TimedChange) (start new : Drains) where
-    pub leaves_nothing : (fault : StreamFault) → IsNoWrite (Err fault) → StandAt start new (no_texts (length s.ports)) → Leaves segments s changes start new (Err fault)
-    leaves_nothing (stream.Run f) no_write at = inl at
-    leaves_nothing (stream.Read place) no_write at = inl at
-    leaves_nothing (stream.Write target) no_write at = absurd no_write
+  module _ (s : Settings) (changes : List TimedChange) (from to : Ends) where
+    -- the texts of whole events stand, with the headers or without them
+    abbrev StandsWhole : Type 0
+    StandsWhole = StandAt from.drains to.drains (no_texts (length s.ports)) ⊎ ((es : List Event) × StandAt from.drains to.drains (texts_of segments s changes es []))
 
-    pub leaves_headers : (fault : StreamFault) → IsNoWrite (Err fault) → StandAt start new (empty_outputs (length s.ports)) → Leaves segments s changes start new (Err fault)
-    leaves_headers (stream.Run f) no_write at = inr ([], at)
-    leaves_headers (stream.Read place) no_write at = inr ([], at)
-    leaves_headers (stream.Write target) no_write at = absurd no_write
+    leaves_whole : (fault : StreamFault) → OnlyReads (Err fault) → StandsWhole → Leaves segments s changes from to (Err fault)
+    leaves_whole (stream.Run (faults.Settings f)) only_reads at = at
+    leaves_whole (stream.Run (faults.Changes f)) only_reads at = at
+    leaves_whole (stream.Run faults.PortCount) only_reads at = at
+    leaves_whole (stream.Run (faults.Capture place f)) only_reads at = at
+    leaves_whole (stream.Run (faults.Record place n f)) only_reads at = at
+    leaves_whole (stream.Run faults.OutOfMemory) only_reads at = absurd only_reads
+    leaves_whole (stream.Read place) only_reads at = at
+    leaves_whole (stream.Write target) only_reads at = absurd only_reads
 
-    pub leaves_begun : (target : Target) → StandBetween start new (no_texts (length s.ports)) (empty_outputs (length s.ports)) × FailedAt target start new → Leaves segments s changes start new (Err (stream.Write target))
+    pub leaves_nothing : (fault : StreamFault) → OnlyReads (Err fault) → StandAt from.drains to.drains (no_texts (length s.ports)) → Leaves segments s changes from to (Err fault)
+    leaves_nothing fault only_reads at = leaves_whole fault only_reads (inl at)
+
+    pub leaves_headers : (fault : StreamFault) → OnlyReads (Err fault) → StandAt from.drains to.drains (empty_outputs (length s.ports)) → Leaves segments s changes from to (Err fault)
+    leaves_headers fault only_reads at = leaves_whole fault only_reads (inr ([], at))
+
+    pub leaves_begun : (target : Target) → StandBetween from.drains to.drains (no_texts (length s.ports)) (empty_outputs (length s.ports)) × FailedAt target from.drains to.drains → Leaves segments s changes from to (Err (stream.Write target))
     leaves_begun target h = (no_texts (length s.ports), empty_outputs (length s.ports), inl (refl, refl), h.0, h.1)
 
-    pub leaves_events : (state : State) (es more : List Event) (fault : StreamFault) → state ≡ opened (settings_told s) → IsPart {T = Unit {0}} more (Err fault)
-        → LeadsBehind {T = Unit {0}} segments changes state start new (empty_outputs (length s.ports)) es more (Err fault) → EndsInOrder {T = Unit {0}} segments changes state start new (empty_outputs (length s.ports)) es more (Err fault)
-        → Leaves segments s changes start new (Err fault)
-    leaves_events state es more fault is part h order =
-        by fault part (subst (λ state. LeadsBehind {T = Unit {0}} segments changes state start new (empty_outputs (length s.ports)) es more (Err fault)) is h)
-        (subst (λ state. EndsInOrder {T = Unit {0}} segments changes state start new (empty_outputs (length s.ports)) es more (Err fault)) is order)
-      where
-        by : (fault : StreamFault) → IsPart {T = Unit {0}} more (Err fault) → LeadsBehind {T = Unit {0}} segments changes (opened (settings_told s)) start new (empty_outputs (length s.ports)) es more (Err fault)
-            → EndsInOrder {T = Unit {0}} segments changes (opened (settings_told s)) start new (empty_outputs (length s.ports)) es more (Err fault) → Leaves segments s changes start new (Err fault)
-        by (stream.Run f) part h order = inr (es, h)
-        by (stream.Read place) part h order = inr (es, h)
-        by (stream.Write target) part h order = (
-          texts_of segments s changes es [],
-          texts_of segments s changes (es ++ more) [],
-          inr (inl (es, part.0, refl, ap (λ l. texts_of segments s changes (es ++ l) []) part.1, order part.0 part.1)),
-          h.0,
-          h.1,
-        )
+    -- among the events, from the settings on
+    stops_among : (es more : List Event) (fault : StreamFault) → IsPart {T = Unit {0}} more (Err fault) → EndsNumbered {T = Unit {0}} es (Err fault)
+        → LeadsBehind {T = Unit {0}} segments changes (opened (settings_told s)) from.drains to.drains (empty_outputs (length s.ports)) es more (Err fault)
+        → EndsInOrder {T = Unit {0}} segments changes (opened (settings_told s)) from.drains to.drains (empty_outputs (length s.ports)) es more (Err fault) → Leaves segments s changes from to (Err fault)
+    stops_among es more (stream.Run (faults.Settings f)) part numbered h order = inr (es, h)
+    stops_among es more (stream.Run (faults.Changes f)) part numbered h order = inr (es, h)
+    stops_among es more (stream.Run faults.PortCount) part numbered h order = inr (es, h)
+    stops_among es more (stream.Run (faults.Capture place f)) part numbered h order = inr (es, h)
+    stops_among es more (stream.Run (faults.Record place n f)) part numbered h order = inr (es, h)
+    stops_among es more (stream.Run faults.OutOfMemory) part numbered h order = inr (es, numbered, h)
+    stops_among es more (stream.Read place) part numbered h order = inr (es, h)
+    stops_among es more (stream.Write target) part numbered h order = (
+      texts_of segments s changes es [],
+      texts_of segments s changes (es ++ more) [],
+      inr (inl (es, part.0, refl, ap (λ l. texts_of segments s changes (es ++ l) []) part.1, order part.0 part.1)),
+      h.0,
+      h.1,
+    )
+
+    pub leaves_events : (state : State) (es more : List Event) (fault : StreamFault) → state ≡ opened (settings_told s) → IsPart {T = Unit {0}} more (Err fault) → EndsNumbered {T = Unit {0}} es (Err fault)
+        → LeadsBehind {T = Unit {0}} segments changes state from.drains to.drains (empty_outputs (length s.ports)) es more (Err fault) → EndsInOrder {T = Unit {0}} segments changes state from.drains to.drains (empty_outputs (length s.ports)) es more (Err fault)
+        → Leaves segments s changes from to (Err fault)
+    leaves_events state es more fault is part numbered h order =
+        stops_among es more fault part numbered (subst (λ state. LeadsBehind {T = Unit {0}} segments changes state from.drains to.drains (empty_outputs (length s.ports)) es more (Err fault)) is h)
+        (subst (λ state. EndsInOrder {T = Unit {0}} segments changes state from.drains to.drains (empty_outputs (length s.ports)) es more (Err fault)) is order)
 
     pub leaves_cuts : (state : State) (es : List Event) (cuts : List Cut) (target : Target) → state ≡ opened (settings_told s)
-        → StandBetween start new (texts_behind segments changes state (empty_outputs (length s.ports)) es) (with_cuts (texts_behind segments changes state (empty_outputs (length s.ports)) es) cuts) × FailedAt target start new
-        → Leaves segments s changes start new (Err (stream.Write target))
+        → StandBetween from.drains to.drains (texts_behind segments changes state (empty_outputs (length s.ports)) es) (with_cuts (texts_behind segments changes state (empty_outputs (length s.ports)) es) cuts) × FailedAt target from.drains to.drains
+        → Leaves segments s changes from to (Err (stream.Write target))
     leaves_cuts state es cuts target is h =
-        (texts_of segments s changes es [], texts_of segments s changes es cuts, inr (inr (es, cuts, refl, refl)), subst (λ state. StandBetween start new (texts_behind segments changes state (empty_outputs (length s.ports)) es) (with_cuts (texts_behind segments changes state (empty_outputs (length s.ports)) es) cuts)) is h.0, h.1)
+        (texts_of segments s changes es [], texts_of segments s changes es cuts, inr (inr (es, cuts, refl, refl)), subst (λ state. StandBetween from.drains to.drains (texts_behind segments changes state (empty_outputs (length s.ports)) es) (with_cuts (texts_behind segments changes state (empty_outputs (length s.ports)) es) cuts)) is h.0, h.1)
 
-    pub leaves_all : (state : State) (es : List Event) (cuts : List Cut) → state ≡ opened (settings_told s) → StandAt start new (with_cuts (texts_behind segments changes state (empty_outputs (length s.ports)) es) cuts)
-        → Leaves segments s changes start new (Ok tt)
-    leaves_all state es cuts is at = (es, cuts, subst (λ state. StandAt start new (with_cuts (texts_behind segments changes state (empty_outputs (length s.ports)) es) cuts)) is at)
+    pub leaves_all : (state : State) (es : List Event) (cuts : List Cut) → state ≡ opened (settings_told s) → StandAt from.drains to.drains (with_cuts (texts_behind segments changes state (empty_outputs (length s.ports)) es) cuts)
+        → Leaves segments s changes from to (Ok tt)
+    leaves_all state es cuts is at = (es, cuts, subst (λ state. StandAt from.drains to.drains (with_cuts (texts_behind segments changes state (empty_outputs (length s.ports)) es) cuts)) is at)
 
-    pub writes_by : (result : Result (Unit {0}) StreamFault) → Leaves segments s changes start new result → WritesWith start new result
+    well : StandsWhole → AreWell from.drains to.drains
+    well (inl h) = h.well
+    well (inr h) = h.1.well
+
+    pub writes_by : (result : Result (Unit {0}) StreamFault) → Leaves segments s changes from to result → WritesWith from.drains to.drains result
     writes_by (Ok x) h = h.2.well
     writes_by (Err (stream.Write target)) h = h.4
-    writes_by (Err (stream.Run f)) (inl h) = h.well
-    writes_by (Err (stream.Run f)) (inr h) = h.1.well
-    writes_by (Err (stream.Read place)) (inl h) = h.well
-    writes_by (Err (stream.Read place)) (inr h) = h.1.well
+    writes_by (Err (stream.Run (faults.Settings f))) h = well h
+    writes_by (Err (stream.Run (faults.Changes f))) h = well h
+    writes_by (Err (stream.Run faults.PortCount)) h = well h
+    writes_by (Err (stream.Run (faults.Capture place f))) h = well h
+    writes_by (Err (stream.Run (faults.Record place n f))) h = well h
+    writes_by (Err (stream.Run faults.OutOfMemory)) (inl same) = subst (λ (e : Ends). AreWell from.drains e.drains) (sym same) (record { ports = refl; underlay = refl; decisions = refl })
+    writes_by (Err (stream.Run faults.OutOfMemory)) (inr h) = h.2.well
+    writes_by (Err (stream.Read place)) h = well h

@@ -44,7 +44,7 @@ use Rattle.stream_run.specs.Amidst.{StandsInEvent}
 use Rattle.stream_run.specs.Reached.{AreReadTo, IsReachedOverAmong, ReachesOver}
 use Rattle.stream_run.specs.Sights.{Sight, sights, state_among}
 use Rattle.stream_run.specs.Stage.{Drains, StandAt, StandBetween, first_of, no_texts, stage}
-use Rattle.stream_run.specs.Steps.{AreReadBehind, EndsIn, EndsInOrder, IsAt, IsPart, LeadsBehind, Run, StopInFront, changes_of, octets_at, source_at, texts_behind}
+use Rattle.stream_run.specs.Steps.{AreReadBehind, EndsIn, EndsInOrder, EndsNumbered, IsAt, IsPart, LeadsBehind, Run, StopInFront, changes_of, octets_at, source_at, texts_behind}
 use Rattle.stream_run.specs.Watched.{IsWatchedOverAmong, SeesOver, first_sights, state_behind}
 use Rattle.stream_run.specs.declared.fault.StreamFault.{StreamFault}
 use Rattle.stream_run.specs.declared.fault.StreamFault.TheVariants as stream
@@ -190,6 +190,11 @@ module _ (segments : Segments) where
     pub over_unopened : StandAt start new (no_texts (length texts)) → StandsSomewhere segments s changes texts text start new
     over_unopened at = record { k = 0; most = omega arith; in_front = none_in_front (texts_octets texts) text; stands = at }
 
+    -- for want of memory
+    pub over_wanting : new ≡ start → StandAt start new (no_texts (length texts)) → LeavesOver segments s changes texts text start new (Err (stream.Run faults.OutOfMemory))
+    unfolding over_unopened
+    over_wanting same at = (over_unopened at, inl (refl, same))
+
     -- at a capture that can't be opened
     pub over_refused : (index : ℕ) (place : Tap) (fault : CaptureFault) → length texts ≡ length s.ports → IsFirstRefused texts text index place fault → StandAt start new (no_texts (length texts))
         → LeavesOver segments s changes texts text start new (Err (stream.Run (faults.Capture place fault)))
@@ -249,8 +254,9 @@ module _ (segments : Segments) where
 
     -- among the events
     pub over_events : (fault : StreamFault) (run : Run) (es more rest : List Event) → whole.events ≡ es ++ (more ++ rest) → EndsIn {T = Unit {0}} (texts_octets texts) text es rest run (Err fault) → IsPart {T = Unit {0}} more (Err fault)
-        → LeadsBehind {T = Unit {0}} segments changes (opened (settings_told s)) start new (empty_outputs (length texts)) es more (Err fault) → Ordered es more (Err fault) → StopInFront (texts_octets texts) text (es ++ more) → LeavesOver segments s changes texts text start new (Err fault)
-    over_events (stream.Run (faults.Record place n f)) run es more rest is h part at ordered in_front = record {
+        → LeadsBehind {T = Unit {0}} segments changes (opened (settings_told s)) start new (empty_outputs (length texts)) es more (Err fault) → Ordered es more (Err fault) → StopInFront (texts_octets texts) text (es ++ more) → EndsNumbered {T = Unit {0}} es (Err fault) → LeavesOver segments s changes texts text start new (Err fault)
+    unfolding stands_behind
+    over_events (stream.Run (faults.Record place n f)) run es more rest is h part at ordered in_front numbered = record {
       k = length es;
       most = omega (arith, ap length is, length-append es (more ++ rest));
       faulty = h.0;
@@ -258,13 +264,14 @@ module _ (segments : Segments) where
       before = inr (subst (EndBefore place n) (sym (first_events whole es (more ++ rest) is)) h.1);
       stands = subst (StandAt start new) (sym (texts_are es (more ++ rest) (length es + 1) is refl)) at;
     }
-    over_events (stream.Run (faults.Settings f)) run es more rest is h part at ordered in_front = absurd h
-    over_events (stream.Run (faults.Changes f)) run es more rest is h part at ordered in_front = absurd h
-    over_events (stream.Run faults.PortCount) run es more rest is h part at ordered in_front = absurd h
-    over_events (stream.Run (faults.Capture place f)) run es more rest is h part at ordered in_front = absurd h
-    over_events (stream.Run faults.OutOfMemory) run es more rest is h part at ordered in_front = stands_behind es (more ++ rest) is at (subst (StopInFront (texts_octets texts) text) (ap (λ l. es ++ l) part ∙ append-nil es) in_front)
-    over_events (stream.Read place) run es more rest is h part at ordered in_front = stands_behind es (more ++ rest) is at (subst (StopInFront (texts_octets texts) text) (ap (λ l. es ++ l) part ∙ append-nil es) in_front)
-    over_events (stream.Write target) run es more rest is h part at ordered in_front =
+    over_events (stream.Run (faults.Settings f)) run es more rest is h part at ordered in_front numbered = absurd h
+    over_events (stream.Run (faults.Changes f)) run es more rest is h part at ordered in_front numbered = absurd h
+    over_events (stream.Run faults.PortCount) run es more rest is h part at ordered in_front numbered = absurd h
+    over_events (stream.Run (faults.Capture place f)) run es more rest is h part at ordered in_front numbered = absurd h
+    over_events (stream.Run faults.OutOfMemory) run es more rest is h part at ordered in_front numbered =
+        (stands_behind es (more ++ rest) is at (subst (StopInFront (texts_octets texts) text) (ap (λ l. es ++ l) part ∙ append-nil es) in_front), inr (ap (λ n. n + 1) numbered))
+    over_events (stream.Read place) run es more rest is h part at ordered in_front numbered = stands_behind es (more ++ rest) is at (subst (StopInFront (texts_octets texts) text) (ap (λ l. es ++ l) part ∙ append-nil es) in_front)
+    over_events (stream.Write target) run es more rest is h part at ordered in_front numbered =
         let one : length more ≡ 1 = ap length part.1 in
         let all : whole.events ≡ (es ++ more) ++ rest = is ∙ sym (append_assoc es more rest) in
         record {
@@ -323,9 +330,9 @@ module _ (segments : Segments) where
     headers_told : 0 + 1 ≤ 1
     headers_told = omega arith
 
-    pub reach_unopened : (ports : List Stream) (underlay : Stream) → StandAt start new (no_texts (length texts)) → Reaches ports underlay (Err (stream.Run faults.OutOfMemory))
+    pub reach_wanting : (ports : List Stream) (underlay : Stream) → new ≡ start → StandAt start new (no_texts (length texts)) → Reaches ports underlay (Err (stream.Run faults.OutOfMemory))
     unfolding over_unopened
-    reach_unopened ports underlay at = (over_unopened at, inl none_told)
+    reach_wanting ports underlay same at = (over_unopened at, inl (refl, same), inl none_told)
 
     pub reach_unread : (ports : List Stream) (underlay : Stream) (place : Tap) → StandAt start new (no_texts (length texts)) → Reaches ports underlay (Err (stream.Read place))
     unfolding over_unopened
@@ -349,20 +356,21 @@ module _ (segments : Segments) where
 
     pub reach_events : (fault : StreamFault) (run : Run) (es more rest : List Event) → whole.events ≡ es ++ (more ++ rest) → EndsIn {T = Unit {0}} (texts_octets texts) text es rest run (Err fault) → IsPart {T = Unit {0}} more (Err fault)
         → LeadsBehind {T = Unit {0}} segments changes (opened (settings_told s)) start new (empty_outputs (length texts)) es more (Err fault) → Ordered es more (Err fault) → StopInFront (texts_octets texts) text (es ++ more)
-        → AreReadBehind {T = Unit {0}} (texts_octets texts) text es run.ports run.underlay (Err fault) → Reaches run.ports run.underlay (Err fault)
+        → EndsNumbered {T = Unit {0}} es (Err fault) → AreReadBehind {T = Unit {0}} (texts_octets texts) text es run.ports run.underlay (Err fault) → Reaches run.ports run.underlay (Err fault)
     unfolding over_events stands_behind
-    reach_events (stream.Run (faults.Record place n f)) run es more rest is h part at ordered in_front read =
-        (over_events (stream.Run (faults.Record place n f)) run es more rest is h part at ordered in_front, inr (reads_first run.ports run.underlay (Err (stream.Run (faults.Record place n f))) es (more ++ rest) _ is refl read))
-    reach_events (stream.Run (faults.Settings f)) run es more rest is h part at ordered in_front read = absurd h
-    reach_events (stream.Run (faults.Changes f)) run es more rest is h part at ordered in_front read = absurd h
-    reach_events (stream.Run faults.PortCount) run es more rest is h part at ordered in_front read = absurd h
-    reach_events (stream.Run (faults.Capture place f)) run es more rest is h part at ordered in_front read = absurd h
-    reach_events (stream.Run faults.OutOfMemory) run es more rest is h part at ordered in_front read =
-        (over_events (stream.Run faults.OutOfMemory) run es more rest is h part at ordered in_front, inr (reads_first run.ports run.underlay (Err (stream.Run faults.OutOfMemory)) es (more ++ rest) _ is (omega arith) read))
-    reach_events (stream.Read place) run es more rest is h part at ordered in_front read =
-        (over_events (stream.Read place) run es more rest is h part at ordered in_front, inr (reads_first run.ports run.underlay (Err (stream.Read place)) es (more ++ rest) _ is (omega arith) read))
-    reach_events (stream.Write target) run es more rest is h part at ordered in_front read =
-        (over_events (stream.Write target) run es more rest is h part at ordered in_front, inr (reads_first run.ports run.underlay (Err (stream.Write target)) es (more ++ rest) _ is (omega arith) read))
+    reach_events (stream.Run (faults.Record place n f)) run es more rest is h part at ordered in_front numbered read =
+        (over_events (stream.Run (faults.Record place n f)) run es more rest is h part at ordered in_front numbered, inr (reads_first run.ports run.underlay (Err (stream.Run (faults.Record place n f))) es (more ++ rest) _ is refl read))
+    reach_events (stream.Run (faults.Settings f)) run es more rest is h part at ordered in_front numbered read = absurd h
+    reach_events (stream.Run (faults.Changes f)) run es more rest is h part at ordered in_front numbered read = absurd h
+    reach_events (stream.Run faults.PortCount) run es more rest is h part at ordered in_front numbered read = absurd h
+    reach_events (stream.Run (faults.Capture place f)) run es more rest is h part at ordered in_front numbered read = absurd h
+    reach_events (stream.Run faults.OutOfMemory) run es more rest is h part at ordered in_front numbered read =
+        let at = over_events (stream.Run faults.OutOfMemory) run es more rest is h part at ordered in_front numbered in
+        (at.0, at.1, inr (reads_first run.ports run.underlay (Err (stream.Run faults.OutOfMemory)) es (more ++ rest) _ is (omega arith) read))
+    reach_events (stream.Read place) run es more rest is h part at ordered in_front numbered read =
+        (over_events (stream.Read place) run es more rest is h part at ordered in_front numbered, inr (reads_first run.ports run.underlay (Err (stream.Read place)) es (more ++ rest) _ is (omega arith) read))
+    reach_events (stream.Write target) run es more rest is h part at ordered in_front numbered read =
+        (over_events (stream.Write target) run es more rest is h part at ordered in_front numbered, inr (reads_first run.ports run.underlay (Err (stream.Write target)) es (more ++ rest) _ is (omega arith) read))
 
     pub reach_cuts : (target : Target) (es : List Event) (turns : List Turn) (ports : List Stream) (underlay : Stream) → whole.events ≡ es → AllStandAtEnd texts text turns ports underlay
         → StopInFront (texts_octets texts) text es → StandBetween start new (behind es) (with_cuts (behind es) (cuts_among segments (cuts_at ports underlay turns)))
@@ -386,9 +394,9 @@ module _ (segments : Segments) where
       sees_first es rest k new_watch is at h = subst (λ l. Sees l new_watch) (sym (ap (λ k. take k whole.events) at ∙ first_events whole es rest is)) h
 
       -- nothing was
-      pub seen_unopened : StandAt start new (no_texts (length texts)) → Seen old_watch (Err (stream.Run faults.OutOfMemory))
+      pub seen_wanting : new ≡ start → StandAt start new (no_texts (length texts)) → Seen old_watch (Err (stream.Run faults.OutOfMemory))
       unfolding over_unopened
-      seen_unopened at = (over_unopened at, refl)
+      seen_wanting same at = (over_unopened at, inl (refl, same), refl)
 
       pub seen_unread : (place : Tap) → StandAt start new (no_texts (length texts)) → Seen old_watch (Err (stream.Read place))
       unfolding over_unopened
@@ -412,26 +420,28 @@ module _ (segments : Segments) where
 
       -- the first events were, and where a write failed one more
       pub seen_events : (fault : StreamFault) (run : Run) (es more rest : List Event) (new_watch : T) → whole.events ≡ es ++ (more ++ rest) → EndsIn {T = Unit {0}} (texts_octets texts) text es rest run (Err fault)
-          → IsPart {T = Unit {0}} more (Err fault) → LeadsBehind {T = Unit {0}} segments changes (opened (settings_told s)) start new (empty_outputs (length texts)) es more (Err fault) → Ordered es more (Err fault) → StopInFront (texts_octets texts) text (es ++ more) → Sees (es ++ more) new_watch → Seen new_watch (Err fault)
+          → IsPart {T = Unit {0}} more (Err fault) → LeadsBehind {T = Unit {0}} segments changes (opened (settings_told s)) start new (empty_outputs (length texts)) es more (Err fault) → Ordered es more (Err fault) → StopInFront (texts_octets texts) text (es ++ more) → EndsNumbered {T = Unit {0}} es (Err fault) → Sees (es ++ more) new_watch → Seen new_watch (Err fault)
       unfolding over_events stands_behind
-      seen_events (stream.Run (faults.Record place n f)) run es more rest new_watch is h part at ordered in_front seen = (
-        over_events (stream.Run (faults.Record place n f)) run es more rest is h part at ordered in_front,
+      seen_events (stream.Run (faults.Record place n f)) run es more rest new_watch is h part at ordered in_front numbered seen = (
+        over_events (stream.Run (faults.Record place n f)) run es more rest is h part at ordered in_front numbered,
         sees_first (es ++ more) rest _ new_watch (is ∙ sym (append_assoc es more rest)) (omega (arith, ap length part, length-append es more)) seen,
       )
-      seen_events (stream.Run (faults.Settings f)) run es more rest new_watch is h part at ordered in_front seen = absurd h
-      seen_events (stream.Run (faults.Changes f)) run es more rest new_watch is h part at ordered in_front seen = absurd h
-      seen_events (stream.Run faults.PortCount) run es more rest new_watch is h part at ordered in_front seen = absurd h
-      seen_events (stream.Run (faults.Capture place f)) run es more rest new_watch is h part at ordered in_front seen = absurd h
-      seen_events (stream.Run faults.OutOfMemory) run es more rest new_watch is h part at ordered in_front seen = (
-        over_events (stream.Run faults.OutOfMemory) run es more rest is h part at ordered in_front,
+      seen_events (stream.Run (faults.Settings f)) run es more rest new_watch is h part at ordered in_front numbered seen = absurd h
+      seen_events (stream.Run (faults.Changes f)) run es more rest new_watch is h part at ordered in_front numbered seen = absurd h
+      seen_events (stream.Run faults.PortCount) run es more rest new_watch is h part at ordered in_front numbered seen = absurd h
+      seen_events (stream.Run (faults.Capture place f)) run es more rest new_watch is h part at ordered in_front numbered seen = absurd h
+      seen_events (stream.Run faults.OutOfMemory) run es more rest new_watch is h part at ordered in_front numbered seen =
+        let at = over_events (stream.Run faults.OutOfMemory) run es more rest is h part at ordered in_front numbered in (
+        at.0,
+        at.1,
         sees_first (es ++ more) rest _ new_watch (is ∙ sym (append_assoc es more rest)) (omega (arith, ap length part, length-append es more)) seen,
       )
-      seen_events (stream.Read place) run es more rest new_watch is h part at ordered in_front seen = (
-        over_events (stream.Read place) run es more rest is h part at ordered in_front,
+      seen_events (stream.Read place) run es more rest new_watch is h part at ordered in_front numbered seen = (
+        over_events (stream.Read place) run es more rest is h part at ordered in_front numbered,
         sees_first (es ++ more) rest _ new_watch (is ∙ sym (append_assoc es more rest)) (omega (arith, ap length part, length-append es more)) seen,
       )
-      seen_events (stream.Write target) run es more rest new_watch is h part at ordered in_front seen = (
-        over_events (stream.Write target) run es more rest is h part at ordered in_front,
+      seen_events (stream.Write target) run es more rest new_watch is h part at ordered in_front numbered seen = (
+        over_events (stream.Write target) run es more rest is h part at ordered in_front numbered,
         sees_first (es ++ more) rest _ new_watch (is ∙ sym (append_assoc es more rest)) (omega (arith, ap length part.1, length-append es more)) seen,
       )
 
@@ -452,10 +462,10 @@ module _ (segments : Segments) where
         subst (λ l. ends last (state_behind segments changes (opened (settings_told s)) l) new_watch) (sym is) ended,
       )
 
-  module _ (texts : List (Vec ℕ Global)) (text : List ℕ) (start new : Drains) where
+  module _ (texts : List (Vec ℕ Global)) (text : List ℕ) (start : Drains) where
     -- the texts, or the number of captures, are refused, or memory was
-    pub over_refusal : (s : Meaning Settings) (c : Meaning (List TimedChange)) (fault : RunFault) → IsRefusal fault → Gives (Err fault) (run s c texts text) → StandAt start new (no_texts (length texts))
-        → IsRunOverAmong segments s c texts text start new (Err (stream.Run fault))
+    pub over_refusal : (s : Meaning Settings) (c : Meaning (List TimedChange)) (fault : RunFault) → IsRefusal fault → Gives (Err fault) (run s c texts text) → StandAt start start (no_texts (length texts))
+        → IsRunOverAmong segments s c texts text start start (Err (stream.Run fault))
     over_refusal (Ok s) (Ok changes) (faults.Settings f) refusal gives at = (gives, at)
     over_refusal (Ok s) (Err fault) (faults.Settings f) refusal gives at = (gives, at)
     over_refusal (Err fault) c (faults.Settings f) refusal gives at = (gives, at)
@@ -469,30 +479,30 @@ module _ (segments : Segments) where
     over_refusal (Ok s) (Err fault) (faults.Capture place f) refusal gives at = (gives, at)
     over_refusal (Err fault) c (faults.Capture place f) refusal gives at = (gives, at)
     over_refusal s c (faults.Record place n f) refusal gives at = absurd refusal
-    over_refusal (Ok s) (Ok changes) faults.OutOfMemory refusal gives at = over_unopened s changes texts text start new at
+    over_refusal (Ok s) (Ok changes) faults.OutOfMemory refusal gives at = over_wanting s changes texts text start start refl at
     over_refusal (Ok s) (Err fault) faults.OutOfMemory refusal gives at = at
     over_refusal (Err fault) c faults.OutOfMemory refusal gives at = at
 
     -- and nothing was seen
-    pub seen_refusal : {T : Type 0} (sees : T → Sight → T → Type 0) (ends : T → State → T → Type 0) (watch : T) (s : Meaning Settings) (c : Meaning (List TimedChange)) (fault : RunFault) → IsRefusal fault → StandAt start new (no_texts (length texts))
-        → IsWatchedOverAmong segments sees ends s c texts text start new watch watch (Err (stream.Run fault))
+    pub seen_refusal : {T : Type 0} (sees : T → Sight → T → Type 0) (ends : T → State → T → Type 0) (watch : T) (s : Meaning Settings) (c : Meaning (List TimedChange)) (fault : RunFault) → IsRefusal fault → StandAt start start (no_texts (length texts))
+        → IsWatchedOverAmong segments sees ends s c texts text start start watch watch (Err (stream.Run fault))
     seen_refusal sees ends watch (Ok s) (Ok changes) (faults.Settings f) refusal at = refl
     seen_refusal sees ends watch (Ok s) (Ok changes) (faults.Changes f) refusal at = refl
     seen_refusal sees ends watch (Ok s) (Ok changes) faults.PortCount refusal at = refl
     seen_refusal sees ends watch (Ok s) (Ok changes) (faults.Capture place f) refusal at = refl
     seen_refusal sees ends watch (Ok s) (Ok changes) (faults.Record place n f) refusal at = absurd refusal
-    seen_refusal sees ends watch (Ok s) (Ok changes) faults.OutOfMemory refusal at = seen_unopened s changes texts text start new sees ends watch at
+    seen_refusal sees ends watch (Ok s) (Ok changes) faults.OutOfMemory refusal at = seen_wanting s changes texts text start start sees ends watch refl at
     seen_refusal sees ends watch (Ok s) (Err f) fault refusal at = refl
     seen_refusal sees ends watch (Err f) c fault refusal at = refl
 
     -- and so nothing is said of how far the captures are read
-    pub reach_refusal : (s : Meaning Settings) (c : Meaning (List TimedChange)) (ports : List Stream) (underlay : Stream) (fault : RunFault) → IsRefusal fault → StandAt start new (no_texts (length texts))
-        → IsReachedOverAmong segments s c texts text start new ports underlay (Err (stream.Run fault))
+    pub reach_refusal : (s : Meaning Settings) (c : Meaning (List TimedChange)) (ports : List Stream) (underlay : Stream) (fault : RunFault) → IsRefusal fault → StandAt start start (no_texts (length texts))
+        → IsReachedOverAmong segments s c texts text start start ports underlay (Err (stream.Run fault))
     reach_refusal (Ok s) (Ok changes) ports underlay (faults.Settings f) refusal at = tt
     reach_refusal (Ok s) (Ok changes) ports underlay (faults.Changes f) refusal at = tt
     reach_refusal (Ok s) (Ok changes) ports underlay faults.PortCount refusal at = tt
     reach_refusal (Ok s) (Ok changes) ports underlay (faults.Capture place f) refusal at = tt
     reach_refusal (Ok s) (Ok changes) ports underlay (faults.Record place n f) refusal at = absurd refusal
-    reach_refusal (Ok s) (Ok changes) ports underlay faults.OutOfMemory refusal at = reach_unopened s changes texts text start new ports underlay at
+    reach_refusal (Ok s) (Ok changes) ports underlay faults.OutOfMemory refusal at = reach_wanting s changes texts text start start ports underlay refl at
     reach_refusal (Ok s) (Err f) ports underlay fault refusal at = tt
     reach_refusal (Err f) c ports underlay fault refusal at = tt

@@ -1,7 +1,6 @@
 -- What refuses a run before anything is read or written.
 use Rattle.std.proofs.Common.{◌≡◌, ◌⊎◌, ◌∙◌, refl, sym, ℕ, ◌==◌, Bool, true, false, List, length, Vec, Global, Result, Ok, Err, inl, inr}
 use Rattle.std.specs.Prelude.{MatchBool}
-use Rattle.std.proofs.lemmas.Bool.{eqb-true}
 use Rattle.config_text.specs.declared.fault.SettingsFault.{SettingsFault}
 use Rattle.config_text.specs.declared.fault.SettingsFault.TheVariants as text
 use Rattle.overlay_config.specs.Fault.{Meaning, GivesAs}
@@ -16,7 +15,6 @@ use Rattle.capture_run.proofs.Among.{all_run}
 use Rattle.capture_run.proofs.Faults.{refused}
 use Rattle.stream_run.specs.Over.{IsRunOver, IsWholeRun}
 use Rattle.stream_run.specs.Stage.{Drains}
-use Rattle.stream_run.proofs.Framing.{none_at}
 use Rattle.segment_set.specs.Segments.{Segments}
 
 -- a run that has all segments is the whole run
@@ -29,37 +27,36 @@ whole_run s c texts text old new (Err fault) over = tt
 
 module _ (segments : Segments) where
   -- memory can be refused whatever the texts mean
-  pub out_of_memory : (s : Meaning Settings) (c : Meaning (List TimedChange)) (e : Ends) → length e.drains.ports ≡ length e.ports → AnswersAmong segments s c e e (Err (stream.Run faults.OutOfMemory))
-  out_of_memory (Err fault) c e many = (inr refl, refl)
-  out_of_memory (Ok s) (Err fault) e many = (inr refl, refl)
-  out_of_memory (Ok s) (Ok changes) e many = by (length e.ports == length s.ports) refl
+  pub out_of_memory : (s : Meaning Settings) (c : Meaning (List TimedChange)) (e : Ends) → AnswersAmong segments s c e e (Err (stream.Run faults.OutOfMemory))
+  out_of_memory (Err fault) c e = (inr refl, refl)
+  out_of_memory (Ok s) (Err fault) e = (inr refl, refl)
+  out_of_memory (Ok s) (Ok changes) e = by (length e.ports == length s.ports)
     where
-      by : (b : Bool) → (length e.ports == length s.ports) ≡ b
-          → MatchBool b (Leaves segments s changes e.drains e.drains (Err (stream.Run faults.OutOfMemory))) (Refuses faults.PortCount e e (Err (stream.Run faults.OutOfMemory)))
-      by true is = inl (none_at e.drains (length s.ports) (many ∙ eqb-true _ _ is))
-      by false is = (inr refl, refl)
+      by : (b : Bool) → MatchBool b (Leaves segments s changes e e (Err (stream.Run faults.OutOfMemory))) (Refuses faults.PortCount e e (Err (stream.Run faults.OutOfMemory)))
+      by true = inl refl
+      by false = (inr refl, refl)
 
-  pub settings_refused : {A : Type 0} (view : A → Settings) (fault : SettingsFault) (s : Meaning Settings) (c : Meaning (List TimedChange)) (e : Ends) → length e.drains.ports ≡ length e.ports
+  pub settings_refused : {A : Type 0} (view : A → Settings) (fault : SettingsFault) (s : Meaning Settings) (c : Meaning (List TimedChange)) (e : Ends)
       → GivesAs view (Err fault) s → AnswersAmong segments s c e e (Err (stream.Run (of_settings fault)))
-  settings_refused view fault s c e many h = by (refused view fault s h)
+  settings_refused view fault s c e h = by (refused view fault s h)
     where
       by : (s ≡ Err fault) ⊎ (fault ≡ text.OutOfMemory) → AnswersAmong segments s c e e (Err (stream.Run (of_settings fault)))
       by (inl is) = rw is (inl refl, refl)
-      by (inr none) = rw none (out_of_memory s c e many)
+      by (inr none) = rw none (out_of_memory s c e)
 
-  pub changes_refused : {A : Type 0} (view : A → List TimedChange) (fault : SettingsFault) (s : Settings) (c : Meaning (List TimedChange)) (e : Ends) → length e.drains.ports ≡ length e.ports
+  pub changes_refused : {A : Type 0} (view : A → List TimedChange) (fault : SettingsFault) (s : Settings) (c : Meaning (List TimedChange)) (e : Ends)
       → GivesAs view (Err fault) c → AnswersAmong segments (Ok s) c e e (Err (stream.Run (of_changes fault)))
-  changes_refused view fault s c e many h = by (refused view fault c h)
+  changes_refused view fault s c e h = by (refused view fault c h)
     where
       by : (c ≡ Err fault) ⊎ (fault ≡ text.OutOfMemory) → AnswersAmong segments (Ok s) c e e (Err (stream.Run (of_changes fault)))
       by (inl is) = rw is (inl refl, refl)
-      by (inr none) = rw none (out_of_memory (Ok s) c e many)
+      by (inr none) = rw none (out_of_memory (Ok s) c e)
 
   -- another number of captures
   pub count_refused : (s : Settings) (changes : List TimedChange) (e : Ends) → (length e.ports == length s.ports) ≡ false → AnswersAmong segments (Ok s) (Ok changes) e e (Err (stream.Run faults.PortCount))
   count_refused s changes e apart = rw apart (inl refl, refl)
 
   -- as many captures as ports
-  pub counted : (s : Settings) (changes : List TimedChange) (old new : Ends) (result : Result (Unit {0}) StreamFault) → (length old.ports == length s.ports) ≡ true → Leaves segments s changes old.drains new.drains result
+  pub counted : (s : Settings) (changes : List TimedChange) (old new : Ends) (result : Result (Unit {0}) StreamFault) → (length old.ports == length s.ports) ≡ true → Leaves segments s changes old new result
       → AnswersAmong segments (Ok s) (Ok changes) old new result
   counted s changes old new result same leaves = rw same leaves

@@ -1,5 +1,6 @@
 -- Many events, one after another.
 use Rattle.std.proofs.Common.{◌≡◌, ◌≢◌, ◌∙◌, refl, sym, ap, subst, ℕ, ◌+◌, ◌-◌, ◌<◌, ◌≤◌, ◌⊎◌, slice_index_or, List, [], ◌∷◌, ◌++◌, length, map, arith, append_assoc, append-nil, None, Result, Ok, Err, length-append}
+use Rattle.std.specs.Prelude.{⊤}
 use Rattle.overlay_settings.specs.declared.change.Change.{Change}
 use Rattle.overlay_settings.specs.declared.change.TimedChange.{TimedChange}
 use Rattle.timeline.specs.Order.{IsRising, merged}
@@ -14,17 +15,18 @@ use Rattle.capture_run.specs.Among.{with_event_among, with_events_among}
 use Rattle.capture_run.specs.declared.fault.RunFault.{RunFault}
 use Rattle.capture_run.specs.declared.fault.RunFault.TheVariants as faults
 use Rattle.pcap_stream.specs.Source.{Stream}
+use Rattle.pcap_stream.specs.declared.fault.SourceFault.TheVariants as source_
 use Rattle.pcap_io.specs.declared.record.RecordFault.{RecordFault}
 use Rattle.stream_run.specs.Amidst.{StandsInEvent}
-use Rattle.stream_run.specs.Begun.{IsNoWrite}
 use Rattle.stream_run.specs.Coming.{coming, source_events}
 use Rattle.stream_run.specs.Read.{AreQuiet, GivesUpAt, failures_of}
 use Rattle.stream_run.specs.Sights.{Sight, sight_among, sights, state_among}
 use Rattle.stream_run.specs.Stage.{Drains, StandAt, StandBetween}
-use Rattle.stream_run.specs.Steps.{AreFirst, AreRead, AreReadBehind, AreReady, EndsIn, Fetches, IsAt, IsNextEvent, IsRunOn, IsStep, Run, StopInFront, changes_of, texts_behind}
+use Rattle.stream_run.specs.Steps.{AreFirst, AreRead, AreReadBehind, AreReady, EndsIn, EndsNumbered, Fetches, IsAt, IsNextEvent, IsRunOn, IsStep, Run, StopInFront, changes_of, most_events, texts_behind}
 use Rattle.stream_run.specs.Watched.{IsPut, IsWatchedRun, IsWatchedStep, state_behind}
 use Rattle.stream_run.specs.Fault.{stopped}
 use Rattle.stream_run.specs.declared.fault.Halt.{Halt}
+use Rattle.stream_run.specs.declared.fault.Halt.TheVariants as halt
 use Rattle.stream_run.specs.declared.fault.StreamFault.{StreamFault}
 use Rattle.stream_run.specs.declared.fault.StreamFault.TheVariants as stream
 use Rattle.stream_run.specs.declared.turn.First.{First}
@@ -100,6 +102,20 @@ stops_run changes texts text new es rest e (faults.Changes f) h = absurd h
 stops_run changes texts text new es rest e faults.PortCount h = absurd h
 stops_run changes texts text new es rest e (faults.Capture place f) h = absurd h
 stops_run changes texts text new es rest e faults.OutOfMemory h = absurd h
+
+-- it stops, but not at a failed write
+abbrev StopsWhole : StreamFault → Type 0
+StopsWhole (stream.Write target) = ⊥
+StopsWhole fault = ⊤
+
+-- where an event stops it, memory isn't wanting
+never_wanting : (tap : Tap) (n : ℕ) (h : Halt) (es : List Event) → EndsNumbered {T = Unit {0}} es (Err (stopped tap n h))
+never_wanting tap n (halt.Write target) es = tt
+never_wanting tap n (halt.Source source_.Read) es = tt
+never_wanting tap n (halt.Source source_.NotPcap) es = tt
+never_wanting tap n (halt.Source source_.BadLink) es = tt
+never_wanting tap n (halt.Source source_.TooLarge) es = tt
+never_wanting tap n (halt.Source source_.BadFraction) es = tt
 
 module _ (segments : Segments) where
   -- an event behind others
@@ -192,28 +208,28 @@ module _ (segments : Segments) where
 
   -- at a fault the other captures stand behind it
   read_but : (changes : List TimedChange) (texts : List (List ℕ)) (text : List ℕ) (old now new : Run) (first : First) (fault : StreamFault) (has : HasRun changes old now) (step : IsStep segments changes now new first (Err fault))
-      → AreRead texts text old.turns old.ports old.underlay → IsNoWrite (Err fault) → AreReadBehind {T = Unit {0}} texts text (has.es ++ step.e ∷ []) new.ports new.underlay (Err fault)
-  read_but changes texts text old now new first (stream.Write target) has step read no_write place i at other = absurd no_write
-  read_but changes texts text old now new first (stream.Read source) has step read no_write place i at other =
+      → AreRead texts text old.turns old.ports old.underlay → StopsWhole fault → AreReadBehind {T = Unit {0}} texts text (has.es ++ step.e ∷ []) new.ports new.underlay (Err fault)
+  read_but changes texts text old now new first (stream.Write target) has step read whole place i at other = absurd whole
+  read_but changes texts text old now new first (stream.Read source) has step read whole place i at other =
       let up_to = has.told texts text read in
       others_so texts text now.turns now.ports now.underlay has.es up_to.read has.many first.index first.moment source step.e new.ports new.underlay step.stay.0 step.next step.stay.1 step.stay.2 place i at other
-  read_but changes texts text old now new first (stream.Run (faults.Record source n f)) has step read no_write place i at other =
+  read_but changes texts text old now new first (stream.Run (faults.Record source n f)) has step read whole place i at other =
       let up_to = has.told texts text read in
       let came = step.told texts text up_to.read in
       let own : source ≡ step.stay.0 = own_fault changes texts text now new first came.rest step.e source step.stay.0 n f step.next step.stay.2 came.fetched in
       others_so texts text now.turns now.ports now.underlay has.es up_to.read has.many first.index first.moment step.stay.0 step.e new.ports new.underlay step.stay.1 step.next step.stay.2 step.stay.3 place i at (subst (λ p. place ≢ p) own other)
-  read_but changes texts text old now new first (stream.Run (faults.Settings f)) has step read no_write place i at other = absurd (step.told texts text (has.told texts text read).read).fetched
-  read_but changes texts text old now new first (stream.Run (faults.Changes f)) has step read no_write place i at other = absurd (step.told texts text (has.told texts text read).read).fetched
-  read_but changes texts text old now new first (stream.Run faults.PortCount) has step read no_write place i at other = absurd (step.told texts text (has.told texts text read).read).fetched
-  read_but changes texts text old now new first (stream.Run (faults.Capture p f)) has step read no_write place i at other = absurd (step.told texts text (has.told texts text read).read).fetched
-  read_but changes texts text old now new first (stream.Run faults.OutOfMemory) has step read no_write place i at other = absurd (step.told texts text (has.told texts text read).read).fetched
+  read_but changes texts text old now new first (stream.Run (faults.Settings f)) has step read whole place i at other = absurd (step.told texts text (has.told texts text read).read).fetched
+  read_but changes texts text old now new first (stream.Run (faults.Changes f)) has step read whole place i at other = absurd (step.told texts text (has.told texts text read).read).fetched
+  read_but changes texts text old now new first (stream.Run faults.PortCount) has step read whole place i at other = absurd (step.told texts text (has.told texts text read).read).fetched
+  read_but changes texts text old now new first (stream.Run (faults.Capture p f)) has step read whole place i at other = absurd (step.told texts text (has.told texts text read).read).fetched
+  read_but changes texts text old now new first (stream.Run faults.OutOfMemory) has step read whole place i at other = absurd (step.told texts text (has.told texts text read).read).fetched
 
   -- at a fault the event stands behind the others
   stops_at : (changes : List TimedChange) (texts : List (List ℕ)) (text : List ℕ) (old now new : Run) (first : First) (fault : StreamFault) (has : HasRun changes old now) (step : IsStep segments changes now new first (Err fault))
-      → AreRead texts text old.turns old.ports old.underlay → IsNoWrite (Err fault)
+      → AreRead texts text old.turns old.ports old.underlay → StopsWhole fault
       → ((rest : List Event) → Fetches {T = Unit {0}} changes texts text rest step.e new (Err fault) → EndsIn {T = Unit {0}} texts text (has.es ++ step.e ∷ []) rest new (Err fault))
       → AreFirst changes texts text old new (has.es ++ step.e ∷ []) [] (Err fault)
-  stops_at changes texts text old now new first fault has step read no_write ends =
+  stops_at changes texts text old now new first fault has step read whole ends =
       let up_to = has.told texts text read in
       let came = step.told texts text up_to.read in
       let es = has.es ++ step.e ∷ [] in
@@ -221,7 +237,7 @@ module _ (segments : Segments) where
         rest = came.rest;
         first = comes_next changes texts text old now has.es came.rest step.e up_to came.first;
         in_front = subst (StopInFront texts text) (sym (append-nil es)) (one_in_front texts text now.turns now.ports now.underlay has.es up_to.read has.counted step.e);
-        read_on = read_but changes texts text old now new first fault has step read no_write;
+        read_on = read_but changes texts text old now new first fault has step read whole;
         ends = ends came.rest came.fetched;
       }
 
@@ -236,11 +252,12 @@ module _ (segments : Segments) where
       (subst (λ s. StandsInEvent (changes_of changes) start new (length has.es + 1) s texts e) has.state
       (subst (λ n. StandsInEvent (changes_of changes) start new (n + 1) now.state texts e) has.number stands))
 
-  run_stops : (changes : List TimedChange) (old now new : Run) (first : First) (fault : StreamFault) → HasRun changes old now → IsStep segments changes now new first (Err fault) → IsRunOn segments changes old new (Err fault)
-  run_stops changes old now new first (stream.Write target) has step = record {
+  run_stops : (changes : List TimedChange) (old now new : Run) (first : First) (fault : StreamFault) → HasRun changes old now → IsStep segments changes now new first (Err fault) → ((es : List Event) → EndsNumbered {T = Unit {0}} es (Err fault)) → IsRunOn segments changes old new (Err fault)
+  run_stops changes old now new first (stream.Write target) has step numbered = record {
     es = has.es;
     more = step.e ∷ [];
     part = (step.e, refl);
+    numbered = tt;
     rising = rises_on changes old now new first (Err (stream.Write target)) has step;
     outputs = λ start o at.
         let lead = step.outputs start (texts_behind segments changes old.state o has.es) (has.outputs start o at) in
@@ -262,11 +279,12 @@ module _ (segments : Segments) where
           ends = tt;
         };
   }
-  run_stops changes old now new first (stream.Run f) has step = record {
+  run_stops changes old now new first (stream.Run f) has step numbered = record {
     order = λ start o at. tt;
     es = has.es ++ step.e ∷ [];
     more = [];
     part = refl;
+    numbered = numbered (has.es ++ step.e ∷ []);
     rising = rw (append-nil (has.es ++ step.e ∷ [])) (rises_on changes old now new first (Err (stream.Run f)) has step);
     outputs = λ start o at. subst (StandAt start new.drains) (sym (one_more changes old now has step.e o)) (step.outputs start (texts_behind segments changes old.state o has.es) (has.outputs start o at));
     reads = quiet_on old.ports now.ports new.ports old.underlay now.underlay new.underlay has.quiet step.reads;
@@ -274,11 +292,12 @@ module _ (segments : Segments) where
     ready = tt;
     told = λ texts text read. stops_at changes texts text old now new first (stream.Run f) has step read tt (λ rest h. stops_run changes texts text new has.es rest step.e f h);
   }
-  run_stops changes old now new first (stream.Read place) has step = record {
+  run_stops changes old now new first (stream.Read place) has step numbered = record {
     order = λ start o at. tt;
     es = has.es ++ step.e ∷ [];
     more = [];
     part = refl;
+    numbered = tt;
     rising = rw (append-nil (has.es ++ step.e ∷ [])) (rises_on changes old now new first (Err (stream.Read place)) has step);
     outputs = λ start o at. subst (StandAt start new.drains) (sym (one_more changes old now has step.e o)) (step.outputs start (texts_behind segments changes old.state o has.es) (has.outputs start o at));
     reads = gives_up_on place old.ports now.ports new.ports old.underlay now.underlay new.underlay has.quiet step.reads;
@@ -309,6 +328,7 @@ module _ (segments : Segments) where
     es = has.es;
     more = [];
     part = refl;
+    numbered = tt;
     rising = rw (append-nil has.es) has.rising;
     outputs = has.outputs;
     reads = has.quiet;
@@ -320,13 +340,14 @@ module _ (segments : Segments) where
         goes_no_further changes old now has texts text read (Ok tt) (ap merged (none_left now.turns (source_events changes texts text) ahead none), up_to.read);
   }
 
-  -- it may be the want of numbers
-  run_breaks : (changes : List TimedChange) (old now : Run) → HasRun changes old now → IsRunOn segments changes old now (Err (stream.Run faults.OutOfMemory))
-  run_breaks changes old now has = record {
+  -- no number is left
+  run_breaks : (changes : List TimedChange) (old now : Run) → HasRun changes old now → now.number ≡ most_events → IsRunOn segments changes old now (Err (stream.Run faults.OutOfMemory))
+  run_breaks changes old now has last = record {
     order = λ start o at. tt;
     es = has.es;
     more = [];
     part = refl;
+    numbered = sym has.number ∙ last;
     rising = rw (append-nil has.es) has.rising;
     outputs = has.outputs;
     reads = has.quiet;
@@ -381,20 +402,20 @@ module _ (segments : Segments) where
     }
 
     pub shown_stops : (now new : Run) (first : First) (now_watch new_watch : T) (fault : StreamFault) → HasShown sees changes old now old_watch now_watch → IsWatchedStep segments sees changes now new first now_watch new_watch (Err fault)
-        → IsWatchedRun segments sees changes old new old_watch new_watch (Err fault)
+        → ((es : List Event) → EndsNumbered {T = Unit {0}} es (Err fault)) → IsWatchedRun segments sees changes old new old_watch new_watch (Err fault)
     unfolding run_stops
-    shown_stops now new first now_watch new_watch (stream.Write target) so step = record {
-      run = run_stops changes old now new first (stream.Write target) so.has step.step;
+    shown_stops now new first now_watch new_watch (stream.Write target) so step numbered = record {
+      run = run_stops changes old now new first (stream.Write target) so.has step.step numbered;
       seen = sees_more now so.has step.step.e now_watch new_watch so.seen step.seen;
       state = state_more now new first (Err (stream.Write target)) so.has step.step;
     }
-    shown_stops now new first now_watch new_watch (stream.Run f) so step = record {
-      run = run_stops changes old now new first (stream.Run f) so.has step.step;
+    shown_stops now new first now_watch new_watch (stream.Run f) so step numbered = record {
+      run = run_stops changes old now new first (stream.Run f) so.has step.step numbered;
       seen = runs_out sees changes old.state (so.has.es ++ step.step.e ∷ []) old_watch new_watch (sees_more now so.has step.step.e now_watch new_watch so.seen step.seen);
       state = state_more now new first (Err (stream.Run f)) so.has step.step ∙ ap (state_behind segments changes old.state) (sym (append-nil (so.has.es ++ step.step.e ∷ [])));
     }
-    shown_stops now new first now_watch new_watch (stream.Read place) so step = record {
-      run = run_stops changes old now new first (stream.Read place) so.has step.step;
+    shown_stops now new first now_watch new_watch (stream.Read place) so step numbered = record {
+      run = run_stops changes old now new first (stream.Read place) so.has step.step numbered;
       seen = runs_out sees changes old.state (so.has.es ++ step.step.e ∷ []) old_watch new_watch (sees_more now so.has step.step.e now_watch new_watch so.seen step.seen);
       state = state_more now new first (Err (stream.Read place)) so.has step.step ∙ ap (state_behind segments changes old.state) (sym (append-nil (so.has.es ++ step.step.e ∷ [])));
     }
@@ -404,6 +425,7 @@ module _ (segments : Segments) where
         → told ≡ stopped tap ((slice_index_or now.turns first.index t).done + 1 + 1) h → IsWatchedRun segments sees changes old new old_watch new_watch (Err told)
     shown_halts now new first now_watch new_watch h told tap t so put at is =
         shown_stops now new first now_watch new_watch told so (subst (λ (f : StreamFault). IsWatchedStep segments sees changes now new first now_watch new_watch (Err f)) (sym is) (put tap t at))
+        (subst (λ (f : StreamFault). (es : List Event) → EndsNumbered {T = Unit {0}} es (Err f)) (sym is) (never_wanting tap ((slice_index_or now.turns first.index t).done + 1 + 1) h))
 
     pub shown_ends : (now : Run) (now_watch : T) → HasShown sees changes old now old_watch now_watch → ((t : Turn) (k : ℕ) → k < length now.turns → (slice_index_or now.turns k t).next ≡ None)
         → IsWatchedRun segments sees changes old now old_watch now_watch (Ok tt)
@@ -414,10 +436,10 @@ module _ (segments : Segments) where
       state = so.has.state ∙ ap (state_behind segments changes old.state) (sym (append-nil so.has.es));
     }
 
-    pub shown_breaks : (now : Run) (now_watch : T) → HasShown sees changes old now old_watch now_watch → IsWatchedRun segments sees changes old now old_watch now_watch (Err (stream.Run faults.OutOfMemory))
+    pub shown_breaks : (now : Run) (now_watch : T) → HasShown sees changes old now old_watch now_watch → now.number ≡ most_events → IsWatchedRun segments sees changes old now old_watch now_watch (Err (stream.Run faults.OutOfMemory))
     unfolding run_breaks
-    shown_breaks now now_watch so = record {
-      run = run_breaks changes old now so.has;
+    shown_breaks now now_watch so last = record {
+      run = run_breaks changes old now so.has last;
       seen = runs_out sees changes old.state so.has.es old_watch now_watch so.seen;
       state = so.has.state ∙ ap (state_behind segments changes old.state) (sym (append-nil so.has.es));
     }

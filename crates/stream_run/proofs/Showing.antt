@@ -13,7 +13,7 @@ use Rattle.endpoint_state.specs.Opened.{settings_told}
 use Rattle.endpoint_core.specs.Step.{State, opened}
 use Rattle.capture_run.specs.Writing.{empty_outputs, with_cuts}
 use Rattle.capture_run.specs.declared.fault.RunFault.{RunFault}
-use Rattle.stream_run.specs.Begun.{IsNoWrite}
+use Rattle.stream_run.specs.Begun.{OnlyReads}
 use Rattle.stream_run.specs.Left.{texts_of}
 use Rattle.stream_run.specs.Sights.{Sight, sights}
 use Rattle.stream_run.specs.Stage.{Drains, StandAt, StandBetween, no_texts}
@@ -27,15 +27,15 @@ use Rattle.segment_set.specs.Segments.{Segments}
 
 module _ (segments : Segments) where
   module _ (s : Settings) (changes : List TimedChange) (start new : Drains) {T : Type 0} (sees : T → Sight → T → Type 0) (ends : T → State → T → Type 0) (old_watch : T) where
-    pub shows_nothing : (fault : StreamFault) → IsNoWrite (Err fault) → StandAt start new (no_texts (length s.ports)) → Shows segments sees ends s changes start new old_watch old_watch (Err fault)
-    shows_nothing (stream.Run f) no_write at = inl (at, refl)
-    shows_nothing (stream.Read place) no_write at = inl (at, refl)
-    shows_nothing (stream.Write target) no_write at = absurd no_write
+    pub shows_nothing : (fault : StreamFault) → OnlyReads (Err fault) → StandAt start new (no_texts (length s.ports)) → Shows segments sees ends s changes start new old_watch old_watch (Err fault)
+    shows_nothing (stream.Run f) only_reads at = inl (at, refl)
+    shows_nothing (stream.Read place) only_reads at = inl (at, refl)
+    shows_nothing (stream.Write target) only_reads at = absurd only_reads
 
-    pub shows_headers : (fault : StreamFault) → IsNoWrite (Err fault) → StandAt start new (empty_outputs (length s.ports)) → Shows segments sees ends s changes start new old_watch old_watch (Err fault)
-    shows_headers (stream.Run f) no_write at = inr ([], at, refl)
-    shows_headers (stream.Read place) no_write at = inr ([], at, refl)
-    shows_headers (stream.Write target) no_write at = absurd no_write
+    pub shows_headers : (fault : StreamFault) → OnlyReads (Err fault) → StandAt start new (empty_outputs (length s.ports)) → Shows segments sees ends s changes start new old_watch old_watch (Err fault)
+    shows_headers (stream.Run f) only_reads at = inr ([], at, refl)
+    shows_headers (stream.Read place) only_reads at = inr ([], at, refl)
+    shows_headers (stream.Write target) only_reads at = absurd only_reads
 
     pub shows_begun : (target : Target) → StandBetween start new (no_texts (length s.ports)) (empty_outputs (length s.ports)) → Shows segments sees ends s changes start new old_watch old_watch (Err (stream.Write target))
     shows_begun target between = ([], no_texts (length s.ports), empty_outputs (length s.ports), inl (refl, refl, refl), between, refl)

@@ -79,10 +79,11 @@ pub record AreAtFirst (texts : List (List ℕ)) (text : List ℕ) (ports : List 
 
 -- ---- the fetches
 
--- an answer of a call that writes nothing
-abbrev pub IsNoWrite : Result (Unit {0}) StreamFault → Type 0
-IsNoWrite (Err (stream.Write target)) = ⊥
-IsNoWrite result = ⊤
+-- an answer of a call that only reads: it writes nothing, and asks for no memory
+abbrev pub OnlyReads : Result (Unit {0}) StreamFault → Type 0
+OnlyReads (Err (stream.Write target)) = ⊥
+OnlyReads (Err (stream.Run faults.OutOfMemory)) = ⊥
+OnlyReads result = ⊤
 
 -- ---- the turns
 

@@ -9,7 +9,7 @@ use Rattle.overlay_config.specs.Settings.{Settings}
 use Rattle.overlay_settings.specs.declared.change.TimedChange.{TimedChange}
 use Rattle.endpoint_core.specs.Step.{State}
 use Rattle.segment_set.specs.Segments.{Segments}
-use Rattle.stream_run.specs.Left.{Leaves}
+use Rattle.stream_run.specs.Left.{Leaves, ends as both}
 use Rattle.stream_run.specs.Over.{LeavesOver, Tells}
 use Rattle.stream_run.specs.Reached.{ReachesOver}
 use Rattle.stream_run.specs.Sights.{Sight}
@@ -28,7 +28,7 @@ module _ (segments : Segments) {T : Type 0} (sees : T → Sight → T → Type 0
   -- what its outputs hold, what was shown, and both by the octets of the captures, where they tell them
   pub record IsDone (s : Settings) (changes : List TimedChange) (ports : List Stream) (underlay : Stream) (new_ports : List Stream) (new_underlay : Stream) (old new : Drains) (old_watch new_watch : T)
       (result : Result (Unit {0}) StreamFault) : Type 0 where
-    pub left : Leaves segments s changes old new result
+    pub left : Leaves segments s changes (both ports underlay old) (both new_ports new_underlay new) result
     pub shown : Shows segments sees ends s changes old new old_watch new_watch result
     pub over : (texts : List (Vec ℕ Global)) (text : List ℕ) → Tells ports underlay texts text
         → IsDoneOver s changes texts text old new new_ports new_underlay old_watch new_watch result

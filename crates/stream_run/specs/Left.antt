@@ -19,7 +19,7 @@ use Rattle.capture_run.specs.declared.fault.RunFault.TheVariants as faults
 use Rattle.stream_run.specs.Amidst.{StandsInEvent}
 use Rattle.stream_run.specs.Sights.{state_among}
 use Rattle.stream_run.specs.Stage.{AreWell, Drains, FailedAt, StandAt, StandBetween, no_texts}
-use Rattle.stream_run.specs.Steps.{changes_of, texts_behind}
+use Rattle.stream_run.specs.Steps.{changes_of, most_events, texts_behind}
 use Rattle.stream_run.specs.declared.fault.StreamFault.{StreamFault}
 use Rattle.stream_run.specs.declared.fault.StreamFault.TheVariants as stream
 use Rattle.segment_set.specs.Segments.{Segments, All}
@@ -39,22 +39,7 @@ AreNext segments s changes old new texts next =
     × StandsInEvent (changes_of changes) old new (length es + 1) (state_among segments (changes_of changes) (opened (settings_told s)) es) texts e)
     ⊎ ((es : List Event) × (cuts : List Cut) × (texts ≡ texts_of segments s changes es []) × (next ≡ texts_of segments s changes es cuts))
 
--- ---- the outputs
-
--- the texts of all events and of the cut captures; where a write failed, also a part of what came next; and else the
--- texts of whole events, with the headers or without them
-abbrev pub Leaves : Segments → Settings → List TimedChange → Drains → Drains → Result (Unit {0}) StreamFault → Type 0
-Leaves segments s changes old new (Ok x) = (es : List Event) × (cuts : List Cut) × StandAt old new (texts_of segments s changes es cuts)
-Leaves segments s changes old new (Err (stream.Write target)) =
-    (texts : Outputs) × (next : Outputs) × AreNext segments s changes old new texts next × StandBetween old new texts next × FailedAt target old new
-Leaves segments s changes old new (Err fault) = StandAt old new (no_texts (length s.ports)) ⊎ ((es : List Event) × StandAt old new (texts_of segments s changes es []))
-
--- an output failed, or none
-abbrev pub WritesWith : Drains → Drains → Result (Unit {0}) StreamFault → Type 0
-WritesWith old new (Err (stream.Write target)) = FailedAt target old new
-WritesWith old new result = AreWell old new
-
--- ---- a whole run
+-- ---- what it leaves
 
 -- what a run reads and writes
 pub record Ends : Type 0 where
@@ -66,6 +51,25 @@ pub record Ends : Type 0 where
 abbrev pub ends : List Stream → Stream → Drains → Ends
 ends ports underlay drains = record { ports = ports; underlay = underlay; drains = drains }
 
+-- the texts of all events and of the cut captures; where a write failed, also a part of what came next; and else the
+-- texts of whole events, with the headers or without them. Memory is refused before anything is read or written; or it is
+-- numbers that are wanting, and then as many events stand as can be numbered
+abbrev pub Leaves : Segments → Settings → List TimedChange → Ends → Ends → Result (Unit {0}) StreamFault → Type 0
+Leaves segments s changes old new (Ok x) = (es : List Event) × (cuts : List Cut) × StandAt old.drains new.drains (texts_of segments s changes es cuts)
+Leaves segments s changes old new (Err (stream.Write target)) =
+    (texts : Outputs) × (next : Outputs) × AreNext segments s changes old.drains new.drains texts next × StandBetween old.drains new.drains texts next × FailedAt target old.drains new.drains
+Leaves segments s changes old new (Err (stream.Run faults.OutOfMemory)) =
+    (new ≡ old) ⊎ ((es : List Event) × (length es ≡ most_events) × StandAt old.drains new.drains (texts_of segments s changes es []))
+Leaves segments s changes old new (Err fault) =
+    StandAt old.drains new.drains (no_texts (length s.ports)) ⊎ ((es : List Event) × StandAt old.drains new.drains (texts_of segments s changes es []))
+
+-- an output failed, or none
+abbrev pub WritesWith : Drains → Drains → Result (Unit {0}) StreamFault → Type 0
+WritesWith old new (Err (stream.Write target)) = FailedAt target old new
+WritesWith old new result = AreWell old new
+
+-- ---- a whole run
+
 -- it is refused by this fault, or memory was; nothing was read or written
 abbrev pub Refuses : RunFault → Ends → Ends → Result (Unit {0}) StreamFault → Type 0
 Refuses fault old new result = ((result ≡ Err (stream.Run fault)) ⊎ (result ≡ Err (stream.Run faults.OutOfMemory))) × (new ≡ old)
@@ -74,7 +78,7 @@ Refuses fault old new result = ((result ≡ Err (stream.Run fault)) ⊎ (result 
 abbrev pub AnswersAmong : Segments → Meaning Settings → Meaning (List TimedChange) → Ends → Ends → Result (Unit {0}) StreamFault → Type 0
 AnswersAmong segments (Err fault) c old new result = Refuses (of_settings fault) old new result
 AnswersAmong segments (Ok s) (Err fault) old new result = Refuses (of_changes fault) old new result
-AnswersAmong segments (Ok s) (Ok changes) old new result = MatchBool (length old.ports == length s.ports) (Leaves segments s changes old.drains new.drains result) (Refuses faults.PortCount old new result)
+AnswersAmong segments (Ok s) (Ok changes) old new result = MatchBool (length old.ports == length s.ports) (Leaves segments s changes old new result) (Refuses faults.PortCount old new result)
 
 -- the same of the whole run
 abbrev pub Answers : Meaning Settings → Meaning (List TimedChange) → Ends → Ends → Result (Unit {0}) StreamFault → Type 0

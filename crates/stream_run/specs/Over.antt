@@ -24,7 +24,7 @@ use Rattle.stream_run.specs.Amidst.{StandsInEvent}
 use Rattle.stream_run.specs.Coming.{EndBefore}
 use Rattle.stream_run.specs.Sights.{state_among}
 use Rattle.stream_run.specs.Stage.{Drains, StandAt, StandBetween, no_texts, stage}
-use Rattle.stream_run.specs.Steps.{AreRead, IsFaultyAt, StopInFront, changes_of}
+use Rattle.stream_run.specs.Steps.{AreRead, IsFaultyAt, StopInFront, changes_of, most_events}
 use Rattle.stream_run.specs.declared.fault.StreamFault.{StreamFault}
 use Rattle.stream_run.specs.declared.fault.StreamFault.TheVariants as stream
 use Rattle.stream_run.specs.declared.turn.Turn.{Turn}
@@ -66,6 +66,11 @@ pub record StandsSomewhere (segments : Segments) (s : Settings) (changes : List 
   pub in_front : StopInFront (texts_octets texts) text (take (k - 1) (whole_records changes texts text).events)
   pub stands : StandAt old new (texts_at segments s changes texts text k)
 
+-- memory is refused only where nothing was written; or it is numbers that are wanting, and then as many events stand as can
+-- be numbered
+abbrev pub LacksMemory : Drains → Drains → ℕ → Type 0
+LacksMemory old new k = ((k ≡ 0) × (new ≡ old)) ⊎ (k ≡ most_events + 1)
+
 -- or also a part of what comes next; lines of cut captures only where all captures were read to their ends
 pub record StandsAmong (segments : Segments) (s : Settings) (changes : List TimedChange) (texts : List (Vec ℕ Global)) (text : List ℕ) (old new : Drains) : Type 0 where
   pub k : ℕ
@@ -92,7 +97,7 @@ pub record StandsBefore (segments : Segments) (place : Tap) (n : ℕ) (fault : R
 abbrev pub LeavesOver : Segments → Settings → List TimedChange → List (Vec ℕ Global) → List ℕ → Drains → Drains → Result (Unit {0}) StreamFault → Type 0
 LeavesOver segments s changes texts text old new (Ok x) = (found : Outputs) × (run_among segments (Ok s) (Ok changes) texts text ≡ Ok found) × StandAt old new found
 LeavesOver segments s changes texts text old new (Err (stream.Run (faults.Record place n fault))) = StandsBefore segments place n fault s changes texts text old new
-LeavesOver segments s changes texts text old new (Err (stream.Run faults.OutOfMemory)) = StandsSomewhere segments s changes texts text old new
+LeavesOver segments s changes texts text old new (Err (stream.Run faults.OutOfMemory)) = (at : StandsSomewhere segments s changes texts text old new) × LacksMemory old new at.k
 LeavesOver segments s changes texts text old new (Err (stream.Run fault)) = (run (Ok s) (Ok changes) texts text ≡ Err fault) × StandAt old new (no_texts (length texts))
 LeavesOver segments s changes texts text old new (Err (stream.Read place)) = StandsSomewhere segments s changes texts text old new
 LeavesOver segments s changes texts text old new (Err (stream.Write target)) = StandsAmong segments s changes texts text old new

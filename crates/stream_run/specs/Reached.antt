@@ -8,7 +8,7 @@ use Rattle.overlay_config.specs.Settings.{Settings}
 use Rattle.overlay_settings.specs.declared.change.TimedChange.{TimedChange}
 use Rattle.capture_run.specs.declared.fault.RunFault.TheVariants as faults
 use Rattle.segment_set.specs.Segments.{Segments, All}
-use Rattle.stream_run.specs.Over.{StandsAmong, StandsBefore, StandsSomewhere, texts_octets, whole_records}
+use Rattle.stream_run.specs.Over.{LacksMemory, StandsAmong, StandsBefore, StandsSomewhere, texts_octets, whole_records}
 use Rattle.stream_run.specs.Stage.{Drains}
 use Rattle.stream_run.specs.Steps.{AreReadBehind}
 use Rattle.stream_run.specs.declared.fault.StreamFault.{StreamFault}
@@ -26,7 +26,7 @@ ReachesOver segments s changes texts text old new ports underlay (Err (stream.Ru
     (at : StandsBefore segments place n fault s changes texts text old new)
     × ((at.k ≡ 0) ⊎ AreReadTo changes texts text at.k ports underlay (Err (stream.Run (faults.Record place n fault))))
 ReachesOver segments s changes texts text old new ports underlay (Err (stream.Run faults.OutOfMemory)) =
-    (at : StandsSomewhere segments s changes texts text old new) × ((at.k ≤ 1) ⊎ AreReadTo changes texts text (at.k - 1) ports underlay (Err (stream.Run faults.OutOfMemory)))
+    (at : StandsSomewhere segments s changes texts text old new) × LacksMemory old new at.k × ((at.k ≤ 1) ⊎ AreReadTo changes texts text (at.k - 1) ports underlay (Err (stream.Run faults.OutOfMemory)))
 ReachesOver segments s changes texts text old new ports underlay (Err (stream.Run fault)) = ⊤
 ReachesOver segments s changes texts text old new ports underlay (Err (stream.Read place)) =
     (at : StandsSomewhere segments s changes texts text old new) × ((at.k ≤ 1) ⊎ AreReadTo changes texts text (at.k - 1) ports underlay (Err (stream.Read place)))

@@ -4,7 +4,7 @@
 --     AreRead      the same, by the octets of the captures
 --     IsStep      one event, and the fetch behind it
 --     IsRunOn      many of them: by the octets, the first of those that were to come
-use Rattle.std.specs.Prelude.{◌≡◌, ◌≢◌, if◌then◌else◌, ◌<◌, ◌≤◌, ⊤, ℕ, ◌+◌, List, [], ◌∷◌, ◌++◌, length, map, slice_index_or, slice_get, Option, Some, None, option_map, Result, Ok, Err, OnOk, IsSome, slice_set, ◌-◌, ◌⊎◌}
+use Rattle.std.specs.Prelude.{◌≡◌, ◌≢◌, if◌then◌else◌, ◌<◌, ◌≤◌, ⊤, ℕ, ◌+◌, List, [], ◌∷◌, ◌++◌, length, map, slice_index_or, slice_get, Option, Some, None, option_map, Result, Ok, Err, OnOk, IsSome, slice_set, ◌-◌, ◌^◌, ◌⊎◌}
 use Rattle.pcap_io.specs.Record.{Record, last_moment}
 use Rattle.pcap_io.specs.declared.record.RecordFault.{RecordFault}
 use Rattle.pcap_stream.specs.Source.{Stream, lent}
@@ -39,6 +39,10 @@ use Rattle.stream_run.specs.declared.turn.Turn.{Turn}
 use Rattle.segment_set.specs.Segments.{Segments}
 
 -- ---- a run
+
+-- so many events can be numbered: behind the last of them a run takes no more
+abbrev pub most_events : ℕ
+most_events = 2 ^ 64 - 3
 
 -- a run as it stands between two events
 pub record Run : Type 0 where
@@ -264,6 +268,11 @@ module _ {T : Type 0} where
       → StandsInEvent (changes_of changes) start new (length es + 1) (state_among segments (changes_of changes) s es) (texts_behind segments changes s o es) e
   EndsInOrder segments changes s start new o es more result = ⊤
 
+  -- a run that ends for want of memory is one for want of numbers: just as many events came as can be numbered
+  abbrev pub EndsNumbered : List Event → Result T StreamFault → Type 0
+  EndsNumbered es (Err (stream.Run faults.OutOfMemory)) = length es ≡ most_events
+  EndsNumbered es result = ⊤
+
   -- the event of which a part was written: one where a write failed, and else none
   abbrev pub IsPart : List Event → Result T StreamFault → Type 0
   IsPart more (Err (stream.Write target)) = (e : Event) × (more ≡ e ∷ [])
@@ -292,6 +301,7 @@ pub record IsRunOn (segments : Segments) (changes : List TimedChange) (old new :
   pub es : List Event
   pub more : List Event
   pub part : IsPart more result
+  pub numbered : EndsNumbered es result
   pub rising : IsRising old.state.moment (es ++ more)
   pub outputs : (start : Drains) (o : Outputs) → StandAt start old.drains o → LeadsBehind segments changes old.state start new.drains o es more result
   pub order : (start : Drains) (o : Outputs) → StandAt start old.drains o → EndsInOrder segments changes old.state start new.drains o es more result

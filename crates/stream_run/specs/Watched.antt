@@ -17,7 +17,7 @@ use Rattle.endpoint_core.specs.Step.{State, opened}
 use Rattle.capture_run.specs.Outputs.{Outputs}
 use Rattle.capture_run.specs.declared.fault.RunFault.TheVariants as faults
 use Rattle.stream_run.specs.Left.{texts_of}
-use Rattle.stream_run.specs.Over.{StandsAmong, StandsBefore, StandsSomewhere, whole_records}
+use Rattle.stream_run.specs.Over.{LacksMemory, StandsAmong, StandsBefore, StandsSomewhere, whole_records}
 use Rattle.stream_run.specs.Sights.{Sight, sight_among, sights, state_among}
 use Rattle.stream_run.specs.Stage.{Drains, StandAt, StandBetween, no_texts}
 use Rattle.stream_run.specs.Steps.{IsAt, IsRunOn, IsStep, IsTaken, Run, changes_of}
@@ -114,7 +114,7 @@ module _ (segments : Segments) {T : Type 0} (sees : T → Sight → T → Type 0
   SeesOver s changes texts text old new old_watch new_watch (Err (stream.Run (faults.Record place n fault))) =
       (at : StandsBefore segments place n fault s changes texts text old new) × FoldsTo sees old_watch (first_sights segments s changes texts text at.k) new_watch
   SeesOver s changes texts text old new old_watch new_watch (Err (stream.Run faults.OutOfMemory)) =
-      (at : StandsSomewhere segments s changes texts text old new) × FoldsTo sees old_watch (first_sights segments s changes texts text (at.k - 1)) new_watch
+      (at : StandsSomewhere segments s changes texts text old new) × LacksMemory old new at.k × FoldsTo sees old_watch (first_sights segments s changes texts text (at.k - 1)) new_watch
   SeesOver s changes texts text old new old_watch new_watch (Err (stream.Run fault)) = new_watch ≡ old_watch
   SeesOver s changes texts text old new old_watch new_watch (Err (stream.Read place)) =
       (at : StandsSomewhere segments s changes texts text old new) × FoldsTo sees old_watch (first_sights segments s changes texts text (at.k - 1)) new_watch

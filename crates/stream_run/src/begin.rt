@@ -3,7 +3,7 @@ ghost use Rattle.std.specs.Prelude.{◌≡◌, ◌≤◌, ◌<◌, ◌+◌, ◌^
 ghost use Rattle.timeline.specs.declared.source.Tap.{Tap as ATap};
 ghost use Rattle.endpoint_core.specs.Step.{State};
 ghost use Rattle.capture_run.specs.Writing.{empty_outputs};
-ghost use Rattle.stream_run.specs.Begun.{AreAtFirst, IsNoWrite, first_turns};
+ghost use Rattle.stream_run.specs.Begun.{AreAtFirst, OnlyReads, first_turns};
 ghost use Rattle.stream_run.specs.Fetched.{IsOpen};
 ghost use Rattle.stream_run.specs.Over.{BeginsIn};
 ghost use Rattle.stream_run.specs.Read.{ReadsWith};
@@ -70,7 +70,7 @@ pub fn fetch_all<R: Input>(
         → OnOk result (AreReady changes.now (run_at ports.new underlay.new turns.new state 0 d)) }
     ensures told { (texts : List (List ℕ)) (text : List ℕ) → AreAtFirst texts text ports.old underlay.old → BeginsIn texts text turns.new ports.new underlay.new result }
     ensures reads { ReadsWith ports.old underlay.old ports.new underlay.new result }
-    ensures no_write { IsNoWrite result }
+    ensures only_reads { OnlyReads result }
 {
     for index in 1..turns.len() {
         let mut next = None;

@@ -39,7 +39,8 @@ use std::alloc::Global;
 /// the changes and the number of captures are looked at before anything is read or written. Then all captures are opened,
 /// the headers written, and the events taken one after another; the lines of cut captures come last. Where it stops at a
 /// fault, what was written stands: the texts of the events so far, the same events for all outputs, and where a write
-/// failed at most a part of those of one event more. `OutOfMemory` comes only where memory was refused.
+/// failed at most a part of those of one event more. `OutOfMemory` comes before anything is read or written, where memory is
+/// refused, or behind event 2^64 - 3, where no number is left.
 ///
 /// Whoever looks on is shown each event just before the endpoint takes it and told the answer just behind, and once all
 /// lines are written it is shown the endpoint. Where the run stops at a fault, that was so of the events so far, and where a

@@ -86,7 +86,8 @@ fn put_first<R: Input, W: Output, T: Watch>(
 }
 
 /// Puts the changes and the records of all captures through an endpoint, in order of moment, and shows each before, as passed
-/// over where it isn't told to these segments.
+/// over where it isn't told to these segments. It asks for no memory: `OutOfMemory` comes behind event 2^64 - 3, the last that
+/// is numbered.
 pub fn put_events<R: Input, W: Output, T: Watch>(
     changes: &[TimedChange],
     ports: &mut [Source<R>],

@@ -1,6 +1,8 @@
-use Rattle.std.proofs.Common.{arith, subst}
+use Rattle.std.proofs.Common.{arith, subst, sym, Err}
+use Rattle.stream_run.specs.Begun.{OnlyReads}
 use Rattle.stream_run.specs.Steps.{IsAt}
-use Rattle.stream_run.proofs.Begun.{all_fetched, asked_first, faults_told, fetch_no_write, fetch_stops, none_fetched, one_fetched}
+use Rattle.stream_run.specs.declared.fault.StreamFault.{StreamFault}
+use Rattle.stream_run.proofs.Begun.{all_fetched, asked_first, fault_only_reads, faults_told, fetch_stops, none_fetched, one_fetched}
 use Rattle.stream_run.proofs.Reading.{fault_from}
 use Rattle.stream_run.proofs.Readying.{fetched_to}
 use Rattle.stream_run.proofs.begin.fetch_all.Goals as goal
@@ -22,8 +24,8 @@ loop-index-preserved g c =
 pub returns-in-Err-clause-reads : goal.returns-in-Err-clause-reads
 returns-in-Err-clause-reads g c = fetch_stops c.args.changes.now c.loop-index.index c.args.ports.now c.args.underlay.now c.args.turns.now c.loop-index.ports c.loop-index.underlay c.loop-index.turns c.loop-index.invariant c.fetch_at.new.ports c.fetch_at.new.underlay c.fault_at.result (fault_from c.args.changes.now c.loop-index.index 0 0 c.loop-index.ports c.loop-index.underlay c.fetch_at.new.ports c.fetch_at.new.underlay c.fetch_at.new.next c.in-Err.fault c.tap_at.result c.fault_at.result _ c.fault_at.ensures c.tap_at.ensures (omega (arith, c.loop-index.invariant.size, c.loop-index.invariant.many, c.requires.size)) c.in-Err.ensures)
 
-pub returns-in-Err-clause-no_write : goal.returns-in-Err-clause-no_write
-returns-in-Err-clause-no_write g c = fetch_no_write c.args.changes.now c.loop-index.index c.args.ports.now c.args.underlay.now c.args.turns.now c.loop-index.ports c.loop-index.underlay c.loop-index.turns c.loop-index.invariant c.fetch_at.new.ports c.fetch_at.new.underlay c.fault_at.result (fault_from c.args.changes.now c.loop-index.index 0 0 c.loop-index.ports c.loop-index.underlay c.fetch_at.new.ports c.fetch_at.new.underlay c.fetch_at.new.next c.in-Err.fault c.tap_at.result c.fault_at.result _ c.fault_at.ensures c.tap_at.ensures (omega (arith, c.loop-index.invariant.size, c.loop-index.invariant.many, c.requires.size)) c.in-Err.ensures)
+pub returns-in-Err-clause-only_reads : goal.returns-in-Err-clause-only_reads
+returns-in-Err-clause-only_reads g c = subst (λ (f : StreamFault). OnlyReads (Err f)) (sym c.fault_at.ensures) (fault_only_reads c.tap_at.result 1 c.in-Err.fault)
 
 pub returns-clause-ready : goal.returns-clause-ready
 returns-clause-ready g c = c.loop-index.invariant.ready

@@ -8,12 +8,12 @@ use Rattle.endpoint_core.specs.Kept.{state_of}
 use Rattle.endpoint_core.specs.Step.{State}
 use Rattle.stream_run.specs.Begun.{AreAtFirst, first_turns}
 use Rattle.stream_run.specs.Cuts.{cuts_at}
-use Rattle.stream_run.specs.Left.{IsOpenedWith}
+use Rattle.stream_run.specs.Left.{IsOpenedWith, ends}
 use Rattle.stream_run.specs.Over.{Tells, texts_octets}
 use Rattle.stream_run.specs.Stage.{Drains, FailedAt, StandAt, StandBetween, drains, no_texts}
 use Rattle.stream_run.specs.Steps.{AreRead, AreReady, run_at, texts_behind}
 use Rattle.stream_run.proofs.Closing.{opened_read, over_lines, over_opening, over_run, over_whole, reach_lines, reach_opening, reach_run, reach_whole, seen_lines, seen_opening, seen_run, seen_whole}
-use Rattle.stream_run.proofs.Framing.{leaves_all, leaves_begun, leaves_cuts, leaves_events, leaves_headers, leaves_nothing, none_at, opened_all, opens_no_write, ready_begun}
+use Rattle.stream_run.proofs.Framing.{leaves_all, leaves_begun, leaves_cuts, leaves_events, leaves_headers, leaves_nothing, none_at, opened_all, opens_only_reads, ready_begun}
 use Rattle.stream_run.proofs.Opened.{reads_behind}
 use Rattle.stream_run.proofs.Overall.{over_firsts, over_headers, reach_firsts, reach_headers, seen_firsts, seen_headers, tells_texts}
 use Rattle.stream_run.proofs.Running.{quiet_on}
@@ -99,10 +99,10 @@ returns-in-Err-clause-done g c settings is =
     let w = goal.at.returns-in-Err-clause-done g c in
     let start = outputs_at g c.args.port_sinks.now c.args.underlay_sink.now c.args.decisions.now in
     let none = none_written g w.After-open_all in
-    let no_write = opens_no_write c.args.ports.now c.args.underlay.now c.open_all.new.ports c.open_all.new.underlay c.in-Err.fault c.in-Err.ensures.opened in
+    let only_reads = opens_only_reads c.args.ports.now c.args.underlay.now c.open_all.new.ports c.open_all.new.underlay c.in-Err.fault c.in-Err.ensures.opened in
     record {
-      left = leaves_nothing c.args.segments.now settings c.args.changes.now start start c.in-Err.fault no_write (none (length settings.ports) is.many);
-      shown = shows_nothing c.args.segments.now settings c.args.changes.now start start g.T.Watch.sees g.T.Watch.ends c.args.watch.now c.in-Err.fault no_write (none (length settings.ports) is.many);
+      left = leaves_nothing c.args.segments.now settings c.args.changes.now (ends c.args.ports.now c.args.underlay.now start) (ends c.open_all.new.ports c.open_all.new.underlay start) c.in-Err.fault only_reads (none (length settings.ports) is.many);
+      shown = shows_nothing c.args.segments.now settings c.args.changes.now start start g.T.Watch.sees g.T.Watch.ends c.args.watch.now c.in-Err.fault only_reads (none (length settings.ports) is.many);
       over = λ texts text tells.
           let many = tells_texts c.args.ports.now c.args.underlay.now texts text tells in
           record {
@@ -121,7 +121,7 @@ returns-in-Err-begin_all-clause-done g c settings is =
     let begun = outputs_at g c.begin_all.new.port_sinks c.begin_all.new.underlay_sink c.args.decisions.now in
     let failed = header_failed g w.In-Err-begin_all in
     record {
-      left = leaves_begun c.args.segments.now settings c.args.changes.now start begun c.in-Err-begin_all.target (failed (length settings.ports) is.many);
+      left = leaves_begun c.args.segments.now settings c.args.changes.now (ends c.args.ports.now c.args.underlay.now start) (ends c.open_all.new.ports c.open_all.new.underlay begun) c.in-Err-begin_all.target (failed (length settings.ports) is.many);
       shown = shows_begun c.args.segments.now settings c.args.changes.now start begun g.T.Watch.sees g.T.Watch.ends c.args.watch.now c.in-Err-begin_all.target (failed (length settings.ports) is.many).0;
       over = λ texts text tells.
           let many = tells_texts c.args.ports.now c.args.underlay.now texts text tells in
@@ -145,8 +145,8 @@ returns-in-Err-fetch_all-clause-done g c settings is =
     let begun = outputs_at g c.begin_all.new.port_sinks c.begin_all.new.underlay_sink c.args.decisions.now in
     let headers = headers_written g w.After-fetch_all in
     record {
-      left = leaves_headers c.args.segments.now settings c.args.changes.now start begun c.in-Err-fetch_all.fault c.in-Err-fetch_all.ensures.no_write (headers (length settings.ports) is.many);
-      shown = shows_headers c.args.segments.now settings c.args.changes.now start begun g.T.Watch.sees g.T.Watch.ends c.args.watch.now c.in-Err-fetch_all.fault c.in-Err-fetch_all.ensures.no_write (headers (length settings.ports) is.many);
+      left = leaves_headers c.args.segments.now settings c.args.changes.now (ends c.args.ports.now c.args.underlay.now start) (ends c.fetch_all.new.ports c.fetch_all.new.underlay begun) c.in-Err-fetch_all.fault c.in-Err-fetch_all.ensures.only_reads (headers (length settings.ports) is.many);
+      shown = shows_headers c.args.segments.now settings c.args.changes.now start begun g.T.Watch.sees g.T.Watch.ends c.args.watch.now c.in-Err-fetch_all.fault c.in-Err-fetch_all.ensures.only_reads (headers (length settings.ports) is.many);
       over = λ texts text tells.
           let many = tells_texts c.args.ports.now c.args.underlay.now texts text tells in
           let at = headers (length texts) many in
@@ -177,7 +177,7 @@ returns-in-Err-put_events-clause-done g c settings is =
     let run = c.in-Err-put_events.ensures.run in
     let n = length settings.ports in
     record {
-      left = leaves_events c.args.segments.now settings c.args.changes.now start (outputs_at g c.put_events.new.port_sinks c.put_events.new.underlay_sink c.put_events.new.decisions) (state_of c.args.endpoint.now) run.es run.more c.in-Err-put_events.fault is.state_is run.part
+      left = leaves_events c.args.segments.now settings c.args.changes.now (ends c.args.ports.now c.args.underlay.now start) (ends c.put_events.new.ports c.put_events.new.underlay (outputs_at g c.put_events.new.port_sinks c.put_events.new.underlay_sink c.put_events.new.decisions)) (state_of c.args.endpoint.now) run.es run.more c.in-Err-put_events.fault is.state_is run.part run.numbered
           (run.outputs start (empty_outputs n) (headers n is.many)) (run.order start (empty_outputs n) (headers n is.many));
       shown = shows_events c.args.segments.now settings c.args.changes.now start begun g.T.Watch.sees g.T.Watch.ends c.args.watch.now
           (run_at c.fetch_all.new.ports c.fetch_all.new.underlay c.fetch_all.new.turns (state_of c.args.endpoint.now) 0 begun) _ is.state_is (headers n is.many) c.put_events.new.watch c.in-Err-put_events.fault c.in-Err-put_events.ensures;
@@ -214,7 +214,7 @@ returns-in-Ok-clause-done g c settings is =
     let n = length settings.ports in
     let lines = c.in-Ok.ensures start (texts_put g w.After-put_cuts_among n) c.put_events.new.port_sinks c.put_events.new.underlay_sink (put n (headers n is.many)) in
     record {
-      left = leaves_all c.args.segments.now settings c.args.changes.now start cut (state_of c.args.endpoint.now) run.es (cuts_among c.args.segments.now (cuts_at c.put_events.new.ports c.put_events.new.underlay c.put_events.new.turns)) is.state_is lines;
+      left = leaves_all c.args.segments.now settings c.args.changes.now (ends c.args.ports.now c.args.underlay.now start) (ends c.put_events.new.ports c.put_events.new.underlay cut) (state_of c.args.endpoint.now) run.es (cuts_among c.args.segments.now (cuts_at c.put_events.new.ports c.put_events.new.underlay c.put_events.new.turns)) is.state_is lines;
       shown = shows_all c.args.segments.now settings c.args.changes.now start cut g.T.Watch.sees g.T.Watch.ends c.args.watch.now
           (run_at c.fetch_all.new.ports c.fetch_all.new.underlay c.fetch_all.new.turns (state_of c.args.endpoint.now) 0 begun) _ is.state_is (headers n is.many) c.put_events.new.watch (cuts_among c.args.segments.now (cuts_at c.put_events.new.ports c.put_events.new.underlay c.put_events.new.turns)) c.end.new.self c.in_default-put_events.ensures lines c.end.ensures;
       over = λ texts text tells.
@@ -245,7 +245,7 @@ returns-in-Err-put_cuts_among-clause-done g c settings is =
     let n = length settings.ports in
     let failed = lines_failed g w.In-Err-put_cuts_among n (put n (headers n is.many)) in
     record {
-      left = leaves_cuts c.args.segments.now settings c.args.changes.now start cut (state_of c.args.endpoint.now) run.es (cuts_among c.args.segments.now (cuts_at c.put_events.new.ports c.put_events.new.underlay c.put_events.new.turns)) c.in-Err-put_cuts_among.target is.state_is failed;
+      left = leaves_cuts c.args.segments.now settings c.args.changes.now (ends c.args.ports.now c.args.underlay.now start) (ends c.put_events.new.ports c.put_events.new.underlay cut) (state_of c.args.endpoint.now) run.es (cuts_among c.args.segments.now (cuts_at c.put_events.new.ports c.put_events.new.underlay c.put_events.new.turns)) c.in-Err-put_cuts_among.target is.state_is failed;
       shown = shows_cuts c.args.segments.now settings c.args.changes.now start cut g.T.Watch.sees g.T.Watch.ends c.args.watch.now
           (run_at c.fetch_all.new.ports c.fetch_all.new.underlay c.fetch_all.new.turns (state_of c.args.endpoint.now) 0 begun) _ is.state_is (headers n is.many) c.put_events.new.watch (cuts_among c.args.segments.now (cuts_at c.put_events.new.ports c.put_events.new.underlay c.put_events.new.turns)) c.in-Err-put_cuts_among.target c.in_default-put_events.ensures failed.0;
       over = λ texts text tells.

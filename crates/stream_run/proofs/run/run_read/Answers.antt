@@ -60,7 +60,10 @@ returns-clause-run g c =
     (counted c.args.segments.now c.args.read c.args.told.now old new c.run_with.result (as_many g w) (done g w).left)
 
 pub returns-clause-writes : goal.returns-clause-writes
-returns-clause-writes g c = writes_by c.args.segments.now c.args.read c.args.told.now _ _ c.run_with.result c.run_with.ensures.done.left
+returns-clause-writes g c =
+    let old = ends c.args.ports.now c.args.underlay.now (drains c.args.port_sinks.now c.args.underlay_sink.now (g.W.Output.written c.args.decisions.now) (g.W.Output.failures c.args.decisions.now)) in
+    let new = ends c.run_with.new.ports c.run_with.new.underlay (drains c.run_with.new.port_sinks c.run_with.new.underlay_sink (g.W.Output.written c.run_with.new.decisions) (g.W.Output.failures c.run_with.new.decisions)) in
+    writes_by c.args.segments.now c.args.read c.args.told.now old new c.run_with.result c.run_with.ensures.done.left
 
 -- ---- by the octets of the captures
 
@@ -72,7 +75,7 @@ returns-then-ports-clause-over g c texts text tells =
     let apart : (length texts == length c.args.read.ports) ≡ false = ne_eqb _ _ (λ e. c.if-ports.true (many ∙ e ∙ sym (ap length c.ports.ensures.value))) in
     subst (λ m. IsRunOverAmong c.args.segments.now m changes texts text d d (Err (stream.Run faults.PortCount))) (sym c.requires.read)
     (subst (λ m. IsRunOverAmong c.args.segments.now (Ok c.args.read) m texts text d d (Err (stream.Run faults.PortCount))) (sym c.requires.told)
-    (over_refusal c.args.segments.now texts text d d (Ok c.args.read) (Ok c.args.told.now) faults.PortCount tt (port_count_fault c.args.read c.args.told.now texts text apart)
+    (over_refusal c.args.segments.now texts text d (Ok c.args.read) (Ok c.args.told.now) faults.PortCount tt (port_count_fault c.args.read c.args.told.now texts text apart)
     (none_at d (length texts) (c.requires.sinks ∙ many))))
 
 pub returns-clause-over : goal.returns-clause-over
@@ -85,7 +88,7 @@ returns-clause-over g c texts text tells =
 pub returns-then-ports-clause-reached : goal.returns-then-ports-clause-reached
 returns-then-ports-clause-reached g c texts text tells =
     let d = drains c.args.port_sinks.now c.args.underlay_sink.now (g.W.Output.written c.args.decisions.now) (g.W.Output.failures c.args.decisions.now) in
-    reach_refusal c.args.segments.now texts text d d (settings_in c.args.settings.now) (changes_in c.args.changes.now) c.args.ports.now c.args.underlay.now faults.PortCount tt
+    reach_refusal c.args.segments.now texts text d (settings_in c.args.settings.now) (changes_in c.args.changes.now) c.args.ports.now c.args.underlay.now faults.PortCount tt
     (none_at d (length texts) (c.requires.sinks ∙ tells_texts c.args.ports.now c.args.underlay.now texts text tells))
 
 pub returns-clause-reached : goal.returns-clause-reached
@@ -111,7 +114,7 @@ returns-then-ports-clause-watched g c texts text tells =
     let s = settings_in c.args.settings.now in
     let changes = changes_in c.args.changes.now in
     let d = drains c.args.port_sinks.now c.args.underlay_sink.now (g.W.Output.written c.args.decisions.now) (g.W.Output.failures c.args.decisions.now) in
-    seen_refusal c.args.segments.now texts text d d g.T.Watch.sees g.T.Watch.ends c.args.watch.now s changes faults.PortCount tt
+    seen_refusal c.args.segments.now texts text d g.T.Watch.sees g.T.Watch.ends c.args.watch.now s changes faults.PortCount tt
     (none_at d (length texts) (c.requires.sinks ∙ tells_texts c.args.ports.now c.args.underlay.now texts text tells))
 
 pub returns-clause-watched : goal.returns-clause-watched

@@ -10,21 +10,21 @@ use Rattle.stream_run.specs.Sights.{Sight}
 use Rattle.stream_run.specs.Stage.{Drains}
 use Rattle.stream_run.specs.declared.fault.StreamFault.TheVariants as stream
 use Rattle.stream_run.proofs.Framing.{none_at}
-use Rattle.stream_run.proofs.Overall.{over_unopened, reach_unopened, seen_unopened, tells_texts}
+use Rattle.stream_run.proofs.Overall.{over_wanting, reach_wanting, seen_wanting, tells_texts}
 use Rattle.stream_run.proofs.run.run_with.Goals as goal
 
 -- nothing was opened, for want of memory
 unopened : (segments : Segments) {T : Type 0} (sees : T → Sight → T → Type 0) (ends : T → State → T → Type 0) (s : Settings) (changes : List TimedChange) (ports : List Stream) (underlay : Stream) (start : Drains) (watch : T)
     → length start.ports ≡ length ports → length ports ≡ length s.ports → IsDone segments sees ends s changes ports underlay ports underlay start start watch watch (Err (stream.Run faults.OutOfMemory))
 unopened segments sees ends s changes ports underlay start watch sinks many = record {
-  left = inl (none_at start (length s.ports) (sinks ∙ many));
+  left = inl refl;
   shown = inl (none_at start (length s.ports) (sinks ∙ many), refl);
   over = λ texts text tells.
       let none = none_at start (length texts) (sinks ∙ tells_texts ports underlay texts text tells) in
       record {
-        left = over_unopened segments s changes texts text start start none;
-        reached = reach_unopened segments s changes texts text start start ports underlay none;
-        seen = seen_unopened segments s changes texts text start start sees ends watch none;
+        left = over_wanting segments s changes texts text start start refl none;
+        reached = reach_wanting segments s changes texts text start start ports underlay refl none;
+        seen = seen_wanting segments s changes texts text start start sees ends watch refl none;
       };
 }
 

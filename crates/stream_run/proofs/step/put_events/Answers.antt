@@ -37,4 +37,6 @@ returns-in-Err g c =
     (c.stopped_at.ensures ∙ ap (λ (turns : List Turn). stopped c.tap_at-tap.result ((slice_index_or turns c.in-Some.first.index t).done + 1 + 1) c.in-Err.halt) c.in-Err.ensures.turns)
 
 pub returns : goal.returns
-returns g c = shown_breaks c.args.segments.now g.T.Watch.sees c.args.changes.now _ c.args.watch.now _ _ c.loop-count.invariant.run
+returns g c =
+    shown_breaks c.args.segments.now g.T.Watch.sees c.args.changes.now _ c.args.watch.now _ _ c.loop-count.invariant.run
+    (omega (arith, c.loop-count.invariant.count, c.loop-count-test.false, c.loop-count.auto._count-end))

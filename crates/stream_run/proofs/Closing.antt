@@ -1,7 +1,8 @@
 -- What a run leaves in its outputs, by the calls that it makes.
-use Rattle.std.proofs.Common.{◌≡◌, ◌∙◌, refl, sym, ap, subst, ℕ, List, ◌++◌, append-nil, length, arith, Vec, Global, Ok, Err}
+use Rattle.std.proofs.Common.{◌≡◌, ◌∙◌, refl, sym, ap, subst, ℕ, List, ◌++◌, append-nil, length, slice_index_or, arith, Vec, Global, Option, None, Some, Ok, Err}
 use Rattle.std.proofs.lemmas.List.{length-map}
 use Rattle.std.specs.List.{FoldsTo}
+use Rattle.pcap_io.specs.Record.{Record}
 use Rattle.pcap_stream.specs.Source.{Stream}
 use Rattle.overlay_settings.specs.Settings.{Settings}
 use Rattle.overlay_settings.specs.declared.change.TimedChange.{TimedChange}
@@ -12,21 +13,22 @@ use Rattle.capture_run.specs.Outputs.{Outputs}
 use Rattle.capture_run.specs.Among.{cuts_among}
 use Rattle.capture_run.specs.Writing.{empty_outputs, with_cuts}
 use Rattle.capture_run.specs.declared.fault.RunFault.TheVariants as faults
-use Rattle.stream_run.specs.Begun.{AreAtFirst, OpensInTurn}
+use Rattle.stream_run.specs.Begun.{AreAtFirst, OpensInTurn, no_turn}
 use Rattle.stream_run.specs.Coming.{coming}
 use Rattle.stream_run.specs.Cuts.{cuts_at}
-use Rattle.stream_run.specs.Over.{LeavesOver, Tells, texts_octets, whole_records}
+use Rattle.stream_run.specs.Over.{CanBeOpened, LeavesOver, Tells, texts_octets, whole_records}
 use Rattle.stream_run.specs.Reached.{ReachesOver}
+use Rattle.stream_run.specs.Read.{StandsBehind}
 use Rattle.stream_run.specs.Sights.{Sight, sights}
 use Rattle.stream_run.specs.Stage.{Drains, Lead, StandAt, StandBetween, no_texts}
-use Rattle.stream_run.specs.Steps.{AreRead, AreReadBehind, AreReady, EndsInOrder, IsAt, IsRunOn, LeadsBehind, Run, StopInFront, changes_of, run_at, texts_behind}
+use Rattle.stream_run.specs.Steps.{AreRead, AreReadBehind, AreReady, EndsInOrder, IsAt, IsRunOn, LeadsBehind, Run, StopInFront, changes_of, octets_at, run_at, source_at, texts_behind}
 use Rattle.stream_run.specs.Watched.{IsWatchedRun, SeesOver, state_behind}
 use Rattle.stream_run.specs.declared.fault.StreamFault.{StreamFault}
 use Rattle.stream_run.specs.declared.fault.StreamFault.TheVariants as stream
 use Rattle.stream_run.specs.declared.fault.Target.{Target}
 use Rattle.stream_run.specs.declared.turn.Turn.{Turn}
 use Rattle.stream_run.proofs.Overall.{all_opened, one_refused, over_all, over_cuts, over_events, over_refused, over_unopened, reach_cuts, reach_events, reach_unread, seen_all, seen_cuts, seen_events, seen_unread, tells_many}
-use Rattle.stream_run.proofs.Wholes.{AllStandAtEnd, all_at_end, all_coming}
+use Rattle.stream_run.proofs.Wholes.{AllStandAtEnd, IsCapture, all_at_end, all_captures, all_coming}
 use Rattle.segment_set.specs.Segments.{Segments}
 
 -- all captures were opened, and tell these octets
@@ -36,6 +38,11 @@ opened_read ports new underlay new_underlay texts text tells many opens = record
   many = tells_many ports underlay texts text tells ∙ sym many;
   each = λ place index at. all_opened ports new underlay new_underlay texts text tells opens place index (subst (λ n. IsAt n index place) many at);
 }
+
+-- a source stands behind some records of a capture
+opened_behind : (octets : List ℕ) (done : List Record) (next : Option ℕ) (s : Stream) → StandsBehind octets done next s → IsCapture octets
+opened_behind octets done (Some moment) s stands = (_, stands.2.reading.records)
+opened_behind octets done None s stands = (_, stands.reading)
 
 module _ (segments : Segments) where
   module _ (s : Settings) (changes : List TimedChange) (texts : List (Vec ℕ Global)) (text : List ℕ) (start : Drains) where
@@ -82,6 +89,14 @@ module _ (segments : Segments) where
       all_are es more rest first =
           all_coming changes texts text turns (omega (arith, ready.size, read.many, length-map texts (λ (v : Vec ℕ Global). v.items))) (λ t k lt. let none = ready.done t k lt in omega (arith, none)) ∙ first
 
+      -- they are captures
+      can : CanBeOpened texts text
+      can = all_captures texts text (λ place index at_index. let t = slice_index_or turns index no_turn in
+          opened_behind (octets_at (texts_octets texts) text place) _ t.next (source_at ports underlay place) (read.each place index no_turn (subst (λ n. IsAt n index place) many_texts at_index)).stands)
+        where
+          many_texts : length texts ≡ length ports
+          many_texts = sym (length-map texts (λ (v : Vec ℕ Global). v.items)) ∙ read.many
+
       -- it stops among the events
       pub over_run : (fault : StreamFault) → IsRunOn segments changes (run_at ports underlay turns state 0 d) run (Err fault) → LeavesOver segments s changes texts text start run.drains (Err fault)
       over_run fault on =
@@ -89,7 +104,7 @@ module _ (segments : Segments) where
           over_events segments s changes texts text start run.drains fault run on.es on.more told.rest (all_are on.es on.more told.rest told.first) told.ends on.part
           (subst (λ st. LeadsBehind {T = Unit {0}} segments changes st start run.drains (empty_outputs (length texts)) on.es on.more (Err fault)) is (on.outputs start (empty_outputs (length texts)) at))
           (subst (λ st. EndsInOrder {T = Unit {0}} segments changes st start run.drains (empty_outputs (length texts)) on.es on.more (Err fault)) is (on.order start (empty_outputs (length texts)) at))
-          told.in_front on.numbered
+          told.in_front on.numbered can
 
       pub reach_run : (fault : StreamFault) → IsRunOn segments changes (run_at ports underlay turns state 0 d) run (Err fault) → ReachesOver segments s changes texts text start run.drains run.ports run.underlay (Err fault)
       reach_run fault on =
@@ -97,7 +112,7 @@ module _ (segments : Segments) where
           reach_events segments s changes texts text start run.drains fault run on.es on.more told.rest (all_are on.es on.more told.rest told.first) told.ends on.part
           (subst (λ st. LeadsBehind {T = Unit {0}} segments changes st start run.drains (empty_outputs (length texts)) on.es on.more (Err fault)) is (on.outputs start (empty_outputs (length texts)) at))
           (subst (λ st. EndsInOrder {T = Unit {0}} segments changes st start run.drains (empty_outputs (length texts)) on.es on.more (Err fault)) is (on.order start (empty_outputs (length texts)) at))
-          told.in_front on.numbered told.read_on
+          told.in_front on.numbered can told.read_on
 
       -- it goes through all of them
       no_more : (on : IsRunOn segments changes (run_at ports underlay turns state 0 d) run (Ok tt)) → (whole_records changes texts text).events ≡ on.es
@@ -156,7 +171,7 @@ module _ (segments : Segments) where
             seen_events segments s changes texts text start run.drains sees end old_watch fault run on.run.es on.run.more told.rest new_watch (all_are on.run.es on.run.more told.rest told.first) told.ends on.run.part
             (subst (λ st. LeadsBehind {T = Unit {0}} segments changes st start run.drains (empty_outputs (length texts)) on.run.es on.run.more (Err fault)) is (on.run.outputs start (empty_outputs (length texts)) at))
             (subst (λ st. EndsInOrder {T = Unit {0}} segments changes st start run.drains (empty_outputs (length texts)) on.run.es on.run.more (Err fault)) is (on.run.order start (empty_outputs (length texts)) at))
-            told.in_front on.run.numbered
+            told.in_front on.run.numbered can
             (sees_all (on.run.es ++ on.run.more) new_watch on.seen)
 
         pub seen_lines : (new : Drains) (target : Target) (new_watch : T) (on : IsWatchedRun segments sees changes (run_at ports underlay turns state 0 d) run old_watch new_watch (Ok tt))

@@ -36,10 +36,10 @@ use Rattle.capture_run.specs.Run.{Gives, by_timeline, run}
 use Rattle.capture_run.specs.Writing.{empty_outputs, with_cuts}
 use Rattle.capture_run.specs.declared.fault.RunFault.{RunFault}
 use Rattle.capture_run.specs.declared.fault.RunFault.TheVariants as faults
-use Rattle.stream_run.specs.Begun.{OpensInTurn}
+use Rattle.stream_run.specs.Begun.{AreAtFirst, OpensInTurn}
 use Rattle.stream_run.specs.Coming.{EndBefore}
 use Rattle.stream_run.specs.Cuts.{cuts_at}
-use Rattle.stream_run.specs.Over.{BeginsIn, IsRunOverAmong, LeavesOver, StandsSomewhere, Tells, texts_octets, texts_at, whole_records}
+use Rattle.stream_run.specs.Over.{BeginsIn, CanBeOpened, IsRunOverAmong, LeavesOver, StandsSomewhere, Tells, texts_octets, texts_at, whole_records}
 use Rattle.stream_run.specs.Amidst.{StandsInEvent}
 use Rattle.stream_run.specs.Reached.{AreReadTo, IsReachedOverAmong, ReachesOver}
 use Rattle.stream_run.specs.Sights.{Sight, sights, state_among}
@@ -51,7 +51,7 @@ use Rattle.stream_run.specs.declared.fault.StreamFault.TheVariants as stream
 use Rattle.stream_run.specs.declared.fault.Target.{Target}
 use Rattle.stream_run.specs.declared.turn.Turn.{Turn}
 use Rattle.stream_run.proofs.Counting.{none_in_front}
-use Rattle.stream_run.proofs.Wholes.{AllStandAtEnd, IsFirstRefused, cuts_at_end, first_refused, no_faults, whole_at_end}
+use Rattle.stream_run.proofs.Wholes.{AllStandAtEnd, IsFirstRefused, all_captures, cuts_at_end, first_refused, no_faults, whole_at_end, whole_captures}
 use Rattle.segment_set.specs.Segments.{Segments}
 
 -- ---- the texts of the first events
@@ -119,6 +119,12 @@ all_opened ports new underlay new_underlay texts text tells opens place index at
     within : (place : Tap) → IsAt (length ports) index place → index < length ports + 2
     within (Port p) at = omega (arith, at.0, at.2)
     within Underlay at = omega (arith, at)
+
+-- so all of them are captures
+pub all_first : (texts : List (Vec ℕ Global)) (text : List ℕ) (ports : List Stream) (underlay : Stream) → AreAtFirst (texts_octets texts) text ports underlay → CanBeOpened texts text
+all_first texts text ports underlay first =
+    let many : length texts ≡ length ports = sym (length-map texts (λ (v : Vec ℕ Global). v.items)) ∙ first.many in
+    all_captures texts text (λ place index at. (_, (first.each place index (subst (λ n. IsAt n index place) many at)).records))
 
 -- or the first that can't be is told
 pub one_refused : (ports new : List Stream) (underlay new_underlay : Stream) (texts : List (Vec ℕ Global)) (text : List ℕ) (place : Tap) (fault : CaptureFault) → Tells ports underlay texts text
@@ -188,7 +194,7 @@ module _ (segments : Segments) where
 
     -- before any capture was opened, or at one of which a read failed
     pub over_unopened : StandAt start new (no_texts (length texts)) → StandsSomewhere segments s changes texts text start new
-    over_unopened at = record { k = 0; most = omega arith; in_front = none_in_front (texts_octets texts) text; stands = at }
+    over_unopened at = record { k = 0; most = omega arith; openings = inl refl; in_front = none_in_front (texts_octets texts) text; stands = at }
 
     -- for want of memory
     pub over_wanting : new ≡ start → StandAt start new (no_texts (length texts)) → LeavesOver segments s changes texts text start new (Err (stream.Run faults.OutOfMemory))
@@ -206,33 +212,34 @@ module _ (segments : Segments) where
         )
 
     -- among the headers
-    pub over_headers : (target : Target) → StandBetween start new (no_texts (length texts)) (empty_outputs (length texts)) → LeavesOver segments s changes texts text start new (Err (stream.Write target))
-    over_headers target between = record { k = 0; most = inl (omega arith); in_front = none_in_front (texts_octets texts) text; order = λ es rest e is at. absurd (omega (arith, at)); stands = subst (StandBetween start new (no_texts (length texts))) (sym (texts_are [] whole.events 1 refl (omega arith))) between }
+    pub over_headers : (target : Target) → CanBeOpened texts text → StandBetween start new (no_texts (length texts)) (empty_outputs (length texts)) → LeavesOver segments s changes texts text start new (Err (stream.Write target))
+    over_headers target can between = record { k = 0; openings = can; most = inl (omega arith); in_front = none_in_front (texts_octets texts) text; order = λ es rest e is at. absurd (omega (arith, at)); stands = subst (StandBetween start new (no_texts (length texts))) (sym (texts_are [] whole.events 1 refl (omega arith))) between }
 
     -- the first events are these
     front_of_all : (es rest : List Event) (k : ℕ) → whole.events ≡ es ++ rest → k ≡ length es → StopInFront (texts_octets texts) text es → StopInFront (texts_octets texts) text (take k whole.events)
     front_of_all es rest k is at in_front = subst (StopInFront (texts_octets texts) text) (sym (ap (λ n. take n whole.events) at ∙ first_events whole es rest is)) in_front
 
-    stands_behind : (es rest : List Event) → whole.events ≡ es ++ rest → StandAt start new (behind es) → StopInFront (texts_octets texts) text es → StandsSomewhere segments s changes texts text start new
-    stands_behind es rest is at in_front = record {
+    stands_behind : (es rest : List Event) → CanBeOpened texts text → whole.events ≡ es ++ rest → StandAt start new (behind es) → StopInFront (texts_octets texts) text es → StandsSomewhere segments s changes texts text start new
+    stands_behind es rest can is at in_front = record {
       k = length es + 1;
+      openings = inr can;
       in_front = front_of_all es rest (length es + 1 - 1) is (omega arith) in_front;
       most = omega (arith, ap length is, length-append es rest);
       stands = subst (StandAt start new) (sym (texts_are es rest (length es + 1) is refl)) at;
     }
 
     -- at the first record of a capture
-    pub over_firsts : (fault : StreamFault) (turns : List Turn) (ports : List Stream) (underlay : Stream) → BeginsIn {T = Unit {0}} (texts_octets texts) text turns ports underlay (Err fault) → StandAt start new (empty_outputs (length texts))
+    pub over_firsts : (fault : StreamFault) (turns : List Turn) (ports : List Stream) (underlay : Stream) → BeginsIn {T = Unit {0}} (texts_octets texts) text turns ports underlay (Err fault) → CanBeOpened texts text → StandAt start new (empty_outputs (length texts))
         → LeavesOver segments s changes texts text start new (Err fault)
-    over_firsts (stream.Run (faults.Record place n f)) turns ports underlay h at =
-        record { k = 0; most = omega arith; faulty = h.0; in_front = none_in_front (texts_octets texts) text; before = inl (refl, h.1); stands = subst (StandAt start new) (sym (texts_are [] whole.events 1 refl (omega arith))) at }
-    over_firsts (stream.Run (faults.Settings f)) turns ports underlay h at = absurd h
-    over_firsts (stream.Run (faults.Changes f)) turns ports underlay h at = absurd h
-    over_firsts (stream.Run faults.PortCount) turns ports underlay h at = absurd h
-    over_firsts (stream.Run (faults.Capture place f)) turns ports underlay h at = absurd h
-    over_firsts (stream.Run faults.OutOfMemory) turns ports underlay h at = absurd h
-    over_firsts (stream.Read place) turns ports underlay h at = stands_behind [] whole.events refl at (none_in_front (texts_octets texts) text)
-    over_firsts (stream.Write target) turns ports underlay h at = absurd h
+    over_firsts (stream.Run (faults.Record place n f)) turns ports underlay h can at =
+        record { k = 0; most = omega arith; openings = can; faulty = h.0; in_front = none_in_front (texts_octets texts) text; before = inl (refl, h.1); stands = subst (StandAt start new) (sym (texts_are [] whole.events 1 refl (omega arith))) at }
+    over_firsts (stream.Run (faults.Settings f)) turns ports underlay h can at = absurd h
+    over_firsts (stream.Run (faults.Changes f)) turns ports underlay h can at = absurd h
+    over_firsts (stream.Run faults.PortCount) turns ports underlay h can at = absurd h
+    over_firsts (stream.Run (faults.Capture place f)) turns ports underlay h can at = absurd h
+    over_firsts (stream.Run faults.OutOfMemory) turns ports underlay h can at = absurd h
+    over_firsts (stream.Read place) turns ports underlay h can at = stands_behind [] whole.events can refl at (none_in_front (texts_octets texts) text)
+    over_firsts (stream.Write target) turns ports underlay h can at = absurd h
 
     -- the texts of the event behind some others stand in order
     abbrev pub Ordered : List Event → List Event → Result (Unit {0}) StreamFault → Type 0
@@ -254,28 +261,30 @@ module _ (segments : Segments) where
 
     -- among the events
     pub over_events : (fault : StreamFault) (run : Run) (es more rest : List Event) → whole.events ≡ es ++ (more ++ rest) → EndsIn {T = Unit {0}} (texts_octets texts) text es rest run (Err fault) → IsPart {T = Unit {0}} more (Err fault)
-        → LeadsBehind {T = Unit {0}} segments changes (opened (settings_told s)) start new (empty_outputs (length texts)) es more (Err fault) → Ordered es more (Err fault) → StopInFront (texts_octets texts) text (es ++ more) → EndsNumbered {T = Unit {0}} es (Err fault) → LeavesOver segments s changes texts text start new (Err fault)
+        → LeadsBehind {T = Unit {0}} segments changes (opened (settings_told s)) start new (empty_outputs (length texts)) es more (Err fault) → Ordered es more (Err fault) → StopInFront (texts_octets texts) text (es ++ more) → EndsNumbered {T = Unit {0}} es (Err fault) → CanBeOpened texts text → LeavesOver segments s changes texts text start new (Err fault)
     unfolding stands_behind
-    over_events (stream.Run (faults.Record place n f)) run es more rest is h part at ordered in_front numbered = record {
+    over_events (stream.Run (faults.Record place n f)) run es more rest is h part at ordered in_front numbered can = record {
       k = length es;
       most = omega (arith, ap length is, length-append es (more ++ rest));
+      openings = can;
       faulty = h.0;
       in_front = front_of_all es (more ++ rest) (length es) is refl (subst (StopInFront (texts_octets texts) text) (ap (λ l. es ++ l) part ∙ append-nil es) in_front);
       before = inr (subst (EndBefore place n) (sym (first_events whole es (more ++ rest) is)) h.1);
       stands = subst (StandAt start new) (sym (texts_are es (more ++ rest) (length es + 1) is refl)) at;
     }
-    over_events (stream.Run (faults.Settings f)) run es more rest is h part at ordered in_front numbered = absurd h
-    over_events (stream.Run (faults.Changes f)) run es more rest is h part at ordered in_front numbered = absurd h
-    over_events (stream.Run faults.PortCount) run es more rest is h part at ordered in_front numbered = absurd h
-    over_events (stream.Run (faults.Capture place f)) run es more rest is h part at ordered in_front numbered = absurd h
-    over_events (stream.Run faults.OutOfMemory) run es more rest is h part at ordered in_front numbered =
-        (stands_behind es (more ++ rest) is at (subst (StopInFront (texts_octets texts) text) (ap (λ l. es ++ l) part ∙ append-nil es) in_front), inr (ap (λ n. n + 1) numbered))
-    over_events (stream.Read place) run es more rest is h part at ordered in_front numbered = stands_behind es (more ++ rest) is at (subst (StopInFront (texts_octets texts) text) (ap (λ l. es ++ l) part ∙ append-nil es) in_front)
-    over_events (stream.Write target) run es more rest is h part at ordered in_front numbered =
+    over_events (stream.Run (faults.Settings f)) run es more rest is h part at ordered in_front numbered can = absurd h
+    over_events (stream.Run (faults.Changes f)) run es more rest is h part at ordered in_front numbered can = absurd h
+    over_events (stream.Run faults.PortCount) run es more rest is h part at ordered in_front numbered can = absurd h
+    over_events (stream.Run (faults.Capture place f)) run es more rest is h part at ordered in_front numbered can = absurd h
+    over_events (stream.Run faults.OutOfMemory) run es more rest is h part at ordered in_front numbered can =
+        (stands_behind es (more ++ rest) can is at (subst (StopInFront (texts_octets texts) text) (ap (λ l. es ++ l) part ∙ append-nil es) in_front), inr (ap (λ n. n + 1) numbered))
+    over_events (stream.Read place) run es more rest is h part at ordered in_front numbered can = stands_behind es (more ++ rest) can is at (subst (StopInFront (texts_octets texts) text) (ap (λ l. es ++ l) part ∙ append-nil es) in_front)
+    over_events (stream.Write target) run es more rest is h part at ordered in_front numbered can =
         let one : length more ≡ 1 = ap length part.1 in
         let all : whole.events ≡ (es ++ more) ++ rest = is ∙ sym (append_assoc es more rest) in
         record {
           k = length es + 1;
+          openings = can;
           most = inl (omega (arith, one, ap length is, length-append es (more ++ rest), length-append more rest));
           in_front = front_of_all (es ++ more) rest (length es + 1) all (omega (arith, one, length-append es more)) in_front;
           order = λ fs left f also there. in_order target (length es + 1) es more rest fs left part.0 f is part.1 ordered refl also there;
@@ -294,6 +303,7 @@ module _ (segments : Segments) where
         ∙ ap (λ l. with_cuts (behind es) (cuts_among segments l)) (cuts_at_end texts text turns ports underlay ends) in
         record {
           k = length es + 1;
+          openings = whole_captures texts text (whole_at_end texts text turns ports underlay ends);
           in_front = subst (StopInFront (texts_octets texts) text) (sym (take_all (length es + 1) whole.events (omega (arith, ap length is)) ∙ is)) in_front;
           order = λ fs left f also there. absurd (omega (arith, there, ap length (sym is ∙ also), length-append fs (f ∷ left)));
           most = inr (ap (λ (l : List Event). length l + 1) (sym is), no_faults texts text (whole_at_end texts text turns ports underlay ends));
@@ -338,39 +348,39 @@ module _ (segments : Segments) where
     unfolding over_unopened
     reach_unread ports underlay place at = (over_unopened at, inl none_told)
 
-    pub reach_headers : (ports : List Stream) (underlay : Stream) (target : Target) → StandBetween start new (no_texts (length texts)) (empty_outputs (length texts)) → Reaches ports underlay (Err (stream.Write target))
+    pub reach_headers : (ports : List Stream) (underlay : Stream) (target : Target) → CanBeOpened texts text → StandBetween start new (no_texts (length texts)) (empty_outputs (length texts)) → Reaches ports underlay (Err (stream.Write target))
     unfolding over_headers
-    reach_headers ports underlay target between = (over_headers target between, inl refl)
+    reach_headers ports underlay target can between = (over_headers target can between, inl refl)
 
-    pub reach_firsts : (fault : StreamFault) (turns : List Turn) (ports : List Stream) (underlay : Stream) → BeginsIn {T = Unit {0}} (texts_octets texts) text turns ports underlay (Err fault) → StandAt start new (empty_outputs (length texts))
+    pub reach_firsts : (fault : StreamFault) (turns : List Turn) (ports : List Stream) (underlay : Stream) → BeginsIn {T = Unit {0}} (texts_octets texts) text turns ports underlay (Err fault) → CanBeOpened texts text → StandAt start new (empty_outputs (length texts))
         → Reaches ports underlay (Err fault)
     unfolding over_firsts stands_behind
-    reach_firsts (stream.Run (faults.Record place n f)) turns ports underlay h at = (over_firsts (stream.Run (faults.Record place n f)) turns ports underlay h at, inl refl)
-    reach_firsts (stream.Run (faults.Settings f)) turns ports underlay h at = absurd h
-    reach_firsts (stream.Run (faults.Changes f)) turns ports underlay h at = absurd h
-    reach_firsts (stream.Run faults.PortCount) turns ports underlay h at = absurd h
-    reach_firsts (stream.Run (faults.Capture place f)) turns ports underlay h at = absurd h
-    reach_firsts (stream.Run faults.OutOfMemory) turns ports underlay h at = absurd h
-    reach_firsts (stream.Read place) turns ports underlay h at = (over_firsts (stream.Read place) turns ports underlay h at, inl headers_told)
-    reach_firsts (stream.Write target) turns ports underlay h at = absurd h
+    reach_firsts (stream.Run (faults.Record place n f)) turns ports underlay h can at = (over_firsts (stream.Run (faults.Record place n f)) turns ports underlay h can at, inl refl)
+    reach_firsts (stream.Run (faults.Settings f)) turns ports underlay h can at = absurd h
+    reach_firsts (stream.Run (faults.Changes f)) turns ports underlay h can at = absurd h
+    reach_firsts (stream.Run faults.PortCount) turns ports underlay h can at = absurd h
+    reach_firsts (stream.Run (faults.Capture place f)) turns ports underlay h can at = absurd h
+    reach_firsts (stream.Run faults.OutOfMemory) turns ports underlay h can at = absurd h
+    reach_firsts (stream.Read place) turns ports underlay h can at = (over_firsts (stream.Read place) turns ports underlay h can at, inl headers_told)
+    reach_firsts (stream.Write target) turns ports underlay h can at = absurd h
 
     pub reach_events : (fault : StreamFault) (run : Run) (es more rest : List Event) → whole.events ≡ es ++ (more ++ rest) → EndsIn {T = Unit {0}} (texts_octets texts) text es rest run (Err fault) → IsPart {T = Unit {0}} more (Err fault)
         → LeadsBehind {T = Unit {0}} segments changes (opened (settings_told s)) start new (empty_outputs (length texts)) es more (Err fault) → Ordered es more (Err fault) → StopInFront (texts_octets texts) text (es ++ more)
-        → EndsNumbered {T = Unit {0}} es (Err fault) → AreReadBehind {T = Unit {0}} (texts_octets texts) text es run.ports run.underlay (Err fault) → Reaches run.ports run.underlay (Err fault)
+        → EndsNumbered {T = Unit {0}} es (Err fault) → CanBeOpened texts text → AreReadBehind {T = Unit {0}} (texts_octets texts) text es run.ports run.underlay (Err fault) → Reaches run.ports run.underlay (Err fault)
     unfolding over_events stands_behind
-    reach_events (stream.Run (faults.Record place n f)) run es more rest is h part at ordered in_front numbered read =
-        (over_events (stream.Run (faults.Record place n f)) run es more rest is h part at ordered in_front numbered, inr (reads_first run.ports run.underlay (Err (stream.Run (faults.Record place n f))) es (more ++ rest) _ is refl read))
-    reach_events (stream.Run (faults.Settings f)) run es more rest is h part at ordered in_front numbered read = absurd h
-    reach_events (stream.Run (faults.Changes f)) run es more rest is h part at ordered in_front numbered read = absurd h
-    reach_events (stream.Run faults.PortCount) run es more rest is h part at ordered in_front numbered read = absurd h
-    reach_events (stream.Run (faults.Capture place f)) run es more rest is h part at ordered in_front numbered read = absurd h
-    reach_events (stream.Run faults.OutOfMemory) run es more rest is h part at ordered in_front numbered read =
-        let at = over_events (stream.Run faults.OutOfMemory) run es more rest is h part at ordered in_front numbered in
+    reach_events (stream.Run (faults.Record place n f)) run es more rest is h part at ordered in_front numbered can read =
+        (over_events (stream.Run (faults.Record place n f)) run es more rest is h part at ordered in_front numbered can, inr (reads_first run.ports run.underlay (Err (stream.Run (faults.Record place n f))) es (more ++ rest) _ is refl read))
+    reach_events (stream.Run (faults.Settings f)) run es more rest is h part at ordered in_front numbered can read = absurd h
+    reach_events (stream.Run (faults.Changes f)) run es more rest is h part at ordered in_front numbered can read = absurd h
+    reach_events (stream.Run faults.PortCount) run es more rest is h part at ordered in_front numbered can read = absurd h
+    reach_events (stream.Run (faults.Capture place f)) run es more rest is h part at ordered in_front numbered can read = absurd h
+    reach_events (stream.Run faults.OutOfMemory) run es more rest is h part at ordered in_front numbered can read =
+        let at = over_events (stream.Run faults.OutOfMemory) run es more rest is h part at ordered in_front numbered can in
         (at.0, at.1, inr (reads_first run.ports run.underlay (Err (stream.Run faults.OutOfMemory)) es (more ++ rest) _ is (omega arith) read))
-    reach_events (stream.Read place) run es more rest is h part at ordered in_front numbered read =
-        (over_events (stream.Read place) run es more rest is h part at ordered in_front numbered, inr (reads_first run.ports run.underlay (Err (stream.Read place)) es (more ++ rest) _ is (omega arith) read))
-    reach_events (stream.Write target) run es more rest is h part at ordered in_front numbered read =
-        (over_events (stream.Write target) run es more rest is h part at ordered in_front numbered, inr (reads_first run.ports run.underlay (Err (stream.Write target)) es (more ++ rest) _ is (omega arith) read))
+    reach_events (stream.Read place) run es more rest is h part at ordered in_front numbered can read =
+        (over_events (stream.Read place) run es more rest is h part at ordered in_front numbered can, inr (reads_first run.ports run.underlay (Err (stream.Read place)) es (more ++ rest) _ is (omega arith) read))
+    reach_events (stream.Write target) run es more rest is h part at ordered in_front numbered can read =
+        (over_events (stream.Write target) run es more rest is h part at ordered in_front numbered can, inr (reads_first run.ports run.underlay (Err (stream.Write target)) es (more ++ rest) _ is (omega arith) read))
 
     pub reach_cuts : (target : Target) (es : List Event) (turns : List Turn) (ports : List Stream) (underlay : Stream) → whole.events ≡ es → AllStandAtEnd texts text turns ports underlay
         → StopInFront (texts_octets texts) text es → StandBetween start new (behind es) (with_cuts (behind es) (cuts_among segments (cuts_at ports underlay turns)))
@@ -402,46 +412,46 @@ module _ (segments : Segments) where
       unfolding over_unopened
       seen_unread place at = (over_unopened at, refl)
 
-      pub seen_headers : (target : Target) → StandBetween start new (no_texts (length texts)) (empty_outputs (length texts)) → Seen old_watch (Err (stream.Write target))
+      pub seen_headers : (target : Target) → CanBeOpened texts text → StandBetween start new (no_texts (length texts)) (empty_outputs (length texts)) → Seen old_watch (Err (stream.Write target))
       unfolding over_headers
-      seen_headers target between = (over_headers target between, refl)
+      seen_headers target can between = (over_headers target can between, refl)
 
-      pub seen_firsts : (fault : StreamFault) (turns : List Turn) (ports : List Stream) (underlay : Stream) → BeginsIn {T = Unit {0}} (texts_octets texts) text turns ports underlay (Err fault) → StandAt start new (empty_outputs (length texts))
+      pub seen_firsts : (fault : StreamFault) (turns : List Turn) (ports : List Stream) (underlay : Stream) → BeginsIn {T = Unit {0}} (texts_octets texts) text turns ports underlay (Err fault) → CanBeOpened texts text → StandAt start new (empty_outputs (length texts))
           → Seen old_watch (Err fault)
       unfolding over_firsts stands_behind
-      seen_firsts (stream.Run (faults.Record place n f)) turns ports underlay h at = (over_firsts (stream.Run (faults.Record place n f)) turns ports underlay h at, refl)
-      seen_firsts (stream.Run (faults.Settings f)) turns ports underlay h at = absurd h
-      seen_firsts (stream.Run (faults.Changes f)) turns ports underlay h at = absurd h
-      seen_firsts (stream.Run faults.PortCount) turns ports underlay h at = absurd h
-      seen_firsts (stream.Run (faults.Capture place f)) turns ports underlay h at = absurd h
-      seen_firsts (stream.Run faults.OutOfMemory) turns ports underlay h at = absurd h
-      seen_firsts (stream.Read place) turns ports underlay h at = (over_firsts (stream.Read place) turns ports underlay h at, refl)
-      seen_firsts (stream.Write target) turns ports underlay h at = absurd h
+      seen_firsts (stream.Run (faults.Record place n f)) turns ports underlay h can at = (over_firsts (stream.Run (faults.Record place n f)) turns ports underlay h can at, refl)
+      seen_firsts (stream.Run (faults.Settings f)) turns ports underlay h can at = absurd h
+      seen_firsts (stream.Run (faults.Changes f)) turns ports underlay h can at = absurd h
+      seen_firsts (stream.Run faults.PortCount) turns ports underlay h can at = absurd h
+      seen_firsts (stream.Run (faults.Capture place f)) turns ports underlay h can at = absurd h
+      seen_firsts (stream.Run faults.OutOfMemory) turns ports underlay h can at = absurd h
+      seen_firsts (stream.Read place) turns ports underlay h can at = (over_firsts (stream.Read place) turns ports underlay h can at, refl)
+      seen_firsts (stream.Write target) turns ports underlay h can at = absurd h
 
       -- the first events were, and where a write failed one more
       pub seen_events : (fault : StreamFault) (run : Run) (es more rest : List Event) (new_watch : T) → whole.events ≡ es ++ (more ++ rest) → EndsIn {T = Unit {0}} (texts_octets texts) text es rest run (Err fault)
-          → IsPart {T = Unit {0}} more (Err fault) → LeadsBehind {T = Unit {0}} segments changes (opened (settings_told s)) start new (empty_outputs (length texts)) es more (Err fault) → Ordered es more (Err fault) → StopInFront (texts_octets texts) text (es ++ more) → EndsNumbered {T = Unit {0}} es (Err fault) → Sees (es ++ more) new_watch → Seen new_watch (Err fault)
+          → IsPart {T = Unit {0}} more (Err fault) → LeadsBehind {T = Unit {0}} segments changes (opened (settings_told s)) start new (empty_outputs (length texts)) es more (Err fault) → Ordered es more (Err fault) → StopInFront (texts_octets texts) text (es ++ more) → EndsNumbered {T = Unit {0}} es (Err fault) → CanBeOpened texts text → Sees (es ++ more) new_watch → Seen new_watch (Err fault)
       unfolding over_events stands_behind
-      seen_events (stream.Run (faults.Record place n f)) run es more rest new_watch is h part at ordered in_front numbered seen = (
-        over_events (stream.Run (faults.Record place n f)) run es more rest is h part at ordered in_front numbered,
+      seen_events (stream.Run (faults.Record place n f)) run es more rest new_watch is h part at ordered in_front numbered can seen = (
+        over_events (stream.Run (faults.Record place n f)) run es more rest is h part at ordered in_front numbered can,
         sees_first (es ++ more) rest _ new_watch (is ∙ sym (append_assoc es more rest)) (omega (arith, ap length part, length-append es more)) seen,
       )
-      seen_events (stream.Run (faults.Settings f)) run es more rest new_watch is h part at ordered in_front numbered seen = absurd h
-      seen_events (stream.Run (faults.Changes f)) run es more rest new_watch is h part at ordered in_front numbered seen = absurd h
-      seen_events (stream.Run faults.PortCount) run es more rest new_watch is h part at ordered in_front numbered seen = absurd h
-      seen_events (stream.Run (faults.Capture place f)) run es more rest new_watch is h part at ordered in_front numbered seen = absurd h
-      seen_events (stream.Run faults.OutOfMemory) run es more rest new_watch is h part at ordered in_front numbered seen =
-        let at = over_events (stream.Run faults.OutOfMemory) run es more rest is h part at ordered in_front numbered in (
-        at.0,
-        at.1,
+      seen_events (stream.Run (faults.Settings f)) run es more rest new_watch is h part at ordered in_front numbered can seen = absurd h
+      seen_events (stream.Run (faults.Changes f)) run es more rest new_watch is h part at ordered in_front numbered can seen = absurd h
+      seen_events (stream.Run faults.PortCount) run es more rest new_watch is h part at ordered in_front numbered can seen = absurd h
+      seen_events (stream.Run (faults.Capture place f)) run es more rest new_watch is h part at ordered in_front numbered can seen = absurd h
+      seen_events (stream.Run faults.OutOfMemory) run es more rest new_watch is h part at ordered in_front numbered can seen =
+          let at = over_events (stream.Run faults.OutOfMemory) run es more rest is h part at ordered in_front numbered can in (
+            at.0,
+            at.1,
+            sees_first (es ++ more) rest _ new_watch (is ∙ sym (append_assoc es more rest)) (omega (arith, ap length part, length-append es more)) seen,
+          )
+      seen_events (stream.Read place) run es more rest new_watch is h part at ordered in_front numbered can seen = (
+        over_events (stream.Read place) run es more rest is h part at ordered in_front numbered can,
         sees_first (es ++ more) rest _ new_watch (is ∙ sym (append_assoc es more rest)) (omega (arith, ap length part, length-append es more)) seen,
       )
-      seen_events (stream.Read place) run es more rest new_watch is h part at ordered in_front numbered seen = (
-        over_events (stream.Read place) run es more rest is h part at ordered in_front numbered,
-        sees_first (es ++ more) rest _ new_watch (is ∙ sym (append_assoc es more rest)) (omega (arith, ap length part, length-append es more)) seen,
-      )
-      seen_events (stream.Write target) run es more rest new_watch is h part at ordered in_front numbered seen = (
-        over_events (stream.Write target) run es more rest is h part at ordered in_front numbered,
+      seen_events (stream.Write target) run es more rest new_watch is h part at ordered in_front numbered can seen = (
+        over_events (stream.Write target) run es more rest is h part at ordered in_front numbered can,
         sees_first (es ++ more) rest _ new_watch (is ∙ sym (append_assoc es more rest)) (omega (arith, ap length part.1, length-append es more)) seen,
       )
 

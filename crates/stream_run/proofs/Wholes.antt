@@ -25,7 +25,7 @@ use Rattle.timeline.specs.declared.timeline.Cut.{Cut as CutRest}
 use Rattle.stream_run.specs.Begun.{no_turn}
 use Rattle.stream_run.specs.Coming.{capture_events, coming, events_by, source_events}
 use Rattle.stream_run.specs.Cuts.{cut_behind, cuts_at, cuts_from}
-use Rattle.stream_run.specs.Over.{AreFaultless, texts_octets, whole_records}
+use Rattle.stream_run.specs.Over.{AreFaultless, CanBeOpened, texts_octets, whole_records}
 use Rattle.stream_run.specs.Read.{IsRead, StandsBehind}
 use Rattle.stream_run.specs.Steps.{AreRead, IsAt, octets_at}
 use Rattle.stream_run.specs.declared.turn.Turn.{Turn}
@@ -69,13 +69,29 @@ pub record AreWholeTexts (texts : List (Vec ℕ Global)) (text : List ℕ) : Typ
 whole_behind : (v : Vec ℕ Global) (vs : List (Vec ℕ Global)) (text : List ℕ) → AreWholeTexts (v ∷ vs) text → AreWholeTexts vs text
 whole_behind v vs text whole = record { ports = λ j lt. whole.ports (suc j) (omega (arith, lt)); underlay = whole.underlay }
 
-no_refusal : (tap : Tap) (octets : List ℕ) (others : List TimelineFault) → IsWholeText octets → cons_option (refused_by tap (opened octets)) others ≡ others
-no_refusal tap octets others whole = ap (λ found. cons_option (refused_by tap found) others) whole.reading
+-- a text begins as a capture does
+abbrev pub IsCapture : List ℕ → Type 0
+IsCapture octets = (reading : Reading) × (opened octets ≡ Ok reading)
 
-no_opening_fault : (from : ℕ) (texts : List (Vec ℕ Global)) (text : List ℕ) → AreWholeTexts texts text → opening_faults (inputs_from from texts text) ≡ []
-no_opening_fault from [] text whole = no_refusal Underlay text [] whole.underlay
-no_opening_fault from (v ∷ vs) text whole =
-    no_refusal (Port from) v.items (opening_faults (inputs_from (from + 1) vs text)) (whole.ports 0 (omega arith)) ∙ no_opening_fault (from + 1) vs text (whole_behind v vs text whole)
+no_refusal : (tap : Tap) (octets : List ℕ) (others : List TimelineFault) → IsCapture octets → cons_option (refused_by tap (opened octets)) others ≡ others
+no_refusal tap octets others capture = ap (λ found. cons_option (refused_by tap found) others) capture.1
+
+none_refused : (from : ℕ) (texts : List (Vec ℕ Global)) (text : List ℕ) → ((j : ℕ) → j < length texts → IsCapture (slice_index_or (texts_octets texts) j [])) → IsCapture text → opening_faults (inputs_from from texts text) ≡ []
+none_refused from [] text ports underlay = no_refusal Underlay text [] underlay
+none_refused from (v ∷ vs) text ports underlay =
+    no_refusal (Port from) v.items (opening_faults (inputs_from (from + 1) vs text)) (ports 0 (omega arith))
+    ∙ none_refused (from + 1) vs text (λ j lt. ports (suc j) (omega (arith, lt))) underlay
+
+pub all_captures : (texts : List (Vec ℕ Global)) (text : List ℕ) → ((place : Tap) (index : ℕ) → IsAt (length texts) index place → IsCapture (octets_at (texts_octets texts) text place)) → CanBeOpened texts text
+all_captures texts text each = none_refused 1 texts text ports (each Underlay (length texts + 1) refl)
+  where
+    ports : (j : ℕ) → j < length texts → IsCapture (slice_index_or (texts_octets texts) j [])
+    ports j lt =
+        let same : j + 1 - 1 ≡ j = omega arith in
+        subst (λ i. IsCapture (slice_index_or (texts_octets texts) i [])) same (each (Port (j + 1)) (j + 1) (refl, omega arith, omega (arith, lt)))
+
+pub whole_captures : (texts : List (Vec ℕ Global)) (text : List ℕ) → AreWholeTexts texts text → CanBeOpened texts text
+whole_captures texts text whole = none_refused 1 texts text (λ j lt. (_, (whole.ports j lt).reading)) (_, whole.underlay.reading)
 
 ends_well : (tap : Tap) (count : ℕ) (end : End) (others : List TimelineFault) → ((fault : RecordFault) → end ≢ Faulty fault) → cons_option (ended_by tap count end) others ≡ others
 ends_well tap count Whole others h = refl
@@ -93,7 +109,7 @@ no_record_fault from (v ∷ vs) text whole =
     no_end_fault (Port from) v.items (opened_captures (inputs_from (from + 1) vs text)) (whole.ports 0 (omega arith)) ∙ no_record_fault (from + 1) vs text (whole_behind v vs text whole)
 
 pub no_faults : (texts : List (Vec ℕ Global)) (text : List ℕ) → AreWholeTexts texts text → AreFaultless texts text
-no_faults texts text whole = ap (λ l. l ++ record_faults (opened_captures (inputs texts text))) (no_opening_fault 1 texts text whole) ∙ no_record_fault 1 texts text whole
+no_faults texts text whole = ap (λ l. l ++ record_faults (opened_captures (inputs texts text))) (whole_captures texts text whole) ∙ no_record_fault 1 texts text whole
 
 -- ---- the first that can't be opened
 

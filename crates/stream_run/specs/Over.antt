@@ -11,7 +11,7 @@ use Rattle.overlay_settings.specs.declared.change.TimedChange.{TimedChange}
 use Rattle.endpoint_state.specs.Opened.{settings_told}
 use Rattle.endpoint_core.specs.Step.{opened}
 use Rattle.timeline.specs.Events.{all_events}
-use Rattle.timeline.specs.Faults.{faults_of}
+use Rattle.timeline.specs.Faults.{faults_of, opening_faults}
 use Rattle.timeline.specs.Inputs.{inputs, opened_captures}
 use Rattle.timeline.specs.Order.{merged}
 use Rattle.timeline.specs.Timeline.{Timeline, cuts_of}
@@ -48,6 +48,10 @@ whole_records changes texts text =
     let captures = opened_captures (inputs texts text) in
     record { events = merged (all_events (map (λ c. c.at) changes) captures); cuts = cuts_of captures }
 
+-- all of them can be opened
+abbrev pub CanBeOpened : List (Vec ℕ Global) → List ℕ → Type 0
+CanBeOpened texts text = opening_faults (inputs texts text) ≡ []
+
 -- all of them can be read to their ends
 abbrev pub AreFaultless : List (Vec ℕ Global) → List ℕ → Type 0
 AreFaultless texts text = faults_of (inputs texts text) ≡ []
@@ -63,6 +67,8 @@ texts_at segments s changes texts text k = stage segments (settings_told s) (cha
 pub record StandsSomewhere (segments : Segments) (s : Settings) (changes : List TimedChange) (texts : List (Vec ℕ Global)) (text : List ℕ) (old new : Drains) : Type 0 where
   pub k : ℕ
   pub most : k ≤ length (whole_records changes texts text).events + 1
+  -- no header stands where a capture can't be opened
+  pub openings : (k ≡ 0) ⊎ CanBeOpened texts text
   pub in_front : StopInFront (texts_octets texts) text (take (k - 1) (whole_records changes texts text).events)
   pub stands : StandAt old new (texts_at segments s changes texts text k)
 
@@ -71,21 +77,24 @@ pub record StandsSomewhere (segments : Segments) (s : Settings) (changes : List 
 abbrev pub LacksMemory : Drains → Drains → ℕ → Type 0
 LacksMemory old new k = ((k ≡ 0) × (new ≡ old)) ⊎ (k ≡ most_events + 1)
 
--- or also a part of what comes next; lines of cut captures only where all captures were read to their ends
+-- or also a part of what comes next, so that all captures can be opened; lines of cut captures only where all were read to
+-- their ends
 pub record StandsAmong (segments : Segments) (s : Settings) (changes : List TimedChange) (texts : List (Vec ℕ Global)) (text : List ℕ) (old new : Drains) : Type 0 where
   pub k : ℕ
   pub in_front : StopInFront (texts_octets texts) text (take k (whole_records changes texts text).events)
+  pub openings : CanBeOpened texts text
   pub most : (k ≤ length (whole_records changes texts text).events) ⊎ ((k ≡ length (whole_records changes texts text).events + 1) × AreFaultless texts text)
   pub stands : StandBetween old new (texts_at segments s changes texts text k) (texts_at segments s changes texts text (k + 1))
   -- where an event comes next, the records of its first outlets, and the line behind them all
   pub order : (es rest : List Event) (e : Event) → (whole_records changes texts text).events ≡ es ++ e ∷ rest → k ≡ length es + 1
       → StandsInEvent (changes_of changes) old new k (state_among segments (changes_of changes) (opened (settings_told s)) es) (texts_at segments s changes texts text k) e
 
--- a record has this fault, and the outputs hold the texts of all events up to the record before it, and no more; no other
--- capture has one sooner
+-- a record has this fault, and the outputs hold the texts of all events up to the record before it, and no more; all
+-- captures can be opened, and no other has a fault sooner
 pub record StandsBefore (segments : Segments) (place : Tap) (n : ℕ) (fault : RecordFault) (s : Settings) (changes : List TimedChange) (texts : List (Vec ℕ Global)) (text : List ℕ) (old new : Drains) : Type 0 where
   pub k : ℕ
   pub most : k ≤ length (whole_records changes texts text).events
+  pub openings : CanBeOpened texts text
   pub faulty : IsFaultyAt (texts_octets texts) text place n fault
   pub in_front : StopInFront (texts_octets texts) text (take k (whole_records changes texts text).events)
   pub before : ((k ≡ 0) × (n ≡ 1)) ⊎ EndBefore place n (take k (whole_records changes texts text).events)

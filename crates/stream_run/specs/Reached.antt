@@ -20,6 +20,9 @@ AreReadTo changes texts text k ports underlay result = AreReadBehind (texts_octe
 
 -- with these settings and changes: all captures were read to their ends; or those at whose record the run didn't stop, up to
 -- one record behind those of the events whose whole texts stand; before the first event nothing is said of them
+-- Where a write failed, all captures stand so, and any write may fail: so the texts of an event are written before anything
+-- more of its capture is read. Whoever read on first, to hand the texts on with what that brings, or to drop them where it
+-- fails, would have read too far where their write fails
 abbrev pub ReachesOver : Segments → Settings → List TimedChange → List (Vec ℕ Global) → List ℕ → Drains → Drains → List Stream → Stream → Result (Unit {0}) StreamFault → Type 0
 ReachesOver segments s changes texts text old new ports underlay (Ok x) = AreReadBehind {T = Unit {0}} (texts_octets texts) text (whole_records changes texts text).events ports underlay (Ok x)
 ReachesOver segments s changes texts text old new ports underlay (Err (stream.Run (faults.Record place n fault))) =

@@ -15,7 +15,7 @@ use Rattle.stream_run.specs.Steps.{AreRead, AreReady, run_at, texts_behind}
 use Rattle.stream_run.proofs.Closing.{opened_read, over_lines, over_opening, over_run, over_whole, reach_lines, reach_opening, reach_run, reach_whole, seen_lines, seen_opening, seen_run, seen_whole}
 use Rattle.stream_run.proofs.Framing.{leaves_all, leaves_begun, leaves_cuts, leaves_events, leaves_headers, leaves_nothing, none_at, opened_all, opens_only_reads, ready_begun}
 use Rattle.stream_run.proofs.Opened.{reads_behind}
-use Rattle.stream_run.proofs.Overall.{over_firsts, over_headers, reach_firsts, reach_headers, seen_firsts, seen_headers, tells_texts}
+use Rattle.stream_run.proofs.Overall.{all_first, over_firsts, over_headers, reach_firsts, reach_headers, seen_firsts, seen_headers, tells_texts}
 use Rattle.stream_run.proofs.Running.{quiet_on}
 use Rattle.stream_run.proofs.Showing.{shows_all, shows_begun, shows_cuts, shows_events, shows_headers, shows_nothing}
 use Rattle.stream_run.proofs.run.run_on.Given.{Over}
@@ -126,10 +126,11 @@ returns-in-Err-begin_all-clause-done g c settings is =
       over = λ texts text tells.
           let many = tells_texts c.args.ports.now c.args.underlay.now texts text tells in
           let half = (failed (length texts) many).0 in
+          let can = all_first texts text c.open_all.new.ports c.open_all.new.underlay (opened_read c.args.ports.now c.open_all.new.ports c.args.underlay.now c.open_all.new.underlay texts text tells (omega (arith, c.open_all.auto.ports)) c.in_default.ensures.opened) in
           record {
-            left = over_headers c.args.segments.now settings c.args.changes.now texts text start begun c.in-Err-begin_all.target half;
-            reached = reach_headers c.args.segments.now settings c.args.changes.now texts text start begun c.open_all.new.ports c.open_all.new.underlay c.in-Err-begin_all.target half;
-            seen = seen_headers c.args.segments.now settings c.args.changes.now texts text start begun g.T.Watch.sees g.T.Watch.ends c.args.watch.now c.in-Err-begin_all.target half;
+            left = over_headers c.args.segments.now settings c.args.changes.now texts text start begun c.in-Err-begin_all.target can half;
+            reached = reach_headers c.args.segments.now settings c.args.changes.now texts text start begun c.open_all.new.ports c.open_all.new.underlay c.in-Err-begin_all.target can half;
+            seen = seen_headers c.args.segments.now settings c.args.changes.now texts text start begun g.T.Watch.sees g.T.Watch.ends c.args.watch.now c.in-Err-begin_all.target can half;
           };
     }
 
@@ -150,11 +151,13 @@ returns-in-Err-fetch_all-clause-done g c settings is =
       over = λ texts text tells.
           let many = tells_texts c.args.ports.now c.args.underlay.now texts text tells in
           let at = headers (length texts) many in
-          let told = c.in-Err-fetch_all.ensures.told (texts_octets texts) text (at_first g w.After-fetch_all texts text tells) in
+          let first = at_first g w.After-fetch_all texts text tells in
+          let can = all_first texts text c.open_all.new.ports c.open_all.new.underlay first in
+          let told = c.in-Err-fetch_all.ensures.told (texts_octets texts) text first in
           record {
-            left = over_firsts c.args.segments.now settings c.args.changes.now texts text start begun c.in-Err-fetch_all.fault c.fetch_all.new.turns c.fetch_all.new.ports c.fetch_all.new.underlay told at;
-            reached = reach_firsts c.args.segments.now settings c.args.changes.now texts text start begun c.in-Err-fetch_all.fault c.fetch_all.new.turns c.fetch_all.new.ports c.fetch_all.new.underlay told at;
-            seen = seen_firsts c.args.segments.now settings c.args.changes.now texts text start begun g.T.Watch.sees g.T.Watch.ends c.args.watch.now c.in-Err-fetch_all.fault c.fetch_all.new.turns c.fetch_all.new.ports c.fetch_all.new.underlay told at;
+            left = over_firsts c.args.segments.now settings c.args.changes.now texts text start begun c.in-Err-fetch_all.fault c.fetch_all.new.turns c.fetch_all.new.ports c.fetch_all.new.underlay told can at;
+            reached = reach_firsts c.args.segments.now settings c.args.changes.now texts text start begun c.in-Err-fetch_all.fault c.fetch_all.new.turns c.fetch_all.new.ports c.fetch_all.new.underlay told can at;
+            seen = seen_firsts c.args.segments.now settings c.args.changes.now texts text start begun g.T.Watch.sees g.T.Watch.ends c.args.watch.now c.in-Err-fetch_all.fault c.fetch_all.new.turns c.fetch_all.new.ports c.fetch_all.new.underlay told can at;
           };
     }
 

@@ -8,3 +8,4 @@ mod Finishing
 mod Merging
 pub mod Missing
 mod WholeTexts
+mod Blaming

@@ -8,3 +8,4 @@ pub mod Coming
 pub mod Told
 pub mod Firsts
 pub mod Whole
+pub mod Blame

@@ -2,6 +2,7 @@
 ghost use Rattle.std.specs.Prelude.{◌≡◌, ◌++◌, ℕ, List, [], Some};
 ghost use Rattle.pcap_io.specs.Written.{written_header};
 ghost use Rattle.pcap_stream.specs.Source.{New};
+ghost use Rattle.shard_merge.specs.Blame.{CopyReads, CopyWrites};
 ghost use Rattle.shard_merge.specs.Copied.{Copies, EndsWith, Opens, TellsEnd, TellsStop};
 ghost use Rattle.shard_merge.specs.Left.{IsLeft, IsWritten};
 
@@ -57,6 +58,8 @@ impl<R: Input> Capture<R> {
     pub(crate) fn copy<W: Output>(&mut self, sink: &mut Sink<W>) -> Result<(), Stop>
         ensures copied { (text rest : List ℕ) → IsWritten text → IsLeft (text ++ rest) self.old → Copies text rest self.new sink.old sink.new result }
         ensures told { TellsStop self.new result }
+        ensures reads { CopyReads self.old self.new result }
+        ensures writes { CopyWrites sink.old sink.new result }
     {
         if let Err(fault) = self.source.fill() {
             return Err(stop_by(fault));
@@ -77,6 +80,7 @@ impl<R: Input> Capture<R> {
     pub(crate) fn end(&mut self) -> Result<(), Stop>
         ensures ended { IsLeft [] self.old → EndsWith result }
         ensures told { TellsEnd self.new result }
+        ensures reads { CopyReads self.old self.new result }
     {
         if let Err(fault) = self.source.fill() {
             return Err(stop_by(fault));

@@ -2,8 +2,10 @@
 ghost use Rattle.std.specs.Prelude.{◌≡◌, ◌≤◌, ◌<◌, ℕ, List, OnErr, OnOk, length, slice_index_or};
 ghost use Rattle.std.specs.Io.KnownBytes.{Appends};
 ghost use Rattle.std.specs.List.{concat};
+ghost use Rattle.pcap_stream.specs.Sink.{Drain};
 ghost use Rattle.pcap_io.specs.Written.{written_header};
 ghost use Rattle.timeline.specs.declared.timeline.Cut.{Cut};
+ghost use Rattle.shard_merge.specs.Blame.{BlamesNoRead, BlamesNoWrite, ReadsWith, WritesWith};
 ghost use Rattle.shard_merge.specs.Coming.{Shard};
 ghost use Rattle.shard_merge.specs.Left.{AreAdded, UnlessDevice};
 ghost use Rattle.shard_merge.specs.Merged.{IsRising, Piece, merged, side_by_side, texts_of_pieces};
@@ -29,8 +31,10 @@ pub fn merge_streams<R: Input, W: Output>(
     decisions: &mut W,
 ) -> Result<(), MergeFault>
     requires few { length port_sinks.old ≤ 255 }
-    ensures { (pieces : List (List Piece)) (cuts : List (List Cut)) → AreParts (length port_sinks.old) pieces cuts parts.old
+    ensures merged { (pieces : List (List Piece)) (cuts : List (List Cut)) → AreParts (length port_sinks.old) pieces cuts parts.old
         → UnlessMissing result (merged pieces) (Adds (texts_of_pieces (length port_sinks.old) (merged pieces) (side_by_side cuts)) port_sinks.old underlay_sink.old (W.written decisions.old) port_sinks.new underlay_sink.new (W.written decisions.new)) }
+    ensures reads { ReadsWith parts.old parts.new result }
+    ensures writes { WritesWith port_sinks.old underlay_sink.old (W.failures decisions.old) port_sinks.new underlay_sink.new (W.failures decisions.new) result }
 {
     if let Err(fault) = see_counts(parts, port_sinks.len()) {
         return Err(fault);
@@ -48,6 +52,8 @@ pub fn merge_streams<R: Input, W: Output>(
 fn see_counts<R: Input>(parts: &[Part<R>], count: usize) -> Result<(), MergeFault>
     ensures all { OnOk result (HaveAll count parts.now) }
     ensures other { OnErr result (HaveAll count parts.now → ⊥) }
+    ensures no_read { BlamesNoRead result }
+    ensures no_write { BlamesNoWrite result }
 {
     for (index, part) in parts.iter().enumerate() {
         if part.count() != count {
@@ -63,7 +69,9 @@ fn begin_all<W: Output>(
     underlay_sink: &mut Sink<W>,
 ) -> Result<(), MergeFault>
     requires { length port_sinks.old ≤ 255 }
-    ensures { UnlessDevice result (AreAdded (λ tap. written_header) port_sinks.old underlay_sink.old port_sinks.new underlay_sink.new) }
+    ensures begun { UnlessDevice result (AreAdded (λ tap. written_header) port_sinks.old underlay_sink.old port_sinks.new underlay_sink.new) }
+    ensures no_read { BlamesNoRead result }
+    ensures writes { (failures : ℕ) → WritesWith port_sinks.old underlay_sink.old failures port_sinks.new underlay_sink.new failures result }
 {
     for i in 0..port_sinks.len() {
         if let Err(_) = port_sinks[i].begin() {
@@ -86,7 +94,9 @@ fn put_at<R: Input, W: Output>(
 ) -> Result<(), MergeFault>
     requires there { index < length parts.old }
     requires count { (s : Shard) → length port_sinks.old ≡ length (slice_index_or parts.old index s).ports }
-    ensures { (s : Shard) → PutsAt parts.old index s parts.new port_sinks.old underlay_sink.old (W.written decisions.old) port_sinks.new underlay_sink.new (W.written decisions.new) result }
+    ensures put { (s : Shard) → PutsAt parts.old index s parts.new port_sinks.old underlay_sink.old (W.written decisions.old) port_sinks.new underlay_sink.new (W.written decisions.new) result }
+    ensures reads { ReadsWith parts.old parts.new result }
+    ensures writes { WritesWith port_sinks.old underlay_sink.old (W.failures decisions.old) port_sinks.new underlay_sink.new (W.failures decisions.new) result }
 {
     parts[index].put_event(index, port_sinks, underlay_sink, decisions)
 }
@@ -102,6 +112,8 @@ fn put_events<R: Input, W: Output>(
     ensures counts { HaveAll (length port_sinks.old) parts.new }
     ensures events { (pieces : List (List Piece)) (cuts : List (List (List ℕ))) → AllHold (length port_sinks.old) pieces cuts parts.old → AllRise pieces → IsRising 0 (merged pieces)
         → UnlessMissing result (merged pieces) (PutsAll (length port_sinks.old) (merged pieces) cuts parts.new port_sinks.old underlay_sink.old (W.written decisions.old) port_sinks.new underlay_sink.new (W.written decisions.new)) }
+    ensures reads { ReadsWith parts.old parts.new result }
+    ensures writes { WritesWith port_sinks.old underlay_sink.old (W.failures decisions.old) port_sinks.new underlay_sink.new (W.failures decisions.new) result }
 {
     let mut last = 0;
     while let Some(first) = find_first(parts) {
@@ -141,7 +153,9 @@ fn finish_all<R: Input, W: Output>(
 ) -> Result<(), MergeFault>
     requires few { count ≤ 255 }
     requires counts { HaveAll count parts.old }
-    ensures { (cuts : List (List (List ℕ))) → OnlyCuts count cuts parts.old → UnlessDevice result (Appends (W.written decisions.old) (W.written decisions.new) (concat (side_by_side cuts))) }
+    ensures cuts { (cuts : List (List (List ℕ))) → OnlyCuts count cuts parts.old → UnlessDevice result (Appends (W.written decisions.old) (W.written decisions.new) (concat (side_by_side cuts))) }
+    ensures reads { ReadsWith parts.old parts.new result }
+    ensures writes { (sinks : List Drain) (underlay_sink : Drain) → WritesWith sinks underlay_sink (W.failures decisions.old) sinks underlay_sink (W.failures decisions.new) result }
 {
     for index in 0..parts.len() {
         if let Err(fault) = parts[index].finish(index, decisions) {

@@ -2,9 +2,11 @@
 ghost use Rattle.std.specs.Prelude.{◌≡◌, ◌≤◌, ◌++◌, ℕ, List, [], ◌∷◌, IfOk, IfSome, Ok, length};
 ghost use Rattle.std.specs.Io.KnownBytes.{Appends};
 ghost use Rattle.std.specs.List.{concat};
+ghost use Rattle.pcap_stream.specs.Sink.{Drain};
 ghost use Rattle.shard_lines.specs.Facts.{facts_of};
 ghost use Rattle.shard_lines.specs.declared.facts.LineFacts.TheVariants.{Event};
 ghost use Rattle.timeline.specs.declared.source.Tap.{Tap as ATap};
+ghost use Rattle.shard_merge.specs.Blame.{BlamesNoRead, BlamesNoWrite, CapturesRead, LinesRead, PartReads, WritesWith};
 ghost use Rattle.shard_merge.specs.Coming.{ComesNext, Holds, HoldsAll, StandBehind, UnlessPart, coming_in, is_cut, is_over, stopped_by};
 ghost use Rattle.shard_merge.specs.Left.{AreAdded, AreLeft, UnlessDevice};
 ghost use Rattle.shard_merge.specs.Merged.{Piece, records_at};
@@ -70,6 +72,8 @@ struct Told {
 fn coming_of(part: usize, was_cut: bool, line: &[u8]) -> Result<Told, MergeFault>
     ensures coming { coming_told result ≡ coming_in part was_cut line.now }
     ensures placed { IfOk result (λ told. IfSome told.begins (IsPlaced line.now)) }
+    ensures no_read { BlamesNoRead result }
+    ensures no_write { BlamesNoWrite result }
 {
     if line.is_empty() {
         return Ok(Told {
@@ -138,9 +142,11 @@ fn copy_event<R: Input, W: Output>(
 ) -> Result<(), MergeFault>
     requires placed { IfSome begins (IsPlaced line.now) }
     requires count { length port_sinks.old ≡ length ports.old }
-    ensures { (number : ℕ) (records : List (ATap × List ℕ)) (rest : ATap → List ℕ) → facts_of line.now ≡ Ok (Event number (taps records)) → AreRecords (length ports.old) records
+    ensures copied { (number : ℕ) (records : List (ATap × List ℕ)) (rest : ATap → List ℕ) → facts_of line.now ≡ Ok (Event number (taps records)) → AreRecords (length ports.old) records
         → AreLeft (λ t. records_at t records ++ rest t) ports.old underlay.old
         → Moves rest (λ t. records_at t records) ports.new underlay.new port_sinks.old underlay_sink.old port_sinks.new underlay_sink.new result }
+    ensures reads { CapturesRead part ports.old underlay.old ports.new underlay.new result }
+    ensures writes { (failures : ℕ) → WritesWith port_sinks.old underlay_sink.old failures port_sinks.new underlay_sink.new failures result }
 {
     if let Some(at) = begins {
         let places = Places::behind(line, at);
@@ -157,7 +163,9 @@ fn copy_event<R: Input, W: Output>(
 
 /// Puts a line to the decisions.
 fn put_line<W: Output>(decisions: &mut W, line: &[u8]) -> Result<(), MergeFault>
-    ensures { UnlessDevice result (Appends (W.written decisions.old) (W.written decisions.new) line.now) }
+    ensures put { UnlessDevice result (Appends (W.written decisions.old) (W.written decisions.new) line.now) }
+    ensures no_read { BlamesNoRead result }
+    ensures writes { (sinks : List Drain) (underlay_sink : Drain) → WritesWith sinks underlay_sink (W.failures decisions.old) sinks underlay_sink (W.failures decisions.new) result }
 {
     match decisions.write_all(line) {
         Ok(()) => Ok(()),
@@ -218,6 +226,8 @@ impl<R: Input> Part<R> {
         ensures ports { self.new.ports ≡ self.old.ports }
         ensures underlay { self.new.underlay ≡ self.old.underlay }
         ensures next { (count : ℕ) (pieces : List Piece) (cuts : List (List ℕ)) → StandBehind count pieces cuts self.old → UnlessDevice result (ComesNext pieces cuts self.new) }
+        ensures reads { LinesRead part self.old.reader self.new.reader result }
+        ensures no_write { BlamesNoWrite result }
     {
         let was_cut = is_cut(self.coming);
         self.begins = None;
@@ -248,6 +258,8 @@ impl<R: Input> Part<R> {
         ensures copied { (number : ℕ) (records : List (ATap × List ℕ)) (rest : ATap → List ℕ) → facts_of self.old.reader.line ≡ Ok (Event number (taps records)) → AreRecords (length self.old.ports) records
             → AreLeft (λ t. records_at t records ++ rest t) self.old.ports self.old.underlay
             → Moves rest (λ t. records_at t records) self.new.ports self.new.underlay port_sinks.old underlay_sink.old port_sinks.new underlay_sink.new result }
+        ensures reads { PartReads part self.old self.new result }
+        ensures writes { (failures : ℕ) → WritesWith port_sinks.old underlay_sink.old failures port_sinks.new underlay_sink.new failures result }
     {
         copy_event(
             part,
@@ -272,6 +284,8 @@ impl<R: Input> Part<R> {
         ensures ports { length self.new.ports ≡ length self.old.ports }
         ensures event { (count : ℕ) (p : Piece) (ps : List Piece) (cuts : List (List ℕ)) → Holds count (p ∷ ps) cuts self.old
             → UnlessDevice result (Holds count ps cuts self.new × AreAdded (λ t. records_at t p.records) port_sinks.old underlay_sink.old port_sinks.new underlay_sink.new × Appends (W.written decisions.old) (W.written decisions.new) p.line) }
+        ensures reads { PartReads part self.old self.new result }
+        ensures writes { WritesWith port_sinks.old underlay_sink.old (W.failures decisions.old) port_sinks.new underlay_sink.new (W.failures decisions.new) result }
     {
         if let Err(fault) = self.copy_records(part, port_sinks, underlay_sink) {
             return Err(fault);
@@ -285,6 +299,8 @@ impl<R: Input> Part<R> {
         ensures underlay { self.new.underlay ≡ self.old.underlay }
         ensures line { (count : ℕ) (pieces : List Piece) (cuts : List (List ℕ)) → StandBehind count pieces cuts self.old
             → UnlessDevice result (ComesNext pieces cuts self.new × Appends (W.written decisions.old) (W.written decisions.new) self.old.reader.line) }
+        ensures reads { PartReads part self.old self.new result }
+        ensures writes { (sinks : List Drain) (underlay_sink : Drain) → WritesWith sinks underlay_sink (W.failures decisions.old) sinks underlay_sink (W.failures decisions.new) result }
     {
         if let Err(fault) = put_line(decisions, self.line()) {
             return Err(fault);
@@ -296,6 +312,8 @@ impl<R: Input> Part<R> {
     fn put_cuts<W: Output>(&mut self, part: usize, decisions: &mut W) -> Result<(), MergeFault>
         ensures ports { length self.new.ports ≡ length self.old.ports }
         ensures cuts { (count : ℕ) (cuts : List (List ℕ)) → Holds count [] cuts self.old → UnlessDevice result (Holds count [] [] self.new × Appends (W.written decisions.old) (W.written decisions.new) (concat cuts)) }
+        ensures reads { PartReads part self.old self.new result }
+        ensures writes { (sinks : List Drain) (underlay_sink : Drain) → WritesWith sinks underlay_sink (W.failures decisions.old) sinks underlay_sink (W.failures decisions.new) result }
     {
         for _count in 0..MOST_CUTS + 1 {
             if is_over(self.coming()) {
@@ -315,7 +333,9 @@ impl<R: Input> Part<R> {
         decisions: &mut W,
     ) -> Result<(), MergeFault>
         requires { length self.old.ports ≤ 255 }
-        ensures { (count : ℕ) (cuts : List (List ℕ)) → Holds count [] cuts self.old → UnlessDevice result (Appends (W.written decisions.old) (W.written decisions.new) (concat cuts)) }
+        ensures cuts { (count : ℕ) (cuts : List (List ℕ)) → Holds count [] cuts self.old → UnlessDevice result (Appends (W.written decisions.old) (W.written decisions.new) (concat cuts)) }
+        ensures reads { PartReads part self.old self.new result }
+        ensures writes { (sinks : List Drain) (underlay_sink : Drain) → WritesWith sinks underlay_sink (W.failures decisions.old) sinks underlay_sink (W.failures decisions.new) result }
     {
         if let Err(fault) = self.put_cuts(part, decisions) {
             return Err(fault);
@@ -326,7 +346,9 @@ impl<R: Input> Part<R> {
     /// Sees that nothing is left in the captures.
     fn end(&mut self, part: usize) -> Result<(), MergeFault>
         requires { length self.old.ports ≤ 255 }
-        ensures { (count : ℕ) → Holds count [] [] self.old → UnlessDevice result (Unit {0}) }
+        ensures ended { (count : ℕ) → Holds count [] [] self.old → UnlessDevice result (Unit {0}) }
+        ensures reads { PartReads part self.old self.new result }
+        ensures no_write { BlamesNoWrite result }
     {
         end_captures(part, self.ports.as_mut_slice(), &mut self.underlay)
     }

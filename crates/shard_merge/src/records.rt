@@ -4,6 +4,7 @@ ghost use Rattle.pcap_stream.specs.Sink.{Drain};
 ghost use Rattle.pcap_stream.specs.Source.{Stream};
 ghost use Rattle.timeline.specs.declared.source.Tap.{Tap as ATap};
 ghost use Rattle.timeline.specs.declared.source.Tap.TheVariants.{Port};
+ghost use Rattle.shard_merge.specs.Blame.{BlamesNoWrite, CapturesRead, SinkWrites, SourceReads, WritesWith};
 ghost use Rattle.shard_merge.specs.Left.{AreAdded, AreLeft, IsAdded, IsLeft, IsTap, IsWritten, UnlessDevice};
 ghost use Rattle.shard_merge.specs.Moved.{AreRecords, Moves, taps};
 ghost use Rattle.shard_merge.specs.Merged.{at_tap, records_at};
@@ -32,7 +33,9 @@ fn copy_record<R: Input, W: Output>(
     capture: &mut Capture<R>,
     sink: &mut Sink<W>,
 ) -> Result<(), MergeFault>
-    ensures { (text rest : List ℕ) → IsWritten text → IsLeft (text ++ rest) capture.old → UnlessDevice result (IsLeft rest capture.new × IsAdded text sink.old sink.new) }
+    ensures copied { (text rest : List ℕ) → IsWritten text → IsLeft (text ++ rest) capture.old → UnlessDevice result (IsLeft rest capture.new × IsAdded text sink.old sink.new) }
+    ensures reads { SourceReads part capture.old capture.new result }
+    ensures writes { SinkWrites tap sink.old sink.new result }
 {
     match capture.copy(sink) {
         Ok(()) => Ok(()),
@@ -48,9 +51,11 @@ fn copy_port<R: Input, W: Output>(
     port_sinks: &mut [Sink<W>],
 ) -> Result<(), MergeFault>
     requires { length port_sinks.old ≡ length ports.old }
-    ensures { (text : List ℕ) (rest : ATap → List ℕ) (underlay : Stream) (underlay_sink : Drain) → IsTap (length ports.old) (Port port) → IsWritten text
+    ensures copied { (text : List ℕ) (rest : ATap → List ℕ) (underlay : Stream) (underlay_sink : Drain) → IsTap (length ports.old) (Port port) → IsWritten text
         → AreLeft (λ t. at_tap t (Port port) text ++ rest t) ports.old underlay
         → Moves rest (λ t. at_tap t (Port port) text) ports.new underlay port_sinks.old underlay_sink port_sinks.new underlay_sink result }
+    ensures reads { (underlay : Stream) → CapturesRead part ports.old underlay ports.new underlay result }
+    ensures writes { (underlay_sink : Drain) (failures : ℕ) → WritesWith port_sinks.old underlay_sink failures port_sinks.new underlay_sink failures result }
 {
     let index = usize::from(port);
     if index == 0 || index > ports.len() {
@@ -74,9 +79,11 @@ fn copy_at<R: Input, W: Output>(
     underlay_sink: &mut Sink<W>,
 ) -> Result<(), MergeFault>
     requires { length port_sinks.old ≡ length ports.old }
-    ensures { (text : List ℕ) (rest : ATap → List ℕ) → IsTap (length ports.old) tap → IsWritten text
+    ensures copied { (text : List ℕ) (rest : ATap → List ℕ) → IsTap (length ports.old) tap → IsWritten text
         → AreLeft (λ t. at_tap t tap text ++ rest t) ports.old underlay.old
         → Moves rest (λ t. at_tap t tap text) ports.new underlay.new port_sinks.old underlay_sink.old port_sinks.new underlay_sink.new result }
+    ensures reads { CapturesRead part ports.old underlay.old ports.new underlay.new result }
+    ensures writes { (failures : ℕ) → WritesWith port_sinks.old underlay_sink.old failures port_sinks.new underlay_sink.new failures result }
 {
     match tap {
         Tap::Port(port) => copy_port(part, port, ports, port_sinks),
@@ -94,9 +101,11 @@ pub(crate) fn copy_all<R: Input, W: Output>(
     underlay_sink: &mut Sink<W>,
 ) -> Result<(), MergeFault>
     requires { length port_sinks.old ≡ length ports.old }
-    ensures { (records : List (ATap × List ℕ)) (rest : ATap → List ℕ) → places.entry ≡ taps records → AreRecords (length ports.old) records
+    ensures copied { (records : List (ATap × List ℕ)) (rest : ATap → List ℕ) → places.entry ≡ taps records → AreRecords (length ports.old) records
         → AreLeft (λ t. records_at t records ++ rest t) ports.old underlay.old
         → Moves rest (λ t. records_at t records) ports.new underlay.new port_sinks.old underlay_sink.old port_sinks.new underlay_sink.new result }
+    ensures reads { CapturesRead part ports.old underlay.old ports.new underlay.new result }
+    ensures writes { (failures : ℕ) → WritesWith port_sinks.old underlay_sink.old failures port_sinks.new underlay_sink.new failures result }
 {
     let mut places = places;
     while let Some(tap) = places.next_place() {
@@ -114,7 +123,9 @@ pub(crate) fn end_captures<R: Input>(
     underlay: &mut Capture<R>,
 ) -> Result<(), MergeFault>
     requires { length ports.old ≤ 255 }
-    ensures { AreLeft (λ t. []) ports.old underlay.old → UnlessDevice result (Unit {0}) }
+    ensures ended { AreLeft (λ t. []) ports.old underlay.old → UnlessDevice result (Unit {0}) }
+    ensures reads { CapturesRead part ports.old underlay.old ports.new underlay.new result }
+    ensures no_write { BlamesNoWrite result }
 {
     for i in 0..ports.len() {
         if let Err(stop) = ports[i].end() {

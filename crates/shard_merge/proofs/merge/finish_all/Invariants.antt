@@ -1,4 +1,5 @@
-use Rattle.std.proofs.Common.{◌≡◌, ◌≤◌, ℕ, List, length, slice_index_or}
+use Rattle.std.proofs.Common.{◌≡◌, ◌≤◌, ℕ, List, length, map, slice_index_or}
+use Rattle.shard_merge.specs.Blame.{part_health}
 use Rattle.shard_merge.specs.Coming.{Shard}
 use Rattle.shard_merge.specs.Whole.{OnlyCuts}
 use Rattle.shard_merge.proofs.Finishing.{CutsBefore}
@@ -10,4 +11,6 @@ invariant-loop-index g l = record {
   others : (s : Shard) (k : ℕ) → l.index ≤ k → slice_index_or l.parts k s ≡ slice_index_or l.initial.parts k s;
   same : length l.parts ≡ length l.initial.parts;
   added : (cuts : List (List (List ℕ))) → OnlyCuts l.count cuts l.initial.parts → CutsBefore cuts l.index (g.W.Output.written l.initial.decisions) (g.W.Output.written l.decisions);
+  reads : map part_health l.parts ≡ map part_health l.initial.parts;
+  writes : g.W.Output.failures l.decisions ≡ g.W.Output.failures l.initial.decisions;
 }

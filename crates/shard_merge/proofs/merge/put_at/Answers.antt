@@ -1,13 +1,14 @@
 use Rattle.std.proofs.Common.{◌∙◌, ◌∷◌, refl, sym, ap, subst, length}
 use Rattle.std.proofs.lemmas.List.{get_or_default}
 use Rattle.shard_merge.specs.Coming.{Holds, Shard}
+use Rattle.shard_merge.proofs.Blaming.{set_reads}
 use Rattle.shard_merge.proofs.merge.put_at.Goals as goal
 
 pub put_event-requires : goal.put_event-requires
 put_event-requires g c = c.requires.count c.index-parts-index.result
 
-pub returns : goal.returns
-returns g c = λ s.
+pub returns-clause-put : goal.returns-clause-put
+returns-clause-put g c = λ s.
     let same = get_or_default c.args.parts.now c.args.index s c.index-parts-index.result c.requires.there in
     record {
       behind_it = c.put_event.new.self;
@@ -15,3 +16,9 @@ returns g c = λ s.
       count = c.put_event.ensures.ports ∙ ap (λ (x : Shard). length x.ports) (sym same);
       event = λ ports p ps cuts holds. c.put_event.ensures.event ports p ps cuts (subst (Holds ports (p ∷ ps) cuts) same holds);
     }
+
+pub returns-clause-reads : goal.returns-clause-reads
+returns-clause-reads g c = set_reads c.args.parts.now c.args.index c.index-parts-index.result c.put_event.new.self c.put_event.result c.requires.there c.put_event.ensures.reads
+
+pub returns-clause-writes : goal.returns-clause-writes
+returns-clause-writes g c = c.put_event.ensures.writes

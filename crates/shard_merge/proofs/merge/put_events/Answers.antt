@@ -1,9 +1,10 @@
-use Rattle.std.proofs.Common.{◌∙◌, List, [], None, refl, sym, subst, length, slice_index_or, arith}
+use Rattle.std.proofs.Common.{◌∙◌, List, [], None, Err, refl, sym, subst, length, slice_index_or, arith}
 use Rattle.pcap_stream.specs.Source.{New, Stream}
 use Rattle.shard_merge.specs.Coming.{Shard}
 use Rattle.shard_merge.specs.Merged.{merged}
 use Rattle.shard_merge.specs.Whole.{HaveAll}
 use Rattle.shard_merge.specs.declared.part.Coming.TheVariants as coming
+use Rattle.shard_merge.proofs.Blaming.{behind_no_read, behind_no_write, no_read, no_write, reads_behind, writes_behind}
 use Rattle.shard_merge.proofs.Merging.{MergedSoFar, above_last, all_merged, counts_set, next_missing, next_piece, none_merged_yet, one_merged}
 use Rattle.shard_merge.proofs.Missing.{device_stops}
 use Rattle.shard_merge.proofs.merge.put_events.Goals as goal
@@ -21,6 +22,8 @@ loop-first-init g c = record {
   sinks = refl;
   fits = omega arith;
   events = λ pieces cuts holds rise above. none_merged_yet (length c.args.port_sinks.now) pieces cuts c.args.parts.now c.args.port_sinks.now c.args.underlay_sink.now (g.W.Output.written c.args.decisions.now) holds rise above;
+  reads = refl;
+  writes = refl;
 }
 
 pub returns-then-first-last-clause-events : goal.returns-then-first-last-clause-events
@@ -44,7 +47,7 @@ put_at-requires-clause-count g c = λ s. c.loop-first.invariant.sinks ∙ sym (c
 
 pub returns-in-Err-clause-counts : goal.returns-in-Err-clause-counts
 returns-in-Err-clause-counts g c =
-    let put = c.in-Err.ensures fresh in
+    let put = c.in-Err.ensures.put fresh in
     subst (HaveAll (length c.args.port_sinks.now)) (sym put.changed)
     (counts_set (length c.args.port_sinks.now) c.loop-first.parts c.in-Some.first.index put.behind_it c.in-Some.ensures.there c.loop-first.invariant.counts
     (put.count ∙ c.loop-first.invariant.counts fresh c.in-Some.first.index c.in-Some.ensures.there))
@@ -53,12 +56,12 @@ pub returns-in-Err-clause-events : goal.returns-in-Err-clause-events
 returns-in-Err-clause-events g c = λ pieces cuts holds rise above.
     let so_far = c.loop-first.invariant.events pieces cuts holds rise above in
     let next = next_piece (length c.args.port_sinks.now) so_far.left cuts c.loop-first.parts c.in-Some.first fresh so_far.holds so_far.rise c.in-Some.ensures in
-    let put = c.in-Err.ensures fresh in
+    let put = c.in-Err.ensures.put fresh in
     device_stops (merged pieces) _ (put.event (length c.args.port_sinks.now) next.p next.behind (slice_index_or cuts c.in-Some.first.index []) (next.holds fresh))
 
 pub loop-first-preserved : goal.loop-first-preserved
 loop-first-preserved g c =
-    let put = c.in_default-put_at.ensures fresh in
+    let put = c.in_default-put_at.ensures.put fresh in
     record {
       counts = subst (HaveAll (length c.args.port_sinks.now)) (sym put.changed)
           (counts_set (length c.args.port_sinks.now) c.loop-first.parts c.in-Some.first.index put.behind_it c.in-Some.ensures.there c.loop-first.invariant.counts
@@ -74,6 +77,8 @@ loop-first-preserved g c =
           (one_merged (length c.args.port_sinks.now) (merged pieces) cuts c.loop-first.last c.loop-first.parts c.in-Some.first put.behind_it c.args.port_sinks.now c.args.underlay_sink.now (g.W.Output.written c.args.decisions.now)
           c.loop-first.port_sinks c.loop-first.underlay_sink (g.W.Output.written c.loop-first.decisions) c.put_at.new.port_sinks c.put_at.new.underlay_sink (g.W.Output.written c.put_at.new.decisions)
           so_far next c.in-Some.ensures.there (omega (arith, above.0, c.if-first-next.false)) c.loop-first.invariant.sinks done.0 done.1 done.2);
+      reads = c.in_default-put_at.ensures.reads ∙ c.loop-first.invariant.reads;
+      writes = c.in_default-put_at.ensures.writes ∙ c.loop-first.invariant.writes;
     }
 
 pub returns-clause-events : goal.returns-clause-events
@@ -81,3 +86,29 @@ returns-clause-events g c = λ pieces cuts holds rise above.
     let so_far = c.loop-first.invariant.events pieces cuts holds rise above in
     all_merged (length c.args.port_sinks.now) (merged pieces) cuts c.loop-first.last c.loop-first.parts fresh c.args.port_sinks.now c.args.underlay_sink.now (g.W.Output.written c.args.decisions.now) c.loop-first.port_sinks c.loop-first.underlay_sink (g.W.Output.written c.loop-first.decisions)
     so_far c.in_default.ensures
+
+pub returns-then-first-last-clause-reads : goal.returns-then-first-last-clause-reads
+returns-then-first-last-clause-reads g c = no_read {T = Unit {0}} _ _ (Err c.behind.result) (rw c.behind.ensures (behind_no_read c.loop-first.last c.in-Some.first.index c.in-Some.first.number)) c.loop-first.invariant.reads
+
+pub returns-then-first-last-clause-writes : goal.returns-then-first-last-clause-writes
+returns-then-first-last-clause-writes g c = no_write {T = Unit {0}} _ _ (Err c.behind.result) (rw c.behind.ensures (behind_no_write c.loop-first.last c.in-Some.first.index c.in-Some.first.number)) c.loop-first.invariant.writes
+
+pub returns-then-first-next-clause-reads : goal.returns-then-first-next-clause-reads
+returns-then-first-next-clause-reads g c = c.loop-first.invariant.reads
+
+pub returns-then-first-next-clause-writes : goal.returns-then-first-next-clause-writes
+returns-then-first-next-clause-writes g c = c.loop-first.invariant.writes
+
+pub returns-in-Err-clause-reads : goal.returns-in-Err-clause-reads
+returns-in-Err-clause-reads g c = reads_behind {T = Unit {0}} c.args.parts.now c.loop-first.parts c.put_at.new.parts (Err c.in-Err.fault) c.loop-first.invariant.reads c.in-Err.ensures.reads
+
+pub returns-in-Err-clause-writes : goal.returns-in-Err-clause-writes
+returns-in-Err-clause-writes g c =
+    writes_behind {T = Unit {0}} c.args.port_sinks.now c.args.underlay_sink.now (g.W.Output.failures c.args.decisions.now) c.loop-first.port_sinks c.loop-first.underlay_sink (g.W.Output.failures c.loop-first.decisions)
+    c.put_at.new.port_sinks c.put_at.new.underlay_sink (g.W.Output.failures c.put_at.new.decisions) (Err c.in-Err.fault) c.loop-first.invariant.writes c.in-Err.ensures.writes
+
+pub returns-clause-reads : goal.returns-clause-reads
+returns-clause-reads g c = c.loop-first.invariant.reads
+
+pub returns-clause-writes : goal.returns-clause-writes
+returns-clause-writes g c = c.loop-first.invariant.writes

@@ -1,6 +1,8 @@
-use Rattle.std.proofs.Common.{◌≡◌, ◌++◌, refl, sym, subst, length, arith}
+use Rattle.std.proofs.Common.{◌≡◌, ◌∙◌, ◌++◌, refl, sym, ap, subst, length, arith, Err}
+use Rattle.shard_merge.specs.Blame.{Health}
 use Rattle.shard_merge.specs.Left.{IsTap}
 use Rattle.shard_merge.specs.Merged.{records_at}
+use Rattle.shard_merge.proofs.Blaming.{captures_behind, health, writes_behind}
 use Rattle.shard_merge.proofs.CopiedRecords.{all_copied, left_before, next_of, none_copied, one_copied}
 use Rattle.shard_merge.proofs.records.copy_all.Goals as goal
 
@@ -9,13 +11,15 @@ loop-tap-init g c = record {
   ports = refl;
   sinks = c.requires;
   copied = λ records rest are sound left. none_copied records rest c.args.places c.args.ports.now c.args.underlay.now c.args.port_sinks.now c.args.underlay_sink.now are sound left;
+  reads = refl;
+  writes = refl;
 }
 
-pub returns-in-Err : goal.returns-in-Err
-returns-in-Err g c = λ records rest are sound left.
+pub returns-in-Err-clause-copied : goal.returns-in-Err-clause-copied
+returns-in-Err-clause-copied g c = λ records rest are sound left.
     let so_far = c.loop-tap.invariant.copied records rest are sound left in
     let next = next_of c.in-Some.tap c.loop-tap.places c.next_place.new.self (length c.args.ports.now) so_far.others so_far.places_are c.in-Some.ensures so_far.sound in
-    c.in-Err.ensures next.text (λ t. records_at t next.behind ++ rest t) (subst (λ n. IsTap n c.in-Some.tap) (sym c.loop-tap.invariant.ports) next.there) next.written
+    c.in-Err.ensures.copied next.text (λ t. records_at t next.behind ++ rest t) (subst (λ n. IsTap n c.in-Some.tap) (sym c.loop-tap.invariant.ports) next.there) next.written
     (left_before c.in-Some.tap next.text so_far.others next.behind rest c.loop-tap.ports c.loop-tap.underlay next.is so_far.left)
 
 pub loop-tap-preserved : goal.loop-tap-preserved
@@ -25,15 +29,32 @@ loop-tap-preserved g c = record {
   copied = λ records rest are sound left.
       let so_far = c.loop-tap.invariant.copied records rest are sound left in
       let next = next_of c.in-Some.tap c.loop-tap.places c.next_place.new.self (length c.args.ports.now) so_far.others so_far.places_are c.in-Some.ensures so_far.sound in
-      let moved = c.in_default-copy_at.ensures next.text (λ t. records_at t next.behind ++ rest t) (subst (λ n. IsTap n c.in-Some.tap) (sym c.loop-tap.invariant.ports) next.there) next.written
+      let moved = c.in_default-copy_at.ensures.copied next.text (λ t. records_at t next.behind ++ rest t) (subst (λ n. IsTap n c.in-Some.tap) (sym c.loop-tap.invariant.ports) next.there) next.written
       (left_before c.in-Some.tap next.text so_far.others next.behind rest c.loop-tap.ports c.loop-tap.underlay next.is so_far.left) in
       let many : length c.loop-tap.port_sinks ≡ length c.args.port_sinks.now = omega (arith, c.loop-tap.auto.port_sinks) in
       one_copied records rest c.in-Some.tap c.loop-tap.places c.next_place.new.self (length c.args.ports.now) c.loop-tap.ports c.copy_at.new.ports c.loop-tap.underlay c.copy_at.new.underlay
       c.args.port_sinks.now c.args.underlay_sink.now c.loop-tap.port_sinks c.loop-tap.underlay_sink c.copy_at.new.port_sinks c.copy_at.new.underlay_sink so_far next many moved.0 moved.1;
+  reads = c.in_default-copy_at.ensures.reads ∙ c.loop-tap.invariant.reads;
+  writes = ap (λ (h : Health). h.captures) (c.in_default-copy_at.ensures.writes 0) ∙ c.loop-tap.invariant.writes;
 }
 
-pub returns : goal.returns
-returns g c = λ records rest are sound left.
+pub returns-clause-copied : goal.returns-clause-copied
+returns-clause-copied g c = λ records rest are sound left.
     let so_far = c.loop-tap.invariant.copied records rest are sound left in
     all_copied records rest c.loop-tap.places (length c.args.ports.now) c.loop-tap.ports c.loop-tap.underlay c.args.port_sinks.now c.args.underlay_sink.now c.loop-tap.port_sinks c.loop-tap.underlay_sink so_far
     c.in_default.ensures.0
+
+pub returns-in-Err-clause-reads : goal.returns-in-Err-clause-reads
+returns-in-Err-clause-reads g c =
+    captures_behind {T = Unit {0}} c.args.part c.args.ports.now c.args.underlay.now c.loop-tap.ports c.loop-tap.underlay c.copy_at.new.ports c.copy_at.new.underlay (Err c.in-Err.fault) c.loop-tap.invariant.reads c.in-Err.ensures.reads
+
+pub returns-in-Err-clause-writes : goal.returns-in-Err-clause-writes
+returns-in-Err-clause-writes g c = λ failures.
+    writes_behind {T = Unit {0}} c.args.port_sinks.now c.args.underlay_sink.now failures c.loop-tap.port_sinks c.loop-tap.underlay_sink failures c.copy_at.new.port_sinks c.copy_at.new.underlay_sink failures (Err c.in-Err.fault)
+    (ap (health failures) c.loop-tap.invariant.writes) (c.in-Err.ensures.writes failures)
+
+pub returns-clause-reads : goal.returns-clause-reads
+returns-clause-reads g c = c.loop-tap.invariant.reads
+
+pub returns-clause-writes : goal.returns-clause-writes
+returns-clause-writes g c = λ failures. ap (health failures) c.loop-tap.invariant.writes

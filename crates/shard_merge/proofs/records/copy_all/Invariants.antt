@@ -1,5 +1,6 @@
 use Rattle.std.proofs.Common.{◌≡◌, ◌++◌, ℕ, List, length}
 use Rattle.timeline.specs.declared.source.Tap.{Tap}
+use Rattle.shard_merge.specs.Blame.{captures_health, sinks_health}
 use Rattle.shard_merge.specs.Left.{AreLeft}
 use Rattle.shard_merge.specs.Merged.{records_at}
 use Rattle.shard_merge.specs.Moved.{AreRecords, taps}
@@ -14,6 +15,8 @@ invariant-loop-tap g l = record {
   copied : (records : List (Tap × List ℕ)) (rest : Tap → List ℕ) → l.initial.places ≡ taps records → AreRecords (length l.initial.ports) records
       → AreLeft (λ t. records_at t records ++ rest t) l.initial.ports l.initial.underlay
       → CopiedSoFar records rest l.places (length l.initial.ports) l.ports l.underlay l.initial.port_sinks l.initial.underlay_sink l.port_sinks l.underlay_sink;
+  reads : captures_health l.ports l.underlay ≡ captures_health l.initial.ports l.initial.underlay;
+  writes : sinks_health l.port_sinks l.underlay_sink ≡ sinks_health l.initial.port_sinks l.initial.underlay_sink;
 }
 
 abbrev pub decreases-loop-tap : goal.decreases-loop-tap

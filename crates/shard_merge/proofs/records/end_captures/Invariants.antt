@@ -1,5 +1,6 @@
-use Rattle.std.proofs.Common.{◌≡◌, ◌≤◌, ℕ, length, slice_index_or}
+use Rattle.std.proofs.Common.{◌≡◌, ◌≤◌, ℕ, length, map, slice_index_or}
 use Rattle.pcap_stream.specs.Source.{Stream}
+use Rattle.shard_merge.specs.Blame.{source_health}
 use Rattle.shard_merge.proofs.records.end_captures.Given as goal
 
 -- nothing is left in those that come
@@ -7,4 +8,5 @@ abbrev pub invariant-loop-i : goal.invariant-loop-i
 invariant-loop-i g l = record {
   others : (s : Stream) (k : ℕ) → l.i ≤ k → slice_index_or l.ports k s ≡ slice_index_or l.initial.ports k s;
   same : length l.ports ≡ length l.initial.ports;
+  reads : map source_health l.ports ≡ map source_health l.initial.ports;
 }

@@ -1,7 +1,10 @@
 use Rattle.std.proofs.Common.{◌∙◌, [], sym, ap, subst, Ok, Err}
-use Rattle.pcap_stream.specs.Source.{ends_cut, lent}
+use Rattle.pcap_stream.specs.Source.{Stream, ends_cut, lent}
+use Rattle.shard_merge.specs.Blame.{CopyReads}
 use Rattle.shard_merge.specs.Copied.{IsDeviceStop}
 use Rattle.shard_merge.specs.Left.{IsLeft}
+use Rattle.shard_merge.specs.declared.capture.Stop.{Stop}
+use Rattle.shard_merge.proofs.Blaming.{fill_reads, stop_reads}
 use Rattle.shard_merge.proofs.Copying.{ends, err_stop, filled, sound_nothing}
 use Rattle.shard_merge.proofs.capture.Capture.end.Goals as goal
 
@@ -23,3 +26,21 @@ returns-then-is_cut-clause-ended g c = λ left.
     let stands = ends c.fill.new.self (filled [] c.self.inside.source c.fill.new.self (Ok c.in_default.field-0) before c.in_default.ensures.filled) in
     let cut = sym c.if-is_cut.true ∙ c.is_cut.ensures ∙ ap ends_cut stands in
     absurd cc
+
+pub returns-in-Err-clause-reads : goal.returns-in-Err-clause-reads
+returns-in-Err-clause-reads g c =
+    subst (λ (s : Stream). CopyReads {T = Unit {0}} s c.fill.new.self (Err c.stop_by.result)) c.self.view_is
+    (subst (λ (e : Stop). CopyReads {T = Unit {0}} c.self.inside.source c.fill.new.self (Err e)) (sym c.stop_by.ensures)
+    (stop_reads c.self.inside.source c.fill.new.self c.in-Err.fault (fill_reads c.self.inside.source c.fill.new.self (Err c.in-Err.fault) c.in-Err.ensures.filled c.in-Err.ensures.answer)))
+
+pub returns-in-Some-clause-reads : goal.returns-in-Some-clause-reads
+returns-in-Some-clause-reads g c =
+    rw (sym c.self.view_is) (fill_reads c.self.inside.source c.fill.new.self (Ok c.in_default.field-0) c.in_default.ensures.filled c.in_default.ensures.answer)
+
+pub returns-then-is_cut-clause-reads : goal.returns-then-is_cut-clause-reads
+returns-then-is_cut-clause-reads g c =
+    rw (sym c.self.view_is) (fill_reads c.self.inside.source c.fill.new.self (Ok c.in_default.field-0) c.in_default.ensures.filled c.in_default.ensures.answer)
+
+pub returns-clause-reads : goal.returns-clause-reads
+returns-clause-reads g c =
+    rw (sym c.self.view_is) (fill_reads c.self.inside.source c.fill.new.self (Ok c.in_default.field-0) c.in_default.ensures.filled c.in_default.ensures.answer)

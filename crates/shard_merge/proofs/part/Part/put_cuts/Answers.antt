@@ -1,11 +1,18 @@
-use Rattle.std.proofs.Common.{◌≡◌, ◌∙◌, [], true, false, length, ap, sym, refl, arith}
+use Rattle.std.proofs.Common.{◌≡◌, ◌∙◌, [], true, false, length, ap, sym, refl, arith, None, Err}
+use Rattle.pcap_stream.specs.Sink.{Drain}
+use Rattle.shard_merge.specs.Blame.{Health, outputs_health}
 use Rattle.shard_merge.specs.Coming.{is_over}
+use Rattle.shard_merge.proofs.Blaming.{part_behind, writes_behind}
 use Rattle.shard_merge.proofs.Ending.{all_put, another, never_too_many, none_put, one_put}
 use Rattle.shard_merge.proofs.Lining.{over_cut, over_none}
 use Rattle.shard_merge.proofs.part.Part.put_cuts.Goals as goal
 
+-- no output
+nowhere : Drain
+nowhere = record { written = None; failures = 0; is_failed = false }
+
 pub loop-count-init : goal.loop-count-init
-loop-count-init g c = record { ports = refl; cuts = λ count cuts holds. none_put count cuts c.args.self.now (g.W.Output.written c.args.decisions.now) holds }
+loop-count-init g c = record { ports = refl; cuts = λ count cuts holds. none_put count cuts c.args.self.now (g.W.Output.written c.args.decisions.now) holds; reads = refl; writes = refl }
 
 pub returns-then-is_over-clause-cuts : goal.returns-then-is_over-clause-cuts
 returns-then-is_over-clause-cuts g c = λ count cuts holds.
@@ -30,9 +37,31 @@ loop-count-preserved g c = record {
       let next = c.in_default.ensures.line count [] more.behind more.stand in
       one_put count cuts c.loop-count._count c.loop-count.self c.put_next_line.new.self (g.W.Output.written c.args.decisions.now) (g.W.Output.written c.loop-count.decisions) (g.W.Output.written c.put_next_line.new.decisions)
       so_far more c.in_default.ensures.ports c.in_default.ensures.underlay next.0 next.1;
+  reads = c.in_default.ensures.reads ∙ c.loop-count.invariant.reads;
+  writes = ap (λ (h : Health). h.lines) (c.in_default.ensures.writes [] nowhere) ∙ c.loop-count.invariant.writes;
 }
 
 pub returns-clause-cuts : goal.returns-clause-cuts
 returns-clause-cuts g c = λ count cuts holds.
     let so_far = c.loop-count.invariant.cuts count cuts holds in
     never_too_many count cuts c.loop-count._count c.loop-count.self (g.W.Output.written c.args.decisions.now) (g.W.Output.written c.loop-count.decisions) so_far holds.few (omega (arith, c.loop-count-test.false, c.loop-count.auto._count-end))
+
+pub returns-then-is_over-clause-reads : goal.returns-then-is_over-clause-reads
+returns-then-is_over-clause-reads g c = c.loop-count.invariant.reads
+
+pub returns-then-is_over-clause-writes : goal.returns-then-is_over-clause-writes
+returns-then-is_over-clause-writes g c = λ sinks underlay_sink. ap (outputs_health sinks underlay_sink) c.loop-count.invariant.writes
+
+pub returns-in-Err-clause-reads : goal.returns-in-Err-clause-reads
+returns-in-Err-clause-reads g c = part_behind {T = Unit {0}} c.args.part c.args.self.now c.loop-count.self c.put_next_line.new.self (Err c.in-Err.fault) c.loop-count.invariant.reads c.in-Err.ensures.reads
+
+pub returns-in-Err-clause-writes : goal.returns-in-Err-clause-writes
+returns-in-Err-clause-writes g c = λ sinks underlay_sink.
+    writes_behind {T = Unit {0}} sinks underlay_sink (g.W.Output.failures c.args.decisions.now) sinks underlay_sink (g.W.Output.failures c.loop-count.decisions) sinks underlay_sink (g.W.Output.failures c.put_next_line.new.decisions) (Err c.in-Err.fault)
+    (ap (outputs_health sinks underlay_sink) c.loop-count.invariant.writes) (c.in-Err.ensures.writes sinks underlay_sink)
+
+pub returns-clause-reads : goal.returns-clause-reads
+returns-clause-reads g c = c.loop-count.invariant.reads
+
+pub returns-clause-writes : goal.returns-clause-writes
+returns-clause-writes g c = λ sinks underlay_sink. ap (outputs_health sinks underlay_sink) c.loop-count.invariant.writes

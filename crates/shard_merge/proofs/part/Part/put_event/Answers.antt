@@ -5,6 +5,7 @@ use Rattle.shard_lines.specs.Facts.{facts_of}
 use Rattle.shard_merge.specs.Coming.{ComesNext}
 use Rattle.shard_merge.specs.Merged.{capture_at}
 use Rattle.shard_merge.specs.Moved.{AreRecords}
+use Rattle.shard_merge.proofs.Blaming.{part_behind, writes_behind}
 use Rattle.shard_merge.proofs.Lining.{behind_event, holds_on, unless}
 use Rattle.shard_merge.proofs.part.Part.put_event.Goals as goal
 
@@ -28,3 +29,18 @@ returns-clause-event g c = λ count p ps cuts holds.
       subst (Appends (g.W.Output.written c.args.decisions.now) (g.W.Output.written c.put_next_line.new.decisions)) line h.1,
     ))
     (c.put_next_line.ensures.line count ps cuts stand)
+
+pub returns-in-Err-clause-reads : goal.returns-in-Err-clause-reads
+returns-in-Err-clause-reads g c = c.in-Err.ensures.reads
+
+pub returns-in-Err-clause-writes : goal.returns-in-Err-clause-writes
+returns-in-Err-clause-writes g c = c.in-Err.ensures.writes (g.W.Output.failures c.args.decisions.now)
+
+pub returns-clause-reads : goal.returns-clause-reads
+returns-clause-reads g c = part_behind c.args.part c.args.self.now c.copy_records.new.self c.put_next_line.new.self c.put_next_line.result c.in_default.ensures.reads c.put_next_line.ensures.reads
+
+pub returns-clause-writes : goal.returns-clause-writes
+returns-clause-writes g c =
+    let failures = g.W.Output.failures c.args.decisions.now in
+    writes_behind c.args.port_sinks.now c.args.underlay_sink.now failures c.copy_records.new.port_sinks c.copy_records.new.underlay_sink failures c.copy_records.new.port_sinks c.copy_records.new.underlay_sink
+    (g.W.Output.failures c.put_next_line.new.decisions) c.put_next_line.result (c.in_default.ensures.writes failures) (c.put_next_line.ensures.writes c.copy_records.new.port_sinks c.copy_records.new.underlay_sink)

@@ -24,5 +24,5 @@ pub use decision::{Decision, Outcome};
 pub use encapsulate::{Head, Leaving};
 pub use endpoint::Endpoint;
 pub use endpoint_state::{Change, ChangeFault, Target};
-pub use text::{put_addr, put_place, result_text};
+pub use text::{put_addr, put_hex, put_place, result_text};
 pub use tunnel_learning::Outlets;

@@ -1,7 +1,7 @@
 //! The texts of decisions.
 ghost use Rattle.std.specs.Prelude.{◌≡◌, ◌<◌, ◌++◌, ◌∷◌, [], map, IfOk, OnOk, string_bytes};
 ghost use Rattle.endpoint_core.specs.Decision.{octets_of, sent_of};
-ghost use Rattle.endpoint_core.specs.Text.{result_of, outcomes_text, outcome_text, place_text, kind_text, addr_text, sent_text, ip4_text, ip6_text, hex_octet};
+ghost use Rattle.endpoint_core.specs.Text.{result_of, outcomes_text, outcome_text, place_text, kind_text, addr_text, sent_text, ip4_text, ip6_text, hex_digit, hex_octet};
 ghost use Rattle.encapsulate.specs.Remote.{texts};
 
 use crate::{Decision, Outcome};
@@ -133,5 +133,27 @@ fn put_ip6(text: &mut String, octets: &[u8]) -> Result<(), AllocError>
 fn put_group(text: &mut String, a: u8, b: u8) -> Result<(), AllocError>
     ensures { OnOk result (string_bytes text.new ≡ string_bytes text.old ++ hex_octet a ++ hex_octet b) }
 {
-    write!(text, "{a:02x}{b:02x}")
+    put_hex(text, a)?;
+    put_hex(text, b)
+}
+
+/// Puts an octet in two hexadecimal digits. `AllocError`: there was no room for it.
+pub fn put_hex(text: &mut String, octet: u8) -> Result<(), AllocError>
+    ensures { OnOk result (string_bytes text.new ≡ string_bytes text.old ++ hex_octet octet) }
+{
+    text.push(hex_digit(octet / 16))?;
+    text.push(hex_digit(octet % 16))
+}
+
+/// A hexadecimal digit.
+fn hex_digit(digit: u8) -> char
+    requires { digit < 16 }
+    ensures value { result ≡ hex_digit digit }
+    ensures ascii { result < 128 }
+{
+    char::from(if digit < 10 {
+        b'0' + digit
+    } else {
+        b'a' + (digit - 10)
+    })
 }

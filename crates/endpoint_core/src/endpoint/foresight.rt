@@ -4,6 +4,7 @@ ghost use Rattle.endpoint_state.specs.Held.{settings_of, state_at, moment_of};
 ghost use Rattle.endpoint_state.specs.Settings.{segment_at};
 ghost use Rattle.endpoint_state.specs.Sound.{is_reached};
 ghost use Rattle.endpoint_core.specs.Arrival.{came_at, came_by};
+ghost use Rattle.endpoint_core.specs.Course.{decision_of, IsThere, IsShortFrame, CanLeave};
 ghost use Rattle.endpoint_core.specs.Decision.{octets_of};
 ghost use Rattle.endpoint_core.specs.Event.{frame_at, packet_at};
 ghost use Rattle.endpoint_core.specs.Step.{Decided, answer, decided, decided_in};
@@ -12,7 +13,7 @@ use crate::arrival::{Came, come_at, come_by};
 use crate::{Course, Decision, Endpoint, nothing_came};
 use endpoint_state::EndpointState;
 use frame_view::Refused;
-use tunnel_learning::Verdict;
+use tunnel_learning::{Outlets, Verdict};
 
 impl Endpoint {
     ghost use Rattle.endpoint_core.specs.Kept.{state_of};
@@ -113,33 +114,61 @@ impl Endpoint {
 }
 
 /// What would be decided of a frame or a packet that came to a segment, or to none.
-fn foreseen<'a>(state: &EndpointState, now: u64, came: Result<Came<'a>, Refused>) -> Decision<'a>
+fn foreseen<'a>(state: &EndpointState, now: u64, came: Course<'a>) -> Decision<'a>
     requires time { moment_of state.now ≤ now }
     requires there { IfOk came (λ x. IsSome (segment_at (settings_of state.now) x.vid)) }
     requires short { IfOk came (λ x. length x.frame.body ≤ 65549) }
     requires reached { IfOk came (λ x. is_reached (settings_of state.now).overlay x.vid x.from ≡ true) }
     ensures { octets_of result ≡ decided now (state_at now state.now) came.entry }
 {
+    let mut places = Outlets::new();
+    let course = course_ahead(state, now, came, &mut places);
+    Decision::of(state, &course, places.as_slice())
+}
+
+/// Where it would go, with the places in a list that is written over.
+fn course_ahead<'a>(
+    state: &EndpointState,
+    now: u64,
+    came: Course<'a>,
+    places: &mut Outlets,
+) -> Course<'a>
+    requires time { moment_of state.now ≤ now }
+    requires there { IfOk came (λ x. IsSome (segment_at (settings_of state.now) x.vid)) }
+    requires short { IfOk came (λ x. length x.frame.body ≤ 65549) }
+    requires reached { IfOk came (λ x. is_reached (settings_of state.now).overlay x.vid x.from ≡ true) }
+    ensures decision { decision_of (settings_of state.now) result places.new.items ≡ decided now (state_at now state.now) came.entry }
+    ensures there { IsThere (settings_of state.now) result }
+    ensures short { IsShortFrame result }
+    ensures leave { CanLeave (settings_of state.now) result places.new.items }
+{
     match came {
-        Ok(came) => foreseen_in(state, now, came),
-        Err(refused) => Decision::of(state, &Err(refused), &[]),
+        Ok(came) => course_in(state, now, came, places),
+        Err(refused) => Err(refused),
     }
 }
 
-/// What the bridge of its segment would decide of a frame.
-fn foreseen_in<'a>(state: &EndpointState, now: u64, came: Came<'a>) -> Decision<'a>
+/// Where the bridge of its segment would send a frame.
+fn course_in<'a>(
+    state: &EndpointState,
+    now: u64,
+    came: Came<'a>,
+    places: &mut Outlets,
+) -> Course<'a>
     requires time { moment_of state.now ≤ now }
     requires there { IsSome (segment_at (settings_of state.now) came.vid) }
     requires short { length came.frame.body ≤ 65549 }
     requires reached { is_reached (settings_of state.now).overlay came.vid came.from ≡ true }
-    ensures { octets_of result ≡ decided_in now (state_at now state.now) came.entry }
+    ensures decision { decision_of (settings_of state.now) result places.new.items ≡ decided_in now (state_at now state.now) came.entry }
+    ensures there { IsThere (settings_of state.now) result }
+    ensures short { IsShortFrame result }
+    ensures leave { CanLeave (settings_of state.now) result places.new.items }
 {
-    let verdict = state.foresee(now, came.vid, came.from, &came.frame);
-    match verdict {
-        Verdict::Outlets(places) => Decision::of(state, &Ok(came), places.as_slice()),
-        Verdict::Dropped(reason) => {
-            let refused = Refused::within(came.vid, reason);
-            Decision::of(state, &Err(refused), &[])
+    match state.foresee(now, came.vid, came.from, &came.frame) {
+        Verdict::Outlets(outlets) => {
+            *places = outlets;
+            Ok(came)
         }
+        Verdict::Dropped(reason) => Err(Refused::within(came.vid, reason)),
     }
 }

@@ -1,9 +1,8 @@
 //! Words, and the values among them.
 ghost use Rattle.std.specs.Prelude.{◌≡◌, ◌++◌, if◌then◌else◌, OnOk, codes, decimal, string_bytes};
-ghost use Rattle.endpoint_core.specs.Text.{hex_octet};
 ghost use Rattle.story_words.specs.Words.{behind_colons, mac_text, place_text, port_text, up_word, tunnel_word, group_word, destination_word, origin_word, member_word, receiver_word, sum_word, listed_word, last_text, egress_word, stood_text};
 
-use endpoint_core::put_place;
+use endpoint_core::{put_hex, put_place};
 use filter_db::{Entry, Place};
 use frame_view::Mac;
 use ip_udp_view::{SumState, Tunnel};
@@ -18,18 +17,12 @@ pub fn put_mac(text: &mut String, octets: &[u8]) -> Result<(), AllocError>
     let [first, rest @ ..] = octets else {
         return Ok(());
     };
-    put_octet(text, *first)?;
+    put_hex(text, *first)?;
     for octet in rest {
         text.push(':')?;
-        put_octet(text, *octet)?;
+        put_hex(text, *octet)?;
     }
     Ok(())
-}
-
-fn put_octet(text: &mut String, octet: u8) -> Result<(), AllocError>
-    ensures { OnOk result (string_bytes text.new ≡ string_bytes text.old ++ hex_octet octet) }
-{
-    write!(text, "{octet:02x}")
 }
 
 /// Puts a place behind a text, a remote with the kind of its tunnel. `AllocError`: there was no room for it.

@@ -324,6 +324,19 @@ for words in "run -s=s -u=u -o=o p" "explain -s=s"; do
 done
 ends 2 "error: standard input '-' can be one capture only" run -s "$folder/none" -u - -o "$folder/out" -
 ends 2 "words" check --settings $'\xff'
+# A run has to write or to tell something.
+./tep run -s s -u u p1 2>"$folder/stderr"
+[ $? -eq 2 ] || complain "a run that neither writes nor tells: another status"
+cmp -s - "$folder/stderr" <<'T' || complain "a run that neither writes nor tells: $(cat "$folder/stderr")"
+error: the following required arguments were not provided:
+  --out <DIR>
+
+Usage: tep run --settings <FILE> --underlay <FILE> --out <DIR> <FILE>...
+
+For more information, try '--help'.
+T
+ends 2 "error: standard input '-' can be one capture only" run -s s -u - --tables -
+ends 2 "error: --digests lends digests to a part of a run, and there is no --segments" run -s s -u u --digests d --summary p1
 ./tep chek -s s 2>&1 | grep -q "'check'" || complain "no suggestion for a command that is mistyped"
 ./tep check --setings s 2>&1 | grep -q "'--settings'" || complain "no suggestion for an option that is mistyped"
 ./tep nothing 2>/dev/full

@@ -3,6 +3,7 @@
 # expected was worked out by hand from the captures of examples/ and `docs/FORMATS.md`.
 set -u
 cd "$(dirname "$0")/.." || exit 1
+top=$PWD
 folder=$(mktemp -d)
 trap 'rm -rf "$folder"' EXIT
 failures=0
@@ -88,6 +89,68 @@ tells 0 "" --why c:1 <"$folder/seventh"
 cmp "$folder/out/decisions.txt" "$folder/plain/decisions.txt" || complain "what is told changed the decisions"
 cmp "$folder/out/underlay.pcap" "$folder/plain/underlay.pcap" || complain "what is told changed a capture"
 
+# first STATUS FAULT LINES WORDS..: a run on the examples with these words ends so, says this on standard error, and tells the
+# stories of the events with these decision lines, in this order
+first() {
+    local status=$1 fault=$2 lines=$3 got
+    shift 3
+    ./tep run -s examples/a.toml -c examples/changes.toml -u examples/underlay.pcap -o "$folder/out" "$@" \
+        examples/port1.pcap examples/port2.pcap examples/port3.pcap >"$folder/stdout" 2>"$folder/stderr"
+    got=$?
+    [ "$got" -eq "$status" ] || complain "tep run $*: status $got in place of $status"
+    [ "$(cat "$folder/stderr")" = "$fault" ] || complain "tep run $*: '$(cat "$folder/stderr")' in place of '$fault'"
+    [ "$(grep -v '^  ' "$folder/stdout")" = "$lines" ] || complain "tep run $* tells: $(grep -v '^  ' "$folder/stdout")"
+}
+
+# The first event of a kind: of a reason, of any, and with an address, of each place. Addresses are those of the frame at a port,
+# and of the frame in a packet; the packets' own, from 02:00:00:00:aa:02, are nobody's.
+first 0 "" "9 9000000000 u 2 - drop 12 NotIp" --why drop:12
+first 0 "" "9 9000000000 u 2 - drop 12 NotIp" --why drop:any
+first 1 "why: no event drop:30" "" --why drop:30
+first 1 "why: no event drop:39" "9 9000000000 u 2 - drop 12 NotIp" --why drop:39 --why drop:12
+first 0 "" "5 5000000000 u 1 10 p1=60 p2=60 p3=64
+6 6000000000 p1 2 10 192.0.2.2=110" --why mac:02:00:00:00:00:05
+first 0 "" "1 1000000000 p1 1 10 p2=60 p3=64 192.0.2.2=110
+2 2000000000 p3 1 20 p2=64 192.0.2.2=110
+3 3000000000 p2 1 10 p1=60
+9 9000000000 u 2 - drop 12 NotIp" --why mac:02:00:00:00:00:01 --why drop:any
+first 0 "" "1 1000000000 p1 1 10 p2=60 p3=64 192.0.2.2=110
+2 2000000000 p3 1 20 p2=64 192.0.2.2=110
+5 5000000000 u 1 10 p1=60 p2=60 p3=64
+8 8000000000 p1 3 10 p3=64 192.0.2.2=110" --why 8 --why mac:FF:ff:FF:ff:FF:ff
+first 1 "why: no event mac:02:00:00:00:aa:02" "" --why mac:02:00:00:00:aa:02
+tells 0 "" --why drop:12 <<'T'
+  length 60, at most 65549
+  captured 60 of 60
+  ether 02:00:00:00:aa:02 > ff:ff:ff:ff:ff:ff
+  neither ip4 nor ip6
+9 9000000000 u 2 - drop 12 NotIp
+T
+cmp "$folder/out/decisions.txt" "$folder/plain/decisions.txt" || complain "the first of a kind changed the decisions"
+
+# Names that no event can have, refused before anything is touched.
+for name in foo 0 01 p0:1 p17:1 p1:0 u: x:1 drop drop: drop:0 drop:41 drop:99 drop:07 drop:Any mac: mac:zz mac:02:00:00:00:00 \
+    mac:02:00:00:00:00:01: 18446744073709551616; do
+    tells 2 "error: no event can be called '$name': --why takes 7, p2:7, u:13, c:1, drop:30, drop:any or mac:02:00:00:00:00:01" \
+        --why 8 --why "$name" </dev/null
+    cmp -s "$folder/out/decisions.txt" "$folder/plain/decisions.txt" || complain "--why $name touched the outputs"
+done
+
+# Without a folder nothing is written, and the same is told.
+mkdir "$folder/none"
+# unwritten FILE WORDS..: a run on the examples without a folder prints this file
+unwritten() {
+    local expected=$1
+    shift
+    (cd "$folder/none" && "$top/tep" run -s "$top/examples/a.toml" -c "$top/examples/changes.toml" -u "$top/examples/underlay.pcap" \
+        "$@" "$top"/examples/port[123].pcap) >"$folder/stdout" 2>"$folder/stderr" || complain "tep run $* without --out: status $?"
+    cmp -s "$expected" "$folder/stdout" || complain "tep run $* without --out prints: $(cat "$folder/stdout")"
+    [ -s "$folder/stderr" ] && complain "tep run $* without --out: $(cat "$folder/stderr")"
+    [ -z "$(ls -A "$folder/none")" ] || complain "tep run $* without --out leaves $(ls -A "$folder/none")"
+}
+unwritten "$folder/eighth" --why 8
+unwritten "$folder/seventh" --why c:1
+
 # The tables behind event 4, at 4 s, and behind the last one, at 9 s: what was learned at port 2 went when it went down.
 tells 0 "" --tables-at 4999999999 <<'T'
 segment 10 02:00:00:00:00:01 p1 seen 1000000000 age 3.000000000
@@ -121,6 +184,9 @@ place u out 4 440
 T
 tells 0 "" --summary <"$folder/counts"
 tells 0 "" --summary --tables --why 8 < <(cat "$folder/eighth" "$folder/last" "$folder/counts")
+unwritten "$folder/last" --tables
+unwritten "$folder/last" --tables-at 18446744073709551615
+unwritten "$folder/counts" --summary
 cmp "$folder/out/decisions.txt" "$folder/plain/decisions.txt" || complain "counting changed the decisions"
 cmp "$folder/out/underlay.pcap" "$folder/plain/underlay.pcap" || complain "counting changed a capture"
 
@@ -142,6 +208,32 @@ awk '$3 != "c" && $1 != "cut" {
     END { for (i in n) print i, n[i] }' "$folder/each/decisions.txt" | sort >"$folder/counted"
 cmp -s "$folder/counted" "$folder/summed" || complain "tep run --summary counts otherwise: $(diff "$folder/counted" "$folder/summed")"
 [ "$(awk '$2 != "sent" { print $2 }' "$folder/summed" | sort -u | wc -l)" -eq 40 ] || complain "not all reasons are counted"
+
+# The first event of each reason, looked up in the decision lines; once more where each packet comes twice.
+# firsts NUMBER: the decision lines of the first event of each reason, or of this one
+firsts() {
+    awk -v only="$1" 'FNR == NR { number[$3] = $2; next }
+        $3 == "c" || $1 == "cut" { next }
+        {
+            is_new = 0
+            for (i = 6; i <= NF; i++) {
+                name = $6 == "drop" ? $8 : $i
+                sub(/.*!/, "", name)
+                if (name in number && (only == "any" || only == number[name]) && !(name in seen)) { seen[name] = 1; is_new = 1 }
+            }
+            if (is_new) print
+        }' FS='[| ]+' docs/REASONS.md FS=' ' "$folder/each/decisions.txt"
+}
+for copies in 1 2; do
+    [ "$copies" -eq 2 ] && tail -c +25 "$folder/in/underlay.pcap" >"$folder/again" && cat "$folder/again" >>"$folder/in/underlay.pcap"
+    for number in any {1..40}; do
+        ./tep run -s examples/every_key.toml -c examples/every_change.toml -u "$folder/in/underlay.pcap" -o "$folder/each" \
+            --why "drop:$number" "$folder"/in/port[1-4].pcap >"$folder/stdout" || complain "tep run --why drop:$number: status $?"
+        firsts "$number" >"$folder/looked_up"
+        [ -s "$folder/looked_up" ] || complain "no event is dropped for $number"
+        grep -v '^  ' "$folder/stdout" | cmp -s - "$folder/looked_up" || complain "--why drop:$number tells: $(grep -v '^  ' "$folder/stdout")"
+    done
+done
 
 # A run that stops at a fault tells what it saw: the second record of port 1 has a second in its fraction.
 {

@@ -38,6 +38,8 @@ rule_for arguments.Changes = record (option_rule (codes "changes")) { short = So
 rule_for arguments.Underlay = record (option_rule (codes "underlay")) { short = Some 117; required = true }
 rule_for arguments.SeenUnderlay = record (option_rule (codes "underlay")) { short = Some 117 }
 rule_for arguments.Out = record (option_rule (codes "out")) { short = Some 111; required = true }
+rule_for arguments.RunOut = record (option_rule (codes "out")) { short = Some 111; required = true }
+rule_for arguments.OptionalOut = record (option_rule (codes "out")) { short = Some 111 }
 rule_for arguments.Ports = record (listed_rule (codes "ports")) { required = true }
 rule_for arguments.SeenPorts = listed_rule (codes "ports")
 rule_for arguments.Tables = flag_rule (codes "tables")
@@ -65,6 +67,7 @@ with_arguments app (a ∷ more) = with_arguments (with_rule app (rule_for a)) mo
 -- the word that asks for a command
 abbrev pub name_of : Subcommand → Text
 name_of subcommands.Run = codes "run"
+name_of subcommands.TellingRun = codes "run"
 name_of subcommands.Check = codes "check"
 name_of subcommands.Explain = codes "explain"
 name_of subcommands.Migrate = codes "migrate"
@@ -74,7 +77,10 @@ name_of subcommands.Merge = codes "merge"
 -- what it takes
 abbrev pub arguments_of : Subcommand → List Argument
 arguments_of subcommands.Run =
-    arguments.Settings ∷ arguments.Changes ∷ arguments.Underlay ∷ arguments.Out ∷ arguments.Ports ∷ arguments.Tables ∷ arguments.TablesAt
+    arguments.Settings ∷ arguments.Changes ∷ arguments.Underlay ∷ arguments.RunOut ∷ arguments.Ports ∷ arguments.Tables ∷ arguments.TablesAt
+    ∷ arguments.Why ∷ arguments.Summary ∷ arguments.Segments ∷ arguments.Digests ∷ []
+arguments_of subcommands.TellingRun =
+    arguments.Settings ∷ arguments.Changes ∷ arguments.Underlay ∷ arguments.OptionalOut ∷ arguments.Ports ∷ arguments.Tables ∷ arguments.TablesAt
     ∷ arguments.Why ∷ arguments.Summary ∷ arguments.Segments ∷ arguments.Digests ∷ []
 arguments_of subcommands.Check = arguments.Settings ∷ arguments.Changes ∷ arguments.SeenUnderlay ∷ arguments.SeenPorts ∷ []
 arguments_of subcommands.Explain = arguments.Settings ∷ arguments.Depth ∷ arguments.Values ∷ arguments.Capture ∷ []
@@ -102,3 +108,7 @@ abbrev pub tep_app : App
 tep_app =
     with_commands versioned_app
     (subcommands.Run ∷ subcommands.Check ∷ subcommands.Explain ∷ subcommands.Migrate ∷ subcommands.Digest ∷ subcommands.Merge ∷ [])
+
+-- the program with the run alone that may leave its folder out
+abbrev pub telling_app : App
+telling_app = with_commands versioned_app (subcommands.TellingRun ∷ [])

@@ -1,25 +1,28 @@
 -- What a command line means: the program's own words, after clap's definition of simple commands. It states no standard.
-use Rattle.std.specs.Prelude.{◌≡◌, ◌≤◌, ℕ, ◌&&◌, not, is_some, nat_le, ◌^◌, ◌-◌, Bool, List, Option, Some, None, IsSomeAnd, codes, count_by, option_and_then, option_map, unwrap_or, if◌then◌else◌, ⊤, true, false, [], ◌∷◌}
+use Rattle.std.specs.Prelude.{◌≡◌, ◌⊎◌, ◌≤◌, ℕ, ◌&&◌, ◌||◌, not, is_some, nat_le, ◌^◌, ◌-◌, Bool, List, Option, Some, None, IsSome, IsSomeAnd, codes, count_by, option_and_then, option_map, unwrap_or, if◌then◌else◌, ⊤, true, false, [], ◌∷◌}
 use Rattle.std.specs.Str.{bytes_eq}
 use Rattle.std.specs.Str.Parse.{digits_value, without_leading_plus}
 use Rattle.clap.specs.ValueTests.{is_unsigned_in}
 use Rattle.clap.specs.Walk.{texts}
-use Rattle.clap.specs.Words.{IsAmong, Row, Text, all_of, fault_of, first_of, kind_of, one_of, subcommand_of, takes}
-use Rattle.command_line.specs.App.{tep_app}
+use Rattle.clap.specs.Kinds.{Kinds}
+use Rattle.clap.specs.declared.error.Error.{Error}
+use Rattle.clap.specs.declared.error.ErrorKind.TheVariants.{OutOfMemory}
+use Rattle.clap.specs.Words.{App, IsAmong, Row, Text, all_of, fault_of, first_of, kind_of, one_of, subcommand_of, takes}
+use Rattle.command_line.specs.App.{telling_app, tep_app}
 use Rattle.command_line.specs.Capture.{file_of}
 use Rattle.command_line.specs.declared.line.Line.{Line}
 use Rattle.command_line.specs.declared.line.Line.TheVariants as line
 use Rattle.command_line.specs.declared.line.LineFault.{LineFault}
 use Rattle.command_line.specs.declared.line.LineFault.TheVariants as fault
 
--- a command with its values: of `run` the settings, the changes, the underlay, the folder, the ports, whether the tables are
+-- a command with its values: of `run` the settings, the changes, the underlay, the folder if there is one, the ports, whether the tables are
 -- told, the moment at which they are, the events that are told in full, whether the counts are told, the segments that a
 -- part takes, and the file of the digests that are lent to it; of `check` the settings, the changes, the underlay and the ports;
 -- of `explain` the settings, the depth, whether values are told, and the capture; of `migrate` the settings; of `digest` the
 -- underlay and the ports; of `merge` the folder, those of the parts, whether the tables are told, and whether the counts are
 pub data Meaning : Type 0 where
   sample : Meaning
-  run : Text → Option Text → Text → Text → List Text → Bool → Option ℕ → List Text → Bool → Option Text → Option Text → Meaning
+  run : Text → Option Text → Text → Option Text → List Text → Bool → Option ℕ → List Text → Bool → Option Text → Option Text → Meaning
   check : Text → Option Text → Option Text → List Text → Meaning
   explain : Text → ℕ → Bool → Text → Meaning
   migrate : Text → Meaning
@@ -30,7 +33,7 @@ pub data Meaning : Type 0 where
 abbrev pub meaning_of : Line → Meaning
 meaning_of line.Sample = sample
 meaning_of (line.Run settings changes underlay out ports tables tables_at why summary segments digests) =
-    run settings.now (option_map (λ t. t.now) changes) underlay.now out.now (texts ports.items) tables tables_at (texts why.items) summary (option_map (λ t. t.now) segments) (option_map (λ t. t.now) digests)
+    run settings.now (option_map (λ t. t.now) changes) underlay.now (option_map (λ t. t.now) out) (texts ports.items) tables tables_at (texts why.items) summary (option_map (λ t. t.now) segments) (option_map (λ t. t.now) digests)
 meaning_of (line.Check settings changes underlay ports) =
     check settings.now (option_map (λ t. t.now) changes) (option_map (λ t. t.now) underlay) (texts ports.items)
 meaning_of (line.Explain settings depth values capture) = explain settings.now depth values capture.now
@@ -97,9 +100,9 @@ why_in rows = unwrap_or (all_of (codes "why") rows) []
 
 -- what `run` is asked to do
 abbrev pub run_meant : List Row → Option Meaning
-run_meant rows = option_and_then (λ s. option_and_then (λ u. option_and_then (λ o.
-    option_map (λ ps. run s (changes_in rows) u o ps (is_set (codes "tables") rows) (moment_in rows) (why_in rows) (is_set (codes "summary") rows) (first_of (codes "segments") rows) (first_of (codes "digests") rows)) (all_of (codes "ports") rows))
-    (first_of (codes "out") rows)) (first_of (codes "underlay") rows)) (settings_in rows)
+run_meant rows = option_and_then (λ s. option_and_then (λ u.
+    option_map (λ ps. run s (changes_in rows) u (first_of (codes "out") rows) ps (is_set (codes "tables") rows) (moment_in rows) (why_in rows) (is_set (codes "summary") rows) (first_of (codes "segments") rows) (first_of (codes "digests") rows)) (all_of (codes "ports") rows))
+    (first_of (codes "underlay") rows)) (settings_in rows)
 
 -- what `check` is asked to do
 abbrev pub check_meant : List Row → Option Meaning
@@ -137,9 +140,42 @@ abbrev pub line_meant : Option (Text × List Row) → Option Meaning
 line_meant None = Some sample
 line_meant (Some p) = command_meant p.0 p.1
 
--- what the words mean to `clap`'s definition of simple commands
+-- ---- what words mean to `clap`'s definition of simple commands
+
+-- no fault is among these
+abbrev pub are_none : Kinds → Bool
+are_none [] = true
+are_none (k ∷ ks) = false
+
+-- the words are taken
+abbrev pub fit : App → List Text → Bool
+fit app words = are_none (fault_of app words)
+
+-- a list has something
+abbrev pub has_any : List Text → Bool
+has_any [] = false
+has_any (t ∷ ts) = true
+
+-- something is told of a run besides its outputs
+abbrev pub is_telling : Meaning → Bool
+is_telling (run settings changes underlay out ports tables tables_at why summary segments digests) = tables || (is_some tables_at || (has_any why || summary))
+is_telling _ = false
+
+-- the same, where it is so
+abbrev pub telling : Meaning → Option Meaning
+telling meaning = if is_telling meaning then Some meaning else None
+
+-- what words mean that ask for a run of which something is told, and may leave its folder out
+abbrev pub telling_meant : List Text → Option Meaning
+telling_meant words = if fit telling_app words then option_and_then telling (line_meant (subcommand_of telling_app words)) else None
+
+-- what the words mean: that of the program, and where it doesn't take them, that of such a run
 abbrev pub words_meant : List Text → Option Meaning
-words_meant words = line_meant (subcommand_of tep_app words)
+words_meant words = if fit tep_app words then line_meant (subcommand_of tep_app words) else telling_meant words
+
+-- the words are taken
+abbrev pub AreTaken : List Text → Type 0
+AreTaken words = (fault_of tep_app words ≡ []) ⊎ IsSome (telling_meant words)
 
 -- ---- standard input
 
@@ -175,15 +211,28 @@ LendsToParts meaning = lends_to_a_whole meaning ≡ false
 
 -- ---- when each fault is answered
 
--- Refused where that definition doesn't take the words, NoValue where it takes them and its matches lack a required
--- value, InputTwice where it takes them and they ask for standard input more than once, NoSegments where it takes them and they
--- lend digests to a run that is no part
+-- the program refuses the words with this error, which may be that of memory
+abbrev pub RefusesAsWhole : List Text → Error → Type 0
+RefusesAsWhole words e = (kind_of e ≡ OutOfMemory) ⊎ ((takes tep_app words ≡ false) × IsAmong (kind_of e) (fault_of tep_app words))
+
+-- Refused where that definition takes the words neither as the program's nor as those of a run of which something is told, and
+-- then as the program's are; NoValue where it takes them as the program's and its matches lack a required value; InputTwice where
+-- it takes them and they ask for standard input more than once, NoSegments where it takes them and they lend digests to a run
+-- that is no part
 abbrev pub Explains : List Text → LineFault → Type 0
 Explains words fault.OutOfMemory = ⊤
-Explains words (fault.Refused e) = (takes tep_app words ≡ false) × IsAmong (kind_of e) (fault_of tep_app words)
+Explains words (fault.Refused e) = (takes tep_app words ≡ false) × IsAmong (kind_of e) (fault_of tep_app words) × (telling_meant words ≡ None)
 Explains words fault.NoValue = (fault_of tep_app words ≡ []) × (words_meant words ≡ None)
-Explains words fault.InputTwice = (fault_of tep_app words ≡ []) × IsSomeAnd (words_meant words) (λ meaning. 2 ≤ input_uses meaning)
-Explains words fault.NoSegments = (fault_of tep_app words ≡ []) × IsSomeAnd (words_meant words) (λ meaning. lends_to_a_whole meaning ≡ true)
+Explains words fault.InputTwice = AreTaken words × IsSomeAnd (words_meant words) (λ meaning. 2 ≤ input_uses meaning)
+Explains words fault.NoSegments = AreTaken words × IsSomeAnd (words_meant words) (λ meaning. lends_to_a_whole meaning ≡ true)
+
+-- the same of what is read before it's known what the words ask for
+abbrev pub ExplainsWords : List Text → LineFault → Type 0
+ExplainsWords words fault.OutOfMemory = ⊤
+ExplainsWords words (fault.Refused e) = Explains words (fault.Refused e)
+ExplainsWords words fault.NoValue = Explains words fault.NoValue
+ExplainsWords words fault.InputTwice = ⊥
+ExplainsWords words fault.NoSegments = ⊥
 
 -- the same of the part behind the parse, which refuses nothing
 abbrev pub LacksValue : Option Meaning → LineFault → Type 0

@@ -2,6 +2,7 @@
 ghost use Rattle.std.specs.Prelude.{◌≡◌, false};
 ghost use Rattle.clap.specs.Words.{rule_of};
 ghost use Rattle.command_line.specs.App.{flag_rule, listed_rule, option_rule, placed_rule, rule_for};
+ghost use Rattle.command_line.specs.declared.arguments.Argument.TheVariants.{OptionalOut};
 
 use clap::builder::ValueParser;
 use clap::{Arg, ArgAction, value_parser};
@@ -25,6 +26,10 @@ pub enum Argument {
     SeenUnderlay,
     /// The folder for what comes out.
     Out,
+    /// The folder for what comes out of a run.
+    RunOut,
+    /// The same, where it may be left out.
+    OptionalOut,
     /// The captures of the ports: one or more.
     Ports,
     /// The captures of the ports, where they are looked at and may be left out.
@@ -91,6 +96,8 @@ impl Argument {
             )
             .short('o')
             .required(true),
+            Argument::RunOut => run_out(alloc).required(true),
+            Argument::OptionalOut => run_out(alloc),
             Argument::Ports => listed(
                 alloc,
                 "ports",
@@ -120,7 +127,7 @@ impl Argument {
                 alloc,
                 "why",
                 "EVENT",
-                "Prints why an event came out as it did: its number, or p2:7, u:13 or c:1; may be given again",
+                "Prints why an event came out as it did: 7, p2:7, u:13, c:1, drop:30, drop:any, mac:M; repeatable",
             )
             .action(ArgAction::Append),
             Argument::Summary => flag(
@@ -166,6 +173,20 @@ impl Argument {
             .required(true),
         }
     }
+}
+
+/// The folder for what comes out of a run.
+fn run_out<'a>(alloc: Global) -> Arg<'a>
+    ensures rule { rule_of result ≡ rule_for OptionalOut }
+    ensures local { result.global ≡ false }
+{
+    option(
+        alloc,
+        "out",
+        DIR,
+        "The folder that outputs are written into, which must exist; not needed where something is printed",
+    )
+    .short('o')
 }
 
 /// An argument by its place: a text that isn't empty, which help calls by a word.

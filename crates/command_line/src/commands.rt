@@ -2,7 +2,7 @@
 ghost use Rattle.std.specs.Prelude.{◌≡◌, IfOk, false};
 ghost use Rattle.clap.specs.Words.{app_of, shape_of};
 ghost use Rattle.clap.specs.declared.builder.Command.TheViews.{out-Command as fields_of};
-ghost use Rattle.command_line.specs.App.{arguments_of, name_of, shape_for, tep_app, versioned_app, with_arguments, with_commands};
+ghost use Rattle.command_line.specs.App.{arguments_of, name_of, shape_for, tep_app, telling_app, versioned_app, with_arguments, with_commands};
 
 use crate::arguments::Argument;
 use clap::Command;
@@ -18,7 +18,7 @@ const EXAMPLE: &str =
 
 /// What stands below the help of `run`.
 const RUN_EXAMPLE: &str =
-    "Captures are pcap or pcapng. FILE#INTERFACE takes one interface of a pcapng capture, by number or name.\n\nExamples:\n  tep run -s settings.toml -c changes.toml -u underlay.pcap -o out port1.pcap port2.pcap\n  tep run -s settings.toml -u underlay.pcap -o out --why 7 --why p2:1 --tables port1.pcap port2.pcap\n  tep run -s settings.toml -u all.pcapng#eth0 -o out all.pcapng#eth1 all.pcapng#eth2\n  tep run -s settings.toml -u underlay.pcap -o part1 --segments 1-10,none port1.pcap port2.pcap\n  cat out/decisions.txt";
+    "Captures are pcap or pcapng. FILE#INTERFACE takes one interface of a pcapng capture, by number or name.\n\nExamples:\n  tep run -s settings.toml -c changes.toml -u underlay.pcap -o out port1.pcap port2.pcap\n  tep run -s settings.toml -u underlay.pcap -o out --why 7 --why p2:1 --tables port1.pcap port2.pcap\n  tep run -s settings.toml -u underlay.pcap --why drop:any port1.pcap port2.pcap\n  tep run -s settings.toml -u all.pcapng#eth0 -o out all.pcapng#eth1 all.pcapng#eth2\n  tep run -s settings.toml -u underlay.pcap -o part1 --segments 1-10,none port1.pcap port2.pcap\n  cat out/decisions.txt";
 
 /// What stands below the help of `check`.
 const CHECK_EXAMPLE: &str =
@@ -44,6 +44,8 @@ const MERGE_EXAMPLE: &str =
 pub enum Subcommand {
     /// Runs the endpoint over captures.
     Run,
+    /// The same, where the folder for what comes out may be left out.
+    TellingRun,
     /// Looks at the texts, and at captures.
     Check,
     /// Takes the packets of a capture apart.
@@ -71,7 +73,22 @@ const RUN: [Argument; 11] = [
     Argument::Settings,
     Argument::Changes,
     Argument::Underlay,
-    Argument::Out,
+    Argument::RunOut,
+    Argument::Ports,
+    Argument::Tables,
+    Argument::TablesAt,
+    Argument::Why,
+    Argument::Summary,
+    Argument::Segments,
+    Argument::Digests,
+];
+
+/// What `run` takes where its folder may be left out.
+const TELLING_RUN: [Argument; 11] = [
+    Argument::Settings,
+    Argument::Changes,
+    Argument::Underlay,
+    Argument::OptionalOut,
     Argument::Ports,
     Argument::Tables,
     Argument::TablesAt,
@@ -111,7 +128,7 @@ impl Subcommand {
         ensures { result.now ≡ name_of self }
     {
         match self {
-            Subcommand::Run => "run",
+            Subcommand::Run | Subcommand::TellingRun => "run",
             Subcommand::Check => "check",
             Subcommand::Explain => "explain",
             Subcommand::Migrate => "migrate",
@@ -123,7 +140,9 @@ impl Subcommand {
     /// Its line of help, and what stands below its help.
     fn help<'a>(self) -> (&'a str, &'a str) {
         match self {
-            Subcommand::Run => ("Runs the endpoint over captures", RUN_EXAMPLE),
+            Subcommand::Run | Subcommand::TellingRun => {
+                ("Runs the endpoint over captures", RUN_EXAMPLE)
+            }
             Subcommand::Check => (
                 "Checks a settings text, a changes text and captures",
                 CHECK_EXAMPLE,
@@ -147,6 +166,7 @@ impl Subcommand {
     {
         match self {
             Subcommand::Run => &RUN,
+            Subcommand::TellingRun => &TELLING_RUN,
             Subcommand::Check => &CHECK,
             Subcommand::Explain => &EXPLAIN,
             Subcommand::Migrate => &[Argument::Settings],
@@ -215,4 +235,11 @@ pub(crate) fn tep<'a>(alloc: Global) -> Result<Command<'a>, AllocError>
     ensures { IfOk result (λ c. app_of c ≡ tep_app) }
 {
     with_commands(alloc, program(alloc), &SUBCOMMANDS)
+}
+
+/// The program with the run alone that may leave its folder out.
+pub(crate) fn telling<'a>(alloc: Global) -> Result<Command<'a>, AllocError>
+    ensures { IfOk result (λ c. app_of c ≡ telling_app) }
+{
+    with_commands(alloc, program(alloc), &[Subcommand::TellingRun])
 }

@@ -9,6 +9,7 @@ mod capture;
 mod commands;
 mod line;
 mod matches;
+mod words;
 
 pub use capture::{CaptureName, STANDARD_INPUT, capture_name};
 pub use line::{Line, LineFault, line_of};

@@ -1,14 +1,10 @@
 //! The lines that the program takes.
-ghost use Rattle.std.specs.Prelude.{◌≡◌, ◌≤◌, IfOk, IfErr, OnOk, Some, [], length};
+ghost use Rattle.std.specs.Prelude.{◌≡◌, ◌≤◌, IfOk, IfErr, OnOk, Some, length};
 ghost use Rattle.clap.specs.Walk.{texts};
-ghost use Rattle.clap.specs.Words.{fault_of};
-ghost use Rattle.command_line.specs.App.{tep_app};
-ghost use Rattle.command_line.specs.Meaning.{Explains, HasDepth, LendsToParts, ReadsInputOnce, input_uses, inputs_among, lends_to_a_whole, meaning_of, words_meant};
+ghost use Rattle.command_line.specs.Meaning.{AreTaken, Explains, HasDepth, LendsToParts, ReadsInputOnce, input_uses, inputs_among, lends_to_a_whole, meaning_of, words_meant};
 
 use crate::capture::{STANDARD_INPUT, capture_name};
-use crate::commands;
-use crate::matches::line_from;
-use clap::error::ErrorKind;
+use crate::words::line_in;
 use std::alloc::Global;
 use thiserror::Error;
 
@@ -26,8 +22,8 @@ pub enum Line<'a> {
         changes: Option<&'a str>,
         /// The capture of the underlay.
         underlay: &'a str,
-        /// The folder that outputs are written into.
-        out: &'a str,
+        /// The folder that outputs are written into. Where there is none, something is told of the run.
+        out: Option<&'a str>,
         /// The captures of port 1, port 2 and so on: one at least.
         ports: Vec<&'a str>,
         /// Whether the tables are told as they are behind the last event.
@@ -116,32 +112,20 @@ pub fn line_of<'a>(alloc: Global, words: &'a [&'a str]) -> Result<Line<'a>, Line
     ensures depth { IfOk result HasDepth }
     ensures once { IfOk result (λ line. ReadsInputOnce (meaning_of line)) }
     ensures lends { IfOk result (λ line. LendsToParts (meaning_of line)) }
-    ensures taken { OnOk result (fault_of tep_app (texts words.entry.now) ≡ []) }
+    ensures taken { OnOk result (AreTaken (texts words.entry.now)) }
     ensures fault { IfErr result (Explains (texts words.entry.now)) }
 {
-    let Ok(command) = commands::tep(alloc) else {
-        return Err(LineFault::OutOfMemory);
+    let line = match line_in(alloc, words) {
+        Ok(line) => line,
+        Err(fault) => return Err(fault),
     };
-    let error = match command.try_get_matches_from(words) {
-        Ok(matches) => {
-            let line = match line_from(alloc, &matches) {
-                Ok(line) => line,
-                Err(fault) => return Err(fault),
-            };
-            if input_uses(&line) > 1 {
-                return Err(LineFault::InputTwice);
-            }
-            if lends_to_a_whole(&line) {
-                return Err(LineFault::NoSegments);
-            }
-            return Ok(line);
-        }
-        Err(error) => error,
-    };
-    match error.kind() {
-        ErrorKind::OutOfMemory => Err(LineFault::OutOfMemory),
-        _ => Err(LineFault::Refused(error)),
+    if input_uses(&line) > 1 {
+        return Err(LineFault::InputTwice);
     }
+    if lends_to_a_whole(&line) {
+        return Err(LineFault::NoSegments);
+    }
+    Ok(line)
 }
 
 /// How many captures of a line are standard input.

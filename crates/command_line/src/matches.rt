@@ -95,7 +95,7 @@ fn run_from<'a>(alloc: Global, inner: &ArgMatches<'a>) -> Result<Line<'a>, LineF
     let settings = text(inner, "settings").ok_or(LineFault::NoValue)?;
     let changes = text(inner, "changes");
     let underlay = text(inner, "underlay").ok_or(LineFault::NoValue)?;
-    let out = text(inner, "out").ok_or(LineFault::NoValue)?;
+    let out = text(inner, "out");
     let given = values(inner, "ports").ok_or(LineFault::NoValue)?;
     let ports = listed(alloc, given)?;
     let asked = values(inner, "why").unwrap_or(&[]);

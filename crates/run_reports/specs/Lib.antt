@@ -1,4 +1,6 @@
 pub mod Name
 pub mod Reading
+pub mod Sought
+pub mod Names
 pub mod Report
 pub mod Onlooker

@@ -1,5 +1,5 @@
 -- What a run tells besides its outputs, to whom asks. It states no standard.
-use Rattle.std.specs.Prelude.{◌≡◌, ◌⊎◌, ℕ, ◌||◌, Bool, true, false, List, [], ◌++◌, length, map, replicate, nat_lt, Option, Some, None, if◌then◌else◌}
+use Rattle.std.specs.Prelude.{◌≡◌, ◌⊎◌, ℕ, nat_eq, ◌&&◌, ◌||◌, Bool, true, false, List, [], ◌++◌, length, map, replicate, nat_lt, slice_index_or, Option, Some, None, if◌then◌else◌}
 use Rattle.std.specs.List.{list_any, zip}
 use Rattle.segment_set.specs.Segments.{Segments}
 use Rattle.endpoint_core.specs.Step.{Answer, State}
@@ -9,6 +9,9 @@ use Rattle.table_lines.specs.Lines.{tables_text}
 use Rattle.overlay_settings.specs.declared.change.TimedChange.{TimedChange}
 use Rattle.event_story.specs.Story.{run_story}
 use Rattle.run_reports.specs.Name.{is_named}
+use Rattle.run_reports.specs.Sought.{address_met, addresses_sought, foreseen, is_first, passing_of, reason_met, reasons_sought}
+use Rattle.run_reports.specs.declared.sought.SoughtAddress.{SoughtAddress}
+use Rattle.run_reports.specs.declared.sought.SoughtReason.{SoughtReason}
 
 -- what is asked for, and what was told so far
 pub record Telling : Type 0 where
@@ -25,22 +28,25 @@ pub record Telling : Type 0 where
   pub text : List ℕ
   -- the tables at the end
   pub last : List ℕ
-  -- for each of the names whether an event had it
+  -- for each of the names whether an event had it as its number
   pub found : List Bool
+  -- the reasons and the addresses of which the first event is asked for
+  pub reasons : List SoughtReason
+  pub addresses : List SoughtAddress
   -- whether memory was refused, so that the text has gaps
   pub is_lost : Bool
 
 -- nothing is told yet
 abbrev pub asked : List (List ℕ) → List TimedChange → Segments → Option ℕ → Bool → Telling
-asked names changes segments due tables = record { names = names; changes = changes; segments = segments; due = due; tables = tables; text = []; last = []; found = replicate (length names) false; is_lost = false }
+asked names changes segments due tables = record { names = names; changes = changes; segments = segments; due = due; tables = tables; text = []; last = []; found = replicate (length names) false; reasons = reasons_sought 0 names; addresses = addresses_sought 0 names; is_lost = false }
 
 -- ---- an event
 
--- whether one asks for it
+-- whether one asks for it by its number
 abbrev pub is_asked : ℕ → Event → List (List ℕ) → Bool
 is_asked number e names = list_any (λ name. is_named name number e) names
 
--- for each of the names whether an event had it, with one event more
+-- for each of the names whether an event had it as its number, with one event more
 abbrev pub found_behind : ℕ → Event → List (List ℕ) → List Bool → List Bool
 found_behind number e names found = map (λ p. is_named p.0 number e || p.1) (zip names found)
 
@@ -61,14 +67,20 @@ tables_told r s moment = record r {
 }
 
 -- why an event comes out as it does, where one asks
-abbrev pub story_of : List TimedChange → List (List ℕ) → Due → List ℕ
-story_of changes names s = if is_asked s.number s.event names then run_story changes s.state s.number s.event else []
+abbrev pub story_if : Bool → List TimedChange → Due → List ℕ
+story_if asked changes s = if asked then run_story changes s.state s.number s.event else []
+
+-- one asks for an event by its number, or it is the first of something that one asks for
+abbrev pub is_told : Telling → Due → Bool
+is_told r s = is_asked s.number s.event r.names || is_first r.reasons r.addresses s.state s.event
 
 -- with the story of an event
 abbrev pub story_told : Telling → Due → Telling
 story_told r s = record r {
-  text = r.text ++ story_of r.changes r.names s;
+  text = r.text ++ story_if (is_told r s) r.changes s;
   found = found_behind s.number s.event r.names r.found;
+  reasons = map (reason_met (foreseen s.state s.event)) r.reasons;
+  addresses = map (address_met (passing_of s.state s.event.happening)) r.addresses;
 }
 
 -- behind an event that the run answers
@@ -102,6 +114,14 @@ end_told r s = record r { last = r.last ++ (if r.tables then tables_text r.segme
 -- behind the end
 abbrev pub ended_by : Telling → State → Telling
 ended_by r s = end_told (due_told r s) s
+
+-- ---- the names
+
+-- whether an event had a name, or was the first of what it asks for
+abbrev pub is_found : ℕ → Telling → Bool
+is_found place r =
+    slice_index_or r.found place false
+    || (list_any (λ k. k.is_met && nat_eq k.place place) r.reasons || list_any (λ k. k.is_met && nat_eq k.place place) r.addresses)
 
 -- ---- memory
 

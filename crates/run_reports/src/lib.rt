@@ -7,8 +7,12 @@
 
 mod asked;
 mod onlooker;
+mod passing;
 mod reading;
 mod reports;
+mod sought;
+mod wanted;
 
 pub use onlooker::Onlooker;
+pub use reading::is_event_name;
 pub use reports::Reports;

@@ -1,7 +1,9 @@
 //! The names of events, read from their texts.
 ghost use Rattle.std.specs.Prelude.{◌≡◌};
+ghost use Rattle.run_reports.specs.Names.{can_come_from, can_name, is_any, is_event_name};
 ghost use Rattle.run_reports.specs.Reading.{name_in, source_in, port_in, in_source, in_run, same_source};
 
+use crate::wanted::{Reasons, address_in, reasons_in};
 use line_words::number_of;
 use timeline::{Source, Tap};
 
@@ -19,6 +21,44 @@ pub fn name_in(text: &[u8]) -> Option<Name>
     match text.iter().position(|c| *c == b':') {
         Some(at) => in_source(source_in(&text[..at]), number_of(&text[at + 1..])),
         None => in_run(number_of(text)),
+    }
+}
+
+/// Whether a text can be the name of an event: `7`, `p2:7`, `u:13`, `c:1`, numbers and ports from 1 and 16 ports at most; or
+/// asks for the first of a kind: `drop:30`, `drop:any`, `mac:02:00:00:00:00:03`.
+pub fn is_event_name(text: &str) -> bool
+    ensures { result ≡ is_event_name text.now }
+{
+    can_name(name_in(text.as_bytes())) || is_any(reasons_in(text)) || address_in(text).is_some()
+}
+
+/// Whether an event can have a name.
+fn can_name(name: Option<Name>) -> bool
+    ensures { result ≡ can_name name }
+{
+    match name {
+        Some(name) => 1 <= name.number && can_come_from(name.source),
+        None => false,
+    }
+}
+
+/// Whether there is such a source in a run, or none is named.
+fn can_come_from(source: Option<Source>) -> bool
+    ensures { result ≡ can_come_from source }
+{
+    match source {
+        Some(Source::Tap(Tap::Port(port))) => 1 <= port && port <= 16,
+        _ => true,
+    }
+}
+
+/// Whether a reason is asked for.
+fn is_any(reasons: Reasons) -> bool
+    ensures { result ≡ is_any reasons }
+{
+    match reasons {
+        Reasons::No => false,
+        _ => true,
     }
 }
 

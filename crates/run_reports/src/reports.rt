@@ -4,9 +4,10 @@ ghost use Rattle.endpoint_core.specs.Kept.{state_of};
 ghost use Rattle.stream_run.specs.Sights.{due};
 ghost use Rattle.event_story.specs.Story.{run_story};
 ghost use Rattle.table_lines.specs.Lines.{tables_text};
-ghost use Rattle.run_reports.specs.Report.{asked, due_told, ended_by, is_before, seen_by, story_told, tables_told};
+ghost use Rattle.run_reports.specs.Report.{asked, due_told, ended_by, is_before, is_found, seen_by, story_told, tables_told};
 
 use crate::asked::AskedNames;
+use crate::sought::Sought;
 use endpoint_core::{ChangeFault, Course, Endpoint};
 use event_story::story_in_run;
 use filter_db::Place;
@@ -28,8 +29,9 @@ pub struct Reports<'n, 'a> {
     changes: &'n [TimedChange],
     /// Whose tables are told.
     segments: &'n SegmentSet,
-    /// For each of the names whether an event had it.
+    /// For each of the names whether an event had it as its number.
     found: Vec<bool>,
+    sought: Sought,
     due: Option<u64>,
     tables: bool,
     text: Vec<u8>,
@@ -44,15 +46,15 @@ impl<'n, 'a> Model for Reports<'n, 'a> {
 
     ghost Value = { Telling };
 
-    ghost view = { λ r. record { names = r.names; changes = r.changes.now; segments = r.segments.now; due = r.due; tables = r.tables; text = r.text.items; last = r.last.items; found = r.found.items; is_lost = r.is_lost } };
+    ghost view = { λ r. record { names = r.names; changes = r.changes.now; segments = r.segments.now; due = r.due; tables = r.tables; text = r.text.items; last = r.last.items; found = r.found.items; reasons = r.sought.reasons.items; addresses = r.sought.addresses.items; is_lost = r.is_lost } };
 
     ghost invariant = { λ r. length r.found.items ≡ length r.names };
 }
 
 impl<'n, 'a> Reports<'n, 'a> {
-    /// Asks for why the events of these names came out as they did, in a run with these changes, and for the tables of these
-    /// segments: as they are behind the last event up to a moment, in nanoseconds, and at the end. `AllocError`: memory was
-    /// refused.
+    /// Asks for why the events of these names came out as they did, or the first of the kinds that they name, in a run with
+    /// these changes, and for the tables of these segments: as they are behind the last event up to a moment, in nanoseconds,
+    /// and at the end. `AllocError`: memory was refused.
     pub fn new(
         alloc: Global,
         names: &'n [&'a str],
@@ -70,6 +72,7 @@ impl<'n, 'a> Reports<'n, 'a> {
             changes,
             segments,
             found,
+            sought: Sought::read(alloc, names)?,
             due: tables_at,
             tables,
             text: Vec::new(alloc),
@@ -78,7 +81,18 @@ impl<'n, 'a> Reports<'n, 'a> {
         })
     }
 
-    /// For each of the names, in their order, whether an event had it.
+    /// Whether an event had the name at this place, or was the first of what it asks for.
+    pub fn is_found(&self, place: usize) -> bool
+        ensures { result ≡ is_found place self.now }
+    {
+        let is_numbered = match self.found.get(place) {
+            Some(is_found) => *is_found,
+            None => false,
+        };
+        is_numbered || self.sought.is_met(place)
+    }
+
+    /// For each of the names, in their order, whether an event had it as its number.
     pub fn found(&self) -> &[bool]
         ensures { result.now ≡ self.now.found }
     {
@@ -159,7 +173,9 @@ impl<'n, 'a> Reports<'n, 'a> {
     ) -> Result<(), AllocError>
         ensures { OnOk result (self.new ≡ story_told self.old (due (state_of endpoint.now) number event.now)) }
     {
-        if self.names.mark(self.found.as_mut_slice(), number, event) {
+        let is_named = self.names.mark(self.found.as_mut_slice(), number, event);
+        let is_first = self.sought.meet(endpoint, event);
+        if is_named || is_first {
             put_story(
                 self.alloc,
                 &mut self.text,

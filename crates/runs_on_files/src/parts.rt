@@ -93,7 +93,15 @@ pub fn run_part_with<'a, R: Files + Input + AllocGlobal, T: Watch>(
         ports,
         underlay,
         shard,
-    } = match run_on_files_with(rt, names, texts, told, folder, Scope::Part(segments), watch) {
+    } = match run_on_files_with(
+        rt,
+        names,
+        texts,
+        told,
+        Some(folder),
+        Scope::Part(segments),
+        watch,
+    ) {
         Ok(done) => done,
         Err(failure) => return Err(failure),
     };
@@ -107,11 +115,7 @@ pub fn run_part_with<'a, R: Files + Input + AllocGlobal, T: Watch>(
     };
     let made = record_of_part(names, texts, list, &digests, events);
     let record = text_of(rt.alloc(), &made)?;
-    let cut = if segments.has(None) {
-        cut
-    } else {
-        Vec::new(rt.alloc())
-    };
+    let cut = cut_told(rt.alloc(), cut, segments);
     Ok(Ran { cut, shard, record })
 }
 
@@ -121,6 +125,34 @@ fn events_written<R: Files + AllocGlobal>(rt: &R, folder: &str) -> Result<u64, F
         Ok(events) => Ok(events),
         Err(Failure::Run(fault)) => Err(Failure::Run(fault)),
         Err(_) => Err(Failure::Write(OutputFile::Decisions)),
+    }
+}
+
+/// Runs the segments of a list, or all, on captures as [`run_part_with`] does and as a whole run does, and writes nothing: what
+/// looks on sees the same run. Captures are read once, and no digests of them.
+pub fn run_unwritten_with<'a, R: Files + Input + AllocGlobal, T: Watch>(
+    rt: &R,
+    names: Names<'_, 'a>,
+    texts: &Texts,
+    told: Option<&[TimedChange]>,
+    segments: &SegmentSet,
+    watch: &mut T,
+) -> Result<Ran<R::File>, Failure<'a>>
+    requires told { IfSome told (λ t. changes_in texts.now.changes.items ≡ Ok t.now) }
+    requires rising { IfSome told (λ t. EachBehind IsRising [] t.now) }
+{
+    match run_on_files_with(rt, names, texts, told, None, Scope::Part(segments), watch) {
+        Ok(done) => Ok(Ran::whole(rt.alloc(), cut_told(rt.alloc(), done.cut, segments))),
+        Err(failure) => Err(failure),
+    }
+}
+
+/// The cut captures that these segments tell: those of the whole run, where they have what comes to no segment.
+fn cut_told(alloc: Global, cut: Vec<Tap>, segments: &SegmentSet) -> Vec<Tap> {
+    if segments.has(None) {
+        cut
+    } else {
+        Vec::new(alloc)
     }
 }
 

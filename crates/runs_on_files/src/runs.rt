@@ -6,6 +6,7 @@ ghost use Rattle.overlay_settings.specs.Rules.{EachBehind};
 ghost use Rattle.stream_run.specs.Begun.{IsUnread};
 
 use crate::headers::see_headers;
+use crate::unwritten::run_unwritten;
 use capture_run::{RunFault, of_changes, of_settings};
 use dissector::{failure_of_run, tap_of};
 use overlay_config::{Settings, TimedChange, changes_of, settings_of};
@@ -104,17 +105,18 @@ pub fn run_on_files<'a, R: Files + Input + AllocGlobal, T: Watch>(
     scope: Scope<'_>,
     watch: &mut T,
 ) -> Result<Done<R::File>, Failure<'a>> {
-    run_on_files_with(rt, names, texts, None, folder, scope, watch)
+    run_on_files_with(rt, names, texts, None, Some(folder), scope, watch)
 }
 
 /// Runs on files as [`run_on_files`] does, where the text of the changes may have been read before: `told` are then the changes
-/// that it means, as [`Texts::changes_read`] answers them, and it isn't read again.
+/// that it means, as [`Texts::changes_read`] answers them, and it isn't read again. Where no folder is named nothing is made or
+/// written: what looks on sees the same run.
 pub fn run_on_files_with<'a, R: Files + Input + AllocGlobal, T: Watch>(
     rt: &R,
     names: Names<'_, 'a>,
     texts: &Texts,
     told: Option<&[TimedChange]>,
-    folder: &str,
+    folder: Option<&str>,
     scope: Scope<'_>,
     watch: &mut T,
 ) -> Result<Done<R::File>, Failure<'a>>
@@ -140,7 +142,7 @@ fn run_on_opened<'a, R: Files + Input + AllocGlobal, T: Watch>(
     names: Names<'_, 'a>,
     texts: &Texts,
     told: Option<&[TimedChange]>,
-    folder: &str,
+    folder: Option<&str>,
     scope: Scope<'_>,
     ports: Vec<Capture<'a, R::File, R::Reader>>,
     underlay: Capture<'a, R::File, R::Reader>,
@@ -181,7 +183,7 @@ fn run_on_captures<'a, R: Files + Input + AllocGlobal, T: Watch>(
     names: Names<'_, 'a>,
     texts: &Texts,
     told: Option<&[TimedChange]>,
-    folder: &str,
+    folder: Option<&str>,
     scope: Scope<'_>,
     ports: &mut [Capture<'a, R::File, R::Reader>],
     underlay: &mut Capture<'a, R::File, R::Reader>,
@@ -225,7 +227,7 @@ fn run_on_read<'a, R: Files + Input + AllocGlobal, T: Watch>(
     texts: &Texts,
     settings: Settings,
     told: &[TimedChange],
-    folder: &str,
+    folder: Option<&str>,
     scope: Scope<'_>,
     ports: &mut [Capture<'a, R::File, R::Reader>],
     underlay: &mut Capture<'a, R::File, R::Reader>,
@@ -244,6 +246,22 @@ fn run_on_read<'a, R: Files + Input + AllocGlobal, T: Watch>(
     let (is_part, segments) = match scope {
         Scope::Whole => (false, &all),
         Scope::Part(segments) => (true, segments),
+    };
+    let Some(folder) = folder else {
+        let run = run_unwritten(
+            rt.alloc(),
+            texts,
+            settings,
+            told,
+            ports,
+            underlay,
+            segments,
+            watch,
+        );
+        return match run {
+            Ok(()) => Ok(None),
+            Err(fault) => Err(failure_of(names, fault, ports, underlay)),
+        };
     };
     let mut outputs = prepare_outputs(rt, names, folder, is_part, ports.len())?;
     let run = run_read(

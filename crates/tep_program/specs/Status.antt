@@ -1,19 +1,36 @@
 -- The program's exit statuses. It states no standard.
-use Rattle.std.specs.Prelude.{◌≡◌, ◌≢◌, ◌≤◌, ◌⊎◌, true, ℕ, List, None, IsSomeAnd, []}
+use Rattle.std.specs.Prelude.{◌≡◌, ◌≢◌, ◌≤◌, ◌⊎◌, true, not, find, is_some, ℕ, List, Option, None, IsSomeAnd, []}
 use Rattle.clap.specs.Words.{IsAmong, Text, fault_of}
 use Rattle.clap.specs.declared.error.kind.ErrorKind.TheVariants.{DisplayHelp, DisplayVersion}
 use Rattle.command_line.specs.App.{tep_app}
-use Rattle.command_line.specs.Meaning.{LendsToParts, ReadsInputOnce, input_uses, lends_to_a_whole, words_meant}
+use Rattle.command_line.specs.Meaning.{AreTaken as AreTakenByClap, LendsToParts, Meaning, ReadsInputOnce, input_uses, lends_to_a_whole, run, telling_meant, words_meant}
+use Rattle.run_reports.specs.Names.{is_event_name}
 
--- words that `clap` doesn't take, among them those that ask for help, that lack a value, that ask for standard input more than
--- once, or that lend digests to a run that is no part
+-- the first of these names that can be no event's
+abbrev pub first_no_event : List Text → Option Text
+first_no_event names = find (λ name. not (is_event_name name)) names
+
+-- that of the names whose stories are asked for
+abbrev pub no_event_in : Meaning → Option Text
+no_event_in (run settings changes underlay out ports tables tables_at why summary segments digests) = first_no_event why
+no_event_in _ = None
+
+-- each name can be an event's
+abbrev pub NamesEvents : Meaning → Type 0
+NamesEvents meaning = no_event_in meaning ≡ None
+
+-- words that `clap` doesn't take, also not as a run of which something is told, among them those that ask for help, that lack a
+-- value, that ask for standard input more than once, that lend digests to a run that is no part, or that name an event as none
+-- can be named
 abbrev pub AreRefused : List Text → Type 0
-AreRefused words = (fault_of tep_app words ≢ []) ⊎ (words_meant words ≡ None) ⊎ IsSomeAnd (words_meant words) (λ meaning. 2 ≤ input_uses meaning)
+AreRefused words = ((fault_of tep_app words ≢ []) × (telling_meant words ≡ None)) ⊎ (words_meant words ≡ None)
+    ⊎ IsSomeAnd (words_meant words) (λ meaning. 2 ≤ input_uses meaning)
     ⊎ IsSomeAnd (words_meant words) (λ meaning. lends_to_a_whole meaning ≡ true)
+    ⊎ IsSomeAnd (words_meant words) (λ meaning. is_some (no_event_in meaning) ≡ true)
 
--- words that are taken, ask for standard input once at most, and lend digests to parts alone
+-- words that are taken, ask for standard input once at most, lend digests to parts alone, and name events as they can be named
 abbrev pub AreTaken : List Text → Type 0
-AreTaken words = (fault_of tep_app words ≡ []) × IsSomeAnd (words_meant words) (λ meaning. ReadsInputOnce meaning × LendsToParts meaning)
+AreTaken words = AreTakenByClap words × IsSomeAnd (words_meant words) (λ meaning. ReadsInputOnce meaning × LendsToParts meaning × NamesEvents meaning)
 
 -- words that ask for help or for the version, which `clap` tells as a fault
 abbrev pub AskForText : List Text → Type 0
@@ -27,3 +44,7 @@ IsStatusOf words status =
     ⊎ (status ≡ 3)
     ⊎ ((status ≡ 1) × AreTaken words)
     ⊎ ((status ≡ 2) × AreRefused words)
+
+-- that of words that are taken
+abbrev pub IsDoneStatus : ℕ → Type 0
+IsDoneStatus status = (status ≡ 0) ⊎ (status ≡ 1) ⊎ (status ≡ 3)

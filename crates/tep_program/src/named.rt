@@ -33,10 +33,11 @@ fn capture_among<'a>(underlay: Option<&'a str>, ports: &[&'a str], tap: Tap) -> 
     }
 }
 
-/// The folder that a line writes into.
+/// The folder that a line writes into, where it writes.
 pub fn folder_of<'a>(line: &Line<'a>) -> Option<&'a str> {
     match line {
-        Line::Run { out, .. } | Line::Merge { out, .. } => Some(*out),
+        Line::Run { out, .. } => *out,
+        Line::Merge { out, .. } => Some(*out),
         _ => None,
     }
 }

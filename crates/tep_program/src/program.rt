@@ -1,11 +1,11 @@
 //! What the program does with its words.
-ghost use Rattle.std.specs.Prelude.{◌≡◌, ◌≤◌, [], Ok, IfSome};
+ghost use Rattle.std.specs.Prelude.{◌≡◌, ◌≤◌, [], Ok, IfSome, option_map};
 ghost use Rattle.clap.specs.Walk.{texts};
-ghost use Rattle.command_line.specs.Meaning.{HasDepth};
+ghost use Rattle.command_line.specs.Meaning.{HasDepth, meaning_of};
 ghost use Rattle.overlay_config.specs.Change.{IsRising, changes_in};
 ghost use Rattle.overlay_settings.specs.Rules.{EachBehind};
 ghost use Rattle.program_faults.specs.Status.{failure_status_of};
-ghost use Rattle.tep_program.specs.Status.{IsStatusOf};
+ghost use Rattle.tep_program.specs.Status.{IsDoneStatus, IsStatusOf, first_no_event, no_event_in};
 
 use crate::causes::tell_causes;
 use crate::checks::check;
@@ -18,8 +18,10 @@ use overlay_config::{TimedChange, migrate};
 use program_faults::{Failure, OutputFile, is_lost};
 use program_files::{Names, leave_text, print_text, read_file, read_underlay};
 use run_counts::RunCounts;
-use run_reports::{Onlooker, Reports};
-use runs_on_files::{Ran, Scope, Texts, print_digests, run_on_files_with, run_part_with};
+use run_reports::{Onlooker, Reports, is_event_name};
+use runs_on_files::{
+    Ran, Scope, Texts, print_digests, run_on_files_with, run_part_with, run_unwritten_with,
+};
 use segment_set::SegmentSet;
 use std::alloc::{AllocError, Global};
 use std::env;
@@ -61,16 +63,9 @@ pub fn run<'a, R: Files + Input + AllocGlobal + Print + Eprint>(rt: &R, words: &
     ensures { IsStatusOf (texts words.entry.now) result }
 {
     match line_of(rt.alloc(), words) {
-        Ok(line) => match perform(rt, &line) {
-            Ok(()) => {
-                tell_notes(rt, &line);
-                0
-            }
-            Err(failure) => {
-                let status = stopped(rt, &failure);
-                tell_causes(rt, &line, &failure);
-                status
-            }
+        Ok(line) => match no_event_name(&line) {
+            Some(name) => no_event(rt, name),
+            None => performed(rt, &line),
         },
         Err(LineFault::OutOfMemory) => stopped(rt, &Failure::Run(RunFault::OutOfMemory)),
         Err(LineFault::NoValue) => words_refused(rt, &LineFault::NoValue),
@@ -85,6 +80,56 @@ pub fn run<'a, R: Files + Input + AllocGlobal + Print + Eprint>(rt: &R, words: &
                 Refusal::DisplayHelp | Refusal::DisplayVersion => 0,
                 _ => WORDS_REFUSED,
             }
+        }
+    }
+}
+
+/// The first name that a line asks for and that no event can have.
+fn no_event_name<'a>(line: &Line<'a>) -> Option<&'a str>
+    ensures { option_map (λ name. name.now) result ≡ no_event_in (meaning_of line.now) }
+{
+    match line {
+        Line::Run { why, .. } => first_no_event(why.as_slice()),
+        _ => None,
+    }
+}
+
+/// The first of these names that no event can have.
+fn first_no_event<'a>(names: &[&'a str]) -> Option<&'a str>
+    ensures { option_map (λ name. name.now) result ≡ first_no_event (texts names.now) }
+{
+    for name in names {
+        if !is_event_name(*name) {
+            return Some(*name);
+        }
+    }
+    None
+}
+
+/// Says that no event can have a name.
+fn no_event(rt: &impl Eprint, name: &str) -> u8
+    ensures { result ≡ 2 }
+{
+    let _ = eprintln!(rt;
+        "error: no event can be called '{name}': --why takes 7, p2:7, u:13, c:1, drop:30, drop:any or mac:02:00:00:00:00:01"
+    );
+    WORDS_REFUSED
+}
+
+/// The exit status of what a line asks for, which is done.
+fn performed<'a, R: Files + Input + AllocGlobal + Print + Eprint>(rt: &R, line: &Line<'a>) -> u8
+    requires { HasDepth line.now }
+    ensures { IsDoneStatus result }
+{
+    match perform(rt, line) {
+        Ok(()) => {
+            tell_notes(rt, line);
+            0
+        }
+        Err(failure) => {
+            let status = stopped(rt, &failure);
+            tell_causes(rt, line, &failure);
+            status
         }
     }
 }
@@ -219,7 +264,7 @@ impl Asked<'_, '_> {
 fn run_and_tell<'a, R: Files + Input + AllocGlobal + Print + Eprint>(
     rt: &R,
     names: Names<'_, 'a>,
-    folder: &str,
+    folder: Option<&str>,
     asked: Asked<'_, 'a>,
 ) -> Result<(), Failure<'a>> {
     let texts = Texts::read(rt, names)?;
@@ -259,7 +304,7 @@ fn run_and_tell<'a, R: Files + Input + AllocGlobal + Print + Eprint>(
     let Onlooker { reports, counts } = onlooker;
     match run {
         Ok(ran) => {
-            let found = tell_missing(rt, asked.why, reports.found());
+            let found = tell_missing(rt, asked.why, &reports);
             tell_all(rt, folder, asked, reports, counts, ran).and(found)
         }
         Err(failure) => {
@@ -293,13 +338,14 @@ fn onlooker_of<'n, 'a>(
     Ok(Onlooker { reports, counts })
 }
 
-/// Runs on captures, all segments, or those of a list as a part. `told` are the changes, where their text was read before.
+/// Runs on captures, all segments, or those of a list as a part, and writes nothing where no folder is named. `told` are the
+/// changes, where their text was read before.
 fn run_asked<'a, R: Files + Input + AllocGlobal, T: Watch>(
     rt: &R,
     names: Names<'_, 'a>,
     texts: &Texts,
     told: Option<&[TimedChange]>,
-    folder: &str,
+    folder: Option<&str>,
     asked: Asked<'_, 'a>,
     segments: &SegmentSet,
     watch: &mut T,
@@ -307,12 +353,17 @@ fn run_asked<'a, R: Files + Input + AllocGlobal, T: Watch>(
     requires told { IfSome told (λ t. changes_in texts.now.changes.items ≡ Ok t.now) }
     requires rising { IfSome told (λ t. EachBehind IsRising [] t.now) }
 {
-    match asked.segments {
-        Some(list) => run_part_with(rt, names, texts, told, folder, list, segments, watch),
-        None => match run_on_files_with(rt, names, texts, told, folder, Scope::Whole, watch) {
-            Ok(done) => Ok(Ran::whole(rt.alloc(), done.cut)),
-            Err(failure) => Err(failure),
-        },
+    match (folder, asked.segments) {
+        (None, _) => run_unwritten_with(rt, names, texts, told, segments, watch),
+        (Some(folder), Some(list)) => {
+            run_part_with(rt, names, texts, told, folder, list, segments, watch)
+        }
+        (Some(_), None) => {
+            match run_on_files_with(rt, names, texts, told, folder, Scope::Whole, watch) {
+                Ok(done) => Ok(Ran::whole(rt.alloc(), done.cut)),
+                Err(failure) => Err(failure),
+            }
+        }
     }
 }
 
@@ -320,11 +371,11 @@ fn run_asked<'a, R: Files + Input + AllocGlobal, T: Watch>(
 fn tell_missing<'a>(
     rt: &impl Eprint,
     names: &[&'a str],
-    found: &[bool],
+    reports: &Reports<'_, '_>,
 ) -> Result<(), Failure<'a>> {
     let mut missing = Ok(());
-    for (name, is_found) in names.iter().zip(found) {
-        if !*is_found {
+    for (place, name) in names.iter().enumerate() {
+        if !reports.is_found(place) {
             if let Err(failure) = &missing {
                 let _ = eprintln!(rt; "{failure}");
             }
@@ -338,7 +389,7 @@ fn tell_missing<'a>(
 /// it was made from.
 fn tell_all<R: Files + AllocGlobal + Print>(
     rt: &R,
-    folder: &str,
+    folder: Option<&str>,
     asked: Asked<'_, '_>,
     reports: Reports<'_, '_>,
     counts: Option<RunCounts>,
@@ -357,17 +408,17 @@ fn tell_all<R: Files + AllocGlobal + Print>(
         .and(print_text(rt, summary.as_slice()))
 }
 
-/// Writes the tables and the counts of a part into its folder, as far as they are asked for.
+/// Writes the tables and the counts of a part into its folder, where it has one, as far as they are asked for.
 fn leave_texts<R: Files + AllocGlobal>(
     rt: &R,
-    folder: &str,
+    folder: Option<&str>,
     asked: Asked<'_, '_>,
     tables: &[u8],
     summary: &[u8],
 ) -> Result<(), Failure<'static>> {
-    if asked.segments.is_none() {
+    let (Some(folder), Some(_)) = (folder, asked.segments) else {
         return Ok(());
-    }
+    };
     if asked.tables {
         leave_text(rt, folder, OutputFile::Tables, tables)?;
     }

@@ -12,7 +12,7 @@ fn told<'a>(alloc: Global, words: &'a [&'a str]) -> Result<String, Fail> {
 }
 
 /// Words, and the line that they ask for.
-const LINES: [(&[&str], &str); 12] = [
+const LINES: [(&[&str], &str); 13] = [
     (&["tep"], "Sample"),
     (
         &[
@@ -26,7 +26,11 @@ const LINES: [(&[&str], &str); 12] = [
             "p1",
             "p2",
         ],
-        "Run { settings: \"s\", changes: None, underlay: \"u\", out: \"d\", ports: [\"p1\", \"p2\"], tables: false, tables_at: None, why: [], summary: false, segments: None, digests: None }",
+        "Run { settings: \"s\", changes: None, underlay: \"u\", out: Some(\"d\"), ports: [\"p1\", \"p2\"], tables: false, tables_at: None, why: [], summary: false, segments: None, digests: None }",
+    ),
+    (
+        &["tep", "run", "-s=s", "-u=u", "--summary", "p1"],
+        "Run { settings: \"s\", changes: None, underlay: \"u\", out: None, ports: [\"p1\"], tables: false, tables_at: None, why: [], summary: true, segments: None, digests: None }",
     ),
     (
         &["tep", "check", "--changes", "c", "--settings", "s"],
@@ -70,7 +74,7 @@ const LINES: [(&[&str], &str); 12] = [
             "--segments=1-9,none",
             "--digests=d",
         ],
-        "Run { settings: \"s\", changes: Some(\"c\"), underlay: \"u\", out: \"d\", ports: [\"-\", \"p2\"], tables: true, tables_at: Some(7), why: [\"2\", \"u:1\"], summary: true, segments: Some(\"1-9,none\"), digests: Some(\"d\") }",
+        "Run { settings: \"s\", changes: Some(\"c\"), underlay: \"u\", out: Some(\"d\"), ports: [\"-\", \"p2\"], tables: true, tables_at: Some(7), why: [\"2\", \"u:1\"], summary: true, segments: Some(\"1-9,none\"), digests: Some(\"d\") }",
     ),
     (
         &["tep", "check", "-s", "-", "-c", "-", "-u", "u", "p1", "-"],
@@ -121,9 +125,13 @@ fn kind<'a>(alloc: Global, words: &'a [&'a str]) -> Option<ErrorKind> {
 }
 
 /// Words, and why they are refused.
-const OTHER_WORDS: [(&[&str], ErrorKind); 14] = [
+const OTHER_WORDS: [(&[&str], ErrorKind); 15] = [
     (&["tep", "nothing"], ErrorKind::InvalidSubcommand),
     (&["tep", "run"], ErrorKind::MissingRequiredArgument),
+    (
+        &["tep", "run", "-s=s", "-u=u", "p1"],
+        ErrorKind::MissingRequiredArgument,
+    ),
     (
         &["tep", "explain", "--depth=5", "--settings=s", "c"],
         ErrorKind::ValueValidation,

@@ -13,6 +13,7 @@ mod flood;
 mod known;
 mod line;
 mod local;
+mod outcomes;
 mod outlets;
 mod packet;
 mod phrase;

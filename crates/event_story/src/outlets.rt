@@ -3,13 +3,12 @@ ghost use Rattle.std.specs.Prelude.{◌≡◌, ◌≤◌, ◌++◌, OnOk, map};
 ghost use Rattle.std.specs.Option.{option_map};
 ghost use Rattle.underlay.specs.Overlay.{tunnel_at};
 ghost use Rattle.endpoint_state.specs.Held.{settings_of};
-ghost use Rattle.endpoint_core.specs.Decision.{sent_of};
+ghost use Rattle.endpoint_core.specs.Step.{sent_at};
 ghost use Rattle.event_story.specs.Outlets.{headers, port_fact, tunnel_fact, outlet_fact, outlet_facts};
 
 use crate::fact::Fact;
 use crate::refusal::put;
 use encapsulate::unsent;
-use endpoint_core::Outcome;
 use endpoint_state::EndpointState;
 use filter_db::Place;
 use frame_view::{BridgeFrame, Vid};
@@ -26,13 +25,14 @@ pub(crate) fn put_outlet_facts(
     state: &EndpointState,
     vid: Vid,
     frame: &BridgeFrame,
-    outcomes: &[Outcome],
+    places: &[Place],
 ) -> Result<(), AllocError>
-    ensures { OnOk result (facts.new.items
-        ≡ facts.old.items ++ outlet_facts (settings_of state.now) vid frame.now (map sent_of outcomes.now)) }
+    ensures { let S = settings_of state.now in
+        OnOk result (facts.new.items
+        ≡ facts.old.items ++ outlet_facts S vid frame.now (map (sent_at S vid frame.now) places.now)) }
 {
-    for outcome in outcomes {
-        put(facts, outlet_fact(state, vid, frame, outcome.place))?;
+    for place in places {
+        put(facts, outlet_fact(state, vid, frame, *place))?;
     }
     Ok(())
 }

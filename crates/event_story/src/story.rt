@@ -1,28 +1,38 @@
 //! The story of an event.
-ghost use Rattle.std.specs.Prelude.{◌≡◌, ◌≤◌, ◌++◌, length, IfOk, OnOk, IsSome};
-ghost use Rattle.endpoint_state.specs.Held.{settings_of, state_at, moment_of};
+ghost use Rattle.std.specs.Prelude.{◌≡◌, ◌≤◌, ◌++◌, length, Err, IfOk, IsSome, IsTrue, Ok, true};
+ghost use Rattle.std.specs.List.{list_all};
 ghost use Rattle.endpoint_state.specs.Settings.{segment_at};
+ghost use Rattle.endpoint_state.specs.Sound.{is_reached};
 ghost use Rattle.endpoint_state.specs.State.{aged};
-ghost use Rattle.endpoint_core.specs.Decision.{octets_of};
+ghost use Rattle.endpoint_state.specs.Step.{can_leave};
+ghost use Rattle.endpoint_core.specs.Decision.{refused_as};
 ghost use Rattle.endpoint_core.specs.Event.{frame_at, packet_at};
 ghost use Rattle.endpoint_core.specs.Kept.{state_of};
-ghost use Rattle.endpoint_core.specs.Step.{Decided, answer};
+ghost use Rattle.endpoint_core.specs.Step.{Decided, answer, by_verdict, decided, decided_in};
 ghost use Rattle.event_story.specs.Story.{came_facts, frame_facts, arrival_facts, told, is_there, can_come, story, run_story};
 
 use crate::bridge::put_bridge_facts;
 use crate::fact::Fact;
 use crate::line::put_facts;
 use crate::local::put_local_facts;
+use crate::outcomes::{put_drop, put_outcomes};
 use crate::outlets::put_outlet_facts;
 use crate::packet::put_packet_facts;
 use change_story::story_of_change;
-use endpoint_core::{Came, Decision, Endpoint, result_text};
-use endpoint_state::EndpointState;
-use frame_view::Refused;
+use endpoint_core::{Came, Course, Endpoint};
+use filter_db::Place;
+use frame_view::{Reason, Refused};
 use overlay_settings::TimedChange;
 use std::alloc::{AllocError, Global};
 use story_words::put_line_front;
 use timeline::{Event, Happening, Tap};
+use tunnel_learning::Verdict;
+
+/// The room for facts that a story begins with. More is asked for where there are more.
+const FACTS: usize = 24;
+
+/// The same for the octets of its text.
+const OCTETS: usize = 1024;
 
 /// The story of an event of this number, in the state in which it comes to an endpoint: what each test saw, a line each,
 /// in the order of the tests up to the one that refuses, what the bridge knows of both addresses, and last the decision
@@ -106,11 +116,10 @@ fn frame_story(
         IfOk result (λ text. text.items ≡ told number event.now (frame_facts t s.bridges (aged t s.bridges) port original octets.now) (answer s (frame_at t port original octets.now))) }
 {
     let came = endpoint.frame_from(port, original, octets);
-    let decision = endpoint.foresee_frame(event.moment, port, original, octets);
     let ports = endpoint.state().ports();
-    let mut facts = Vec::new(alloc);
+    let mut facts = Vec::with_capacity(alloc, FACTS)?;
     put_local_facts(&mut facts, ports, port, original, octets, &came)?;
-    let text = came_story(alloc, endpoint, number, event, facts, &came, &decision)?;
+    let text = came_story(alloc, endpoint, number, event, facts, &came)?;
     Ok(text)
 }
 
@@ -128,77 +137,153 @@ fn packet_story(
         IfOk result (λ text. text.items ≡ told number event.now (arrival_facts t s.bridges (aged t s.bridges) original octets.now) (answer s (packet_at t original octets.now))) }
 {
     let came = endpoint.frame_in(original, octets);
-    let decision = endpoint.foresee_packet(event.moment, original, octets);
     let under = endpoint.state().under();
-    let mut facts = Vec::new(alloc);
+    let mut facts = Vec::with_capacity(alloc, FACTS)?;
     put_packet_facts(&mut facts, under, original, octets, &came)?;
-    let text = came_story(alloc, endpoint, number, event, facts, &came, &decision)?;
+    let text = came_story(alloc, endpoint, number, event, facts, &came)?;
     Ok(text)
 }
 
-/// The story of what came so to a segment or to none, and of which this is decided, behind the facts of how it came.
+/// The story of what came so to a segment or to none, behind the facts of how it came.
 fn came_story(
     alloc: Global,
     endpoint: &Endpoint,
     number: u64,
     event: &Event,
-    mut facts: Vec<Fact>,
-    came: &Result<Came, Refused>,
-    decision: &Decision,
+    facts: Vec<Fact>,
+    came: &Course,
 ) -> Result<Vec<u8>, AllocError>
     requires time { (state_of endpoint.now).moment ≤ event.now.moment }
     requires there { IfOk came.now (λ x. IsSome (segment_at (state_of endpoint.now).bridges.settings x.vid)) }
-    ensures { let s = state_of endpoint.now in let t = event.now.moment in let d = octets_of decision.now in
-        IfOk result (λ text. text.items ≡ told number event.now (facts.items ++ came_facts t s.bridges (aged t s.bridges) came.now d) (Decided d)) }
-{
-    let left = endpoint.now();
-    let state = endpoint.state();
-    put_came_facts(&mut facts, state, left, event.moment, came, decision)?;
-    let text = told(alloc, number, event, &facts, decision)?;
-    Ok(text)
-}
-
-/// Puts what the bridge of its segment makes of a frame that comes to one at a moment, of which this is decided, and how it
-/// leaves at each outlet. `left` is the moment of the last event.
-fn put_came_facts(
-    facts: &mut Vec<Fact>,
-    state: &EndpointState,
-    left: u64,
-    now: u64,
-    came: &Result<Came, Refused>,
-    decision: &Decision,
-) -> Result<(), AllocError>
-    requires left { moment_of state.now ≤ left }
-    requires time { moment_of state.now ≤ now }
-    requires there { IfOk came.now (λ x. IsSome (segment_at (settings_of state.now) x.vid)) }
-    ensures { OnOk result (facts.new.items ≡ facts.old.items ++ came_facts now (state_at left state.now) (state_at now state.now) came.now (octets_of decision.now)) }
+    requires reached { IfOk came.now (λ x. is_reached (state_of endpoint.now).bridges.settings.overlay x.vid x.from ≡ true) }
+    ensures { let s = state_of endpoint.now in let t = event.now.moment in let B = aged t s.bridges in let d = decided t B came.now in
+        IfOk result (λ text. text.items ≡ told number event.now (facts.items ++ came_facts t s.bridges B came.now d) (Decided d)) }
 {
     match came {
-        Ok(came) => {
-            put_bridge_facts(facts, state, left, now, came, decision.dropped())?;
-            let (segment, frame) = (came.segment(), came.frame());
-            put_outlet_facts(facts, state, segment, frame, decision.outcomes())
-        }
-        Err(_) => Ok(()),
+        Ok(came) => bridge_story(alloc, endpoint, number, event, facts, came),
+        Err(refused) => dropped_told(alloc, number, event, &facts, *refused),
     }
 }
 
-/// The lines of facts, and the decision line.
-fn told(
+/// The story of a frame that came to a segment: where the bridge of that would send it, or why nowhere.
+fn bridge_story(
+    alloc: Global,
+    endpoint: &Endpoint,
+    number: u64,
+    event: &Event,
+    facts: Vec<Fact>,
+    came: &Came,
+) -> Result<Vec<u8>, AllocError>
+    requires time { (state_of endpoint.now).moment ≤ event.now.moment }
+    requires there { IsSome (segment_at (state_of endpoint.now).bridges.settings came.now.vid) }
+    requires reached { is_reached (state_of endpoint.now).bridges.settings.overlay came.now.vid came.now.from ≡ true }
+    ensures { let s = state_of endpoint.now in let t = event.now.moment in let B = aged t s.bridges in let d = decided_in t B came.now in
+        IfOk result (λ text. text.items ≡ told number event.now (facts.items ++ came_facts t s.bridges B (Ok came.now) d) (Decided d)) }
+{
+    let state = endpoint.state();
+    let verdict = state.foresee(event.moment, came.segment(), came.place(), came.frame());
+    match &verdict {
+        Verdict::Outlets(places) => {
+            sent_story(
+                alloc,
+                endpoint,
+                number,
+                event,
+                facts,
+                came,
+                places.as_slice(),
+            )
+        }
+        Verdict::Dropped(reason) => {
+            dropped_story(alloc, endpoint, number, event, facts, came, *reason)
+        }
+    }
+}
+
+/// The story of a frame that the bridge of its segment sends to these places.
+fn sent_story(
+    alloc: Global,
+    endpoint: &Endpoint,
+    number: u64,
+    event: &Event,
+    mut facts: Vec<Fact>,
+    came: &Came,
+    places: &[Place],
+) -> Result<Vec<u8>, AllocError>
+    requires time { (state_of endpoint.now).moment ≤ event.now.moment }
+    requires there { IsSome (segment_at (state_of endpoint.now).bridges.settings came.now.vid) }
+    requires leave { IsTrue (list_all (can_leave (state_of endpoint.now).bridges.settings came.now.vid) places.now) }
+    ensures { let s = state_of endpoint.now in let t = event.now.moment in let B = aged t s.bridges in let d = by_verdict s.bridges.settings came.now (Ok places.now) in
+        IfOk result (λ text. text.items ≡ told number event.now (facts.items ++ came_facts t s.bridges B (Ok came.now) d) (Decided d)) }
+{
+    let left = endpoint.now();
+    let state = endpoint.state();
+    put_bridge_facts(&mut facts, state, left, event.moment, came, None)?;
+    put_outlet_facts(&mut facts, state, came.segment(), came.frame(), places)?;
+    let text = sent_told(alloc, endpoint, number, event, &facts, came, places)?;
+    Ok(text)
+}
+
+/// The story of a frame that the bridge of its segment sends nowhere.
+fn dropped_story(
+    alloc: Global,
+    endpoint: &Endpoint,
+    number: u64,
+    event: &Event,
+    mut facts: Vec<Fact>,
+    came: &Came,
+    reason: Reason,
+) -> Result<Vec<u8>, AllocError>
+    requires time { (state_of endpoint.now).moment ≤ event.now.moment }
+    requires there { IsSome (segment_at (state_of endpoint.now).bridges.settings came.now.vid) }
+    ensures { let s = state_of endpoint.now in let t = event.now.moment in let B = aged t s.bridges in let d = by_verdict s.bridges.settings came.now (Err reason) in
+        IfOk result (λ text. text.items ≡ told number event.now (facts.items ++ came_facts t s.bridges B (Ok came.now) d) (Decided d)) }
+{
+    let left = endpoint.now();
+    let state = endpoint.state();
+    put_bridge_facts(&mut facts, state, left, event.moment, came, Some(reason))?;
+    let refused = Refused::within(came.segment(), reason);
+    let text = dropped_told(alloc, number, event, &facts, refused)?;
+    Ok(text)
+}
+
+/// The lines of facts, and the decision line of a frame that leaves at these places.
+fn sent_told(
+    alloc: Global,
+    endpoint: &Endpoint,
+    number: u64,
+    event: &Event,
+    facts: &[Fact],
+    came: &Came,
+    places: &[Place],
+) -> Result<Vec<u8>, AllocError>
+    requires there { IsSome (segment_at (state_of endpoint.now).bridges.settings came.now.vid) }
+    requires leave { IsTrue (list_all (can_leave (state_of endpoint.now).bridges.settings came.now.vid) places.now) }
+    ensures { let S = (state_of endpoint.now).bridges.settings in
+        IfOk result (λ text. text.items ≡ told number event.now facts.now (Decided (by_verdict S came.now (Ok places.now)))) }
+{
+    let mut text = String::with_capacity(alloc, OCTETS)?;
+    put_facts(&mut text, facts)?;
+    put_line_front(&mut text, number, event, Some(came.segment()))?;
+    put_outcomes(&mut text, endpoint, came, places)?;
+    text.push('\n')?;
+    Ok(text.into_bytes())
+}
+
+/// The lines of facts, and the decision line of what is dropped.
+fn dropped_told(
     alloc: Global,
     number: u64,
     event: &Event,
     facts: &[Fact],
-    decision: &Decision,
+    refused: Refused,
 ) -> Result<Vec<u8>, AllocError>
-    ensures { IfOk result (λ text. text.items ≡ told number event.now facts.now (Decided (octets_of decision.now))) }
+    ensures { IfOk result (λ text. text.items ≡ told number event.now facts.now (Decided (refused_as refused))) }
 {
-    let mut text = String::new(alloc);
+    let mut text = String::with_capacity(alloc, OCTETS)?;
     put_facts(&mut text, facts)?;
-    put_line_front(&mut text, number, event, decision.segment())?;
-    let mut line = text.into_bytes();
-    let result = result_text(alloc, decision)?;
-    line.extend_from_slice(&result)?;
-    line.push(b'\n')?;
-    Ok(line)
+    put_line_front(&mut text, number, event, refused.segment)?;
+    put_drop(&mut text, refused.reason)?;
+    text.push('\n')?;
+    Ok(text.into_bytes())
 }

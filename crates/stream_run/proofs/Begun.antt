@@ -17,7 +17,6 @@ use Rattle.stream_run.specs.Stage.{Drains}
 use Rattle.stream_run.specs.Steps.{AreRead, AreReady, FetchesAt, IsAt, LendsWhere, moment_at, run_at, source_at}
 use Rattle.stream_run.specs.Turns.{IsNoSooner}
 use Rattle.stream_run.specs.declared.fault.StreamFault.{StreamFault}
-use Rattle.stream_run.specs.declared.fault.StreamFault.TheVariants as stream
 use Rattle.stream_run.specs.declared.turn.Turn.{Turn}
 use Rattle.stream_run.proofs.Firsts.{AreReadBelow, all_read, fault_below, none_read, read_below}
 use Rattle.stream_run.proofs.Opened.{reads_behind}

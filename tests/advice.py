@@ -54,7 +54,8 @@ sentences = {path: text for path, fault, text in code_rows(ALLOWED, "SENTENCES")
 paths = {"limit"}
 first = table("## Settings", "Key")
 second = table("## Settings", "Key of version 2")
-for keys, value, *_ in first + second:
+third = table("## Settings", "Key of version 3")
+for keys, value, *_ in first + second + third:
     for key in names(keys):
         path = without_numbers(key)
         paths.add(path)
@@ -78,9 +79,11 @@ def keys_under(rows, front):
 tunnels = {"vni", "flood"}
 wanted = {
     ("*", ""): keys_under(first, "") | {"underlay"},
+    ("underlay.*", "3"): keys_under(first + third, "underlay."),
     ("underlay.*", ""): keys_under(first, "underlay."),
     ("underlay.hop.*", ""): {"addr", "mac"},
     ("port.*", ""): keys_under(first, "port."),
+    ("segment.*", "3"): keys_under(first, "segment.") - tunnels,
     ("segment.*", "2"): keys_under(first, "segment.") - tunnels,
     ("segment.*", ""): keys_under(first, "segment."),
     ("segment.tunnel.*", ""): keys_under(second, "segment.tunnel."),

@@ -37,6 +37,12 @@ done
 mv "$folder/out/both/settings.toml" "$folder/out/both/apart"
 decides decisions.txt settings.toml both 'all.pcapng#underlay' 'all.pcapng#swp1' 'all.pcapng#swp2'
 diff -r "$folder/out/both/apart" "$folder/out/both/settings.toml" || complain "dumpcap and tcpdump tell different things"
+decides decisions_partial.txt partial.toml offloads underlay.pcap port1.pcap port2.pcap
+# Two of the three packets that the peer sent have the sum of the pseudo header; with come_in's all are whole.
+./tep check --settings "$lab/settings.toml" --underlay "$captures/offloads/underlay.pcap" |
+    grep -qx 'u: 2 udp checksums left to the card: ethtool -K DEV tx off' || complain "offloads: other checksums are left to the card"
+! ./tep check --settings "$lab/settings.toml" --underlay "$captures/come_in/underlay.pcap" | grep -q 'left to the card' ||
+    complain "come_in: checksums are left to the card"
 decides decisions_vni_5001.txt vni_5001.toml other_vni underlay.pcap port1.pcap port2.pcap
 decides decisions_port_8472.txt port_8472.toml port_8472 underlay.pcap port1.pcap port2.pcap
 PYTHONPATH=examples python3 -B tests/lab.py "$captures" "$folder/out/come_in/settings.toml" ||

@@ -68,6 +68,8 @@ def second_version():
     """Settings of version 2, and those that are migrated to it."""
     for part, other, wanted in rows.PARTS_2:
         expect_settings(rows.FEWEST_2.replace(part, other), wanted)
+    for part, other, wanted in rows.PARTS_3:
+        expect_settings(rows.FEWEST_3.replace(part, other), wanted)
     for count, keys, wanted in rows.SECOND:
         flood = "flood = [" + "".join(f'"192.0.2.{k}", ' for k in range(2, count + 2)) + "]"
         text = rows.FEWEST_2.replace("# first", flood)
@@ -83,10 +85,10 @@ def second_version():
     text += "group = 256\n"
     expect_settings(text, "BadValue segment.256.tunnel.2.group")
     expect_settings(text + "[[segment]]\n", "OverLimit segment")
-    for text in rows.OLD, rows.NEW:
+    for text, wanted in (rows.OLD, rows.NEW), (rows.NEW, rows.NEW), (rows.NEW_3, rows.NEW_3):
         migrated = expect_settings(text, "ok", ("migrate",)).decode()
-        if migrated != rows.NEW:
-            complain("tep migrate", migrated, rows.NEW)
+        if migrated != wanted:
+            complain("tep migrate", migrated, wanted)
 
 
 def changes(settings):

@@ -30,13 +30,13 @@ ip4 = "192.0.2.1"
 # the keys.
 PARTS = [
     ("version = 1\n", "", "Missing version"),
-    ("version = 1", "version = 3", "BadValue version"),
+    ("version = 1", "version = 4", "BadValue version"),
     ("version = 1", "version = true", "BadValue version"),
     ("version = 1", "version = 1\nname = 1", "BadValue *"),
     ("version = 1", "version = 1\npool = 0", "BadValue pool"),
     ("version = 1", "version = 1\npool = 65537", "BadValue pool"),
     ("version = 1", 'version = 1\npool = "256"', "BadValue pool"),
-    ("version = 1", "version = 3\npool = 0", "BadValue version"),
+    ("version = 1", "version = 4\npool = 0", "BadValue version"),
     (
         'version = 1\n[underlay]\nmac = "02:00:00:00:aa:01"',
         "version = 1\npool = 0\n[underlay]\nmac = 2",
@@ -369,6 +369,32 @@ PARTS_2 = [
     ),
 ]
 
+# Settings of version 3: those of version 2, and `partial`.
+FEWEST_3 = FEWEST_2.replace("version = 2", "version = 3")
+
+# A key of the underlay, behind which lines are put.
+OWN = 'ip4 = "192.0.2.1"\n'
+
+PARTS_3 = [
+    ("version = 3", "version = 3", "ok"),
+    (OWN, OWN + "partial = true\n", "ok"),
+    (OWN, OWN + "partial = false\n", "ok"),
+    (OWN, OWN + "partial = 1\n", "BadValue underlay.partial"),
+    (OWN, OWN + 'partial = "true"\n', "BadValue underlay.partial"),
+    # It comes behind `zero6` and before `known`.
+    (OWN, OWN + "partial = 1\nzero6 = 1\n", "BadValue underlay.zero6"),
+    (OWN, OWN + "known = 1\npartial = 1\n", "BadValue underlay.partial"),
+    # Other versions don't have it.
+    ("version = 3\n[underlay]\n", "version = 2\n[underlay]\npartial = true\n", "BadValue underlay.*"),
+    ('version = 3\n[underlay]\nmac = "02:00:00:00:aa:01"', "version = 1\n[underlay]\npartial = 1\nmac = 1", "BadValue underlay.*"),
+    # The tunnels are told as in version 2.
+    ("# segment", "vni = 5000", "BadValue segment.1.*"),
+    ("# segment", "flood = []", "BadValue segment.1.*"),
+    (TUNNEL, "", "Missing segment.1.tunnel"),
+    (TUNNEL, 'tunnel = "vxlan"\n', "BadValue segment.1.tunnel"),
+    ("# first", "group = 256\nflood = 1", "BadValue segment.1.tunnel.1.group"),
+]
+
 # Keys of a second table of tunnels, and the fault that they are. The first table floods to as many as are told.
 SECOND = [
     (0, "", "Missing segment.1.tunnel.2.kind"),
@@ -478,6 +504,9 @@ ip4 = "192.0.2.1"
 mac = "02:00:00:00:aa:01"
 next_hop = "02:00:00:00:aa:fe"
 """
+
+# Settings of version 3 keep their version and their keys.
+NEW_3 = NEW.replace("version = 2", "version = 3") + "partial = true\n"
 
 # Changes.
 
@@ -788,6 +817,22 @@ TOLD_SETTINGS = [
         'version = 1\n[underlay]\nmac = "02:00:00:00:00:01"\n  nexthop = "02:00:00:00:00:fe"\n',
         "S:4:3: BadValue underlay.*\n  found: nexthop\n  did you mean: next_hop\n  keys: mac next_hop ip4 ip6 mtu ttl"
         " vxlan_port geneve_port sum4 sum6 zero6 known hop\n",
+    ),
+    # A key of version 3, misspelled, and in version 2.
+    (
+        'version = 3\n[underlay]\nmac = "02:00:00:00:00:01"\nnext_hop = "02:00:00:00:00:fe"\npartal = true\n',
+        "S:5:1: BadValue underlay.*\n  found: partal\n  did you mean: partial\n  keys: mac next_hop ip4 ip6 mtu ttl"
+        " vxlan_port geneve_port sum4 sum6 zero6 partial known hop\n",
+    ),
+    (
+        'version = 2\n[underlay]\nmac = "02:00:00:00:00:01"\nnext_hop = "02:00:00:00:00:fe"\npartial = true\n',
+        "S:5:1: BadValue underlay.*\n  found: partial\n  keys: mac next_hop ip4 ip6 mtu ttl"
+        " vxlan_port geneve_port sum4 sum6 zero6 known hop\n",
+    ),
+    (
+        'version = 3\n[underlay]\nmac = "02:00:00:00:00:01"\nnext_hop = "02:00:00:00:00:fe"\nip4 = "192.0.2.1"\n'
+        "partial = 1\n",
+        "S:6:1: BadValue underlay.partial\n  found: 1\n  allowed: true or false\n",
     ),
     # A table misspelled.
     (

@@ -14,6 +14,7 @@ use Rattle.pcap_stream.specs.declared.fault.SourceFault.{SourceFault}
 use Rattle.pcap_stream.specs.declared.fault.SourceFault.TheVariants as source
 use Rattle.pcap_stream.proofs.Runs.{ends, one_more}
 use Rattle.capture_survey.proofs.Counting.{has_room}
+use Rattle.timeline.specs.declared.source.Tap.{Tap}
 use Rattle.capture_survey.specs.Survey.{IsCounted, IsOpen, ReadsAll, ReadsWith, source_fault}
 use Rattle.capture_survey.specs.Tally.{HasRoom, tally_of}
 use Rattle.capture_survey.specs.declared.tally.Tally.{Tally}
@@ -47,20 +48,20 @@ lends_open (Failed fault) r e = absurd cc
 -- ---- so far
 
 -- some records were lent in turn and counted, and no read failed
-pub record HasRead (bound : ℕ) (start now : Stream) (tally : Tally) : Type 0 where
+pub record HasRead (tap : Tap) (start now : Stream) (tally : Tally) : Type 0 where
   pub rs : List Record
-  pub tally_is : tally ≡ tally_of bound rs
+  pub tally_is : tally ≡ tally_of tap rs
   pub reading : (text : List ℕ) → IsReading text [] start → IsReading text rs now
   pub is_open : IsOpen now.standing
   pub quiet : now.supply.failures ≡ start.supply.failures
   pub spent : 16 * length rs + most_left now ≤ most_left start
 
-pub has_begun : (bound : ℕ) (start : Stream) (t : Tally) → IsOpen start.standing → t ≡ tally_of bound [] → HasRead bound start start t
-has_begun bound start t is_open is = record { rs = []; tally_is = is; reading = λ text h. h; is_open = is_open; quiet = refl; spent = omega arith }
+pub has_begun : (tap : Tap) (start : Stream) (t : Tally) → IsOpen start.standing → t ≡ tally_of tap [] → HasRead tap start start t
+has_begun tap start t is_open is = record { rs = []; tally_is = is; reading = λ text h. h; is_open = is_open; quiet = refl; spent = omega arith }
 
-pub has_more : (bound : ℕ) (start old new : Stream) (t u : Tally) (r : Record) → HasRead bound start old t → IsFilled {T = Unit {0}} old new (Ok tt) → lent new.standing ≡ Some r
-    → 16 + most_left new ≤ most_left old → ((rs : List Record) → t ≡ tally_of bound rs → u ≡ tally_of bound (rs ++ r ∷ [])) → HasRead bound start new u
-has_more bound start old new t u r so_far filled lends less counts = record {
+pub has_more : (tap : Tap) (start old new : Stream) (t u : Tally) (r : Record) → HasRead tap start old t → IsFilled {T = Unit {0}} old new (Ok tt) → lent new.standing ≡ Some r
+    → 16 + most_left new ≤ most_left old → ((rs : List Record) → t ≡ tally_of tap rs → u ≡ tally_of tap (rs ++ r ∷ [])) → HasRead tap start new u
+has_more tap start old new t u r so_far filled lends less counts = record {
   rs = so_far.rs ++ r ∷ [];
   tally_is = counts so_far.rs so_far.tally_is;
   reading = λ text h. one_more text so_far.rs r old new (so_far.reading text h) filled lends;
@@ -70,13 +71,13 @@ has_more bound start old new t u r so_far filled lends less counts = record {
 }
 
 -- another record can be counted
-pub may_count : (bound : ℕ) (start old new : Stream) (t : Tally) → HasRead bound start old t → 16 + most_left new ≤ most_left old → most_left start < 2 ^ 64 → HasRoom t
-may_count bound start old new t so_far less few =
-    let spent = so_far.spent in has_room bound so_far.rs t so_far.tally_is (omega (arith, spent, less, few))
+pub may_count : (tap : Tap) (start old new : Stream) (t : Tally) → HasRead tap start old t → 16 + most_left new ≤ most_left old → most_left start < 2 ^ 64 → HasRoom t
+may_count tap start old new t so_far less few =
+    let spent = so_far.spent in has_room tap so_far.rs t so_far.tally_is (omega (arith, spent, less, few))
 
 -- and its number fits
-pub may_number : (bound : ℕ) (start old : Stream) (t : Tally) → HasRead bound start old t → most_left start < 2 ^ 64 → t.records + 1 < 2 ^ 64
-may_number bound start old t so_far few =
+pub may_number : (tap : Tap) (start old : Stream) (t : Tally) → HasRead tap start old t → most_left start < 2 ^ 64 → t.records + 1 < 2 ^ 64
+may_number tap start old t so_far few =
     let spent = so_far.spent in let count = ap (λ (t : Tally). t.records) so_far.tally_is in omega (arith, spent, count, few)
 
 -- ---- the end
@@ -86,9 +87,9 @@ no_fault_end Whole is fault e = absurd cc
 no_fault_end Cut is fault e = absurd cc
 no_fault_end (Faulty own) is fault e = absurd cc
 
-pub has_all : (bound : ℕ) (start old new : Stream) (t : Tally) (text : List ℕ) → HasRead bound start old t → IsFilled {T = Unit {0}} old new (Ok tt) → Ok tt ≡ answer new.standing
-    → lent new.standing ≡ None → IsReading text [] start → IsCounted bound text new.standing t
-has_all bound start old new t text so_far filled told none h =
+pub has_all : (tap : Tap) (start old new : Stream) (t : Tally) (text : List ℕ) → HasRead tap start old t → IsFilled {T = Unit {0}} old new (Ok tt) → Ok tt ≡ answer new.standing
+    → lent new.standing ≡ None → IsReading text [] start → IsCounted tap text new.standing t
+has_all tap start old new t text so_far filled told none h =
     let whole = ends text so_far.rs old new (Ok tt) (so_far.reading text h) (record { filled = filled; answered = told; lends_none = none; no_failure = λ e. absurd cc }) in
     record {
       rs = so_far.rs;
@@ -99,8 +100,8 @@ has_all bound start old new t text so_far filled told none h =
       stands = whole.stands;
     }
 
-pub all_quiet : (bound : ℕ) (start old new : Stream) (t : Tally) → HasRead bound start old t → IsFilled {T = Unit {0}} old new (Ok tt) → new.supply.failures ≡ start.supply.failures
-all_quiet bound start old new t so_far filled = read_on old new (Ok tt) old.standing so_far.is_open filled ∙ so_far.quiet
+pub all_quiet : (tap : Tap) (start old new : Stream) (t : Tally) → HasRead tap start old t → IsFilled {T = Unit {0}} old new (Ok tt) → new.supply.failures ≡ start.supply.failures
+all_quiet tap start old new t so_far filled = read_on old new (Ok tt) old.standing so_far.is_open filled ∙ so_far.quiet
 
 -- ---- a fault
 
@@ -121,35 +122,35 @@ faulty_end Whole fault is = absurd cc
 faulty_end Cut fault is = absurd cc
 faulty_end (Faulty own) fault is = record { own = own; end_is = refl; fault_is = cc }
 
-tells_fault : (bound : ℕ) (text : List ℕ) (s : Standing) (n : ℕ) (rs : List Record) (own : RecordFault) → opened text ≡ Ok (record { records = rs; end = Faulty own }) → n ≡ length rs + 1
-    → ReadsAll bound text s (Err (source_fault n (record_fault own)))
-tells_fault bound text s n rs TooLarge reading number = record { rs = rs; reading = reading; number = number }
-tells_fault bound text s n rs BadFraction reading number = record { rs = rs; reading = reading; number = number }
+tells_fault : (tap : Tap) (text : List ℕ) (s : Standing) (n : ℕ) (rs : List Record) (own : RecordFault) → opened text ≡ Ok (record { records = rs; end = Faulty own }) → n ≡ length rs + 1
+    → ReadsAll tap text s (Err (source_fault n (record_fault own)))
+tells_fault tap text s n rs TooLarge reading number = record { rs = rs; reading = reading; number = number }
+tells_fault tap text s n rs BadFraction reading number = record { rs = rs; reading = reading; number = number }
 
-fault_told : (bound : ℕ) (text : List ℕ) (n : ℕ) (rs : List Record) (old new : Stream) (fault : SourceFault) → fault ≢ source.Read → IsReading text rs old
-    → IsFilled {T = Unit {0}} old new (Err fault) → Err fault ≡ answer new.standing → n ≡ length rs + 1 → ReadsAll bound text new.standing (Err (source_fault n fault))
-fault_told bound text n rs old new fault other reading filled told is =
+fault_told : (tap : Tap) (text : List ℕ) (n : ℕ) (rs : List Record) (old new : Stream) (fault : SourceFault) → fault ≢ source.Read → IsReading text rs old
+    → IsFilled {T = Unit {0}} old new (Err fault) → Err fault ≡ answer new.standing → n ≡ length rs + 1 → ReadsAll tap text new.standing (Err (source_fault n fault))
+fault_told tap text n rs old new fault other reading filled told is =
     let whole = ends text rs old new (Err fault) reading (record { filled = filled; answered = told; lends_none = lends_none new.standing fault told; no_failure = λ e. other (by_err e) }) in
     let end = faulty_end whole.end fault (told ∙ ap answer whole.stands) in
-    subst (λ f. ReadsAll bound text new.standing (Err (source_fault n f))) (sym end.fault_is)
-    (tells_fault bound text new.standing n rs end.own (whole.records ∙ ap (λ e. Ok (record { records = rs; end = e })) end.end_is) is)
+    subst (λ f. ReadsAll tap text new.standing (Err (source_fault n f))) (sym end.fault_is)
+    (tells_fault tap text new.standing n rs end.own (whole.records ∙ ap (λ e. Ok (record { records = rs; end = e })) end.end_is) is)
   where
     by_err : ◌≡◌ {A = Result (Unit {0}) SourceFault} (Err fault) (Err source.Read) → fault ≡ source.Read
     by_err e = cc
 
-pub has_failed : (bound : ℕ) (start old new : Stream) (t : Tally) (text : List ℕ) (fault : SourceFault) → HasRead bound start old t → IsFilled {T = Unit {0}} old new (Err fault)
-    → Err fault ≡ answer new.standing → IsReading text [] start → ReadsAll bound text new.standing (Err (source_fault (t.records + 1) fault))
-has_failed bound start old new t text fault so_far filled told h = by fault filled told
+pub has_failed : (tap : Tap) (start old new : Stream) (t : Tally) (text : List ℕ) (fault : SourceFault) → HasRead tap start old t → IsFilled {T = Unit {0}} old new (Err fault)
+    → Err fault ≡ answer new.standing → IsReading text [] start → ReadsAll tap text new.standing (Err (source_fault (t.records + 1) fault))
+has_failed tap start old new t text fault so_far filled told h = by fault filled told
   where
     number : t.records + 1 ≡ length so_far.rs + 1
     number = ap (λ (t : Tally). t.records + 1) so_far.tally_is
 
-    by : (fault : SourceFault) → IsFilled {T = Unit {0}} old new (Err fault) → Err fault ≡ answer new.standing → ReadsAll bound text new.standing (Err (source_fault (t.records + 1) fault))
+    by : (fault : SourceFault) → IsFilled {T = Unit {0}} old new (Err fault) → Err fault ≡ answer new.standing → ReadsAll tap text new.standing (Err (source_fault (t.records + 1) fault))
     by source.Read filled told = tt
-    by source.NotPcap filled told = fault_told bound text (t.records + 1) so_far.rs old new source.NotPcap (λ e. absurd cc) (so_far.reading text h) filled told number
-    by source.BadLink filled told = fault_told bound text (t.records + 1) so_far.rs old new source.BadLink (λ e. absurd cc) (so_far.reading text h) filled told number
-    by source.TooLarge filled told = fault_told bound text (t.records + 1) so_far.rs old new source.TooLarge (λ e. absurd cc) (so_far.reading text h) filled told number
-    by source.BadFraction filled told = fault_told bound text (t.records + 1) so_far.rs old new source.BadFraction (λ e. absurd cc) (so_far.reading text h) filled told number
+    by source.NotPcap filled told = fault_told tap text (t.records + 1) so_far.rs old new source.NotPcap (λ e. absurd cc) (so_far.reading text h) filled told number
+    by source.BadLink filled told = fault_told tap text (t.records + 1) so_far.rs old new source.BadLink (λ e. absurd cc) (so_far.reading text h) filled told number
+    by source.TooLarge filled told = fault_told tap text (t.records + 1) so_far.rs old new source.TooLarge (λ e. absurd cc) (so_far.reading text h) filled told number
+    by source.BadFraction filled told = fault_told tap text (t.records + 1) so_far.rs old new source.BadFraction (λ e. absurd cc) (so_far.reading text h) filled told number
 
 -- a source gave up, behind calls that were quiet
 gives_up_since : (start old new : Supply) → old.failures ≡ start.failures → GivesUp old new → GivesUp start new
@@ -163,9 +164,9 @@ reads_failed T start old new n source.BadLink quiet h = h ∙ quiet
 reads_failed T start old new n source.TooLarge quiet h = h ∙ quiet
 reads_failed T start old new n source.BadFraction quiet h = h ∙ quiet
 
-pub failed_with : (bound : ℕ) (start old new : Stream) (t : Tally) (n : ℕ) (fault : SourceFault) → HasRead bound start old t → IsFilled {T = Unit {0}} old new (Err fault)
+pub failed_with : (tap : Tap) (start old new : Stream) (t : Tally) (n : ℕ) (fault : SourceFault) → HasRead tap start old t → IsFilled {T = Unit {0}} old new (Err fault)
     → ReadsWith {T = Tally} start.supply new.supply (Err (source_fault n fault))
-failed_with bound start old new t n fault so_far filled =
+failed_with tap start old new t n fault so_far filled =
     reads_failed Tally start.supply old.supply new.supply n fault so_far.quiet (read_on old new (Err fault) old.standing so_far.is_open filled)
 
 -- a source that is open isn't new

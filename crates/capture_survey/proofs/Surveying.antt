@@ -16,6 +16,7 @@ use Rattle.pcap_stream.specs.declared.fault.SourceFault.{SourceFault}
 use Rattle.pcap_stream.specs.declared.fault.SourceFault.TheVariants as source
 use Rattle.pcap_stream.proofs.Runs.{begins}
 use Rattle.pcap_stream.specs.Fault.{capture_fault}
+use Rattle.timeline.specs.declared.source.Tap.{Tap}
 use Rattle.capture_survey.specs.Survey.{Begins, Gives, IsCounted, IsOpen, ReadsAll, ReadsWith, source_fault, surveyed, surveyed_by, surveyed_to}
 use Rattle.capture_survey.specs.declared.fault.SurveyFault.{SurveyFault}
 use Rattle.capture_survey.specs.declared.fault.SurveyFault.TheVariants as faults
@@ -115,11 +116,11 @@ refused_told old new source.BadLink opened told text e = refused_by old new sour
 refused_told old new source.TooLarge opened told text e = refused_by old new source.TooLarge opened told text e
 refused_told old new source.BadFraction opened told text e = refused_by old new source.BadFraction opened told text e
 
-pub refusal_found : (bound : ℕ) (text : List ℕ) (new : Stream) (fault : SurveyFault) → Begins text new (Err fault) → Gives (Err fault) (surveyed bound text)
+pub refusal_found : (tap : Tap) (text : List ℕ) (new : Stream) (fault : SurveyFault) → Begins text new (Err fault) → Gives (Err fault) (surveyed tap text)
 unfolding surveyed
-refusal_found bound text new faults.Read begun = tt
-refusal_found bound text new (faults.Header fault) begun = ap (surveyed_by bound text) begun
-refusal_found bound text new (faults.Record n fault) begun = absurd begun
+refusal_found tap text new faults.Read begun = tt
+refusal_found tap text new (faults.Header fault) begun = ap (surveyed_by tap text) begun
+refusal_found tap text new (faults.Record n fault) begun = absurd begun
 
 -- ---- the records
 
@@ -130,18 +131,18 @@ reading_of text style rs end is reading =
     let both : ◌≡◌ {A = Result Reading CaptureFault} (Ok (records style (drop 24 text))) (Ok (record { records = rs; end = end })) = ap (λ (s : Result Style CaptureFault). opened_by s text) is ∙ reading in
     cc
 
-found : (bound : ℕ) (text : List ℕ) (style : Style) (rs : List Record) (end : End) → Ok style ≡ style_of text → opened text ≡ Ok (record { records = rs; end = end })
-    → surveyed bound text ≡ surveyed_to bound style rs end
+found : (tap : Tap) (text : List ℕ) (style : Style) (rs : List Record) (end : End) → Ok style ≡ style_of text → opened text ≡ Ok (record { records = rs; end = end })
+    → surveyed tap text ≡ surveyed_to tap style rs end
 unfolding surveyed
-found bound text style rs end is reading =
-    ap (surveyed_by bound text) (sym is) ∙ ap (λ (r : Reading). surveyed_to bound style r.records r.end) (reading_of text style rs end is reading)
+found tap text style rs end is reading =
+    ap (surveyed_by tap text) (sym is) ∙ ap (λ (r : Reading). surveyed_to tap style r.records r.end) (reading_of text style rs end is reading)
 
-all_found : (bound : ℕ) (text : List ℕ) (style : Style) (s : Standing) (t : Tally) → Ok style ≡ style_of text → IsCounted bound text s t
-    → Gives (Ok (record { style = style; tally = t; is_cut = ends_cut s })) (surveyed bound text)
-all_found bound text style s t is counted = found bound text style counted.rs counted.end is counted.reading ∙ by counted.end counted.no_fault counted.stands
+all_found : (tap : Tap) (text : List ℕ) (style : Style) (s : Standing) (t : Tally) → Ok style ≡ style_of text → IsCounted tap text s t
+    → Gives (Ok (record { style = style; tally = t; is_cut = ends_cut s })) (surveyed tap text)
+all_found tap text style s t is counted = found tap text style counted.rs counted.end is counted.reading ∙ by counted.end counted.no_fault counted.stands
   where
     by : (end : End) → ((fault : RecordFault) → end ≢ Faulty fault) → s ≡ after_end end
-        → ◌≡◌ {A = Result Survey SurveyFault} (surveyed_to bound style counted.rs end) (Ok (record { style = style; tally = t; is_cut = ends_cut s }))
+        → ◌≡◌ {A = Result Survey SurveyFault} (surveyed_to tap style counted.rs end) (Ok (record { style = style; tally = t; is_cut = ends_cut s }))
     by Whole sound stands =
         ap (λ (t : Tally). found_survey (record { style = style; tally = t; is_cut = false })) (sym counted.tally_is)
         ∙ ap (λ (s : Standing). found_survey (record { style = style; tally = t; is_cut = ends_cut s })) (sym stands)
@@ -150,22 +151,20 @@ all_found bound text style s t is counted = found bound text style counted.rs co
         ∙ ap (λ (s : Standing). found_survey (record { style = style; tally = t; is_cut = ends_cut s })) (sym stands)
     by (Faulty fault) sound stands = absurd (sound fault refl)
 
-fault_found : (bound : ℕ) (text : List ℕ) (style : Style) (s : Standing) (fault : SurveyFault) → Ok style ≡ style_of text → ReadsAll bound text s (Err fault) → Gives (Err fault) (surveyed bound text)
-fault_found bound text style s faults.Read is read = tt
-fault_found bound text style s (faults.Header fault) is read = absurd read
-fault_found bound text style s (faults.Record n fault) is read =
-    found bound text style read.rs (Faulty fault) is read.reading ∙ ap (λ (n : ℕ). found_fault (faults.Record n fault)) (sym read.number)
+fault_found : (tap : Tap) (text : List ℕ) (style : Style) (s : Standing) (fault : SurveyFault) → Ok style ≡ style_of text → ReadsAll tap text s (Err fault) → Gives (Err fault) (surveyed tap text)
+fault_found tap text style s faults.Read is read = tt
+fault_found tap text style s (faults.Header fault) is read = absurd read
+fault_found tap text style s (faults.Record n fault) is read =
+    found tap text style read.rs (Faulty fault) is read.reading ∙ ap (λ (n : ℕ). found_fault (faults.Record n fault)) (sym read.number)
 
-pub all_given : (bound n : ℕ) (text : List ℕ) (s : Standing) (new : Stream) (style : Style) (t : Tally) (is_cut : Bool) → n ≡ bound → is_cut ≡ ends_cut s → Begins text new (Ok style)
-    → IsCounted n text s t → Gives (Ok (record { style = style; tally = t; is_cut = is_cut })) (surveyed bound text)
-all_given bound n text s new style t is_cut bound_is cut_is begun counted =
-    ap (λ (b : ℕ). surveyed b text) (sym bound_is) ∙ all_found n text style s t begun.0 counted
-    ∙ ap (λ (b : Bool). found_survey (record { style = style; tally = t; is_cut = b })) (sym cut_is)
+pub all_given : (tap : Tap) (text : List ℕ) (s : Standing) (new : Stream) (style : Style) (t : Tally) (is_cut : Bool) → is_cut ≡ ends_cut s → Begins text new (Ok style)
+    → IsCounted tap text s t → Gives (Ok (record { style = style; tally = t; is_cut = is_cut })) (surveyed tap text)
+all_given tap text s new style t is_cut cut_is begun counted =
+    all_found tap text style s t begun.0 counted ∙ ap (λ (b : Bool). found_survey (record { style = style; tally = t; is_cut = b })) (sym cut_is)
 
-pub fault_given : (bound n : ℕ) (text : List ℕ) (s : Standing) (new : Stream) (style : Style) (fault : SurveyFault) → n ≡ bound → Begins text new (Ok style)
-    → ReadsAll n text s (Err fault) → Gives (Err fault) (surveyed bound text)
-fault_given bound n text s new style fault bound_is begun read =
-    subst (λ (b : ℕ). Gives (Err fault) (surveyed b text)) bound_is (fault_found n text style s fault begun.0 read)
+pub fault_given : (tap : Tap) (text : List ℕ) (s : Standing) (new : Stream) (style : Style) (fault : SurveyFault) → Begins text new (Ok style)
+    → ReadsAll tap text s (Err fault) → Gives (Err fault) (surveyed tap text)
+fault_given tap text s new style fault begun read = fault_found tap text style s fault begun.0 read
 
 -- what was read behind quiet calls
 pub since : (A B : Type 0) (start old new : Supply) (fault : SurveyFault) → old.failures ≡ start.failures → ReadsWith {T = A} old new (Err fault) → ReadsWith {T = B} start new (Err fault)

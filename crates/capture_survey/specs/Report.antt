@@ -53,6 +53,7 @@ note_count (notes.LeftOut count) = count
 note_count (notes.Falls count) = count
 note_count (notes.CutShort count) = count
 note_count (notes.TooLong tap count) = count
+note_count (notes.LeftToCard count) = count
 note_count (notes.CutEnd is_cut) = if is_cut then 1 else 0
 
 -- a note in words
@@ -66,6 +67,10 @@ note_words (notes.TooLong (Port port) count) =
     if count == 1 then codes "1 frame longer than 65535 octets" else decimal count ++ codes " frames longer than 65535 octets"
 note_words (notes.TooLong Underlay count) =
     if count == 1 then codes "1 packet longer than 65549 octets" else decimal count ++ codes " packets longer than 65549 octets"
+note_words (notes.LeftToCard count) =
+    if count == 1
+    then codes "1 udp checksum left to the card: ethtool -K DEV tx off"
+    else decimal count ++ codes " udp checksums left to the card: ethtool -K DEV tx off"
 note_words (notes.CutEnd is_cut) = codes "ends in the middle of a record"
 
 -- its line, where it is so
@@ -84,6 +89,7 @@ notes_text r =
     ++ line_text r.tap (notes.Falls r.survey.tally.falls)
     ++ line_text r.tap (notes.CutShort r.survey.tally.cut_short)
     ++ line_text r.tap (notes.TooLong r.tap r.survey.tally.too_long)
+    ++ line_text r.tap (notes.LeftToCard r.survey.tally.left_to_card)
     ++ line_text r.tap (notes.CutEnd r.survey.is_cut)
 
 -- all lines

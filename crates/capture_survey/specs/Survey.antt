@@ -18,6 +18,7 @@ use Rattle.pcap_stream.specs.Source.{Standing, Stream, New, Open, Ended, Failed,
 use Rattle.pcap_stream.specs.Supply.{GivesUp, Supply}
 use Rattle.pcap_stream.specs.declared.fault.SourceFault.{SourceFault}
 use Rattle.pcap_stream.specs.declared.fault.SourceFault.TheVariants as source
+use Rattle.timeline.specs.declared.source.Tap.{Tap}
 use Rattle.capture_survey.specs.Tally.{tally_of}
 use Rattle.capture_survey.specs.declared.fault.SurveyFault.{SurveyFault}
 use Rattle.capture_survey.specs.declared.fault.SurveyFault.TheVariants as faults
@@ -35,27 +36,27 @@ source_fault n source.BadFraction = faults.Record n record_.BadFraction
 -- ---- what is in a capture
 
 -- some records, and whether a rest stands behind them that is no whole one
-abbrev pub survey_of : ℕ → Style → List Record → Bool → Survey
-survey_of bound style rs is_cut = record { style = style; tally = tally_of bound rs; is_cut = is_cut }
+abbrev pub survey_of : Tap → Style → List Record → Bool → Survey
+survey_of tap style rs is_cut = record { style = style; tally = tally_of tap rs; is_cut = is_cut }
 
 -- by how the records end; a fault is that of the record behind them
-abbrev pub surveyed_to : ℕ → Style → List Record → End → Result Survey SurveyFault
-surveyed_to bound style rs Whole = Ok (survey_of bound style rs false)
-surveyed_to bound style rs Cut = Ok (survey_of bound style rs true)
-surveyed_to bound style rs (Faulty fault) = Err (faults.Record (length rs + 1) fault)
+abbrev pub surveyed_to : Tap → Style → List Record → End → Result Survey SurveyFault
+surveyed_to tap style rs Whole = Ok (survey_of tap style rs false)
+surveyed_to tap style rs Cut = Ok (survey_of tap style rs true)
+surveyed_to tap style rs (Faulty fault) = Err (faults.Record (length rs + 1) fault)
 
 -- by the records, and how they end
-abbrev pub survey_reading : ℕ → Style → Reading → Result Survey SurveyFault
-survey_reading bound style reading = surveyed_to bound style reading.records reading.end
+abbrev pub survey_reading : Tap → Style → Reading → Result Survey SurveyFault
+survey_reading tap style reading = surveyed_to tap style reading.records reading.end
 
 -- by the header
-abbrev pub surveyed_by : ℕ → List ℕ → Result Style CaptureFault → Result Survey SurveyFault
-surveyed_by bound text (Err fault) = Err (faults.Header fault)
-surveyed_by bound text (Ok style) = survey_reading bound style (records style (drop 24 text))
+abbrev pub surveyed_by : Tap → List ℕ → Result Style CaptureFault → Result Survey SurveyFault
+surveyed_by tap text (Err fault) = Err (faults.Header fault)
+surveyed_by tap text (Ok style) = survey_reading tap style (records style (drop 24 text))
 
--- what is in a capture where frames of more octets than the bound are too long, or the fault that a run stops at
-unfoldable pub surveyed : ℕ → List ℕ → Result Survey SurveyFault
-surveyed bound text = surveyed_by bound text (style_of text)
+-- what is in the capture of a tap, or the fault that a run stops at
+unfoldable pub surveyed : Tap → List ℕ → Result Survey SurveyFault
+surveyed tap text = surveyed_by tap text (style_of text)
 
 -- an answer is what is found, unless a read failed
 abbrev pub Gives : Result Survey SurveyFault → Result Survey SurveyFault → Type 0
@@ -89,11 +90,11 @@ module _ {T : Type 0} where
   ReadsWith old new (Err (faults.Record n fault)) = new.failures ≡ old.failures
 
 -- all records of a capture were counted, and its source stands behind them
-pub record IsCounted (bound : ℕ) (text : List ℕ) (standing : Standing) (tally : Tally) : Type 0 where
+pub record IsCounted (tap : Tap) (text : List ℕ) (standing : Standing) (tally : Tally) : Type 0 where
   pub rs : List Record
   pub end : End
   pub reading : opened text ≡ Ok (record { records = rs; end = end })
-  pub tally_is : tally ≡ tally_of bound rs
+  pub tally_is : tally ≡ tally_of tap rs
   pub no_fault : (fault : RecordFault) → end ≢ Faulty fault
   pub stands : standing ≡ after_end end
 
@@ -104,8 +105,8 @@ pub record IsFaulty (text : List ℕ) (n : ℕ) (fault : RecordFault) : Type 0 w
   pub number : n ≡ length rs + 1
 
 -- what a reading of all records answers
-abbrev pub ReadsAll : ℕ → List ℕ → Standing → Result Tally SurveyFault → Type 0
-ReadsAll bound text standing (Ok tally) = IsCounted bound text standing tally
-ReadsAll bound text standing (Err faults.Read) = ⊤
-ReadsAll bound text standing (Err (faults.Header fault)) = ⊥
-ReadsAll bound text standing (Err (faults.Record n fault)) = IsFaulty text n fault
+abbrev pub ReadsAll : Tap → List ℕ → Standing → Result Tally SurveyFault → Type 0
+ReadsAll tap text standing (Ok tally) = IsCounted tap text standing tally
+ReadsAll tap text standing (Err faults.Read) = ⊤
+ReadsAll tap text standing (Err (faults.Header fault)) = ⊥
+ReadsAll tap text standing (Err (faults.Record n fault)) = IsFaulty text n fault

@@ -2,6 +2,7 @@
 use Rattle.std.specs.Prelude.{ℕ, ◌+◌, ◌<◌, ◌≤◌, ◌^◌, nat_lt, max, Bool, false, if◌then◌else◌, List, [], ◌∷◌, length, Option, Some, None}
 use Rattle.std.specs.List.{count_by}
 use Rattle.std.specs.Option.{option_map_or}
+use Rattle.decapsulate.specs.Card as card
 use Rattle.pcap_io.specs.Record.{Record}
 use Rattle.timeline.specs.declared.source.Tap.{Tap}
 use Rattle.timeline.specs.declared.source.Tap.TheVariants.{Port, Underlay}
@@ -21,6 +22,11 @@ longest_at Underlay = 65549
 -- a record that has more octets than a bound
 abbrev pub is_too_long : ℕ → Record → Bool
 is_too_long bound r = nat_lt bound (length r.octets)
+
+-- a packet from the underlay whose UDP checksum its sender left to its network card; what tenants send is their own
+abbrev pub is_left_to_card : Tap → Record → Bool
+is_left_to_card (Port port) r = false
+is_left_to_card Underlay r = card.is_left_to_card r.octets
 
 -- 1 for true
 abbrev pub one_if : Bool → ℕ
@@ -58,13 +64,14 @@ abbrev pub last_of : Option Span → ℕ → ℕ
 last_of span moment = option_map_or (λ span. max moment span.last) span moment
 
 -- all of it
-abbrev pub tally_of : ℕ → List Record → Tally
-tally_of bound rs = record {
+abbrev pub tally_of : Tap → List Record → Tally
+tally_of tap rs = record {
   records = length rs;
   span = span_of rs;
   falls = falls_in rs;
   cut_short = count_by is_cut_short rs;
-  too_long = count_by (is_too_long bound) rs;
+  too_long = count_by (is_too_long (longest_at tap)) rs;
+  left_to_card = count_by (is_left_to_card tap) rs;
 }
 
 -- another record can be counted
@@ -73,3 +80,4 @@ pub record HasRoom (t : Tally) : Type 0 where
   pub falls : t.falls ≤ t.records
   pub cut_short : t.cut_short ≤ t.records
   pub too_long : t.too_long ≤ t.records
+  pub left_to_card : t.left_to_card ≤ t.records

@@ -7,15 +7,13 @@ ghost use Rattle.capture_survey.specs.Survey.{IsOpen, ReadsAll, ReadsWith};
 use crate::fault::{SurveyFault, source_fault};
 use crate::tally::Tally;
 use pcap_stream::{Input, Source};
+use timeline::Tap;
 
-/// Counts the records of a source that was opened, to its end.
-pub(crate) fn read_records<R: Input>(
-    source: &mut Source<R>,
-    bound: usize,
-) -> Result<Tally, SurveyFault>
+/// Counts the records of a source that was opened, the capture of a tap, to its end.
+pub(crate) fn read_records<R: Input>(source: &mut Source<R>, tap: Tap) -> Result<Tally, SurveyFault>
     requires open { IsOpen source.old.standing }
     requires most { most_left source.old < 2 ^ 64 }
-    ensures told { (text : List ℕ) → IsReading text [] source.old → ReadsAll bound text source.new.standing result }
+    ensures told { (text : List ℕ) → IsReading text [] source.old → ReadsAll tap text source.new.standing result }
     ensures reads { ReadsWith source.old.supply source.new.supply result }
 {
     let mut tally = Tally::none();
@@ -27,6 +25,6 @@ pub(crate) fn read_records<R: Input>(
         let Some(next) = source.head() else {
             return Ok(tally);
         };
-        tally.add(&next, bound);
+        tally.add(&next, tap);
     }
 }

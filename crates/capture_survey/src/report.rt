@@ -88,6 +88,8 @@ enum Note {
     CutShort(u64),
     /// So many records of this tap have more octets than a run takes there.
     TooLong(Tap, u64),
+    /// So many packets have UDP checksums that their senders left to their network cards.
+    LeftToCard(u64),
     /// It ends in the middle of a record, or it doesn't.
     CutEnd(bool),
 }
@@ -101,7 +103,8 @@ impl Note {
             Note::LeftOut(count)
             | Note::Falls(count)
             | Note::CutShort(count)
-            | Note::TooLong(_, count) => count,
+            | Note::TooLong(_, count)
+            | Note::LeftToCard(count) => count,
             Note::CutEnd(is_cut) => u64::from(is_cut),
         }
     }
@@ -125,6 +128,15 @@ impl fmt::Display for Note {
             Note::TooLong(Tap::Underlay, 1) => write!(f, "1 packet longer than 65549 octets"),
             Note::TooLong(Tap::Underlay, count) => {
                 write!(f, "{count} packets longer than 65549 octets")
+            }
+            Note::LeftToCard(1) => {
+                write!(f, "1 udp checksum left to the card: ethtool -K DEV tx off")
+            }
+            Note::LeftToCard(count) => {
+                write!(
+                    f,
+                    "{count} udp checksums left to the card: ethtool -K DEV tx off"
+                )
             }
             Note::CutEnd(_) => write!(f, "ends in the middle of a record"),
         }
@@ -223,10 +235,17 @@ impl fmt::Display for Notes {
             tap,
             note: Note::TooLong(tap, tally.too_long),
         };
+        let left_to_card = Line {
+            tap,
+            note: Note::LeftToCard(tally.left_to_card),
+        };
         let cut_end = Line {
             tap,
             note: Note::CutEnd(self.0.survey.is_cut),
         };
-        write!(f, "{left_out}{falls}{cut_short}{too_long}{cut_end}")
+        write!(
+            f,
+            "{left_out}{falls}{cut_short}{too_long}{left_to_card}{cut_end}"
+        )
     }
 }

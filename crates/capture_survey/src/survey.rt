@@ -2,11 +2,10 @@
 ghost use Rattle.std.specs.Prelude.{◌≡◌, ◌≤◌, ◌<◌, ◌^◌, ℕ, List, Some, IfOk};
 ghost use Rattle.pcap_stream.specs.Source.{New, most_left};
 ghost use Rattle.capture_survey.specs.Survey.{Begins, Gives, IsOpen, ReadsWith, surveyed};
-ghost use Rattle.capture_survey.specs.Tally.{longest_at};
 
 use crate::fault::{SurveyFault, source_fault};
 use crate::read::read_records;
-use crate::tally::{Tally, longest_at};
+use crate::tally::Tally;
 use pcap_io::Style;
 use pcap_stream::{Input, Source};
 use timeline::Tap;
@@ -31,14 +30,14 @@ pub struct Survey {
 pub fn survey_capture<R: Input>(source: &mut Source<R>, tap: Tap) -> Result<Survey, SurveyFault>
     requires new { source.old.standing ≡ New }
     requires most { most_left source.old < 2 ^ 64 }
-    ensures told { (text : List ℕ) → source.old.supply.rest ≡ Some text → Gives result (surveyed (longest_at tap) text) }
+    ensures told { (text : List ℕ) → source.old.supply.rest ≡ Some text → Gives result (surveyed tap text) }
     ensures reads { ReadsWith source.old.supply source.new.supply result }
 {
     let style = match begin(source) {
         Ok(style) => style,
         Err(fault) => return Err(fault),
     };
-    match read_records(source, longest_at(tap)) {
+    match read_records(source, tap) {
         Ok(tally) => Ok(Survey {
             style,
             tally,

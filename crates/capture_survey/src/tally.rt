@@ -1,7 +1,8 @@
 //! What is counted of the records of a capture.
-ghost use Rattle.std.specs.Prelude.{◌≡◌, ◌++◌, ◌∷◌, [], ℕ, List};
+ghost use Rattle.std.specs.Prelude.{◌≡◌, ◌++◌, ◌∷◌, [], List};
 ghost use Rattle.pcap_io.specs.Record.{Record as ARecord};
-ghost use Rattle.capture_survey.specs.Tally.{HasRoom, first_of, is_below, is_cut_short, is_too_long, last_of, longest_at, one_if, tally_of};
+ghost use Rattle.timeline.specs.declared.source.Tap.{Tap as ATap};
+ghost use Rattle.capture_survey.specs.Tally.{HasRoom, first_of, is_below, is_cut_short, is_left_to_card, is_too_long, last_of, longest_at, one_if, tally_of};
 
 use pcap_io::Record;
 use timeline::Tap;
@@ -33,12 +34,14 @@ pub struct Tally {
     pub cut_short: u64,
     /// Records with more octets than a run takes there.
     pub too_long: u64,
+    /// Packets from the underlay whose UDP checksums their senders left to their network cards.
+    pub left_to_card: u64,
 }
 
 impl Tally {
     /// That of no records.
     pub(crate) fn none() -> Tally
-        ensures { (bound : ℕ) → result ≡ tally_of bound [] }
+        ensures { (tap : ATap) → result ≡ tally_of tap [] }
     {
         Tally {
             records: 0,
@@ -46,18 +49,20 @@ impl Tally {
             falls: 0,
             cut_short: 0,
             too_long: 0,
+            left_to_card: 0,
         }
     }
 
-    /// Counts one more record behind them.
-    pub(crate) fn add(&mut self, next: &Record, bound: usize)
+    /// Counts one more record of a tap behind them.
+    pub(crate) fn add(&mut self, next: &Record, tap: Tap)
         requires { HasRoom self.old }
-        ensures { (rs : List ARecord) → self.old ≡ tally_of bound rs → self.new ≡ tally_of bound (rs ++ next.now ∷ []) }
+        ensures { (rs : List ARecord) → self.old ≡ tally_of tap rs → self.new ≡ tally_of tap (rs ++ next.now ∷ []) }
     {
         let moment = next.moment;
         self.records += 1;
         self.cut_short += one_if(is_cut_short(next));
-        self.too_long += one_if(is_too_long(next, bound));
+        self.too_long += one_if(is_too_long(next, longest_at(tap)));
+        self.left_to_card += one_if(is_left_to_card(next, tap));
         self.falls += one_if(is_below(self.span, moment));
         self.span = Some(Span {
             first: first_of(self.span, moment),
@@ -67,7 +72,7 @@ impl Tally {
 }
 
 /// How many octets a record of a tap may have, so that a run doesn't drop it as too long (reason 1, TooLong).
-pub(crate) fn longest_at(tap: Tap) -> usize
+fn longest_at(tap: Tap) -> usize
     ensures { result ≡ longest_at tap }
 {
     match tap {
@@ -88,6 +93,16 @@ fn is_too_long(found: &Record, bound: usize) -> bool
     ensures { result ≡ is_too_long bound found.now }
 {
     found.octets.len() > bound
+}
+
+/// Whether it is a packet from the underlay whose UDP checksum its sender left to its network card.
+fn is_left_to_card(found: &Record, tap: Tap) -> bool
+    ensures { result ≡ is_left_to_card tap found.now }
+{
+    match tap {
+        Tap::Port(_) => false,
+        Tap::Underlay => decapsulate::is_left_to_card(found.octets),
+    }
 }
 
 /// Whether a moment is earlier than one of some records.

@@ -1,5 +1,5 @@
 -- What a datagram to this endpoint brings.
-use Rattle.std.proofs.Common.{◌≡◌, ◌≢◌, ℕ, ◌+◌, ◌<◌, Bool, true, false, ◌&&◌, cond, eqb, List, ◌++◌, length, take, drop, Option, Some, None, Ok, option_map, refl, sym, ap, ◌∙◌, arith, inl, inr}
+use Rattle.std.proofs.Common.{◌≡◌, ◌≢◌, ℕ, ◌+◌, ◌<◌, Bool, true, false, not, ◌&&◌, cond, eqb, List, ◌++◌, length, take, drop, Option, Some, None, Ok, option_map, refl, sym, ap, ◌∙◌, arith, inl, inr}
 use Rattle.std.specs.Prelude.{◌⊎◌, is_none}
 use Rattle.std.proofs.lemmas.Bool.{eq-eqb, ne_eqb, eqb-true, cases_Bool}
 use Rattle.std.proofs.lemmas.List.{length-append, take_at, drop_at, drop-drop}
@@ -15,8 +15,8 @@ use Rattle.ip_udp_view.specs.declared.addr.Addr.{Addr}
 use Rattle.ip_udp_view.specs.declared.addr.Tunnel.{Tunnel}
 use Rattle.ip_udp_view.specs.declared.addr.Tunnel.TheVariants.{Vxlan, Geneve}
 use Rattle.ip_udp_view.specs.declared.udp_view.SumState.{SumState}
-use Rattle.ip_udp_view.specs.declared.udp_view.SumState.TheVariants.{Zero, Right, Wrong}
-use Rattle.ip_udp_view.specs.Udp.{udp_header, datagram, data_of, pseudo, sum_state}
+use Rattle.ip_udp_view.specs.declared.udp_view.SumState.TheVariants.{Zero, Right, Partial, Wrong}
+use Rattle.ip_udp_view.specs.Udp.{udp_header, datagram, data_of, pseudo, partial_sum, sum_state}
 use Rattle.ip_udp_view.specs.Datagram.{Datagram, datagram_reasons as udp_reasons}
 use Rattle.ip_udp_view.proofs.UdpLemmas.{HasFields-from}
 use Rattle.ip_udp_view.proofs.DatagramLemmas.{only-datagram}
@@ -86,31 +86,39 @@ port-kind_at U port kind h = elim (cases_Bool (eqb port U.vxlan_port)) [
 
 -- ---- the checksum
 
--- what the checksum s of a text with the sum t says
-abbrev pub state_of : ℕ → ℕ → SumState
-state_of s t = cond (eqb s 0) Zero (cond (eqb t 65535) Right Wrong)
+-- what the checksum s of a text with the sum t and a pseudo header with the sum p says
+abbrev pub state_of : ℕ → ℕ → ℕ → SumState
+state_of s t p = cond (eqb s 0) Zero (cond (eqb t 65535) Right (cond (eqb s p) Partial Wrong))
 
 abbrev pub text_sum : Addr → Addr → ℕ → ℕ → ℕ → List ℕ → ℕ
 text_sum src dst from to sum d = folded (total (pseudo src dst (8 + length d) ++ (udp_header from to sum d ++ d)))
 
 pub sum_state-header : (src dst : Addr) (from to sum : ℕ) (d : List ℕ) → from < 65536 → to < 65536 → sum < 65536 → 8 + length d < 65536
-    → sum_state src dst (udp_header from to sum d ++ d) ≡ state_of sum (text_sum src dst from to sum d)
+    → sum_state src dst (udp_header from to sum d ++ d) ≡ state_of sum (text_sum src dst from to sum d) (partial_sum src dst (8 + length d))
 sum_state-header src dst from to sum d a b c e =
     let h = udp_header from to sum d in
     let fields = HasFields-from from to sum d a b c e in
     let sum_is = field-append 6 2 h d (omega arith) ∙ fields.sum_is in
     let len : length (h ++ d) ≡ 8 + length d = length-append h d in
-    ap (λ (s : ℕ). cond (eqb s 0) Zero (cond (eqb (folded (total (pseudo src dst (length (h ++ d)) ++ (h ++ d)))) 65535) Right Wrong)) sum_is
-    ∙ ap (λ (n : ℕ). cond (eqb sum 0) Zero (cond (eqb (folded (total (pseudo src dst n ++ (h ++ d)))) 65535) Right Wrong)) len
+    ap (λ (s : ℕ). state_of s (folded (total (pseudo src dst (length (h ++ d)) ++ (h ++ d)))) (partial_sum src dst (length (h ++ d)))) sum_is
+    ∙ ap (λ (n : ℕ). state_of sum (folded (total (pseudo src dst n ++ (h ++ d)))) (partial_sum src dst n)) len
 
 -- one that is taken meets no reason
-pub state-taken : (s t : ℕ) (needs : Bool) → ((s ≡ 0) × (needs ≡ false)) ⊎ ((0 < s) × (t ≡ 65535))
-    → ((is_zero (state_of s t) && needs) ≡ false) × (is_wrong (state_of s t) ≡ false)
-state-taken s t needs (inl none) = let z : eqb s 0 ≡ true = eq-eqb s 0 none.0 in rw z (none.1, refl)
-state-taken s t needs (inr right) =
-    let z : eqb s 0 ≡ false = ne_eqb s 0 (λ e. let some = right.0 in absurd (omega arith)) in
-    let r : eqb t 65535 ≡ true = eq-eqb t 65535 right.1 in
-    rw (z, r) (refl, refl)
+pub state-taken : (U : Underlay) (s t p : ℕ) (needs : Bool) → ((s ≡ 0) × (needs ≡ false)) ⊎ ((0 < s) × ((t ≡ 65535) ⊎ ((U.partial ≡ true) × (s ≡ p))))
+    → ((is_zero (state_of s t p) && needs) ≡ false) × (is_wrong U (state_of s t p) ≡ false)
+state-taken U s t p needs (inl none) = let z : eqb s 0 ≡ true = eq-eqb s 0 none.0 in rw z (none.1, refl)
+state-taken U s t p needs (inr some) =
+    let z : eqb s 0 ≡ false = ne_eqb s 0 (λ e. let above = some.0 in absurd (omega arith)) in
+    rw z (sound U needs (eqb t 65535) (eqb s p) (elim some.1 [ inl right ↦ inl (eq-eqb t 65535 right) | inr left ↦ inr (left.0, eq-eqb s p left.1) ]))
+  where
+    -- the same of the tests
+    sound : (U : Underlay) (needs r q : Bool) → (r ≡ true) ⊎ ((U.partial ≡ true) × (q ≡ true))
+        → ((is_zero (cond r Right (cond q Partial Wrong)) && needs) ≡ false) × (is_wrong U (cond r Right (cond q Partial Wrong)) ≡ false)
+    sound U needs true q h = (refl, refl)
+    sound U needs false true (inl right) = absurd cc
+    sound U needs false true (inr left) = (refl, ap not left.0)
+    sound U needs false false (inl right) = absurd cc
+    sound U needs false false (inr left) = absurd cc
 
 -- ---- the frame
 
@@ -147,12 +155,13 @@ outer-none S vid g kind vni b src dst from to sum d e k q =
     let parts = o.1 in
     let a = NothingHolds-from (udp_reasons b) o.0 in
     let kind_is : kind_to U p ≡ Some kind = ap (kind_at U) (parts.dport_is ∙ q.port) ∙ kind_at-port U kind q.two_ports in
-    let state : sum_of p ≡ state_of sum (text_sum src dst from to sum d) =
+    let told = state_of sum (text_sum src dst from to sum d) (partial_sum src dst (8 + length d)) in
+    let state : sum_of p ≡ told =
     ap (λ (x : Addr). sum_state x p.destination (datagram p.payload)) parts.source_is
     ∙ ap (λ (x : Addr). sum_state src x (datagram p.payload)) parts.destination_is
     ∙ ap (λ (x : List ℕ). sum_state src dst x) parts.datagram_is
     ∙ sum_state-header src dst from to sum d k.fits.0 k.fits.1 k.fits.2 k.fits.3 in
-    let taken = state-taken sum (text_sum src dst from to sum d) (needs_sum U src) q.sum_taken in
+    let taken = state-taken U sum (text_sum src dst from to sum d) (partial_sum src dst (8 + length d)) (needs_sum U src) q.sum_taken in
     let in_frame = first-nothing (frame_reasons b) (a.0, (a.1.0, (a.1.1.0, (a.1.1.1.0, tt)))) in
     let in_packet = first-nothing (packet_reasons U p) (
       ap (is_bad_source U) parts.source_is ∙ q.good_source,
@@ -164,9 +173,9 @@ outer-none S vid g kind vni b src dst from to sum d e k q =
         ap is_none kind_is,
         (
           ap (λ (s : SumState). is_zero s && needs_sum U p.source) state
-              ∙ ap (λ (x : Addr). is_zero (state_of sum (text_sum src dst from to sum d)) && needs_sum U x) parts.source_is
+              ∙ ap (λ (x : Addr). is_zero told && needs_sum U x) parts.source_is
               ∙ taken.0,
-          (ap is_wrong state ∙ taken.1, tt),
+          (ap (is_wrong U) state ∙ taken.1, tt),
         ),
       ),
     ) in

@@ -1,5 +1,5 @@
 -- A packet brings what arrives in whole texts, and nothing else.
-use Rattle.std.proofs.Common.{◌≡◌, ◌≢◌, ℕ, ◌<◌, ◌≤◌, Bool, true, false, not, ◌&&◌, cond, eqb, List, ◌++◌, length, take, drop, Option, Some, None, Ok, option_map, refl, sym, ap, ◌∙◌, subst, arith, inl, inr}
+use Rattle.std.proofs.Common.{◌≡◌, ◌≢◌, ℕ, ◌+◌, ◌<◌, ◌≤◌, Bool, true, false, not, ◌&&◌, cond, eqb, List, ◌++◌, length, take, drop, Option, Some, None, Ok, option_map, refl, sym, ap, ◌∙◌, subst, arith, inl, inr}
 use Rattle.std.specs.Prelude.{◌⊎◌, is_none}
 use Rattle.std.proofs.lemmas.Bool.{ltb-false, le-ltb, eqb-true, eqb-false, not-false, not_from_true, and_cases, and_left, and_right}
 use Rattle.std.proofs.lemmas.List.{length-append, length-take, length-drop, take-append-drop, drop-drop}
@@ -15,12 +15,13 @@ use Rattle.ip_udp_view.specs.declared.addr.Addr.{Addr}
 use Rattle.ip_udp_view.specs.declared.addr.Tunnel.{Tunnel}
 use Rattle.ip_udp_view.specs.declared.addr.Tunnel.TheVariants.{Vxlan, Geneve}
 use Rattle.ip_udp_view.specs.declared.udp_view.SumState.{SumState}
-use Rattle.ip_udp_view.specs.declared.udp_view.SumState.TheVariants.{Zero, Right, Wrong}
+use Rattle.ip_udp_view.specs.declared.udp_view.SumState.TheVariants.{Zero, Right, Partial, Wrong}
 use Rattle.ip_udp_view.specs.Addr.{is_group}
-use Rattle.ip_udp_view.specs.Udp.{sport, dport, udp_sum, data_of, sum_state}
+use Rattle.ip_udp_view.specs.Udp.{sport, dport, udp_sum, data_of, partial_sum, sum_state}
 use Rattle.ip_udp_view.specs.Datagram.{Datagram, datagram_reasons as udp_reasons}
 use Rattle.ip_udp_view.proofs.DatagramLemmas.{found-datagram, only-datagram, IsText-ip_payload, IsText-data}
 use Rattle.underlay.specs.declared.segment.Segment.{Segment}
+use Rattle.underlay.specs.declared.settings.Underlay.{Underlay}
 use Rattle.underlay.specs.Settings.{port_of}
 use Rattle.underlay.specs.Overlay.{Overlay, segment_by, floods, is_listed, drops_tags}
 use Rattle.vxlan_head.specs.Reading.{vxlan_faults, reason_of as vxlan_reason}
@@ -135,16 +136,17 @@ IsTunnelled-from known Geneve d text h =
     (geneve_options d, read.0, read.1)
 
 -- a checksum that meets no reason is taken
-taken-state : (s t : ℕ) (needs : Bool) → (is_zero (state_of s t) && needs) ≡ false → is_wrong (state_of s t) ≡ false
-    → ((s ≡ 0) × (needs ≡ false)) ⊎ ((0 < s) × (t ≡ 65535))
-taken-state s t needs h k = by_test (eqb s 0) (eqb t 65535) needs (eqb-true s 0) (eqb-false s 0) (eqb-true t 65535) h k
+taken-state : (U : Underlay) (s t p : ℕ) (needs : Bool) → (is_zero (state_of s t p) && needs) ≡ false → is_wrong U (state_of s t p) ≡ false
+    → ((s ≡ 0) × (needs ≡ false)) ⊎ ((0 < s) × ((t ≡ 65535) ⊎ ((U.partial ≡ true) × (s ≡ p))))
+taken-state U s t p needs h k = by_test U (eqb s 0) (eqb t 65535) (eqb s p) needs (eqb-true s 0) (eqb-false s 0) (eqb-true t 65535) (eqb-true s p) h k
   where
-    by_test : (z r : Bool) (needs : Bool) → (z ≡ true → s ≡ 0) → (z ≡ false → s ≢ 0) → (r ≡ true → t ≡ 65535)
-        → (is_zero (cond z Zero (cond r Right Wrong)) && needs) ≡ false → is_wrong (cond z Zero (cond r Right Wrong)) ≡ false
-        → ((s ≡ 0) × (needs ≡ false)) ⊎ ((0 < s) × (t ≡ 65535))
-    by_test true r needs a b c h k = inl (a refl, h)
-    by_test false true needs a b c h k = inr (let ne = b refl in omega (arith, ne), c refl)
-    by_test false false needs a b c h k = absurd cc
+    by_test : (U : Underlay) (z r q : Bool) (needs : Bool) → (z ≡ true → s ≡ 0) → (z ≡ false → s ≢ 0) → (r ≡ true → t ≡ 65535) → (q ≡ true → s ≡ p)
+        → (is_zero (cond z Zero (cond r Right (cond q Partial Wrong))) && needs) ≡ false → is_wrong U (cond z Zero (cond r Right (cond q Partial Wrong))) ≡ false
+        → ((s ≡ 0) × (needs ≡ false)) ⊎ ((0 < s) × ((t ≡ 65535) ⊎ ((U.partial ≡ true) × (s ≡ p))))
+    by_test U true r q needs a b c e h k = inl (a refl, h)
+    by_test U false true q needs a b c e h k = inr (let ne = b refl in omega (arith, ne), inl (c refl))
+    by_test U false false true needs a b c e h k = inr (let ne = b refl in omega (arith, ne), inr (not-false U.partial k, e refl))
+    by_test U false false false needs a b c e h k = absurd cc
 
 to_texts : (S : Overlay) (b : List ℕ) (x : Arrived) → IsText b → arrival S b ≡ Ok x → Arrives S b x
 to_texts S b x text h =
@@ -166,12 +168,13 @@ to_texts S b x text h =
     let sum = udp_sum p.payload in
     let parts = (only-datagram b src dst from to sum d packet).1 in
     let port_is : to ≡ port_of U kind = port-kind_at U to kind some_kind.1 in
-    let state : sum_of p ≡ state_of sum (text_sum src dst from to sum d) =
+    let partial = partial_sum src dst (8 + length d) in
+    let state : sum_of p ≡ state_of sum (text_sum src dst from to sum d) partial =
     ap (λ (z : List ℕ). sum_state src dst z) parts.datagram_is ∙ sum_state-header src dst from to sum d packet.fits.0 packet.fits.1 packet.fits.2 packet.fits.3 in
     let taken : IsSumTaken U src dst from to sum d =
-    taken-state sum (text_sum src dst from to sum d) (needs_sum U src)
+    taken-state U sum (text_sum src dst from to sum d) partial (needs_sum U src)
     (ap (λ (s : SumState). is_zero s && needs_sum U src) (sym state) ∙ a.1.1.1.1.1.1.1.1.1.1.0)
-    (ap is_wrong (sym state) ∙ a.1.1.1.1.1.1.1.1.1.1.1.0) in
+    (ap (is_wrong U) (sym state) ∙ a.1.1.1.1.1.1.1.1.1.1.1.0) in
     let in_tunnel : first (tunnel_reasons U.known kind d) ≡ None =
     ap (λ (o : Option Tunnel). first (data_reasons U.known o d)) (sym some_kind.1)
     ∙ first-nothing (data_reasons U.known (kind_to U p) d) a.1.1.1.1.1.1.1.1.1.1.1.1 in

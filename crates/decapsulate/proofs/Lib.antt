@@ -1,4 +1,5 @@
 pub mod PacketLemmas
+pub mod CardLemmas
 pub mod ReasonsLemmas
 pub mod ArrivalLemmas
 pub mod ArrivesLemmas

@@ -1,12 +1,19 @@
 -- How the packet in a frame is read.
-use Rattle.std.proofs.Common.{◌≡◌, ℕ, Bool, true, false, List, [], ◌∷◌, option_map, refl, sym, ap, ◌∙◌}
+use Rattle.std.proofs.Common.{◌≡◌, ℕ, Bool, true, false, List, [], ◌∷◌, ◌++◌, Some, option_map, refl, sym, ap, ◌∙◌}
+use Rattle.std.specs.Prelude.{is_none}
 use Rattle.frame_view.specs.First.{first}
 use Rattle.frame_view.specs.declared.reason.Reason.{Reason}
 use Rattle.ip_udp_view.specs.declared.addr.Addr.{Addr}
+use Rattle.ip_udp_view.specs.declared.addr.Tunnel.{Tunnel}
+use Rattle.ip_udp_view.specs.declared.udp_view.SumState.{SumState}
 use Rattle.ip_udp_view.specs.Parts.{Parts}
 use Rattle.ip_udp_view.specs.Ip.{Family, SplitsIp, packet_parts, source, destination, is_fragment, protocol}
+use Rattle.ip_udp_view.specs.Udp.{dport, SplitsUdp, sum_state}
 use Rattle.ip_udp_view.proofs.IpLemmas.{ReadsAs-from}
-use Rattle.decapsulate.specs.Arrival.{Packet, packet_at, packet_of, as_reasons}
+use Rattle.ip_udp_view.proofs.UdpLemmas.{only-udp, datagram-split, ReadsAs-from as UdpReadsAs-from}
+use Rattle.underlay.specs.declared.settings.Underlay.{Underlay}
+use Rattle.underlay.specs.Settings.{kind_at}
+use Rattle.decapsulate.specs.Arrival.{Packet, packet_at, packet_of, kind_to, sum_of, as_reasons, sum_reasons, datagram_reasons}
 
 -- what is read of the parts of a text is read of the text
 pub packet_at-parts : (f : Family) (r : List ℕ) (v : Parts) (src dst : Addr) (part : Bool) (kind : ℕ) (p : List ℕ) → SplitsIp f r v → v ≡ packet_parts f r
@@ -36,3 +43,16 @@ by_test reason_of fault false faults h = h
 pub first-as_reasons : {A : Type 0} (reason_of : A → Reason) (faults : List (A × Bool)) → first (as_reasons reason_of faults) ≡ option_map reason_of (first faults)
 first-as_reasons reason_of [] = refl
 first-as_reasons reason_of (row ∷ faults) = by_test reason_of row.0 row.1 faults (first-as_reasons reason_of faults)
+
+-- what the checksum of a datagram says, by its parts
+pub sum_of-parts : (p : Packet) (v : Parts) → SplitsUdp p.payload v → sum_state p.source p.destination (v.head ++ v.payload) ≡ sum_of p
+sum_of-parts p v split = ap (sum_state p.source p.destination) (sym (datagram-split p.payload v split))
+
+-- where a packet holds a datagram to a tunnel port, its checksum alone is a reason against it
+pub datagram-sum : (U : Underlay) (p : Packet) (v : Parts) (kind : Tunnel) → SplitsUdp p.payload v → kind_at U (dport v.head) ≡ Some kind
+    → first (sum_reasons U p.source (sum_state p.source p.destination (v.head ++ v.payload))) ≡ first (datagram_reasons U p)
+datagram-sum U p v kind split port =
+    let good = (only-udp p.payload v split).0 in
+    let at_port : kind_to U p ≡ Some kind = ap (kind_at U) (UdpReadsAs-from p.payload v split).dport_is ∙ port in
+    let state = ap (λ (s : SumState). first (sum_reasons U p.source s)) (sum_of-parts p v split) in
+    rw (good, ap is_none at_port) state

@@ -19,11 +19,11 @@ use Rattle.ip_udp_view.specs.declared.addr.Addr.TheVariants.{V4, V6}
 use Rattle.ip_udp_view.specs.declared.addr.Tunnel.{Tunnel}
 use Rattle.ip_udp_view.specs.declared.addr.Tunnel.TheVariants.{Vxlan, Geneve}
 use Rattle.ip_udp_view.specs.declared.udp_view.SumState.{SumState}
-use Rattle.ip_udp_view.specs.declared.udp_view.SumState.TheVariants.{Zero, Right, Wrong}
+use Rattle.ip_udp_view.specs.declared.udp_view.SumState.TheVariants.{Zero, Right, Partial, Wrong}
 use Rattle.ip_udp_view.specs.Addr.{is_group, is_usable}
 use Rattle.ip_udp_view.specs.Parts.{Parts}
 use Rattle.ip_udp_view.specs.Ip.{Family, Ip4, Ip6, header_length, is_bad_ip, is_bad_ip_sum, is_fragment, protocol, source, destination, payload}
-use Rattle.ip_udp_view.specs.Udp.{dport, udp_header, datagram, data_of, is_bad_udp, pseudo, sum_state}
+use Rattle.ip_udp_view.specs.Udp.{dport, udp_header, datagram, data_of, is_bad_udp, pseudo, partial_sum, sum_state}
 use Rattle.ip_udp_view.specs.Datagram.{Datagram, has_type, is_ip, family, ip_text, tags_text}
 use Rattle.vxlan_head.specs.Vxlan.{IsVxlan}
 use Rattle.vxlan_head.specs.Reading.{vxlan_vni, vxlan_inner, vxlan_faults, reason_of as vxlan_reason}
@@ -107,13 +107,15 @@ needs_sum U (V6 b) = not U.zero6
 abbrev pub is_zero : SumState → Bool
 is_zero Zero = true
 is_zero Right = false
+is_zero Partial = false
 is_zero Wrong = false
 
--- it is wrong
-abbrev pub is_wrong : SumState → Bool
-is_wrong Zero = false
-is_wrong Right = false
-is_wrong Wrong = true
+-- it is refused: wrong, or left to the sender's card, unless the settings take that
+abbrev pub is_wrong : Underlay → SumState → Bool
+is_wrong U Zero = false
+is_wrong U Right = false
+is_wrong U Partial = not U.partial
+is_wrong U Wrong = true
 
 -- no IP packet of this family
 abbrev pub ip_reasons : Family → List ℕ → List (Reason × Bool)
@@ -140,14 +142,16 @@ packet_reasons U p =
     ∷ (NotUdp, not (p.protocol == 17))
     ∷ []
 
+-- why a datagram from an address isn't taken whose checksum says this
+abbrev pub sum_reasons : Underlay → Addr → SumState → List (Reason × Bool)
+sum_reasons U a state = (ZeroSum, is_zero state && needs_sum U a) ∷ (BadUdpSum, is_wrong U state) ∷ []
+
 -- no datagram to a tunnel port, or none whose checksum is taken
 abbrev pub datagram_reasons : Underlay → Packet → List (Reason × Bool)
 datagram_reasons U p =
     (BadUdp, is_bad_udp p.payload)
     ∷ (NotTunnel, is_none (kind_to U p))
-    ∷ (ZeroSum, is_zero (sum_of p) && needs_sum U p.source)
-    ∷ (BadUdpSum, is_wrong (sum_of p))
-    ∷ []
+    ∷ sum_reasons U p.source (sum_of p)
 
 -- no tunnel header in its data, at a port of a kind
 abbrev pub data_reasons : List (ℕ × ℕ) → Option Tunnel → List ℕ → List (Reason × Bool)
@@ -224,11 +228,17 @@ abbrev pub IsTunnelled : List (ℕ × ℕ) → Tunnel → List ℕ → ℕ → L
 IsTunnelled known Vxlan d vni e = IsVxlan d vni e
 IsTunnelled known Geneve d vni e = (options : List TunnelOption) × IsGeneve d vni options e × IsTrue (allowed known options)
 
--- the checksum of the datagram with data d says that there is none, where none is needed, or it is right
+-- the checksum of the datagram with data d is right; or it is the sum of the pseudo header, and the settings take that
+abbrev pub IsSumSound : Underlay → Addr → Addr → ℕ → ℕ → ℕ → List ℕ → Type 0
+IsSumSound U src dst sport dport sum d =
+    (folded (total (pseudo src dst (8 + length d) ++ (udp_header sport dport sum d ++ d))) ≡ 65535)
+    ⊎ ((U.partial ≡ true) × (sum ≡ partial_sum src dst (8 + length d)))
+
+-- it says that there is none, where none is needed, or it is one of these
 abbrev pub IsSumTaken : Underlay → Addr → Addr → ℕ → ℕ → ℕ → List ℕ → Type 0
 IsSumTaken U src dst sport dport sum d =
     ((sum ≡ 0) × (needs_sum U src ≡ false))
-    ⊎ ((0 < sum) × (folded (total (pseudo src dst (8 + length d) ++ (udp_header sport dport sum d ++ d))) ≡ 65535))
+    ⊎ ((0 < sum) × IsSumSound U src dst sport dport sum d)
 
 -- b is a datagram from another endpoint to this one, at the port of a kind of tunnel; in it stands the header of a
 -- segment's tunnel, and in that a frame which the segment takes

@@ -1,6 +1,6 @@
 //! The UDP datagram in an outer packet, and the tunnel header in it.
 ghost use Rattle.std.specs.Prelude.{◌≡◌, IfOk, Some};
-ghost use Rattle.decapsulate.specs.Arrival.{kind_to, datagram_reasons, needs_sum, tunnel_reasons, vni_of, inner_of};
+ghost use Rattle.decapsulate.specs.Arrival.{kind_to, datagram_reasons, needs_sum, sum_reasons, tunnel_reasons, vni_of, inner_of};
 ghost use Rattle.frame_view.specs.First.{first, fault_of};
 ghost use Rattle.ip_udp_view.specs.Udp.{data_of};
 
@@ -26,10 +26,23 @@ pub(crate) fn datagram_of<'a>(
     let Some(kind) = underlay.kind_at(view.dport()) else {
         return Err(Reason::NotTunnel);
     };
-    match view.sum_state(packet.source, packet.destination) {
-        SumState::Zero if needs_sum(underlay, packet.source) => Err(Reason::ZeroSum),
-        SumState::Wrong => Err(Reason::BadUdpSum),
-        _ => Ok((kind, view.payload())),
+    let state = view.sum_state(packet.source, packet.destination);
+    match sum_refusal(underlay, packet.source, state) {
+        Some(reason) => Err(reason),
+        None => Ok((kind, view.payload())),
+    }
+}
+
+/// Why a datagram from this address isn't taken whose checksum says this: there is none, and there has to be one; or it is
+/// wrong, or left to the card where `partial` isn't set. None: it is taken.
+pub fn sum_refusal(underlay: &Underlay, source: Addr, state: SumState) -> Option<Reason>
+    ensures { result ≡ first (sum_reasons underlay.now source state) }
+{
+    match state {
+        SumState::Zero if needs_sum(underlay, source) => Some(Reason::ZeroSum),
+        SumState::Partial if !underlay.partial => Some(Reason::BadUdpSum),
+        SumState::Wrong => Some(Reason::BadUdpSum),
+        _ => None,
     }
 }
 

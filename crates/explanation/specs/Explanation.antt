@@ -22,17 +22,19 @@ use Rattle.capture_run.specs.declared.fault.RunFault.{RunFault}
 use Rattle.capture_run.specs.declared.fault.RunFault.TheVariants as faults
 use Rattle.packet_layers.specs.Dissection.{dissection}
 use Rattle.explanation.specs.declared.text.Values.{Values}
-use Rattle.explanation.specs.Text.{layers_text}
+use Rattle.explanation.specs.Text.{card_line, is_left_at, layers_text}
 
 -- the octets of a record
 abbrev pub octets_in : Happening → List ℕ
 octets_in (happenings.Change index) = []
 octets_in (happenings.Record tap captured) = captured.octets
 
--- the decision line of an event of this number, and the layers of its packet
+-- the decision line of an event of this number, the layers of its packet, and what is told of its checksum
 abbrev pub event_text : Overlay → ℕ → Values → ℕ → Happens × Answer → List ℕ
 event_text overlay depth values number row =
-    line number row.0 (answer_text None row.1) ++ layers_text values (dissection overlay depth (octets_in row.0.happening))
+    let b = octets_in row.0.happening in
+    let layers = dissection overlay depth b in
+    line number row.0 (answer_text None row.1) ++ (layers_text values layers ++ card_line (is_left_at overlay b layers.stop))
 
 -- the events are numbered on from this many
 abbrev pub event_texts : Overlay → ℕ → Values → ℕ → List (Happens × Answer) → List ℕ

@@ -5,9 +5,12 @@
 --       stop 20 NotTunnel
 -- and, where values are shown,
 --       ip4 14 20 192.0.2.1 > 192.0.2.2 ttl 64 length 96 protocol 17
-use Rattle.std.specs.Prelude.{ℕ, List, [], ◌∷◌, ◌++◌, length, codes, decimal}
+use Rattle.std.specs.Prelude.{ℕ, ◌&&◌, Bool, false, not, if◌then◌else◌, List, [], ◌∷◌, ◌++◌, length, codes, decimal}
 use Rattle.std.specs.List.{flat_map}
 use Rattle.frame_view.specs.Reason.{number_of, name_of}
+use Rattle.frame_view.specs.declared.reason.Reason.TheVariants.{BadUdpSum}
+use Rattle.underlay.specs.Overlay.{Overlay}
+use Rattle.decapsulate.specs.Card.{is_left_to_card}
 use Rattle.endpoint_core.specs.Decision.{Decision}
 use Rattle.endpoint_core.specs.Text.{result_of}
 use Rattle.packet_layers.specs.declared.kind.Stop.{Stop}
@@ -47,6 +50,16 @@ payload_line p = part_line (codes "payload") p.place (length p.octets)
 abbrev pub stop_line : Stop → List ℕ
 stop_line (At reason) = codes "  stop " ++ decimal (number_of reason) ++ codes " " ++ name_of reason ++ 10 ∷ []
 stop_line Deep = codes "  stop Deep" ++ 10 ∷ []
+
+-- taking the packet b apart stops at its checksum, which its sender left to the network card
+abbrev pub is_left_at : Overlay → List ℕ → Stop → Bool
+is_left_at S b (At BadUdpSum) = not S.underlay.partial && is_left_to_card b
+is_left_at S b (At reason) = false
+is_left_at S b Deep = false
+
+-- the line that tells so
+abbrev pub card_line : Bool → List ℕ
+card_line is_left = if is_left then codes "  udp checksum left to the card" ++ 10 ∷ [] else []
 
 -- all of them, in the order of the packet
 abbrev pub layers_text : Values → Layers → List ℕ

@@ -11,19 +11,22 @@ ghost use Rattle.endpoint_core.specs.Step.{answer, after};
 ghost use Rattle.decision_lines.specs.Lines.{line, answer_text, cut_line};
 ghost use Rattle.capture_run.specs.Outputs.{event_of};
 ghost use Rattle.packet_layers.specs.Dissection.{dissection};
-ghost use Rattle.explanation.specs.Text.{layers_text};
+ghost use Rattle.explanation.specs.Text.{card_line, is_left_at, layers_text};
 ghost use Rattle.explanation.specs.Explanation.{explanation, explained_run, Gives};
 ghost use Rattle.explanation.specs.Growing.{text_at, texts_from};
 
 use crate::text::{Values, write_layers};
 use capture_run::{RunFault, of_captures, of_settings};
+use decapsulate::is_left_to_card;
 use decision_lines::{Desk, Line};
 use endpoint_core::Endpoint;
+use frame_view::Reason;
 use layer_values::Lines;
 use overlay_config::{Settings, settings_of};
-use packet_layers::{Layers, dissect_into};
+use packet_layers::{Layers, Stop, dissect_into};
 use std::alloc::{AllocError, Global};
 use timeline::{Cut, Event, Happening, Tap, Timeline};
+use underlay::Under;
 
 /// What is lent to each packet: its layers, and their lines.
 #[derive(Drop)]
@@ -43,7 +46,8 @@ impl<'a> Sheet<'a> {
 
 /// Explains the packets of a capture, which come to a fresh endpoint with the settings of a text: for each its decision
 /// line and the lines of its layers, with at most `depth` tunnel headers, 1 to 4, and with the values of the headers where
-/// these are shown; and a line where the capture ends with a cut rest.
+/// these are shown; a line more where they end at a checksum that was left to the card; and one where the capture ends with
+/// a cut rest.
 ///
 /// The first fault is answered: of the settings, of the capture's header, of a record. `OutOfMemory` comes only where
 /// memory was refused.
@@ -136,15 +140,52 @@ fn put_packet<'a>(
     ensures state { state_of endpoint.new ≡ after (state_of endpoint.old) (packet_at event.now.moment original octets.now) }
     ensures text { OnOk result (text.new.items ≡ text.old.items
         ++ (line desk.old.number event.now (answer_text None (answer (state_of endpoint.old) (packet_at event.now.moment original octets.now)))
-        ++ layers_text values (dissection (state_of endpoint.old).bridges.settings.overlay depth octets.now))) }
+        ++ (layers_text values (dissection (state_of endpoint.old).bridges.settings.overlay depth octets.now)
+        ++ card_line (is_left_at (state_of endpoint.old).bridges.settings.overlay octets.now
+        (dissection (state_of endpoint.old).bridges.settings.overlay depth octets.now).stop)))) }
     ensures number { desk.new.number ≡ desk.old.number }
 {
     dissect_into(&mut sheet.layers, octets, endpoint.under(), depth);
+    let is_left = is_left_at(sheet.layers.stop(), endpoint.under(), octets);
     let course = endpoint.take_packet(event.moment, original, octets, &mut desk.places);
     desk.write_course(event, endpoint, &course);
     text.extend_from_slice(desk.line.text())?;
-    write_layers(&mut sheet.lines, values, &sheet.layers);
-    text.extend_from_slice(sheet.lines.text())
+    put_layers(text, &mut sheet.lines, values, &sheet.layers, is_left)
+}
+
+/// Puts the lines of the layers of a packet to the text, and the one that tells of a checksum left to the card.
+fn put_layers(
+    text: &mut Vec<u8>,
+    lines: &mut Lines,
+    values: Values,
+    layers: &Layers,
+    is_left: bool,
+) -> Result<(), AllocError>
+    ensures { OnOk result (text.new.items ≡ text.old.items ++ (layers_text values layers.now ++ card_line is_left)) }
+{
+    write_layers(lines, values, layers);
+    text.extend_from_slice(lines.text())?;
+    text.extend_from_slice(card_line(is_left))
+}
+
+/// Whether a packet is no longer taken apart since its sender left its checksum to the network card.
+fn is_left_at(stop: Stop, under: &Under, octets: &[u8]) -> bool
+    ensures { result ≡ is_left_at under.now octets.now stop }
+{
+    matches!(stop, Stop::At(Reason::BadUdpSum))
+        && !under.settings().partial
+        && is_left_to_card(octets)
+}
+
+/// The line that tells so, or none.
+fn card_line(is_left: bool) -> &'static [u8]
+    ensures { result.now ≡ card_line is_left }
+{
+    if is_left {
+        b"  udp checksum left to the card\n"
+    } else {
+        b""
+    }
 }
 
 /// Puts an event, which is a packet, to the endpoint, and what comes of it to the text.

@@ -1,13 +1,13 @@
 -- UDP datagrams: RFC 768; their checksum over IPv6: RFC 8200, 8.1. A text p is an IP payload: a datagram, and a tail
 -- behind the length that its header tells.
-use Rattle.std.specs.Prelude.{◌≡◌, ℕ, ◌+◌, ◌==◌, ◌||◌, nat_lt, Bool, if◌then◌else◌, List, [], ◌∷◌, ◌++◌, length, take}
+use Rattle.std.specs.Prelude.{◌≡◌, ℕ, ◌+◌, ◌==◌, ◌||◌, nat_lt, Bool, true, false, if◌then◌else◌, List, [], ◌∷◌, ◌++◌, length, take}
 use Rattle.header_sums.specs.Octets.{field, octets}
 use Rattle.header_sums.specs.Sum.{total, folded, pseudo4, pseudo6}
 use Rattle.ip_udp_view.specs.declared.addr.Addr.{Addr}
 use Rattle.ip_udp_view.specs.declared.addr.Addr.TheVariants.{V4, V6}
 use Rattle.ip_udp_view.specs.declared.udp_view.BadUdp.{BadUdp}
 use Rattle.ip_udp_view.specs.declared.udp_view.SumState.{SumState}
-use Rattle.ip_udp_view.specs.declared.udp_view.SumState.TheVariants.{Zero, Right, Wrong}
+use Rattle.ip_udp_view.specs.declared.udp_view.SumState.TheVariants.{Zero, Right, Partial, Wrong}
 use Rattle.ip_udp_view.specs.Parts.{Parts, joined, cut}
 
 -- ---- the fields
@@ -75,10 +75,26 @@ pseudo (V4 src) (V6 dst) len = []
 pseudo (V6 src) (V4 dst) len = []
 pseudo (V6 src) (V6 dst) len = pseudo6 src dst len
 
+-- the pseudo header and a datagram t, header and data, sum up to all ones
+abbrev pub sums_up : Addr → Addr → List ℕ → Bool
+sums_up src dst t = folded (total (pseudo src dst (length t) ++ t)) == 65535
+
+-- the one's complement sum of the pseudo header before a datagram of a length, no complement of it taken: what a sender
+-- writes as checksum that leaves it to its network card to add the words of the datagram and take the complement
+abbrev pub partial_sum : Addr → Addr → ℕ → ℕ
+partial_sum src dst len = folded (total (pseudo src dst len))
+
 -- what the checksum of a datagram t, header and data, says: there is none; it is right, since the words of the pseudo
--- header and the datagram sum up to all ones; or it is wrong
+-- header and the datagram sum up to all ones; it is left to the card; or it is wrong
 abbrev pub sum_state : Addr → Addr → List ℕ → SumState
 sum_state src dst t =
     if udp_sum t == 0
     then Zero
-    else (if folded (total (pseudo src dst (length t) ++ t)) == 65535 then Right else Wrong)
+    else (if sums_up src dst t then Right else (if udp_sum t == partial_sum src dst (length t) then Partial else Wrong))
+
+-- it is left to the card
+abbrev pub is_partial : SumState → Bool
+is_partial Zero = false
+is_partial Right = false
+is_partial Partial = true
+is_partial Wrong = false

@@ -3,7 +3,7 @@ ghost use Rattle.std.specs.Prelude.{◌≡◌, ◌^◌, ◌≤◌, ◌++◌, len
 ghost use Rattle.header_sums.specs.Sum.{total, folded};
 ghost use Rattle.frame_view.specs.First.{fault_of, first};
 ghost use Rattle.ip_udp_view.specs.Addr.{address, same_family};
-ghost use Rattle.ip_udp_view.specs.Udp.{SplitsUdp, udp_parts, udp_faults, sport, dport, pseudo, sum_state};
+ghost use Rattle.ip_udp_view.specs.Udp.{SplitsUdp, udp_parts, udp_faults, sport, dport, pseudo, is_partial, sum_state};
 
 use crate::Addr;
 use byteorder::{BigEndian, ByteOrder};
@@ -26,7 +26,10 @@ pub enum SumState {
     Zero,
     /// It is the datagram's.
     Right,
-    /// It isn't the datagram's.
+    /// It isn't the datagram's, but the folded sum of the pseudo header alone, with no complement taken: the sender left it
+    /// to its network card to sum up the rest.
+    Partial,
+    /// It is none of these.
     Wrong,
 }
 
@@ -108,13 +111,28 @@ impl<'a> UdpView<'a> {
         requires { IsTrue (same_family src dst) }
         ensures { result ≡ sum_state src dst (self.now.head ++ self.now.payload) }
     {
-        if BigEndian::read_u16(&self.head[6..]) == 0 {
+        let told = BigEndian::read_u16(&self.head[6..]);
+        if told == 0 {
             SumState::Zero
         } else if self.sum_between(src, dst) == u16::MAX {
             SumState::Right
+        } else if told == fold(self.pseudo_words(src, dst)) {
+            SumState::Partial
         } else {
             SumState::Wrong
         }
+    }
+
+    /// Whether the checksum is left to the sender's card, as [`UdpView::sum_state`] says it; where it isn't, mostly without
+    /// the sum of the payload.
+    pub fn is_partial(&self, src: Addr, dst: Addr) -> bool
+        requires { IsTrue (same_family src dst) }
+        ensures { result ≡ is_partial (sum_state src dst (self.now.head ++ self.now.payload)) }
+    {
+        if BigEndian::read_u16(&self.head[6..]) != fold(self.pseudo_words(src, dst)) {
+            return false;
+        }
+        matches!(self.sum_state(src, dst), SumState::Partial)
     }
 
     /// The folded sum of the datagram and of its pseudo header between these addresses (RFC 768; RFC 8200, 8.1).
@@ -124,9 +142,19 @@ impl<'a> UdpView<'a> {
         ensures { let datagram = self.now.head ++ self.now.payload in
             result ≡ folded (total (pseudo src dst (length datagram) ++ datagram)) }
     {
-        let length = u64::from(BigEndian::read_u16(&self.head[4..]));
-        let pseudo = address_words(src) + address_words(dst) + u64::from(UDP) + length;
+        let pseudo = self.pseudo_words(src, dst);
         fold(pseudo + words(self.head) + u64::from(folded(self.payload)))
+    }
+
+    /// The sum of the words of the pseudo header between these addresses (RFC 768; RFC 8200, 8.1).
+    #[inline(always)]
+    fn pseudo_words(&self, src: Addr, dst: Addr) -> u64
+        requires { IsTrue (same_family src dst) }
+        ensures sum { result ≡ total (pseudo src dst (length (self.now.head ++ self.now.payload))) }
+        ensures small { result ≤ 2 ^ 22 }
+    {
+        let length = u64::from(BigEndian::read_u16(&self.head[4..]));
+        address_words(src) + address_words(dst) + u64::from(UDP) + length
     }
 }
 

@@ -14,8 +14,8 @@ use Rattle.config_text.specs.Column.{range}
 use Rattle.config_text.specs.Table.{Place, top, required_value, required, optional_value, all_known, only, table_value, subtable, list_of, items_value, limited, some_items, required_items, row_place, each, numbered}
 use Rattle.overlay_settings.specs.declared.segment.SegmentRule.{SegmentRule}
 use Rattle.overlay_settings.specs.Settings.{Settings}
-use Rattle.overlay_config.specs.declared.segment.Version.{Version}
-use Rattle.overlay_config.specs.declared.segment.Version.TheVariants.{One, Two}
+use Rattle.overlay_config.specs.declared.version.Version.{Version}
+use Rattle.overlay_config.specs.declared.version.Version.TheVariants.{One, Two, Three}
 use Rattle.overlay_config.specs.Port.{port_of}
 use Rattle.overlay_config.specs.Underlay.{underlay_of}
 use Rattle.overlay_config.specs.Segment.{segment_of}
@@ -120,10 +120,15 @@ version_two ms e =
     let at : Place = top (version_2 ms) in
     bind_then (only (top ms) top_keys) _ One e (λ known known-is e0.
     gives (only at top_keys) _ known Two (known_only at top_keys known (top_known ms (only_known (top ms) top_keys known known-is)))
-    (gives (required at (codes "version") (range 1 2)) _ 2 Two (ap (required_value (codes "version") (range 1 2)) (get_here (codes "version") (integer (pos 2)) (migrated_segments ms))) refl))
+    (gives (required at (codes "version") (range 1 3)) _ 2 Two (ap (required_value (codes "version") (range 1 3)) (get_here (codes "version") (integer (pos 2)) (migrated_segments ms))) refl))
 
 abbrev subtable_from : List ℕ → Option Data → Meaning Place
 subtable_from p o = table_value p o >>= λ members. Ok (record { prefix = p ++ codes "."; members = members })
+
+-- the underlay of version 2 means what it means in version 1
+underlay_kept : (below : Place) → underlay_of Two below ≡ underlay_of One below
+unfolding underlay_of
+underlay_kept below = refl
 
 version_2_means : (ms : Members) (s : Settings) → version_of (top ms) ≡ Ok One → settings_of ms ≡ Ok s → settings_of (version_2 ms) ≡ Ok s
 unfolding settings_of
@@ -132,16 +137,18 @@ version_2_means ms s one e =
     bind_then (version_of (top ms)) _ s e (λ version version-is e0.
     bind_then (given_pool_of (top ms)) _ s e0 (λ given given-is e1.
     bind_then (subtable (top ms) (codes "underlay")) _ s e1 (λ below below-is e2.
-    bind_then (underlay_of below) _ s e2 (λ underlay underlay-is e3.
+    bind_then (underlay_of version below) _ s e2 (λ underlay underlay-is e3.
     bind_then (required_items (top ms) (codes "port") 16) _ s e3 (λ tables tables-is e4.
     bind_then (each (λ earlier at. port_of at) (codes "port") [] tables) _ s e4 (λ ports ports-is e5.
     bind_then (segments_of version (own underlay) (length ports) (top ms)) _ s e5 (λ segments segments-is e6.
     let segments-one : segments_of One (own underlay) (length ports) (top ms) ≡ Ok segments =
     subst (λ v. segments_of v (own underlay) (length ports) (top ms) ≡ Ok segments) (ok_is version One (sym version-is ∙ one)) segments-is in
+    let underlay-one : underlay_of One below ≡ Ok underlay =
+    subst (λ v. underlay_of v below ≡ Ok underlay) (ok_is version One (sym version-is ∙ one)) underlay-is in
     gives (version_of new) _ Two s (version_two ms one)
     (gives (given_pool_of new) _ given s (ap (optional_value (codes "pool") (range 1 65536)) (top_key (codes "pool") ms refl refl) ∙ given-is)
     (gives (subtable new (codes "underlay")) _ below s (ap (subtable_from (codes "underlay")) (top_key (codes "underlay") ms refl refl) ∙ below-is)
-    (gives (underlay_of below) _ underlay s underlay-is
+    (gives (underlay_of Two below) _ underlay s (underlay_kept below ∙ underlay-one)
     (gives (required_items new (codes "port") 16) _ tables s (ap (required_from (codes "port") 16) (top_key (codes "port") ms refl refl) ∙ tables-is)
     (gives (each (λ earlier at. port_of at) (codes "port") [] tables) _ ports s ports-is
     (gives (segments_of Two (own underlay) (length ports) new) _ segments s (segments_kept (own underlay) (length ports) ms segments segments-one) e6)))))))))))))
@@ -149,6 +156,7 @@ version_2_means ms s one e =
 is_one_ok : (v : Meaning Version) → is_one v ≡ true → v ≡ Ok One
 is_one_ok (Ok One) e = refl
 is_one_ok (Ok Two) e = absurd (false≢true e)
+is_one_ok (Ok Three) e = absurd (false≢true e)
 is_one_ok (Err f) e = absurd (false≢true e)
 
 migrated_one : (ms : Members) → is_one (version_of (top ms)) ≡ true → migrated ms ≡ version_2 ms

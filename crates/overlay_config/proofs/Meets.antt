@@ -30,13 +30,13 @@ use Rattle.overlay_config.specs.CommonRules.{common_of, peer_words, tag_words}
 use Rattle.overlay_config.specs.LocalRules.{local_of, members_of}
 use Rattle.overlay_config.specs.Port.{port_of, port_keys, accept_words}
 use Rattle.overlay_settings.specs.Settings.{Exceptions}
-use Rattle.overlay_config.specs.Underlay.{exceptions, underlay_of, underlay_keys, own_addrs_of, tunnel_ports_of, pair_in, known_option, with_known, put_known, hop_of, hop_keys, hops_of}
+use Rattle.overlay_config.specs.Underlay.{exceptions, underlay_of, underlay_keys, partial_of, own_addrs_of, tunnel_ports_of, pair_in, known_option, with_known, put_known, hop_of, hop_keys, hops_of}
 use Rattle.overlay_settings.specs.Settings.{is_member}
 use Rattle.overlay_config.specs.Members.{with_member, put_member}
-use Rattle.overlay_config.specs.declared.segment.Version.{Version}
-use Rattle.overlay_config.specs.declared.segment.Version.TheVariants.{One, Two}
+use Rattle.overlay_config.specs.declared.version.Version.{Version}
+use Rattle.overlay_config.specs.declared.version.Version.TheVariants.{One, Two, Three}
 use Rattle.overlay_config.specs.Tunnel.{TunnelRules, tunnel_of, flood_of, tunnels_of}
-use Rattle.overlay_config.specs.Segment.{rules_of, segment_of, segment_keys, is_taken}
+use Rattle.overlay_config.specs.Segment.{tables_of, rules_of, segment_of, segment_keys, is_taken}
 use Rattle.overlay_settings.specs.Settings.{Settings, sum_of_limits}
 use Rattle.overlay_config.specs.Settings.{version_of, given_pool_of, pool_for, segments_of, settings_of, settings_in}
 use Rattle.overlay_config.specs.Document.{document}
@@ -191,10 +191,10 @@ default_mtu = (lit≤ tt, lit≤ tt)
 default_ttl : IsWithin 1 255 64
 default_ttl = (lit≤ tt, lit≤ tt)
 
-underlay_meets : (at : Place) (u : Underlay) → underlay_of at ≡ Ok u → IsUnderlay u
+underlay_meets : (version : Version) (at : Place) (u : Underlay) → underlay_of version at ≡ Ok u → IsUnderlay u
 unfolding underlay_of
-underlay_meets at u e =
-    bind_then (only at underlay_keys) _ u e (λ keys keys-is e0.
+underlay_meets version at u e =
+    bind_then (only at (underlay_keys version)) _ u e (λ keys keys-is e0.
     bind_then (required at (codes "mac") individual_mac) _ u e0 (λ mac mac-is e1.
     bind_then (required at (codes "next_hop") individual_mac) _ u e1 (λ next next-is e2.
     bind_then (own_addrs_of at) _ u e2 (λ own own-is e3.
@@ -204,13 +204,14 @@ underlay_meets at u e =
     bind_then (defaulted at (codes "sum4") truth false) _ u e6 (λ sum4 sum4-is e7.
     bind_then (defaulted at (codes "sum6") truth true) _ u e7 (λ sum6 sum6-is e8.
     bind_then (defaulted at (codes "zero6") truth true) _ u e8 (λ zero6 zero6-is e9.
-    bind_then (listed at (codes "known") 16 put_known []) _ u e9 (λ known known-is e10.
-    bind_then (hops_of at) _ u e10 (λ hops hops-is e11.
+    bind_then (partial_of version at) _ u e9 (λ partial partial-is e10.
+    bind_then (listed at (codes "known") 16 put_known []) _ u e10 (λ known known-is e11.
+    bind_then (hops_of at) _ u e11 (λ hops hops-is e12.
     let o = own_meets at own own-is in
     let p = tunnel_ports_meet at ports ports-is in
     let k = listed_meets IsKnown put_known known_meets at (codes "known") 16 known known-is in
     let h = hops_meet at hops hops-is in
-    subst IsUnderlay (ok_is _ u e11) (record {
+    subst IsUnderlay (ok_is _ u e12) (record {
       mac = required_meets IsIndividual individual_mac mac_meets at (codes "mac") mac mac-is;
       next_hop = required_meets IsIndividual individual_mac mac_meets at (codes "next_hop") next next-is;
       ip4 = o.0;
@@ -225,7 +226,7 @@ underlay_meets at u e =
       known = k.1;
       hop_count = h.0;
       hops = h.1;
-    })))))))))))))
+    }))))))))))))))
 
 -- ---- segments
 
@@ -290,6 +291,13 @@ local_meets ports at x e =
       tagged = members_meet at (codes "tagged") ports untagged tagged tagged-is;
     }))))
 
+tables_meet : (own : Own) (ports : ℕ) (at : Place) (x : TunnelRules × LocalRules) → tables_of own ports at ≡ Ok x → AreTunnels own x.0 × AreLocal ports x.1
+tables_meet own ports at x e =
+    bind_then (tunnels_of own at) _ x e (λ tunnels tunnels-is e0.
+    bind_then (local_of ports at) _ x e0 (λ local local-is e1.
+    subst (λ r. AreTunnels own r.0 × AreLocal ports r.1) (ok_is _ x e1)
+    (tunnels_meet own at tunnels tunnels-is, local_meets ports at local local-is)))
+
 rules_meet : (version : Version) (own : Own) (ports : ℕ) (at : Place) (x : TunnelRules × LocalRules) → rules_of version own ports at ≡ Ok x → AreTunnels own x.0 × AreLocal ports x.1
 unfolding rules_of
 rules_meet One own ports at x e =
@@ -298,11 +306,8 @@ rules_meet One own ports at x e =
     bind_then (flood_of own tunnel.kind at) _ x e1 (λ flood flood-is e2.
     subst (λ r. AreTunnels own r.0 × AreLocal ports r.1) (ok_is _ x e2)
     (one_meets own at tunnel flood (tunnel_meets at tunnel tunnel-is) flood-is, local_meets ports at local local-is))))
-rules_meet Two own ports at x e =
-    bind_then (tunnels_of own at) _ x e (λ tunnels tunnels-is e0.
-    bind_then (local_of ports at) _ x e0 (λ local local-is e1.
-    subst (λ r. AreTunnels own r.0 × AreLocal ports r.1) (ok_is _ x e1)
-    (tunnels_meet own at tunnels tunnels-is, local_meets ports at local local-is)))
+rules_meet Two own ports at x e = tables_meet own ports at x e
+rules_meet Three own ports at x e = tables_meet own ports at x e
 
 segment_meets : (version : Version) (own : Own) (ports : ℕ) (earlier : List SegmentRule) (at : Place) (s : SegmentRule) → segment_of version own ports earlier at ≡ Ok s → IsSegment own ports earlier s
 unfolding segment_of
@@ -363,7 +368,7 @@ settings_meet members s e =
     bind_then (version_of (top members)) _ s e (λ version version-is ev.
     bind_then (given_pool_of (top members)) _ s ev (λ given given-is e0.
     bind_then (subtable (top members) (codes "underlay")) _ s e0 (λ below below-is e1.
-    bind_then (underlay_of below) _ s e1 (λ underlay underlay-is e2.
+    bind_then (underlay_of version below) _ s e1 (λ underlay underlay-is e2.
     bind_then (required_items (top members) (codes "port") 16) _ s e2 (λ tables tables-is e3.
     bind_then (each (λ earlier at. port_of at) (codes "port") [] tables) _ s e3 (λ ports ports-is e4.
     bind_then (segments_of version (own underlay) (length ports) (top members)) _ s e4 (λ segments segments-is e5.
@@ -373,7 +378,7 @@ settings_meet members s e =
     let q = segments_meet version (own underlay) (length ports) (top members) segments segments-is in
     let l = pool_meets given segments pool pool-is (given_meets (top members) given given-is) (some_entries (own underlay) (length ports) segments q.0.0 q.1, q.2) in
     subst MeetsRules (ok_is _ s e6) (record {
-      underlay = underlay_meets below underlay underlay-is;
+      underlay = underlay_meets version below underlay underlay-is;
       port_count = subst (IsWithin 1 16) (sym p.1) few;
       ports = p.0;
       segment_count = q.0;

@@ -21,7 +21,7 @@ use Rattle.config_text.specs.Column.{range, truth, one_of, gathered}
 use Rattle.config_text.specs.Table.{Place, path, fits, required_value, required, default_value, defaulted, all_known, only, items_value, limited, some_items, required_items, listed, each, numbered}
 use Rattle.overlay_settings.specs.declared.segment.SegmentRule.{SegmentRule}
 use Rattle.overlay_config.specs.declared.local_rules.LocalRules.{LocalRules}
-use Rattle.overlay_config.specs.declared.segment.Version.TheVariants.{One, Two}
+use Rattle.overlay_config.specs.declared.version.Version.TheVariants.{One, Two}
 use Rattle.overlay_config.specs.declared.tunnel.TunnelTable.{TunnelTable}
 use Rattle.overlay_config.specs.CommonRules.{common_of, peer_words, tag_words}
 use Rattle.overlay_config.specs.LocalRules.{local_of, members_of}

@@ -1,6 +1,7 @@
 pub mod Fault
 pub mod Document
 pub mod Underlay
+pub mod Version
 pub mod Port
 pub mod Members
 pub mod Flood

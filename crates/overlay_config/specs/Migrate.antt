@@ -5,8 +5,8 @@ use Rattle.std.specs.Cmp.Lexicographic.{slice_cmp}
 use Rattle.toml.specs.Data.{Data, integer, array, table, Items, no_items, item, Members, no_members, member, same_key, get_member}
 use Rattle.config_text.specs.Fault.{Meaning}
 use Rattle.config_text.specs.Table.{top}
-use Rattle.overlay_config.specs.declared.segment.Version.{Version}
-use Rattle.overlay_config.specs.declared.segment.Version.TheVariants.{One}
+use Rattle.overlay_config.specs.declared.version.Version.{Version}
+use Rattle.overlay_config.specs.declared.version.Version.TheVariants.{One}
 use Rattle.overlay_config.specs.Settings.{version_of}
 
 -- ---- tables
@@ -69,6 +69,6 @@ abbrev pub is_one : Meaning Version → Bool
 is_one (Ok One) = true
 is_one _ = false
 
--- settings of version 1 as settings of version 2; what is no version 1 stays as it is
+-- settings of version 1 as settings of version 2; what is no version 1 stays as it is, and so do settings of version 3
 abbrev pub migrated : Members → Members
 migrated ms = if is_one (version_of (top ms)) then version_2 ms else ms

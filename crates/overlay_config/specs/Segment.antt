@@ -11,8 +11,8 @@ use Rattle.config_text.specs.Fault.{Meaning, ◌>>=◌}
 use Rattle.config_text.specs.Column.{range}
 use Rattle.config_text.specs.Table.{Place, only, required, refuse_if, numbered}
 use Rattle.overlay_config.specs.declared.local_rules.LocalRules.{LocalRules}
-use Rattle.overlay_config.specs.declared.segment.Version.{Version}
-use Rattle.overlay_config.specs.declared.segment.Version.TheVariants.{One, Two}
+use Rattle.overlay_config.specs.declared.version.Version.{Version}
+use Rattle.overlay_config.specs.declared.version.Version.TheVariants.{One, Two, Three}
 use Rattle.overlay_config.specs.LocalRules.{local_of, with_tunnels}
 use Rattle.overlay_config.specs.Tunnel.{TunnelRules, tunnel_of, flood_of, tunnels_of}
 
@@ -32,6 +32,14 @@ local_keys = codes "limit" ∷ codes "ageing" ∷ codes "learn" ∷ codes "peers
 abbrev pub segment_keys : Version → List (List ℕ)
 segment_keys One = codes "vid" ∷ codes "vni" ∷ codes "tunnel" ∷ local_keys ++ codes "flood" ∷ []
 segment_keys Two = codes "vid" ∷ codes "tunnel" ∷ local_keys
+segment_keys Three = codes "vid" ∷ codes "tunnel" ∷ local_keys
+
+-- the keys behind `vid` where each tunnel has a table of its own
+abbrev pub tables_of : Own → ℕ → Place → Meaning (TunnelRules × LocalRules)
+tables_of own ports at = do
+  tunnels ← tunnels_of own at
+  local ← local_of ports at
+  Ok (tunnels, local)
 
 -- the keys behind `vid`: the tunnels with the flood list, and the rules that say nothing of them
 unfoldable pub rules_of : Version → Own → ℕ → Place → Meaning (TunnelRules × LocalRules)
@@ -40,10 +48,8 @@ rules_of One own ports at = do
   local ← local_of ports at
   flood ← flood_of own tunnel.kind at
   Ok ((tunnel ∷ [], flood), local)
-rules_of Two own ports at = do
-  tunnels ← tunnels_of own at
-  local ← local_of ports at
-  Ok (tunnels, local)
+rules_of Two own ports at = tables_of own ports at
+rules_of Three own ports at = tables_of own ports at
 
 -- beside the endpoint's own addresses, the number of its ports, and the segments before this one
 unfoldable pub segment_of : Version → Own → ℕ → List SegmentRule → Place → Meaning SegmentRule

@@ -1,6 +1,6 @@
 -- What a settings text means. It states no standard.
 pub use Rattle.overlay_settings.specs.Settings.{Settings}
-use Rattle.std.specs.Prelude.{ℕ, nat_lt, List, [], ◌∷◌, length, ◌==◌, if◌then◌else◌, Option, Some, None, Ok, codes}
+use Rattle.std.specs.Prelude.{ℕ, nat_lt, List, [], ◌∷◌, length, Option, Some, None, Ok, codes}
 use Rattle.toml.specs.Data.{Members}
 use Rattle.flood_lists.specs.declared.own.Own.{Own}
 use Rattle.underlay.specs.Settings.{own}
@@ -10,12 +10,11 @@ use Rattle.config_text.specs.Column.{range}
 use Rattle.config_text.specs.Table.{Place, top, only, required, optional, subtable, required_items, each, refuse_if}
 use Rattle.overlay_settings.specs.declared.segment.SegmentRule.{SegmentRule}
 use Rattle.overlay_settings.specs.Settings.{sum_of_limits}
-use Rattle.overlay_config.specs.declared.segment.Version.{Version}
-use Rattle.overlay_config.specs.declared.segment.Version.TheVariants.{One, Two}
 use Rattle.overlay_config.specs.Document.{document}
 use Rattle.overlay_config.specs.Underlay.{underlay_of}
 use Rattle.overlay_config.specs.Port.{port_of}
 use Rattle.overlay_config.specs.Segment.{segment_of}
+use Rattle.overlay_config.specs.Version.{Version, version_named}
 
 -- the keys at the top
 abbrev pub top_keys : List (List ℕ)
@@ -38,8 +37,8 @@ pool_for (Some pool) segments = refuse_if (nat_lt pool (sum_of_limits segments))
 unfoldable pub version_of : Place → Meaning Version
 version_of at = do
   known ← only at top_keys
-  version ← required at (codes "version") (range 1 2)
-  Ok (if version == 1 then One else Two)
+  number ← required at (codes "version") (range 1 3)
+  Ok (version_named number)
 
 -- the pool, where it is given
 abbrev pub given_pool_of : Place → Meaning (Option ℕ)
@@ -51,7 +50,7 @@ settings_of members = do
   version ← version_of (top members)
   given ← given_pool_of (top members)
   below ← subtable (top members) (codes "underlay")
-  underlay ← underlay_of below
+  underlay ← underlay_of version below
   tables ← required_items (top members) (codes "port") 16
   ports ← each (λ earlier at. port_of at) (codes "port") [] tables
   segments ← segments_of version (own underlay) (length ports) (top members)

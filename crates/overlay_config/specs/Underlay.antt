@@ -1,5 +1,5 @@
 -- The keys of `underlay` and of `underlay.hop.k`. It states no standard.
-use Rattle.std.specs.Prelude.{ℕ, List, [], ◌∷◌, ◌++◌, length, true, false, ◌==◌, ◌&&◌, nat_lt, if◌then◌else◌, Option, Some, None, is_none, option_map, option_and_then, Ok, codes}
+use Rattle.std.specs.Prelude.{ℕ, List, [], ◌∷◌, ◌++◌, length, Bool, true, false, ◌==◌, ◌&&◌, nat_lt, if◌then◌else◌, Option, Some, None, is_none, option_map, option_and_then, Ok, codes}
 use Rattle.std.specs.List.{list_any}
 use Rattle.std.specs.FinMap.{empty, get, insert}
 use Rattle.toml.specs.Data.{Data, Items, no_items, item, as_array}
@@ -11,11 +11,27 @@ use Rattle.config_text.specs.declared.fault.SettingsFault.TheVariants.{Missing, 
 use Rattle.config_text.specs.Fault.{Meaning, ◌>>=◌}
 use Rattle.config_text.specs.Column.{range, truth, individual_mac, endpoint_addr, own_ip4, own_ip6}
 use Rattle.overlay_settings.specs.Settings.{Exceptions}
+use Rattle.overlay_config.specs.declared.version.Version.TheVariants.{One, Two, Three}
+use Rattle.overlay_config.specs.Version.{Version}
 use Rattle.config_text.specs.Table.{Place, path, only, required, defaulted, optional, listed, limited_items, each, refuse_if}
 
--- the keys of the underlay
-abbrev pub underlay_keys : List (List ℕ)
-underlay_keys = codes "mac" ∷ codes "next_hop" ∷ codes "ip4" ∷ codes "ip6" ∷ codes "mtu" ∷ codes "ttl" ∷ codes "vxlan_port" ∷ codes "geneve_port" ∷ codes "sum4" ∷ codes "sum6" ∷ codes "zero6" ∷ codes "known" ∷ codes "hop" ∷ []
+-- the keys of the underlay that version 3 adds
+abbrev pub keys_added : Version → List (List ℕ)
+keys_added One = []
+keys_added Two = []
+keys_added Three = codes "partial" ∷ []
+
+-- all keys of the underlay
+abbrev pub underlay_keys : Version → List (List ℕ)
+underlay_keys version =
+    codes "mac" ∷ codes "next_hop" ∷ codes "ip4" ∷ codes "ip6" ∷ codes "mtu" ∷ codes "ttl" ∷ codes "vxlan_port" ∷ codes "geneve_port" ∷ codes "sum4" ∷ codes "sum6" ∷ codes "zero6"
+    ∷ keys_added version ++ codes "known" ∷ codes "hop" ∷ []
+
+-- whether checksums left to the card are taken, which versions before the third can't ask for
+abbrev pub partial_of : Version → Place → Meaning Bool
+partial_of One at = Ok false
+partial_of Two at = Ok false
+partial_of Three at = defaulted at (codes "partial") truth false
 
 -- the endpoint's own addresses, of which there is one at least
 unfoldable pub own_addrs_of : Place → Meaning (Option (List ℕ) × Option (List ℕ))
@@ -79,10 +95,10 @@ hops_of at = do
   hops ← each hop_of (codes "underlay.hop") [] tables
   Ok (exceptions empty hops)
 
--- what the table of the underlay means
-unfoldable pub underlay_of : Place → Meaning Underlay
-underlay_of at = do
-  known_keys ← only at underlay_keys
+-- what the table of the underlay means, in settings of a version
+unfoldable pub underlay_of : Version → Place → Meaning Underlay
+underlay_of version at = do
+  known_keys ← only at (underlay_keys version)
   mac ← required at (codes "mac") individual_mac
   next_hop ← required at (codes "next_hop") individual_mac
   own ← own_addrs_of at
@@ -92,6 +108,7 @@ underlay_of at = do
   sum4 ← defaulted at (codes "sum4") truth false
   sum6 ← defaulted at (codes "sum6") truth true
   zero6 ← defaulted at (codes "zero6") truth true
+  partial ← partial_of version at
   known ← listed at (codes "known") 16 put_known []
   hops ← hops_of at
-  Ok (record { mac = mac; next_hop = next_hop; ip4 = own.0; ip6 = own.1; mtu = mtu; ttl = ttl; vxlan_port = ports.0; geneve_port = ports.1; sum4 = sum4; sum6 = sum6; zero6 = zero6; known = known; hops = hops })
+  Ok (record { mac = mac; next_hop = next_hop; ip4 = own.0; ip6 = own.1; mtu = mtu; ttl = ttl; vxlan_port = ports.0; geneve_port = ports.1; sum4 = sum4; sum6 = sum6; zero6 = zero6; partial = partial; known = known; hops = hops })

@@ -23,6 +23,7 @@ mod segment;
 mod settings;
 mod tunnel;
 mod underlay_table;
+mod version;
 
 pub use change_row::changes_of;
 pub use config_text::{Key, SettingsFault};

@@ -12,8 +12,8 @@ ghost use Rattle.overlay_config.specs.Migrate.{is_one, migrated, migrated_item, 
 
 use crate::document::read_document;
 use crate::nesting::nests_within;
-use crate::segment::Version;
 use crate::settings::{read_settings, read_version};
+use crate::version::Version;
 use config_text::{Reader, SettingsFault};
 use std::alloc::Global;
 use toml::{Table, Value};
@@ -138,7 +138,7 @@ fn written(alloc: Global, table: &Table) -> Result<Vec<u8>, SettingsFault>
 
 /// Settings of version 1 as a text of version 2 that means the same: each key of the old text as it was, but `version`,
 /// and in each segment `vni`, `tunnel` and `flood`, in whose place stands `tunnel` as a list of one table with `kind`,
-/// `vni` and, where it was given, `flood`. Settings of version 2 keep all keys. The text is as `toml` writes it, its keys
+/// `vni` and, where it was given, `flood`. Settings of versions 2 and 3 keep version and keys. The text is as `toml` writes it, its keys
 /// in order: comments and the old order are lost.
 ///
 /// The errors are those of [`settings_of`](crate::settings_of), in its order. `OutOfMemory`: memory was refused.

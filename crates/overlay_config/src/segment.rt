@@ -1,42 +1,15 @@
 //! The table of a segment.
-ghost use Rattle.std.specs.Prelude.{◌≡◌, ◌≤◌, length, map};
+ghost use Rattle.std.specs.Prelude.{◌≡◌, ◌≤◌, length};
 ghost use Rattle.config_text.specs.Reader.{place_of};
-ghost use Rattle.overlay_config.specs.Segment.{is_alike, is_taken, rules_of, segment_keys, segment_of};
+ghost use Rattle.overlay_config.specs.Segment.{is_alike, is_taken, rules_of, segment_of};
 
 use crate::local_rules::{LocalRules, read_local};
 use crate::tunnel::{TunnelRules, read_flood, read_tunnel, read_tunnels};
+use crate::version::Version;
 use config_text::{Key, Reader, Row, SettingsFault, VidNumber};
 use flood_lists::Own;
 use frame_view::Vid;
 use overlay_settings::SegmentRule;
-
-/// The versions of settings, which differ in what a segment says of its tunnels.
-#[derive(Clone, Copy)]
-pub(crate) enum Version {
-    One,
-    Two,
-}
-
-const KEYS_ONE: [&str; 11] = [
-    "vid", "vni", "tunnel", "limit", "ageing", "learn", "peers", "tags", "untagged", "tagged",
-    "flood",
-];
-
-const KEYS_TWO: [&str; 9] = [
-    "vid", "tunnel", "limit", "ageing", "learn", "peers", "tags", "untagged", "tagged",
-];
-
-impl Version {
-    /// The keys of a segment's table.
-    fn keys(self) -> &'static [&'static str]
-        ensures { map (λ k. k.now) result.now ≡ segment_keys self }
-    {
-        match self {
-            Version::One => &KEYS_ONE,
-            Version::Two => &KEYS_TWO,
-        }
-    }
-}
 
 /// Whether a segment has this VID, or a tunnel of the kind and VNI of one of these.
 fn is_alike(rule: &SegmentRule, vid: Vid, tunnels: &TunnelRules) -> bool
@@ -73,7 +46,7 @@ fn read_rules(
             let flood = read_flood(at, own, tunnel.kind)?;
             Ok((TunnelRules::one(tunnel, flood), local))
         }
-        Version::Two => {
+        Version::Two | Version::Three => {
             let tunnels = read_tunnels(at, own)?;
             let local = read_local(at, ports)?;
             Ok((tunnels, local))
@@ -100,7 +73,7 @@ impl Row for SegmentRow {
 
     #[tactic(auto, unfolding(crate::specs::Segment::segment_of))]
     fn read(&self, earlier: &[SegmentRule], at: &Reader) -> Result<SegmentRule, SettingsFault> {
-        at.only(self.version.keys())?;
+        at.only(self.version.segment_keys())?;
         let vid = at.required("vid", &VidNumber)?;
         let (tunnels, local) = read_rules(self.version, self.own, self.ports, at)?;
         if is_taken(earlier, vid, &tunnels) {

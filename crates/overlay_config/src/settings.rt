@@ -8,8 +8,9 @@ ghost use Rattle.overlay_config.specs.Settings.{given_pool_of, pool_for, segment
 
 use crate::document::read_document;
 use crate::port::PortRow;
-use crate::segment::{SegmentRow, Version};
+use crate::segment::SegmentRow;
 use crate::underlay_table::read_underlay;
+use crate::version::Version;
 use config_text::{Key, Reader, SettingsFault, U8Range, U32Range, read_rows};
 use flood_lists::Own;
 use overlay_settings::{Parts, SegmentRule, Settings};
@@ -84,12 +85,8 @@ pub(crate) fn read_version(top: &Reader) -> Result<Version, SettingsFault>
     ensures { result ≡ version_of (place_of top.now) }
 {
     top.only(&KEYS)?;
-    let version = top.required("version", &U8Range { low: 1, high: 2 })?;
-    Ok(if version == 1 {
-        Version::One
-    } else {
-        Version::Two
-    })
+    let number = top.required("version", &U8Range { low: 1, high: 3 })?;
+    Ok(Version::named(number))
 }
 
 /// The pool, where it is given.
@@ -107,7 +104,7 @@ fn read_parts(alloc: Global, table: &Table) -> Result<Parts, SettingsFault>
     let top = Reader::top(table);
     let version = read_version(&top)?;
     let given = read_given_pool(&top)?;
-    let underlay = read_underlay(alloc, &top.subtable("underlay")?)?;
+    let underlay = read_underlay(alloc, version, &top.subtable("underlay")?)?;
     let tables = top.required_items("port", 16)?;
     let ports = read_rows(alloc, &PortRow, "port", tables)?;
     let segments = read_segments(alloc, version, underlay.own(), ports.len() as u8, &top)?;

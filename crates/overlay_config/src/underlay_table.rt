@@ -5,9 +5,10 @@ ghost use Rattle.std.specs.List.{list_any};
 ghost use Rattle.ip_udp_view.specs.Addr.{same_addr};
 ghost use Rattle.config_text.specs.Fault.{Gives};
 ghost use Rattle.config_text.specs.Reader.{place_of};
-ghost use Rattle.overlay_config.specs.Underlay.{exceptions, with_exception, hop_of, hops_of, own_addrs_of, tunnel_ports_of, underlay_of};
+ghost use Rattle.overlay_config.specs.Underlay.{exceptions, with_exception, hop_of, hops_of, own_addrs_of, partial_of, tunnel_ports_of, underlay_of};
 
 use crate::known::KnownOptions;
+use crate::version::Version;
 use config_text::{
     EndpointAddr, IndividualMac, OwnIp4, OwnIp6, Reader, Row, SettingsFault, Truth, U8Range,
     U16Range, read_rows,
@@ -18,22 +19,6 @@ use ip_udp_view::Addr;
 use std::alloc::Global;
 use underlay::{Hops, Underlay};
 
-const KEYS: [&str; 13] = [
-    "mac",
-    "next_hop",
-    "ip4",
-    "ip6",
-    "mtu",
-    "ttl",
-    "vxlan_port",
-    "geneve_port",
-    "sum4",
-    "sum6",
-    "zero6",
-    "known",
-    "hop",
-];
-
 const HOP_KEYS: [&str; 2] = ["addr", "mac"];
 
 const PORT: U16Range = U16Range {
@@ -41,12 +26,16 @@ const PORT: U16Range = U16Range {
     high: 65535,
 };
 
-/// Reads the underlay's table.
+/// Reads the underlay's table, in settings of a version.
 #[tactic(auto, unfolding(crate::specs::Underlay::underlay_of))]
-pub(crate) fn read_underlay(alloc: Global, at: &Reader) -> Result<Underlay, SettingsFault>
-    ensures { Gives result (underlay_of (place_of at.now)) }
+pub(crate) fn read_underlay(
+    alloc: Global,
+    version: Version,
+    at: &Reader,
+) -> Result<Underlay, SettingsFault>
+    ensures { Gives result (underlay_of version (place_of at.now)) }
 {
-    at.only(&KEYS)?;
+    at.only(version.underlay_keys())?;
     let mac = at.required("mac", &IndividualMac)?;
     let next_hop = at.required("next_hop", &IndividualMac)?;
     let (ip4, ip6) = read_own_addrs(at)?;
@@ -63,6 +52,7 @@ pub(crate) fn read_underlay(alloc: Global, at: &Reader) -> Result<Underlay, Sett
     let sum4 = at.defaulted("sum4", &Truth, false)?;
     let sum6 = at.defaulted("sum6", &Truth, true)?;
     let zero6 = at.defaulted("zero6", &Truth, true)?;
+    let partial = read_partial(version, at)?;
     let known = at.listed("known", 16, &KnownOptions, Known::new())?;
     let hops = read_hops(alloc, at)?;
     Ok(Underlay {
@@ -77,9 +67,20 @@ pub(crate) fn read_underlay(alloc: Global, at: &Reader) -> Result<Underlay, Sett
         sum4,
         sum6,
         zero6,
+        partial,
         known,
         hops,
     })
+}
+
+/// Whether checksums left to the card are taken, which versions before the third can't ask for.
+fn read_partial(version: Version, at: &Reader) -> Result<bool, SettingsFault>
+    ensures { result ≡ partial_of version (place_of at.now) }
+{
+    match version {
+        Version::One | Version::Two => Ok(false),
+        Version::Three => at.defaulted("partial", &Truth, false),
+    }
 }
 
 /// The endpoint's own addresses, of which there is one at least.

@@ -199,6 +199,6 @@ agrees S n b some vid reason asked refused =
     let told : first (outer_reasons S b) ≡ Some reason = by_first S b reason (first (outer_reasons S b)) refl (ap reason_in refused) asked in
     stops S n b reason some (
     by_tests (ltb (length b) 14) (not (is_ip b)) (is_bad_ip f r) (is_bad_ip_sum f r) (is_bad_source U p.source) (is_elsewhere U p.destination)
-    p.is_fragment (not (eqb p.protocol 17)) (is_bad_udp p.payload) (is_none (kind_to U p)) (is_zero (sum_of p) && needs_sum U p.source) (is_wrong (sum_of p))
+    p.is_fragment (not (eqb p.protocol 17)) (is_bad_udp p.payload) (is_none (kind_to U p)) (is_zero (sum_of p) && needs_sum U p.source) (is_wrong U (sum_of p))
     (data_rows S b) reason told asked
     )

@@ -1,11 +1,12 @@
 -- The reasons of the layers, said of the text that stands behind the tags of a frame, and of an IP packet.
 -- It serves proofs.
-use Rattle.std.specs.Prelude.{◌==◌, ◌&&◌, Bool, not, List, [], ◌∷◌}
+use Rattle.std.specs.Prelude.{◌==◌, Bool, not, List, [], ◌∷◌}
 use Rattle.frame_view.specs.declared.reason.Reason.{Reason}
-use Rattle.frame_view.specs.declared.reason.Reason.TheVariants.{Fragment, NotUdp, BadUdp, ZeroSum, BadUdpSum}
+use Rattle.frame_view.specs.declared.reason.Reason.TheVariants.{Fragment, NotUdp, BadUdp}
 use Rattle.ip_udp_view.specs.Udp.{is_bad_udp}
 use Rattle.underlay.specs.declared.settings.Underlay.{Underlay}
-use Rattle.decapsulate.specs.Arrival.{Packet, sum_of, needs_sum, is_zero, is_wrong}
+use Rattle.decapsulate.specs.Arrival as arrival
+use Rattle.decapsulate.specs.Arrival.{Packet, sum_of}
 
 -- why a packet is no datagram
 abbrev pub udp_reasons : Packet → List (Reason × Bool)
@@ -13,4 +14,4 @@ udp_reasons p = (Fragment, p.is_fragment) ∷ (NotUdp, not (p.protocol == 17)) �
 
 -- why the checksum of its datagram isn't taken
 abbrev pub sum_reasons : Underlay → Packet → List (Reason × Bool)
-sum_reasons U p = (ZeroSum, is_zero (sum_of p) && needs_sum U p.source) ∷ (BadUdpSum, is_wrong (sum_of p)) ∷ []
+sum_reasons U p = arrival.sum_reasons U p.source (sum_of p)

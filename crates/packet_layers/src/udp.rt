@@ -7,9 +7,9 @@ ghost use Rattle.packet_layers.specs.Code.{udp_reasons, sum_reasons};
 
 use crate::HeadKind;
 use crate::apart::Apart;
-use decapsulate::{Packet, needs_sum};
+use decapsulate::{Packet, sum_refusal};
 use frame_view::Reason;
-use ip_udp_view::{SumState, UDP, UdpView};
+use ip_udp_view::{UDP, UdpView};
 use underlay::Underlay;
 
 /// The octets of a header.
@@ -51,9 +51,9 @@ pub(crate) fn check_sum(view: &UdpView, packet: &Packet, underlay: &Underlay) ->
     requires split { SplitsUdp packet.now.payload view.now }
     ensures { fault_of result ≡ first (sum_reasons underlay.now packet.now) }
 {
-    match view.sum_state(packet.source, packet.destination) {
-        SumState::Zero if needs_sum(underlay, packet.source) => Err(Reason::ZeroSum),
-        SumState::Wrong => Err(Reason::BadUdpSum),
-        _ => Ok(()),
+    let state = view.sum_state(packet.source, packet.destination);
+    match sum_refusal(underlay, packet.source, state) {
+        Some(reason) => Err(reason),
+        None => Ok(()),
     }
 }

@@ -21,17 +21,17 @@ use Rattle.part_counts.proofs.Words.{fault_small}
 
 -- ---- two are told alike
 
-abbrev pub told : Counts → (Tap → Flow) → (Tap → Flow) → (ChangeFault → ℕ) → List Tap → Told
-told counts came left refused cut = record { counts = counts; totals = record { came = came; left = left; refused = refused }; cut = cut }
+abbrev pub told : Counts → (Tap → Flow) → (Tap → Flow) → (ChangeFault → ℕ) → ℕ → List Tap → Told
+told counts came left refused partial cut = record { counts = counts; totals = record { came = came; left = left; refused = refused; partial = partial }; cut = cut }
 
-pub told_same : (c d : Counts) (x y p q : Tap → Flow) (r u : ChangeFault → ℕ) (m n : List Tap) → ((s : Option ℕ) (k : ℕ) → c s k ≡ d s k) → ((tap : Tap) → x tap ≡ y tap)
-    → ((tap : Tap) → p tap ≡ q tap) → ((fault : ChangeFault) → r fault ≡ u fault) → m ≡ n → told c x p r m ≡ told d y q u n
-told_same c d x y p q r u m n counts came left refused cut =
+pub told_same : (c d : Counts) (x y p q : Tap → Flow) (r u : ChangeFault → ℕ) (v w : ℕ) (m n : List Tap) → ((s : Option ℕ) (k : ℕ) → c s k ≡ d s k) → ((tap : Tap) → x tap ≡ y tap)
+    → ((tap : Tap) → p tap ≡ q tap) → ((fault : ChangeFault) → r fault ≡ u fault) → v ≡ w → m ≡ n → told c x p r v m ≡ told d y q u w n
+told_same c d x y p q r u v w m n counts came left refused partial cut =
     let one : c ≡ d = fun_ext (λ s. fun_ext (λ k. counts s k)) in
     let two : x ≡ y = fun_ext came in
     let three : p ≡ q = fun_ext left in
     let four : r ≡ u = fun_ext refused in
-    λ t. record { counts = one t; totals = record { came = two t; left = three t; refused = four t }; cut = cut t }
+    λ t. record { counts = one t; totals = record { came = two t; left = three t; refused = four t; partial = partial t }; cut = cut t }
 
 -- ---- none
 
@@ -54,9 +54,9 @@ pub together_is : (a b n : Kept) → ((i : ℕ) → slice_index_or n.counts i 0 
     → ((i : ℕ) → slice_index_or n.refused i 0 ≡ sum_of (slice_index_or a.refused i 0) (slice_index_or b.refused i 0))
     → ((tap : Tap) → flow_in n.came tap ≡ flow_with (flow_in a.came tap) (flow_in b.came tap))
     → ((tap : Tap) → flow_in n.left tap ≡ flow_with (flow_in a.left tap) (flow_in b.left tap))
-    → n.cut ≡ a.cut ++ b.cut → told_in n ≡ together (told_in a) (told_in b)
-together_is a b n counts refused came left cut =
-    told_same _ _ _ _ _ _ _ _ _ _ (sum_count a.counts b.counts n.counts counts) came left (λ fault. refused (fault_number fault)) cut
+    → n.partial ≡ sum_of a.partial b.partial → n.cut ≡ a.cut ++ b.cut → told_in n ≡ together (told_in a) (told_in b)
+together_is a b n counts refused came left partial cut =
+    told_same _ _ _ _ _ _ _ _ _ _ _ _ (sum_count a.counts b.counts n.counts counts) came left (λ fault. refused (fault_number fault)) partial cut
 
 -- ---- a row
 
@@ -114,14 +114,14 @@ set_refused refused number count size fault = by (cases_eq (fault_number fault) 
     by (inr not) = get_or-set_other refused number (fault_number fault) count 0 not ∙ sym (cond-false _ _ _ (ne_eqb (fault_number fault) number not))
 
 pub with_count : (k : Kept) (segment : Option ℕ) (number count : ℕ) → index_of segment number < length k.counts → is_kept segment number ≡ true
-    → told (count_in (slice_set k.counts (index_of segment number) count)) (flow_in k.came) (flow_in k.left) (refusals_in k.refused) k.cut ≡ with_row (told_in k) (Count segment number count)
+    → told (count_in (slice_set k.counts (index_of segment number) count)) (flow_in k.came) (flow_in k.left) (refusals_in k.refused) k.partial k.cut ≡ with_row (told_in k) (Count segment number count)
 with_count k segment number count inside is =
-    told_same _ _ _ _ _ _ _ _ _ _ (set_kept k.counts segment number count inside is) (λ tap. refl) (λ tap. refl) (λ fault. refl) refl
+    told_same _ _ _ _ _ _ _ _ _ _ _ _ (set_kept k.counts segment number count inside is) (λ tap. refl) (λ tap. refl) (λ fault. refl) refl refl
 
 pub with_refused : (k : Kept) (number count : ℕ) → length k.refused ≡ 15
-    → told (count_in k.counts) (flow_in k.came) (flow_in k.left) (refusals_in (slice_set k.refused number count)) k.cut ≡ with_row (told_in k) (Refused number count)
+    → told (count_in k.counts) (flow_in k.came) (flow_in k.left) (refusals_in (slice_set k.refused number count)) k.partial k.cut ≡ with_row (told_in k) (Refused number count)
 with_refused k number count size =
-    told_same _ _ _ _ _ _ _ _ _ _ (λ s n. refl) (λ tap. refl) (λ tap. refl) (set_refused k.refused number count size) refl
+    told_same _ _ _ _ _ _ _ _ _ _ _ _ (λ s n. refl) (λ tap. refl) (λ tap. refl) (set_refused k.refused number count size) refl refl
 
 -- ---- a part is taken
 
@@ -138,30 +138,30 @@ pub added : {X E : Type 0} (r : Result X E) (a b p q n : Kept) (ws xs ys : List 
     → ((i : ℕ) → slice_index_or n.refused i 0 ≡ sum_of (slice_index_or p.refused i 0) (slice_index_or q.refused i 0))
     → ((tap : Tap) → flow_in n.came tap ≡ flow_with (flow_in p.came tap) (flow_in q.came tap))
     → ((tap : Tap) → flow_in n.left tap ≡ flow_with (flow_in p.left tap) (flow_in q.left tap))
-    → zs ≡ q.cut → n.cut ≡ (if is_ok r then p.cut ++ zs else p.cut) → OnOk r (told_in n ≡ together (told_in a) (told_in b))
-added (Ok u) a b p q n ws xs ys zs of other new first second sums refused came left cuts cut =
-    together_is p q n (sums_at n.counts ws xs ys p.counts q.counts new first second sums) refused came left (cut ∙ ap (λ (l : List Tap). p.cut ++ l) cuts)
+    → n.partial ≡ sum_of p.partial q.partial → zs ≡ q.cut → n.cut ≡ (if is_ok r then p.cut ++ zs else p.cut) → OnOk r (told_in n ≡ together (told_in a) (told_in b))
+added (Ok u) a b p q n ws xs ys zs of other new first second sums refused came left partial cuts cut =
+    together_is p q n (sums_at n.counts ws xs ys p.counts q.counts new first second sums) refused came left partial (cut ∙ ap (λ (l : List Tap). p.cut ++ l) cuts)
     ∙ ap (λ (s : Kept). together (told_in s) (told_in q)) of
     ∙ ap (λ (s : Kept). together (told_in a) (told_in s)) other
-added (Err e) a b p q n ws xs ys zs of other new first second sums refused came left cuts cut = tt
+added (Err e) a b p q n ws xs ys zs of other new first second sums refused came left partial cuts cut = tt
 
 -- ---- a row is taken
 
 -- p is kept of k
 pub count_set : (k p : Kept) (row : Row) (segment : Option ℕ) (number count index : ℕ) → p ≡ k → row ≡ Count segment number count → is_kept segment number ≡ true
     → index ≡ index_of segment number → index < length p.counts
-    → told (count_in (slice_set p.counts index count)) (flow_in p.came) (flow_in p.left) (refusals_in p.refused) p.cut ≡ with_row (told_in k) row
+    → told (count_in (slice_set p.counts index count)) (flow_in p.came) (flow_in p.left) (refusals_in p.refused) p.partial p.cut ≡ with_row (told_in k) row
 count_set k p row segment number count index of is there at inside =
-    ap (λ (i : ℕ). told (count_in (slice_set p.counts i count)) (flow_in p.came) (flow_in p.left) (refusals_in p.refused) p.cut) at
+    ap (λ (i : ℕ). told (count_in (slice_set p.counts i count)) (flow_in p.came) (flow_in p.left) (refusals_in p.refused) p.partial p.cut) at
     ∙ with_count p segment number count (subst (λ (i : ℕ). i < length p.counts) at inside) there
     ∙ ap (λ (s : Kept). with_row (told_in s) (Count segment number count)) of
     ∙ ap (with_row (told_in k)) (sym is)
 
 pub refused_set : (k p : Kept) (row : Row) (number count index : ℕ) (refused : List ℕ) → p ≡ k → row ≡ Refused number count → index ≡ number → length p.refused ≡ 15
     → refused ≡ slice_set p.refused index count
-    → told (count_in p.counts) (flow_in p.came) (flow_in p.left) (refusals_in refused) p.cut ≡ with_row (told_in k) row
+    → told (count_in p.counts) (flow_in p.came) (flow_in p.left) (refusals_in refused) p.partial p.cut ≡ with_row (told_in k) row
 refused_set k p row number count index refused of is at size set =
-    ap (λ (l : List ℕ). told (count_in p.counts) (flow_in p.came) (flow_in p.left) (refusals_in l) p.cut) (set ∙ ap (λ (i : ℕ). slice_set p.refused i count) at)
+    ap (λ (l : List ℕ). told (count_in p.counts) (flow_in p.came) (flow_in p.left) (refusals_in l) p.partial p.cut) (set ∙ ap (λ (i : ℕ). slice_set p.refused i count) at)
     ∙ with_refused p number count size
     ∙ ap (λ (s : Kept). with_row (told_in s) (Refused number count)) of
     ∙ ap (with_row (told_in k)) (sym is)

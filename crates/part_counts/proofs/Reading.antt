@@ -15,18 +15,18 @@ use Rattle.endpoint_state.specs.Fault.{name_of as fault_name, number_of as fault
 use Rattle.endpoint_state.specs.declared.fault.ChangeFault.{ChangeFault}
 use Rattle.endpoint_core.specs.Counts.{is_mark}
 use Rattle.decision_lines.specs.Lines.{cut_line}
-use Rattle.run_counts.specs.Summary.{causes, changes_text, count_line, counts_text, cut_at, cuts_text, dropped_line, flow_line, place_lines, places_text, reasons, refused_line, segment_lines, segment_word, segments_text, sent_line, vids}
+use Rattle.run_counts.specs.Summary.{causes, changes_text, count_line, counts_text, cut_at, cuts_text, dropped_line, flow_line, partial_line, place_lines, places_text, reasons, refused_line, segment_lines, segment_word, segments_text, sent_line, vids}
 use Rattle.run_counts.specs.Totals.{same_tap}
 use Rattle.run_counts.specs.declared.flow.Flow.{Flow}
 use Rattle.part_counts.specs.Told.{IsPlace, IsSegment, IsTold, SaysSame, Told, nothing, text_of}
 use Rattle.part_counts.specs.Kept.{is_kept, is_row}
 use Rattle.part_counts.specs.Rows.{rows_of, told_by, with_row}
 use Rattle.part_counts.specs.declared.row.Row.{Row}
-use Rattle.part_counts.specs.declared.row.Row.TheVariants.{Count, Refused, Came, Left, Cut}
+use Rattle.part_counts.specs.declared.row.Row.TheVariants.{Count, Refused, Came, Left, Partial, Cut}
 use Rattle.part_counts.proofs.Folds.{Gives, Keeps, all_any, all_append, all_flat, all_weaker, flat_same, gives_at, gives_first, gives_last, range_same, stays, told_append}
 use Rattle.part_counts.proofs.Lines.{tells_all}
 use Rattle.part_counts.proofs.Numbers.{fault_at, reason_at, same_cause}
-use Rattle.part_counts.proofs.Telling.{changes_rows, counted, cuts_rows, place_rows, places_rows, rows_told, segment_rows, segments_rows, tells_told}
+use Rattle.part_counts.proofs.Telling.{changes_rows, counted, cuts_rows, partial_rows, place_rows, places_rows, rows_told, segment_rows, segments_rows, tells_told}
 use Rattle.part_counts.proofs.Tests.{both, both_of, mark_refl, mark_same, tap_refl, tap_same}
 use Rattle.part_counts.proofs.Words.{fault_small, reason_small}
 
@@ -56,6 +56,9 @@ came_at tap u = u.totals.came tap
 abbrev left_at : Tap → Told → Flow
 left_at tap u = u.totals.left tap
 
+abbrev partial_at : Told → ℕ
+partial_at u = u.totals.partial
+
 abbrev cuts_in : Told → List Tap
 cuts_in u = u.cut
 
@@ -83,6 +86,7 @@ record OfEach (t : Told) (P : Row → Type 0) : Type 0 where
   refused : (f : ChangeFault) → P (Refused (fault_number f) (t.totals.refused f))
   came : (tap : Tap) → P (Came tap (t.totals.came tap))
   left : (tap : Tap) → P (Left tap (t.totals.left tap))
+  partial : P (Partial t.totals.partial)
 
 module _ (ports : ℕ) (t : Told) (P : Row → Type 0) (each : OfEach t P) where
   each_counted : (row : ℕ → Row) (count : ℕ) → P (row count) → AllByRecursion P (counted row count)
@@ -123,10 +127,15 @@ module _ (ports : ℕ) (t : Told) (P : Row → Type 0) (each : OfEach t P) where
       all_append P (flat_map (port_rows t) (range_with_len 1 ports)) (place_rows t Underlay) (all_flat P (port_rows t) each_port (range_with_len 1 ports))
       (each_place Underlay)
 
-  each_front : AllByRecursion P (segments_rows t ++ changes_rows t ++ places_rows ports t)
+  each_partial : AllByRecursion P (partial_rows t)
+  each_partial = each_counted Partial t.totals.partial each.partial
+
+  each_front : AllByRecursion P (segments_rows t ++ changes_rows t ++ places_rows ports t ++ partial_rows t)
   each_front =
-      all_append P (segments_rows t ++ changes_rows t) (places_rows ports t) (all_append P (segments_rows t) (changes_rows t) each_segments each_changes)
-      each_places
+      all_append P (segments_rows t ++ changes_rows t ++ places_rows ports t) (partial_rows t)
+      (all_append P (segments_rows t ++ changes_rows t) (places_rows ports t) (all_append P (segments_rows t) (changes_rows t) each_segments each_changes)
+      each_places)
+      each_partial
 
   each_cut : ((tap : Tap) → P (Cut tap)) → AllByRecursion P (cuts_rows t)
   each_cut cut = all_flat P cut_rows (λ tap. (cut tap, tt)) t.cut
@@ -135,9 +144,16 @@ module _ (ports : ℕ) (t : Told) (P : Row → Type 0) (each : OfEach t P) where
 
 -- where the rows of one thing give it, or it is as at the begin
 module _ {X : Type 0} (at : Told → X) (ports : ℕ) (t : Told) (each : OfEach t (Keeps at (at t))) (cut : (tap : Tap) → Keeps at (at t) (Cut tap)) where
+  in_all : Gives at (at t) (segments_rows t ++ changes_rows t ++ places_rows ports t ++ partial_rows t) → Gives at (at t) (rows_told ports t)
+  in_all gives =
+      gives_first at (at t) (segments_rows t ++ changes_rows t ++ places_rows ports t ++ partial_rows t) (cuts_rows t) gives (each_cut ports t (Keeps at (at t)) each cut)
+
+  in_partial : Gives at (at t) (partial_rows t) → Gives at (at t) (rows_told ports t)
+  in_partial gives = in_all (gives_last at (at t) (segments_rows t ++ changes_rows t ++ places_rows ports t) (partial_rows t) gives)
+
   in_front : Gives at (at t) (segments_rows t ++ changes_rows t ++ places_rows ports t) → Gives at (at t) (rows_told ports t)
   in_front gives =
-      gives_first at (at t) (segments_rows t ++ changes_rows t ++ places_rows ports t) (cuts_rows t) gives (each_cut ports t (Keeps at (at t)) each cut)
+      in_all (gives_first at (at t) (segments_rows t ++ changes_rows t ++ places_rows ports t) (partial_rows t) gives (each_partial ports t (Keeps at (at t)) each))
 
   in_segments : Gives at (at t) (segments_rows t) → Gives at (at t) (rows_told ports t)
   in_segments gives =
@@ -168,7 +184,7 @@ module _ {X : Type 0} (at : Told → X) (ports : ℕ) (t : Told) (each : OfEach 
   in_none : at nothing ≡ at t → at (told_by nothing (rows_told ports t)) ≡ at t
   in_none is =
       stays at (at t) (rows_told ports t)
-      (all_append (Keeps at (at t)) (segments_rows t ++ changes_rows t ++ places_rows ports t) (cuts_rows t) (each_front ports t (Keeps at (at t)) each)
+      (all_append (Keeps at (at t)) (segments_rows t ++ changes_rows t ++ places_rows ports t ++ partial_rows t) (cuts_rows t) (each_front ports t (Keeps at (at t)) each)
       (each_cut ports t (Keeps at (at t)) each cut)) nothing is
 
 -- ---- counts
@@ -196,6 +212,7 @@ module _ (ports : ℕ) (t : Told) (s : Option ℕ) (n : ℕ) (so : IsSegment s) 
     refused = λ f u is. is;
     came = λ tap u is. is;
     left = λ tap u is. is;
+    partial = λ u is. is;
   }
 
   -- where it isn't 0 it has a row
@@ -259,6 +276,7 @@ module _ (ports : ℕ) (t : Told) where
     refused = refused_keeps f;
     came = λ tap u is. is;
     left = λ tap u is. is;
+    partial = λ u is. is;
   }
 
   refused_gives : (f : ChangeFault) → (t.totals.refused f ≡ 0 → ⊥) → Gives (refused_at f) (t.totals.refused f) (change_rows t f)
@@ -296,6 +314,7 @@ module _ (ports : ℕ) (t : Told) where
     refused = λ f u is. is;
     came = λ other u is. flow_keeps t.totals.came u.totals.came tap other is;
     left = λ other u is. is;
+    partial = λ u is. is;
   }
 
   came_told : (tap : Tap) → IsPlace ports tap → (told_by nothing (rows_told ports t)).totals.came tap ≡ t.totals.came tap
@@ -309,12 +328,36 @@ module _ (ports : ℕ) (t : Told) where
     refused = λ f u is. is;
     came = λ other u is. is;
     left = λ other u is. flow_keeps t.totals.left u.totals.left tap other is;
+    partial = λ u is. is;
   }
 
   left_told : (tap : Tap) → IsPlace ports tap → (told_by nothing (rows_told ports t)).totals.left tap ≡ t.totals.left tap
   left_told tap so =
       in_place (left_at tap) ports t (left_each tap) (λ other u is. is) tap so
       (λ u. cond-true (same_tap tap tap) (t.totals.left tap) (u.totals.left tap) (tap_refl tap)) nothing
+
+  -- ---- checksums
+
+  partial_each : OfEach t (Keeps partial_at t.totals.partial)
+  partial_each = record {
+    counts = λ s n u is. is;
+    refused = λ f u is. is;
+    came = λ tap u is. is;
+    left = λ tap u is. is;
+    partial = λ u is. refl;
+  }
+
+  partial_gives : (t.totals.partial ≡ 0 → ⊥) → Gives partial_at t.totals.partial (partial_rows t)
+  partial_gives some u =
+      ap (λ (rows : List Row). (told_by u rows).totals.partial)
+      (cond-false (t.totals.partial == 0) [] (Partial t.totals.partial ∷ []) (ne_eqb t.totals.partial 0 some))
+
+  partial_told : (told_by nothing (rows_told ports t)).totals.partial ≡ t.totals.partial
+  partial_told = by (cases_eq t.totals.partial 0)
+    where
+      by : (t.totals.partial ≡ 0) ⊎ (t.totals.partial ≡ 0 → ⊥) → (told_by nothing (rows_told ports t)).totals.partial ≡ t.totals.partial
+      by (inl zero) = in_none partial_at ports t partial_each (λ tap u is. is) (sym zero)
+      by (inr some) = in_partial partial_at ports t partial_each (λ tap u is. is) (partial_gives some) nothing
 
   -- ---- cut captures
 
@@ -328,11 +371,12 @@ module _ (ports : ℕ) (t : Told) where
     refused = λ f u is. is;
     came = λ tap u is. is;
     left = λ tap u is. is;
+    partial = λ u is. is;
   }
 
   cut_told : (told_by nothing (rows_told ports t)).cut ≡ t.cut
   cut_told =
-      let front : List Row = segments_rows t ++ changes_rows t ++ places_rows ports t in
+      let front : List Row = segments_rows t ++ changes_rows t ++ places_rows ports t ++ partial_rows t in
       ap (λ (u : Told). u.cut) (told_append nothing front (cuts_rows t))
       ∙ cuts_behind t.cut (told_by nothing front)
       ∙ ap (λ (l : List Tap). l ++ t.cut) (stays cuts_in [] front (each_front ports t (Keeps cuts_in []) cuts_each) nothing refl)
@@ -345,6 +389,7 @@ module _ (ports : ℕ) (t : Told) where
     came = came_told;
     left = left_told;
     refused = refused_told;
+    partial = partial_told;
     cut = cut_told;
   }
 
@@ -408,6 +453,10 @@ module _ (ports : ℕ) (s t : Told) (same : SaysSame ports s t) where
       (range_same (λ port. place_lines s.totals (Port port)) (λ port. place_lines t.totals (Port port)) 1 ports (λ port from to. place_same (Port port) (from, omega (arith, to))))
       (place_same Underlay tt)
 
+  partial_same : partial_line s.totals.partial ≡ partial_line t.totals.partial
+  unfolding partial_line
+  partial_same = ap (count_line (codes "checksum partial")) same.partial
+
   cut_same : (tap : Tap) → IsPlace ports tap → cut_line (cut_at s.totals tap) ≡ cut_line (cut_at t.totals tap)
   cut_same tap so = ap (λ (w : Flow). cut_line (record { tap = tap; whole = w.frames })) (same.came tap so)
 
@@ -420,9 +469,12 @@ module _ (ports : ℕ) (s t : Told) (same : SaysSame ports s t) where
   same_text : AllByRecursion (IsPlace ports) t.cut → text_of ports s ≡ text_of ports t
   same_text all =
       two (counts_text s.counts ports s.totals) (cuts_text s.totals s.cut) (counts_text t.counts ports t.totals) (cuts_text t.totals t.cut)
+      (two (segments_text s.counts ++ changes_text s.totals.refused ++ places_text s.totals ports) (partial_line s.totals.partial)
+      (segments_text t.counts ++ changes_text t.totals.refused ++ places_text t.totals ports) (partial_line t.totals.partial)
       (two (segments_text s.counts ++ changes_text s.totals.refused) (places_text s.totals ports) (segments_text t.counts ++ changes_text t.totals.refused) (places_text t.totals ports)
       (two (segments_text s.counts) (changes_text s.totals.refused) (segments_text t.counts) (changes_text t.totals.refused) segments_same changes_same)
       places_same)
+      partial_same)
       (cuts_same all)
 
 -- what is read of a text that a run told is written as that text

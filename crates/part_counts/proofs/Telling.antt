@@ -19,12 +19,12 @@ use Rattle.line_words.specs.Numbers.{number_of}
 use Rattle.line_words.specs.Words.{behind, word}
 use Rattle.line_words.proofs.Decimals.{lacks, lacks_more, number_decimal}
 use Rattle.line_words.proofs.Fronts.{behind_front, word_front}
-use Rattle.run_counts.specs.Summary.{causes, changes_text, count_line, cut_at, cuts_text, dropped_line, flow_line, place_lines, places_text, reasons, refused_line, segment_lines, segment_word, segments_text, sent_line, vids}
+use Rattle.run_counts.specs.Summary.{causes, changes_text, count_line, cut_at, cuts_text, dropped_line, flow_line, partial_line, place_lines, places_text, reasons, refused_line, segment_lines, segment_word, segments_text, sent_line, vids}
 use Rattle.run_counts.specs.declared.flow.Flow.{Flow}
 use Rattle.part_counts.specs.Told.{IsFlow, IsPlace, IsSegment, IsTold, Told, text_of}
 use Rattle.part_counts.specs.Rows.{count_in, count_of, flow_by, flow_in, row_in, segment_of, small, tap_of}
 use Rattle.part_counts.specs.declared.row.Row.{Row}
-use Rattle.part_counts.specs.declared.row.Row.TheVariants.{Count, Refused, Came, Left, Cut}
+use Rattle.part_counts.specs.declared.row.Row.TheVariants.{Count, Refused, Came, Left, Partial, Cut}
 use Rattle.part_counts.proofs.Lines.{Tells, tells_each, tells_line, tells_more, tells_none}
 use Rattle.part_counts.proofs.Words.{IsWord, fault_small, fault_word, number_word, place_back, place_word, reason_small, reason_word, segment_back, segment_is_word, small_back}
 use Rattle.part_counts.proofs.Folds.{all_any, all_range}
@@ -52,12 +52,15 @@ place_rows t tap = Came tap (t.totals.came tap) ∷ Left tap (t.totals.left tap)
 abbrev pub places_rows : ℕ → Told → List Row
 places_rows ports t = flat_map (λ port. place_rows t (Port port)) (range_with_len 1 ports) ++ place_rows t Underlay
 
+abbrev pub partial_rows : Told → List Row
+partial_rows t = counted Partial t.totals.partial
+
 abbrev pub cuts_rows : Told → List Row
 cuts_rows t = flat_map (λ tap. Cut tap ∷ []) t.cut
 
 -- all of them
 abbrev pub rows_told : ℕ → Told → List Row
-rows_told ports t = segments_rows t ++ changes_rows t ++ places_rows ports t ++ cuts_rows t
+rows_told ports t = segments_rows t ++ changes_rows t ++ places_rows ports t ++ partial_rows t ++ cuts_rows t
 
 -- ---- words in a line
 
@@ -159,6 +162,10 @@ left_row : (tap : Tap) (flow : Flow) (ports : ℕ) → ports < 256 → IsPlace p
     → row_in (codes "place " ++ (tap_word tap ++ 32 ∷ (codes "out" ++ 32 ∷ (decimal flow.frames ++ 32 ∷ decimal flow.octets)))) ≡ Some (Left tap flow)
 unfolding row_in
 left_row tap flow ports low is fits = passed_back tap (codes "out") (decimal flow.frames ++ 32 ∷ decimal flow.octets) ports low is refl flow (flow_back flow fits)
+
+partial_row : (count : ℕ) → count < 2 ^ 64 → row_in (codes "checksum partial " ++ decimal count) ≡ Some (Partial count)
+unfolding row_in
+partial_row count fits = ap (option_and_then (λ n. Some (Partial n))) (number_decimal count fits)
 
 cut_row : (tap : Tap) (whole ports : ℕ) → ports < 256 → IsPlace ports tap → row_in (codes "cut " ++ (tap_word tap ++ 32 ∷ decimal whole)) ≡ Some (Cut tap)
 unfolding row_in
@@ -282,6 +289,14 @@ module _ (ports : ℕ) (low : ports < 256) (t : Told) (is : IsTold ports t) wher
       (all_range (λ port. IsPlace ports (Port port)) 1 ports (λ k from to. (from, omega (arith, to)))))
       (tells_place Underlay tt)
 
+  tells_partial : Tells (partial_line t.totals.partial) (partial_rows t)
+  unfolding partial_line
+  tells_partial =
+      let count = t.totals.partial in
+      tells_count (codes "checksum partial") Partial count
+      (tells_as _ (codes "checksum partial " ++ decimal count) (Partial count) refl
+      (lacks_more 10 (codes "checksum partial ") (decimal count) refl (number_word count is.partial).line) (partial_row count is.partial))
+
   tells_cut : (tap : Tap) → IsPlace ports tap → Tells (cut_line (cut_at t.totals tap)) (Cut tap ∷ [])
   tells_cut tap so =
       let whole = (t.totals.came tap).frames in
@@ -296,4 +311,4 @@ module _ (ports : ℕ) (low : ports < 256) (t : Told) (is : IsTold ports t) wher
 
   -- all lines of a summary are read as what they tell
   pub tells_told : Tells (text_of ports t) (rows_told ports t)
-  tells_told = tells_more _ _ _ _ (tells_more _ _ _ _ (tells_more _ _ _ _ tells_segments tells_changes) tells_places) tells_cuts
+  tells_told = tells_more _ _ _ _ (tells_more _ _ _ _ (tells_more _ _ _ _ (tells_more _ _ _ _ tells_segments tells_changes) tells_places) tells_partial) tells_cuts

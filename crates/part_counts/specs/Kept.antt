@@ -14,6 +14,7 @@ pub record Kept : Type 0 where
   pub refused : List ℕ
   pub came : Flows
   pub left : Flows
+  pub partial : ℕ
   pub cut : List Tap
 
 -- there can be such a segment
@@ -42,6 +43,6 @@ count_in counts = λ segment number. if is_kept segment number then slice_index_
 abbrev pub told_in : Kept → Told
 told_in k = record {
   counts = count_in k.counts;
-  totals = record { came = flow_in k.came; left = flow_in k.left; refused = refusals_in k.refused };
+  totals = record { came = flow_in k.came; left = flow_in k.left; refused = refusals_in k.refused; partial = k.partial };
   cut = k.cut;
 }

@@ -17,7 +17,7 @@ use Rattle.run_counts.specs.declared.flow.Flow.{Flow}
 use Rattle.part_counts.specs.Told.{Told}
 use Rattle.part_counts.specs.Kept.{is_kept}
 use Rattle.part_counts.specs.declared.row.Row.{Row}
-use Rattle.part_counts.specs.declared.row.Row.TheVariants.{Count, Refused, Came, Left, Cut}
+use Rattle.part_counts.specs.declared.row.Row.TheVariants.{Count, Refused, Came, Left, Partial, Cut}
 
 -- ---- words
 
@@ -74,6 +74,10 @@ abbrev pub flow_in : List ℕ → Option Row
 flow_in text =
     option_and_then (λ tap. option_and_then (λ flow. if is_same (word (behind text)) (codes "in") then Some (Came tap flow) else Some (Left tap flow)) (flow_by (behind (behind text)))) (tap_of (word text))
 
+-- partial N
+abbrev pub partial_in : List ℕ → Option Row
+partial_in text = option_and_then (λ count. Some (Partial count)) (number_of (behind text))
+
 -- P, and then a number
 abbrev pub cut_in : List ℕ → Option Row
 cut_in text = option_and_then (λ tap. Some (Cut tap)) (tap_of (word text))
@@ -84,6 +88,7 @@ row_in line =
     if is_same (word line) (codes "segment") then count_in (behind line)
     else if is_same (word line) (codes "change") then refused_in (behind (behind line))
     else if is_same (word line) (codes "place") then flow_in (behind line)
+    else if is_same (word line) (codes "checksum") then partial_in (behind line)
     else if is_same (word line) (codes "cut") then cut_in (behind line)
     else None
 
@@ -107,17 +112,22 @@ with_row t (Count segment number count) = record {
 }
 with_row t (Refused number count) = record {
   counts = t.counts;
-  totals = record { came = t.totals.came; left = t.totals.left; refused = λ fault. if fault_number fault == number then count else t.totals.refused fault };
+  totals = record { came = t.totals.came; left = t.totals.left; refused = λ fault. if fault_number fault == number then count else t.totals.refused fault; partial = t.totals.partial };
   cut = t.cut;
 }
 with_row t (Came tap flow) = record {
   counts = t.counts;
-  totals = record { came = λ at. if same_tap at tap then flow else t.totals.came at; left = t.totals.left; refused = t.totals.refused };
+  totals = record { came = λ at. if same_tap at tap then flow else t.totals.came at; left = t.totals.left; refused = t.totals.refused; partial = t.totals.partial };
   cut = t.cut;
 }
 with_row t (Left tap flow) = record {
   counts = t.counts;
-  totals = record { came = t.totals.came; left = λ at. if same_tap at tap then flow else t.totals.left at; refused = t.totals.refused };
+  totals = record { came = t.totals.came; left = λ at. if same_tap at tap then flow else t.totals.left at; refused = t.totals.refused; partial = t.totals.partial };
+  cut = t.cut;
+}
+with_row t (Partial count) = record {
+  counts = t.counts;
+  totals = record { came = t.totals.came; left = t.totals.left; refused = t.totals.refused; partial = count };
   cut = t.cut;
 }
 with_row t (Cut tap) = record { counts = t.counts; totals = t.totals; cut = t.cut ++ tap ∷ [] }

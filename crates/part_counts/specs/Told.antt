@@ -15,8 +15,8 @@ use Rattle.run_counts.specs.Summary.{summary_text}
 use Rattle.run_counts.specs.Totals.{Totals, flow_of, flow_with}
 use Rattle.run_counts.specs.declared.flow.Flow.{Flow}
 
--- how often each thing was decided in each segment and in none, what passed at places and the refused changes, and the cut
--- captures
+-- how often each thing was decided in each segment and in none, what passed at places, the refused changes and the checksums
+-- left to the card, and the cut captures
 pub record Told : Type 0 where
   pub counts : Counts
   pub totals : Totals
@@ -48,6 +48,7 @@ pub record IsTold (ports : ℕ) (t : Told) : Type 0 where
   pub came : (tap : Tap) → IsFlow (t.totals.came tap)
   pub left : (tap : Tap) → IsFlow (t.totals.left tap)
   pub refused : (fault : ChangeFault) → t.totals.refused fault < 2 ^ 64
+  pub partial : t.totals.partial < 2 ^ 64
   pub cut : All (IsPlace ports) t.cut
 
 -- the same in all that a summary has a line for
@@ -57,6 +58,7 @@ pub record SaysSame (ports : ℕ) (s t : Told) : Type 0 where
   pub came : (tap : Tap) → IsPlace ports tap → s.totals.came tap ≡ t.totals.came tap
   pub left : (tap : Tap) → IsPlace ports tap → s.totals.left tap ≡ t.totals.left tap
   pub refused : (fault : ChangeFault) → s.totals.refused fault ≡ t.totals.refused fault
+  pub partial : s.totals.partial ≡ t.totals.partial
   pub cut : s.cut ≡ t.cut
 
 -- ---- parts
@@ -65,7 +67,7 @@ pub record SaysSame (ports : ℕ) (s t : Told) : Type 0 where
 abbrev pub nothing : Told
 nothing = record {
   counts = λ segment number. 0;
-  totals = record { came = λ tap. flow_of []; left = λ tap. flow_of []; refused = λ fault. 0 };
+  totals = record { came = λ tap. flow_of []; left = λ tap. flow_of []; refused = λ fault. 0; partial = 0 };
   cut = [];
 }
 
@@ -73,12 +75,13 @@ nothing = record {
 abbrev pub sum_of : ℕ → ℕ → ℕ
 sum_of m n = min most (m + n)
 
--- what passed at places, and the refused changes, of both
+-- what passed at places, the refused changes, and the checksums left to the card, of both
 abbrev pub totals_with : Totals → Totals → Totals
 totals_with a b = record {
   came = λ tap. flow_with (a.came tap) (b.came tap);
   left = λ tap. flow_with (a.left tap) (b.left tap);
   refused = λ fault. sum_of (a.refused fault) (b.refused fault);
+  partial = sum_of a.partial b.partial;
 }
 
 -- the counts of both

@@ -1,6 +1,6 @@
 //! What the lines of a summary tell, one by one.
 ghost use Rattle.std.specs.Prelude.{◌≡◌};
-ghost use Rattle.part_counts.specs.Rows.{byte_of, count_in, count_of, cut_in, dropped_in, flow_by, flow_in, refused_in, row_in, segment_of, small, tap_of, vid_of};
+ghost use Rattle.part_counts.specs.Rows.{byte_of, count_in, count_of, cut_in, dropped_in, flow_by, flow_in, partial_in, refused_in, row_in, segment_of, small, tap_of, vid_of};
 
 use frame_view::Vid;
 use line_words::{behind_word, first_word, number_of};
@@ -18,6 +18,8 @@ pub enum Row {
     Came(Tap, Flow),
     /// What left at a place.
     Left(Tap, Flow),
+    /// How many packets from the underlay had checksums that their senders left to their network cards.
+    Partial(u64),
     /// The capture of a place is cut.
     Cut(Tap),
 }
@@ -36,6 +38,9 @@ pub fn row_in(line: &[u8]) -> Option<Row>
     }
     if kind == b"place".as_slice() {
         return flow_in(words);
+    }
+    if kind == b"checksum".as_slice() {
+        return partial_in(words);
     }
     if kind == b"cut".as_slice() {
         return cut_in(words);
@@ -107,6 +112,14 @@ fn flow_by(words: &[u8]) -> Option<Flow>
     let frames = number_of(word)?;
     let octets = number_of(behind)?;
     Some(Flow { frames, octets })
+}
+
+/// `partial N`.
+fn partial_in(words: &[u8]) -> Option<Row>
+    ensures { result ≡ partial_in words.now }
+{
+    let count = number_of(behind_word(words))?;
+    Some(Row::Partial(count))
 }
 
 /// `P N`. How many records stand before the rest is what came from there, so it is told by another line.

@@ -12,7 +12,8 @@ use crate::line::next_line;
 use crate::row::{Row, row_in};
 use frame_view::Vid;
 use run_counts::{
-    Counted, Flows, Refusals, none_refused, put_changes, put_cuts, put_places, put_segments,
+    Counted, Flows, Refusals, none_refused, put_changes, put_cuts, put_partial, put_places,
+    put_segments,
 };
 use std::alloc::{AllocError, Global};
 use std::marker::Model;
@@ -32,6 +33,7 @@ pub struct Summary {
     refused: Refusals,
     came: Flows,
     left: Flows,
+    partial: u64,
     /// The cut captures, in the order of their lines.
     cut: Vec<Tap>,
 }
@@ -42,7 +44,7 @@ impl Model for Summary {
 
     ghost Value = { Kept };
 
-    ghost view = { λ s. record { counts = s.counts.items; refused = s.refused; came = s.came; left = s.left; cut = s.cut.items } };
+    ghost view = { λ s. record { counts = s.counts.items; refused = s.refused; came = s.came; left = s.left; partial = s.partial; cut = s.cut.items } };
 
     ghost invariant = { λ s. (length s.counts.items ≡ 167895) × (length s.refused ≡ 15) };
 }
@@ -89,6 +91,7 @@ impl Summary {
             refused: none_refused(),
             came: Flows::none(),
             left: Flows::none(),
+            partial: 0,
             cut: Vec::new(alloc),
         })
     }
@@ -116,6 +119,10 @@ impl Summary {
                 self.left.set(tap, flow);
                 Ok(())
             }
+            Row::Partial(count) => {
+                self.partial = count;
+                Ok(())
+            }
             Row::Cut(tap) => {
                 self.cut.push(tap)?;
                 Ok(())
@@ -132,6 +139,7 @@ impl Summary {
         add_all(&mut self.refused, &other.refused);
         self.came.add_all(&other.came);
         self.left.add_all(&other.left);
+        self.partial = self.partial.saturating_add(other.partial);
         self.cut.extend_from_slice(other.cut.as_slice())
     }
 
@@ -143,6 +151,7 @@ impl Summary {
         put_segments(&mut text, self)?;
         put_changes(&mut text, &self.refused)?;
         put_places(&mut text, &self.came, &self.left, ports)?;
+        put_partial(&mut text, self.partial)?;
         put_cuts(&mut text, &self.came, self.cut.as_slice())?;
         Ok(text.into_bytes())
     }

@@ -1,12 +1,13 @@
 -- What the counters say, with an event or an answer more.
-use Rattle.std.proofs.Common.{◌≡◌, ◌∙◌, ap, sym, refl, ℕ, ◌+◌, ◌<◌, List, [], ◌∷◌, ◌++◌, append-nil, append_assoc, min, Option, Some, None, map, take, length, slice_index_or, arith}
+use Rattle.std.proofs.Common.{◌≡◌, ◌∙◌, ap, cond, sym, refl, ℕ, ◌+◌, ◌<◌, List, [], ◌∷◌, ◌++◌, append-nil, append_assoc, min, Option, Some, None, map, take, length, slice_index_or, arith}
 use Rattle.std.proofs.Math.Path.{fun_ext}
-use Rattle.std.specs.Prelude.{Result, Ok, Err}
+use Rattle.std.specs.Prelude.{Bool, true, false, if◌then◌else◌, Result, Ok, Err}
 use Rattle.std.specs.List.{count_by, filter_map, flat_map}
 use Rattle.std.specs.Option.{option_to_list}
 use Rattle.std.proofs.lemmas.Grind.{common_steps, flat_map-append}
 use Rattle.std.proofs.lemmas.List.{map-append}
 use Rattle.std.proofs.lemmas.List.Elements.{filter_map-append}
+use Rattle.std.proofs.lemmas.List.Sums.{sum_by-append}
 use Rattle.frame_view.specs.declared.reason.Reason.{Reason}
 use Rattle.frame_view.proofs.FirstLemmas.{same_Ok}
 use Rattle.encapsulate.specs.Remote.{sizes}
@@ -18,7 +19,7 @@ use Rattle.endpoint_core.specs.Counts.{most}
 use Rattle.endpoint_core.specs.Decision.{Sent}
 use Rattle.endpoint_core.specs.Step.{Answer}
 use Rattle.run_counts.specs.Keeping.{Hears, Keeping, flow_in, refusals_in, totals_in}
-use Rattle.run_counts.specs.Totals.{Totals, at_tap, faults_in, flow_of, outcomes_in, refusals, same_fault, size_from, size_to, sizes_from, sizes_to, tap_of, totals_of}
+use Rattle.run_counts.specs.Totals.{Totals, at_tap, faults_in, flow_of, is_partial, outcomes_in, partial_in, refusals, same_fault, size_from, size_to, sizes_from, sizes_to, tap_of, totals_of}
 use Rattle.run_counts.specs.declared.flow.Flows.{Flows}
 
 -- ---- lists with one more
@@ -40,34 +41,50 @@ sizes_from_more tap es e =
 sizes_to_more : (tap : Tap) (given : List Answer) (a : Answer) → sizes_to tap (given ++ a ∷ []) ≡ sizes_to tap given ++ filter_map (size_to tap) (outcomes_in a)
 sizes_to_more tap given a = ap (filter_map (size_to tap)) (flat_map_one outcomes_in given a) ∙ filter_map-append (size_to tap) (flat_map outcomes_in given) (outcomes_in a)
 
+count_more : (p : Event → Bool) (es : List Event) (e : Event) → count_by p (es ++ e ∷ []) ≡ count_by p es + cond (p e) 1 0
+count_more p es e =
+    let one : count_by p (e ∷ []) ≡ cond (p e) 1 0 = omega arith in
+    sum_by-append (λ (x : Event). cond (p x) 1 0) es (e ∷ []) ∙ ap (λ (n : ℕ). count_by p es + n) one
+
+partial_more : (es : List Event) (e : Event) → partial_in (es ++ e ∷ []) ≡ (if is_partial e.happening then min most (partial_in es + 1) else partial_in es)
+partial_more es e = by (is_partial e.happening) (count_more (λ (x : Event). is_partial x.happening) es e)
+  where
+    by : (b : Bool) → count_by (λ (x : Event). is_partial x.happening) (es ++ e ∷ []) ≡ count_by (λ (x : Event). is_partial x.happening) es + cond b 1 0
+        → partial_in (es ++ e ∷ []) ≡ (if b then min most (partial_in es + 1) else partial_in es)
+    by true more = omega (arith, more)
+    by false more = omega (arith, more)
+
 -- ---- the counters
 
 -- an event more
 pub expects_by : (old new : Keeping) (e : Event)
     → ((tap : Tap) (sizes : List ℕ) → flow_in old.came tap ≡ flow_of sizes → flow_in new.came tap ≡ flow_of (sizes ++ option_to_list (size_from tap e.happening)))
-    → new.left ≡ old.left → new.refused ≡ old.refused
+    → new.left ≡ old.left → new.refused ≡ old.refused → new.partial ≡ (if is_partial e.happening then min most (old.partial + 1) else old.partial)
     → (es : List Event) (given : List Answer) → totals_in old ≡ totals_of es given → totals_in new ≡ totals_of (es ++ e ∷ []) given
-expects_by old new e came left refused es given is =
+expects_by old new e came left refused partial es given is =
     let first : flow_in new.came ≡ (λ tap. flow_of (sizes_from tap (es ++ e ∷ []))) =
     fun_ext (λ tap. came tap (sizes_from tap es) (ap (λ (x : Totals). x.came tap) is) ∙ ap flow_of (sym (sizes_from_more tap es e))) in
     let second : flow_in new.left ≡ (λ tap. flow_of (sizes_to tap given)) = ap flow_in left ∙ ap (λ (x : Totals). x.left) is in
     let third : refusals_in new.refused ≡ (λ fault. refusals fault given) = ap refusals_in refused ∙ ap (λ (x : Totals). x.refused) is in
-    λ t. record { came = first t; left = second t; refused = third t }
+    let fourth : new.partial ≡ partial_in (es ++ e ∷ []) =
+    partial ∙ ap (λ n. if is_partial e.happening then min most (n + 1) else n) (ap (λ (x : Totals). x.partial) is) ∙ sym (partial_more es e) in
+    λ t. record { came = first t; left = second t; refused = third t; partial = fourth t }
 
 -- an answer more
 pub hears_by : (old new : Keeping) (a : Answer) → new.came ≡ old.came
     → ((tap : Tap) (sizes : List ℕ) → flow_in old.left tap ≡ flow_of sizes → flow_in new.left tap ≡ flow_of (sizes ++ filter_map (size_to tap) (outcomes_in a)))
     → ((fault : ChangeFault) (causes : List ChangeFault) → refusals_in old.refused fault ≡ min most (count_by (same_fault fault) causes)
     → refusals_in new.refused fault ≡ min most (count_by (same_fault fault) (causes ++ faults_in a)))
-    → Hears old a new
-hears_by old new a came left refused es given is =
+    → new.partial ≡ old.partial → Hears old a new
+hears_by old new a came left refused partial es given is =
     let first : flow_in new.came ≡ (λ tap. flow_of (sizes_from tap es)) = ap flow_in came ∙ ap (λ (x : Totals). x.came) is in
     let second : flow_in new.left ≡ (λ tap. flow_of (sizes_to tap (given ++ a ∷ []))) =
     fun_ext (λ tap. left tap (sizes_to tap given) (ap (λ (x : Totals). x.left tap) is) ∙ ap flow_of (sym (sizes_to_more tap given a))) in
     let third : refusals_in new.refused ≡ (λ fault. refusals fault (given ++ a ∷ [])) =
     fun_ext (λ fault. refused fault (flat_map faults_in given) (ap (λ (x : Totals). x.refused fault) is)
     ∙ ap (λ l. min most (count_by (same_fault fault) l)) (sym (flat_map_one faults_in given a))) in
-    λ t. record { came = first t; left = second t; refused = third t }
+    let fourth : new.partial ≡ partial_in es = partial ∙ ap (λ (x : Totals). x.partial) is in
+    λ t. record { came = first t; left = second t; refused = third t; partial = fourth t }
 
 -- ---- what leaves at one place more
 

@@ -27,9 +27,9 @@ abbrev pub flow_in : Flows → Tap → Flow
 flow_in flows (Port port) = slice_index_or flows.ports port no_flow
 flow_in flows Underlay = flows.underlay
 
--- what passed at places, where no change was refused
+-- what passed at places, where no change was refused and no checksum left to the card
 abbrev pub passed : (Tap → Flow) → (Tap → Flow) → Totals
-passed came left = record { came = came; left = left; refused = λ fault. 0 }
+passed came left = record { came = came; left = left; refused = λ fault. 0; partial = 0 }
 
 -- how often changes were refused for a cause, of counts by the numbers of the causes
 abbrev pub refusals_in : List ℕ → ChangeFault → ℕ
@@ -41,6 +41,7 @@ pub record Keeping : Type 0 where
   pub left : Flows
   -- by the number of the cause
   pub refused : List ℕ
+  pub partial : ℕ
   -- that of the end of the run, and before nothing
   pub text : List ℕ
   -- whether memory was refused for it
@@ -52,6 +53,7 @@ totals_in k = record {
   came = flow_in k.came;
   left = flow_in k.left;
   refused = refusals_in k.refused;
+  partial = k.partial;
 }
 
 -- ---- steps

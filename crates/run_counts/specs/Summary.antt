@@ -1,6 +1,6 @@
 -- The summary of a run: one fact a line, its words with one space between them, as `segment 10 sent 812`,
--- `segment none dropped 10 NoSegment 1`, `change refused 2 NoPort 1`, `place p1 in 400 25600` and `cut p2 7`.
--- It states no standard.
+-- `segment none dropped 10 NoSegment 1`, `change refused 2 NoPort 1`, `place p1 in 400 25600`, `checksum partial 40` and
+-- `cut p2 7`. It states no standard.
 use Rattle.std.specs.Prelude.{ℕ, ◌==◌, if◌then◌else◌, List, [], ◌∷◌, ◌++◌, codes, decimal, Option, Some, None}
 use Rattle.std.specs.List.{flat_map, range_with_len}
 use Rattle.frame_view.specs.Reason.{name_of, number_of}
@@ -92,11 +92,17 @@ place_lines totals tap = flow_line tap (codes "in") (totals.came tap) ++ flow_li
 abbrev pub places_text : Totals → ℕ → List ℕ
 places_text totals ports = flat_map (λ port. place_lines totals (Port port)) (range_with_len 1 ports) ++ place_lines totals Underlay
 
+-- ---- checksums
+
+-- so many packets from the underlay had UDP checksums that their senders left to their network cards
+unfoldable pub partial_line : ℕ → List ℕ
+partial_line count = count_line (codes "checksum partial") count
+
 -- ---- all of it
 
 -- but for the cut captures
 abbrev pub counts_text : Counts → ℕ → Totals → List ℕ
-counts_text counts ports totals = segments_text counts ++ changes_text totals.refused ++ places_text totals ports
+counts_text counts ports totals = segments_text counts ++ changes_text totals.refused ++ places_text totals ports ++ partial_line totals.partial
 
 -- the capture of a place is cut behind the records that came from there
 abbrev pub cut_at : Totals → Tap → Cut

@@ -3,9 +3,11 @@
 --     flow_of      frames or packets, and their octets together
 --     sizes_from, sizes_to      those that came from a place, and those that left there
 --     refusals      the changes that were refused for a cause
+--     partial_in      the packets whose checksums were left to the card
 --     Totals, totals_of      all of it
 use Rattle.std.specs.Prelude.{ℕ, ◌+◌, ◌==◌, Bool, true, false, if◌then◌else◌, min, List, [], ◌∷◌, length, count_by, Option, Some, None, Ok, Err}
 use Rattle.std.specs.List.{filter_map, flat_map, sum}
+use Rattle.decapsulate.specs.Card.{is_left_to_card}
 use Rattle.filter_db.specs.declared.place.Place.{Place}
 use Rattle.filter_db.specs.declared.place.Place.TheVariants.{Local, Remote}
 use Rattle.timeline.specs.declared.event.Event.{Event}
@@ -88,13 +90,30 @@ same_fault f g = number_of f == number_of g
 abbrev pub refusals : ChangeFault → List Answer → ℕ
 refusals fault given = min most (count_by (same_fault fault) (flat_map faults_in given))
 
+-- ---- checksums
+
+-- a text came from the underlay, and is a packet whose UDP checksum its sender left to its network card
+abbrev pub is_partial_at : Tap → List ℕ → Bool
+is_partial_at (Port port) b = false
+is_partial_at Underlay b = is_left_to_card b
+
+-- the same of what happens
+abbrev pub is_partial : Happening → Bool
+is_partial (happenings.Change index) = false
+is_partial (happenings.Record tap captured) = is_partial_at tap captured.octets
+
+-- how many of these came
+abbrev pub partial_in : List Event → ℕ
+partial_in es = min most (count_by (λ (e : Event). is_partial e.happening) es)
+
 -- ---- all of it
 
--- what came from each place, what left there, and the refused changes by their causes
+-- what came from each place, what left there, the refused changes by their causes, and the checksums left to the card
 pub record Totals : Type 0 where
   pub came : Tap → Flow
   pub left : Tap → Flow
   pub refused : ChangeFault → ℕ
+  pub partial : ℕ
 
 -- of these events and answers
 abbrev pub totals_of : List Event → List Answer → Totals
@@ -102,4 +121,5 @@ totals_of es given = record {
   came = λ tap. flow_of (sizes_from tap es);
   left = λ tap. flow_of (sizes_to tap given);
   refused = λ fault. refusals fault given;
+  partial = partial_in es;
 }

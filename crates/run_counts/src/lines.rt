@@ -3,7 +3,7 @@ ghost use Rattle.std.specs.Prelude.{◌≡◌, ◌++◌, OnOk, codes, string_byt
 ghost use Rattle.std.specs.List.{flat_map};
 ghost use Rattle.decision_lines.specs.Lines.{cut_line};
 ghost use Rattle.run_counts.specs.Keeping.{flow_in, passed, refusals_in};
-ghost use Rattle.run_counts.specs.Summary.{changes_text, cuts_text, dropped_line, flow_line, place_lines, places_text, refused_line, segment_lines, segment_word, segments_text, sent_line};
+ghost use Rattle.run_counts.specs.Summary.{changes_text, cuts_text, dropped_line, flow_line, partial_line, place_lines, places_text, refused_line, segment_lines, segment_word, segments_text, sent_line};
 
 use crate::counted::Counted;
 use crate::flow::{Flow, Flows};
@@ -231,6 +231,17 @@ fn put_flow(text: &mut String, tap: Tap, direction: &str, flow: Flow) -> Result<
     let frames = flow.frames;
     let octets = flow.octets;
     writeln!(text, "place {tap} {direction} {frames} {octets}")
+}
+
+/// Puts how many packets from the underlay had UDP checksums that their senders left to their network cards.
+#[tactic(auto, unfolding(crate::specs::Summary::partial_line, crate::specs::Summary::count_line))]
+pub fn put_partial(text: &mut String, count: u64) -> Result<(), AllocError>
+    ensures { OnOk result (string_bytes text.new ≡ string_bytes text.old ++ partial_line count) }
+{
+    if count == 0 {
+        return Ok(());
+    }
+    writeln!(text, "checksum partial {count}")
 }
 
 /// Puts the lines of cut captures, of places where this came.

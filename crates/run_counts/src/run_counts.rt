@@ -1,20 +1,22 @@
 //! What a run counts.
-ghost use Rattle.std.specs.Prelude.{◌≡◌, ◌++◌, [], IfOk, IsSome, IsTrue, List, ℕ, OnOk, false, length, map, string_bytes};
+ghost use Rattle.std.specs.Prelude.{◌≡◌, ◌+◌, ◌++◌, [], if◌then◌else◌, IfOk, IsSome, IsTrue, List, ℕ, OnOk, false, length, map, min, string_bytes};
 ghost use Rattle.std.specs.List.{filter_map, list_all};
 ghost use Rattle.timeline.specs.declared.source.Tap.{Tap as ATap};
 ghost use Rattle.frame_view.specs.First.{fault_of};
 ghost use Rattle.endpoint_core.specs.Course.{CanLeave, IsThere, decision_of};
+ghost use Rattle.endpoint_core.specs.Counts.{most};
 ghost use Rattle.endpoint_core.specs.Kept.{state_of};
 ghost use Rattle.endpoint_core.specs.Step.{Decided, Replied, sent_at};
 ghost use Rattle.endpoint_state.specs.Settings.{segment_at};
 ghost use Rattle.endpoint_state.specs.Step.{can_leave};
 ghost use Rattle.run_counts.specs.Keeping.{Hears, flow_in, totals_in};
 ghost use Rattle.run_counts.specs.Summary.{counts_text, cuts_text};
-ghost use Rattle.run_counts.specs.Totals.{flow_of, size_to, tap_of, totals_of};
+ghost use Rattle.run_counts.specs.Totals.{flow_of, is_partial_at, size_to, tap_of, totals_of};
 
 use crate::flow::{Flow, Flows};
-use crate::lines::{put_changes, put_cuts, put_places, put_segments};
+use crate::lines::{put_changes, put_cuts, put_partial, put_places, put_segments};
 use crate::refusals::{Refusals, add_refusal, none_refused};
+use decapsulate::is_left_to_card;
 use endpoint_core::{Came, ChangeFault, Course, Endpoint};
 use filter_db::Place;
 use std::alloc::{AllocError, Global};
@@ -30,6 +32,8 @@ pub struct RunCounts {
     came: Flows,
     left: Flows,
     refused: Refusals,
+    /// Packets from the underlay whose checksums are left to the card.
+    partial: u64,
     text: String,
     is_lost: bool,
 }
@@ -40,7 +44,7 @@ impl Model for RunCounts {
 
     ghost Value = { Keeping };
 
-    ghost view = { λ c. record { came = c.came; left = c.left; refused = c.refused; text = string_bytes c.text; is_lost = c.is_lost } };
+    ghost view = { λ c. record { came = c.came; left = c.left; refused = c.refused; partial = c.partial; text = string_bytes c.text; is_lost = c.is_lost } };
 }
 
 impl RunCounts {
@@ -55,6 +59,7 @@ impl RunCounts {
             came: Flows::none(),
             left: Flows::none(),
             refused: none_refused(),
+            partial: 0,
             text: String::new(alloc),
             is_lost: false,
         }
@@ -101,6 +106,7 @@ impl Watch for RunCounts {
     fn see(&mut self, _endpoint: &Endpoint, _number: u64, event: &Event) {
         if let Happening::Record(tap, captured) = &event.happening {
             self.came.add(*tap, captured.octets.len());
+            self.partial = partial_with(self.partial, *tap, captured.octets);
         }
     }
 
@@ -151,6 +157,7 @@ impl RunCounts {
         put_segments(&mut text, endpoint)?;
         put_changes(&mut text, &self.refused)?;
         put_places(&mut text, &self.came, &self.left, endpoint.ports())?;
+        put_partial(&mut text, self.partial)?;
         Ok(text)
     }
 }
@@ -167,6 +174,16 @@ fn add_leaving(flows: &mut Flows, endpoint: &Endpoint, came: &Came, places: &[Pl
         if let Ok(size) = endpoint.size_at(came, *place) {
             flows.add(tap_of(*place), size);
         }
+    }
+}
+
+/// A count of packets whose checksums are left to the card, and of a record more. It ends at 2^64 - 1.
+fn partial_with(count: u64, tap: Tap, octets: &[u8]) -> u64
+    ensures { result ≡ (if is_partial_at tap octets.now then min most (count + 1) else count) }
+{
+    match tap {
+        Tap::Underlay if is_left_to_card(octets) => count.saturating_add(1),
+        _ => count,
     }
 }
 

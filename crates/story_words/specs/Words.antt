@@ -3,7 +3,7 @@ use Rattle.std.specs.Prelude.{ℕ, Bool, true, false, List, [], ◌∷◌, ◌++
 use Rattle.ip_udp_view.specs.declared.addr.Tunnel.{Tunnel}
 use Rattle.ip_udp_view.specs.declared.addr.Tunnel.TheVariants.{Vxlan, Geneve}
 use Rattle.ip_udp_view.specs.declared.udp_view.SumState.{SumState}
-use Rattle.ip_udp_view.specs.declared.udp_view.SumState.TheVariants.{Zero, Right, Wrong}
+use Rattle.ip_udp_view.specs.declared.udp_view.SumState.TheVariants.{Zero, Right, Partial, Wrong}
 use Rattle.filter_db.specs.declared.entry.Entry.{Entry}
 use Rattle.filter_db.specs.declared.place.Place.{Place}
 use Rattle.vlan_ports.specs.declared.member.Egress.{Egress}
@@ -75,6 +75,7 @@ receiver_word false false = codes "receiver another host"
 abbrev pub sum_word : SumState → List ℕ
 sum_word Zero = codes "0"
 sum_word Right = codes "right"
+sum_word Partial = codes "left to the card"
 sum_word Wrong = codes "wrong"
 
 -- whether a remote is on the flood list

@@ -184,6 +184,7 @@ pub fn sum_word(state: SumState) -> &'static str
     match state {
         SumState::Zero => "0",
         SumState::Right => "right",
+        SumState::Partial => "left to the card",
         SumState::Wrong => "wrong",
     }
 }

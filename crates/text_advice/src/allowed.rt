@@ -9,11 +9,11 @@ use crate::known::fits;
 pub type Sentence = (&'static str, &'static str, &'static str);
 
 /// What is allowed under each key of settings and of changes.
-pub const SENTENCES: [Sentence; 63] = [
+pub const SENTENCES: [Sentence; 64] = [
     (
         "version",
         "",
-        "the number 1, or 2 where segments have tables of tunnels",
+        "the number 1, or 2 where segments have tables of tunnels, or 3, which is 2 with underlay.partial",
     ),
     (
         "pool",
@@ -58,6 +58,7 @@ pub const SENTENCES: [Sentence; 63] = [
     ("underlay.sum4", "", "true or false"),
     ("underlay.sum6", "", "true or false"),
     ("underlay.zero6", "", "true or false"),
+    ("underlay.partial", "", "true or false"),
     (
         "underlay.known",
         "",
@@ -93,7 +94,7 @@ pub const SENTENCES: [Sentence; 63] = [
     (
         "segment.tunnel",
         "",
-        "\"vxlan\" or \"geneve\"; in version 2 instead 1 or 2 tables, each headed [[segment.tunnel]]",
+        "\"vxlan\" or \"geneve\"; from version 2 on instead 1 or 2 tables, each headed [[segment.tunnel]]",
     ),
     (
         "segment.tunnel.kind",

@@ -14,8 +14,28 @@ pub enum TextKind {
 pub type TableKeys = (&'static str, &'static str, &'static [&'static str]);
 
 /// The tables of settings.
-pub const SETTINGS_KEYS: [TableKeys; 7] = [
+pub const SETTINGS_KEYS: [TableKeys; 9] = [
     ("*", "", &["version", "pool", "underlay", "port", "segment"]),
+    (
+        "underlay.*",
+        "3",
+        &[
+            "mac",
+            "next_hop",
+            "ip4",
+            "ip6",
+            "mtu",
+            "ttl",
+            "vxlan_port",
+            "geneve_port",
+            "sum4",
+            "sum6",
+            "zero6",
+            "partial",
+            "known",
+            "hop",
+        ],
+    ),
     (
         "underlay.*",
         "",
@@ -37,6 +57,13 @@ pub const SETTINGS_KEYS: [TableKeys; 7] = [
     ),
     ("underlay.hop.*", "", &["addr", "mac"]),
     ("port.*", "", &["pvid", "accept", "up"]),
+    (
+        "segment.*",
+        "3",
+        &[
+            "vid", "tunnel", "limit", "ageing", "learn", "peers", "tags", "untagged", "tagged",
+        ],
+    ),
     (
         "segment.*",
         "2",

@@ -68,7 +68,7 @@ taken4 : (V : Underlay) (is_computed : Bool) (src dst : List ℕ) (from to : ℕ
     → IsSumTaken V (V4 src) (V4 dst) from to (sum_sent is_computed (V4 src) (V4 dst) from to d) d
 taken4 V true src dst from to d p q =
     let front = pseudo (V4 src) (V4 dst) (8 + length d) in
-    inr (sent-not_zero (front ++ (udp_header from to 0 d ++ d)), sum-right 6 front from to d (length-pseudo4 src dst (8 + length d) p q))
+    inr (sent-not_zero (front ++ (udp_header from to 0 d ++ d)), inl (sum-right 6 front from to d (length-pseudo4 src dst (8 + length d) p q)))
 taken4 V false src dst from to d p q = inl (refl, refl)
 
 taken6 : (V : Underlay) (is_computed : Bool) (src dst : List ℕ) (from to : ℕ) (d : List ℕ) → length src ≡ 16 → length dst ≡ 16
@@ -76,7 +76,7 @@ taken6 : (V : Underlay) (is_computed : Bool) (src dst : List ℕ) (from to : ℕ
     → IsSumTaken V (V6 src) (V6 dst) from to (sum_sent is_computed (V6 src) (V6 dst) from to d) d
 taken6 V true src dst from to d p q serves =
     let front = pseudo (V6 src) (V6 dst) (8 + length d) in
-    inr (sent-not_zero (front ++ (udp_header from to 0 d ++ d)), sum-right 20 front from to d (length-pseudo6 src dst (8 + length d) p q))
+    inr (sent-not_zero (front ++ (udp_header from to 0 d ++ d)), inl (sum-right 20 front from to d (length-pseudo6 src dst (8 + length d) p q)))
 taken6 V false src dst from to d p q (inl computed) = absurd cc
 taken6 V false src dst from to d p q (inr zero6) = inl (refl, not_from_true V.zero6 zero6)
 

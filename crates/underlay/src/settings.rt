@@ -33,6 +33,8 @@ pub struct Underlay {
     pub sum6: bool,
     /// Whether a UDP checksum of 0 is accepted over IPv6 (RFC 6935, 5).
     pub zero6: bool,
+    /// Whether a UDP checksum is accepted that a sender left to its network card: the sum of the pseudo header alone.
+    pub partial: bool,
     /// The critical Geneve options that are accepted.
     pub known: Known,
     /// The exceptions from the next hop.

@@ -10,7 +10,7 @@ const UNDERLAY_AND_PORTS: &str = "\
 Settings { parts: Parts { underlay: Underlay { mac: Mac([2, 0, 0, 0, 170, 1]), \
 next_hop: Mac([2, 0, 0, 0, 170, 254]), ip4: Some([192, 0, 2, 1]), \
 ip6: Some([32, 1, 13, 184, 0, 0, 0, 0, 0, 0, 0, 0, 0, 0, 0, 1]), mtu: 1550, ttl: 64, vxlan_port: 4789, \
-geneve_port: 6081, sum4: false, sum6: true, zero6: true, known: Known { pairs: [] }, \
+geneve_port: 6081, sum4: false, sum6: true, zero6: true, partial: false, known: Known { pairs: [] }, \
 hops: Hops { exceptions: [] } }, ports: [PortRule { pvid: Vid { number: 10 }, accept: All, up: true }, \
 PortRule { pvid: Vid { number: 10 }, accept: All, up: true }, PortRule { pvid: Vid { number: 10 }, accept: All, \
 up: true }], segments: [";
@@ -109,7 +109,7 @@ flood = ["192.0.2.3", "239.1.1.1"]
 const OTHER_VALUES_MEAN: &str = "\
 Settings { parts: Parts { underlay: Underlay { mac: Mac([2, 0, 0, 0, 170, 1]), \
 next_hop: Mac([2, 0, 0, 0, 170, 254]), ip4: Some([192, 0, 2, 1]), ip6: None, mtu: 65535, ttl: 255, \
-vxlan_port: 6081, geneve_port: 65535, sum4: true, sum6: false, zero6: false, \
+vxlan_port: 6081, geneve_port: 65535, sum4: true, sum6: false, zero6: false, partial: false, \
 known: Known { pairs: [(258, 128), (65535, 255)] }, \
 hops: Hops { exceptions: [Hop { addr: V6([32, 1, 13, 184, 0, 0, 0, 0, 0, 0, 0, 0, 0, 0, 0, 9]), \
 mac: Mac([2, 0, 0, 0, 187, 9]) }] } }, ports: [PortRule { pvid: Vid { number: 10 }, accept: Tagged, up: false }, \
@@ -158,7 +158,7 @@ vni = 9000
 const TWO_TUNNELS_AND_ONE_MEAN: &str = "\
 Settings { parts: Parts { underlay: Underlay { mac: Mac([2, 0, 0, 0, 170, 1]), \
 next_hop: Mac([2, 0, 0, 0, 170, 254]), ip4: Some([192, 0, 2, 1]), ip6: None, mtu: 1550, ttl: 64, vxlan_port: 4789, \
-geneve_port: 6081, sum4: false, sum6: true, zero6: true, known: Known { pairs: [] }, \
+geneve_port: 6081, sum4: false, sum6: true, zero6: true, partial: false, known: Known { pairs: [] }, \
 hops: Hops { exceptions: [] } }, ports: [PortRule { pvid: Vid { number: 10 }, accept: All, up: true }], \
 segments: [SegmentRule { vid: Vid { number: 10 }, tunnels: Tunnels { first: SegmentTunnel { kind: Geneve, \
 vni: Vni { number: 9000 }, group: 255 }, second: Some(SegmentTunnel { kind: Vxlan, vni: Vni { number: 5000 }, \

@@ -41,6 +41,7 @@ pub(crate) fn underlay(last: u8) -> Underlay {
         sum4: false,
         sum6: true,
         zero6: true,
+        partial: false,
         known: Known::new(),
         hops: Hops::new(),
     }

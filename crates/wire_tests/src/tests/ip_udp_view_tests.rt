@@ -289,7 +289,7 @@ fn a_udp_length_is_8_to_what_is_there(rt: HostRuntime) {
 }
 
 /// Checksums of a datagram over IPv4, what stands behind its frame's type, and what its sum is.
-const CHECKSUMS4: [(&str, [u8; 2], [u8; 2], SumState); 4] = [
+const CHECKSUMS4: [(&str, [u8; 2], [u8; 2], SumState); 7] = [
     ("over IPv4", [0x04, 0x7B], [0x00, 0x00], SumState::Right),
     ("none over IPv4", [0x00, 0x00], [0x00, 0x00], SumState::Zero),
     (
@@ -299,13 +299,37 @@ const CHECKSUMS4: [(&str, [u8; 2], [u8; 2], SumState); 4] = [
         SumState::Wrong,
     ),
     ("all ones", [0xFF, 0xFF], [0x00, 0x00], SumState::Wrong),
+    (
+        "the pseudo header's sum",
+        [0x84, 0x61],
+        [0x00, 0x00],
+        SumState::Partial,
+    ),
+    (
+        "the pseudo header's sum, and right",
+        [0x84, 0x61],
+        [0x80, 0x19],
+        SumState::Right,
+    ),
+    (
+        "its complement",
+        [0x7B, 0x9E],
+        [0x00, 0x00],
+        SumState::Wrong,
+    ),
 ];
 
 /// The same over IPv6.
-const CHECKSUMS6: [(&str, [u8; 2], [u8; 2], SumState); 4] = [
+const CHECKSUMS6: [(&str, [u8; 2], [u8; 2], SumState); 5] = [
     ("over IPv6", [0x2D, 0x0A], [0x00, 0x00], SumState::Right),
     ("a computed 0", [0xFF, 0xFF], [0x2D, 0x0A], SumState::Right),
     ("none over IPv6", [0x00, 0x00], [0x00, 0x00], SumState::Zero),
+    (
+        "the pseudo header's sum over IPv6",
+        [0x5B, 0xD2],
+        [0x01, 0x00],
+        SumState::Partial,
+    ),
     (
         "the other family's",
         [0x04, 0x7B],

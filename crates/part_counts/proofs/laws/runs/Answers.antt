@@ -12,6 +12,7 @@ returns c = record {
     came = λ tap. (fits _, fits _);
     left = λ tap. (fits _, fits _);
     refused = λ fault. fits _;
+    partial = fits _;
     cut = places;
   };
   text = λ S cs es cut. refl;

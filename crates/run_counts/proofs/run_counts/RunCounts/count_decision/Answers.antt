@@ -12,14 +12,14 @@ pub returns-in-Ok : goal.returns-in-Ok
 returns-in-Ok c es given is =
     let i = c.self.inside in
     let S = (state_of c.args.endpoint.now).bridges.settings in
-    let old : Keeping = record { came = i.came; left = i.left; refused = i.refused; text = string_bytes i.text; is_lost = i.is_lost } in
-    let new : Keeping = record { came = i.came; left = c.add_leaving.new.flows; refused = i.refused; text = string_bytes i.text; is_lost = i.is_lost } in
+    let old : Keeping = record { came = i.came; left = i.left; refused = i.refused; partial = i.partial; text = string_bytes i.text; is_lost = i.is_lost } in
+    let new : Keeping = record { came = i.came; left = c.add_leaving.new.flows; refused = i.refused; partial = i.partial; text = string_bytes i.text; is_lost = i.is_lost } in
     subst (λ (k : Course). totals_in new ≡ totals_of es (given ++ Decided (decision_of S k c.args.places.now) ∷ [])) (sym c.in-Ok.is)
-    (hears_by old new (Decided (decision_of S (Ok c.in-Ok.came) c.args.places.now)) refl c.add_leaving.ensures (no_refusal_more i.refused) es given (ap totals_in c.self.view_is ∙ is))
+    (hears_by old new (Decided (decision_of S (Ok c.in-Ok.came) c.args.places.now)) refl c.add_leaving.ensures (no_refusal_more i.refused) refl es given (ap totals_in c.self.view_is ∙ is))
 
 pub returns-in_default : goal.returns-in_default
 returns-in_default c es given is =
     let S = (state_of c.args.endpoint.now).bridges.settings in
     let now : Keeping = c.args.self.now in
     subst (λ (k : Course). totals_in now ≡ totals_of es (given ++ Decided (decision_of S k c.args.places.now) ∷ [])) (sym c.in_default.is)
-    (hears_by now now (Decided (decision_of S (Err c.in_default.field-0) c.args.places.now)) refl (no_flow_more now.left) (no_refusal_more now.refused) es given is)
+    (hears_by now now (Decided (decision_of S (Err c.in_default.field-0) c.args.places.now)) refl (no_flow_more now.left) (no_refusal_more now.refused) refl es given is)

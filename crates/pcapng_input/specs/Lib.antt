@@ -13,3 +13,4 @@ pub mod Packet
 pub mod Reading
 pub mod Seen
 pub mod State
+pub mod Stops

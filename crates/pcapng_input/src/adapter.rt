@@ -1,11 +1,12 @@
 //! An input of a capture below its counts.
-ghost use Rattle.std.specs.Prelude.{◌≡◌, ◌<◌, ◌≤◌, ℕ, [], Option, Some, None, min, length, option_map, take, IfOk, IfSome, OnOk};
+ghost use Rattle.std.specs.Prelude.{◌≡◌, ◌<◌, ◌≤◌, ℕ, [], Option, Some, None, min, length, option_map, take, IfOk, IfSome, IsSome, OnOk};
 ghost use Rattle.std.specs.Io.{ReadsAtMost};
 ghost use Rattle.std.specs.Io.KnownBytes.{ReadConsumes};
 ghost use Rattle.pcap_stream.specs.Supply.{Spends};
 ghost use Rattle.pcapng_input.specs.Adapted.{is_of_one, told_text};
 ghost use Rattle.pcapng_input.specs.Adapter.{IsAllTold, KeepsFault, KeepsTold, TellsBehind, left_out_by, met_fault, told, told_fault, told_octets};
 ghost use Rattle.pcapng_input.specs.State.{steps_at};
+ghost use Rattle.pcapng_input.specs.Stops.{StopsFor};
 
 use crate::context::Context;
 use crate::fault::PcapngFault;
@@ -14,8 +15,9 @@ use crate::interface::Selection;
 use crate::reading::read_on;
 use crate::ready::Ready;
 use crate::state::State;
+use crate::stop::Stop;
 use pcap_io::global_header;
-use pcap_stream::{DeviceFault, Input};
+use pcap_stream::Input;
 use std::alloc::{AllocError, Global};
 use std::marker::Model;
 
@@ -125,12 +127,13 @@ impl<'s, R: Input> Adapter<'s, R> {
     }
 
     /// Gives what is told next, by as many reads below as it takes.
-    pub fn give(&mut self, octets: &mut [u8]) -> Result<usize, DeviceFault>
+    pub fn give(&mut self, octets: &mut [u8]) -> Result<usize, Stop>
         ensures bound { ReadsAtMost result octets.new }
         ensures taken { ReadConsumes (told_octets self.old) (told_octets self.new) result octets.new }
         ensures fault { KeepsFault (told_fault self.old) (told_fault self.new) }
         ensures all { IfOk result (λ n. n ≡ 0 → 0 < length octets.new → IsAllTold (left_out_by self.new) (told self.new)) }
         ensures spent { Spends self.old.below.supply self.new.below.supply }
+        ensures stops { StopsFor (IsSome (met_fault self.new)) self.old.below.supply self.new.below.supply result }
     {
         if octets.is_empty() {
             return Ok(0);
@@ -138,7 +141,8 @@ impl<'s, R: Input> Adapter<'s, R> {
         while self.ready.is_empty() {
             match self.state {
                 State::Over => return Ok(0),
-                State::NoMemory | State::Faulty(_) => return Err(DeviceFault),
+                State::NoMemory => return Err(Stop::NoMemory),
+                State::Faulty(_) => return Err(Stop::Fault),
                 State::Plain => return self.gathered.pass(octets),
                 State::Within => {
                     let given = self.give_packets(octets);
@@ -159,6 +163,7 @@ impl<'s, R: Input> Adapter<'s, R> {
         ensures bound { result ≤ length octets.new }
         ensures told { TellsBehind (told self.old) (take result octets.new) (told self.new) }
         ensures spent { Spends self.old.below.supply self.new.below.supply }
+        ensures quiet { self.new.below.supply.failures ≡ self.old.below.supply.failures }
         ensures steps { steps_at self.new.stand self.new.below ≤ steps_at self.old.stand self.old.below }
         ensures ready { self.new.ready ≡ [] }
     {
@@ -171,10 +176,11 @@ impl<'s, R: Input> Adapter<'s, R> {
     }
 
     /// One step: what is held brings it, or one read below.
-    fn advance(&mut self) -> Result<(), DeviceFault>
+    fn advance(&mut self) -> Result<(), Stop>
         requires { self.old.ready ≡ [] }
         ensures kept { KeepsTold (told self.old) (told self.new) }
         ensures spent { Spends self.old.below.supply self.new.below.supply }
+        ensures stops { StopsFor ⊥ self.old.below.supply self.new.below.supply result }
         ensures less { OnOk result (steps_at self.new.stand self.new.below < steps_at self.old.stand self.old.below) }
     {
         match read_on(
@@ -187,11 +193,11 @@ impl<'s, R: Input> Adapter<'s, R> {
             Ok(state) => {
                 self.state = state;
                 match state {
-                    State::NoMemory => Err(DeviceFault),
+                    State::NoMemory => Err(Stop::NoMemory),
                     _ => Ok(()),
                 }
             }
-            Err(fault) => Err(fault),
+            Err(stop) => Err(stop),
         }
     }
 }

@@ -6,6 +6,7 @@ ghost use Rattle.pcap_stream.specs.Counts.{CountsFaults, GoesOnBy};
 ghost use Rattle.pcap_stream.specs.Supply.{Spends};
 ghost use Rattle.pcapng_input.specs.Adapted.{told_text};
 ghost use Rattle.pcapng_input.specs.Adapter.{IsAllTold, KeepsFault, left_out_by, met_fault, told, told_fault, told_octets};
+ghost use Rattle.pcapng_input.specs.Stops.{FailsFor};
 
 use crate::adapter::Adapter;
 use crate::fault::PcapngFault;
@@ -27,6 +28,7 @@ pub struct CaptureInput<'s, R: Input> {
     adapter: Adapter<'s, R>,
     calls: u64,
     failures: u64,
+    lacks_memory: bool,
 }
 
 impl<'s, R: Input> CaptureInput<'s, R> {
@@ -56,6 +58,7 @@ impl<'s, R: Input> CaptureInput<'s, R> {
             adapter,
             calls: 0,
             failures: 0,
+            lacks_memory: false,
         })
     }
 
@@ -74,6 +77,13 @@ impl<'s, R: Input> CaptureInput<'s, R> {
     {
         self.adapter.left_out()
     }
+
+    /// Whether the last read failed since memory was refused.
+    pub fn lacks_memory(&self) -> bool
+        ensures { result ≡ self.now.lacks_memory }
+    {
+        self.lacks_memory
+    }
 }
 
 impl<'s, R: Input> Input for CaptureInput<'s, R> {
@@ -91,13 +101,18 @@ impl<'s, R: Input> Input for CaptureInput<'s, R> {
         ensures fault { KeepsFault (told_fault self.old.adapter) (told_fault self.new.adapter) }
         ensures all { IfOk result (λ n. n ≡ 0 → 0 < length octets.new → IsAllTold (left_out_by self.new.adapter) (told self.new.adapter)) }
         ensures spent { Spends self.old.adapter.below.supply self.new.adapter.below.supply }
+        ensures cause { FailsFor self.old.adapter self.new.adapter self.new.lacks_memory result }
     {
         self.calls = self.calls.wrapping_add(1);
         match self.adapter.give(octets) {
-            Ok(n) => Ok(n),
-            Err(fault) => {
+            Ok(n) => {
+                self.lacks_memory = false;
+                Ok(n)
+            }
+            Err(stop) => {
                 self.failures = self.failures.wrapping_add(1);
-                Err(fault)
+                self.lacks_memory = stop.is_of_memory();
+                Err(DeviceFault)
             }
         }
     }

@@ -6,9 +6,11 @@ ghost use Rattle.pcap_stream.specs.Counts.{CountsFaults, GoesOnBy};
 ghost use Rattle.pcap_stream.specs.Supply.{GivesUp, Spends};
 ghost use Rattle.pcapng_input.specs.Adapter.{IsFetched};
 ghost use Rattle.pcapng_input.specs.Block.{longest_block};
+ghost use Rattle.pcapng_input.specs.Stops.{StopsFor};
 
 use crate::block::EMPTY_BLOCK;
 use crate::room::lengthen;
+use crate::stop::Stop;
 use pcap_stream::{DeviceFault, Input};
 use std::alloc::{AllocError, Global};
 use std::marker::Model;
@@ -141,25 +143,27 @@ impl<R: Input> Gathered<R> {
     /// refused, at most `wanted` are held, and where it is refused for these too, no read is made.
     #[cold]
     #[inline(never)]
-    pub fn fetch(&mut self, wanted: usize, most: usize) -> Result<bool, DeviceFault>
+    pub fn fetch(&mut self, wanted: usize, most: usize) -> Result<bool, Stop>
         requires { (length self.old.held < wanted) × (wanted ≤ most) × (most ≤ longest_block) }
         ensures fetched { IfOk result (IsFetched most self.old self.new) }
         ensures held { OnErr result (self.new.held ≡ self.old.held) }
         ensures kept { OnErr result (Keeps self.old.supply.rest self.new.supply.rest) }
         ensures spent { Spends self.old.supply self.new.supply }
         ensures fewer { OnOk result (self.new.supply.reads < self.old.supply.reads) }
-        ensures quiet { OnOk result (self.new.supply.failures ≡ self.old.supply.failures) }
+        ensures stops { StopsFor ⊥ self.old.supply self.new.supply result }
     {
         if self.reads == 0 {
-            return Err(DeviceFault);
+            return Err(Stop::Below);
         }
         self.to = move_front(self.room.as_mut_slice(), self.from, self.to);
         self.from = 0;
         let Ok(end) = make_room(&mut self.room, wanted, most) else {
-            return Err(DeviceFault);
+            return Err(Stop::NoMemory);
         };
         self.reads -= 1;
-        let n = read_between(&mut self.input, self.room.as_mut_slice(), self.to, end)?;
+        let Ok(n) = read_between(&mut self.input, self.room.as_mut_slice(), self.to, end) else {
+            return Err(Stop::Below);
+        };
         self.to += n;
         Ok(n > 0)
     }
@@ -181,18 +185,21 @@ impl<R: Input> Gathered<R> {
     }
 
     /// One read into octets of the caller's.
-    pub fn pass(&mut self, octets: &mut [u8]) -> Result<usize, DeviceFault>
+    pub fn pass(&mut self, octets: &mut [u8]) -> Result<usize, Stop>
         ensures bound { ReadsAtMost result octets.new }
         ensures taken { ReadConsumes self.old.supply.rest self.new.supply.rest result octets.new }
         ensures held { self.new.held ≡ self.old.held }
         ensures spent { Spends self.old.supply self.new.supply }
-        ensures quiet { OnOk result (self.new.supply.failures ≡ self.old.supply.failures) }
-        ensures gives_up { OnErr result (GivesUp self.old.supply self.new.supply) }
+        ensures stops { StopsFor ⊥ self.old.supply self.new.supply result }
+        ensures below { OnErr result (GivesUp self.old.supply self.new.supply) }
     {
         if self.reads == 0 {
-            return Err(DeviceFault);
+            return Err(Stop::Below);
         }
         self.reads -= 1;
-        self.input.read(octets)
+        match self.input.read(octets) {
+            Ok(n) => Ok(n),
+            Err(_) => Err(Stop::Below),
+        }
     }
 }

@@ -27,6 +27,7 @@ mod ready;
 mod room;
 mod settle;
 mod state;
+mod stop;
 
 pub use block::is_pcapng;
 pub use capture_input::CaptureInput;

@@ -4,6 +4,7 @@ ghost use Rattle.std.specs.Io.KnownBytes.{Keeps};
 ghost use Rattle.pcap_stream.specs.Supply.{Spends};
 ghost use Rattle.pcapng_input.specs.Adapted.{Begun, Passing, Within, is_of_one};
 ghost use Rattle.pcapng_input.specs.State.{IsLess, IsLongIn, IsPart, IsPlaced, IsSound, IsTaken, Leads, held_settled, stand_of, state_settled, wanted_size};
+ghost use Rattle.pcapng_input.specs.Stops.{StopsFor};
 ghost use Rattle.pcapng_input.specs.declared.interface.Selection.{Selection};
 ghost use Rattle.pcapng_input.specs.declared.state.State.TheVariants as state;
 
@@ -16,8 +17,9 @@ use crate::number::number4;
 use crate::ready::Ready;
 use crate::settle::{Settled, settle, wanted};
 use crate::state::State;
+use crate::stop::Stop;
 use pcap_io::{Order, global_header};
-use pcap_stream::{DeviceFault, Input};
+use pcap_stream::Input;
 
 /// The octets by which the format is told.
 const MAGIC: usize = 4;
@@ -33,7 +35,7 @@ pub fn read_magic<R: Input>(
     context: &Context,
     gathered: &mut Gathered<R>,
     ready: &mut Ready,
-) -> Result<State, DeviceFault>
+) -> Result<State, Stop>
     requires sound { IsSound state.Begun context.now gathered.old }
     requires empty { ready.old ≡ [] }
     ensures leads { IfOk result (λ state. (selection : Selection) → is_of_one selection ≡ false → Leads selection Begun gathered.old context.now ready.new gathered.new state) }
@@ -43,6 +45,7 @@ pub fn read_magic<R: Input>(
     ensures held { OnErr result (gathered.new.held ≡ gathered.old.held) }
     ensures kept { OnErr result (Keeps gathered.old.supply.rest gathered.new.supply.rest) }
     ensures spent { Spends gathered.old.supply gathered.new.supply }
+    ensures stops { StopsFor ⊥ gathered.old.supply gathered.new.supply result }
     ensures less { IfOk result (λ next. IsLess state.Begun gathered.old next gathered.new) }
 {
     let is_more = gathered.fetch(MAGIC, MAGIC)?;
@@ -100,7 +103,7 @@ fn read_more<R: Input>(
     gathered: &mut Gathered<R>,
     ready: &mut Ready,
     wanted: usize,
-) -> Result<State, DeviceFault>
+) -> Result<State, Stop>
     requires placed { IsPlaced context.old 0 gathered.old }
     requires part { IsPart context.old.order gathered.old.held }
     requires wanted { wanted ≡ wanted_size context.old.order gathered.old.held }
@@ -113,6 +116,7 @@ fn read_more<R: Input>(
     ensures held { OnErr result (gathered.new.held ≡ gathered.old.held) }
     ensures kept { OnErr result (Keeps gathered.old.supply.rest gathered.new.supply.rest) }
     ensures spent { Spends gathered.old.supply gathered.new.supply }
+    ensures stops { StopsFor ⊥ gathered.old.supply gathered.new.supply result }
     ensures less { IfOk result (λ next. IsLess state.Within gathered.old next gathered.new) }
 {
     let most = if wanted < AHEAD { AHEAD } else { wanted };
@@ -132,7 +136,7 @@ pub fn take_block<R: Input>(
     context: &mut Context,
     gathered: &mut Gathered<R>,
     ready: &mut Ready,
-) -> Result<State, DeviceFault>
+) -> Result<State, Stop>
     requires placed { IsPlaced context.old 0 gathered.old }
     requires empty { ready.old ≡ [] }
     ensures leads { IfOk result (Leads selection.entry (Within context.old) gathered.old context.new ready.new gathered.new) }
@@ -143,6 +147,7 @@ pub fn take_block<R: Input>(
     ensures held { OnErr result (gathered.new.held ≡ gathered.old.held) }
     ensures kept { OnErr result (Keeps gathered.old.supply.rest gathered.new.supply.rest) }
     ensures spent { Spends gathered.old.supply gathered.new.supply }
+    ensures stops { StopsFor ⊥ gathered.old.supply gathered.new.supply result }
     ensures less { IfOk result (λ next. IsLess state.Within gathered.old next gathered.new) }
 {
     let held = gathered.held();
@@ -163,7 +168,7 @@ pub fn pass_body<R: Input>(
     order: Order,
     size: usize,
     left: usize,
-) -> Result<State, DeviceFault>
+) -> Result<State, Stop>
     requires sound { IsSound (state.Passing order size left) context.now gathered.old }
     requires some { 0 < left }
     requires empty { ready.old ≡ [] }
@@ -174,6 +179,7 @@ pub fn pass_body<R: Input>(
     ensures held { OnErr result (gathered.new.held ≡ gathered.old.held) }
     ensures kept { OnErr result (Keeps gathered.old.supply.rest gathered.new.supply.rest) }
     ensures spent { Spends gathered.old.supply gathered.new.supply }
+    ensures stops { StopsFor ⊥ gathered.old.supply gathered.new.supply result }
     ensures less { IfOk result (λ next. IsLess (state.Passing order size left) gathered.old next gathered.new) }
 {
     let wanted = if left < LONGEST_BLOCK {
@@ -198,7 +204,7 @@ pub fn pass_end<R: Input>(
     ready: &mut Ready,
     order: Order,
     size: usize,
-) -> Result<State, DeviceFault>
+) -> Result<State, Stop>
     requires sound { IsSound (state.Passing order size 0) context.old gathered.old }
     requires empty { ready.old ≡ [] }
     ensures leads { IfOk result (λ state. (selection : Selection) → Leads selection (Passing context.old order size 0) gathered.old context.new ready.new gathered.new state) }
@@ -209,6 +215,7 @@ pub fn pass_end<R: Input>(
     ensures held { OnErr result (gathered.new.held ≡ gathered.old.held) }
     ensures kept { OnErr result (Keeps gathered.old.supply.rest gathered.new.supply.rest) }
     ensures spent { Spends gathered.old.supply gathered.new.supply }
+    ensures stops { StopsFor ⊥ gathered.old.supply gathered.new.supply result }
     ensures less { IfOk result (λ next. IsLess (state.Passing order size 0) gathered.old next gathered.new) }
 {
     let is_more = gathered.fetch(SECOND_LENGTH, SECOND_LENGTH)?;
@@ -240,7 +247,7 @@ pub fn read_on<R: Input>(
     gathered: &mut Gathered<R>,
     ready: &mut Ready,
     state: State,
-) -> Result<State, DeviceFault>
+) -> Result<State, Stop>
     requires sound { IsSound state context.old gathered.old }
     requires taken { IsTaken selection state }
     requires empty { ready.old ≡ [] }
@@ -252,6 +259,7 @@ pub fn read_on<R: Input>(
     ensures held { OnErr result (gathered.new.held ≡ gathered.old.held) }
     ensures kept { OnErr result (Keeps gathered.old.supply.rest gathered.new.supply.rest) }
     ensures spent { Spends gathered.old.supply gathered.new.supply }
+    ensures stops { StopsFor ⊥ gathered.old.supply gathered.new.supply result }
     ensures less { IfOk result (λ next. IsLess state gathered.old next gathered.new) }
 {
     match state {
@@ -263,6 +271,7 @@ pub fn read_on<R: Input>(
             }
             pass_end(context, gathered, ready, order, size)
         }
-        _ => Err(DeviceFault),
+        // nothing more is asked for there
+        _ => Err(Stop::NoMemory),
     }
 }

@@ -44,5 +44,6 @@ returns-in_default g c =
       held = tt;
       kept = tt;
       spent = unspent old.supply after.supply (ap (λ (x : Gathered). x.supply) c.go_on.ensures.held);
+      stops = ap (λ (x : Gathered). x.supply.failures) c.go_on.ensures.held;
       less = settled_less selection context new old after octets true ready settled c.go_on.result fits made c.in_default.not-Unfinished c.go_on.ensures.held c.go_on.ensures.state;
     }

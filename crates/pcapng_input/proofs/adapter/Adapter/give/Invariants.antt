@@ -1,4 +1,4 @@
-use Rattle.std.proofs.Common.{◌<◌, length}
+use Rattle.std.proofs.Common.{◌≡◌, ◌<◌, length}
 use Rattle.pcap_stream.specs.Supply.{Spends}
 use Rattle.pcapng_input.specs.Adapter.{KeepsTold, told}
 use Rattle.pcapng_input.specs.State.{steps_at}
@@ -8,6 +8,7 @@ abbrev pub invariant-loop-self : goal.invariant-loop-self
 invariant-loop-self g l = record {
   kept : KeepsTold (told l.initial.self) (told l.self);
   spent : Spends l.initial.self.below.supply l.self.below.supply;
+  quiet : l.self.below.supply.failures ≡ l.initial.self.below.supply.failures;
   some : 0 < length l.octets;
 }
 

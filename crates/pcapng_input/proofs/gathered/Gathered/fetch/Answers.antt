@@ -12,7 +12,7 @@ returns-clause-fetched g c =
     let first = c.move_front-self-inside.new.room in
     let held = c.move_front-self-inside.result in
     let now = c.read_between.new.room in
-    let n = c.in_ok-n.n in
+    let n = c.in-Ok-read_between.n in
     let taken = take n (drop held now) in
     let room = c.make_room.new.room in
     let was = c.self.view_is in
@@ -34,9 +34,9 @@ returns-clause-fetched g c =
     record {
       taken = taken;
       held = before ∙ take-add held n now ∙ ap (λ t. t ++ taken) (same ∙ ap (λ (x : Gathered). x.held) was);
-      consumed = subst (λ x. Consumes x (g.R.Input.remaining c.read_between.new.input) taken) (ap (λ (x : Gathered). x.supply.rest) was) c.in_ok-n.ensures.taken;
-      fits = omega (arith, c.in_ok-n.ensures.fits, ap length before, length-take (held + n) now, c.in-Ok.ensures.end);
+      consumed = subst (λ x. Consumes x (g.R.Input.remaining c.read_between.new.input) taken) (ap (λ (x : Gathered). x.supply.rest) was) c.in-Ok-read_between.ensures.taken;
+      fits = omega (arith, c.in-Ok-read_between.ensures.fits, ap length before, length-take (held + n) now, c.in-Ok.ensures.end);
       end = λ none.
           let zero_is : n ≡ 0 = omega (arith, ltb-false 0 n none) in
-          (ap (λ k. take k (drop held now)) zero_is, c.in_ok-n.ensures.end zero_is);
+          (ap (λ k. take k (drop held now)) zero_is, c.in-Ok-read_between.ensures.end zero_is);
     }

@@ -1,16 +1,19 @@
-"""The definitions that the contract of `capture_run::run_bytes` is made of, and how many lines they have.
+"""The definitions that two contracts are made of, and how many lines they have: `capture_run::run_bytes`, and
+`stream_run::run_read`, which the program calls.
 
-Prints a table for docs/HEADLINE.md: every definition that the contract's words reach through `use` lines, by crate and file;
-then the words that it takes from `std` and `toml`, which stand outside this repository. Comments and empty lines aren't
-counted, nor what stands in `specs/` without being reached.
+Prints two tables for docs/HEADLINE.md: every definition that the words of the first reach through `use` lines, by crate and
+file, with the words that it takes from `std` and `toml`, which stand outside this repository; then those that the words of the
+second reach beside these. Comments and empty lines aren't counted, nor what stands in `specs/` without being reached.
 """
 
 import pathlib
 import re
+import subprocess
 import sys
 
 TOP = pathlib.Path(__file__).resolve().parent.parent
 CRATES = TOP / "crates"
+KIT = pathlib.Path(subprocess.run(["rt", "doc"], capture_output=True, text=True, check=True).stdout.strip()).parent / "rattle"
 USE = re.compile(r"^\s*(?:pub )?(?:ghost )?use Rattle\.([\w.]+?)(?:\.\{([^}]*)\})?(?: as (\S+?))?;?\s*$")
 HEAD = re.compile(r"^\s*(?:abbrev pub|unfoldable pub|pub record|pub data|abbrev|record|data) ([^\s:(){}]+)")
 
@@ -50,10 +53,19 @@ class File:
 FILES = {}
 
 
+def is_toml(crate):
+    """One of those of the kit that say what TOML means."""
+    return crate.startswith("toml")
+
+
+def folder_of(crate):
+    return (KIT if is_toml(crate) else CRATES) / crate
+
+
 def file_of(module):
-    """The spec file of a module of this repository, if it is one."""
+    """The spec file of a module of such a crate, if it is one."""
     parts = module.split(".")
-    path = CRATES / parts[0] / "specs" / ("/".join(parts[2:]) + ".antt")
+    path = folder_of(parts[0]) / "specs" / ("/".join(parts[2:]) + ".antt")
     if len(parts) < 3 or parts[1] != "specs" or not path.exists():
         return None
     if module not in FILES:
@@ -61,18 +73,19 @@ def file_of(module):
     return FILES[module]
 
 
-def reach(roots):
-    """All that these (module, name) pairs reach: definitions here, declared types, words from outside."""
+def reach(roots, is_within=lambda crate: (CRATES / crate).exists()):
+    """All that these (module, name) pairs reach: definitions within these crates, declared types, words from outside."""
     here, types, outside, left = set(), set(), set(), list(roots)
     while left:
         module, name = left.pop()
         if ".specs.declared." in module:
             types.add(module.split(".TheVariants")[0].replace(".specs.declared", ""))
             continue
+        if not is_within(module.split(".")[0]):
+            outside.add((module, name))
+            continue
         file = file_of(module)
         if file is None:
-            if not (CRATES / module.split(".")[0]).exists():
-                outside.add((module.split(".")[0], name))
             continue
         if name in file.taken and name not in file.lines:
             left.append(file.taken[name])
@@ -93,37 +106,59 @@ def reach(roots):
     return here, types, outside
 
 
-def roots():
-    """The words of the contract of `run_bytes`, and where they stand."""
-    text = (CRATES / "capture_run/src/run.rt").read_text(encoding="utf-8")
+def roots(path, call):
+    """The words of the contract of a call, and where they stand."""
+    text = (CRATES / path).read_text(encoding="utf-8")
     taken = {}
     for line in text.splitlines():
         found = USE.match(line)
         if found and found.group(2):
             for name in found.group(2).split(","):
                 taken[name.strip()] = found.group(1)
-    body = text[text.index("pub fn run_bytes") :]
-    contract = body[body.index("ensures") : body.index("\n{\n")]
+    body = text[text.index(f"pub fn {call}") :]
+    contract = body[re.search("ensures|requires", body).start() : body.index("\n{\n")]
     return [(taken[word], word) for word in dict.fromkeys(re.findall(r"\w+", contract)) if word in taken]
 
 
-def main():
-    here, types, outside = reach(roots())
+def lines_of(rows):
+    return sum(len(FILES[module].lines[name]) for module, name in rows)
+
+
+def print_table(here):
     crates = {}
     for module, name in here:
         crates.setdefault(module.split(".")[0], []).append((module, name))
     order = [line.split(":")[0].strip() for line in (TOP / "crates.txt").read_text(encoding="utf-8").splitlines() if ":" in line]
-    count = lambda rows: sum(len(FILES[module].lines[name]) for module, name in rows)
     print("| Crate | Definitions | Lines | Files of `specs/` |\n|---|---|---|---|")
     for crate in sorted(crates, key=lambda name: order.index(name) if name in order else -1):
         rows = crates[crate]
         files = sorted({module.split(".specs.")[1].replace(".", "/") for module, _ in rows})
-        print(f"| `{crate}` | {len(rows)} | {count(rows)} | {', '.join(files)} |")
-    print(f"| all | {len(here)} | {count(here)} | |")
-    for crate in sorted({crate for crate, _ in outside}):
-        words = sorted({name for where, name in outside if where == crate})
-        print(f"\nFrom `{crate}`, {len(words)} words: {', '.join(f'`{word}`' for word in words)}.")
+        print(f"| `{crate}` | {len(rows)} | {lines_of(rows)} | {', '.join(files)} |")
+    print(f"| all | {len(here)} | {lines_of(here)} | |")
+
+
+def print_words(outside):
+    """The words from outside, by crate; those of TOML with what they reach."""
+    for crate in sorted({module.split(".")[0] for module, _ in outside}):
+        rows = {(module, name) for module, name in outside if module.split(".")[0] == crate}
+        words = sorted({name for _, name in rows})
+        told = f"\nFrom `{crate}`, {len(words)} words: {', '.join(f'`{word}`' for word in words)}."
+        if is_toml(crate):
+            behind, _, below = reach(rows, is_toml)
+            of, words = (" and ".join(f"`{name}`" for name in sorted({module.split(".")[0] for module, _ in it})) for it in (behind, below))
+            told += f" They stand for {len(behind)} definitions of {lines_of(behind)} lines in {of}, over words of {words}."
+        print(told)
+
+
+def main():
+    here, types, outside = reach(roots("capture_run/src/run.rt", "run_bytes"))
+    print_table(here)
+    print_words(outside)
     print(f"\nTypes of the code whose values the definitions are about: {len(types)}.")
+    more, more_types, _ = reach(roots("stream_run/src/run.rt", "run_read"))
+    print("\nBeside these, in the clauses of `stream_run::run_read`, which the program calls:\n")
+    print_table(more - here)
+    print(f"\nTypes of the code beside those: {len(more_types - types)}.")
 
 
 if __name__ == "__main__":

@@ -313,6 +313,10 @@ T
 gzip -nc "$folder/out/port2.pcap" >"$folder/port2.gz"
 cp "$folder/port2.gz" "$folder/out/port2.pcap"
 ends 1 merge -o whole out <<'T'
+part out: port2.pcap has another number of octets than shard.txt says
+T
+tests/shard_outputs.py "$folder/out"
+ends 1 merge -o whole out <<'T'
 part out: p2 NotPcap
   out/port2.pcap: it is compressed with gzip: editcap -F nsecpcap IN OUT converts it, or <(zcat IN) in its place
 T

@@ -185,17 +185,100 @@ refused 3 "read nowhere" merge --out out one nowhere
 refused 3 "write decisions.txt" merge --out one one other
 [ -z "$(ls "$folder/out")" ] || complain "a merge that was refused left something"
 
-# broken FILE FAULT WORDS..: where what stands on standard input stands in a file of the second part, merging with these words
-# says this
-broken() {
+# replaced FILE: what stands on standard input stands in a file of the second part
+replaced() {
     rm -rf "$folder/broken"
     cp -r "$folder/other" "$folder/broken"
     cat >"$folder/text"
     cp "$folder/text" "$folder/broken/$1"
+}
+
+# foreign FILE FAULT WORDS..: where what stands on standard input stands in a file of the second part, and its shard.txt tells
+# what it told, merging with these words says this
+foreign() {
+    replaced "$1"
     refused 1 "part broken: $2" merge "${@:3}" --out out one broken
 }
 
-broken shard.txt "shard.txt: the first line is not 'tep shard 1'" </dev/null
+# broken FILE FAULT WORDS..: the same where the shard.txt tells of the outputs as they are now
+broken() {
+    replaced "$1"
+    case $1 in decisions.txt | *.pcap) tests/shard_outputs.py "$folder/broken" ;; esac
+    refused 1 "part broken: $2" merge "${@:3}" --out out one broken
+}
+
+# What shard.txt tells of its outputs is what another program finds of them.
+for part in one other second vids; do
+    cp -r "$folder/$part" "$folder/told_again"
+    tests/shard_outputs.py "$folder/told_again"
+    diff -r "$folder/$part" "$folder/told_again" || complain "the shard.txt of the part $part tells otherwise of its outputs"
+    rm -r "$folder/told_again"
+done
+
+# turned FILE PLACE: a file of the second part in which the octet at a place is another one
+turned() {
+    python3 -c 'import sys
+text = bytearray(open(sys.argv[1], "rb").read())
+text[int(sys.argv[2])] ^= 1
+sys.stdout.buffer.write(text)' "$folder/other/$1" "$2"
+}
+
+# Other outputs than the part wrote. Where their octets are as many, what was merged stands.
+sed '1s/ / 0/' "$folder/other/decisions.txt" |
+    foreign decisions.txt "decisions.txt has another number of octets than shard.txt says"
+for output in port2.pcap underlay.pcap; do
+    cat "$folder/other/$output" <(printf x) | foreign "$output" "$output has another number of octets than shard.txt says"
+done
+[ -z "$(ls "$folder/out")" ] || complain "a merge of outputs of another length left something"
+turned port2.pcap 30 | foreign port2.pcap "port2.pcap has other octets than shard.txt says"
+turned port2.pcap 45 | foreign port2.pcap "port2.pcap has other octets than shard.txt says"
+turned port3.pcap 4 | foreign port3.pcap "p3 NotPcap"
+turned decisions.txt 3 | foreign decisions.txt "decisions.txt has other octets than shard.txt says"
+[ "$(ls "$folder/out")" = "$(printf '%s\n' decisions.txt port1.pcap port2.pcap port3.pcap underlay.pcap)" ] ||
+    complain "a merge of other octets leaves $(ls "$folder/out")"
+rm -f "$folder"/out/*
+sed 's/^\(output p2\) [0-9]*/\1 9/' "$folder/other/shard.txt" |
+    foreign shard.txt "decisions.txt tells another number of records of port2.pcap than shard.txt says"
+sed 's/^\(output u\) [0-9]*/\1 9/' "$folder/other/shard.txt" |
+    foreign shard.txt "decisions.txt tells another number of records of underlay.pcap than shard.txt says"
+sed 's/^\(output decisions\) [0-9]*/\1 9/' "$folder/other/shard.txt" |
+    foreign shard.txt "decisions.txt has another number of lines than shard.txt says"
+
+# A whole run over a part's folder leaves no shard.txt; with the part's own beside its outputs it is refused.
+cp -r "$folder/other" "$folder/over"
+runs over "" "${whole[@]}"
+refused 3 "read over" merge --out out one over
+cp "$folder/other/shard.txt" "$folder/over/shard.txt"
+refused 1 "part over: decisions.txt has another number of events than shard.txt says" merge --out out one over
+rm -rf "$folder/over"
+
+# The outputs of a part of another run that is as long: the captures are the same but for a moment.
+cp -r "$folder/other" "$folder/over"
+for port in 1 2 3; do
+    turned_capture=$folder/moved$port.pcap
+    python3 -c 'import struct, sys
+text = bytearray(open(sys.argv[1], "rb").read())
+at = 24
+while at < len(text):
+    seconds, parts, captured = struct.unpack_from("<III", text, at)
+    struct.pack_into("<I", text, at + 4, parts + 1)
+    at += 16 + captured
+open(sys.argv[2], "wb").write(text)' "examples/port$port.pcap" "$turned_capture"
+done
+runs over 16-4094,none "${a[@]}" --changes examples/changes.toml "$folder"/moved{1,2,3}.pcap
+cp "$folder/other/shard.txt" "$folder/over/shard.txt"
+refused 1 "part over: decisions.txt has other octets than shard.txt says" merge --out out one over
+rm -f "$folder"/out/*
+
+# The version before, which told nothing of its outputs, and other texts that are no such record.
+sed -e '1s/2$/1/' -e '/^output /d' "$folder/other/shard.txt" |
+    foreign shard.txt "shard.txt: it is of version 1 and tells nothing of the part's outputs: run the part again"
+sed '/^output p3 /d' "$folder/other/shard.txt" |
+    foreign shard.txt "shard.txt: the line of an output is missing, out of place or has no four numbers"
+sed 's/^output u /output u 0/' "$folder/other/shard.txt" |
+    foreign shard.txt "shard.txt: the line of an output is missing, out of place or has no four numbers"
+{ cat "$folder/other/shard.txt" && echo; } | foreign shard.txt "shard.txt: something stands behind the line of the last output"
+broken shard.txt "shard.txt: the first line is not 'tep shard 2'" </dev/null
 sed 's/^segments .*/segments 16-4094,nothing/' "$folder/other/shard.txt" |
     broken shard.txt "shard.txt: an item of the list is no VID of 1 to 4094, no range of them and not 'none'"
 sed 's/^events .*/events 07/' "$folder/other/shard.txt" | broken shard.txt "shard.txt: behind the captures there is no line 'events' with a number"
@@ -218,6 +301,7 @@ missing() {
     cp -r "$folder/other" "$folder/broken"
     sed -i "$2d" "$folder/broken/decisions.txt"
     sed -i "s/^events .*/events $3/" "$folder/broken/shard.txt"
+    tests/shard_outputs.py "$folder/broken"
     refused 1 "missing $1" merge --out out one broken
     rm -f "$folder"/out/*
 }
@@ -229,6 +313,7 @@ missing 2 1,3 1
 rm -rf "$folder/broken"
 cp -r "$folder/other" "$folder/broken"
 tac "$folder/other/decisions.txt" >"$folder/broken/decisions.txt"
+tests/shard_outputs.py "$folder/broken"
 refused 1 "missing 2" merge --out out one broken
 rm -f "$folder"/out/*
 
@@ -399,7 +484,7 @@ wait $!
     complain "a part of a capture that grew: '$(cat "$folder/stderr")'"
 [ -e "$folder/growing/shard.txt" ] && [ ! -s "$folder/growing/shard.txt" ] || complain "the shard.txt of a part whose capture grew tells something"
 runs grown 1-15 "${growing[@]}"
-refused 1 "part growing: shard.txt: the first line is not 'tep shard 1'" merge --out out growing grown
+refused 1 "part growing: shard.txt: the first line is not 'tep shard 2'" merge --out out growing grown
 
 # ---- what an earlier part left of itself goes before its outputs change
 

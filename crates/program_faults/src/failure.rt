@@ -91,6 +91,18 @@ pub enum ShardFailure {
     /// It has another number of decision lines than its record says, as a part that was cut off has.
     #[error("decisions.txt has another number of events than shard.txt says")]
     Events,
+    /// It has another number of decision lines than its record says, those of cut captures with them.
+    #[error("decisions.txt has another number of lines than shard.txt says")]
+    Lines,
+    /// Its decision lines tell another number of records of this output than its record says.
+    #[error("decisions.txt tells another number of records of {0} than shard.txt says")]
+    Records(OutputFile),
+    /// This output has another number of octets than its record says.
+    #[error("{0} has another number of octets than shard.txt says")]
+    Octets(OutputFile),
+    /// This output has as many octets as its record says, and other ones.
+    #[error("{0} has other octets than shard.txt says")]
+    Sums(OutputFile),
     /// It has no such file, since it was run without the word that asks for that.
     #[error("it has no {0}")]
     Lacks(OutputFile),

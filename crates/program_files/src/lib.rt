@@ -20,7 +20,12 @@ pub use inputs::{
 pub use interface_list::{Described, MOST_INTERFACES, Reach, interfaces_of_file};
 pub use names::{Names, RunInput, file_of, is_read_once, is_regular_file, is_same};
 pub use output_device::OutputDevice;
-pub use outputs::{Opened, Outputs, Written, open_outputs, path_of, spare_inputs};
-pub use part_inputs::{PartInput, count_events, open_lines, open_part_file};
+pub use outputs::{
+    Opened, OutputSums, Outputs, ShardFile, Written, open_outputs, path_of, spare_inputs,
+};
+pub use part_inputs::{
+    PartFile, PartInput, PartLines, count_lines, is_as_told, may_have_octets, open_output,
+    open_part_file,
+};
 pub use part_texts::{drop_part, drop_texts, leave_text};
 pub use printing::print_text;

@@ -3,16 +3,35 @@ ghost use Rattle.std.specs.Prelude.{◌≡◌, IfOk, length};
 
 use crate::names::Names;
 use crate::output_device::OutputDevice;
+use arrayvec::ArrayVec;
+use octet_sum::OctetSum;
 use pcap_stream::{BlockOutput, Sink, StdOutput};
 use program_faults::{Failure, OutputFile, SystemFault};
+use shard_record::{MOST_PORTS, SumOutput};
 use std::alloc::{AllocError, Global};
 use std::fs::{OpenFile, OpenOptions};
 use std::io::{self, Write};
 use std::path::{Path, PathBuf};
 use std::rt::Files;
 
-/// A file that is written in blocks.
-pub type Written<F> = BlockOutput<StdOutput<OutputDevice<F>>>;
+/// A file that is written in blocks, whose octets are summed where a part writes it.
+pub type Written<F> = BlockOutput<SumOutput<StdOutput<OutputDevice<F>>>>;
+
+/// The sums of a part's outputs.
+#[derive(Drop)]
+pub struct OutputSums {
+    pub decisions: OctetSum,
+    pub underlay: OctetSum,
+    /// Of port 1's capture, port 2's and so on.
+    pub ports: ArrayVec<OctetSum, MOST_PORTS>,
+}
+
+/// The empty file in which a part is to say what it was made from, and the sums of the outputs that stand.
+#[derive(Drop)]
+pub struct ShardFile<F: Drop> {
+    pub file: F,
+    pub sums: OutputSums,
+}
 
 /// What a run writes: the ports' captures rising, the underlay's, and the decision lines. A part of a run also says what it
 /// was made from.
@@ -146,10 +165,11 @@ impl<F: Write + OpenFile + Drop> Opened<F> {
                 return Err(Failure::writing(OutputFile::Shard, &error));
             }
         }
+        let is_part = shard.is_some();
         let mut ports = Vec::new(alloc);
         for file in files {
             let output = OutputFile::Port(ports.len() + 1);
-            let written = match empty(alloc, file, output, block) {
+            let written = match empty(alloc, file, output, block, is_part) {
                 Ok(written) => written,
                 Err(failure) => return Err(failure),
             };
@@ -157,11 +177,11 @@ impl<F: Write + OpenFile + Drop> Opened<F> {
                 return Err(Failure::from(AllocError));
             }
         }
-        let underlay = match empty(alloc, underlay, OutputFile::Underlay, block) {
+        let underlay = match empty(alloc, underlay, OutputFile::Underlay, block, is_part) {
             Ok(written) => Sink::new(written),
             Err(failure) => return Err(failure),
         };
-        match empty(alloc, decisions, OutputFile::Decisions, block) {
+        match empty(alloc, decisions, OutputFile::Decisions, block, is_part) {
             Ok(decisions) => Ok(Outputs {
                 ports,
                 underlay,
@@ -173,17 +193,19 @@ impl<F: Write + OpenFile + Drop> Opened<F> {
     }
 }
 
-/// Empties a file, which is written in blocks.
+/// Empties a file, which is written in blocks, and summed if a part writes it.
 fn empty<F: Write + OpenFile + Drop>(
     alloc: Global,
     file: F,
     output: OutputFile,
     block: usize,
+    is_part: bool,
 ) -> Result<Written<F>, Failure<'static>> {
     if let Err(error) = cut(&file) {
         return Err(Failure::writing(output, &error));
     }
-    match BlockOutput::new(alloc, StdOutput::new(OutputDevice::new(file)), block) {
+    let device = StdOutput::new(OutputDevice::new(file));
+    match BlockOutput::new(alloc, SumOutput::new(device, is_part), block) {
         Ok(written) => Ok(written),
         Err(error) => Err(Failure::from(error)),
     }
@@ -199,24 +221,37 @@ fn cut<F: OpenFile>(file: &F) -> io::Result<()> {
 }
 
 impl<F: Write + Drop> Outputs<F> {
-    /// Writes what the blocks still hold, file by file, and tells the first that failed. It answers the file in which a part
-    /// says what it was made from.
-    pub fn finish(self) -> Result<Option<F>, Failure<'static>> {
+    /// Writes what the blocks still hold, file by file, and tells the first that failed. Of a part it answers the file in which
+    /// it says what it was made from, and the sums of its outputs.
+    pub fn finish(self) -> Result<Option<ShardFile<F>>, Failure<'static>> {
         let Outputs {
             ports,
             underlay,
             decisions,
             shard,
         } = self;
+        let mut sums = OutputSums {
+            decisions: OctetSum::new(),
+            underlay: OctetSum::new(),
+            ports: ArrayVec::new(),
+        };
         let mut finished = Ok(());
         for (index, port) in ports.into_iter().enumerate() {
+            let mut sum = OctetSum::new();
             let flushed = flush(OutputFile::Port(index + 1), port.into_inner());
-            finished = finished.and(flushed);
+            finished = finished.and(keep(&mut sum, flushed));
+            // There is room for as many as a run has ports.
+            let _ = sums.ports.try_push(sum);
         }
+        let under = flush(OutputFile::Underlay, underlay.into_inner());
+        let lines = flush(OutputFile::Decisions, decisions);
         finished
-            .and(flush(OutputFile::Underlay, underlay.into_inner()))
-            .and(flush(OutputFile::Decisions, decisions))?;
-        Ok(shard)
+            .and(keep(&mut sums.underlay, under))
+            .and(keep(&mut sums.decisions, lines))?;
+        match shard {
+            Some(file) => Ok(Some(ShardFile { file, sums })),
+            None => Ok(None),
+        }
     }
 
     /// Writes what the blocks still hold, behind a run or a merge that gave up for this failure. Where that is a write into
@@ -239,7 +274,7 @@ impl<F: Write + Drop> Outputs<F> {
 }
 
 /// The file that couldn't be written, and what the system told of it.
-fn cause_of(flushed: Result<(), Failure<'static>>) -> Option<(OutputFile, SystemFault)> {
+fn cause_of(flushed: Result<OctetSum, Failure<'static>>) -> Option<(OutputFile, SystemFault)> {
     match flushed {
         Err(Failure::WriteFailed(file, fault)) => Some((file, fault)),
         _ => None,
@@ -247,7 +282,10 @@ fn cause_of(flushed: Result<(), Failure<'static>>) -> Option<(OutputFile, System
 }
 
 /// A failure, with what the system told of it where it is the same file that couldn't be finished.
-fn with_cause<'a>(failure: Failure<'a>, flushed: Result<(), Failure<'static>>) -> Failure<'a> {
+fn with_cause<'a>(
+    failure: Failure<'a>,
+    flushed: Result<OctetSum, Failure<'static>>,
+) -> Failure<'a> {
     match failure {
         Failure::Write(output) => match cause_of(flushed) {
             Some((file, fault)) => {
@@ -263,18 +301,29 @@ fn with_cause<'a>(failure: Failure<'a>, flushed: Result<(), Failure<'static>>) -
     }
 }
 
-/// Writes what a file's block still holds.
+/// Keeps the sum of a file that is written.
+fn keep(
+    sum: &mut OctetSum,
+    flushed: Result<OctetSum, Failure<'static>>,
+) -> Result<(), Failure<'static>> {
+    *sum = flushed?;
+    Ok(())
+}
+
+/// Writes what a file's block still holds, and answers the sum of what was written, of no octets if it isn't summed.
 fn flush<F: Write + Drop>(
     output: OutputFile,
     mut written: Written<F>,
-) -> Result<(), Failure<'static>> {
+) -> Result<OctetSum, Failure<'static>> {
     let finished = written.finish();
-    let mut device = written.into_inner().into_inner();
+    let summed = written.into_inner();
+    let sum = summed.sum().unwrap_or(OctetSum::new());
+    let mut device = summed.into_inner().into_inner();
     if finished.is_err() || device.has_failed() {
         return Err(device.failure(output));
     }
     match device.flush() {
-        Ok(()) => Ok(()),
+        Ok(()) => Ok(sum),
         Err(error) => Err(Failure::writing(output, &error)),
     }
 }

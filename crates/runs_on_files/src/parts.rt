@@ -8,12 +8,16 @@ use crate::digests::{lent_digests, take_digests};
 use crate::runs::{Done, Scope, Texts, run_on_files_with};
 use arrayvec::ArrayVec;
 use capture_run::RunFault;
+use dissector::tap_of;
 use overlay_config::TimedChange;
 use program_faults::{DigestsFailure, Failure, OutputFile};
-use program_files::{Names, count_events};
+use program_files::{Names, OutputSums, PartLines, ShardFile, count_lines};
 use segment_set::SegmentSet;
 use sha2::{Digest, Sha256};
-use shard_record::{CaptureDigests, LentFault, MOST_PORTS, ShardRecord, see_octets, text_of};
+use shard_record::{
+    CaptureDigests, LentFault, MOST_PORTS, OutputFacts, ShardRecord, ToldOutputs, see_octets,
+    text_of,
+};
 use std::alloc::Global;
 use std::io::{Input, Write};
 use std::rt::Files;
@@ -109,23 +113,53 @@ pub fn run_part_with<'a, R: Files + Input + AllocGlobal, T: Watch>(
         Ok(digests) => digests,
         Err(failure) => return Err(failure),
     };
-    let events = match events_written(rt, folder) {
-        Ok(events) => events,
+    let lines = match lines_written(rt, folder) {
+        Ok(lines) => lines,
         Err(failure) => return Err(failure),
     };
-    let made = record_of_part(names, texts, list, &digests, events);
-    let record = text_of(rt.alloc(), &made)?;
+    let made = record_of_part(names, texts, list, &digests, lines.events);
+    let (shard, record) = match shard {
+        Some(ShardFile { file, sums }) => {
+            let outputs = outputs_told(&lines, &sums);
+            (Some(file), text_of(rt.alloc(), &made, outputs.as_slice())?)
+        }
+        None => (None, Vec::new(rt.alloc())),
+    };
     let cut = cut_told(rt.alloc(), cut, segments);
     Ok(Ran { cut, shard, record })
 }
 
-/// How many events the decision lines tell that a part wrote into this folder.
-fn events_written<R: Files + AllocGlobal>(rt: &R, folder: &str) -> Result<u64, Failure<'static>> {
-    match count_events(rt, folder) {
-        Ok(events) => Ok(events),
+/// What the decision lines tell together that a part wrote into this folder.
+fn lines_written<R: Files + AllocGlobal>(
+    rt: &R,
+    folder: &str,
+) -> Result<PartLines, Failure<'static>> {
+    match count_lines(rt, folder) {
+        Ok(lines) => Ok(lines),
         Err(Failure::Run(fault)) => Err(Failure::Run(fault)),
         Err(_) => Err(Failure::Write(OutputFile::Decisions)),
     }
+}
+
+/// What is told of a part's outputs, which have these lines and these sums.
+fn outputs_told(lines: &PartLines, sums: &OutputSums) -> ToldOutputs {
+    let mut outputs = ToldOutputs::new();
+    // There is room for the decision lines, the underlay's capture and those of as many ports as there are sums.
+    let _ = outputs.try_push(OutputFacts {
+        records: lines.lines,
+        sum: sums.decisions,
+    });
+    let _ = outputs.try_push(OutputFacts {
+        records: lines.records.records(Tap::Underlay),
+        sum: sums.underlay,
+    });
+    for (index, sum) in sums.ports.as_slice().iter().enumerate() {
+        let _ = outputs.try_push(OutputFacts {
+            records: lines.records.records(tap_of(index)),
+            sum: *sum,
+        });
+    }
+    outputs
 }
 
 /// Runs the segments of a list, or all, on captures as [`run_part_with`] does and as a whole run does, and writes nothing: what

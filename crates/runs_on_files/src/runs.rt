@@ -13,8 +13,8 @@ use overlay_config::{Settings, TimedChange, changes_of, settings_of};
 use pcapng_input::PcapngFault;
 use program_faults::Failure;
 use program_files::{
-    Capture, Names, Outputs, drop_part, drop_texts, open_capture, open_captures, open_outputs,
-    read_file, read_if_given, spare_inputs,
+    Capture, Names, Outputs, ShardFile, drop_part, drop_texts, open_capture, open_captures,
+    open_outputs, read_file, read_if_given, spare_inputs,
 };
 use segment_set::SegmentSet;
 use std::alloc::{AllocError, Global};
@@ -88,8 +88,8 @@ pub struct Done<F: Drop> {
     pub ports: Vec<u64>,
     /// And how many that of the underlay.
     pub underlay: u64,
-    /// The empty file in which a part is to say what it was made from.
-    pub shard: Option<F>,
+    /// The empty file in which a part is to say what it was made from, and the sums of its outputs.
+    pub shard: Option<ShardFile<F>>,
 }
 
 /// Runs on captures, and writes what comes out into a folder as it comes. Someone looks on.
@@ -175,7 +175,8 @@ fn run_on_opened<'a, R: Files + Input + AllocGlobal, T: Watch>(
     }
 }
 
-/// Runs on captures of which nothing is read yet. Of a part it answers the file in which it is to say what it was made from.
+/// Runs on captures of which nothing is read yet. Of a part it answers the file in which it is to say what it was made from,
+/// and the sums of its outputs.
 ///
 /// The settings are looked at first, then the changes, and then the number of captures.
 fn run_on_captures<'a, R: Files + Input + AllocGlobal, T: Watch>(
@@ -188,7 +189,7 @@ fn run_on_captures<'a, R: Files + Input + AllocGlobal, T: Watch>(
     ports: &mut [Capture<'a, R::File, R::Reader>],
     underlay: &mut Capture<'a, R::File, R::Reader>,
     watch: &mut T,
-) -> Result<Option<R::File>, Failure<'a>>
+) -> Result<Option<ShardFile<R::File>>, Failure<'a>>
     requires told { IfSome told (λ t. changes_in texts.now.changes.items ≡ Ok t.now) }
     requires rising { IfSome told (λ t. EachBehind IsRising [] t.now) }
     requires ports { All IsUnread ports.old }
@@ -232,7 +233,7 @@ fn run_on_read<'a, R: Files + Input + AllocGlobal, T: Watch>(
     ports: &mut [Capture<'a, R::File, R::Reader>],
     underlay: &mut Capture<'a, R::File, R::Reader>,
     watch: &mut T,
-) -> Result<Option<R::File>, Failure<'a>>
+) -> Result<Option<ShardFile<R::File>>, Failure<'a>>
     requires settings { settings_in texts.now.settings.items ≡ Ok settings }
     requires told { changes_in texts.now.changes.items ≡ Ok told.now }
     requires rising { EachBehind IsRising [] told.now }
@@ -292,7 +293,7 @@ fn done_on<F: Read + Drop, I: Read + Drop>(
     alloc: Global,
     ports: &[Capture<'_, F, I>],
     underlay: &Capture<'_, F, I>,
-    shard: Option<F>,
+    shard: Option<ShardFile<F>>,
 ) -> Result<Done<F>, AllocError> {
     let cut = cut_taps(alloc, ports, underlay)?;
     let counts = octets_read(alloc, ports)?;

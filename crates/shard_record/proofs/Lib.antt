@@ -1,4 +1,6 @@
 pub mod Captures
 pub mod DigestText
 pub mod Lines
+pub mod OutputText
 pub mod Reading
+pub mod RecordText

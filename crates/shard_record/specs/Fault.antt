@@ -1,8 +1,10 @@
 -- What stands where a fault says that a text is none of a record's. It states no standard.
-use Rattle.std.specs.Prelude.{◌≡◌, ◌≢◌, ◌<◌, ◌⊎◌, ℕ, ◌+◌, ◌^◌, List, [], ◌++◌, length, codes, None, Some}
+use Rattle.std.specs.Prelude.{◌≡◌, ◌≢◌, ◌<◌, ◌⊎◌, ℕ, ◌+◌, ◌^◌, List, [], ◌++◌, length, codes, All, None, Some}
 use Rattle.timeline.specs.declared.source.Tap.TheVariants as taps
-use Rattle.shard_record.specs.Record.{Facts, IsOneLine, IsRecord, before_events, before_underlay, capture_line, changes_line, events_line, first_line, segments_line, settings_line, text_of}
+use Rattle.shard_record.specs.Record.{Facts, IsOneLine, IsRecord, before_events, before_underlay, capture_line, changes_line, events_line, facts_text, first_line, older_line, segments_line, settings_line, text_of}
+use Rattle.shard_record.specs.Outputs.{AreOutputs, IsOutput, output_line, output_lines}
 use Rattle.shard_record.specs.Sum.{IsSum}
+use Rattle.shard_record.specs.declared.outputs.OutputFacts.{OutputFacts}
 use Rattle.shard_record.specs.declared.fault.ShardFault.{ShardFault}
 use Rattle.shard_record.specs.declared.fault.ShardFault.TheVariants as faults
 
@@ -24,7 +26,8 @@ pub record LacksNext (f : Facts) (rest : List ℕ) : Type 0 where
 
 -- up to the place that the fault names a text has a record's lines, and there it has none that can follow
 abbrev pub IsFaultIn : List ℕ → ShardFault → Type 0
-IsFaultIn text faults.Head = (rest : List ℕ) → text ≢ first_line ++ rest
+IsFaultIn text faults.Head = (rest : List ℕ) → (text ≢ first_line ++ rest) × (text ≢ older_line ++ rest)
+IsFaultIn text faults.Older = (rest : List ℕ) × (text ≡ older_line ++ rest)
 IsFaultIn text faults.Segments =
     (rest : List ℕ) × (text ≡ first_line ++ rest)
     × ((segments behind : List ℕ) → IsOneLine segments → rest ≢ segments_line segments ++ behind)
@@ -38,5 +41,10 @@ IsFaultIn text faults.Capture =
 IsFaultIn text faults.Events =
     (f : Facts) × (rest : List ℕ) × IsRecord f × (text ≡ before_events f ++ rest)
     × ((events : ℕ) (behind : List ℕ) → events < 2 ^ 64 → rest ≢ events_line events ++ behind)
+IsFaultIn text faults.Output =
+    (f : Facts) × (outputs : List OutputFacts) × (rest : List ℕ) × IsRecord f × All IsOutput outputs × (length outputs < length f.ports + 2)
+    × (text ≡ facts_text f ++ (output_lines 0 outputs ++ rest))
+    × ((o : OutputFacts) (behind : List ℕ) → IsOutput o → rest ≢ output_line (length outputs) o ++ behind)
 IsFaultIn text faults.Behind =
-    (f : Facts) × (rest : List ℕ) × IsRecord f × (text ≡ text_of f ++ rest) × (rest ≢ [])
+    (f : Facts) × (outputs : List OutputFacts) × (rest : List ℕ) × IsRecord f × AreOutputs (length f.ports) outputs
+    × (text ≡ text_of f outputs ++ rest) × (rest ≢ [])

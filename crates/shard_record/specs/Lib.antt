@@ -1,7 +1,9 @@
+pub mod Counts
 pub mod Digests
 pub mod Fault
 pub mod Laws
 pub mod Lent
+pub mod Outputs
 pub mod Parting
 pub mod Record
 pub mod Same

@@ -1,10 +1,12 @@
--- The text that says what a part of a run was made from. It states no standard.
+-- The text that says what a part of a run was made from and which outputs it has. It states no standard.
 use Rattle.std.specs.Prelude.{◌≢◌, ◌<◌, ◌≤◌, ℕ, ◌+◌, ◌^◌, List, [], ◌∷◌, ◌++◌, length, slice_index, codes, decimal, All, Option, Some, None, IfSome}
 use Rattle.hex.specs.Hex.{encode_lower}
 use Rattle.timeline.specs.Words.{tap_word}
 use Rattle.timeline.specs.declared.source.Tap.{Tap}
 use Rattle.timeline.specs.declared.source.Tap.TheVariants as taps
+use Rattle.shard_record.specs.Outputs.{output_lines}
 use Rattle.shard_record.specs.Sum.{IsSum}
+use Rattle.shard_record.specs.declared.outputs.OutputFacts.{OutputFacts}
 use Rattle.shard_record.specs.declared.facts.ShardRecord.{ShardRecord}
 
 -- what a part of a run was made from: its segments, as they were asked for; the digests of the settings text, of the
@@ -52,7 +54,11 @@ sum_line word sum = line word (encode_lower sum)
 
 -- the first line, which says what the text is, and of which version
 abbrev pub first_line : List ℕ
-first_line = codes "tep shard 1\n"
+first_line = codes "tep shard 2\n"
+
+-- that of the version before, which told nothing of the outputs
+abbrev pub older_line : List ℕ
+older_line = codes "tep shard 1\n"
 
 abbrev pub segments_line : List ℕ → List ℕ
 segments_line segments = line (codes "segments ") segments
@@ -88,10 +94,14 @@ before_captures f = first_line ++ segments_line f.segments ++ settings_line f.se
 abbrev pub before_underlay : Facts → List ℕ
 before_underlay f = before_captures f ++ port_lines 1 f.ports
 
--- the lines in front of the last one
+-- the lines in front of that of the events
 abbrev pub before_events : Facts → List ℕ
 before_events f = before_underlay f ++ capture_line taps.Underlay f.underlay
 
--- the text of a record: one fact a line, in this order
-abbrev pub text_of : Facts → List ℕ
-text_of f = before_events f ++ events_line f.events
+-- the lines of the facts: one fact a line, in this order
+abbrev pub facts_text : Facts → List ℕ
+facts_text f = before_events f ++ events_line f.events
+
+-- the text of a record: the facts, and then the outputs
+abbrev pub text_of : Facts → List OutputFacts → List ℕ
+text_of f outputs = facts_text f ++ output_lines 0 outputs

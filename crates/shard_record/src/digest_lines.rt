@@ -50,7 +50,7 @@ pub(crate) fn put_port_digests(
 }
 
 /// The first word, and what stands behind the space that ends it.
-fn first_word(text: &str) -> Option<(&str, &str)>
+pub(crate) fn first_word(text: &str) -> Option<(&str, &str)>
     ensures { MatchOption result ((told rest : List ℕ) → text.now ≢ told ++ 32 ∷ rest)
         (λ found. (text.now ≡ found.0.now ++ 32 ∷ found.1.now) × Lacks 32 found.0.now) }
 {

@@ -4,9 +4,12 @@ use thiserror::Error;
 /// The first place at which a text is none of a record's.
 #[derive(Clone, Copy, Debug, PartialEq, Eq, Error)]
 pub enum ShardFault {
-    /// The first line isn't `tep shard 1`.
-    #[error("the first line is not 'tep shard 1'")]
+    /// The first line isn't `tep shard 2`.
+    #[error("the first line is not 'tep shard 2'")]
     Head,
+    /// The first line is `tep shard 1`, that of the version before, which told nothing of a part's outputs.
+    #[error("it is of version 1 and tells nothing of the part's outputs: run the part again")]
+    Older,
     /// The second line isn't `segments` and a list.
     #[error("the second line is not 'segments' and a list")]
     Segments,
@@ -22,7 +25,10 @@ pub enum ShardFault {
     /// Behind the captures there is no line of `events` and their number.
     #[error("behind the captures there is no line 'events' with a number")]
     Events,
+    /// Where the next output is expected, there is no line of it with four numbers.
+    #[error("the line of an output is missing, out of place or has no four numbers")]
+    Output,
     /// Something stands behind the last line.
-    #[error("something stands behind the line of 'events'")]
+    #[error("something stands behind the line of the last output")]
     Behind,
 }

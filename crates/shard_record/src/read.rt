@@ -1,22 +1,46 @@
 //! The record of a text.
-ghost use Rattle.std.specs.Prelude.{◌≡◌, ◌≢◌, List, ℕ, ◌++◌, codes, IfOk, IfErr, IfNone, IfSome, OnErr, MatchOption};
+ghost use Rattle.std.specs.Prelude.{◌≡◌, ◌≢◌, List, ℕ, ◌++◌, codes, length, IfOk, IfErr, IfNone, IfSome, OnErr, MatchOption};
 ghost use Rattle.shard_record.specs.Fault.{IsFaultIn, IsNoCapture};
-ghost use Rattle.shard_record.specs.Record.{Facts, IsOneLine, IsRecord, changes_line, facts_of, segments_line, sum_line, text_of};
+ghost use Rattle.shard_record.specs.Outputs.{AreOutputs};
+ghost use Rattle.shard_record.specs.Record.{Facts, IsOneLine, IsRecord, changes_line, facts_of, facts_text, first_line, segments_line, sum_line, text_of};
 ghost use Rattle.shard_record.specs.Sum.{IsSum};
+ghost use Rattle.shard_record.specs.declared.outputs.OutputFacts.{OutputFacts as AnOutput};
 
 use crate::facts::ShardRecord;
 use crate::fault::ShardFault;
+use crate::outputs::{ToldOutputs, outputs_of};
 use crate::steps::{behind, events_of, first_line, ports_of, sum_behind};
 
-/// The record of a text, exactly as [`text_of`](crate::text_of) writes it. Its segments are a part of the text, and not
-/// looked into.
-pub fn record_of(text: &str) -> Result<ShardRecord<'_>, ShardFault>
-    ensures read { IfOk result (λ r. IsRecord (facts_of r) × (text.now ≡ text_of (facts_of r))) }
-    ensures none { OnErr result ((f : Facts) → IsRecord f → text.now ≢ text_of f) }
+/// The record of a text, exactly as [`text_of`](crate::text_of) writes it, and what is told of the outputs: of two more than the
+/// record has ports. Its segments are a part of the text, and not looked into.
+pub fn record_of(text: &str) -> Result<(ShardRecord<'_>, ToldOutputs), ShardFault>
+    ensures read { IfOk result (λ r. IsRecord (facts_of r.0) × AreOutputs (length r.0.ports.items) r.1.items × (text.now ≡ text_of (facts_of r.0) r.1.items)) }
+    ensures none { OnErr result ((f : Facts) (outputs : List AnOutput) → IsRecord f → AreOutputs (length f.ports) outputs → text.now ≢ text_of f outputs) }
     ensures fault { IfErr result (λ fault. IsFaultIn text.now fault) }
 {
-    let Some(listed) = behind(text, "tep shard 1\n") else {
-        return Err(ShardFault::Head);
+    let (record, told) = match facts_behind(text) {
+        Ok(read) => read,
+        Err(fault) => return Err(fault),
+    };
+    let count = record.ports.len() + 2;
+    let (outputs, rest) = outputs_of(told, count);
+    if outputs.len() < count {
+        return Err(ShardFault::Output);
+    }
+    if !rest.is_empty() {
+        return Err(ShardFault::Behind);
+    }
+    Ok((record, outputs))
+}
+
+/// The facts that a text begins with, and what stands behind their lines.
+fn facts_behind(text: &str) -> Result<(ShardRecord<'_>, &str), ShardFault>
+    ensures read { IfOk result (λ r. IsRecord (facts_of r.0) × (text.now ≡ facts_text (facts_of r.0) ++ r.1.now)) }
+    ensures none { OnErr result ((f : Facts) (rest : List ℕ) → IsRecord f → text.now ≢ facts_text f ++ rest) }
+    ensures fault { IfErr result (λ fault. IsFaultIn text.now fault) }
+{
+    let Some(listed) = behind(text, "tep shard 2\n") else {
+        return Err(no_head(text));
     };
     let Some((segments, set)) = segments_of(listed) else {
         return Err(ShardFault::Segments);
@@ -36,17 +60,26 @@ pub fn record_of(text: &str) -> Result<ShardRecord<'_>, ShardFault>
     let Some((events, rest)) = events_of(counted) else {
         return Err(ShardFault::Events);
     };
-    if !rest.is_empty() {
-        return Err(ShardFault::Behind);
-    }
-    Ok(ShardRecord {
+    let record = ShardRecord {
         segments,
         settings,
         changes,
         ports,
         underlay,
         events,
-    })
+    };
+    Ok((record, rest))
+}
+
+/// The fault of a text whose first line isn't a record's.
+fn no_head(text: &str) -> ShardFault
+    requires { (rest : List ℕ) → text.now ≢ first_line ++ rest }
+    ensures { IsFaultIn text.now result }
+{
+    match behind(text, "tep shard 1\n") {
+        Some(_) => ShardFault::Older,
+        None => ShardFault::Head,
+    }
 }
 
 /// The segments on their line, and what stands behind it.

@@ -1,19 +1,33 @@
 //! The text of a record.
 ghost use Rattle.std.specs.Prelude.{◌≡◌, ◌≤◌, ◌++◌, length, IfOk, OnOk};
 ghost use Rattle.std.specs.Option.{option_copied};
-ghost use Rattle.shard_record.specs.Record.{capture_line, capture_word, changes_line, facts_of, line, port_lines, sum_line, text_of};
+ghost use Rattle.shard_record.specs.Record.{capture_line, capture_word, changes_line, facts_of, facts_text, line, port_lines, sum_line, text_of};
 ghost use Rattle.timeline.specs.declared.source.Tap.TheVariants.{Port};
 
 use crate::facts::ShardRecord;
+use crate::outputs::{OutputFacts, put_outputs};
 use crate::steps::digits_of;
 use itoa::Buffer;
 use std::alloc::{AllocError, Global};
 
-/// The text of a record, one fact a line. `Err`: a growth was refused.
-pub fn text_of(alloc: Global, shard: &ShardRecord<'_>) -> Result<Vec<u8>, AllocError>
-    ensures { IfOk result (λ text. text.items ≡ text_of (facts_of shard.now)) }
+/// The text of a record, one fact a line, and of what is told of the outputs. `Err`: a growth was refused.
+pub fn text_of(
+    alloc: Global,
+    shard: &ShardRecord<'_>,
+    outputs: &[OutputFacts],
+) -> Result<Vec<u8>, AllocError>
+    ensures { IfOk result (λ text. text.items ≡ text_of (facts_of shard.now) outputs.now) }
 {
-    let mut text = Vec::from_slice(alloc, b"tep shard 1\n")?;
+    let mut text = facts_text(alloc, shard)?;
+    put_outputs(&mut text, outputs)?;
+    Ok(text)
+}
+
+/// The lines of the facts.
+fn facts_text(alloc: Global, shard: &ShardRecord<'_>) -> Result<Vec<u8>, AllocError>
+    ensures { IfOk result (λ text. text.items ≡ facts_text (facts_of shard.now)) }
+{
+    let mut text = Vec::from_slice(alloc, b"tep shard 2\n")?;
     put_line(&mut text, b"segments ", shard.segments.as_bytes())?;
     put_sum(&mut text, b"settings ", &shard.settings)?;
     put_changes(&mut text, shard.changes.as_ref())?;

@@ -1,108 +1,58 @@
-use Rattle.std.proofs.Common.{◌∙◌, ap, sym, ℕ, List, ◌++◌, [], lit<, append-nil}
-use Rattle.shard_record.specs.Record.{events_line, text_of}
-use Rattle.shard_record.proofs.Reading.{IsReadTo, behind_captures, behind_first, behind_segments, behind_settings, capture_fault, counted_is, empty, events_are, events_front, facts_read, first_is, made_record, nonempty, segments_are, segments_front, text_parts, under_is, whole_front}
-use Rattle.shard_record.proofs.read.record_of.Goals.{After-ports_of-ports}
+use Rattle.std.proofs.Common.{sym, arith}
+use Rattle.shard_record.proofs.Reading.{nonempty}
+use Rattle.shard_record.proofs.RecordText.{IsRead, all_is, front_is, outputs_are, whole_is}
+use Rattle.shard_record.specs.Outputs.{output_lines}
+use Rattle.shard_record.specs.Record.{facts_of}
+use Rattle.shard_record.proofs.read.record_of.Goals.{After-outputs_of-outputs}
 use Rattle.shard_record.proofs.read.record_of.Goals as goal
 
-pub returns-in_default-clause-none : goal.returns-in_default-clause-none
-returns-in_default-clause-none c f is e = c.in_default.ensures (behind_first f) (e ∙ text_parts f)
+pub returns-in-Err-clause-none : goal.returns-in-Err-clause-none
+returns-in-Err-clause-none c f outputs is some e = c.in-Err.ensures.none f (output_lines 0 outputs) is e
 
-pub returns-in_default-segments_of-clause-none : goal.returns-in_default-segments_of-clause-none
-returns-in_default-segments_of-clause-none c f is e =
-    c.in_default-segments_of.ensures f.segments (behind_segments f) is.segments (first_is c.args.text.now c.in-Some.listed.now f c.in-Some.ensures e)
-
-pub returns-in_default-sum_behind-clause-none : goal.returns-in_default-sum_behind-clause-none
-returns-in_default-sum_behind-clause-none c f is e =
-    let a = segments_are f is c.in-Some.listed.now c.in-Some-segments_of.segments.now c.in-Some-segments_of.set.now c.in-Some-segments_of.ensures.0 c.in-Some-segments_of.ensures.1
-    (first_is c.args.text.now c.in-Some.listed.now f c.in-Some.ensures e) in
-    c.in_default-sum_behind.ensures f.settings (behind_settings f) is.settings a.1
-
-pub returns-in_default-sum_behind-clause-fault : goal.returns-in_default-sum_behind-clause-fault
-returns-in_default-sum_behind-clause-fault c = (
-  c.in-Some-segments_of.segments.now,
-  c.in-Some-segments_of.set.now,
-  c.in-Some-segments_of.ensures.0,
-  segments_front c.args.text.now c.in-Some.listed.now c.in-Some-segments_of.segments.now c.in-Some-segments_of.set.now c.in-Some.ensures c.in-Some-segments_of.ensures.1,
-  c.in_default-sum_behind.ensures,
-)
-
--- what was read up to the underlay's capture
-read_to : (c : After-ports_of-ports)
-    → IsReadTo c.args.text.now c.in-Some-segments_of.segments.now c.in-Some-sum_behind.found.0 c.changes_of-changes.result.0 c.ports_of-ports.result.0.items c.ports_of-ports.result.1.now
-read_to c = record {
-  listed = c.in-Some.listed.now;
-  set = c.in-Some-segments_of.set.now;
-  changed = c.in-Some-sum_behind.found.1.now;
-  captured = c.changes_of-changes.result.1.now;
-  first = c.in-Some.ensures;
-  one_line = c.in-Some-segments_of.ensures.0;
-  segments_read = c.in-Some-segments_of.ensures.1;
-  settings_sum = c.in-Some-sum_behind.ensures.0;
-  settings_read = c.in-Some-sum_behind.ensures.1;
-  changes_sum = c.changes_of-changes.ensures.sum;
-  changes_none = c.changes_of-changes.ensures.none;
-  changes_read = c.changes_of-changes.ensures.read;
-  port_sums = c.ports_of-ports.ensures.sums;
-  few = c.ports_of-ports.ensures.few;
-  no_more = c.ports_of-ports.ensures.all;
-  ports_read = c.ports_of-ports.ensures.read;
+-- what was read
+read_of : (c : After-outputs_of-outputs)
+    → IsRead c.args.text.now (facts_of c.in-Ok.read.0) c.in-Ok.read.1.now c.outputs_of-outputs.result.0.items c.outputs_of-outputs.result.1.now
+read_of c = record {
+  is = c.in-Ok.ensures.read.0;
+  facts = c.in-Ok.ensures.read.1;
+  each = c.outputs_of-outputs.ensures.outputs;
+  read = c.outputs_of-outputs.ensures.read;
+  few = omega (arith, c.len-count.ensures.value, c.outputs_of-outputs.ensures.few);
+  no_more = λ o behind is less. c.outputs_of-outputs.ensures.all o behind is (omega (arith, c.len-count.ensures.value, less));
 }
 
-pub returns-in_default-sum_behind-2-clause-none : goal.returns-in_default-sum_behind-2-clause-none
-returns-in_default-sum_behind-2-clause-none c f is e =
-    let read = read_to (goal.at.returns-in_default-sum_behind-2-clause-none c).After-ports_of-ports in
-    c.in_default-sum_behind-2.ensures f.underlay (behind_captures f) is.underlay (under_is read f is e)
+pub returns-then-len-count-clause-none : goal.returns-then-len-count-clause-none
+returns-then-len-count-clause-none c f outputs is some e =
+    let read = read_of (goal.at.returns-then-len-count-clause-none c).After-outputs_of-outputs in
+    let all = (outputs_are read f outputs is some e).0 in
+    omega arith
 
-pub returns-in_default-sum_behind-2-clause-fault : goal.returns-in_default-sum_behind-2-clause-fault
-returns-in_default-sum_behind-2-clause-fault c =
-    let read = read_to (goal.at.returns-in_default-sum_behind-2-clause-fault c).After-ports_of-ports in
-    capture_fault read c.no_capture.result c.no_capture.ensures c.in_default-sum_behind-2.ensures
-
-pub returns-in_default-events_of-clause-none : goal.returns-in_default-events_of-clause-none
-returns-in_default-events_of-clause-none c f is e =
-    let read = read_to (goal.at.returns-in_default-events_of-clause-none c).After-ports_of-ports in
-    let sum = c.in-Some-sum_behind-2 in
-    c.in_default-events_of.ensures f.events [] is.events
-    (counted_is read sum.last.0 sum.last.1.now sum.ensures.0 sum.ensures.1 f is e ∙ sym (append-nil (events_line f.events)))
-
-pub returns-in_default-events_of-clause-fault : goal.returns-in_default-events_of-clause-fault
-returns-in_default-events_of-clause-fault c =
-    let read = read_to (goal.at.returns-in_default-events_of-clause-fault c).After-ports_of-ports in
-    let sum = c.in-Some-sum_behind-2 in (
-      facts_read read sum.last.0 0,
-      sum.last.1.now,
-      made_record read sum.last.0 0 sum.ensures.0 (lit< tt),
-      events_front read sum.last.0 0 sum.last.1.now sum.ensures.1,
-      c.in_default-events_of.ensures,
+pub returns-then-len-count-clause-fault : goal.returns-then-len-count-clause-fault
+returns-then-len-count-clause-fault c =
+    let read = read_of (goal.at.returns-then-len-count-clause-fault c).After-outputs_of-outputs in (
+      facts_of c.in-Ok.read.0,
+      c.outputs_of-outputs.result.0.items,
+      c.outputs_of-outputs.result.1.now,
+      read.is,
+      read.each,
+      omega arith,
+      front_is read,
+      λ o behind is. read.no_more o behind is (omega arith),
     )
 
 pub returns-then-not-is_empty-clause-none : goal.returns-then-not-is_empty-clause-none
-returns-then-not-is_empty-clause-none c f is e =
-    let read = read_to (goal.at.returns-then-not-is_empty-clause-none c).After-ports_of-ports in
-    let sum = c.in-Some-sum_behind-2 in
-    let last = c.in-Some-events_of in
-    let end = events_are f is sum.last.1.now last.events last.rest.now last.ensures.0 last.ensures.1 (counted_is read sum.last.0 sum.last.1.now sum.ensures.0 sum.ensures.1 f is e) in
-    nonempty last.rest.now (sym c.if-not-is_empty.ensures) end.1
+returns-then-not-is_empty-clause-none c f outputs is some e =
+    let read = read_of (goal.at.returns-then-not-is_empty-clause-none c).After-outputs_of-outputs in
+    nonempty c.outputs_of-outputs.result.1.now (sym c.if-not-is_empty.ensures) (outputs_are read f outputs is some e).1
 
 pub returns-then-not-is_empty-clause-fault : goal.returns-then-not-is_empty-clause-fault
 returns-then-not-is_empty-clause-fault c =
-    let read = read_to (goal.at.returns-then-not-is_empty-clause-fault c).After-ports_of-ports in
-    let sum = c.in-Some-sum_behind-2 in
-    let last = c.in-Some-events_of in (
-      facts_read read sum.last.0 last.events,
-      last.rest.now,
-      made_record read sum.last.0 last.events sum.ensures.0 last.ensures.0,
-      whole_front read sum.last.0 last.events sum.last.1.now last.rest.now sum.ensures.1 last.ensures.1,
-      nonempty last.rest.now (sym c.if-not-is_empty.ensures),
-    )
-
-pub returns-clause-read : goal.returns-clause-read
-returns-clause-read c =
-    let read = read_to (goal.at.returns-clause-read c).After-ports_of-ports in
-    let sum = c.in-Some-sum_behind-2 in
-    let last = c.in-Some-events_of in
-    let text : List ℕ = text_of (facts_read read sum.last.0 last.events) in (
-      made_record read sum.last.0 last.events sum.ensures.0 last.ensures.0,
-      whole_front read sum.last.0 last.events sum.last.1.now last.rest.now sum.ensures.1 last.ensures.1
-          ∙ ap (λ (l : List ℕ). text ++ l) (empty last.rest.now (sym c.if-not-is_empty.ensures)) ∙ append-nil text,
+    let read = read_of (goal.at.returns-then-not-is_empty-clause-fault c).After-outputs_of-outputs in (
+      facts_of c.in-Ok.read.0,
+      c.outputs_of-outputs.result.0.items,
+      c.outputs_of-outputs.result.1.now,
+      read.is,
+      all_is read (omega arith),
+      whole_is read,
+      nonempty c.outputs_of-outputs.result.1.now (sym c.if-not-is_empty.ensures),
     )

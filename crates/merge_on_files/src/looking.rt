@@ -1,0 +1,203 @@
+//! What parts of a run say of themselves, and whether they are so.
+use dissector::tap_of;
+use octet_sum::OctetSum;
+use program_faults::{Failure, OutputFile, ShardFailure, read_text};
+use program_files::{PartLines, count_lines, is_as_told, may_have_octets, open_part_file};
+use segment_set::SegmentSet;
+use shard_record::{
+    OutputFacts, ShardFault, ShardRecord, ToldOutputs, part_all, record_of, same_run,
+};
+use std::alloc::AllocError;
+use std::rt::Files;
+use timeline::Tap;
+
+/// How many reads are made of a text of what a part was made from, at most.
+const TEXT_READS: u64 = 4_096;
+
+/// The texts that say what the parts were made from.
+pub fn read_records<'a, R: Files + AllocGlobal>(
+    rt: &R,
+    folders: &[&'a str],
+) -> Result<Vec<Vec<u8>>, Failure<'a>> {
+    let mut texts = Vec::new(rt.alloc());
+    for folder in folders {
+        let mut input = match open_part_file(rt, *folder, OutputFile::Shard) {
+            Ok(input) => input,
+            Err(failure) => return Err(failure),
+        };
+        let text = match read_text(rt.alloc(), &mut input, TEXT_READS) {
+            Ok(text) => text,
+            Err(fault) => return Err(Failure::reading(*folder, fault)),
+        };
+        if texts.push(text).is_err() {
+            return Err(Failure::from(AllocError));
+        }
+    }
+    Ok(texts)
+}
+
+/// What was seen of the parts of one run.
+#[derive(Drop)]
+pub struct Looked {
+    /// How many ports the run has.
+    pub ports: usize,
+    /// Which segments each part has.
+    pub segments: Vec<SegmentSet>,
+    /// What each part says of its outputs.
+    pub outputs: Vec<ToldOutputs>,
+}
+
+/// Sees that these are the parts of one run and all of it, and that each has the lines and as many octets as it says.
+pub fn look_at<'a, R: Files + AllocGlobal>(
+    rt: &R,
+    folders: &[&'a str],
+    texts: &[Vec<u8>],
+) -> Result<Looked, Failure<'a>> {
+    let mut first: Option<ShardRecord<'_>> = None;
+    let mut sets = Vec::new(rt.alloc());
+    let mut outputs = Vec::new(rt.alloc());
+    for (folder, text) in folders.iter().zip(texts) {
+        let (found, told, segments) = match read_record(text.as_slice()) {
+            Ok(read) => read,
+            Err(fault) => return Err(Failure::Shard(*folder, fault)),
+        };
+        if sets.push(segments).is_err() || outputs.push(told).is_err() {
+            return Err(Failure::from(AllocError));
+        }
+        match &first {
+            None => first = Some(found),
+            Some(first) => {
+                if let Err(difference) = same_run(first, &found) {
+                    return Err(Failure::Shard(*folder, ShardFailure::Other(difference)));
+                }
+            }
+        }
+    }
+    if let Err(fault) = part_all(sets.as_slice()) {
+        return Err(Failure::Parting(fault));
+    }
+    for (folder, text) in folders.iter().zip(texts) {
+        see_lines(rt, *folder, text.as_slice())?;
+    }
+    for (folder, told) in folders.iter().zip(&outputs) {
+        see_octets(rt, *folder, told.as_slice())?;
+    }
+    Ok(Looked {
+        ports: first.map_or(0, |found| found.ports.len()),
+        segments: sets,
+        outputs,
+    })
+}
+
+/// What a part was made from, what it says of its outputs, and its segments.
+fn read_record(text: &[u8]) -> Result<(ShardRecord<'_>, ToldOutputs, SegmentSet), ShardFailure> {
+    let Ok(text) = str::from_utf8(text) else {
+        return Err(ShardFailure::Record(ShardFault::Head));
+    };
+    let (found, outputs) = match record_of(text) {
+        Ok(found) => found,
+        Err(fault) => return Err(ShardFailure::Record(fault)),
+    };
+    match SegmentSet::parse(found.segments) {
+        Ok(segments) => Ok((found, outputs, segments)),
+        Err(fault) => Err(ShardFailure::List(fault)),
+    }
+}
+
+/// Sees that a part tells as many events, lines and records as it says.
+fn see_lines<'a, R: Files + AllocGlobal>(
+    rt: &R,
+    folder: &'a str,
+    text: &[u8],
+) -> Result<(), Failure<'a>> {
+    let (found, outputs, _) = match read_record(text) {
+        Ok(read) => read,
+        Err(fault) => return Err(Failure::Shard(folder, fault)),
+    };
+    let lines = count_lines(rt, folder)?;
+    if lines.events != found.events {
+        return Err(Failure::Shard(folder, ShardFailure::Events));
+    }
+    match see_records(&lines, outputs.as_slice()) {
+        Ok(()) => Ok(()),
+        Err(fault) => Err(Failure::Shard(folder, fault)),
+    }
+}
+
+/// Sees that lines are as many and tell as many records of each capture as is told of the outputs.
+fn see_records(lines: &PartLines, outputs: &[OutputFacts]) -> Result<(), ShardFailure> {
+    for (index, told) in outputs.iter().enumerate() {
+        match output_at(index) {
+            OutputFile::Decisions => {
+                if told.records != lines.lines {
+                    return Err(ShardFailure::Lines);
+                }
+            }
+            OutputFile::Underlay => {
+                if told.records != lines.records.records(Tap::Underlay) {
+                    return Err(ShardFailure::Records(OutputFile::Underlay));
+                }
+            }
+            output => {
+                if told.records != lines.records.records(tap_of(index.saturating_sub(2))) {
+                    return Err(ShardFailure::Records(output));
+                }
+            }
+        }
+    }
+    Ok(())
+}
+
+/// Sees that the outputs of the part in this folder have as many octets as is told of them.
+fn see_octets<'a, R: Files + AllocGlobal>(
+    rt: &R,
+    folder: &'a str,
+    outputs: &[OutputFacts],
+) -> Result<(), Failure<'a>> {
+    for (index, told) in outputs.iter().enumerate() {
+        let output = output_at(index);
+        if !may_have_octets(rt, folder, output, told.sum.octets)? {
+            return Err(Failure::Shard(folder, ShardFailure::Octets(output)));
+        }
+    }
+    Ok(())
+}
+
+/// The output of this number of those that a part says something of: the decision lines, the underlay's capture, and then the
+/// ports' captures.
+pub fn output_at(index: usize) -> OutputFile {
+    match index {
+        0 => OutputFile::Decisions,
+        1 => OutputFile::Underlay,
+        number => OutputFile::Port(number.saturating_sub(1)),
+    }
+}
+
+/// Sees that the outputs of the part in this folder have the sums that are told of them.
+fn see_sums<'a, R: Files + AllocGlobal>(
+    rt: &R,
+    folder: &'a str,
+    outputs: &[OutputFacts],
+) -> Result<(), Failure<'a>> {
+    for (index, told) in outputs.iter().enumerate() {
+        let output = output_at(index);
+        match is_as_told(rt, folder, output, told.sum) {
+            Ok(true) => {}
+            Ok(false) => return Err(Failure::Shard(folder, ShardFailure::Sums(output))),
+            Err(failure) => return Err(failure),
+        }
+    }
+    Ok(())
+}
+
+/// The failure of a read of the part in this folder: the first output that isn't what is told, if there is one.
+pub fn read_failure<'a, R: Files + AllocGlobal>(
+    rt: &R,
+    folder: &'a str,
+    outputs: &[OutputFacts],
+) -> Failure<'a> {
+    match see_sums(rt, folder, outputs) {
+        Ok(()) => Failure::Read(folder),
+        Err(failure) => failure,
+    }
+}

@@ -1,9 +1,10 @@
 -- An output in blocks. It serves the contracts of such an output, and states no standard.
 --     Block      what an output has, and what the block in front of it holds
 --     told      all that was written
+--     must_hand_on      whether something has to go on before so many octets more are written
 --     HoldsBack      what a write leaves in the block, and what went on
 --     HoldsRest      what it leaves there after a fault
-use Rattle.std.specs.Prelude.{◌≡◌, ◌+◌, ℕ, nat_le, Bool, false, MatchBool, List, [], ◌++◌, drop, length, Option}
+use Rattle.std.specs.Prelude.{◌≡◌, ◌+◌, ℕ, nat_le, nat_lt, Bool, false, not, ◌&&◌, MatchBool, List, [], ◌++◌, drop, length, Option}
 use Rattle.std.specs.Io.KnownBytes.{Appends, append_known}
 
 -- what the output has, where it tells that, and how often it failed or took nothing; what the block holds, and how much it can
@@ -20,6 +21,10 @@ told b = append_known b.written b.held
 -- the block may hold so many octets more
 abbrev pub may_hold : Block → ℕ → Bool
 may_hold b more = nat_le (length b.held + more) b.size
+
+-- it holds octets, and these have to go on before it may hold so many more
+abbrev pub must_hand_on : Block → ℕ → Bool
+must_hand_on b more = not (may_hold b more) && nat_lt 0 (length b.held)
 
 -- some octets were taken of a write of so many. Where the block may hold them all behind what it holds, it does, and nothing
 -- goes on. Else what it held goes on, and the block holds them where it may hold so many, and else they go on too

@@ -1,7 +1,7 @@
 -- A sink of octets, and what its calls make of it. It states no standard.
 use Rattle.std.specs.Prelude.{◌≡◌, ◌<◌, ℕ, Bool, true, false, List, length, take, Option, Result, Ok, Err, IsErr, MatchBool, flat_map}
 use Rattle.std.specs.Borrow.{Bor}
-use Rattle.std.specs.Io.KnownBytes.{Appends}
+use Rattle.std.specs.Io.KnownBytes.{Appends, Keeps}
 use Rattle.pcap_stream.specs.Counts.{GoesOnBy}
 
 -- texts side by side
@@ -24,6 +24,15 @@ module _ {T E : Type 0} where
   Writes old new text (Ok x) = (new.is_failed ≡ false) × (new.failures ≡ old.failures) × Appends old.written new.written text
   Writes old new text (Err e) =
       (new.is_failed ≡ true) × GoesOnBy 1 old.failures new.failures × AppendsPart old.written new.written text
+
+  -- nothing more was written; where the output failed once, the sink gave up
+  abbrev pub HandsOn : Drain → Drain → Result T E → Type 0
+  HandsOn old new (Ok x) = (new.is_failed ≡ false) × (new.failures ≡ old.failures) × Keeps old.written new.written
+  HandsOn old new (Err e) = (new.is_failed ≡ true) × GoesOnBy 1 old.failures new.failures × Keeps old.written new.written
+
+  -- and after a fault nothing is handed on any more
+  abbrev pub IsHandedOn : Drain → Drain → Result T E → Type 0
+  IsHandedOn old new result = MatchBool old.is_failed (IsErr result × (new ≡ old)) (HandsOn old new result)
 
   -- and after a fault nothing is written any more
   abbrev pub IsPut : Drain → Drain → List ℕ → Result T E → Type 0

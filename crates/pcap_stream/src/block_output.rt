@@ -2,7 +2,7 @@
 ghost use Rattle.std.specs.Prelude.{◌≡◌, ◌≤◌, ◌<◌, ◌+◌, [], ◌++◌, IfOk, OnErr, OnOk, length, take};
 ghost use Rattle.std.specs.Io.{WritesAtMost};
 ghost use Rattle.std.specs.Io.KnownBytes.{Appends, Keeps, WriteAppends};
-ghost use Rattle.pcap_stream.specs.Block.{HoldsBack, HoldsRest, IsRest, told};
+ghost use Rattle.pcap_stream.specs.Block.{HoldsBack, HoldsRest, IsRest, must_hand_on, told};
 ghost use Rattle.pcap_stream.specs.Counts.{CountsRefusals, GoesOnBy};
 ghost use Rattle.pcap_stream.specs.Sink.{AppendsPart};
 
@@ -69,7 +69,15 @@ impl<W: Output> BlockOutput<W> {
         result
     }
 
-    /// The output behind the block. What the block still holds is let go.
+    /// The output behind the block.
+    pub fn output(&self) -> &W
+        ensures written { W.written result.now ≡ self.now.written }
+        ensures failures { W.failures result.now ≡ self.now.failures }
+    {
+        &self.output
+    }
+
+    /// The same, for good. What the block still holds is let go.
     pub fn into_inner(self) -> W
         ensures written { W.written result ≡ self.written }
         ensures failures { W.failures result ≡ self.failures }
@@ -173,6 +181,24 @@ impl<W: Output> Output for BlockOutput<W> {
     ghost written = { told };
 
     ghost failures = { λ b. b.failures };
+
+    #[inline(always)]
+    fn must_hand_on(&self, more: usize) -> bool
+        ensures { result ≡ must_hand_on self.now more }
+    {
+        !self.block.may_hold(more) && !self.block.held().is_empty()
+    }
+
+    fn hand_on_held(&mut self) -> Result<(), WriteFault>
+        ensures kept { Keeps (told self.old) (told self.new) }
+        ensures all { OnOk result (self.new.held ≡ []) }
+        ensures rest { OnErr result (IsRest self.old.held self.new.held) }
+        ensures size { self.new.size ≡ self.old.size }
+        ensures quiet { OnOk result (self.new.failures ≡ self.old.failures) }
+        ensures cause { OnErr result (GoesOnBy 1 self.old.failures self.new.failures) }
+    {
+        self.finish()
+    }
 
     #[inline]
     fn write(&mut self, octets: &[u8]) -> Result<usize, DeviceFault>

@@ -47,6 +47,21 @@ pub trait Output {
         (at, Ok(()))
     }
 
+    /// Whether octets are held back that have to go on before so many more can be. Who holds none back is never asked to.
+    fn must_hand_on(&self, _more: usize) -> bool {
+        false
+    }
+
+    /// Hands on what is held back, as far as something is. What was written stays the same, also where that fails: the rest is
+    /// held back then.
+    fn hand_on_held(&mut self) -> Result<(), WriteFault>
+        ensures kept { Keeps (written self.old) (written self.new) }
+        ensures quiet { OnOk result (failures self.new ≡ failures self.old) }
+        ensures cause { OnErr result (GoesOnBy 1 (failures self.old) (failures self.new)) }
+    {
+        Ok(())
+    }
+
     /// Appends all of `octets`, in as many writes as it takes. A fault comes where a write fails or takes none of some
     /// octets: then a part of them was appended, and not all.
     fn write_all(&mut self, octets: &[u8]) -> Result<(), WriteFault>
@@ -104,7 +119,14 @@ impl<W: Write> StdOutput<W> {
         }
     }
 
-    /// The writer, which may still hold octets in a buffer of its own.
+    /// The writer.
+    pub fn writer(&self) -> &W
+        ensures { result.now ≡ self.now.writer }
+    {
+        &self.writer
+    }
+
+    /// The same, for good. It may still hold octets in a buffer of its own.
     pub fn into_inner(self) -> W
         ensures { result ≡ self.writer }
     {

@@ -2,7 +2,7 @@
 ghost use Rattle.std.specs.Prelude.{◌≡◌, ◌≤◌, ◌+◌, ◌++◌, false, is_err, length};
 ghost use Rattle.pcap_io.specs.Record.{last_moment, longest};
 ghost use Rattle.pcap_io.specs.Written.{whole_frame, written_header, written_record};
-ghost use Rattle.pcap_stream.specs.Sink.{IsPut};
+ghost use Rattle.pcap_stream.specs.Sink.{IsHandedOn, IsPut};
 
 use crate::fault::WriteFault;
 use crate::output::Output;
@@ -90,6 +90,17 @@ impl<W: Output> Sink<W> {
         }
         let written = write_record(&mut self.output, moment, head, addresses, tag, body);
         self.note(written)
+    }
+
+    /// Hands on what the output holds back. Nothing more is written.
+    pub fn hand_on_held(&mut self) -> Result<(), WriteFault>
+        ensures { IsHandedOn self.old self.new result }
+    {
+        if self.is_failed {
+            return Err(WriteFault);
+        }
+        let handed = self.output.hand_on_held();
+        self.note(handed)
     }
 
     /// The output.

@@ -1,5 +1,5 @@
 -- Where a write failed amidst an event's texts.
-use Rattle.std.proofs.Common.{◌≡◌, ◌∙◌, refl, sym, ap, subst, ℕ, ◌+◌, ◌≤◌, Bool, true, false, cond, List, [], ◌∷◌, ◌++◌, length, length-append, take, arith, append-nil, append_assoc, Option, Result, Ok, Err}
+use Rattle.std.proofs.Common.{◌≡◌, ◌∙◌, refl, sym, ap, subst, ℕ, ◌+◌, ◌≤◌, Bool, true, false, cond, List, [], ◌∷◌, ◌++◌, length, length-append, take, arith, append-nil, append_assoc, Option, Result, Ok, Err, inl}
 use Rattle.std.specs.Prelude.{nat_lt}
 use Rattle.std.proofs.Math.Seq.{take-append_seam}
 use Rattle.std.proofs.lemmas.Bool.{ltb-true, ltb-false}
@@ -11,6 +11,7 @@ use Rattle.capture_run.specs.Writing.{with_all_sent, with_answer, with_input}
 use Rattle.stream_run.specs.Amidst.{PutsInOrder, StandAmidst, outcomes_of, with_first}
 use Rattle.stream_run.specs.Stage.{Drains, Lead, StandBetween}
 use Rattle.stream_run.specs.declared.fault.Target.{Target}
+use Rattle.stream_run.proofs.Standing.{AreFronts, front_all, front_answer, front_line, fronts_self, fronts_trans, wider}
 
 module _ (number : ℕ) (named : Option ℕ) (o : Outputs) (e : Event) (a : Answer) where
   -- the records of the first outlets
@@ -32,7 +33,27 @@ module _ (number : ℕ) (named : Option ℕ) (o : Outputs) (e : Event) (a : Answ
       by true more = refl
       by false more = absurd (omega (arith, ltb-false _ _ more, at))
 
+  -- an event's texts are the front of what stands behind it
+  pub front_input : AreFronts o (with_input number named o e a)
+  front_input = fronts_trans o (with_answer e.moment o a) _ (front_answer e.moment o a) (front_line (with_answer e.moment o a) _)
+
+  front_first : (j : ℕ) → AreFronts o (with_first j number named o e a)
+  front_first j = by (nat_lt (length (outcomes_of a)) j)
+    where
+      by : (b : Bool) → AreFronts o (cond b (with_input number named o e a) (with_all_sent e.moment o (take j (outcomes_of a))))
+      by true = front_input
+      by false = front_all e.moment o (take j (outcomes_of a))
+
   module _ (start new : Drains) where
+    -- in front of all of them
+    pub at_none : StandBetween start new o o → StandAmidst start new number named o e a
+    at_none between = record {
+      j = 0;
+      most = omega arith;
+      stands = subst (λ l. StandBetween start new l (with_first 1 number named o e a)) (sym (first_sent 0 [] (outcomes_of a) refl refl))
+          (wider start new o o o (with_first 1 number named o e a) between (fronts_self o) (front_first 1) (inl between.decisions));
+    }
+
     -- at the record of an outlet
     pub at_outlet : (front behind : List Sent) (x : Sent) → outcomes_of a ≡ front ++ x ∷ behind → StandBetween start new (with_all_sent e.moment o front) (with_all_sent e.moment o (front ++ x ∷ []))
         → StandAmidst start new number named o e a

@@ -9,6 +9,7 @@ mod Reading
 mod Firsts
 mod Wholes
 mod Overall
+mod Handing
 mod Stepping
 mod Counting
 mod Running

@@ -12,9 +12,10 @@ use Rattle.pcap_io.specs.Written.{written_record}
 use Rattle.pcap_stream.specs.Counts.{GoesOnBy}
 use Rattle.pcap_stream.specs.Sink.{AppendsPart, Drain, IsPut, Writes}
 use Rattle.endpoint_core.specs.Decision.{Sent}
+use Rattle.endpoint_core.specs.Step.{Answer, Decided, Replied}
 use Rattle.capture_run.specs.Outputs.{Outputs}
 use Rattle.capture_run.specs.Sendings.{Sending, sending_of, record_of}
-use Rattle.capture_run.specs.Writing.{with_all_sent, with_line, with_record, with_sent}
+use Rattle.capture_run.specs.Writing.{with_all_sent, with_answer, with_line, with_record, with_sent}
 use Rattle.stream_run.specs.declared.fault.Target.{Target}
 use Rattle.stream_run.specs.Stage.{Drains, Failed, Lead, LinesComeLast, PortsBetween, StandAt, StandBetween, StandsBetween, health}
 
@@ -80,7 +81,7 @@ module _ {T E : Type 0} where
 
 -- ---- one of many
 
-ports_set : (start old : List Drain) (texts : List (List ℕ)) (i : ℕ) (x : Drain) (least most : List ℕ) → i < length old → PortsBetween start old texts texts
+pub ports_set : (start old : List Drain) (texts : List (List ℕ)) (i : ℕ) (x : Drain) (least most : List ℕ) → i < length old → PortsBetween start old texts texts
     → ((d : Drain) → StandsBetween (slice_index_or start i d) x least most) → PortsBetween start (slice_set old i x) (slice_set texts i least) (slice_set texts i most)
 ports_set start old texts i x least most there at one = record {
   many = length-set old i x ∙ at.many;
@@ -106,7 +107,7 @@ pub health_at : (start old : List Drain) (i : ℕ) (d : Drain) → i < length ol
 health_at start old i d there same many =
     sym (get_or-map health old i d (health d) there) ∙ ap (λ l. slice_index_or l i (health d)) same ∙ get_or-map health start i d (health d) (omega (arith, there, many))
 
-health_set : (old : List Drain) (i : ℕ) (d x : Drain) → i < length old → health x ≡ health (get_or old i d) → map health (slice_set old i x) ≡ map health old
+pub health_set : (old : List Drain) (i : ℕ) (d x : Drain) → i < length old → health x ≡ health (get_or old i d) → map health (slice_set old i x) ≡ map health old
 health_set old i d x there same =
     map-set health old i x ∙ ap (slice_set (map health old) i) (same ∙ sym (get_or-map health old i d (health d) there)) ∙ set-get_or (map health old) i (health d)
 
@@ -244,6 +245,10 @@ front_sent moment o x = front_sending o (sending_of moment x)
 pub front_all : (moment : ℕ) (o : Outputs) (xs : List Sent) → AreFronts o (with_all_sent moment o xs)
 front_all moment o [] = fronts_self o
 front_all moment o (x ∷ xs) = fronts_trans o (with_sent moment o x) _ (front_sent moment o x) (front_all moment (with_sent moment o x) xs)
+
+pub front_answer : (moment : ℕ) (o : Outputs) (a : Answer) → AreFronts o (with_answer moment o a)
+front_answer moment o (Decided decision) = front_all moment o decision.outcomes
+front_answer moment o (Replied fault) = fronts_self o
 
 pub front_line : (o : Outputs) (text : List ℕ) → AreFronts o (with_line o text)
 front_line o text = record { many = refl; ports = λ k lt. front_self (slice_index_or o.ports k []); underlay = front_self o.underlay; decisions = (text, refl) }

@@ -23,6 +23,7 @@ mod begin;
 mod cuts;
 mod fault;
 mod fetch;
+mod hand_on;
 mod opening;
 mod order;
 mod put;

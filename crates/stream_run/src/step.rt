@@ -8,8 +8,8 @@ ghost use Rattle.stream_run.specs.Watched.{IsPut, IsWatchedRun};
 
 use crate::fault::{Halt, StreamFault, stopped_at};
 use crate::fetch::{fetch_at, tap_at};
+use crate::hand_on::take_and_hand_on;
 use crate::order::find_first;
-use crate::take::take_at;
 use crate::turn::{First, Turn, Upcoming};
 use crate::watch::Watch;
 use capture_run::RunFault;
@@ -48,7 +48,7 @@ fn put_first<R: Input, W: Output, T: Watch>(
 {
     let Turn { done, .. } = turns[first.index];
     desk.number.add_one();
-    if let Err(target) = take_at(
+    if let Err(target) = take_and_hand_on(
         changes,
         ports,
         underlay,

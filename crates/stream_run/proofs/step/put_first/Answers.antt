@@ -13,23 +13,23 @@ use Rattle.stream_run.proofs.step.put_first.Goals as goal
 no_turn : Turn
 no_turn = record { done = 0; next = None }
 
-pub take_at-requires-clause-lent : goal.take_at-requires-clause-lent
-take_at-requires-clause-lent g c = (next_up c.args.changes.now c.args.ports.now c.args.underlay.now c.args.turns.now (state_of c.args.endpoint.now) c.args.desk.now.number _ c.args.first no_turn c.requires.ready c.requires.first).lends
+pub take_and_hand_on-requires-clause-lent : goal.take_and_hand_on-requires-clause-lent
+take_and_hand_on-requires-clause-lent g c = (next_up c.args.changes.now c.args.ports.now c.args.underlay.now c.args.turns.now (state_of c.args.endpoint.now) c.args.desk.now.number _ c.args.first no_turn c.requires.ready c.requires.first).lends
 
 pub fetch_at-requires-clause-open : goal.fetch_at-requires-clause-open
 fetch_at-requires-clause-open g c = (next_up c.args.changes.now c.args.ports.now c.args.underlay.now c.args.turns.now (state_of c.args.endpoint.now) c.args.desk.now.number _ c.args.first no_turn c.requires.ready c.requires.first).open_
 
 pub returns-in-Err-clause-step : goal.returns-in-Err-clause-step
 returns-in-Err-clause-step g c tap t at =
-    shown_put c.args.segments.now c.args.changes.now c.args.ports.now c.args.underlay.now c.args.turns.now (state_of c.args.endpoint.now) c.args.desk.now.number _ c.args.first _ c.add_one.new.self (state_of c.take_at.new.endpoint) _ g.T.Watch.sees c.args.watch.now c.take_at.new.watch c.take_at.new.desk.number c.in-Err.target
-    no_turn c.requires.ready c.requires.first (λ t. ap (λ (x : Turn). x.done) (get_or_default c.args.turns.now c.args.first.index _ t c.requires.first.there)) c.add_one.ensures c.take_at.ensures.number c.in-Err.ensures.taken
+    shown_put c.args.segments.now c.args.changes.now c.args.ports.now c.args.underlay.now c.args.turns.now (state_of c.args.endpoint.now) c.args.desk.now.number _ c.args.first _ c.add_one.new.self (state_of c.take_and_hand_on.new.endpoint) _ g.T.Watch.sees c.args.watch.now c.take_and_hand_on.new.watch c.take_and_hand_on.new.desk.number c.in-Err.target
+    no_turn c.requires.ready c.requires.first (λ t. ap (λ (x : Turn). x.done) (get_or_default c.args.turns.now c.args.first.index _ t c.requires.first.there)) c.add_one.ensures c.take_and_hand_on.ensures.number c.in-Err.ensures.taken
 
 pub returns-in-Err-fetch_at-clause-step : goal.returns-in-Err-fetch_at-clause-step
 returns-in-Err-fetch_at-clause-step g c tap t at =
     let one = λ (t : Turn). ap (λ (x : Turn). x.done) (get_or_default c.args.turns.now c.args.first.index _ t c.requires.first.there) in
-    shown_fault c.args.segments.now c.args.changes.now c.args.ports.now c.args.underlay.now c.args.turns.now (state_of c.args.endpoint.now) c.args.desk.now.number _ c.args.first _ c.add_one.new.self (state_of c.take_at.new.endpoint) _ g.T.Watch.sees c.args.watch.now c.take_at.new.watch c.take_at.new.desk.number
+    shown_fault c.args.segments.now c.args.changes.now c.args.ports.now c.args.underlay.now c.args.turns.now (state_of c.args.endpoint.now) c.args.desk.now.number _ c.args.first _ c.add_one.new.self (state_of c.take_and_hand_on.new.endpoint) _ g.T.Watch.sees c.args.watch.now c.take_and_hand_on.new.watch c.take_and_hand_on.new.desk.number
     c.fetch_at.new.ports c.fetch_at.new.underlay (fault_of tap ((slice_index_or c.args.turns.now c.args.first.index t).done + 1 + 1) c.in-Err-fetch_at.fault) no_turn c.requires.ready c.requires.first
-    one c.add_one.ensures c.take_at.ensures.number c.in_default.ensures.taken
+    one c.add_one.ensures c.take_and_hand_on.ensures.number c.in_default.ensures.taken
     (fault_from c.args.changes.now c.args.first.index _ c.args.first.moment c.args.ports.now c.args.underlay.now c.fetch_at.new.ports c.fetch_at.new.underlay c.fetch_at.new.next c.in-Err-fetch_at.fault tap _ (length c.args.ports.now) (sym (ap (λ (d : ℕ). fault_of tap (d + 1 + 1) c.in-Err-fetch_at.fault) (one t))) at refl c.in-Err-fetch_at.ensures)
 
 pub at-requires : goal.at-requires
@@ -41,7 +41,7 @@ at-requires g c =
 
 pub returns-clause-step : goal.returns-clause-step
 returns-clause-step g c =
-    shown_turn c.args.segments.now c.args.changes.now c.args.ports.now c.args.underlay.now c.args.turns.now (state_of c.args.endpoint.now) c.args.desk.now.number _ c.args.first _ c.add_one.new.self (state_of c.take_at.new.endpoint) _ g.T.Watch.sees c.args.watch.now c.take_at.new.watch c.take_at.new.desk.number
+    shown_turn c.args.segments.now c.args.changes.now c.args.ports.now c.args.underlay.now c.args.turns.now (state_of c.args.endpoint.now) c.args.desk.now.number _ c.args.first _ c.add_one.new.self (state_of c.take_and_hand_on.new.endpoint) _ g.T.Watch.sees c.args.watch.now c.take_and_hand_on.new.watch c.take_and_hand_on.new.desk.number
     c.fetch_at.new.ports c.fetch_at.new.underlay _ no_turn c.requires.ready c.requires.first
-    (λ t. ap (λ (x : Turn). x.done) (get_or_default c.args.turns.now c.args.first.index _ t c.requires.first.there)) c.add_one.ensures c.take_at.ensures.number c.in_default.ensures.taken
+    (λ t. ap (λ (x : Turn). x.done) (get_or_default c.args.turns.now c.args.first.index _ t c.requires.first.there)) c.add_one.ensures c.take_and_hand_on.ensures.number c.in_default.ensures.taken
     (fetched_to c.args.changes.now c.args.first.index _ c.args.first.moment c.args.ports.now c.args.underlay.now c.fetch_at.new.ports c.fetch_at.new.underlay c.fetch_at.new.next c.at.result c.at.ensures c.in_default-fetch_at.ensures)

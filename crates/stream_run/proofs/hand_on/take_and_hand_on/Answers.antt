@@ -1,0 +1,7 @@
+use Rattle.stream_run.proofs.Handing.{taken_and_handed}
+use Rattle.stream_run.proofs.hand_on.take_and_hand_on.Goals as goal
+
+pub returns-then-must_hand_on-clause-taken : goal.returns-then-must_hand_on-clause-taken
+returns-then-must_hand_on-clause-taken g c =
+    taken_and_handed c.args.segments.now g.T.Watch.sees c.args.changes.now c.args.ports.now c.args.underlay.now c.args.index c.args.done c.args.moment c.args.desk.now.number _ _ _ _ _ c.args.watch.now c.take_at.new.watch
+    c.hand_on_all.result c.in_default.ensures.taken c.hand_on_all.ensures

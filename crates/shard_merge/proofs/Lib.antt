@@ -9,3 +9,4 @@ mod Merging
 pub mod Missing
 mod WholeTexts
 mod Blaming
+mod Handing

@@ -3,8 +3,9 @@
 --     IsWritten      the text of a record that a run wrote
 --     AreLeft      each capture of a part has this text left
 --     AreAdded      each capture of the outputs holds this text more
+--     AreKept      each holds what it held
 use Rattle.std.specs.Prelude.{◌≡◌, ◌<◌, ◌≤◌, ◌-◌, ⊤, ℕ, List, length, slice_index_or, Option, Some, Result, Ok, Err}
-use Rattle.std.specs.Io.KnownBytes.{Appends}
+use Rattle.std.specs.Io.KnownBytes.{Appends, Keeps}
 use Rattle.pcap_io.specs.Record.{Record, last_moment, longest}
 use Rattle.pcap_io.specs.Written.{whole_frame, written_record, written_style}
 use Rattle.pcap_stream.specs.Sink.{Drain}
@@ -50,6 +51,10 @@ IsAdded text old new = Appends old.written new.written text
 -- each capture of the outputs does
 abbrev pub AreAdded : (Tap → List ℕ) → List Drain → Drain → List Drain → Drain → Type 0
 AreAdded text old old_underlay new new_underlay = (tap : Tap) → IsTap (length old) tap → IsAdded (text tap) (of_tap old old_underlay tap) (of_tap new new_underlay tap)
+
+-- no capture of the outputs holds anything else
+abbrev pub AreKept : List Drain → Drain → List Drain → Drain → Type 0
+AreKept old old_underlay new new_underlay = (tap : Tap) → IsTap (length old) tap → Keeps (of_tap old old_underlay tap).written (of_tap new new_underlay tap).written
 
 -- nothing is wrong with what was read: at most a device failed
 abbrev pub IsDeviceFault : MergeFault → Type 0

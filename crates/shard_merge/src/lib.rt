@@ -14,6 +14,7 @@
 mod capture;
 mod fault;
 mod first;
+mod hand_on;
 mod merge;
 mod part;
 mod records;

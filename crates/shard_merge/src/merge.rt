@@ -14,6 +14,7 @@ ghost use Rattle.shard_merge.specs.Whole.{Adds, AllHold, AllRise, AreParts, Have
 
 use crate::fault::{MergeFault, PartFault, Target};
 use crate::first::find_first;
+use crate::hand_on::{LONGEST_LINE, hand_on_all};
 use crate::part::Part;
 use pcap_stream::{Input, Output, Sink};
 use timeline::Tap;
@@ -101,6 +102,30 @@ fn put_at<R: Input, W: Output>(
     parts[index].put_event(index, port_sinks, underlay_sink, decisions)
 }
 
+/// Puts the event that comes next in a part to the outputs. Where the next line might find no room beside those that are held
+/// back, all that is held back is handed on.
+fn put_and_hand_on<R: Input, W: Output>(
+    parts: &mut [Part<R>],
+    index: usize,
+    port_sinks: &mut [Sink<W>],
+    underlay_sink: &mut Sink<W>,
+    decisions: &mut W,
+) -> Result<(), MergeFault>
+    requires there { index < length parts.old }
+    requires count { (s : Shard) → length port_sinks.old ≡ length (slice_index_or parts.old index s).ports }
+    ensures put { (s : Shard) → PutsAt parts.old index s parts.new port_sinks.old underlay_sink.old (W.written decisions.old) port_sinks.new underlay_sink.new (W.written decisions.new) result }
+    ensures reads { ReadsWith parts.old parts.new result }
+    ensures writes { WritesWith port_sinks.old underlay_sink.old (W.failures decisions.old) port_sinks.new underlay_sink.new (W.failures decisions.new) result }
+{
+    if let Err(fault) = put_at(parts, index, port_sinks, underlay_sink, decisions) {
+        return Err(fault);
+    }
+    if decisions.must_hand_on(LONGEST_LINE) {
+        return hand_on_all(port_sinks, underlay_sink, decisions);
+    }
+    Ok(())
+}
+
 /// Puts the events of all parts to the outputs, in order of their numbers, of which none may be missing.
 fn put_events<R: Input, W: Output>(
     parts: &mut [Part<R>],
@@ -124,7 +149,13 @@ fn put_events<R: Input, W: Output>(
         if first.number > next {
             return Err(MergeFault::Missing(next));
         }
-        if let Err(fault) = put_at(parts, first.index, port_sinks, underlay_sink, decisions) {
+        if let Err(fault) = put_and_hand_on(
+            parts,
+            first.index,
+            port_sinks,
+            underlay_sink,
+            decisions,
+        ) {
             return Err(fault);
         }
         last = first.number;

@@ -39,11 +39,11 @@ returns-then-first-next-clause-events g c = λ pieces cuts holds rise above.
     next_missing (length c.args.port_sinks.now) (merged pieces) cuts c.loop-first.last c.loop-first.parts c.in-Some.first c.args.port_sinks.now c.args.underlay_sink.now (g.W.Output.written c.args.decisions.now)
     c.loop-first.port_sinks c.loop-first.underlay_sink (g.W.Output.written c.loop-first.decisions) so_far next (omega (arith, c.if-first-next.true))
 
-pub put_at-requires-clause-there : goal.put_at-requires-clause-there
-put_at-requires-clause-there g c = c.in-Some.ensures.there
+pub put_and_hand_on-requires-clause-there : goal.put_and_hand_on-requires-clause-there
+put_and_hand_on-requires-clause-there g c = c.in-Some.ensures.there
 
-pub put_at-requires-clause-count : goal.put_at-requires-clause-count
-put_at-requires-clause-count g c = λ s. c.loop-first.invariant.sinks ∙ sym (c.loop-first.invariant.counts s c.in-Some.first.index c.in-Some.ensures.there)
+pub put_and_hand_on-requires-clause-count : goal.put_and_hand_on-requires-clause-count
+put_and_hand_on-requires-clause-count g c = λ s. c.loop-first.invariant.sinks ∙ sym (c.loop-first.invariant.counts s c.in-Some.first.index c.in-Some.ensures.there)
 
 pub returns-in-Err-clause-counts : goal.returns-in-Err-clause-counts
 returns-in-Err-clause-counts g c =
@@ -61,24 +61,24 @@ returns-in-Err-clause-events g c = λ pieces cuts holds rise above.
 
 pub loop-first-preserved : goal.loop-first-preserved
 loop-first-preserved g c =
-    let put = c.in_default-put_at.ensures.put fresh in
+    let put = c.in_default-put_and_hand_on.ensures.put fresh in
     record {
       counts = subst (HaveAll (length c.args.port_sinks.now)) (sym put.changed)
           (counts_set (length c.args.port_sinks.now) c.loop-first.parts c.in-Some.first.index put.behind_it c.in-Some.ensures.there c.loop-first.invariant.counts
           (put.count ∙ c.loop-first.invariant.counts fresh c.in-Some.first.index c.in-Some.ensures.there));
-      sinks = omega (arith, c.loop-first.invariant.sinks, c.put_at.auto.port_sinks);
+      sinks = omega (arith, c.loop-first.invariant.sinks, c.put_and_hand_on.auto.port_sinks);
       fits = omega arith;
       events = λ pieces cuts holds rise above.
           let so_far = c.loop-first.invariant.events pieces cuts holds rise above in
           let next = next_piece (length c.args.port_sinks.now) so_far.left cuts c.loop-first.parts c.in-Some.first fresh so_far.holds so_far.rise c.in-Some.ensures in
           let above = above_last (length c.args.port_sinks.now) so_far.left cuts c.loop-first.parts c.in-Some.first c.loop-first.last next so_far.above in
           let done = put.event (length c.args.port_sinks.now) next.p next.behind (slice_index_or cuts c.in-Some.first.index []) (next.holds fresh) in
-          subst (λ (l : List Shard). MergedSoFar (length c.args.port_sinks.now) (merged pieces) cuts c.in-Some.first.number l c.args.port_sinks.now c.args.underlay_sink.now (g.W.Output.written c.args.decisions.now) c.put_at.new.port_sinks c.put_at.new.underlay_sink (g.W.Output.written c.put_at.new.decisions)) (sym put.changed)
+          subst (λ (l : List Shard). MergedSoFar (length c.args.port_sinks.now) (merged pieces) cuts c.in-Some.first.number l c.args.port_sinks.now c.args.underlay_sink.now (g.W.Output.written c.args.decisions.now) c.put_and_hand_on.new.port_sinks c.put_and_hand_on.new.underlay_sink (g.W.Output.written c.put_and_hand_on.new.decisions)) (sym put.changed)
           (one_merged (length c.args.port_sinks.now) (merged pieces) cuts c.loop-first.last c.loop-first.parts c.in-Some.first put.behind_it c.args.port_sinks.now c.args.underlay_sink.now (g.W.Output.written c.args.decisions.now)
-          c.loop-first.port_sinks c.loop-first.underlay_sink (g.W.Output.written c.loop-first.decisions) c.put_at.new.port_sinks c.put_at.new.underlay_sink (g.W.Output.written c.put_at.new.decisions)
+          c.loop-first.port_sinks c.loop-first.underlay_sink (g.W.Output.written c.loop-first.decisions) c.put_and_hand_on.new.port_sinks c.put_and_hand_on.new.underlay_sink (g.W.Output.written c.put_and_hand_on.new.decisions)
           so_far next c.in-Some.ensures.there (omega (arith, above.0, c.if-first-next.false)) c.loop-first.invariant.sinks done.0 done.1 done.2);
-      reads = c.in_default-put_at.ensures.reads ∙ c.loop-first.invariant.reads;
-      writes = c.in_default-put_at.ensures.writes ∙ c.loop-first.invariant.writes;
+      reads = c.in_default-put_and_hand_on.ensures.reads ∙ c.loop-first.invariant.reads;
+      writes = c.in_default-put_and_hand_on.ensures.writes ∙ c.loop-first.invariant.writes;
     }
 
 pub returns-clause-events : goal.returns-clause-events
@@ -100,12 +100,12 @@ pub returns-then-first-next-clause-writes : goal.returns-then-first-next-clause-
 returns-then-first-next-clause-writes g c = c.loop-first.invariant.writes
 
 pub returns-in-Err-clause-reads : goal.returns-in-Err-clause-reads
-returns-in-Err-clause-reads g c = reads_behind {T = Unit {0}} c.args.parts.now c.loop-first.parts c.put_at.new.parts (Err c.in-Err.fault) c.loop-first.invariant.reads c.in-Err.ensures.reads
+returns-in-Err-clause-reads g c = reads_behind {T = Unit {0}} c.args.parts.now c.loop-first.parts c.put_and_hand_on.new.parts (Err c.in-Err.fault) c.loop-first.invariant.reads c.in-Err.ensures.reads
 
 pub returns-in-Err-clause-writes : goal.returns-in-Err-clause-writes
 returns-in-Err-clause-writes g c =
     writes_behind {T = Unit {0}} c.args.port_sinks.now c.args.underlay_sink.now (g.W.Output.failures c.args.decisions.now) c.loop-first.port_sinks c.loop-first.underlay_sink (g.W.Output.failures c.loop-first.decisions)
-    c.put_at.new.port_sinks c.put_at.new.underlay_sink (g.W.Output.failures c.put_at.new.decisions) (Err c.in-Err.fault) c.loop-first.invariant.writes c.in-Err.ensures.writes
+    c.put_and_hand_on.new.port_sinks c.put_and_hand_on.new.underlay_sink (g.W.Output.failures c.put_and_hand_on.new.decisions) (Err c.in-Err.fault) c.loop-first.invariant.writes c.in-Err.ensures.writes
 
 pub returns-clause-reads : goal.returns-clause-reads
 returns-clause-reads g c = c.loop-first.invariant.reads

@@ -177,7 +177,8 @@ done
     exit "${PIPESTATUS[0]}"
 ) 3>"$folder/stderr"
 [ $? -eq 3 ] && [ "$(cat "$folder/stderr")" = "write port2.pcap
-  out/port2.pcap: the limit of a file's size is reached" ] || complain "a size limit: $(cat "$folder/stderr")"
+  out/port2.pcap: the limit of a file's size is reached
+  out/underlay.pcap: the limit of a file's size is reached" ] || complain "a size limit: $(cat "$folder/stderr")"
 rm "$folder"/out/*
 
 # Texts that are refused, as check tells it.

@@ -5,7 +5,7 @@ use crate::looking::{Looked, look_at, output_at, read_failure, read_records};
 use crate::merged_texts::{MergedTexts, TextsAsked, merge_texts};
 use crate::opening::open_parts;
 use program_faults::{Failure, OutputFile};
-use program_files::{drop_part, is_same, open_outputs, path_of};
+use program_files::{FailedOutputs, drop_part, is_same, open_outputs, path_of};
 use shard_merge::{MergeFault, Target, merge_streams};
 use shard_record::{MOST_PORTS, ToldOutputs};
 use std::alloc::AllocError;
@@ -21,12 +21,13 @@ const BLOCK: usize = 65_536;
 /// besides, as far as that is asked for.
 ///
 /// Where they aren't all parts of one run, what they told isn't there or is no such text, or an output is one of their files,
-/// nothing is made or written.
+/// nothing is made or written. All outputs that couldn't be written are noted.
 pub fn merge<'a, R: Files + AllocGlobal>(
     rt: &R,
     out: &str,
     folders: &[&'a str],
     asked: TextsAsked,
+    failed: &mut FailedOutputs,
 ) -> Result<MergedTexts, Failure<'a>> {
     let texts = match read_records(rt, folders) {
         Ok(texts) => texts,
@@ -61,10 +62,13 @@ pub fn merge<'a, R: Files + AllocGlobal>(
         &mut outputs.decisions,
     );
     match merged {
-        Ok(()) => outputs.finish().map(|_| told),
+        Ok(()) => match outputs.finish(rt.alloc(), failed) {
+            Ok(_) => Ok(told),
+            Err(failure) => Err(failure),
+        },
         Err(fault) => {
             let failure = merge_failure(rt, folders, told_outputs.as_slice(), fault);
-            Err(outputs.finish_behind(failure))
+            Err(outputs.finish_behind(rt.alloc(), failure, failed))
         }
     }
 }

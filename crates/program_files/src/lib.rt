@@ -2,7 +2,9 @@
 //! is printed. Which of them a run takes, and what comes out of it, stands above.
 #![tactic(auto)]
 
+mod failed_outputs;
 mod file_causes;
+mod handed_on;
 mod inputs;
 mod interface_list;
 mod names;
@@ -12,7 +14,9 @@ mod part_inputs;
 mod part_texts;
 mod printing;
 
+pub use failed_outputs::{FailedOutput, FailedOutputs};
 pub use file_causes::{head_of_file, read_fault};
+pub use handed_on::HandedOn;
 pub use inputs::{
     Blocks, CAPTURE_READS, Capture, ClassicInput, Device, SeenCapture, open_capture, open_captures,
     open_front, open_named, open_seen, read_file, read_if_given, read_underlay, selection_of,

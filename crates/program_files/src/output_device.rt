@@ -1,5 +1,5 @@
 //! A file that is written, and why a write into it failed.
-use program_faults::{Failure, OutputFile, SystemFault};
+use program_faults::SystemFault;
 use std::io::{self, ErrorKind, Write};
 
 /// A file that is written. It keeps what the system told of the last write that failed.
@@ -15,17 +15,9 @@ impl<F: Write + Drop> OutputDevice<F> {
         OutputDevice { file, fault: None }
     }
 
-    /// That it couldn't be written, with what the system told of it.
-    pub fn failure(&self, output: OutputFile) -> Failure<'static> {
-        match self.fault {
-            Some(fault) => Failure::WriteFailed(output, fault),
-            None => Failure::Write(output),
-        }
-    }
-
-    /// Whether a write failed that wasn't tried again.
-    pub fn has_failed(&self) -> bool {
-        self.fault.is_some()
+    /// What the system told of the last write that failed and wasn't tried again.
+    pub fn fault(&self) -> Option<SystemFault> {
+        self.fault
     }
 }
 

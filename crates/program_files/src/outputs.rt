@@ -6,7 +6,7 @@ use crate::output_device::OutputDevice;
 use arrayvec::ArrayVec;
 use octet_sum::OctetSum;
 use pcap_stream::{BlockOutput, Sink, StdOutput};
-use program_faults::{Failure, OutputFile, SystemFault};
+use program_faults::{Failure, OutputFile};
 use shard_record::{MOST_PORTS, SumOutput};
 use std::alloc::{AllocError, Global};
 use std::fs::{OpenFile, OpenOptions};
@@ -40,7 +40,7 @@ pub struct Outputs<F: Write + Drop> {
     pub ports: Vec<Sink<Written<F>>>,
     pub underlay: Sink<Written<F>>,
     pub decisions: Written<F>,
-    shard: Option<F>,
+    pub(crate) shard: Option<F>,
 }
 
 /// The same files, opened, with what stood in them.
@@ -217,113 +217,5 @@ fn cut<F: OpenFile>(file: &F) -> io::Result<()> {
         file.set_len(0)
     } else {
         Ok(())
-    }
-}
-
-impl<F: Write + Drop> Outputs<F> {
-    /// Writes what the blocks still hold, file by file, and tells the first that failed. Of a part it answers the file in which
-    /// it says what it was made from, and the sums of its outputs.
-    pub fn finish(self) -> Result<Option<ShardFile<F>>, Failure<'static>> {
-        let Outputs {
-            ports,
-            underlay,
-            decisions,
-            shard,
-        } = self;
-        let mut sums = OutputSums {
-            decisions: OctetSum::new(),
-            underlay: OctetSum::new(),
-            ports: ArrayVec::new(),
-        };
-        let mut finished = Ok(());
-        for (index, port) in ports.into_iter().enumerate() {
-            let mut sum = OctetSum::new();
-            let flushed = flush(OutputFile::Port(index + 1), port.into_inner());
-            finished = finished.and(keep(&mut sum, flushed));
-            // There is room for as many as a run has ports.
-            let _ = sums.ports.try_push(sum);
-        }
-        let under = flush(OutputFile::Underlay, underlay.into_inner());
-        let lines = flush(OutputFile::Decisions, decisions);
-        finished
-            .and(keep(&mut sums.underlay, under))
-            .and(keep(&mut sums.decisions, lines))?;
-        match shard {
-            Some(file) => Ok(Some(ShardFile { file, sums })),
-            None => Ok(None),
-        }
-    }
-
-    /// Writes what the blocks still hold, behind a run or a merge that gave up for this failure. Where that is a write into
-    /// one of these files it answers it with what the system told, and else the same.
-    pub fn finish_behind<'a>(self, failure: Failure<'a>) -> Failure<'a> {
-        let Outputs {
-            ports,
-            underlay,
-            decisions,
-            ..
-        } = self;
-        let mut told = failure;
-        for (index, port) in ports.into_iter().enumerate() {
-            let flushed = flush(OutputFile::Port(index + 1), port.into_inner());
-            told = with_cause(told, flushed);
-        }
-        told = with_cause(told, flush(OutputFile::Underlay, underlay.into_inner()));
-        with_cause(told, flush(OutputFile::Decisions, decisions))
-    }
-}
-
-/// The file that couldn't be written, and what the system told of it.
-fn cause_of(flushed: Result<OctetSum, Failure<'static>>) -> Option<(OutputFile, SystemFault)> {
-    match flushed {
-        Err(Failure::WriteFailed(file, fault)) => Some((file, fault)),
-        _ => None,
-    }
-}
-
-/// A failure, with what the system told of it where it is the same file that couldn't be finished.
-fn with_cause<'a>(
-    failure: Failure<'a>,
-    flushed: Result<OctetSum, Failure<'static>>,
-) -> Failure<'a> {
-    match failure {
-        Failure::Write(output) => match cause_of(flushed) {
-            Some((file, fault)) => {
-                if file == output {
-                    Failure::WriteFailed(file, fault)
-                } else {
-                    Failure::Write(output)
-                }
-            }
-            None => Failure::Write(output),
-        },
-        other => other,
-    }
-}
-
-/// Keeps the sum of a file that is written.
-fn keep(
-    sum: &mut OctetSum,
-    flushed: Result<OctetSum, Failure<'static>>,
-) -> Result<(), Failure<'static>> {
-    *sum = flushed?;
-    Ok(())
-}
-
-/// Writes what a file's block still holds, and answers the sum of what was written, of no octets if it isn't summed.
-fn flush<F: Write + Drop>(
-    output: OutputFile,
-    mut written: Written<F>,
-) -> Result<OctetSum, Failure<'static>> {
-    let finished = written.finish();
-    let summed = written.into_inner();
-    let sum = summed.sum().unwrap_or(OctetSum::new());
-    let mut device = summed.into_inner().into_inner();
-    if finished.is_err() || device.has_failed() {
-        return Err(device.failure(output));
-    }
-    match device.flush() {
-        Ok(()) => Ok(sum),
-        Err(error) => Err(Failure::writing(output, &error)),
     }
 }

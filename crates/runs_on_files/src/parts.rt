@@ -11,7 +11,7 @@ use capture_run::RunFault;
 use dissector::tap_of;
 use overlay_config::TimedChange;
 use program_faults::{DigestsFailure, Failure, OutputFile};
-use program_files::{Names, OutputSums, PartLines, ShardFile, count_lines};
+use program_files::{FailedOutputs, Names, OutputSums, PartLines, ShardFile, count_lines};
 use segment_set::SegmentSet;
 use sha2::{Digest, Sha256};
 use shard_record::{
@@ -69,8 +69,11 @@ pub fn run_part<'a, R: Files + Input + AllocGlobal, T: Watch>(
     list: &'a str,
     segments: &SegmentSet,
     watch: &mut T,
+    failed: &mut FailedOutputs,
 ) -> Result<Ran<R::File>, Failure<'a>> {
-    run_part_with(rt, names, texts, None, folder, list, segments, watch)
+    run_part_with(
+        rt, names, texts, None, folder, list, segments, watch, failed,
+    )
 }
 
 /// Runs these segments as [`run_part`] does, where the text of the changes may have been read before: `told` are then the
@@ -84,6 +87,7 @@ pub fn run_part_with<'a, R: Files + Input + AllocGlobal, T: Watch>(
     list: &'a str,
     segments: &SegmentSet,
     watch: &mut T,
+    failed: &mut FailedOutputs,
 ) -> Result<Ran<R::File>, Failure<'a>>
     requires told { IfSome told (λ t. changes_in texts.now.changes.items ≡ Ok t.now) }
     requires rising { IfSome told (λ t. EachBehind IsRising [] t.now) }
@@ -105,6 +109,7 @@ pub fn run_part_with<'a, R: Files + Input + AllocGlobal, T: Watch>(
         Some(folder),
         Scope::Part(segments),
         watch,
+        failed,
     ) {
         Ok(done) => done,
         Err(failure) => return Err(failure),
@@ -175,7 +180,17 @@ pub fn run_unwritten_with<'a, R: Files + Input + AllocGlobal, T: Watch>(
     requires told { IfSome told (λ t. changes_in texts.now.changes.items ≡ Ok t.now) }
     requires rising { IfSome told (λ t. EachBehind IsRising [] t.now) }
 {
-    match run_on_files_with(rt, names, texts, told, None, Scope::Part(segments), watch) {
+    let mut none = FailedOutputs::new();
+    match run_on_files_with(
+        rt,
+        names,
+        texts,
+        told,
+        None,
+        Scope::Part(segments),
+        watch,
+        &mut none,
+    ) {
         Ok(done) => Ok(Ran::whole(rt.alloc(), cut_told(rt.alloc(), done.cut, segments))),
         Err(failure) => Err(failure),
     }

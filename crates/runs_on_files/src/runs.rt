@@ -3,6 +3,7 @@ ghost use Rattle.std.specs.Prelude.{◌≡◌, [], All, Ok, IfOk, IfSome, length
 ghost use Rattle.overlay_config.specs.Change.{IsRising, changes_in};
 ghost use Rattle.overlay_config.specs.Settings.{settings_in};
 ghost use Rattle.overlay_settings.specs.Rules.{EachBehind};
+ghost use Rattle.pcap_stream.specs.Block.{Block};
 ghost use Rattle.stream_run.specs.Begun.{IsUnread};
 
 use crate::headers::see_headers;
@@ -13,12 +14,12 @@ use overlay_config::{Settings, TimedChange, changes_of, settings_of};
 use pcapng_input::PcapngFault;
 use program_faults::Failure;
 use program_files::{
-    Capture, Names, Outputs, ShardFile, drop_part, drop_texts, open_capture, open_captures,
-    open_outputs, read_file, read_if_given, spare_inputs,
+    Capture, FailedOutputs, HandedOn, Names, Outputs, ShardFile, drop_part, drop_texts,
+    open_capture, open_captures, open_outputs, read_file, read_if_given, spare_inputs,
 };
 use segment_set::SegmentSet;
 use std::alloc::{AllocError, Global};
-use std::io::{Input, Read};
+use std::io::{Input, Read, Write};
 use std::rt::Files;
 use stream_run::{StreamFault, Watch, run_read};
 use timeline::Tap;
@@ -96,7 +97,7 @@ pub struct Done<F: Drop> {
 ///
 /// Where the settings, the changes or the number of captures are refused, or an output is one of the files that are read,
 /// nothing is made or written; where an output can't be opened, or a capture that is a regular file begins as none does, what
-/// stands in the outputs is kept.
+/// stands in the outputs is kept. All outputs that couldn't be written are noted, wherever it stops.
 pub fn run_on_files<'a, R: Files + Input + AllocGlobal, T: Watch>(
     rt: &R,
     names: Names<'_, 'a>,
@@ -104,8 +105,9 @@ pub fn run_on_files<'a, R: Files + Input + AllocGlobal, T: Watch>(
     folder: &str,
     scope: Scope<'_>,
     watch: &mut T,
+    failed: &mut FailedOutputs,
 ) -> Result<Done<R::File>, Failure<'a>> {
-    run_on_files_with(rt, names, texts, None, Some(folder), scope, watch)
+    run_on_files_with(rt, names, texts, None, Some(folder), scope, watch, failed)
 }
 
 /// Runs on files as [`run_on_files`] does, where the text of the changes may have been read before: `told` are then the changes
@@ -119,6 +121,7 @@ pub fn run_on_files_with<'a, R: Files + Input + AllocGlobal, T: Watch>(
     folder: Option<&str>,
     scope: Scope<'_>,
     watch: &mut T,
+    failed: &mut FailedOutputs,
 ) -> Result<Done<R::File>, Failure<'a>>
     requires told { IfSome told (λ t. changes_in texts.now.changes.items ≡ Ok t.now) }
     requires rising { IfSome told (λ t. EachBehind IsRising [] t.now) }
@@ -132,7 +135,7 @@ pub fn run_on_files_with<'a, R: Files + Input + AllocGlobal, T: Watch>(
         Err(failure) => return Err(failure),
     };
     run_on_opened(
-        rt, names, texts, told, folder, scope, ports, underlay, watch,
+        rt, names, texts, told, folder, scope, ports, underlay, watch, failed,
     )
 }
 
@@ -147,6 +150,7 @@ fn run_on_opened<'a, R: Files + Input + AllocGlobal, T: Watch>(
     ports: Vec<Capture<'a, R::File, R::Reader>>,
     underlay: Capture<'a, R::File, R::Reader>,
     watch: &mut T,
+    failed: &mut FailedOutputs,
 ) -> Result<Done<R::File>, Failure<'a>>
     requires told { IfSome told (λ t. changes_in texts.now.changes.items ≡ Ok t.now) }
     requires rising { IfSome told (λ t. EachBehind IsRising [] t.now) }
@@ -165,6 +169,7 @@ fn run_on_opened<'a, R: Files + Input + AllocGlobal, T: Watch>(
         ports.as_mut_slice(),
         &mut underlay,
         watch,
+        failed,
     ) {
         Ok(shard) => shard,
         Err(failure) => return Err(failure),
@@ -189,6 +194,7 @@ fn run_on_captures<'a, R: Files + Input + AllocGlobal, T: Watch>(
     ports: &mut [Capture<'a, R::File, R::Reader>],
     underlay: &mut Capture<'a, R::File, R::Reader>,
     watch: &mut T,
+    failed: &mut FailedOutputs,
 ) -> Result<Option<ShardFile<R::File>>, Failure<'a>>
     requires told { IfSome told (λ t. changes_in texts.now.changes.items ≡ Ok t.now) }
     requires rising { IfSome told (λ t. EachBehind IsRising [] t.now) }
@@ -201,7 +207,7 @@ fn run_on_captures<'a, R: Files + Input + AllocGlobal, T: Watch>(
     };
     if let Some(told) = told {
         return run_on_read(
-            rt, names, texts, settings, told, folder, scope, ports, underlay, watch,
+            rt, names, texts, settings, told, folder, scope, ports, underlay, watch, failed,
         );
     }
     match changes_of(rt.alloc(), texts.changes.as_slice()) {
@@ -216,6 +222,7 @@ fn run_on_captures<'a, R: Files + Input + AllocGlobal, T: Watch>(
             ports,
             underlay,
             watch,
+            failed,
         ),
         Err(fault) => Err(Failure::Run(of_changes(fault))),
     }
@@ -233,6 +240,7 @@ fn run_on_read<'a, R: Files + Input + AllocGlobal, T: Watch>(
     ports: &mut [Capture<'a, R::File, R::Reader>],
     underlay: &mut Capture<'a, R::File, R::Reader>,
     watch: &mut T,
+    failed: &mut FailedOutputs,
 ) -> Result<Option<ShardFile<R::File>>, Failure<'a>>
     requires settings { settings_in texts.now.settings.items ≡ Ok settings }
     requires told { changes_in texts.now.changes.items ≡ Ok told.now }
@@ -264,9 +272,52 @@ fn run_on_read<'a, R: Files + Input + AllocGlobal, T: Watch>(
             Err(fault) => Err(failure_of(names, fault, ports, underlay)),
         };
     };
-    let mut outputs = prepare_outputs(rt, names, folder, is_part, ports.len())?;
-    let run = run_read(
+    let outputs = prepare_outputs(rt, names, folder, is_part, ports.len())?;
+    match run_into(
         rt.alloc(),
+        names,
+        texts,
+        settings,
+        told,
+        outputs,
+        segments,
+        ports,
+        underlay,
+        watch,
+        failed,
+    ) {
+        Ok(files) => Ok(files.into_shard()),
+        Err(failure) => Err(failure),
+    }
+}
+
+/// The same into these outputs. It answers them with no block that holds anything back.
+fn run_into<'a, F: Read + Drop, I: Read + Drop, O: Write + Drop, T: Watch>(
+    alloc: Global,
+    names: Names<'_, 'a>,
+    texts: &Texts,
+    settings: Settings,
+    told: &[TimedChange],
+    outputs: Outputs<O>,
+    segments: &SegmentSet,
+    ports: &mut [Capture<'a, F, I>],
+    underlay: &mut Capture<'a, F, I>,
+    watch: &mut T,
+    failed: &mut FailedOutputs,
+) -> Result<HandedOn<O>, Failure<'a>>
+    requires settings { settings_in texts.now.settings.items ≡ Ok settings }
+    requires told { changes_in texts.now.changes.items ≡ Ok told.now }
+    requires rising { EachBehind IsRising [] told.now }
+    requires outputs { length outputs.ports.items ≡ length ports.old }
+    requires ports { All IsUnread ports.old }
+    requires underlay { IsUnread underlay.old }
+    ensures handed_ports { IfOk result (λ files. All (λ (b : Block). b.held ≡ []) files.ports.items) }
+    ensures handed_underlay { IfOk result (λ files. files.underlay.held ≡ []) }
+    ensures handed_decisions { IfOk result (λ files. files.decisions.held ≡ []) }
+{
+    let mut outputs = outputs;
+    let run = run_read(
+        alloc,
         texts.settings.as_slice(),
         texts.changes.as_slice(),
         settings,
@@ -280,11 +331,14 @@ fn run_on_read<'a, R: Files + Input + AllocGlobal, T: Watch>(
         watch,
     );
     match run {
-        Ok(()) => match outputs.finish() {
-            Ok(shard) => Ok(shard),
+        Ok(()) => match outputs.finish(alloc, failed) {
+            Ok(files) => Ok(files),
             Err(failure) => Err(failure),
         },
-        Err(fault) => Err(outputs.finish_behind(failure_of(names, fault, ports, underlay))),
+        Err(fault) => {
+            let failure = failure_of(names, fault, ports, underlay);
+            Err(outputs.finish_behind(alloc, failure, failed))
+        }
     }
 }
 

@@ -1,5 +1,5 @@
 -- What is held back, handed on behind an event: nothing more was written.
-use Rattle.std.proofs.Common.{◌≡◌, ◌≢◌, ◌∙◌, refl, sym, ap, subst, ℕ, ◌<◌, ◌-◌, Bool, true, false, List, length, map, slice_index_or, slice_set, arith, Option, Result, Ok, Err, IsErr, MatchBool, inl, inr}
+use Rattle.std.proofs.Common.{◌≡◌, refl, sym, subst, ℕ, ◌<◌, ◌-◌, Bool, true, false, List, length, slice_index_or, slice_set, arith, Result, Ok, Err, IsErr, MatchBool, inl, inr}
 use Rattle.std.proofs.KnownBytes.{Appends-kept, Keeps-refl, Keeps-trans}
 use Rattle.std.proofs.lemmas.Bool.{cases_eq}
 use Rattle.std.proofs.lemmas.List.{get_or-set_other, get_or-set_same, get_or_default}
@@ -8,7 +8,6 @@ use Rattle.std.specs.Prelude.{OnOk}
 use Rattle.pcap_stream.specs.Sink.{Drain, HandsOn, IsHandedOn}
 use Rattle.timeline.specs.declared.source.Tap.{Tap}
 use Rattle.timeline.specs.declared.source.Tap.TheVariants.{Port, Underlay}
-use Rattle.shard_merge.specs.Blame.{sink_health}
 use Rattle.shard_merge.specs.Left.{AreAdded, AreKept, IsTap, UnlessDevice, of_tap}
 use Rattle.shard_merge.specs.declared.fault.MergeFault.{MergeFault}
 use Rattle.shard_merge.proofs.Blaming.{PutWrites}

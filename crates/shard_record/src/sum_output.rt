@@ -39,6 +39,13 @@ impl<W: Output> SumOutput<W> {
     }
 
     /// The output that took them.
+    pub fn output(&self) -> &W
+        ensures { result.now ≡ self.now.output }
+    {
+        &self.output
+    }
+
+    /// The same, for good.
     pub fn into_inner(self) -> W
         ensures { result ≡ self.output }
     {

@@ -5,7 +5,7 @@ use crate::refusals::{tell_part_capture, tell_pcapng, tell_refused};
 use command_line::{STANDARD_INPUT, capture_name};
 use dissector::Line;
 use program_faults::{Failure, OneLine, OutputFile, ShardFailure, SystemFault};
-use program_files::{file_of, is_same, path_of, read_fault};
+use program_files::{FailedOutput, file_of, is_same, path_of, read_fault};
 use shard_merge::PartFault;
 use std::alloc::AllocError;
 use std::fs;
@@ -200,6 +200,46 @@ fn part_file(index: usize) -> OutputFile {
         2 => OutputFile::Underlay,
         number => OutputFile::Port(number.saturating_sub(2)),
     }
+}
+
+/// Tells which other outputs couldn't be written, and why. Where memory is refused for that, none is told.
+pub fn tell_failed_besides<R: Files + AllocGlobal + Eprint>(
+    rt: &R,
+    line: &Line<'_>,
+    failure: &Failure<'_>,
+    failed: &[FailedOutput],
+) {
+    for file in failed {
+        if !is_failure_of(failure, file.output) {
+            let _ = tell_failed_output(rt, line, *file);
+        }
+    }
+}
+
+/// Whether this is that an output couldn't be written.
+fn is_failure_of(failure: &Failure<'_>, output: OutputFile) -> bool {
+    match failure {
+        Failure::Write(told) | Failure::WriteFailed(told, _) => *told == output,
+        _ => false,
+    }
+}
+
+/// Tells that an output couldn't be written, and why, where the system told it.
+fn tell_failed_output<R: Files + AllocGlobal + Eprint>(
+    rt: &R,
+    line: &Line<'_>,
+    file: FailedOutput,
+) -> Result<(), AllocError> {
+    if let Some(fault) = file.fault {
+        return tell_unwritten(rt, line, file.output, fault);
+    }
+    let Some(folder) = folder_of(line) else {
+        return Ok(());
+    };
+    let path = path_of(rt.alloc(), folder, file.output)?;
+    let shown = OneLine(path.as_path().as_str());
+    let _ = eprintln!(rt; "  {shown}: not written whole");
+    Ok(())
 }
 
 /// Tells why an output couldn't be written.

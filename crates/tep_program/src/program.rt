@@ -7,7 +7,7 @@ ghost use Rattle.overlay_settings.specs.Rules.{EachBehind};
 ghost use Rattle.program_faults.specs.Status.{failure_status_of};
 ghost use Rattle.tep_program.specs.Status.{IsDoneStatus, IsStatusOf, first_no_event, no_event_in};
 
-use crate::causes::tell_causes;
+use crate::causes::{tell_causes, tell_failed_besides};
 use crate::checks::check;
 use crate::notes::tell_notes;
 use capture_run::{RunFault, of_settings};
@@ -16,7 +16,7 @@ use dissector::{Line, LineFault, Values, explain_bytes, line_of, sample, segment
 use merge_on_files::{TextsAsked, merge};
 use overlay_config::{TimedChange, migrate};
 use program_faults::{Failure, OutputFile, is_lost};
-use program_files::{Names, leave_text, print_text, read_file, read_underlay};
+use program_files::{FailedOutputs, Names, leave_text, print_text, read_file, read_underlay};
 use run_counts::RunCounts;
 use run_reports::{Onlooker, Reports, is_event_name};
 use runs_on_files::{
@@ -121,7 +121,8 @@ fn performed<'a, R: Files + Input + AllocGlobal + Print + Eprint>(rt: &R, line: 
     requires { HasDepth line.now }
     ensures { IsDoneStatus result }
 {
-    match perform(rt, line) {
+    let mut failed = FailedOutputs::new();
+    match perform(rt, line, &mut failed) {
         Ok(()) => {
             tell_notes(rt, line);
             0
@@ -129,6 +130,7 @@ fn performed<'a, R: Files + Input + AllocGlobal + Print + Eprint>(rt: &R, line: 
         Err(failure) => {
             let status = stopped(rt, &failure);
             tell_causes(rt, line, &failure);
+            tell_failed_besides(rt, line, &failure, failed.as_slice());
             status
         }
     }
@@ -154,6 +156,7 @@ fn stopped(rt: &impl Eprint, failure: &Failure<'_>) -> u8
 fn perform<'a, R: Files + Input + AllocGlobal + Print + Eprint>(
     rt: &R,
     line: &Line<'a>,
+    failed: &mut FailedOutputs,
 ) -> Result<(), Failure<'a>>
     requires { HasDepth line.now }
 {
@@ -192,7 +195,7 @@ fn perform<'a, R: Files + Input + AllocGlobal + Print + Eprint>(
                 summary: *summary,
                 segments: *segments,
             };
-            run_and_tell(rt, names, *out, asked)
+            run_and_tell(rt, names, *out, asked, failed)
         }
         Line::Explain {
             settings,
@@ -212,7 +215,7 @@ fn perform<'a, R: Files + Input + AllocGlobal + Print + Eprint>(
                 tables: *tables,
                 summary: *summary,
             };
-            merge_and_tell(rt, *out, shards.as_slice(), asked)
+            merge_and_tell(rt, *out, shards.as_slice(), asked, failed)
         }
     }
 }
@@ -223,8 +226,9 @@ fn merge_and_tell<'a, R: Files + AllocGlobal + Print>(
     out: &str,
     folders: &[&'a str],
     asked: TextsAsked,
+    failed: &mut FailedOutputs,
 ) -> Result<(), Failure<'a>> {
-    match merge(rt, out, folders, asked) {
+    match merge(rt, out, folders, asked, failed) {
         Ok(told) => {
             print_text(rt, told.tables.as_slice()).and(print_text(rt, told.summary.as_slice()))
         }
@@ -266,6 +270,7 @@ fn run_and_tell<'a, R: Files + Input + AllocGlobal + Print + Eprint>(
     names: Names<'_, 'a>,
     folder: Option<&str>,
     asked: Asked<'_, 'a>,
+    failed: &mut FailedOutputs,
 ) -> Result<(), Failure<'a>> {
     let texts = Texts::read(rt, names)?;
     let segments = segments_of(asked.segments)?;
@@ -280,6 +285,7 @@ fn run_and_tell<'a, R: Files + Input + AllocGlobal + Print + Eprint>(
             asked,
             &segments,
             &mut Unwatched,
+            failed,
         ) {
             Ok(ran) => ran.finish(),
             Err(failure) => Err(failure),
@@ -300,6 +306,7 @@ fn run_and_tell<'a, R: Files + Input + AllocGlobal + Print + Eprint>(
         asked,
         &segments,
         &mut onlooker,
+        failed,
     );
     let Onlooker { reports, counts } = onlooker;
     match run {
@@ -349,17 +356,18 @@ fn run_asked<'a, R: Files + Input + AllocGlobal, T: Watch>(
     asked: Asked<'_, 'a>,
     segments: &SegmentSet,
     watch: &mut T,
+    failed: &mut FailedOutputs,
 ) -> Result<Ran<R::File>, Failure<'a>>
     requires told { IfSome told (λ t. changes_in texts.now.changes.items ≡ Ok t.now) }
     requires rising { IfSome told (λ t. EachBehind IsRising [] t.now) }
 {
     match (folder, asked.segments) {
         (None, _) => run_unwritten_with(rt, names, texts, told, segments, watch),
-        (Some(folder), Some(list)) => {
-            run_part_with(rt, names, texts, told, folder, list, segments, watch)
-        }
+        (Some(folder), Some(list)) => run_part_with(
+            rt, names, texts, told, folder, list, segments, watch, failed,
+        ),
         (Some(_), None) => {
-            match run_on_files_with(rt, names, texts, told, folder, Scope::Whole, watch) {
+            match run_on_files_with(rt, names, texts, told, folder, Scope::Whole, watch, failed) {
                 Ok(done) => Ok(Ran::whole(rt.alloc(), done.cut)),
                 Err(failure) => Err(failure),
             }

@@ -1,4 +1,3 @@
-use Rattle.std.proofs.Common.{◌∙◌, ℕ, List, Option}
 use Rattle.std.proofs.KnownBytes.{Appends-kept}
 use Rattle.shard_merge.specs.Merged.{records_at}
 use Rattle.shard_merge.proofs.Blaming.{no_read, writes_behind}

@@ -1,0 +1,189 @@
+//! How the files that a run writes end: what their blocks hold is handed on to the system.
+//!
+//! The captures' blocks go on first, each of them also behind one that failed, and that of the decision lines only where all
+//! captures have theirs: so no line stands in its file without the records of its event.
+ghost use Rattle.std.specs.Prelude.{◌≡◌, [], All, IfOk, IfSome, length, true};
+ghost use Rattle.pcap_stream.specs.Block.{Block};
+
+use crate::failed_outputs::{FailedOutput, FailedOutputs};
+use crate::outputs::{OutputSums, Outputs, ShardFile, Written};
+use arrayvec::ArrayVec;
+use octet_sum::OctetSum;
+use pcap_stream::Sink;
+use program_faults::{Failure, OutputFile};
+use std::alloc::{AllocError, Global};
+use std::io::Write;
+
+/// What a run or a merge wrote: no block holds anything back.
+#[derive(Drop)]
+pub struct HandedOn<F: Write + Drop> {
+    pub ports: Vec<Written<F>>,
+    pub underlay: Written<F>,
+    pub decisions: Written<F>,
+    /// The file in which a part says what it was made from.
+    pub shard: Option<F>,
+}
+
+impl<F: Write + Drop> HandedOn<F> {
+    /// Of a part, the file in which it says what it was made from, and the sums of its outputs.
+    pub fn into_shard(self) -> Option<ShardFile<F>> {
+        let HandedOn {
+            ports,
+            underlay,
+            decisions,
+            shard,
+        } = self;
+        let file = shard?;
+        let mut sums = OutputSums {
+            decisions: sum_of(decisions),
+            underlay: sum_of(underlay),
+            ports: ArrayVec::new(),
+        };
+        for port in ports {
+            // There is room for as many as a run has ports.
+            let _ = sums.ports.try_push(sum_of(port));
+        }
+        Some(ShardFile { file, sums })
+    }
+}
+
+/// The sum of what was written to a file, of no octets if it isn't summed.
+fn sum_of<F: Write + Drop>(written: Written<F>) -> OctetSum {
+    written.into_inner().sum().unwrap_or(OctetSum::new())
+}
+
+impl<F: Write + Drop> Outputs<F> {
+    /// Hands on what the blocks hold. The first output that can't be written is why the program gives up, and all of them are
+    /// noted.
+    pub fn finish(
+        self,
+        alloc: Global,
+        failed: &mut FailedOutputs,
+    ) -> Result<HandedOn<F>, Failure<'static>>
+        ensures count { IfOk result (λ files. length files.ports.items ≡ length self.ports.items) }
+        ensures ports { IfOk result (λ files. All (λ (b : Block). b.held ≡ []) files.ports.items) }
+        ensures underlay { IfOk result (λ files. files.underlay.held ≡ []) }
+        ensures decisions { IfOk result (λ files. files.decisions.held ≡ []) }
+    {
+        match self.hand_on_all(alloc, failed) {
+            Some(files) => Ok(files),
+            None => Err(first_failure(failed)),
+        }
+    }
+
+    /// Hands on what the blocks hold, behind a run or a merge that gave up for this failure. Where that is a write into one of
+    /// these files it answers it with what the system told, and else the same. All outputs that can't be written are noted.
+    pub fn finish_behind<'a>(
+        self,
+        alloc: Global,
+        failure: Failure<'a>,
+        failed: &mut FailedOutputs,
+    ) -> Failure<'a> {
+        let _ = self.hand_on_all(alloc, failed);
+        match failure {
+            Failure::Write(output) => match failed.find(output) {
+                Some(file) => file.failure(),
+                None => Failure::Write(output),
+            },
+            other => other,
+        }
+    }
+
+    /// Hands on what the blocks hold. It answers the files where all have what was written to them; those that haven't are
+    /// noted, and memory was refused where none is.
+    fn hand_on_all(self, alloc: Global, failed: &mut FailedOutputs) -> Option<HandedOn<F>>
+        ensures count { IfSome result (λ files. length files.ports.items ≡ length self.ports.items) }
+        ensures ports { IfSome result (λ files. All (λ (b : Block). b.held ≡ []) files.ports.items) }
+        ensures underlay { IfSome result (λ files. files.underlay.held ≡ []) }
+        ensures decisions { IfSome result (λ files. files.decisions.held ≡ []) }
+    {
+        let Outputs {
+            ports,
+            underlay,
+            decisions,
+            shard,
+        } = self;
+        let mut underlay = underlay.into_inner();
+        let mut decisions = decisions;
+        let ports = hand_on_ports(alloc, ports, failed);
+        let underlay_stands = hand_on(OutputFile::Underlay, &mut underlay, failed);
+        let decisions_stand = hand_on_lines(&mut decisions, failed);
+        if !underlay_stands || !decisions_stand {
+            return None;
+        }
+        match ports {
+            Some(ports) => Some(HandedOn {
+                ports,
+                underlay,
+                decisions,
+                shard,
+            }),
+            None => None,
+        }
+    }
+}
+
+/// Why the program gives up: the first output that can't be written, or memory where there is none.
+fn first_failure(failed: &FailedOutputs) -> Failure<'static> {
+    match failed.first() {
+        Some(file) => file.failure(),
+        None => Failure::from(AllocError),
+    }
+}
+
+/// Hands on what the blocks of the ports' captures hold. It answers them where each has all that was written to it; those that
+/// haven't are noted, and memory for a list of them was refused where none is.
+fn hand_on_ports<F: Write + Drop>(
+    alloc: Global,
+    ports: Vec<Sink<Written<F>>>,
+    failed: &mut FailedOutputs,
+) -> Option<Vec<Written<F>>>
+    ensures count { IfSome result (λ files. length files.items ≡ length ports.items) }
+    ensures all { IfSome result (λ files. All (λ (b : Block). b.held ≡ []) files.items) }
+{
+    let count = ports.len();
+    let mut files = Vec::new(alloc);
+    for (index, port) in ports.into_iter().enumerate() {
+        let mut file = port.into_inner();
+        if hand_on(OutputFile::Port(index + 1), &mut file, failed) {
+            // Where memory for the list is refused, it stays too short.
+            let _ = files.push(file);
+        }
+    }
+    if files.len() == count {
+        Some(files)
+    } else {
+        None
+    }
+}
+
+/// Hands on what the block of the decision lines holds, where no capture is noted, and says whether their file has all of them.
+fn hand_on_lines<F: Write + Drop>(decisions: &mut Written<F>, failed: &mut FailedOutputs) -> bool
+    ensures { result ≡ true → decisions.new.held ≡ [] }
+{
+    if failed.is_empty() {
+        return hand_on(OutputFile::Decisions, decisions, failed);
+    }
+    let fault = decisions.output().output().writer().fault();
+    if fault.is_some() {
+        failed.note(OutputFile::Decisions, fault);
+    }
+    false
+}
+
+/// Hands on what a file's block holds, and says whether the file has all that was written to it; else it is noted.
+fn hand_on<F: Write + Drop>(
+    output: OutputFile,
+    written: &mut Written<F>,
+    failed: &mut FailedOutputs,
+) -> bool
+    ensures { result ≡ true → written.new.held ≡ [] }
+{
+    let is_handed_on = written.finish().is_ok();
+    let fault = written.output().output().writer().fault();
+    if is_handed_on && fault.is_none() {
+        return true;
+    }
+    failed.note(output, fault);
+    false
+}

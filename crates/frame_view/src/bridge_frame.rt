@@ -1,4 +1,7 @@
 //! A frame as a bridge sees it.
+//!
+//! Its body has no upper bound: a frame is classified from a slice of any length, and the bound on captured records is the
+//! endpoint's to check.
 ghost use Rattle.std.specs.Prelude.{◌≡◌};
 
 use crate::Mac;

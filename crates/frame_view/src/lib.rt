@@ -1,9 +1,19 @@
 //! Ethernet frames and VLAN tags (IEEE 802.1Q) as borrowed slices, and the reasons why frames and packets are dropped.
 //!
-//! [`EtherView`] reads a frame: its addresses, its tag ([`Tagging`]) and what stands behind a packet's tags.
-//! Destination and source are copies, each longer part is a slice of the octets that were read. [`BridgeFrame`] is
-//! what a bridge sees of a frame: no tag is in it, nor any tunnel header. [`Reason`] lists all reasons of a drop, with
-//! their numbers.
+//! Use first: [`EtherView`] reads a frame: its addresses, its tag ([`Tagging`]) and what stands behind a packet's tags.
+//! Destination and source are copies, each longer part is a slice of the octets that were read. [`BridgeFrame`] is what a
+//! bridge sees of a frame: no tag is in it, nor any tunnel header. [`Reason`] lists all reasons of a drop, with their numbers.
+//!
+//! Specs to read: `specs/Frame` and `specs/Tag`, then `specs/Ether`; `specs/Reason` and `specs/Refusal` for drops,
+//! `specs/First` for tables of which the first row that holds is the answer.
+//!
+//! Proved: each part of a frame is the stated slice of its octets, and the parts side by side are the frame. A tag is split
+//! off exactly where the text is that of a tagged frame, and at most n tags are skipped, the longest front of them. A [`Vid`]
+//! is 1 to 4094. The forty reasons have different numbers and names.
+//!
+//! Why it is so: the reasons stand here, below all crates that answer them, and a refusal ([`Refused`]) carries its segment
+//! where the frame was in one already. A tag that a packet's type stands behind counts only where all its four octets are
+//! there: of a cut one nothing is skipped.
 #![tactic(auto)]
 
 mod address;

@@ -1,4 +1,6 @@
 //! VLAN identifiers and tag control information (IEEE 802.1Q, 9.6).
+//!
+//! [`Tci::new`] takes any 16 bits: what a VID may be is the business of [`Vid`].
 ghost use Rattle.std.specs.Prelude.{◌≡◌, ◌<◌};
 ghost use Rattle.std.specs.Option.{SomeIff};
 ghost use Rattle.frame_view.specs.Tag.{IsVid, pcp_of, dei_of, vid_of};

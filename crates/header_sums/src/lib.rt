@@ -1,10 +1,18 @@
 //! The Internet checksum (RFC 1071) of IPv4 headers (RFC 791, 3.1) and of UDP datagrams over IPv4 (RFC 768) and IPv6
 //! (RFC 8200, 8.1).
 //!
-//! A text is summed part by part: [`words`] sums one, [`add_words`] adds one to a sum, [`fold`] folds a sum to 16 bits,
-//! and [`folded`] answers a text's folded sum at once. [`sent_sum`], [`ip4_sum`], [`udp4_sum`] and [`udp6_sum`] answer
-//! the checksums to send. The crate knows no layout of a header but
-//! where IPv4 keeps its checksum. Its `specs/Octets` has the words on texts that all formats above are stated in.
+//! Use first: [`ip4_sum`], [`udp4_sum`] and [`udp6_sum`] answer the checksums to send. A text is summed part by part: [`words`]
+//! sums one, [`add_words`] adds one to a sum, [`fold`] folds a sum to 16 bits, [`folded`] answers a long text's folded sum at
+//! once, and [`sent_sum`] the checksum that UDP sends for a sum. The crate knows no layout of a header but where IPv4 keeps
+//! its checksum.
+//!
+//! Specs to read: `specs/Octets`, then `specs/Sum`; `specs/Laws` for what a folded sum is.
+//!
+//! Proved: each of these functions equals its definition. Folding adds the carries until there are none, and a text with its
+//! checksum put in sums up to all ones (`laws::folding`).
+//!
+//! Why it is so: `specs/Octets` has the words on texts of octets (`octet`, `field`, `part`, `begins`) beside the checksum,
+//! since this is the lowest crate and every wire format is stated in them.
 #![tactic(auto)]
 
 mod datagram;

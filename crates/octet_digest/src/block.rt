@@ -1,4 +1,8 @@
 //! The blocks of a message (FIPS 180-4, 6.2.2).
+//!
+//! The words of the next rounds lie in memory, from where a round adds them. Where `compress` is inlined the compiler keeps
+//! them in vectors, and each is moved out by an instruction of its own: 38.4 instructions an octet in place of 37.3, measured
+//! before the rotations by one shift.
 ghost use Rattle.std.specs.Prelude.{◌≡◌, ◌/◌, length};
 ghost use Rattle.sha2.specs.Sha256.{compress, hash_after};
 

@@ -1,4 +1,9 @@
 //! The schedule of a block (FIPS 180-4, 6.2.2), four words at a time.
+//!
+//! It follows a published method, that of Intel's white paper "Fast SHA-256 Implementations on Intel Architecture Processors"
+//! (2012): four words stand in a vector, and since the last two of them need the first two, the small sigma 1 is added in two
+//! halves. A rotation by 17 or 19 is one shift of a word that stands twice beside itself in a number of 64 bits: in the low
+//! half a shift to the right leaves the word's rotation. The constants of four rounds are added at once.
 ghost use Rattle.std.specs.Prelude.{◌≡◌, ℕ, ◌+◌, ◌*◌, ◌/◌, ◌%◌, ◌^◌, ◌<◌, ◌≤◌, ◌∷◌, List, [], length, map, slice_index};
 ghost use Rattle.std.specs.Int.{w32, rotate_right};
 ghost use Rattle.sha2.specs.Sha256.{schedule, small_sigma0, small_sigma1, word_at};

@@ -1,7 +1,15 @@
 //! The VXLAN header (RFC 7348, 5), read as a view of borrowed slices and written.
 //!
-//! [`VxView`] reads what a UDP datagram carries: the header, its [`Vni`] and the frame behind it, or the first
+//! Use first: [`VxView`] reads what a UDP datagram carries: the header, its [`Vni`] and the frame behind it, or the first
 //! [`VxFault`]. [`vx_head`] is the header that is sent. The crate knows nothing of UDP, nor of the frame inside.
+//!
+//! Specs to read: `specs/Vxlan`, then `specs/Reading`.
+//!
+//! Proved: a text is read as the VNI and payload of a VXLAN packet exactly where it is one, elsewhere the answer is
+//! `ShortTunnel` or `NoVniFlag`, in that order; all other bits are free. What is written reads back with any text behind it
+//! (`laws::one_reading`).
+//!
+//! Why it is so: a [`VxFault`] converts into the reason of a drop of the same name, so that a caller passes it on by `?`.
 #![tactic(auto)]
 
 mod header;

@@ -1,4 +1,6 @@
 //! Places.
+//!
+//! A [`Place`] has a default, port 0, which is no port: a list of fixed capacity fills its free places with it.
 ghost use Rattle.std.specs.Prelude.{◌≡◌};
 ghost use Rattle.filter_db.specs.Place.{same_place, no_place};
 

@@ -1,4 +1,8 @@
 //! What the tables of all segments answer, however they are kept.
+//!
+//! The size of the pool is a ghost of the trait, and each call says that it stays: code over any tables, as the bridge's
+//! step, would else not know after a call how much room there is. Of `ListTables` it is 0, since each of its segments has
+//! room of its own.
 ghost use Rattle.std.specs.Prelude.{◌≡◌, ◌↔◌, ◌≤◌, ℕ, IsTrue, IsSome, IsErr, IsOk};
 ghost use Rattle.std.specs.FinMap.{len};
 ghost use Rattle.filter_db.specs.Table.{stands, learned_as, is_full, has_fixed};

@@ -1,8 +1,16 @@
-//! Flood lists: the remote endpoints that a segment's broadcast, unknown and multicast frames go to (RFC 7348, 4.2, by a
-//! list in place of one multicast group).
+//! Flood lists: the remote endpoints that a segment's broadcast, unknown and multicast frames go to (RFC 7348, 4.2, by a list
+//! in place of one multicast group).
 //!
-//! A [`FloodList`] holds [`Remote`] endpoints, without repeats and in the order in which they were added. [`Own`] are
-//! the endpoint's own addresses, which are never on one.
+//! Use first: a [`FloodList`] holds [`Remote`] endpoints, without repeats and in the order in which they were added. [`Own`]
+//! are the endpoint's own addresses, which are never on one.
+//!
+//! Specs to read: `specs/Flood`.
+//!
+//! Proved: the list has no repeats and is in the order of adding, with the five refusals in their order; a refused call
+//! changes nothing.
+//!
+//! Why it is so: a remote is a struct of tunnel kind and address, since a list of fixed capacity wants a default for its
+//! items; the calls take the two side by side. Groups are allowed on the list.
 #![tactic(auto)]
 
 mod fault;

@@ -1,4 +1,8 @@
 //! An entry that comes to its segment: where there is room, or in place of the oldest one, which is dead.
+//!
+//! Where a segment has room, an entry comes first, so that the leaf that its look-up found is still there, and lets the dead
+//! entries go behind it, from the front of their queue. Where it has none, the oldest dead one goes first, or gives its own
+//! leaf where it is the one found.
 ghost use Rattle.std.specs.Prelude.{◌≡◌, ◌↔◌, ◌<◌, ℕ, IsTrue, IsSome, Some, length};
 ghost use Rattle.shared_tables.specs.Pool.{entry_at};
 ghost use Rattle.shared_tables.specs.Shared.{rule_at, kept_count, HasRoom, Enters, IsOf};

@@ -1,4 +1,8 @@
 //! Buckets of addresses, and their trees.
+//!
+//! Each bucket has sixty-four trees, told apart by six bits of a product of VID and address: so addresses that are numbered
+//! one after another have mostly a tree each. Promises are said of buckets and hold, since entries of a tree are entries of
+//! its bucket.
 ghost use Rattle.std.specs.Prelude.{◌≡◌, ◌<◌, [], ◌∷◌};
 ghost use Rattle.shared_tables.specs.Bucket.{bucket_of, tree_of, key_of, IsKey, vid_in, mac_in, spread};
 

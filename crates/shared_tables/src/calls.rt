@@ -1,4 +1,10 @@
 //! The calls on the tables: the clauses of [`filter_db::Tables`], and beside them the work that each call does.
+//!
+//! A call asks for the ages of at most one entry more than go for being dead. The one more is either the first of the queue
+//! that is still live, where a sweep ends, or the address's own entry, where a learn finds it: its age has to be asked to
+//! tell New from Refreshed and Moved. So the bound can't be tightened for learning a known address; that this one age is the
+//! only one is the clause `known` of `learn`. A fix asks none, which its clause `known` says. `flush_place` goes along its
+//! own segment's queue once, `flush` takes from its front; neither asks for an age.
 ghost use Rattle.std.specs.Prelude.{◌≡◌, ◌↔◌, ◌≤◌, ◌+◌, ℕ, IsTrue, IsSome, IsErr, IsOk, length};
 ghost use Rattle.std.specs.FinMap.{len};
 ghost use Rattle.filter_db.specs.Table.{stands, learned_as, is_full, has_fixed};

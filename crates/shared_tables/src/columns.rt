@@ -1,4 +1,8 @@
 //! The numbers of the trees, in one list.
+//!
+//! A tree has a fork fewer than leaves, and each slot brings one: so a tree that has leaves keeps a fork. Its number stands
+//! for what is at the tree's root where the place of what is behind a fork would, since the address of an entry that goes
+//! tells its tree again: the fork needs no column of its own, and the first leaf of a tree comes and goes by one write.
 ghost use Rattle.std.specs.Prelude.{◌≡◌, ◌+◌, ◌*◌, ◌<◌, ◌≤◌, ◌++◌, ℕ, IfOk, length, replicate, slice_index_or, slice_set, vec_capacity};
 ghost use Rattle.std.specs.List.{range_with_len};
 ghost use Rattle.shared_tables.specs.Trees.{number_at, bare_trees};

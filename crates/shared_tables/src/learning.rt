@@ -1,4 +1,7 @@
 //! How entries come, stay and go: each step over the slots of one segment.
+//!
+//! A learn or a fix that finds its own address dead replaces that one entry without a sweep: with one it would ask for one
+//! age too many.
 ghost use Rattle.std.specs.Prelude.{◌≡◌, ℕ, ◌+◌, ◌<◌, ◌≤◌, IsSome, Some, None, Option, false};
 ghost use Rattle.shared_tables.specs.Bucket.{bucket_of, tree_of};
 ghost use Rattle.shared_tables.specs.Admission.{FindsOrAdmits};

@@ -1,4 +1,6 @@
 //! Links to slots: a slot's number, and its neighbours.
+//!
+//! Such a number has 32 bits, in slots and in the ends of lines, and says by its greatest value that there is none.
 ghost use Rattle.std.specs.Prelude.{◌≡◌, Some, is_none};
 
 use std::marker::Model;

@@ -1,4 +1,9 @@
 //! The calls on the pool: the clauses of [`filter_db::PoolTables`], and beside them the work that each call does.
+//!
+//! A segment that goes, or whose limit falls below what is live, lets its entries go one by one, from the front of its queue
+//! and of its list of fixed entries, and asks for no age but those of the dead that go first under a new limit. The calls
+//! that brought the entries have paid for it: two for each call is still more than all ages that were asked for and all
+//! entries that are kept.
 ghost use Rattle.std.specs.Prelude.{◌≡◌, ◌+◌, ◌<◌, ◌≤◌, None, IsSome, length};
 ghost use Rattle.filter_db.specs.Segment.{aged_all, segment_at, adjusted, IsRule};
 ghost use Rattle.filter_db.specs.Standing.{sum_of_limits, segment_count, added, removed, set_limit_in};

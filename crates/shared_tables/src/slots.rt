@@ -1,4 +1,17 @@
 //! The slots of a pool. An address is compared, and an entry's age is told, by this module alone.
+//!
+//! Slots are reserved when the pool is opened, and one is made when an entry takes it for the first time; those that were
+//! freed are taken first. A slot keeps VID and address as one number and its neighbours on its line as 32-bit numbers.
+//! Whether it is free, learned or fixed stands beside the moment, so no moment is taken for a sign. A pool of 65,536
+//! addresses in 256 segments takes 5.2 MiB as reckoned, 2 of them for the trees. One learn of a known source and one look-up
+//! took 250 instructions while trees were chains of slots, 466 before; trees take some more.
+//!
+//! What a slot holds is told by `differs`, `dead`, `live_row` and `put_live` alone; the fields are private to this module. So
+//! the counts that the first two raise, with one for each fork on a way, are all comparisons and all looks at an age that a
+//! bridge's call makes. The others tell entries to whoever lists a table, which goes along both lines of a segment or over
+//! the slots once, and to `entry` and `entry_count`, and count nothing, since no bridge asks for it. Where an address isn't
+//! the one of the leaf that it came to, the comparison has told the lowest bit in which the two differ: a fork on that bit
+//! parts them when the entry comes.
 ghost use Rattle.std.specs.Prelude.{◌≡◌, ℕ, ◌+◌, ◌<◌, ◌≤◌, IfOk, IfSome, IfNone, IsSome, Some, None, Option, false, length, replicate, slice_set};
 ghost use Rattle.shared_tables.specs.Pool.{Pool, tree_in, Held, entry_at, links_at, free_count, is_fixed_in, is_dead_in, alone, links_with, IfHeld, taken, freed, renewed, readdressed, place_in, free_pool};
 ghost use Rattle.shared_tables.specs.TreesOf.{PartedAt, key_in};

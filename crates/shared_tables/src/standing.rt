@@ -1,4 +1,9 @@
 //! The shares of all segments together.
+//!
+//! What the limits sum to, and how many segments stand, is counted over the 4,096 places of the shares when it is asked for:
+//! only a change of segments asks, and a sum that is kept beside the shares could differ from them. That no slot holds an
+//! entry of a VID without a segment is no field of the tables' invariant: each slot is free or counted by a share, so nothing
+//! is left for another VID. An added segment is empty by that count.
 ghost use Rattle.std.specs.Prelude.{◌≡◌, ◌<◌, None, slice_set, vec_len};
 ghost use Rattle.std.specs.List.{sum_by};
 ghost use Rattle.shared_tables.specs.Sound.{share_limit};

@@ -1,6 +1,11 @@
-//! The trees that find an address: several for each bucket, with the slots of entries as leaves. A fork sends an address
-//! on by one bit of its key, so a way down is never longer than a key has bits. Bits come along a way in any order, each
-//! once: so an entry comes to a leaf, and goes, by a few writes.
+//! The trees that find an address: several for each bucket, with the slots of entries as leaves. A fork sends an address on
+//! by one bit of its key, so a way down is never longer than a key has bits. Bits come along a way in any order, each once:
+//! so an entry comes to a leaf, and goes, by a few writes.
+//!
+//! So a look-up takes at most as many steps as a key has bits (60), whoever chose the addresses, and each step is counted as
+//! a comparison. That no bit comes twice is no rule of its own: the leaves on one side of a fork are alike in its bit, so no
+//! fork there can part them by it again. A new leaf takes the place of the one that the look-up came to, below a new fork,
+//! and a leaf that goes takes the fork above it along: both take a few writes and no walk.
 ghost use Rattle.std.specs.Prelude.{◌≡◌, ◌+◌, ◌-◌, ◌/◌, ◌%◌, ◌<◌, ◌≤◌, ◌↔◌, IsTrue, IfOk, length};
 ghost use Rattle.shared_tables.specs.Trees.{target_in, IsFork, fork_word, child_of, target_at, number_at, place_by, planted, grafted, cleared, pruned, standing, Uproots, MayGo, HasSizes, bare_trees, Names};
 

@@ -1,4 +1,6 @@
 //! A list of the places that a frame leaves by.
+//!
+//! It is a type of its own and no `ArrayVec`, since `clear` of that overwrites what stood there.
 ghost use Rattle.std.specs.Prelude.{◌≡◌, ◌≤◌, ◌<◌, ◌+◌, ◌++◌, ◌==◌, [], ◌∷◌, length};
 
 use filter_db::Place;

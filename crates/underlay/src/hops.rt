@@ -1,4 +1,7 @@
 //! Exceptions from the next hop.
+//!
+//! An exception is keyed by the octets of its address, so that one order serves both families: the octets of the two families
+//! differ in number.
 ghost use Rattle.std.specs.Prelude.{◌≡◌, ◌≤◌, ◌<◌, None, MatchResult};
 ghost use Rattle.std.specs.FinMap.{empty, get, insert, len};
 ghost use Rattle.ip_udp_view.specs.Addr.{address};

@@ -1,4 +1,6 @@
 //! The underlay and the segments over it.
+//!
+//! `Under::open` takes the settings by value: nothing of them is copied.
 ghost use Rattle.std.specs.Prelude.{◌≡◌, ◌<◌, ◌≤◌, ◌++◌, ◌∷◌, [], Some, IfOk, IsTrue, is_ok, not, length, OnOk, OnErr};
 ghost use Rattle.std.specs.Option.{option_copied, option_map};
 ghost use Rattle.std.specs.FinMap.{len};

@@ -1,4 +1,7 @@
 //! The ports, and the members of the segments.
+//!
+//! A segment's members stand at its VID's own place, 4,096 of them: look-ups, additions and removals are one index, and take
+//! no memory after `open`. What contracts see is a finite map from VID to members.
 ghost use Rattle.std.specs.Prelude.{◌≡◌, ◌≤◌, ◌<◌, length, IfOk, IsTrue, not};
 ghost use Rattle.std.specs.List.{list_all};
 ghost use Rattle.vlan_ports.specs.Ports.{told, with_rule, lists_ports, port_at, is_up, members_at, has_segment, egress_at, with_up, with_member, with_segment, without_segment};

@@ -1,14 +1,16 @@
 //! Counts of work done, for contracts alone.
 //!
-//! A [`Count`] is a number that contracts see and no octet keeps, so it has no upper end and costs nothing when a
-//! program runs. A type that holds one as a private field says by it how often some step was taken: the one method
-//! that takes the step ticks it, and each other one's contract says that the count stays.
+//! Use first: a [`Count`] is a number that contracts see and no octet keeps, so it has no upper end and costs nothing when a
+//! program runs. A type that holds one as a private field says by it how often some step was taken: the one method that takes
+//! the step ticks it, and each other one's contract says that the count stays. There are no specs: the two clauses below say
+//! all.
 //!
-//! A count itself changes by `tick` alone, but a body may put another in its place, as a new one of zero. So a contract
-//! that says how little a call adds to a count also says that the count is no less than before.
+//! Proved: [`Count::zero`] makes the number 0, and [`Count::tick`] adds one. Their two proofs are written by hand.
 //!
-//! The two proofs are written by hand, since only such a proof can set the number. No other function of the repository
-//! has one, which a script in `tests/` checks.
+//! Why it is so: the toolchain's ledgers would give the tables, and all that holds them, a type parameter for each count.
+//! Only a proof by hand can set a count's number, so no function but these two has one, which `tests/hand_proofs.sh` looks
+//! at; any other raises a count by `tick` alone. But a body may put another count in its place, as a new one of zero. So a
+//! contract that says how little a call adds to a count also says that the count is no less than before.
 #![tactic(auto)]
 
 ghost use Rattle.std.specs.Prelude.{◌≡◌, ℕ, ◌+◌};

@@ -1,4 +1,8 @@
 //! The live entries of a segment, listed.
+//!
+//! A listing sorts words of 64 bits: an address in the upper 48, and in the lower 16 its slot, of which a pool has at most
+//! 65,536. Addresses are in order as the numbers of their octets, which is proved, and no two rows have the same. Room for
+//! the words is asked for by the count of the segment's entries, dead ones too, and room for the rows by what is live.
 ghost use Rattle.std.specs.Prelude.{◌≡◌, ◌≤◌, ◌%◌, ℕ, [], IfOk, OnOk};
 ghost use Rattle.std.specs.FinMap.{entries};
 ghost use Rattle.filter_db.specs.Table.{nanoseconds};

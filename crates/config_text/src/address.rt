@@ -1,4 +1,7 @@
 //! The texts of addresses.
+//!
+//! IP addresses are read by the standard library's own types; their definition stands here in whole texts, and is proved to
+//! be that library's grammar. An IPv6 text with a dot is refused first, since an IPv4 tail isn't taken.
 ghost use Rattle.std.specs.Prelude.{◌≡◌};
 ghost use Rattle.config_text.specs.Address.{addr_of, ip4_of, ip6_of, mac_of};
 

@@ -1,4 +1,7 @@
 //! A table that is read key by key.
+//!
+//! The path of a table and its number take 19 octets at most, so that a key of 11 octets behind them fits the 32 of a fault's
+//! key.
 ghost use Rattle.std.specs.Prelude.{◌≡◌, ◌≤◌, length, map, nat_eq};
 ghost use Rattle.std.specs.List.{list_any};
 ghost use Rattle.std.specs.Cmp.Lexicographic.{pointwise};

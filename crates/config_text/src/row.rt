@@ -1,4 +1,7 @@
 //! Lists of tables.
+//!
+//! A row says how long the paths of its tables may be (`Row::longest`), so that a segment's have room for a list of tables
+//! below them and a path has still 32 octets at most.
 ghost use Rattle.std.specs.Prelude.{◌≡◌, ◌+◌, ◌≤◌, ◌<◌, ℕ, List, [], length, map, vec_len, IfOk};
 ghost use Rattle.toml.specs.View.{view};
 ghost use Rattle.config_text.specs.Fault.{Meaning, GivesAs};

@@ -1,4 +1,6 @@
 //! The keys `limit` to `tags`, which a segment of settings and one that comes later have alike.
+//!
+//! They are read by one function, beside the two ranges in which they differ.
 ghost use Rattle.std.specs.Prelude.{◌≡◌};
 ghost use Rattle.config_text.specs.Column.{range};
 ghost use Rattle.config_text.specs.Reader.{place_of};

@@ -1,10 +1,21 @@
-//! What an operator writes: the settings of a tunnel endpoint, and the changes made to them while it runs, each as a
-//! TOML document.
+//! What an operator writes: the settings of a tunnel endpoint, and the changes made to them while it runs, each as a TOML
+//! document.
 //!
-//! [`settings_of`] reads [`Settings`], which keep to every rule there is for them. [`changes_of`] reads a list of
+//! Use first: [`settings_of`] reads [`Settings`], which keep to every rule there is for them, and [`changes_of`] a list of
 //! [`TimedChange`], each a [`Change`] and its moment. Both answer the first fault instead, with the path of its key.
-//! [`migrate`] writes settings of version 1 as version 2.
-//! What is read stands in `overlay_settings`, which knows no text.
+//! [`migrate`] writes settings of version 1 as version 2. What is read stands in `overlay_settings`, which knows no text.
+//!
+//! Specs to read: `specs/Settings` and `specs/Segment`, then the tables below them; `specs/Change`; `specs/Migrate`.
+//!
+//! Proved: every text of settings or changes has one meaning, itself or its first fault with its key, and is read as exactly
+//! that, unless memory is refused. What a text means keeps to every rule (`laws::meanings`), and the moments of changes don't
+//! fall. `migrate` answers a text that is read as the table of the old text in version 2 and means the same settings, or the
+//! fault of `settings_of`; what is migrated stays as it is when it's migrated again (`laws::migrations`).
+//!
+//! Why it is so: versions 1 and 2 differ in a segment's row alone: its keys, and how its tunnels and its flood list are read
+//! (`src/tunnel.rt`). Version 3 has one key of the underlay more. All other keys, what a segment means and the rules that it
+//! keeps to are the same, so the endpoint knows no version. A segment's row is read in two, its local keys, and its tunnels
+//! with their flood list, so that another version of the text can change the tunnels alone.
 #![tactic(auto)]
 
 mod change_row;

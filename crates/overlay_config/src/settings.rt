@@ -1,4 +1,7 @@
 //! The settings of an endpoint, from their text.
+//!
+//! The pool, what the limits may sum to, is a key of its own. Its default is the sum of the limits, so a text without it
+//! means what it meant before there was the key: a segment can come only when another one goes or gets a smaller limit.
 ghost use Rattle.std.specs.Prelude.{◌≡◌, IfOk, Ok, Err, ℕ, ◌+◌, ◌<◌, ◌≤◌, ◌^◌, sum, map, length};
 ghost use Rattle.toml.specs.View.{table_view};
 ghost use Rattle.overlay_config.specs.Fault.{Gives, GivesAs};

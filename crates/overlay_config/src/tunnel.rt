@@ -1,4 +1,7 @@
 //! The tunnels of a segment, and its flood list.
+//!
+//! The tables of a segment's tunnels are read one behind the other, and each hands on the flood list up to it. No list of
+//! them is made: reading them takes no memory.
 ghost use Rattle.std.specs.Prelude.{◌≡◌, ◌≢◌, ◌≤◌, ◌+◌, decimal, length, IfOk, IfSome};
 ghost use Rattle.std.specs.Option.{option_to_list};
 ghost use Rattle.toml.specs.View.{view};

@@ -1,4 +1,8 @@
 //! Changes of the settings while an endpoint runs.
+//!
+//! A new segment is a plain value ([`NewSegment`], and `Tunnels` with it, may be copied), so that a change still is one. Its
+//! limit and its ageing take 32 bits and are judged when the change is made, as the seconds of `set_ageing` are: what a text
+//! of changes means doesn't rest on the settings.
 ghost use Rattle.std.specs.Prelude.{◌≡◌};
 ghost use Rattle.overlay_settings.specs.Change.{named};
 

@@ -1,6 +1,8 @@
 //! Links to slots: a slot's number, and its neighbours.
 //!
-//! Such a number has 32 bits, in slots and in the ends of lines, and says by its greatest value that there is none.
+//! Such a number has 32 bits, in slots and in the ends of lines, and says by its greatest value that there is none. An
+//! `Option` of a number would be a tag and a number wherever it is stored or chosen between: two loads, two conditional
+//! moves.
 ghost use Rattle.std.specs.Prelude.{◌≡◌, Some, is_none};
 
 use std::marker::Model;

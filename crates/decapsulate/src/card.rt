@@ -1,4 +1,7 @@
 //! Checksums that a sender left to its network card.
+//!
+//! A story, a look at captures and a summary tell of every such datagram of the underlay, whoever sent it and to whom: it
+//! shows how the capture was made.
 ghost use Rattle.std.specs.Prelude.{◌≡◌};
 ghost use Rattle.decapsulate.specs.Card.{is_left_to_card};
 

@@ -1,4 +1,9 @@
 //! What leaves at one outlet.
+//!
+//! An emission is seen by contracts as its four parts: head, addresses, tag, body. Its text is these side by side.
+//! `append_to` asks for the memory of the whole emission first, so a refusal adds nothing, and none comes where there is
+//! room. The parts are pinned beside the text: two emissions of one text may be cut in another place, as a tag in front of
+//! the body. The head of a packet is said to be all that stands before the frame in the packet's text.
 ghost use Rattle.std.specs.Prelude.{◌≡◌, ◌<◌, ◌≤◌, ◌⊎◌, ◌+◌, ◌++◌, ℕ, [], ◌∷◌, map, length, unwrap_or, OnOk, OnErr};
 ghost use Rattle.std.specs.Prelude.{vec_len, vec_capacity};
 ghost use Rattle.std.specs.List.{concat};

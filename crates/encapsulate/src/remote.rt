@@ -1,4 +1,7 @@
 //! What leaves for a remote endpoint.
+//!
+//! [`wrap`] takes the kind of tunnel and the address side by side. Its conditions are that the segment has a tunnel of the
+//! kind and the endpoint an address of the family; outside them the definition of the packet is the empty text.
 ghost use Rattle.std.specs.Prelude.{◌≡◌, ◌+◌, ◌++◌, ◌≤◌, [], ℕ, List, Some, IsTrue, IsNone, IfOk, is_some, length};
 ghost use Rattle.frame_view.specs.Tag.{begins_tag};
 ghost use Rattle.flood_lists.specs.Flood.{has_family, own_of};

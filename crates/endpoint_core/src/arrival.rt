@@ -1,4 +1,6 @@
 //! How a frame comes to the bridge of a segment.
+//!
+//! A [`Came`] has its frame first, so that no unused octets lie between what is copied together.
 ghost use Rattle.std.specs.Prelude.{◌≡◌, ◌≤◌, ℕ, IfOk, length, true};
 ghost use Rattle.std.specs.List.{list_all};
 ghost use Rattle.filter_db.specs.declared.place.Place.TheVariants.{Local};

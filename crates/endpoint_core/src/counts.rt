@@ -1,4 +1,7 @@
 //! How often each thing was decided.
+//!
+//! There is a row of 41 numbers for each VID that there may be, and one for none, reserved when the endpoint is opened. A row
+//! is put there when its VID first counts something, with those before it; one that isn't there counts nothing.
 ghost use Rattle.std.specs.Prelude.{◌≡◌, ◌≤◌, ◌<◌, ℕ, length, [], slice_index_or, vec_capacity, IfOk, IsSome, Some, map};
 ghost use Rattle.endpoint_core.specs.Counts.{no_counts, one_more, counted, counted_all, marks_all};
 ghost use Rattle.endpoint_core.specs.Cells.{count_in, bumped};

@@ -1,11 +1,26 @@
 //! The steps of a tunnel endpoint for VXLAN (RFC 7348) and Geneve (RFC 8926): one event in, one decision out.
 //!
-//! An [`Endpoint`] is opened with settings. A local frame, an outer packet or a [`Change`] comes in at a moment that is
-//! handed in, and a frame or packet gets a [`Decision`]: why it goes nowhere, or an [`Outcome`] for each outlet, with the
-//! octets that leave there. A decision borrows the octets that came in, and not the endpoint. No step takes memory.
-//! [`Endpoint::entries`] lists the live entries of a segment, and [`Endpoint::foresee_frame`] and
-//! [`Endpoint::foresee_packet`] tell a decision without a step. [`result_text`] prints a decision. [`laws`] says that all
-//! answers are those of one learning bridge (IEEE 802.1Q) for each segment, asked by the events of its own segment alone.
+//! Use first: an [`Endpoint`] is opened with settings. A local frame, an outer packet or a [`Change`] comes in at a moment
+//! that is handed in, and a frame or packet gets a [`Decision`]: why it goes nowhere, or an [`Outcome`] for each outlet, with
+//! the octets that leave there. A decision borrows the octets that came in, and not the endpoint. No step takes memory.
+//! [`Endpoint::foresee_frame`] and [`Endpoint::foresee_packet`] tell a decision without a step, [`result_text`] prints one,
+//! and [`Endpoint::entries`] lists the live entries of a segment.
+//!
+//! Specs to read: `specs/Event`, `specs/Decision` and `specs/Step`, then `specs/Run`; `specs/Counts`, and `specs/Text` for
+//! texts.
+//!
+//! Proved: each step answers, octet for octet in each emission, what the definition answers of the endpoint's state and the
+//! event, and leaves the state that it says. From `open` on, over every list of events with moments that never fall, the
+//! answers are those of one learning bridge (IEEE 802.1Q) for each segment, asked by that segment's events alone, from its
+//! coming to its going (`laws::runs`); the counts are how often each thing was so decided.
+//!
+//! Why it is so: a step is cut in two. `take_frame` and `take_packet` decide (tables, and a list of places that is lent),
+//! then `emit` makes one outcome for one place, its head in room that is lent, so that a whole run hands each outcome on as
+//! it comes. A run over streams makes no outcome: at a local port it asks for the tag alone (`tag_at`), for a remote endpoint
+//! for the head (`put_head`), and puts both beside the frame's addresses and body. `frame` and `packet` are both halves in
+//! one call, for callers that want a value. The lent list is empty after every drop, and a clause says so. A segment that
+//! comes begins without entries, by definition (`specs/Run`), whatever one of its VID had; its counts go on, since they are
+//! the endpoint's, one for each VID.
 #![tactic(auto)]
 
 mod arrival;

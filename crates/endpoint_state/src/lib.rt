@@ -1,9 +1,22 @@
-//! What a tunnel endpoint holds, and what a change does to it: its ports and the members of its segments (IEEE 802.1Q),
-//! its underlay with each segment's tunnels and flood list (RFC 7348, RFC 8926), the segments' tables, and which of
-//! them learn.
+//! What a tunnel endpoint holds, and what a change does to it: its ports and the members of its segments (IEEE 802.1Q), its
+//! underlay with each segment's tunnels and flood list (RFC 7348, RFC 8926), the segments' tables, and which of them learn.
 //!
-//! [`EndpointState`] is opened with settings, and a [`Change`] is made to it or refused with a [`ChangeFault`]. It steps
-//! the bridge of a segment for a frame. Only calls that are handed an allocator take memory. It knows no header of a packet.
+//! Use first: [`EndpointState`] is opened with settings, a [`Change`] is made to it or refused with a [`ChangeFault`], and it
+//! steps the bridge of a segment for a frame. It knows no header of a packet.
+//!
+//! Specs to read: `specs/Settings` and `specs/State`, then `specs/Change` and `specs/Effect`; `specs/Step` for the bridge's
+//! step.
+//!
+//! Proved: a change is refused for the first cause in the documented order, or made exactly as documented, in the settings
+//! and in each segment's table; a refused one changes nothing (`laws::changes`). A step learns and answers as the bridge of
+//! its segment, and no other segment changes. What is dead at an earlier moment stays dead (`laws::ageing`).
+//!
+//! Why it is so: it is a crate below the endpoint's steps, so that changes are proved apart from packets, and is written over
+//! the trait of tables, with one pool of slots behind it. Settings in force are one readable record, put together in the
+//! definitions alone: limit and ageing stand with the tables, tunnels and flood list with the underlay, members with the
+//! ports, so that no fact stands twice. What a change does is data (`specs/Effect`): an effect on the settings, and one on a
+//! table. The settings and tables after a change and the laws above them go by effects; only why a change is refused, and
+//! that what is refused does nothing, goes by kinds.
 #![tactic(auto)]
 
 mod checks;

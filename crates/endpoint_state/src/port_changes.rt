@@ -1,4 +1,7 @@
 //! Changes of ports and memberships.
+//!
+//! A port that goes down goes through all VIDs: it is a rare call, and work for a frame stays constant in the number of
+//! segments.
 ghost use Rattle.std.specs.Prelude.{◌≡◌, ◌≤◌, ℕ, is_some, true};
 ghost use Rattle.std.specs.Option.{option_map};
 ghost use Rattle.frame_view.specs.First.{fault_of};

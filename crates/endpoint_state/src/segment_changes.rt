@@ -1,4 +1,10 @@
 //! Changes of which segments there are, and of their limits.
+//!
+//! Whether a segment can come, or get another limit, is decided by the settings in force: by the limits that are promised,
+//! and never by what tables hold. So such a change has the same answer whatever was learned, and the limits of other segments
+//! are all that a segment feels of them. That VNIs have 24 bits stands in the refusal of a segment that comes, as its limit
+//! and its ageing do, since a change is data and may name any number. In code the type of VNIs has no others, so nothing is
+//! asked; the mesh law needs no premise for it.
 ghost use Rattle.std.specs.Prelude.{◌≡◌, ◌+◌, ◌<◌, ◌≤◌, IfOk, IsSome, IsTrue, None, true};
 ghost use Rattle.frame_view.specs.First.{fault_of};
 ghost use Rattle.filter_db.specs.Segment.{segment_at as table_of};

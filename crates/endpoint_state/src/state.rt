@@ -1,4 +1,7 @@
 //! What an endpoint holds.
+//!
+//! A frame from a remote endpoint is taken only where the segment could answer there, so that every remote place in a table
+//! or on a flood list can be sent to: an invariant of the endpoint (`specs/Sound`).
 ghost use Rattle.std.specs.Prelude.{◌≡◌, ◌≤◌, ℕ, [], IfOk, OnErr, IsSome, IsTrue, None, is_some, replicate, true};
 ghost use Rattle.std.specs.FinMap.{entries};
 ghost use Rattle.std.specs.List.{list_all};

@@ -1,15 +1,15 @@
 //! The Geneve header with its options (RFC 8926, 3.4 and 3.5), read as a view of borrowed slices and written.
 //!
-//! Use first: [`GnView`] reads what a UDP datagram carries: the header, its network identifier, its options ([`GnOptions`]) and
-//! the frame behind it, or the first [`GnFault`]. [`Known`] lists the critical options that a reader takes. [`gn_head`]
+//! Use first: [`GnView`] reads what a UDP datagram carries: the header, its network identifier, its options ([`GnOptions`])
+//! and the frame behind it, or the first [`GnFault`]. [`Known`] lists the critical options that a reader takes. [`gn_head`]
 //! is the header that is sent, which has no options. The crate knows nothing of UDP, nor of the frame inside.
 //!
 //! Specs to read: `specs/Options` and `specs/Geneve`, then `specs/Reading`; `specs/Seen` is what contracts see of an option.
 //!
-//! Proved: a text is read as the VNI, options and payload of a Geneve packet exactly where it is one, elsewhere the first of
-//! the seven faults is answered, in their order. The options come in turn, each body a stated slice, and each critical one is
-//! on the known list by class and whole type. What is written reads back with any text behind it (`laws::one_reading`,
-//! `laws::one_list_of_options`).
+//! Proved: a text is read as the VNI, options and payload of a Geneve packet exactly where it is one that is taken, elsewhere
+//! the first of the seven faults is answered, in their order. The options come in turn, each body a stated slice, and each
+//! critical one is on the known list by class and whole type. What is written reads back with any text behind it
+//! (`laws::one_reading`, `laws::one_list_of_options`).
 //!
 //! Why it is so: options are always walked to the end, whatever the bit C says, so options whose lengths don't add up are
 //! reported before an unknown critical one. An option is known by its class and its whole type octet, high bit included. A

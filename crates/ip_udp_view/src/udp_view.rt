@@ -1,6 +1,6 @@
 //! UDP datagrams.
 //!
-//! A checksum left to the sender's card is a state of its own, [`SumState::Partial`], behind [`SumState::Right`]: a checksum
+//! A checksum left to the sender's card is a state of its own, [`SumState::Partial`], behind `Right`: a checksum
 //! that is right stays so where it is the pseudo header's sum too. The view says which it is, the settings whether it is
 //! taken; so a story, a look at captures and a summary tell of it whatever the settings are.
 ghost use Rattle.std.specs.Prelude.{◌≡◌, ◌^◌, ◌≤◌, ◌++◌, length, IsTrue, IfOk};

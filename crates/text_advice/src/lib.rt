@@ -9,8 +9,8 @@
 //! keys.
 //!
 //! Proved: what is told is exactly the stated function of the kind of text, its name, its octets, the fault and the place
-//! where it stops being TOML. `None` comes just where the text is UTF-8 and a TOML document, and a place lies within the
-//! text. Lines, keys and the nearest key are found as the definition says.
+//! where it stops being TOML. [`syntax_error_at`] answers None just where the text is UTF-8 and a TOML document, and a place
+//! lies within the text. Lines, keys and the nearest key are found as the definition says.
 //!
 //! Why it is so: why a text is refused is told by a search of its lines, apart from the parser, which keeps no places of
 //! keys. The search is simple: it knows headers and keys without quotes. What is written another way, as by a dotted key or

@@ -1,8 +1,17 @@
 //! Decision lines, one for each event of a run, written into one buffer that is used again.
 //!
-//! A [`Line`] is begun with the front of an event and ended behind its result; writing one never asks for memory. Outcomes
-//! are put one by one, so that a run can hand each emission on as it comes. A [`Counter`] is a number kept in its decimal
-//! digits: one more mostly changes one of them. A [`Desk`] is what a run lends to each step.
+//! Use first: a [`Line`] is begun with the front of an event and ended behind its result. Outcomes are put one by one, so that
+//! a run can hand each emission on as it comes. A [`Desk`] is what a run lends to each step, and a [`Counter`] the number of
+//! its event.
+//!
+//! Specs to read, in order: `specs/Lines`, `specs/Outcomes`.
+//!
+//! Proved: each call appends or writes exactly the stated text, the front, an outcome, a drop, a reply, a cut, and whole lines.
+//! Any line fits the buffer, so no call asks for memory or fails. A counter's digits are its number's.
+//!
+//! Why it is so: the buffer has 4,096 octets and is cleared for each event. The longest line has 2,539, so every room is proved
+//! from its parts and writing a line can't fail. The number of the run's event is kept in its digits: one more mostly changes
+//! one octet. What a step needs (places, head, line) is made once for a run and lent.
 #![tactic(auto)]
 
 mod counter;

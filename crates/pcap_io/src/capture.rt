@@ -1,4 +1,7 @@
 //! Reading a capture record by record.
+//!
+//! A [`Capture`] is an iterator: what it answers is one list, the records and behind them the fault that they end with, if any.
+//! Behind a fault nothing is left, as at the end of a whole capture, and `is_cut` is false there.
 ghost use Rattle.std.specs.Prelude.{◌≡◌, ◌≤◌, ◌*◌, length, IfOk};
 ghost use Rattle.std.specs.List.{AllByRecursion};
 ghost use Rattle.std.specs.Iterator.{item_count};

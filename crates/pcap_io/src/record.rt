@@ -1,4 +1,6 @@
 //! Records, and what comes next in a text of them.
+//!
+//! A faulty record that is also cut has its fault, TooLarge or else BadFraction, before the cut.
 ghost use Rattle.std.specs.Prelude.{◌≡◌, ◌≤◌, length, IfOk};
 ghost use Rattle.pcap_io.specs.RecordText.{record_header_by, record_header_in};
 ghost use Rattle.pcap_io.specs.Next.{IsReadable, next_of, readable};

@@ -1,4 +1,6 @@
 //! Writing a capture, little-endian and in nanoseconds.
+//!
+//! [`put_record`] asks for the memory of the whole record first, so that a refusal leaves even the capacity as it was.
 ghost use Rattle.std.specs.Prelude.{◌≡◌, ◌+◌, ◌<◌, ◌≤◌, ◌++◌, length, vec_len, vec_capacity, OnOk, OnErr};
 ghost use Rattle.std.specs.List.{flat_map};
 ghost use Rattle.pcap_io.specs.Record.{last_moment, longest};

@@ -1,4 +1,10 @@
 //! An input that is read ahead into a room of its own.
+//!
+//! Up to 65,536 octets are read at once into the room of the longest record, and each record is lent where it lies there; only
+//! what is left in front of one that isn't whole is moved. It never waits for octets that the next record doesn't need: for a
+//! record it makes no more reads than that lacks octets of those read ahead. So an event on a pipe goes out before the next
+//! record comes. Since one read may bring many records, what is counted over a whole capture, as a survey does, is bounded by
+//! the octets that may come, 262,144 for each read that is left.
 ghost use Rattle.std.specs.Prelude.{◌≡◌, ◌<◌, ◌≤◌, ◌+◌, ◌-◌, [], drop, length, max, slice_range, take, vec_capacity, IfOk, OnErr, OnOk};
 ghost use Rattle.std.specs.Io.KnownBytes.{Consumes, IsAtEnd};
 ghost use Rattle.pcap_io.specs.Record.{longest};

@@ -1,4 +1,8 @@
 //! An output in blocks.
+//!
+//! This is a type of its own and not std's buffered writer, since a write into it is one copy and one comparison: 60 to 100
+//! instructions an event fewer. Where handing a block on fails, what was handed on leaves the block, so that nothing is written
+//! twice. `finish` hands the rest on, and has to be called behind every run, whatever stopped it.
 ghost use Rattle.std.specs.Prelude.{◌≡◌, ◌≤◌, ◌<◌, ◌+◌, [], ◌++◌, IfOk, OnErr, OnOk, length, take};
 ghost use Rattle.std.specs.Io.{WritesAtMost};
 ghost use Rattle.std.specs.Io.KnownBytes.{Appends, Keeps, WriteAppends};

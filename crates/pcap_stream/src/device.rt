@@ -1,4 +1,7 @@
 //! What each device may do.
+//!
+//! A reader or a writer of std's counts as one call however often a signal interrupts it, up to 16 times; the 17th interruption
+//! is a fault.
 use thiserror::Error;
 
 /// A device failed. It says no more.

@@ -1,4 +1,7 @@
 //! Where octets come from.
+//!
+//! An [`Input`] counts its reads and its failures, and a source proves that its budget falls by just the reads it made: so a
+//! body that gives up its reads isn't proved, and none is given up. Counts go round at 2^64: one more is always another number.
 ghost use Rattle.std.specs.Prelude.{◌≡◌, ◌<◌, ◌≤◌, ◌+◌, ℕ, List, Option, drop, length, take, IfOk, OnErr};
 ghost use Rattle.std.specs.Io.{ReadsAtMost};
 ghost use Rattle.std.specs.Io.KnownBytes.{Consumes, IsAtEnd, Keeps, ReadConsumes};

@@ -1,4 +1,7 @@
 //! Where octets go.
+//!
+//! An [`Output`] counts a write that takes none of some octets as a failure, so that a [`WriteFault`] always shows in that
+//! count.
 ghost use Rattle.std.specs.Prelude.{◌≡◌, ◌≤◌, ◌<◌, ◌+◌, ◌++◌, ℕ, List, Option, length, take, IfOk, OnErr, OnOk};
 ghost use Rattle.std.specs.Io.{WritesAtMost};
 ghost use Rattle.std.specs.Io.KnownBytes.{Appends, Keeps, WriteAppends};

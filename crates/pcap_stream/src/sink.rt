@@ -1,4 +1,6 @@
 //! A capture, written record by record.
+//!
+//! [`Sink::begin`] has no condition: who calls it twice writes two headers.
 ghost use Rattle.std.specs.Prelude.{◌≡◌, ◌≤◌, ◌+◌, ◌++◌, false, is_err, length};
 ghost use Rattle.pcap_io.specs.Record.{last_moment, longest};
 ghost use Rattle.pcap_io.specs.Written.{whole_frame, written_header, written_record};

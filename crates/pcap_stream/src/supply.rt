@@ -1,4 +1,8 @@
 //! An input of which only so many reads may be made.
+//!
+//! How many reads found the end is a `Count` of `work_count`, which contracts see and no octet keeps: a source whose last read
+//! found the end has to tell the end, since its fault `Read` wants that this count stayed. That it counts the reads is a clause
+//! of the one private call that reads.
 ghost use Rattle.std.specs.Prelude.{◌≡◌, ◌≢◌, ◌<◌, ◌≤◌, ◌⊎◌, ◌+◌, ◌*◌, drop, take, length, IfOk, OnErr, OnOk};
 ghost use Rattle.std.specs.Io.KnownBytes.{Consumes, IsAtEnd, Keeps, prepend_known};
 ghost use Rattle.pcap_io.specs.Record.{longest};

@@ -1,4 +1,7 @@
 //! Whole texts to an output.
+//!
+//! An output without a block gets what stands before a record's body (its header, an outer head, addresses and tag, at most 102
+//! octets) in one write and the body in another. Into a block all five are put side by side.
 ghost use Rattle.std.specs.Prelude.{◌≡◌, ◌≤◌, ◌<◌, ◌+◌, ◌^◌, ◌++◌, OnErr, OnOk, length, take};
 ghost use Rattle.std.specs.Io.KnownBytes.{Appends};
 ghost use Rattle.pcap_io.specs.Record.{last_moment, longest};

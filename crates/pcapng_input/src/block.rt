@@ -1,4 +1,7 @@
 //! Blocks.
+//!
+//! Blocks that are read (sections, interfaces, packets) have at most 327,680 octets: those of the longest packet and 65,536 for
+//! the rest, so that a reader piece by piece needs that much room. Blocks of other types have any length.
 ghost use Rattle.std.specs.Prelude.{◌≡◌, ◌≤◌, ◌&&◌, nat_le, nat_lt, ℕ, IsFalse, drop, length};
 ghost use Rattle.pcap_io.specs.Style.{number_of};
 ghost use Rattle.pcapng_input.specs.Block.{NoBlock, block_by_length, end_by_size, is_no_length, is_of_packet, is_read, is_section, longest_block, next_block, order_at, told_order};

@@ -1,4 +1,13 @@
 //! Inputs of captures.
+//!
+//! Two rooms hold what is read ahead and one record, 12 and 24 octets when they are made: these 36 are all that a classic
+//! capture needs. For the first block the first room grows to 65,536 octets, and to what a longer one takes once its length is
+//! known, at most 327,680; that of a record grows to just the longest so far, at most 262,160. A record that doesn't go
+//! straight into the caller's octets is copied out of the block once: its room costs less than a proof of where in the block
+//! its octets lie.
+//!
+//! An input makes at most 2^45 reads over its life, so that the number of a block and its place fit 64 bits whatever its input
+//! tells. At a million reads a second these are a year.
 ghost use Rattle.std.specs.Prelude.{◌≡◌, ◌<◌, ℕ, Option, None, Some, min, length, option_map, IfOk, IfSome};
 ghost use Rattle.std.specs.Io.{ReadsAtMost};
 ghost use Rattle.std.specs.Io.KnownBytes.{ReadConsumes};

@@ -1,4 +1,11 @@
 //! The packet that a text of blocks begins with.
+//!
+//! Whole enhanced packet blocks without options in front of what was read are told where they lie: their records go straight
+//! into the caller's octets, as many as fit, and of a packet that isn't asked for, with options or without, the type, both
+//! lengths and the number of its interface are looked at. Any other block, one with a fault, and a record that doesn't fit, is
+//! taken by itself, once nothing stands in front of it: so a fault is met by the read that tells no more. Nine sources of one
+//! interface each over one file of nine make 59 instructions a block and source of it, where each block gathered and taken by
+//! itself costs 581; a source of all interfaces 237 a packet in place of 959.
 ghost use Rattle.std.specs.Prelude.{◌≡◌, ◌≤◌, length, IfSome};
 ghost use Rattle.pcap_io.specs.Record.{last_moment};
 ghost use Rattle.pcapng_input.specs.Front.{IsEnhanced, IsFrontPacket, bare_packet, body_of};

@@ -1,4 +1,11 @@
 //! What was read of an input and isn't used yet.
+//!
+//! So much is read at once as there is and as goes into the room, and only where the block in front isn't whole there: so it
+//! never waits for octets behind a block that it has. What is left of a block moves to the front of the room first. Where
+//! memory to read ahead is refused, there is room for a block alone.
+//!
+//! Blocks that are read stand whole in the room. A block of another type is read like them where it fits, and else passed over
+//! without room: of it only the second length is looked at.
 ghost use Rattle.std.specs.Prelude.{◌≡◌, ◌≤◌, ◌<◌, ◌+◌, ◌-◌, ℕ, [], drop, length, max, slice_range, take, vec_capacity, IfOk, OnErr, OnOk};
 ghost use Rattle.std.specs.Io.{ReadsAtMost};
 ghost use Rattle.std.specs.Io.KnownBytes.{Consumes, IsAtEnd, Keeps, ReadConsumes};

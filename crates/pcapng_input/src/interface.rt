@@ -1,4 +1,9 @@
 //! Interfaces.
+//!
+//! Where the packets of one interface are asked for, a text is read as pcapng, and a classic capture has the fault NoSection:
+//! it has no interfaces, and to take all its packets would let frames in twice, without a word. An option `if_tsresol` or
+//! `if_tsoffset` that is shorter than its field is ShortBlock, where Wireshark takes the default: moments would be wrong by a
+//! power of ten without a word. Of several options with one code the first counts.
 ghost use Rattle.std.specs.Prelude.{◌≡◌, option_map};
 ghost use Rattle.pcapng_input.specs.Interface.{described, resolution_of, offset_of, selects};
 

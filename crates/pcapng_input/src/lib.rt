@@ -1,10 +1,25 @@
-//! Captures in the pcapng format (draft-ietf-opsawg-pcapng), as Wireshark and its tools write them, read as classic
-//! ones.
+//! Captures in the pcapng format (draft-ietf-opsawg-pcapng), as Wireshark and its tools write them, read as classic ones. What
+//! a packet holds isn't looked at, and no file is opened here.
 //!
-//! [`classic_of`] answers the classic capture (pcap-savefile(5)) whose records are the packets of a pcapng text, in
-//! order: little-endian, in nanoseconds, link type Ethernet. A [`Selection`] takes those of all interfaces or of one.
-//! [`is_pcapng`] tells the two formats apart by their first octets. What a packet holds isn't looked at, and no file is
-//! opened here.
+//! Use first: a [`CaptureInput`] is an input over an input: what it tells is the classic capture (pcap-savefile(5)) whose
+//! records are the packets of a pcapng text, in order, little-endian, in nanoseconds, link type Ethernet; any other text it
+//! tells as it is. [`classic_of`] answers the same of a text in memory. A [`Selection`] takes the packets of all interfaces or
+//! of one, and [`is_pcapng`] tells the formats apart by their first octets.
+//!
+//! Specs to read, in order: `specs/Block`, `specs/BlockText`, `specs/Options`, `specs/Interface`, `specs/Moments`,
+//! `specs/Packet`, `specs/Meaning`, `specs/Reading`, `specs/Classic`; of the input `specs/Adapted`, `specs/Adapter`,
+//! `specs/Stops`.
+//!
+//! Proved: for every text and selection the answer is the classic capture of the definition, or the text's first fault with the
+//! number and the place of its block, unless memory was refused. Its records are the packets in their order, but for those that
+//! aren't selected and those that their flags tell as outbound. The input tells that same capture up to the first fault,
+//! however the octets below it come ([`laws`]).
+//!
+//! Why it is so: pcapng is read as the classic capture of its packets, so that all that is said of captures stays said of
+//! classic ones. A text that ends within a block gives a capture that ends within a record's header, with one octet of it, 0:
+//! what reads classic captures tells the cut. An input of pcapng octets is told as one of classic octets, so a source reads
+//! either. A pcapng text has a section header at least: an empty one, or one of fewer than 12 octets, is NoSection and no empty
+//! capture.
 #![tactic(auto)]
 
 mod adapter;

@@ -1,4 +1,8 @@
 //! What blocks mean.
+//!
+//! Faults of a packet whose interface isn't selected aren't told, but for those of its block and of its interface's number: the
+//! capture of a whole switch may have interfaces that aren't Ethernet. "The packet before" of a simple packet block is the last
+//! one that is taken, in any section.
 ghost use Rattle.std.specs.Prelude.{◌≡◌, ◌≤◌, length, drop, IfOk, IfSome};
 ghost use Rattle.pcap_io.specs.Record.{IsWithinLimits, last_moment, longest};
 ghost use Rattle.pcapng_input.specs.Meaning.{IsMeantWithinLimits, behind_octets, block_meaning, head_in, head_size, interface_in, is_outbound, packet_in, packet_meaning, record_meaning, section_in};

@@ -1,4 +1,10 @@
 //! Packets.
+//!
+//! A packet that its flags tell as outbound is left out, since a port's capture is what came in there: an outbound one would be
+//! learned at the port that it left by. Options of packets are walked as far as their flags, and no fault of theirs is told:
+//! what has no direction that is known is taken, as from captures that tell none. So is a packet whose flags have another
+//! length than four octets, which Wireshark refuses, since the draft gives them no meaning. How many are left out a check
+//! tells, and a run doesn't: what it writes is of the packets that are taken.
 ghost use Rattle.std.specs.Prelude.{◌≡◌, ◌≤◌, length, option_map, IfOk, IfSome};
 ghost use Rattle.pcap_io.specs.Record.{IsWithinLimits, last_moment};
 ghost use Rattle.pcapng_input.specs.Packet.{enhanced_head, is_outbound_by, is_outbound_in, moment_by, obsolete_head, packet_record, selected_record, simple_head, timed_head};

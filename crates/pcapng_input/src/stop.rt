@@ -1,4 +1,8 @@
 //! Why an input of a capture gives nothing.
+//!
+//! A read for which memory is refused fails, as one that the device fails: it takes nothing, and no fault of the text is told.
+//! Where that was room for a block, the next read asks again; where it was for a record or for the description of an interface,
+//! each read behind it fails.
 ghost use Rattle.std.specs.Prelude.{◌≡◌};
 ghost use Rattle.pcapng_input.specs.Stops.{is_of_memory};
 

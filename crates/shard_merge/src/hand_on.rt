@@ -1,5 +1,8 @@
-//! What outputs hold back, handed on between events: the captures first and the lines behind them, so that no line leaves before
-//! the records of its event.
+//! What outputs hold back, handed on between events: the captures first and the lines behind them, so that no line leaves
+//! before the records of its event.
+//!
+//! Where the lines' block has no room for one line more, 4,096 octets, all blocks are handed on, the captures' first, as a run
+//! does (`stream_run`). So a merge that is killed, or a full disk, leaves no line without its records.
 ghost use Rattle.std.specs.Prelude.{ℕ, List};
 ghost use Rattle.std.specs.Io.KnownBytes.{Keeps};
 ghost use Rattle.pcap_stream.specs.Sink.{Drain};

@@ -1,14 +1,23 @@
 //! The outputs of a run's parts put together: files in, files out, over streams.
 //!
-//! A run can be cut into parts, each of which decides the events of some segments and writes their decision lines and
-//! records alone. [`merge_streams`] makes of the parts' outputs those of the whole run: decision lines in order of event
-//! numbers, and of each capture the records in the order that the lines tell. A [`Part`] lends the lines of a part one by
-//! one and holds its [`Capture`]s; a record is copied as it stands there, and nothing is decided again. Each capture of
-//! each part has room for one record, 262,144 octets, and each part's lines have room for one, 4,096 octets: 64 parts of 17
-//! captures take 272 MiB.
+//! Use first: a run can be cut into parts, each of which decides the events of some segments and writes their decision lines
+//! and records alone. [`merge_streams`] makes of the parts' outputs those of the whole run: decision lines in order of event
+//! numbers, and of each capture the records in the order that the lines tell. A [`Part`] lends the lines of a part one by one
+//! and holds its [`Capture`]s; a record is copied as it stands there, and nothing is decided again.
 //!
-//! A record of a part is written as a run writes it, little-endian and in nanoseconds, also where its capture is of another
-//! style; one that holds only a front of its frame is a fault.
+//! Specs to read, in order: `specs/Merged`, `specs/Whole`, `specs/Numbers`, `specs/Coming`, `specs/Left`, `specs/Blame`.
+//!
+//! Proved: where parts hold the lines and records of pieces of a run whose numbers rise, each number in one of them, and lines
+//! of cut captures behind, then, unless a read or a write fails, the outputs get just the texts of all these pieces in order of
+//! their numbers, and those lines, where the numbers are 1, 2 and so on; where one is missing, just the first that is is told.
+//! A device is blamed only where it failed. That any other fault of a part comes only where the part is wrong in this way isn't
+//! proved.
+//!
+//! Why it is so: a whole run numbers its events from 1 on, so a merge tells the first number that no part has. Where the last
+//! events are missing no number tells so; the count in `shard.txt` does. Each capture of each part has room for one record,
+//! 262,144 octets, and each part's lines have room for one, 4,096 octets: 64 parts of 17 captures take 272 MiB. A record is
+//! written as a run writes it, little-endian and in nanoseconds, also where its capture is of another style; one that holds
+//! only a front of its frame is a fault.
 #![tactic(auto)]
 
 mod capture;

@@ -1,4 +1,7 @@
 //! An input that has to be what is told of it.
+//!
+//! A merge's inputs compare by themselves, at their end, and fail there where they are other ones. So no merge ends well over
+//! outputs that it didn't compare; which output it was is looked for in the part that failed alone.
 ghost use Rattle.std.specs.Prelude.{◌≡◌, ◌≢◌, ◌<◌, List, ℕ, [], ◌++◌, false, true, is_err, IfOk, IsTrue, ◌↔◌, length};
 ghost use Rattle.std.specs.Io.{ReadsAtMost};
 ghost use Rattle.std.specs.Io.KnownBytes.{ReadConsumes};

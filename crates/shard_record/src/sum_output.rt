@@ -1,4 +1,6 @@
 //! An output whose octets are summed on the way.
+//!
+//! A whole run's outputs aren't summed: a [`SumOutput`] asks once for each block whether they are.
 ghost use Rattle.std.specs.Prelude.{◌≡◌, List, ℕ, None, [], ◌++◌, IfSome, length};
 ghost use Rattle.std.specs.Io.{WritesAtMost};
 ghost use Rattle.std.specs.Io.KnownBytes.{WriteAppends};

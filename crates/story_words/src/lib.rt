@@ -1,7 +1,11 @@
 //! What stories are made of: words, the values among them, and the front of the decision line with which each ends.
 //!
-//! Each function puts its text behind what stands in a `String` already, or answers a word. `AllocError` says that there was
-//! no room for it.
+//! Use first: each function puts its text behind what stands in a `String` already, or answers a word; [`put_line_front`] puts
+//! the front of a line. `AllocError` says that there was no room for it.
+//!
+//! Specs to read: `specs/Words`.
+//!
+//! Proved: each call appends exactly the stated words or value, and the front of a decision line is that of `decision_lines`.
 #![tactic(auto)]
 
 mod front;

@@ -1,5 +1,10 @@
-//! What outputs hold back, handed on between events: the captures first and the lines behind them, so that no line leaves before
-//! the records of its event.
+//! What outputs hold back, handed on between events: the captures first and the lines behind them, so that no line leaves
+//! before the records of its event.
+//!
+//! The lines' block goes on only behind those of all captures: where it has no room for one line more, 4,096 octets, all blocks
+//! are handed on, the captures' first, behind the event that was taken. So a run that is killed, or a full disk, leaves no line
+//! without its records. It costs one comparison an event. A capture whose own block is full goes on alone, since records
+//! without their line harm nobody.
 ghost use Rattle.std.specs.Prelude.{◌≡◌, ◌≤◌, ◌<◌, ◌+◌, ◌^◌, ℕ, List, Option, IsSome, None, Some, length};
 ghost use Rattle.pcap_io.specs.Record.{last_moment};
 ghost use Rattle.pcap_stream.specs.Sink.{Drain};

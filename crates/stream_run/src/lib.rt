@@ -1,22 +1,26 @@
 //! Runs over streams: captures of any size, in the memory of one record each.
 //!
-//! [`run_streams`] is a whole run. It reads the settings and the changes from their texts, opens the captures, which come
-//! as `pcap_stream` sources from which nothing was read yet, and writes the headers of its outputs. Then it takes the
-//! records of all captures and the changes in order of moment through an endpoint, and writes what comes of each event
-//! before it fetches the next record: records to the captures' sinks, its line to the decisions. The lines of cut captures
-//! come last. Wherever the inputs tell their octets, what it answers and writes is what `capture_run` tells of them, up to
-//! where a read or a write fails or memory is refused. Where it stops at a [`StreamFault`], what was written stands.
+//! Use first: [`run_streams`] is a whole run. It reads both texts, opens the captures, `pcap_stream` sources from which nothing
+//! was read yet, and writes the headers. Then it takes the records and the changes in order of moment through an endpoint, and
+//! writes what comes of each event before it fetches the next record; the lines of cut captures come last. [`run_segments`] is
+//! a part of a run: of what comes to some segments, a [`SegmentSet`](segment_set::SegmentSet), with the numbers and the
+//! decisions of the whole. [`run_read`] is the same where the texts were read before. A [`Watch`] looks on, [`Unwatched`] is
+//! nobody. The parts of a run are [`open_capture`], [`fetch_at`], [`put_events`], [`put_line`] and each source's [`Turn`].
 //!
-//! Whoever looks on, a [`Watch`], is shown each event just before the endpoint takes it, told the answer just behind, and
-//! shown the endpoint at the end of a run that stops at no fault; with [`Unwatched`] nobody looks on. Of an event that isn't
-//! told to the segments of a part it is shown that it is passed over.
+//! Specs to read, in order: `specs/Over` (by the octets of the captures), `specs/Left` (by one list of events), `specs/Stage`,
+//! `specs/Amidst`, `specs/Reached`, `specs/Watched`.
 //!
-//! [`run_segments`] is a part of a run: of what comes to some segments, a [`SegmentSet`](segment_set::SegmentSet), with the
-//! numbers and the decisions of the whole run. [`run_read`] is the same where the texts were read before.
+//! Proved: wherever the inputs tell their octets, Ok comes only where `capture_run`'s `run` tells outputs, and the sinks got
+//! those; a fault of the settings, the changes, the number of captures or a header is `run`'s, and nothing was written; memory
+//! is refused before anything is, or behind the last event that can be numbered; after any other fault all outputs stand at one
+//! number of events, behind a failed write with at most a part of what comes next, of an event its line last. A part answers
+//! the same of what is told of its segments. Whoever looks on is shown the events in order, each as the endpoint finds it.
 //!
-//! [`open_capture`], [`fetch_at`], [`put_events`] and [`put_line`] are its parts. A [`Turn`] says of each source how many
-//! of its events came, and when the next one does. Nothing is made or moved on the way of an event but what a
-//! `decision_lines` desk lends.
+//! Why it is so: settings, changes and the number of captures are looked at before anything is read or written; then all
+//! captures are opened, all headers written, and only then records fetched. So a capture that can't be opened leaves no header
+//! behind, and a fault of the settings no octet. At a record's fault the events in front of it are written already: a run can't
+//! know of it before it reads there, where a run in memory answers the same fault and no captures. On the way of an event
+//! nothing is made or moved but what a `decision_lines` desk lends.
 #![tactic(auto)]
 
 mod begin;

@@ -1,4 +1,7 @@
 //! The opening of a run's captures.
+//!
+//! All are opened, ports rising and then the underlay, before the first record of each is read in the same order: so a capture
+//! that can't be opened is named before a faulty record of an earlier one.
 ghost use Rattle.std.specs.Prelude.{◌≡◌, ◌≤◌, ◌+◌, OnOk, All, length};
 ghost use Rattle.pcap_stream.specs.Source.{New};
 ghost use Rattle.timeline.specs.declared.source.Tap.{Tap as ATap};

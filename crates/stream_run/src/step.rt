@@ -1,4 +1,7 @@
 //! The events of a run, one after another.
+//!
+//! Events are numbered in 64 bits. Behind event 2^64 - 3 the answer is OutOfMemory; at an event a nanosecond that is after 584
+//! years.
 ghost use Rattle.std.specs.Prelude.{◌≡◌, ◌≤◌, ◌<◌, ◌+◌, ◌^◌, OnErr, length};
 ghost use Rattle.endpoint_core.specs.Kept.{state_of};
 ghost use Rattle.stream_run.specs.Stage.{drains};

@@ -1,4 +1,9 @@
 //! Whoever looks on while a run goes.
+//!
+//! A [`Watch`] says by relations what one event makes of it (`sees`), and what the end does (`ends`), since a list of all that
+//! was seen would grow with the captures. A run says that these relations hold one after another, over the events in order,
+//! each with the state that it found and the answer that it got. An event is shown before it is taken and its answer told
+//! behind, so there is a state between (`expects`).
 ghost use Rattle.std.specs.Prelude.{◌≡◌};
 ghost use Rattle.frame_view.specs.First.{fault_of};
 ghost use Rattle.endpoint_core.specs.Course.{CanLeave, IsShortFrame, IsThere, decision_of};

@@ -1,5 +1,15 @@
-//! The law on two endpoints: what one writes, the other reads as the same frame, in the segment of the tunnel's kind and
-//! VNI, from the sender's own address. It stands above `encapsulate`, which writes, and `decapsulate`, which reads.
+//! The law on two endpoints: what one writes, the other reads as the same frame, in the segment of the tunnel's kind and VNI,
+//! from the sender's own address.
+//!
+//! Use first: [`peer`], a function that does nothing; its contract is the law.
+//!
+//! Specs to read: `specs/Peer`, whose conditions say which segment, tunnel and addresses both ends need.
+//!
+//! Proved: what one endpoint sends arrives at its peer as the same frame but for its priority, with the same VNI and sender,
+//! for both kinds of tunnel over both families.
+//!
+//! Why it is so: what arrives and what is sent are two crates, `decapsulate` and `encapsulate`, each with its own definitions.
+//! This law above both ties them.
 #![tactic(auto)]
 
 ghost use Rattle.tunnel_peers.specs.Peer.{PeerGetsTheFrame};

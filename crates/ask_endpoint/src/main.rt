@@ -1,4 +1,11 @@
-//! Asks an endpoint what it does with three frames: the endpoint as a library, with no file and no capture.
+//! Asks an endpoint what it does with three frames: an example of the endpoint as a library, with no file and no capture.
+//!
+//! Use first: `main`, which reads settings, opens an [`Endpoint`] and hands it one frame after another. A crate that does the
+//! same stands on `endpoint_core` and, for settings from text, `overlay_config`.
+//!
+//! It has no specs of its own: what each frame is answered is the contract of [`Endpoint::frame`].
+//!
+//! Proved: it is safe and ends. What it prints isn't proved.
 #![tactic(auto)]
 
 use endpoint_core::{Endpoint, result_text};

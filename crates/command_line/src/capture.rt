@@ -1,4 +1,10 @@
 //! The names of captures.
+//!
+//! An interface stands behind the capture that it is of (`all.pcapng#eth1`), not in an option of its own beside it
+//! (`--interface p1=eth1`): so the two can't disagree on the number of a port, no port can be named twice, and `-u` and
+//! `explain` take it in the same form. It is `#` and not `:`, since names of files have colons more often (moments, IPv6
+//! addresses), and names of interfaces too (`eth0:1`). The last `#` counts, so that each file can still be named: with one `#`
+//! more behind it.
 ghost use Rattle.std.specs.Prelude.{◌≡◌, option_map};
 ghost use Rattle.command_line.specs.Capture.{file_of, interface_of};
 

@@ -1,7 +1,20 @@
 //! The program's command line, read with `clap`: what it asks for, and the values that stand in it.
 //!
-//! [`line_of`] reads all words as a [`Line`], or answers a [`LineFault`]. What a line means is told by `clap`'s own
-//! definition of simple commands. [`capture_name`] tells the file and the interface that a capture's name asks for.
+//! Use first: [`line_of`] reads all words as a [`Line`], or answers a [`LineFault`]. [`capture_name`] tells the file and the
+//! interface that a capture's name asks for.
+//!
+//! Specs to read, in order: `specs/Meaning`, `specs/Capture`, `specs/App`.
+//!
+//! Proved: where `line_of` answers a line, its command and values are those that `clap`'s own definition of simple commands
+//! gives for the words, or where it doesn't take them, those that it gives of a run which may leave its folder out and of which
+//! something is told. Refused, NoValue, InputTwice and NoSegments come only where that definition says so of the words. A line
+//! has no empty name, at most one capture that is standard input, digests for a part alone, and a depth of 1 to 4. A capture's
+//! name is parted at its last `#`.
+//!
+//! Why it is so: the words are read in a crate of their own over `clap`, whose own definition says what they mean. Standard
+//! input is a capture by the name `-`, from where it stands, and not `/dev/stdin` opened anew. The texts of settings and
+//! changes are files whatever their names. That standard input is one capture at most is asked of the words, so its refusal is
+//! part of the contract on them.
 #![tactic(auto)]
 
 mod arguments;

@@ -1,13 +1,19 @@
-//! What the program does for its user, as calls over texts: octets in, octets out.
+//! What the program does for its user, as calls over texts: octets in, octets out. No file is opened here.
 //!
-//! [`sample`] runs the endpoint on a built-in sample. [`check_text`] looks at a settings text and a changes text; in two steps,
-//! [`read_texts`] reads them and [`check_read`] looks at what was read of them.
-//! [`exit_code`] is the exit status of a [`RunFault`](capture_run::RunFault), and [`stream_code`] that of a
-//! [`StreamFault`](stream_run::StreamFault). [`read_text`] reads a whole text from any
-//! input in a bounded number of reads. [`line_of`] reads the program's words. [`explain_bytes`] takes the packets of a
-//! capture apart, with their [`Values`] or without, and [`dissect`] one packet. A [`Failure`] is why the program gives up, for
-//! a run that stopped that of [`failure_of_run`]; [`tap_of`] and [`segments_of`] say what its words name, and [`is_lost`]
-//! whether what it printed was lost. No file is opened here.
+//! Use first: [`check_text`] looks at a settings text and a changes text; in two steps, [`read_texts`] reads them and
+//! [`check_read`] looks at what was read of them. [`stream_code`] is the exit status of a
+//! [`StreamFault`](stream_run::StreamFault), [`failure_of_run`] why the program gives up for it. [`tap_of`] and [`segments_of`]
+//! say what words of its line name.
+//!
+//! Handed on from below: [`sample`], [`line_of`], [`explain_bytes`] with [`Values`], [`dissect`] for one packet, and of
+//! `program_faults` [`Failure`], [`exit_code`], [`read_text`] and [`is_lost`].
+//!
+//! Specs to read, in order: `specs/Check`, `specs/Status`.
+//!
+//! Proved: a look at texts answers the stated line of their numbers, or the first fault, the settings' before the changes',
+//! unless memory was refused; in two steps, what both mean or that fault, and the line of what was read. The exit status of a
+//! fault of a run over streams is the stated one, and such a fault keeps it where the program gives up for it. A list of
+//! segments is asked for as it means, or refused with its fault.
 #![tactic(auto)]
 
 mod check;

@@ -1,4 +1,15 @@
 //! Parts of a run, in their folders, made the whole run again.
+//!
+//! Use first: [`merge`] puts the parts in some folders together and writes the whole run into another; it answers the
+//! [`MergedTexts`], as far as [`TextsAsked`] asks for them. What it does over streams stands in `shard_merge`, and of tables
+//! and counts in `part_tables` and `part_counts`.
+//!
+//! It has no specs of its own.
+//!
+//! Proved: each function is safe and ends. A merge has 16 ports at most. What a file, a pipe or a terminal holds isn't proved.
+//!
+//! Why it is so: a merge prints tables and counts, and writes none, as a whole run does: the folder of a merge and that of the
+//! run are the same. It takes no `--tables-at`: a moment would have to be the same in all parts, which no file tells.
 #![tactic(auto)]
 
 mod looking;

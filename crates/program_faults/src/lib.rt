@@ -1,10 +1,18 @@
-//! Why the program gives up, and with which exit status.
+//! Why the program gives up, and with which exit status. No file is opened here.
 //!
-//! A [`Failure`] prints as one line, [`Failure::status`] is its exit status, and [`exit_code`] that of a
-//! [`RunFault`](capture_run::RunFault). [`OutputFile`] has the names of what is written, a [`SystemFault`] is why the system
-//! refused a file, and [`OneLine`] prints a name on one line. [`read_text`] reads a whole text from
-//! any input in a bounded number of reads, or answers a [`TextFault`], and [`is_lost`] says whether what was printed was lost.
-//! No file is opened here.
+//! Use first: a [`Failure`] prints as one line, [`Failure::status`] is its exit status, and [`exit_code`] that of a
+//! [`RunFault`](capture_run::RunFault). [`read_text`] reads a whole text from any input in a bounded number of reads, or
+//! answers a [`TextFault`]. [`OutputFile`] has the names of what is written, a [`SystemFault`] is why the system refused a
+//! file, [`OneLine`] prints a name on one line, and [`is_lost`] says whether what was printed was lost.
+//!
+//! Specs to read, in order: `specs/Status`, `specs/Text`.
+//!
+//! Proved: exit statuses are the stated ones; a text that wasn't read and a part that is wrong are told as such, and a
+//! `SystemFault` has the number that the system told. For every input, a text read is all that it tells it had left, in at most
+//! so many reads; Read is answered only where a read failed or all reads were made.
+//!
+//! Why it is so: this stands below the runs over streams and not in `dissector` above them, so the crate that opens files waits
+//! neither for `stream_run` nor for `dissector` to be proved.
 #![tactic(auto)]
 
 mod failure;

@@ -1,4 +1,7 @@
 //! Whether a text came to standard output.
+//!
+//! A reader of standard output that goes away has had enough: no fault. Where that of an output file goes away, as of a FIFO,
+//! it is one.
 ghost use Rattle.std.specs.Prelude.{◌≡◌, ◌≢◌, IfErr, OnOk, true, false};
 ghost use Rattle.std.specs.IoError.{error_kind};
 ghost use Rattle.std.specs.declared.io.ErrorKind.TheVariants.{BrokenPipe};

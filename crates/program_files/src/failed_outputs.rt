@@ -1,4 +1,6 @@
 //! Outputs that couldn't be written.
+//!
+//! Each of them is told, since the next thing to ask is which of them are whole.
 use arrayvec::ArrayVec;
 use program_faults::{Failure, OutputFile, SystemFault};
 

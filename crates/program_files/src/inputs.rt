@@ -1,4 +1,8 @@
 //! What the program reads: files, and standard input.
+//!
+//! Below a source stands std's buffered reader of 32 KiB, for the first octets, which tell the format: behind them more is
+//! asked for at once, and goes past it. An interface's name of digits is a number, as in Wireshark's tools: so an interface
+//! whose name is digits is taken by its number.
 ghost use Rattle.std.specs.Prelude.{◌≡◌, ◌<◌, ◌^◌, All, IfOk, length};
 ghost use Rattle.pcap_stream.specs.Source.{New, Stream, most_left};
 

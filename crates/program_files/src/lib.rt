@@ -1,5 +1,18 @@
 //! What the program reads and writes: the texts and captures of a run, the files that it leaves, the files of a part, and what
 //! is printed. Which of them a run takes, and what comes out of it, stands above.
+//!
+//! Use first: [`open_captures`] opens the captures that [`Names`] have, and [`open_outputs`] a run's files in a folder, which
+//! are emptied by [`Opened::emptied`] and end as [`HandedOn`]. [`read_file`] reads a text, and [`print_text`] prints one.
+//!
+//! It has no specs of its own: its contracts count captures and outputs.
+//!
+//! Proved: each function is safe and ends. A capture that was opened is unread, and as many are opened as have names; as many
+//! outputs are opened, and emptied, as there are ports. Outputs are finished only where as many as there were hold nothing
+//! back. What a file, a pipe or a terminal holds isn't proved.
+//!
+//! Why it is so: the program's work on files stands here, in `runs_on_files`, `merge_on_files` and `tep_program`, and
+//! `dissector` knows octets alone. What a file holds no contract can say, so these four say how many captures and outputs there
+//! are, what statuses come, and that each call is safe and ends.
 #![tactic(auto)]
 
 mod failed_outputs;

@@ -1,4 +1,7 @@
 //! The names of what a run reads, and which files they are.
+//!
+//! Whether an output is one of the files that are read is told by device and inode, so that another name or a link is found
+//! too. Devices are left out: to write into `/dev/null` takes nothing from who reads it.
 use command_line::{STANDARD_INPUT, capture_name};
 use std::fmt;
 use std::fs::{self, Metadata};

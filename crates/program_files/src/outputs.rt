@@ -1,4 +1,7 @@
 //! The files that a run writes.
+//!
+//! All are opened before the first is emptied. Where the folder doesn't exist the first of them can't be written: status 3, and
+//! nothing else stands on disk.
 ghost use Rattle.std.specs.Prelude.{◌≡◌, IfOk, length};
 
 use crate::names::Names;

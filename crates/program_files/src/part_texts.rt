@@ -1,4 +1,10 @@
 //! What a part of a run leaves of what it told: its tables at the end, and its counts.
+//!
+//! A part leaves them in its folder besides printing them, so that a merge needs no more than the folders, and nobody has to
+//! keep what was printed apart from what was written. They are written before `shard.txt`: a merge takes no part that lacks
+//! that. A run of a part removes what an earlier one left of them, since a summary of other captures couldn't be told from its
+//! own. A whole run and a merge remove them and `shard.txt` too, before an output changes, since the outputs of another run
+//! would pass for the part's. Only the file that standard output is stays, for who keeps what is printed beside the outputs.
 use crate::names::is_same;
 use crate::outputs::path_of;
 use program_faults::{Failure, OutputFile};

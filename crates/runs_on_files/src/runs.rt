@@ -1,4 +1,7 @@
 //! Runs over captures, in files and pipes.
+//!
+//! Outputs are written in blocks of 64 KiB, and only where all captures are regular files does a block hold anything back: with
+//! a pipe among them, what came of an event has to be out before the next read, which may wait.
 ghost use Rattle.std.specs.Prelude.{◌≡◌, [], All, Ok, IfOk, IfSome, length};
 ghost use Rattle.overlay_config.specs.Change.{IsRising, changes_in};
 ghost use Rattle.overlay_config.specs.Settings.{settings_in};

@@ -1,4 +1,7 @@
 //! A look at what a run is to read, before it does.
+//!
+//! Each capture is looked at to its end before a fault of the next is told, so that one call tells of all; it ends with the
+//! first fault in the order of its lines.
 use crate::interfaces::missing_interface;
 use crate::swapped::swapped_lines;
 use capture_run::RunFault;

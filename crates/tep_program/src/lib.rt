@@ -1,8 +1,18 @@
-//! The program `tep` from its words to its texts and exit status. What it works out stands in the library `dissector` and in
-//! `stream_run`, its files and its runs and merges on them in `program_files`, `runs_on_files` and `merge_on_files`; here are
-//! its words, its look at what a run is to read, and its exit statuses.
+//! The program `tep` from its words to its texts and exit status: its words, its look at what a run is to read, and its exit
+//! statuses. What it works out stands in the library `dissector` and in `stream_run`, its files and its runs and merges on them
+//! in `program_files`, `runs_on_files` and `merge_on_files`.
 //!
-//! [`start`] gets the words of the process; [`run`] is handed them.
+//! Use first: [`start`] gets the words of the process; [`run`] is handed them.
+//!
+//! Specs to read: `specs/Status`.
+//!
+//! Proved: each function is safe and ends. The exit status is 0, 1, 2 or 3: 0 only for words that are taken or that ask for
+//! help or the version, 1 only for words that are taken, 2 only for words that `clap`'s definition takes neither as the
+//! program's nor as a run's of which something is told, that lack a value, ask for standard input more than once, lend digests
+//! to a run that is no part, or name an event as none can be named. What a file, a pipe or a terminal holds isn't proved.
+//!
+//! Why it is so: what a file holds no contract can say, so this one says which statuses come. A word of the command line that
+//! isn't text is refused as `words`, status 2; so is one that `clap` refuses, also where standard error can't be written.
 #![tactic(auto)]
 
 mod causes;

@@ -1,8 +1,13 @@
 //! Tests of what a learning bridge knows, and of its steps: tables, and forwarding. A module for each crate, over its public
-//! names. Ports and their segments, and flood lists, are in rows of `tests/rows.sh`.
+//! names. There is nothing here but tests, and nothing stands on this crate.
 //!
-//! What is expected was worked out by hand from IEEE 802.1Q, 6.9 and 8.6 to 8.8, never taken from a run. There is nothing
-//! here but tests, and nothing stands on this crate.
+//! Read first: `filter_db_tests`, calls of the tables of two segments and what both bodies of their trait answer.
+//! `shared_tables_tests` has 10,000 calls alike on both, and `pool_tests` a segment that comes and goes a thousand times, alike
+//! to a fresh one, while others learn.
+//!
+//! What is expected was worked out by hand from IEEE 802.1Q, 6.9 and 8.6 to 8.8, never taken from a run.
+//!
+//! Ports and their segments, and flood lists, are in rows of `tests/rows.sh`, since those need no proof.
 #![tactic(auto)]
 
 #[cfg(test)]

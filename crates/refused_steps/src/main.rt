@@ -1,10 +1,15 @@
-//! Takes thousands of steps at an open endpoint after so many requests for memory, and prints `done` where it answered as
-//! its twin, which took the same steps before, and else `wrong`; and how many requests were granted from then on. Standard
-//! input has the word `steps`, or `none` for no step, and the number of requests.
+//! Takes thousands of steps at an open endpoint after so many requests for memory, and prints `done` where it answered as its
+//! twin, which took the same steps before, and else `wrong`; and how many requests were granted from then on. Standard input
+//! has the word `steps`, or `none` for no step, and the number of requests.
 //!
-//! `tests/refused_steps.sh` runs it while the request of a fixed number is refused, and has that number be the next one
-//! when the endpoint's steps begin. Where none is granted behind the steps, that one wasn't made in them: no step asked for
-//! memory.
+//! Read first: `steps`, steps of every kind. `tests/refused_steps.sh` runs the program while the request of a fixed number is
+//! refused, and has that number be the next one when the endpoint's steps begin. Where none is granted behind the steps, that
+//! one wasn't made in them: no step asked for memory.
+//!
+//! Proved: it is safe and ends.
+//!
+//! Why it is so: that no step takes memory is tested and not proved. A contract could say it only of capacities, which the
+//! views of the crates' types don't have.
 #![tactic(auto)]
 
 mod events;

@@ -1,9 +1,13 @@
-//! What tests are made on: settings, captures and octets, each standing once.
+//! What tests are made on: settings, captures, octets and devices over memory, each standing once.
 //!
-//! [`settings`] has the settings of an endpoint, of its peer and of a learning bridge alone, and [`capture_texts`]
+//! Use first: [`settings`] has the settings of an endpoint, of its peer and of a learning bridge alone, and [`capture_texts`]
 //! captures octet for octet. [`Captures`] puts captures together from lines, with [`octets_of`] for the words in them.
-//! [`Pieces`] gives a text a few octets at a time, [`GoingOn`] goes on behind an input, and [`Room`] takes a few octets at
-//! a time. [`memory`] asks for memory. Tests alone, and programs that are tests, stand on this crate.
+//! [`Pieces`] gives a text a few octets at a time, [`GoingOn`] goes on behind an input, and [`Room`] takes a few octets at a
+//! time. [`memory`] asks for memory.
+//!
+//! It has no specs of its own, and of it nothing is promised.
+//!
+//! Why it is so: several crates of tests use the same inputs. Tests alone, and programs that are tests, stand on this crate.
 #![tactic(auto)]
 
 pub mod capture_texts;

@@ -1,19 +1,21 @@
-//! Tests of the crates that know headers: checksums, frames, addresses, IP, UDP and the headers of tunnels. A module for
-//! each crate, over its public names.
+//! Tests of the crates that know headers: checksums, frames, addresses, IP, UDP and the headers of tunnels. A module for each
+//! crate, over its public names. There is nothing here but tests, and nothing stands on this crate.
 //!
-//! What is expected comes from the standards and from worked examples, never from a run. There is nothing here but tests,
-//! and nothing stands on this crate. Where the fields of a header begin, in octets:
+//! What is expected comes from the standards and from worked examples, never from a run. Where the fields of a header begin, in
+//! octets:
 //!
-//! | Header | Fields |
-//! |---|---|
-//! | Ethernet (IEEE 802.3, 3.2) | 0 destination, 6 source, 12 type: 0800 IPv4, 0806 ARP, 86DD IPv6 |
-//! | tag (IEEE 802.1Q, 9.6), before the type | 0 type: 8100, or 88A8 a service tag; 2 control information: priority 3 bits, drop eligible 1 bit, VID 12 bits |
-//! | IPv4 (RFC 791, 3.1) | 0 version and length in words, 1 service, 2 total length, 4 identification, 6 flags and fragment offset, 8 time to live, 9 protocol: 17 UDP, 10 checksum, 12 source, 16 destination, 20 options |
-//! | IPv6 (RFC 8200, 3) | 0 version, class and flow label, 4 payload length, 6 next header: 17 UDP, 7 hop limit, 8 source, 24 destination |
-//! | UDP (RFC 768) | 0 source port, 2 destination port: 4789 VXLAN, 6081 Geneve; 4 length, 6 checksum |
-//! | VXLAN (RFC 7348, 5) | 0 flags: 08 a VNI, 1 reserved, 4 VNI, 7 reserved |
-//! | Geneve (RFC 8926, 3.4) | 0 version 2 bits, and length of the options in words; 1 flags: 80 control, 40 critical options; 2 protocol: 6558 Ethernet, 4 VNI, 7 reserved, 8 options |
-//! | option of Geneve (RFC 8926, 3.5) | 0 class, 2 type: 80 and above critical, 3 length of the body in words, 4 body |
+//! - Ethernet (IEEE 802.3, 3.2): 0 destination, 6 source, 12 type: 0800 IPv4, 0806 ARP, 86DD IPv6.
+//! - Tag (IEEE 802.1Q, 9.6), before the type: 0 type: 8100, or 88A8 a service tag; 2 control information: priority 3 bits, drop
+//!   eligible 1 bit, VID 12 bits.
+//! - IPv4 (RFC 791, 3.1): 0 version and length in words, 1 service, 2 total length, 4 identification, 6 flags and fragment
+//!   offset, 8 time to live, 9 protocol: 17 UDP, 10 checksum, 12 source, 16 destination, 20 options.
+//! - IPv6 (RFC 8200, 3): 0 version, class and flow label, 4 payload length, 6 next header: 17 UDP, 7 hop limit, 8 source, 24
+//!   destination.
+//! - UDP (RFC 768): 0 source port, 2 destination port: 4789 VXLAN, 6081 Geneve; 4 length, 6 checksum.
+//! - VXLAN (RFC 7348, 5): 0 flags: 08 a VNI, 1 reserved, 4 VNI, 7 reserved.
+//! - Geneve (RFC 8926, 3.4): 0 version 2 bits, and length of the options in words; 1 flags: 80 control, 40 critical options; 2
+//!   protocol: 6558 Ethernet, 4 VNI, 7 reserved, 8 options.
+//! - Option of Geneve (RFC 8926, 3.5): 0 class, 2 type: 80 and above critical, 3 length of the body in words, 4 body.
 #![tactic(auto)]
 
 #[cfg(test)]

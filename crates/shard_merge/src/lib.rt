@@ -5,7 +5,8 @@
 //! numbers, and of each capture the records in the order that the lines tell. A [`Part`] lends the lines of a part one by one
 //! and holds its [`Capture`]s; a record is copied as it stands there, and nothing is decided again.
 //!
-//! Specs to read, in order: `specs/Merged`, `specs/Whole`, `specs/Numbers`, `specs/Coming`, `specs/Left`, `specs/Blame`.
+//! Specs to read, in order: `specs/Merged`, `specs/Whole`, `specs/Numbers`, `specs/Coming`, `specs/Left`, `specs/Blame`; the
+//! others serve the contracts of its parts.
 //!
 //! Proved: where parts hold the lines and records of pieces of a run whose numbers rise, each number in one of them, and lines
 //! of cut captures behind, then, unless a read or a write fails, the outputs get just the texts of all these pieces in order of

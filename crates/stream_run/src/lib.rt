@@ -4,11 +4,11 @@
 //! was read yet, and writes the headers. Then it takes the records and the changes in order of moment through an endpoint, and
 //! writes what comes of each event before it fetches the next record; the lines of cut captures come last. [`run_segments`] is
 //! a part of a run: of what comes to some segments, a [`SegmentSet`](segment_set::SegmentSet), with the numbers and the
-//! decisions of the whole. [`run_read`] is the same where the texts were read before. A [`Watch`] looks on, [`Unwatched`] is
-//! nobody. The parts of a run are [`open_capture`], [`fetch_at`], [`put_events`], [`put_line`] and each source's [`Turn`].
+//! decisions of the whole. [`run_read`] is the same where the texts were read before. A [`Watch`] looks on; with [`Unwatched`]
+//! nobody does. The parts of a run are [`open_capture`], [`fetch_at`], [`put_events`], [`put_line`] and each source's [`Turn`].
 //!
 //! Specs to read, in order: `specs/Over` (by the octets of the captures), `specs/Left` (by one list of events), `specs/Stage`,
-//! `specs/Amidst`, `specs/Reached`, `specs/Watched`.
+//! `specs/Amidst`, `specs/Reached`, `specs/Watched`; the others serve the contracts of its parts.
 //!
 //! Proved: wherever the inputs tell their octets, Ok comes only where `capture_run`'s `run` tells outputs, and the sinks got
 //! those; a fault of the settings, the changes, the number of captures or a header is `run`'s, and nothing was written; memory

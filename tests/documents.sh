@@ -56,7 +56,7 @@ runs() {
     done
 }
 
-for document in README.md docs/OPERATING.md docs/RECIPES.md examples/README.md; do
+for document in README.md docs/TOUR.md docs/OPERATING.md docs/RECIPES.md examples/README.md; do
     mkdir "$folder/place"
     ln -s "$top/tep" "$top/examples" "$folder/place"
     cd "$folder/place" || exit 1
@@ -88,6 +88,19 @@ for document in docs/ARCHITECTURE.md docs/PROVED.md; do
         grep -qF "\`$crate\`" "$folder/rows" || complain "$document has no row on $crate"
     done < <(awk -F '[ :]' '/^[a-z]/ { print $1 }' crates.txt)
 done
+
+# Each function, type and definition that these pages name in a row stands in the file beside it, which is one below crates/.
+while IFS='|' read -r _ _ names place _; do
+    place=${place//[\` ]/}
+    case $place in
+        */src/*.rt) file=crates/$place words='(fn|struct|enum|trait|type)' ;;
+        */specs/*) file=crates/$place.antt words='pub( record| data)?' ;;
+        *) continue ;;
+    esac
+    for name in ${names//[\`,]/}; do
+        grep -qsE "\b$words $name\b" "$file" || complain "a document says that $name stands in $file"
+    done
+done < <(grep -h '^|' docs/ARCHITECTURE.md docs/GLOSSARY.md)
 
 # The definitions that the headline is made of are those that its page lists.
 python3 tests/headline.py >"$folder/headline" || complain "tests/headline.py fails"

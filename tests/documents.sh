@@ -90,6 +90,7 @@ for document in docs/ARCHITECTURE.md docs/PROVED.md; do
 done
 
 # Each function, type and definition that these pages name in a row stands in the file beside it, which is one below crates/.
+count=0
 while IFS='|' read -r _ _ names place _; do
     place=${place//[\` ]/}
     case $place in
@@ -98,9 +99,11 @@ while IFS='|' read -r _ _ names place _; do
         *) continue ;;
     esac
     for name in ${names//[\`,]/}; do
+        count=$((count + 1))
         grep -qsE "\b$words $name\b" "$file" || complain "a document says that $name stands in $file"
     done
 done < <(grep -h '^|' docs/ARCHITECTURE.md docs/GLOSSARY.md)
+[ "$count" -gt 0 ] || complain "no document names a function with its file"
 
 # The definitions that the headline is made of are those that its page lists.
 python3 tests/headline.py >"$folder/headline" || complain "tests/headline.py fails"

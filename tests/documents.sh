@@ -81,13 +81,14 @@ for document in README.md docs/TOUR.md docs/OPERATING.md docs/RECIPES.md example
     rm -rf "$folder/place"
 done
 
-# Each crate has its row in the pages that list them.
-for document in docs/ARCHITECTURE.md docs/PROVED.md; do
-    grep '^|' "$document" | cut -d '|' -f 2 >"$folder/rows"
-    while read -r crate; do
-        grep -qF "\`$crate\`" "$folder/rows" || complain "$document has no row on $crate"
-    done < <(awk -F '[ :]' '/^[a-z]/ { print $1 }' crates.txt)
-done
+# Each crate has its row in docs/ARCHITECTURE.md, and its heading in docs/PROVED.md, where one may name several.
+awk -F '[ :]' '/^[a-z]/ { print $1 }' crates.txt >"$folder/crates"
+grep '^|' docs/ARCHITECTURE.md | cut -d '|' -f 2 >"$folder/rows"
+while read -r crate; do
+    grep -qF "\`$crate\`" "$folder/rows" || complain "docs/ARCHITECTURE.md has no row on $crate"
+done <"$folder/crates"
+diff "$folder/crates" <(sed -n 's/^## //p' docs/PROVED.md | tr ',' '\n' | tr -d ' ') >&2 ||
+    complain "docs/PROVED.md's headings don't name the crates of crates.txt in their order"
 
 # Each function, type and definition that these pages name in a row stands in the file beside it, which is one below crates/.
 count=0

@@ -155,7 +155,8 @@ fn widen(rows: &mut Vec<Row>, place: usize)
     requires short { length rows.old.items ≤ place }
     requires room { place < vec_capacity rows.old }
     ensures there { place < length rows.new.items }
-    ensures same { (vid k : ℕ) → slice_index_or (slice_index_or rows.new.items vid []) k 0 ≡ slice_index_or (slice_index_or rows.old.items vid []) k 0 }
+    ensures same { (vid k : ℕ) → slice_index_or (slice_index_or rows.new.items vid []) k 0
+        ≡ slice_index_or (slice_index_or rows.old.items vid []) k 0 }
     ensures capacity { vec_capacity rows.new ≡ vec_capacity rows.old }
 {
     for _row in rows.len()..place + 1 {

@@ -64,7 +64,8 @@ fn forward(
     requires there { IsSome (segment_at (settings_of state.old) came.old.vid) }
     requires short { length came.old.frame.body ≤ 65549 }
     requires reached { is_reached (settings_of state.old).overlay came.old.vid came.old.from ≡ true }
-    ensures decision { decision_of (settings_of state.new) (course_of result came.old) places.new.items ≡ decided_in now (state_at now state.old) came.old }
+    ensures decision { decision_of (settings_of state.new) (course_of result came.old) places.new.items
+        ≡ decided_in now (state_at now state.old) came.old }
     ensures after { state_at now state.new ≡ after_frame now came.old.vid came.old.from came.old.frame (state_at now state.old) }
     ensures there { IsThere (settings_of state.new) (course_of result came.old) }
     ensures leave { CanLeave (settings_of state.new) (course_of result came.old) places.new.items }

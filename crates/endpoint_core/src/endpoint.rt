@@ -126,7 +126,8 @@ impl Endpoint {
         requires moment { (state_of self.old).moment ≤ now }
         requires low { 1 ≤ port }
         requires high { port ≤ length (state_of self.old).bridges.settings.ports.ports }
-        ensures answer { Decided (decision_of (state_of self.new).bridges.settings result places.new.items) ≡ answer (state_of self.old) (frame_at now port original octets.now) }
+        ensures answer { Decided (decision_of (state_of self.new).bridges.settings result places.new.items)
+            ≡ answer (state_of self.old) (frame_at now port original octets.now) }
         ensures after { state_of self.new ≡ after (state_of self.old) (frame_at now port original octets.now) }
         ensures there { IsThere (state_of self.new).bridges.settings result }
         ensures short { IsShortFrame result }
@@ -150,7 +151,8 @@ impl Endpoint {
         places: &mut Outlets,
     ) -> Course<'a>
         requires { (state_of self.old).moment ≤ now }
-        ensures answer { Decided (decision_of (state_of self.new).bridges.settings result places.new.items) ≡ answer (state_of self.old) (packet_at now original octets.now) }
+        ensures answer { Decided (decision_of (state_of self.new).bridges.settings result places.new.items)
+            ≡ answer (state_of self.old) (packet_at now original octets.now) }
         ensures after { state_of self.new ≡ after (state_of self.old) (packet_at now original octets.now) }
         ensures there { IsThere (state_of self.new).bridges.settings result }
         ensures short { IsShortFrame result }
@@ -173,7 +175,8 @@ impl Endpoint {
         requires there { IfOk course.old (λ x. IsSome (segment_at (state_of self.old).bridges.settings x.vid)) }
         requires short { IfOk course.old (λ x. length x.frame.body ≤ 65549) }
         requires reached { IfOk course.old (λ x. is_reached (state_of self.old).bridges.settings.overlay x.vid x.from ≡ true) }
-        ensures answer { decision_of (state_of self.new).bridges.settings course.new places.new.items ≡ decided now (aged now (state_of self.old).bridges) course.old }
+        ensures answer { decision_of (state_of self.new).bridges.settings course.new places.new.items
+            ≡ decided now (aged now (state_of self.old).bridges) course.old }
         ensures after { state_of self.new ≡ after_coming now course.old (state_of self.old) }
         ensures there { IsThere (state_of self.new).bridges.settings course.new }
         ensures short { IsShortFrame course.new }
@@ -255,7 +258,8 @@ impl Endpoint {
     pub fn tag_at(&self, came: &Came, port: u8) -> Option<[u8; 4]>
         requires { IsTrue (can_leave (state_of self.now).bridges.settings came.now.vid (Local port)) }
         ensures { let f = came.now.frame in
-            Ok ((f.dst ++ f.src) ++ (unwrap_or result [] ++ f.body)) ≡ (sent_at (state_of self.now).bridges.settings came.now.vid f (Local port)).sent }
+            Ok ((f.dst ++ f.src) ++ (unwrap_or result [] ++ f.body))
+            ≡ (sent_at (state_of self.now).bridges.settings came.now.vid f (Local port)).sent }
     {
         tag_in(&self.state, came.vid, &came.frame, port)
     }

@@ -21,7 +21,8 @@ impl<T: Tables> Parts<T> {
     ) -> Result<(), ChangeFault>
         requires sound { IsSound T.segments self.old }
         ensures fault { (t : ℕ) → fault_of result ≡ fault (state_of T.segments T.pool t self.old) (AddFlood vid addr tunnel) }
-        ensures after { (t : ℕ) → state_of T.segments T.pool t self.new ≡ after_change t (AddFlood vid addr tunnel) (state_of T.segments T.pool t self.old) }
+        ensures after { (t : ℕ) → state_of T.segments T.pool t self.new
+            ≡ after_change t (AddFlood vid addr tunnel) (state_of T.segments T.pool t self.old) }
         ensures sound { IsSound T.segments self.new }
         ensures moment { T.moment self.new.tables ≡ T.moment self.old.tables }
     {
@@ -41,7 +42,8 @@ impl<T: Tables> Parts<T> {
         requires sound { IsSound T.segments self.old }
         requires time { T.moment self.old.tables ≤ now }
         ensures fault { fault_of result ≡ fault (state_of T.segments T.pool now self.old) (RemoveFlood vid addr tunnel) }
-        ensures after { state_of T.segments T.pool now self.new ≡ after_change now (RemoveFlood vid addr tunnel) (state_of T.segments T.pool now self.old) }
+        ensures after { state_of T.segments T.pool now self.new
+            ≡ after_change now (RemoveFlood vid addr tunnel) (state_of T.segments T.pool now self.old) }
         ensures sound { IsSound T.segments self.new }
         ensures time { T.moment self.new.tables ≤ now }
     {

@@ -32,7 +32,8 @@ impl<T: Tables> Parts<T> {
         requires sound { IsSound T.segments self.old }
         requires time { T.moment self.old.tables ≤ now }
         ensures fault { fault_of result ≡ fault (state_of T.segments T.pool now self.old) (SetMember vid port egress) }
-        ensures after { state_of T.segments T.pool now self.new ≡ after_change now (SetMember vid port egress) (state_of T.segments T.pool now self.old) }
+        ensures after { state_of T.segments T.pool now self.new
+            ≡ after_change now (SetMember vid port egress) (state_of T.segments T.pool now self.old) }
         ensures sound { IsSound T.segments self.new }
         ensures time { T.moment self.new.tables ≤ now }
     {
@@ -49,7 +50,8 @@ impl<T: Tables> Parts<T> {
     pub(crate) fn port_up(&mut self, port: u8) -> Result<(), ChangeFault>
         requires sound { IsSound T.segments self.old }
         ensures fault { (t : ℕ) → fault_of result ≡ fault (state_of T.segments T.pool t self.old) (PortUp port) }
-        ensures after { (t : ℕ) → state_of T.segments T.pool t self.new ≡ after_change t (PortUp port) (state_of T.segments T.pool t self.old) }
+        ensures after { (t : ℕ) → state_of T.segments T.pool t self.new
+            ≡ after_change t (PortUp port) (state_of T.segments T.pool t self.old) }
         ensures sound { IsSound T.segments self.new }
         ensures moment { T.moment self.new.tables ≡ T.moment self.old.tables }
     {
@@ -63,7 +65,8 @@ impl<T: Tables> Parts<T> {
         requires sound { IsSound T.segments self.old }
         requires time { T.moment self.old.tables ≤ now }
         ensures fault { fault_of result ≡ fault (state_of T.segments T.pool now self.old) (PortDown port) }
-        ensures after { state_of T.segments T.pool now self.new ≡ after_change now (PortDown port) (state_of T.segments T.pool now self.old) }
+        ensures after { state_of T.segments T.pool now self.new
+            ≡ after_change now (PortDown port) (state_of T.segments T.pool now self.old) }
         ensures sound { IsSound T.segments self.new }
         ensures time { T.moment self.new.tables ≤ now }
     {
@@ -78,7 +81,8 @@ impl<T: Tables> Parts<T> {
 fn flush_everywhere<T: Tables>(tables: &mut T, place: Place, now: u64)
     requires vids { (vid : ℕ) → is_some (T.segments tables.old vid) ≡ true → (1 ≤ vid) × (vid ≤ 4094) }
     requires time { T.moment tables.old ≤ now }
-    ensures after { (vid : ℕ) → aged_all now (T.segments tables.new) vid ≡ option_map (flush_place_in place) (aged_all now (T.segments tables.old) vid) }
+    ensures after { (vid : ℕ) → aged_all now (T.segments tables.new) vid
+        ≡ option_map (flush_place_in place) (aged_all now (T.segments tables.old) vid) }
     ensures reached { StaysReached (T.segments tables.old) (T.segments tables.new) }
     ensures pool { T.pool tables.new ≡ T.pool tables.old }
     ensures time { T.moment tables.new ≤ now }

@@ -121,7 +121,8 @@ impl<T: PoolTables> Parts<T> {
         requires sound { IsSound T.segments self.old }
         requires time { T.moment self.old.tables ≤ now }
         ensures fault { fault_of result ≡ fault (state_of T.segments T.pool now self.old) (AddSegment new) }
-        ensures after { state_of T.segments T.pool now self.new ≡ after_change now (AddSegment new) (state_of T.segments T.pool now self.old) }
+        ensures after { state_of T.segments T.pool now self.new
+            ≡ after_change now (AddSegment new) (state_of T.segments T.pool now self.old) }
         ensures sound { IsSound T.segments self.new }
         ensures time { T.moment self.new.tables ≤ now }
     {
@@ -158,7 +159,8 @@ impl<T: PoolTables> Parts<T> {
         requires sound { IsSound T.segments self.old }
         requires time { T.moment self.old.tables ≤ now }
         ensures fault { fault_of result ≡ fault (state_of T.segments T.pool now self.old) (RemoveSegment vid) }
-        ensures after { state_of T.segments T.pool now self.new ≡ after_change now (RemoveSegment vid) (state_of T.segments T.pool now self.old) }
+        ensures after { state_of T.segments T.pool now self.new
+            ≡ after_change now (RemoveSegment vid) (state_of T.segments T.pool now self.old) }
         ensures sound { IsSound T.segments self.new }
         ensures time { T.moment self.new.tables ≤ now }
     {
@@ -175,7 +177,8 @@ impl<T: PoolTables> Parts<T> {
         ensures fault { fault_of result ≡ refused (settings_of T.segments T.pool self.now) (SetLimit vid limit) }
         ensures there { IfOk result (λ done. IsSome (T.segments self.now.tables vid)) }
         ensures limit { IfOk result (λ done. (1 ≤ limit) × (limit ≤ 8192)) }
-        ensures room { IfOk result (λ done. sum_of_limits (T.segments self.now.tables) + limit ≤ T.pool self.now.tables + (table_of vid (T.segments self.now.tables)).limit) }
+        ensures room { IfOk result (λ done. sum_of_limits (T.segments self.now.tables) + limit
+            ≤ T.pool self.now.tables + (table_of vid (T.segments self.now.tables)).limit) }
     {
         self.check_segment(vid)?;
         if !is_limit(limit) {
@@ -193,7 +196,8 @@ impl<T: PoolTables> Parts<T> {
         requires sound { IsSound T.segments self.old }
         requires time { T.moment self.old.tables ≤ now }
         ensures fault { fault_of result ≡ fault (state_of T.segments T.pool now self.old) (SetLimit vid limit) }
-        ensures after { state_of T.segments T.pool now self.new ≡ after_change now (SetLimit vid limit) (state_of T.segments T.pool now self.old) }
+        ensures after { state_of T.segments T.pool now self.new
+            ≡ after_change now (SetLimit vid limit) (state_of T.segments T.pool now self.old) }
         ensures sound { IsSound T.segments self.new }
         ensures time { T.moment self.new.tables ≤ now }
     {

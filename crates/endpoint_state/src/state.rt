@@ -151,7 +151,8 @@ impl EndpointState {
         requires reached { is_reached (settings_of self.old).overlay vid from.now ≡ true }
         ensures verdict { put_or places.new.items result ≡ verdict now vid from.now frame.now (state_at now self.old) }
         ensures after { state_at now self.new ≡ after_frame now vid from.now frame.now (state_at now self.old) }
-        ensures leaves { IfOk (put_or places.new.items result) (λ places. IsTrue (list_all (can_leave (settings_of self.old) vid) places)) }
+        ensures leaves { IfOk (put_or places.new.items result)
+            (λ places. IsTrue (list_all (can_leave (settings_of self.old) vid) places)) }
         ensures empty { OnErr result (places.new.items ≡ []) }
         ensures time { moment_of self.new ≤ now }
     {

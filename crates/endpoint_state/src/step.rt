@@ -30,8 +30,10 @@ impl<T: Tables> Parts<T> {
         requires there { IsSome (T.segments self.old.tables vid) }
         requires reached { is_reached self.old.under vid from.now ≡ true }
         ensures verdict { put_or places.new.items result ≡ verdict now vid from.now frame.now (state_of T.segments T.pool now self.old) }
-        ensures after { state_of T.segments T.pool now self.new ≡ after_frame now vid from.now frame.now (state_of T.segments T.pool now self.old) }
-        ensures leaves { IfOk (put_or places.new.items result) (λ places. IsTrue (list_all (can_leave (settings_of T.segments T.pool self.old) vid) places)) }
+        ensures after { state_of T.segments T.pool now self.new
+            ≡ after_frame now vid from.now frame.now (state_of T.segments T.pool now self.old) }
+        ensures leaves { IfOk (put_or places.new.items result)
+            (λ places. IsTrue (list_all (can_leave (settings_of T.segments T.pool self.old) vid) places)) }
         ensures empty { OnErr result (places.new.items ≡ []) }
         ensures sound { IsSound T.segments self.new }
         ensures time { T.moment self.new.tables ≤ now }

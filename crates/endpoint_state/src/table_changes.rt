@@ -77,7 +77,8 @@ impl<T: Tables> Parts<T> {
         requires sound { IsSound T.segments self.old }
         requires time { T.moment self.old.tables ≤ now }
         ensures fault { fault_of result ≡ fault (state_of T.segments T.pool now self.old) (Fix vid mac target) }
-        ensures after { state_of T.segments T.pool now self.new ≡ after_change now (Fix vid mac target) (state_of T.segments T.pool now self.old) }
+        ensures after { state_of T.segments T.pool now self.new
+            ≡ after_change now (Fix vid mac target) (state_of T.segments T.pool now self.old) }
         ensures sound { IsSound T.segments self.new }
         ensures time { T.moment self.new.tables ≤ now }
     {
@@ -92,7 +93,8 @@ impl<T: Tables> Parts<T> {
         requires sound { IsSound T.segments self.old }
         requires time { T.moment self.old.tables ≤ now }
         ensures fault { fault_of result ≡ fault (state_of T.segments T.pool now self.old) (Unfix vid mac) }
-        ensures after { state_of T.segments T.pool now self.new ≡ after_change now (Unfix vid mac) (state_of T.segments T.pool now self.old) }
+        ensures after { state_of T.segments T.pool now self.new
+            ≡ after_change now (Unfix vid mac) (state_of T.segments T.pool now self.old) }
         ensures sound { IsSound T.segments self.new }
         ensures time { T.moment self.new.tables ≤ now }
     {
@@ -107,7 +109,8 @@ impl<T: Tables> Parts<T> {
         requires sound { IsSound T.segments self.old }
         requires time { T.moment self.old.tables ≤ now }
         ensures fault { fault_of result ≡ fault (state_of T.segments T.pool now self.old) (SetAgeing vid seconds) }
-        ensures after { state_of T.segments T.pool now self.new ≡ after_change now (SetAgeing vid seconds) (state_of T.segments T.pool now self.old) }
+        ensures after { state_of T.segments T.pool now self.new
+            ≡ after_change now (SetAgeing vid seconds) (state_of T.segments T.pool now self.old) }
         ensures sound { IsSound T.segments self.new }
         ensures time { T.moment self.new.tables ≤ now }
     {
@@ -123,7 +126,8 @@ impl<T: Tables> Parts<T> {
     pub(crate) fn set_learning(&mut self, vid: Vid, on: bool) -> Result<(), ChangeFault>
         requires sound { IsSound T.segments self.old }
         ensures fault { (t : ℕ) → fault_of result ≡ fault (state_of T.segments T.pool t self.old) (SetLearning vid on) }
-        ensures after { (t : ℕ) → state_of T.segments T.pool t self.new ≡ after_change t (SetLearning vid on) (state_of T.segments T.pool t self.old) }
+        ensures after { (t : ℕ) → state_of T.segments T.pool t self.new
+            ≡ after_change t (SetLearning vid on) (state_of T.segments T.pool t self.old) }
         ensures sound { IsSound T.segments self.new }
         ensures moment { T.moment self.new.tables ≡ T.moment self.old.tables }
     {

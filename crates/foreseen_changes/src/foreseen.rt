@@ -40,7 +40,8 @@ fn put(
     at: u64,
     fault: Option<ChangeFault>,
 ) -> Result<(), AllocError>
-    ensures { OnOk result (list.new.items ≡ list.old.items ++ option_to_list (option_map (λ why. record { number = number; at = at; fault = why }) fault)) }
+    ensures { OnOk result (list.new.items
+        ≡ list.old.items ++ option_to_list (option_map (λ why. record { number = number; at = at; fault = why }) fault)) }
 {
     match fault {
         Some(fault) => {

@@ -59,7 +59,8 @@ pub fn admit_in(
     requires rule { IsSome (rule_at (seen slots.old shares.old.items moment 0 0).rules newcomer.now.vid) }
     requires may_come { MayCome slots.old.entries trees.old moment newcomer.now }
     ensures whole { IsWhole slots.new trees.new shares.new.items moment }
-    ensures comes { (calls compared : ℕ) → ComesOrNot (seen slots.old shares.old.items moment calls compared) (seen slots.new shares.new.items moment calls compared) newcomer.now result }
+    ensures comes { (calls compared : ℕ) → ComesOrNot (seen slots.old shares.old.items moment calls compared)
+        (seen slots.new shares.new.items moment calls compared) newcomer.now result }
 {
     let Some(share) = share::share_at(shares, newcomer.vid) else {
         unreachable!();
@@ -95,7 +96,8 @@ fn replace_in(
     requires held { IsOf (entry_at slots.old.entries slot) newcomer.now.vid }
     requires may_come { MayCome slots.old.entries trees.old moment newcomer.now }
     ensures whole { IsWhole slots.new trees.new shares.new.items moment }
-    ensures replaces { (calls compared : ℕ) → Replaces (seen slots.old shares.old.items moment calls compared) (seen slots.new shares.new.items moment calls compared) slot (held_of newcomer.now) }
+    ensures replaces { (calls compared : ℕ) → Replaces (seen slots.old shares.old.items moment calls compared)
+        (seen slots.new shares.new.items moment calls compared) slot (held_of newcomer.now) }
 {
     if is_leaf(newcomer.beside, slot) {
         slots.readdress(slot, newcomer.vid, newcomer.mac);
@@ -133,10 +135,12 @@ fn enter_in(
     newcomer: &Newcomer,
 )
     requires whole { IsWhole slots.old trees.old shares.old.items moment }
-    requires room { HasRoom (rule_at (seen slots.old shares.old.items moment 0 0).rules newcomer.now.vid) (kept_count newcomer.now.vid slots.old.entries) }
+    requires room { HasRoom (rule_at (seen slots.old shares.old.items moment 0 0).rules newcomer.now.vid)
+        (kept_count newcomer.now.vid slots.old.entries) }
     requires may_come { MayCome slots.old.entries trees.old moment newcomer.now }
     ensures whole { IsWhole slots.new trees.new shares.new.items moment }
-    ensures enters { (calls compared : ℕ) → Enters (seen slots.old shares.old.items moment calls compared) (seen slots.new shares.new.items moment calls compared) (held_of newcomer.now) }
+    ensures enters { (calls compared : ℕ) → Enters (seen slots.old shares.old.items moment calls compared)
+        (seen slots.new shares.new.items moment calls compared) (held_of newcomer.now) }
 {
     let Newcomer {
         vid,

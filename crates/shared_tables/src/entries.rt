@@ -34,11 +34,13 @@ pub fn renew_entry(
     requires shares { vec_len shares.old ≡ 4096 }
     requires there { IsSome (share_at shares.old.items vid) }
     requires last { let e = entry_at slots.old.entries slot in
-        HoldsAny (slice_set slots.old.entries slot (renewed e place.now last)) (last_left (share_at shares.old.items vid) (is_fixed_in e) (is_none last) (links_at slots.old.lines slot)) }
+        HoldsAny (slice_set slots.old.entries slot (renewed e place.now last))
+        (last_left (share_at shares.old.items vid) (is_fixed_in e) (is_none last) (links_at slots.old.lines slot)) }
     requires ends { let e = entry_at slots.old.entries slot in
         HasEndsLeft (share_at shares.old.items vid) (is_fixed_in e) (is_none last) (links_at slots.old.lines slot) }
     ensures pool { let was = is_fixed_in (entry_at slots.old.entries slot) in
-        slots.new ≡ moved slots.old slot place.now last (last_left (share_at shares.old.items vid) was (is_none last) (links_at slots.old.lines slot)) }
+        slots.new ≡ moved slots.old slot place.now last
+        (last_left (share_at shares.old.items vid) was (is_none last) (links_at slots.old.lines slot)) }
     ensures shares { let was = is_fixed_in (entry_at slots.old.entries slot) in
         shares.new.items ≡ shares_moved shares.old.items vid was (is_none last) (links_at slots.old.lines slot) slot }
 {
@@ -54,7 +56,8 @@ fn renew_in(slots: &mut Slots, share: &mut Share, slot: SlotId, place: &Place, l
     requires previous { HoldsAny slots.old.entries (links_at slots.old.lines slot).previous }
     requires next { HoldsAny slots.old.entries (links_at slots.old.lines slot).next }
     requires last { let e = entry_at slots.old.entries slot in
-        HoldsAny (slice_set slots.old.entries slot (renewed e place.now last)) (last_left (Some share.old) (is_fixed_in e) (is_none last) (links_at slots.old.lines slot)) }
+        HoldsAny (slice_set slots.old.entries slot (renewed e place.now last))
+        (last_left (Some share.old) (is_fixed_in e) (is_none last) (links_at slots.old.lines slot)) }
     requires ends { let e = entry_at slots.old.entries slot in
         HasEndsLeft (Some share.old) (is_fixed_in e) (is_none last) (links_at slots.old.lines slot) }
     ensures pool { let was = is_fixed_in (entry_at slots.old.entries slot) in

@@ -78,7 +78,8 @@ pub fn find_or_admit(
     requires rule { IsSome (rule_at tables.old.rules vid) }
     requires now { IsNow last tables.old.moment }
     ensures outcome { let span = span_of (rule_at tables.old.rules vid) in
-        FindsOrAdmits (record tables.old { compared = tables.new.compared }) tables.new span (record { vid = vid; mac = mac.now; place = place.now; last = last }) result }
+        FindsOrAdmits (record tables.old { compared = tables.new.compared }) tables.new span
+        (record { vid = vid; mac = mac.now; place = place.now; last = last }) result }
     ensures counted { tables.old.compared ≤ tables.new.compared }
     ensures compared { tables.new.compared ≤ tables.old.compared + bucket_count (bucket_of vid mac.now) tables.old.entries }
     ensures bits { ComparesByBits tables.old tables.new }

@@ -150,7 +150,8 @@ impl SharedTables {
         requires rule { IsSome (rule_at self.old.rules vid) }
         requires now { IsNow last self.old.moment }
         ensures outcome { let span = span_of (rule_at self.old.rules vid) in
-            ComesTo (record self.old { compared = self.new.compared }) self.new span (record { vid = vid; mac = mac.now; place = place.now; last = last }) result }
+            ComesTo (record self.old { compared = self.new.compared }) self.new span
+            (record { vid = vid; mac = mac.now; place = place.now; last = last }) result }
         ensures counted { self.old.compared ≤ self.new.compared }
         ensures compared { self.new.compared ≤ self.old.compared + bucket_count (bucket_of vid mac.now) self.old.entries }
         ensures bits { ComparesByBits self.old self.new }

@@ -292,7 +292,8 @@ impl Slots {
     pub fn readdress(&mut self, slot: SlotId, vid: Vid, mac: Mac)
         requires in_pool { slot < length self.old.entries }
         requires held { IsSome (entry_at self.old.entries slot) }
-        ensures { self.new ≡ record self.old { entries = slice_set self.old.entries slot (readdressed (entry_at self.old.entries slot) vid mac) } }
+        ensures { self.new
+            ≡ record self.old { entries = slice_set self.old.entries slot (readdressed (entry_at self.old.entries slot) vid mac) } }
     {
         readdress(&mut self.slots[slot.number as usize], vid, mac);
     }
@@ -391,7 +392,8 @@ impl Slots {
     pub fn renew(&mut self, slot: SlotId, place: &Place, last: Option<u64>)
         requires in_pool { slot < length self.old.entries }
         requires held { IsSome (entry_at self.old.entries slot) }
-        ensures { self.new ≡ record self.old { entries = slice_set self.old.entries slot (renewed (entry_at self.old.entries slot) place.now last) } }
+        ensures { self.new
+            ≡ record self.old { entries = slice_set self.old.entries slot (renewed (entry_at self.old.entries slot) place.now last) } }
     {
         renew(&mut self.slots[slot.number as usize], place, last);
     }

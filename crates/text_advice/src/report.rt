@@ -256,7 +256,8 @@ pub fn advice(
     fault: &SettingsFault,
     at: Option<&SyntaxError>,
 ) -> Result<Vec<u8>, AllocError>
-    ensures { IfOk result (λ v. v.items ≡ advice kind name.now text.now (fault_words fault.now) (option_map (λ e. syntax_of e.now) at.entry)) }
+    ensures { IfOk result (λ v. v.items
+        ≡ advice kind name.now text.now (fault_words fault.now) (option_map (λ e. syntax_of e.now) at.entry)) }
 {
     let (word, path) = fault_words(fault);
     if path.is_empty() {

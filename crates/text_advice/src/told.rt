@@ -128,7 +128,8 @@ fn at_line<'a>(
     header: Line<'a>,
     line: Option<Line<'a>>,
 ) -> Result<Findings<'a>, AllocError>
-    ensures { IfOk result (λ t. told_of t ≡ at_line (map (λ k. k.now) keys.now) (option_map (λ s. s.now) allowed.entry) (line_of header.entry) (option_map line_of line.entry)) }
+    ensures { IfOk result (λ t. told_of t ≡ at_line (map (λ k. k.now) keys.now)
+        (option_map (λ s. s.now) allowed.entry) (line_of header.entry) (option_map line_of line.entry)) }
 {
     match line {
         None => Ok(Findings {

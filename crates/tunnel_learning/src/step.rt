@@ -147,7 +147,8 @@ fn is_local_outlet(row: &Row, from: &Place, port: u8) -> bool
     requires low { 1 ≤ port }
     requires high { port ≤ length row.now.ports }
     requires few { port ≤ 16 }
-    ensures { (bridge : ABridge) → row.now ≡ row_at bridge.ports.now bridge.vid → result ≡ is_local_outlet (config_of bridge) from.now (Local port) }
+    ensures { (bridge : ABridge) → row.now ≡ row_at bridge.ports.now bridge.vid
+        → result ≡ is_local_outlet (config_of bridge) from.now (Local port) }
 {
     if !row.serves(port) {
         return false;

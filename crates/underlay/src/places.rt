@@ -148,7 +148,8 @@ impl SegmentPlaces {
         requires there { IsTrue (is_some (get self.old.segments vid)) }
         ensures fault { fault_of result ≡ first (add_faults own.now (flood_in self.old.segments vid) kind addr) }
         ensures added { OnOk result
-            (self.new.segments ≡ flooding self.old.segments vid (flood_in self.old.segments vid ++ record { tunnel = kind; addr = addr } ∷ [])) }
+            (self.new.segments
+            ≡ flooding self.old.segments vid (flood_in self.old.segments vid ++ record { tunnel = kind; addr = addr } ∷ [])) }
         ensures refused { OnErr result (self.new.segments ≡ self.old.segments) }
         ensures heads { self.new.heads ≡ self.old.heads }
     {

@@ -61,7 +61,8 @@ fn behind_tag<'a>(view: &EtherView<'a>) -> Option<Rest<'a>>
     ensures vid { IfSome result (λ rest. rest.vid ≡ tag_vid view.now) }
     ensures bits { IfSome result (λ rest. rest.vid < 4096) }
     ensures frame { let src = part 6 6 view.now in
-        IfSome result (λ rest. record { dst = take 6 view.now; src = src; pcp = rest.pcp; dei = rest.dei; body = rest.body.now } ≡ frame_in view.now) }
+        IfSome result (λ rest. record { dst = take 6 view.now; src = src; pcp = rest.pcp; dei = rest.dei; body = rest.body.now }
+        ≡ frame_in view.now) }
     ensures pcp { IfSome result (λ rest. rest.pcp < 8) }
     ensures long { IfSome result (λ rest. 2 ≤ length rest.body.now) }
 {

@@ -60,7 +60,8 @@ impl Slots {
         now: u64,
     ) -> Result<(), AllocError>
         ensures rows { let es = self.now.entries in
-            OnOk result (rows_in es vid ageing now words.new.items ≡ rows_in es vid ageing now words.old.items ++ live_rows vid ageing now es) }
+            OnOk result (rows_in es vid ageing now words.new.items
+            ≡ rows_in es vid ageing now words.old.items ++ live_rows vid ageing now es) }
         ensures words { let es = self.now.entries in
             OnOk result (AreWords es vid ageing now words.old.items → AreWords es vid ageing now words.new.items) }
     {

@@ -102,8 +102,10 @@ fn put_events(
 ) -> Result<(), AllocError>
     requires first { desk.old.number ≡ 0 }
     requires rising { IsRising (state_of endpoint.old).moment events.now }
-    requires known { AllByRecursion (IsEventOf (length changes.now) (length (state_of endpoint.old).bridges.settings.ports.ports)) events.now }
-    ensures { OnOk result (seen outputs.new ≡ with_events (map (λ c. c.change) changes.now) 0 (state_of endpoint.old) (seen outputs.old) events.now) }
+    requires known { AllByRecursion
+        (IsEventOf (length changes.now) (length (state_of endpoint.old).bridges.settings.ports.ports)) events.now }
+    ensures { OnOk result (seen outputs.new
+        ≡ with_events (map (λ c. c.change) changes.now) 0 (state_of endpoint.old) (seen outputs.old) events.now) }
 {
     for event in events {
         desk.number.add_one();

@@ -40,9 +40,11 @@ fn put_outcomes(
     requires few { length places.now ≤ 32 }
     requires room { length line.old + 2464 ≤ 4096 }
     ensures sent { let S = (state_of endpoint.now).bridges.settings in
-        OnOk result (seen outputs.new ≡ with_all_sent moment (seen outputs.old) (map (sent_at S came.now.vid came.now.frame) places.now)) }
+        OnOk result (seen outputs.new
+        ≡ with_all_sent moment (seen outputs.old) (map (sent_at S came.now.vid came.now.frame) places.now)) }
     ensures text { let S = (state_of endpoint.now).bridges.settings in OnOk result
-        (line.new ≡ line.old ++ outcomes_text (has_two_tunnels S.overlay came.now.vid) (map (sent_at S came.now.vid came.now.frame) places.now)) }
+        (line.new ≡ line.old
+        ++ outcomes_text (has_two_tunnels S.overlay came.now.vid) (map (sent_at S came.now.vid came.now.frame) places.now)) }
     ensures len { OnOk result (length line.new ≤ length line.old + 2464) }
 {
     let two_tunnels = endpoint.has_two_tunnels(came);
@@ -69,7 +71,8 @@ fn put_leaving(
     requires short { length came.now.frame.body ≤ 65549 }
     requires leave { IsTrue (list_all (can_leave (state_of endpoint.now).bridges.settings came.now.vid) desk.old.places.items) }
     ensures sent { let S = (state_of endpoint.now).bridges.settings in OnOk result
-        (seen outputs.new ≡ with_all_sent event.now.moment (seen outputs.old) (map (sent_at S came.now.vid came.now.frame) desk.old.places.items)) }
+        (seen outputs.new ≡ with_all_sent event.now.moment (seen outputs.old)
+        (map (sent_at S came.now.vid came.now.frame) desk.old.places.items)) }
     ensures line { OnOk result (desk.new.line ≡ line desk.old.number event.now
         (answer_text None (Decided (by_verdict (state_of endpoint.now).bridges.settings came.now (Ok desk.old.places.items))))) }
     ensures number { desk.new.number ≡ desk.old.number }
@@ -203,7 +206,8 @@ pub(crate) fn put_event(
     requires time { (state_of endpoint.old).moment ≤ event.now.moment }
     requires known { IsEventOf (length changes.now) (length (state_of endpoint.old).bridges.settings.ports.ports) event.now }
     ensures state { state_of endpoint.new ≡ after (state_of endpoint.old) (event_of (map (λ c. c.change) changes.now) event.now) }
-    ensures outputs { OnOk result (seen outputs.new ≡ with_event (map (λ c. c.change) changes.now) desk.old.number (seen outputs.old) event.now
+    ensures outputs { OnOk result (seen outputs.new
+        ≡ with_event (map (λ c. c.change) changes.now) desk.old.number (seen outputs.old) event.now
         (answer (state_of endpoint.old) (event_of (map (λ c. c.change) changes.now) event.now))) }
     ensures number { desk.new.number ≡ desk.old.number }
 {

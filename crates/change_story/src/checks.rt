@@ -126,7 +126,8 @@ fn put_membership(
     port: u8,
 ) -> Result<(), AllocError>
     ensures { let S = settings_of state.now in
-        OnOk result (checks.new.items ≡ checks.old.items ++ specs.in_segment S vid (λ g. specs.port_check (length S.ports.ports) port ∷ [])) }
+        OnOk result (checks.new.items
+        ≡ checks.old.items ++ specs.in_segment S vid (λ g. specs.port_check (length S.ports.ports) port ∷ [])) }
 {
     match put_segment(checks, state, vid)? {
         None => Ok(()),
@@ -160,7 +161,8 @@ fn put_adding(
 ) -> Result<(), AllocError>
     ensures { let S = settings_of state.now in
         OnOk result (checks.new.items
-        ≡ checks.old.items ++ specs.in_segment S vid (λ g. specs.at_tunnel g.tunnels tunnel (specs.flood_checks (own S.overlay.underlay) g.flood addr))) }
+        ≡ checks.old.items ++ specs.in_segment S vid
+        (λ g. specs.at_tunnel g.tunnels tunnel (specs.flood_checks (own S.overlay.underlay) g.flood addr))) }
 {
     let Some(segment) = put_segment(checks, state, vid)? else {
         return Ok(());
@@ -203,7 +205,8 @@ fn put_leaving(
     tunnel: Option<Tunnel>,
 ) -> Result<(), AllocError>
     ensures { OnOk result (checks.new.items
-        ≡ checks.old.items ++ specs.in_segment (settings_of state.now) vid (λ g. specs.at_tunnel g.tunnels tunnel (specs.leaving_checks g.flood addr))) }
+        ≡ checks.old.items ++ specs.in_segment (settings_of state.now) vid
+        (λ g. specs.at_tunnel g.tunnels tunnel (specs.leaving_checks g.flood addr))) }
 {
     let Some(segment) = put_segment(checks, state, vid)? else {
         return Ok(());

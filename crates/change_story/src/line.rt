@@ -106,7 +106,8 @@ fn put_pool(text: &mut String, room: u64) -> Result<(), AllocError>
 }
 
 fn put_segment(text: &mut String, vid: u16, there: bool) -> Result<(), AllocError>
-    ensures { OnOk result (string_bytes text.new ≡ string_bytes text.old ++ ((if there then [] else codes "no ") ++ codes "segment " ++ decimal vid)) }
+    ensures { OnOk result (string_bytes text.new
+        ≡ string_bytes text.old ++ ((if there then [] else codes "no ") ++ codes "segment " ++ decimal vid)) }
 {
     let no = either(there, "", "no ");
     write!(text, "{no}segment {vid}")

@@ -141,7 +141,8 @@ fn put_reply(text: &mut String, fault: Option<ChangeFault>) -> Result<(), AllocE
 }
 
 fn put_refused(text: &mut String, number: u8, name: &str) -> Result<(), AllocError>
-    ensures { OnOk result (string_bytes text.new ≡ string_bytes text.old ++ (codes "refused " ++ decimal number ++ codes " " ++ name.now)) }
+    ensures { OnOk result (string_bytes text.new
+        ≡ string_bytes text.old ++ (codes "refused " ++ decimal number ++ codes " " ++ name.now)) }
 {
     write!(text, "refused {number} {name}")
 }

@@ -71,7 +71,8 @@ fn telling_line_from<'a>(
     alloc: Global,
     matches: &ArgMatches<'a>,
 ) -> Result<Option<Line<'a>>, AllocError>
-    ensures ok { IfOk result (λ line. option_map meaning_of line ≡ option_and_then telling (line_meant (subcommand_rows_of matches.now))) }
+    ensures ok { IfOk result (λ line. option_map meaning_of line
+        ≡ option_and_then telling (line_meant (subcommand_rows_of matches.now))) }
     ensures depth { IfOk result (λ line. IfSome line HasDepth) }
 {
     let line = match line_from(alloc, matches) {

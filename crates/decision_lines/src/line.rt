@@ -135,7 +135,8 @@ impl Line {
     fn put_four(&mut self, number: u16)
         requires four { number < 10000 }
         requires room { length self.old + 4 ≤ 4096 }
-        ensures text { self.new ≡ self.old ++ (48 + number / 1000) ∷ (48 + number / 100 % 10) ∷ (48 + number / 10 % 10) ∷ (48 + number % 10) ∷ [] }
+        ensures text { self.new ≡ self.old ++ (48 + number / 1000)
+            ∷ (48 + number / 100 % 10) ∷ (48 + number / 10 % 10) ∷ (48 + number % 10) ∷ [] }
         ensures len { length self.new ≡ length self.old + 4 }
     {
         self.put_pair((number / 100) as u8);

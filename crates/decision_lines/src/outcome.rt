@@ -25,7 +25,8 @@ impl Line {
         sent: &Result<Leaving, Reason>,
     )
         requires room { length self.old + 77 ≤ 4096 }
-        ensures text { self.new ≡ self.old ++ (gap is_first ++ outcome_text two_tunnels (record { place = place; sent = texts sent.now })) }
+        ensures text { self.new ≡ self.old
+            ++ (gap is_first ++ outcome_text two_tunnels (record { place = place; sent = texts sent.now })) }
         ensures len { length self.new ≤ length self.old + 77 }
     {
         self.put_counted(is_first, two_tunnels, place, count_of(sent));

@@ -82,7 +82,8 @@ impl Line {
         requires few { length places.now ≤ 32 }
         requires room { length self.old + 2464 ≤ 4096 }
         ensures text { let S = (state_of endpoint.now).bridges.settings in
-            self.new ≡ self.old ++ outcomes_text (has_two_tunnels S.overlay came.now.vid) (map (sent_at S came.now.vid came.now.frame) places.now) }
+            self.new ≡ self.old
+            ++ outcomes_text (has_two_tunnels S.overlay came.now.vid) (map (sent_at S came.now.vid came.now.frame) places.now) }
         ensures len { length self.new ≤ length self.old + 2464 }
     {
         let two_tunnels = endpoint.has_two_tunnels(came);

@@ -26,7 +26,8 @@ pub fn tap_of(index: usize) -> Tap
 pub fn segments_of<'a>(list: Option<&str>) -> Result<SegmentSet, Failure<'a>>
     ensures all { IfNone list.entry (result ≡ Ok All) }
     ensures asked { IfSome list.entry (λ text. (segments : Segments) → meaning text.now ≡ Ok segments → result ≡ Ok segments) }
-    ensures refused { IfSome list.entry (λ text. (fault : AListFault) → meaning text.now ≡ Err fault → result ≡ Err (failures.Segments fault)) }
+    ensures refused { IfSome list.entry (λ text. (fault : AListFault)
+        → meaning text.now ≡ Err fault → result ≡ Err (failures.Segments fault)) }
 {
     match list {
         Some(list) => match SegmentSet::parse(list) {

@@ -30,7 +30,8 @@ pub(crate) fn put_bridge_facts(
     requires left { moment_of state.now ≤ left }
     requires time { moment_of state.now ≤ now }
     requires there { IsSome (segment_at (settings_of state.now) came.now.vid) }
-    ensures { OnOk result (facts.new.items ≡ facts.old.items ++ bridge_facts now (state_at left state.now) (state_at now state.now) came.now dropped) }
+    ensures { OnOk result (facts.new.items
+        ≡ facts.old.items ++ bridge_facts now (state_at left state.now) (state_at now state.now) came.now dropped) }
 {
     let vid = came.segment();
     let from = came.place();

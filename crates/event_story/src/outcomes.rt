@@ -37,7 +37,8 @@ pub(crate) fn put_outcomes(
     requires leave { IsTrue (list_all (can_leave (state_of endpoint.now).bridges.settings came.now.vid) places.now) }
     ensures { let S = (state_of endpoint.now).bridges.settings in
         OnOk result (string_bytes text.new
-        ≡ string_bytes text.old ++ outcomes_text (has_two_tunnels S.overlay came.now.vid) (map (sent_at S came.now.vid came.now.frame) places.now)) }
+        ≡ string_bytes text.old
+        ++ outcomes_text (has_two_tunnels S.overlay came.now.vid) (map (sent_at S came.now.vid came.now.frame) places.now)) }
 {
     let two_tunnels = endpoint.has_two_tunnels(came);
     let mut parted = false;

@@ -29,7 +29,8 @@ pub(crate) fn put_both(
 }
 
 pub(crate) fn put_short(text: &mut String, octets: usize) -> Result<(), AllocError>
-    ensures { OnOk result (string_bytes text.new ≡ string_bytes text.old ++ (codes "octets " ++ decimal octets ++ codes ", fewer than 14")) }
+    ensures { OnOk result (string_bytes text.new
+        ≡ string_bytes text.old ++ (codes "octets " ++ decimal octets ++ codes ", fewer than 14")) }
 {
     write!(text, "octets {octets}, fewer than 14")
 }
@@ -65,7 +66,8 @@ pub(crate) fn put_accepts(
     taken: bool,
 ) -> Result<(), AllocError>
     ensures { OnOk result (string_bytes text.new ≡ string_bytes text.old
-        ++ (port_text port ++ (if taken then codes " takes " else codes " refuses ") ++ (if tagged then codes "frames with a vid" else codes "frames without a vid"))) }
+        ++ (port_text port ++ (if taken then codes " takes " else codes " refuses ")
+        ++ (if tagged then codes "frames with a vid" else codes "frames without a vid"))) }
 {
     let takes = either(taken, " takes ", " refuses ");
     let frames = either(tagged, "frames with a vid", "frames without a vid");
@@ -87,7 +89,8 @@ pub(crate) fn put_segment(
 }
 
 pub(crate) fn put_ip(text: &mut String, source: Addr, destination: Addr) -> Result<(), AllocError>
-    ensures { OnOk result (string_bytes text.new ≡ string_bytes text.old ++ (codes "ip " ++ addr_text source ++ codes " > " ++ addr_text destination)) }
+    ensures { OnOk result (string_bytes text.new
+        ≡ string_bytes text.old ++ (codes "ip " ++ addr_text source ++ codes " > " ++ addr_text destination)) }
 {
     text.push_str("ip ")?;
     put_addr(text, source)?;
@@ -197,7 +200,8 @@ pub(crate) fn put_in_tunnel(
     reason: Option<Reason>,
 ) -> Result<(), AllocError>
     ensures { OnOk result (string_bytes text.new ≡ string_bytes text.old
-        ++ (codes "out " ++ place_text place ++ codes " vni " ++ decimal vni ++ codes " next hop " ++ mac_text hop ++ length_text packet mtu ++ unsent_text reason)) }
+        ++ (codes "out " ++ place_text place ++ codes " vni " ++ decimal vni
+        ++ codes " next hop " ++ mac_text hop ++ length_text packet mtu ++ unsent_text reason)) }
 {
     put_at(text, "out ", place)?;
     write!(text, " vni {vni}")?;

@@ -113,7 +113,8 @@ fn frame_story(
     requires low { 1 ≤ port }
     requires high { port ≤ length (state_of endpoint.now).bridges.settings.ports.ports }
     ensures { let s = state_of endpoint.now in let t = event.now.moment in
-        IfOk result (λ text. text.items ≡ told number event.now (frame_facts t s.bridges (aged t s.bridges) port original octets.now) (answer s (frame_at t port original octets.now))) }
+        IfOk result (λ text. text.items ≡ told number event.now
+        (frame_facts t s.bridges (aged t s.bridges) port original octets.now) (answer s (frame_at t port original octets.now))) }
 {
     let came = endpoint.frame_from(port, original, octets);
     let ports = endpoint.state().ports();
@@ -134,7 +135,8 @@ fn packet_story(
 ) -> Result<Vec<u8>, AllocError>
     requires time { (state_of endpoint.now).moment ≤ event.now.moment }
     ensures { let s = state_of endpoint.now in let t = event.now.moment in
-        IfOk result (λ text. text.items ≡ told number event.now (arrival_facts t s.bridges (aged t s.bridges) original octets.now) (answer s (packet_at t original octets.now))) }
+        IfOk result (λ text. text.items ≡ told number event.now
+        (arrival_facts t s.bridges (aged t s.bridges) original octets.now) (answer s (packet_at t original octets.now))) }
 {
     let came = endpoint.frame_in(original, octets);
     let under = endpoint.state().under();
@@ -213,7 +215,8 @@ fn sent_story(
     requires time { (state_of endpoint.now).moment ≤ event.now.moment }
     requires there { IsSome (segment_at (state_of endpoint.now).bridges.settings came.now.vid) }
     requires leave { IsTrue (list_all (can_leave (state_of endpoint.now).bridges.settings came.now.vid) places.now) }
-    ensures { let s = state_of endpoint.now in let t = event.now.moment in let B = aged t s.bridges in let d = by_verdict s.bridges.settings came.now (Ok places.now) in
+    ensures { let s = state_of endpoint.now in let t = event.now.moment in
+        let B = aged t s.bridges in let d = by_verdict s.bridges.settings came.now (Ok places.now) in
         IfOk result (λ text. text.items ≡ told number event.now (facts.items ++ came_facts t s.bridges B (Ok came.now) d) (Decided d)) }
 {
     let left = endpoint.now();
@@ -236,7 +239,8 @@ fn dropped_story(
 ) -> Result<Vec<u8>, AllocError>
     requires time { (state_of endpoint.now).moment ≤ event.now.moment }
     requires there { IsSome (segment_at (state_of endpoint.now).bridges.settings came.now.vid) }
-    ensures { let s = state_of endpoint.now in let t = event.now.moment in let B = aged t s.bridges in let d = by_verdict s.bridges.settings came.now (Err reason) in
+    ensures { let s = state_of endpoint.now in let t = event.now.moment in
+        let B = aged t s.bridges in let d = by_verdict s.bridges.settings came.now (Err reason) in
         IfOk result (λ text. text.items ≡ told number event.now (facts.items ++ came_facts t s.bridges B (Ok came.now) d) (Decided d)) }
 {
     let left = endpoint.now();

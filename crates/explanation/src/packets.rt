@@ -110,7 +110,8 @@ fn text_of(
     requires high { depth ≤ 4 }
     requires rising { IsRising (state_of endpoint.old).moment events.now }
     requires known { AllByRecursion (IsEventOf 0 0) events.now }
-    ensures { IfOk result (λ text. text.items ≡ texts_from depth values 0 (state_of endpoint.old) events.now ++ flat_map cut_line cuts.now) }
+    ensures { IfOk result (λ text. text.items
+        ≡ texts_from depth values 0 (state_of endpoint.old) events.now ++ flat_map cut_line cuts.now) }
 {
     let mut desk = Desk::new();
     let mut text = Vec::new(alloc);
@@ -139,7 +140,8 @@ fn put_packet<'a>(
     requires time { (state_of endpoint.old).moment ≤ event.now.moment }
     ensures state { state_of endpoint.new ≡ after (state_of endpoint.old) (packet_at event.now.moment original octets.now) }
     ensures text { OnOk result (text.new.items ≡ text.old.items
-        ++ (line desk.old.number event.now (answer_text None (answer (state_of endpoint.old) (packet_at event.now.moment original octets.now)))
+        ++ (line desk.old.number event.now
+        (answer_text None (answer (state_of endpoint.old) (packet_at event.now.moment original octets.now)))
         ++ (layers_text values (dissection (state_of endpoint.old).bridges.settings.overlay depth octets.now)
         ++ card_line (is_left_at (state_of endpoint.old).bridges.settings.overlay octets.now
         (dissection (state_of endpoint.old).bridges.settings.overlay depth octets.now).stop)))) }
@@ -203,7 +205,8 @@ fn put_event<'a>(
     requires time { (state_of endpoint.old).moment ≤ event.now.moment }
     requires known { IsEventOf 0 0 event.now }
     ensures state { state_of endpoint.new ≡ after (state_of endpoint.old) (event_of [] event.now) }
-    ensures text { OnOk result (text.new.items ≡ text.old.items ++ text_at depth values desk.old.number (state_of endpoint.old) event.now) }
+    ensures text { OnOk result (text.new.items
+        ≡ text.old.items ++ text_at depth values desk.old.number (state_of endpoint.old) event.now) }
     ensures number { desk.new.number ≡ desk.old.number }
 {
     match &event.happening {

@@ -40,7 +40,8 @@ fn fill_line<R: Input>(input: &mut R, room: &mut [u8], filled: usize) -> Result<
     requires filled { filled ≤ longest_line }
     ensures line { IfOk result (λ ends. ends.line ≤ ends.read) }
     ensures size { IfOk result (λ ends. ends.read ≤ longest_line) }
-    ensures filled { IsFilled (prepend_known (take filled room.old) (R.remaining input.old)) (R.failures input.old) (R.remaining input.new) (R.failures input.new) room.new result }
+    ensures filled { IsFilled (prepend_known (take filled room.old) (R.remaining input.old))
+        (R.failures input.old) (R.remaining input.new) (R.failures input.new) room.new result }
 {
     let mut read = filled;
     while read < room.len() {
@@ -66,7 +67,8 @@ fn line_behind(room: &[u8], lent: Lent) -> Option<Lent>
     requires line { lent.end ≤ lent.read }
     requires read { lent.read ≤ length room.now }
     ensures size { IfSome result (λ found. (found.begin ≤ found.end) × (found.end ≤ found.read) × (found.read ≤ length room.now)) }
-    ensures found { IfSome result (λ found. (left : Option (List ℕ)) → IsNext (prepend_known (drop lent.end (take lent.read room.now)) left) left room.now found) }
+    ensures found { IfSome result (λ found. (left : Option (List ℕ))
+        → IsNext (prepend_known (drop lent.end (take lent.read room.now)) left) left room.now found) }
 {
     let length = end_of_line(&room[lent.end..lent.read])?;
     Some(Lent {
@@ -89,7 +91,8 @@ pub(crate) fn next_line<R: Input>(
     ensures begin { IfOk result (λ found. found.begin ≤ found.end) }
     ensures line { IfOk result (λ found. found.end ≤ found.read) }
     ensures size { IfOk result (λ found. found.read ≤ longest_line) }
-    ensures lent { IsLent (prepend_known (drop lent.end (take lent.read room.old)) (R.remaining input.old)) (R.failures input.old) (R.remaining input.new) (R.failures input.new) room.new result }
+    ensures lent { IsLent (prepend_known (drop lent.end (take lent.read room.old)) (R.remaining input.old))
+        (R.failures input.old) (R.remaining input.new) (R.failures input.new) room.new result }
 {
     if let Some(found) = line_behind(room, lent) {
         return Ok(found);

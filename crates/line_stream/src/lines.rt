@@ -37,7 +37,8 @@ impl<R: Input> Model for Lines<R> {
       failures = R.failures s.input;
     } };
 
-    ghost invariant = { λ s. (length s.room.items ≡ longest_line) × (s.lent.begin ≤ s.lent.end) × (s.lent.end ≤ s.lent.read) × (s.lent.read ≤ longest_line) };
+    ghost invariant = { λ s. (length s.room.items ≡ longest_line) × (s.lent.begin ≤ s.lent.end)
+        × (s.lent.end ≤ s.lent.read) × (s.lent.read ≤ longest_line) };
 }
 
 impl<R: Input> Lines<R> {

@@ -27,13 +27,16 @@ pub fn mesh()
 /// all tunnels of each segment are of one horizon group.
 pub fn deliveries_stay_local()
     ensures { (told : Told) (es : List Event) (t original : ℕ) (b : List ℕ) → MeetsRules told →
-        ((vid : ℕ) (s : SegmentSettings) → segment_at (state_after (opened (settings_told told)) es).bridges.settings vid ≡ Some s → AreOneGroup s.tunnels) →
-        AllByRecursion (λ o. IsLocal o.place) (outcomes_of (answer (state_after (opened (settings_told told)) es) (packet_at t original b))) }
+        ((vid : ℕ) (s : SegmentSettings) →
+        segment_at (state_after (opened (settings_told told)) es).bridges.settings vid ≡ Some s → AreOneGroup s.tunnels) →
+        AllByRecursion (λ o. IsLocal o.place)
+        (outcomes_of (answer (state_after (opened (settings_told told)) es) (packet_at t original b))) }
 {}
 
 /// A local frame goes to at most one remote place of an endpoint, where each flood list has at most one entry of it.
 pub fn once_to_each_endpoint()
     ensures { (state : State) (t port original : ℕ) (b : List ℕ) (U : Underlay) →
-        ((vid : ℕ) (s : SegmentSettings) → segment_at state.bridges.settings vid ≡ Some s → count_by (λ r. is_own U r.addr) s.flood ≤ 1) →
+        ((vid : ℕ) (s : SegmentSettings) → segment_at state.bridges.settings vid ≡ Some s →
+        count_by (λ r. is_own U r.addr) s.flood ≤ 1) →
         count_by (λ o. is_remote_of U o.place) (outcomes_of (answer state (frame_at t port original b))) ≤ 1 }
 {}

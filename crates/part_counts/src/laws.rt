@@ -10,6 +10,8 @@ ghost use Rattle.part_counts.specs.Told.{IsPlace, IsTold, text_of};
 
 /// The summary of a run is the text of counts that a run can have, so it is read.
 pub fn runs()
-    ensures can { (S : Settings) (cs : List Change) (es : List Event) (cut : List Tap) → All (IsPlace (length S.ports.ports)) cut → IsTold (length S.ports.ports) (told_of S cs es cut) }
-    ensures text { (S : Settings) (cs : List Change) (es : List Event) (cut : List Tap) → run_summary S cs es cut ≡ text_of (length S.ports.ports) (told_of S cs es cut) }
+    ensures can { (S : Settings) (cs : List Change) (es : List Event) (cut : List Tap)
+        → All (IsPlace (length S.ports.ports)) cut → IsTold (length S.ports.ports) (told_of S cs es cut) }
+    ensures text { (S : Settings) (cs : List Change) (es : List Event) (cut : List Tap)
+        → run_summary S cs es cut ≡ text_of (length S.ports.ports) (told_of S cs es cut) }
 {}

@@ -44,7 +44,8 @@ impl Model for Summary {
 
     ghost Value = { Kept };
 
-    ghost view = { λ s. record { counts = s.counts.items; refused = s.refused; came = s.came; left = s.left; partial = s.partial; cut = s.cut.items } };
+    ghost view = { λ s.
+        record { counts = s.counts.items; refused = s.refused; came = s.came; left = s.left; partial = s.partial; cut = s.cut.items } };
 
     ghost invariant = { λ s. (length s.counts.items ≡ 167895) × (length s.refused ≡ 15) };
 }
@@ -55,7 +56,8 @@ impl Summary {
     /// it that the lines tell. `OutOfMemory`: memory was refused.
     pub fn read(alloc: Global, text: &[u8], ports: u8) -> Result<Summary, ReportFault>
         ensures text { IfOk result (λ summary. text.now ≡ text_of ports (told_in summary)) }
-        ensures same { (t : Told) → IsTold ports t → text.now ≡ text_of ports t → IfOk result (λ summary. SaysSame ports (told_in summary) t) }
+        ensures same { (t : Told) → IsTold ports t → text.now ≡ text_of ports t
+            → IfOk result (λ summary. SaysSame ports (told_in summary) t) }
         ensures read { (t : Told) → IsTold ports t → text.now ≡ text_of ports t → IfErr result (λ fault. fault ≡ OutOfMemory) }
     {
         let summary = Summary::of_lines(alloc, text)?;
@@ -172,7 +174,8 @@ impl Counted for Summary {
 
 /// Where a count of a segment stands, or of none.
 fn index_of(segment: Option<Vid>, number: u8) -> Option<usize>
-    ensures { MatchOption result (is_kept segment number ≡ false) (λ index. (is_kept segment number ≡ true) × (index ≡ index_of segment number) × (index < 167895)) }
+    ensures { MatchOption result (is_kept segment number ≡ false)
+        (λ index. (is_kept segment number ≡ true) × (index ≡ index_of segment number) × (index < 167895)) }
 {
     let number = usize::from(number);
     if number < NUMBERS {

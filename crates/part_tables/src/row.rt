@@ -21,7 +21,8 @@ pub(crate) fn next_row<'a>(
     text: &'a [u8],
     segments: &SegmentSet,
 ) -> Option<(TableRow<'a>, &'a [u8])>
-    ensures { MatchOption result (BeginsWithNone segments.now text.entry.now) (λ next. IsRow segments.now next.0 × (text.entry.now ≡ row_text next.0 ++ next.1.now)) }
+    ensures { MatchOption result (BeginsWithNone segments.now text.entry.now)
+        (λ next. IsRow segments.now next.0 × (text.entry.now ≡ row_text next.0 ++ next.1.now)) }
 {
     let end = text.iter().position(|c| *c == b'\n')?;
     let line = &text[..end];

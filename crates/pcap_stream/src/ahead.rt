@@ -106,14 +106,16 @@ impl<R: Input> ReadAhead<R> {
         ensures end { OnOk result (length self.new.ahead < wanted → IsAtEnd self.new.input.rest) }
         ensures spent { Spends self.old.input self.new.input }
         ensures part { OnOk result (self.old.input.reads + length self.old.ahead ≤ self.new.input.reads + length self.new.ahead + 1) }
-        ensures whole { OnOk result (wanted ≤ length self.new.ahead → self.old.input.reads + length self.old.ahead ≤ self.new.input.reads + wanted) }
+        ensures whole { OnOk result (wanted ≤ length self.new.ahead
+            → self.old.input.reads + length self.old.ahead ≤ self.new.input.reads + wanted) }
         ensures brings { OnOk result (most_in self.new ≤ most_in self.old) }
         ensures no_end { OnOk result (wanted ≤ length self.new.ahead → self.new.input.ends ≡ self.old.input.ends) }
         ensures none { OnErr result (self.new.ahead ≡ []) }
         ensures thrift { OnErr result (IsThrifty self.old.input self.new.input) }
         ensures quiet { OnOk result (self.new.input.failures ≡ self.old.input.failures) }
         ensures gives_up { OnErr result (GivesUp self.old.input self.new.input) }
-        ensures short { OnErr result (StopsShort (λ taken. length taken < wanted) (length self.old.ahead) (left_of self.old) self.new.input) }
+        ensures short { OnErr result
+            (StopsShort (λ taken. length taken < wanted) (length self.old.ahead) (left_of self.old) self.new.input) }
     {
         let held = self.held();
         let end = wanted.max(BLOCK);
@@ -147,7 +149,8 @@ impl<R: Input> ReadAhead<R> {
         ensures spent { Spends (left_of self.old) (left_of self.new) }
         ensures part { IfOk result (λ n. self.old.input.reads ≤ self.new.input.reads + n + 1) }
         ensures whole { IfOk result (λ n. wanted ≤ n → self.old.input.reads ≤ self.new.input.reads + n) }
-        ensures lacks { IfOk result (λ n. wanted ≤ n → self.old.input.reads + length self.old.ahead ≤ self.new.input.reads + max wanted (length self.old.ahead)) }
+        ensures lacks { IfOk result (λ n. wanted ≤ n
+            → self.old.input.reads + length self.old.ahead ≤ self.new.input.reads + max wanted (length self.old.ahead)) }
         ensures behind { wanted ≤ length self.old.ahead → length self.new.ahead + wanted ≡ length self.old.ahead }
         ensures brings { IfOk result (λ n. n + most_in self.new ≤ most_in self.old) }
         ensures most { most_in self.new ≤ most_in self.old }
@@ -157,7 +160,8 @@ impl<R: Input> ReadAhead<R> {
         ensures each { IfOk result (λ n. wanted ≤ n → TakesOneEach self.old.input self.new.input) }
         ensures quiet { OnOk result (self.new.input.failures ≡ self.old.input.failures) }
         ensures gives_up { OnErr result (GivesUp (left_of self.old) (left_of self.new)) }
-        ensures short { OnErr result (StopsShort (λ taken. length taken < wanted) (length self.old.ahead) (left_of self.old) (left_of self.new)) }
+        ensures short { OnErr result
+            (StopsShort (λ taken. length taken < wanted) (length self.old.ahead) (left_of self.old) (left_of self.new)) }
     {
         if self.held() < wanted {
             self.bring(wanted)?;

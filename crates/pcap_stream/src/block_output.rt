@@ -158,9 +158,11 @@ impl<W: Output> BlockOutput<W> {
             (before.now ++ (head.now ++ (addresses.now ++ (tag.now ++ body.now))))) }
         ensures quiet { OnOk result (self.new.failures ≡ self.old.failures) }
         ensures cause { OnErr result (GoesOnBy 1 self.old.failures self.new.failures) }
-        ensures held { OnOk result (HoldsBack (length before.now + length head.now + length addresses.now + length tag.now + length body.now)
+        ensures held { OnOk result (HoldsBack
+            (length before.now + length head.now + length addresses.now + length tag.now + length body.now)
             self.old self.new (before.now ++ (head.now ++ (addresses.now ++ (tag.now ++ body.now))))) }
-        ensures rest { OnErr result (HoldsRest (length before.now + length head.now + length addresses.now + length tag.now + length body.now)
+        ensures rest { OnErr result (HoldsRest
+            (length before.now + length head.now + length addresses.now + length tag.now + length body.now)
             self.old self.new) }
         ensures size { self.new.size ≡ self.old.size }
     {
@@ -253,9 +255,11 @@ impl<W: Output> Output for BlockOutput<W> {
             (before.now ++ (head.now ++ (addresses.now ++ (tag.now ++ body.now))))) }
         ensures quiet { OnOk result (self.new.failures ≡ self.old.failures) }
         ensures cause { OnErr result (GoesOnBy 1 self.old.failures self.new.failures) }
-        ensures held { OnOk result (HoldsBack (length before.now + length head.now + length addresses.now + length tag.now + length body.now)
+        ensures held { OnOk result (HoldsBack
+            (length before.now + length head.now + length addresses.now + length tag.now + length body.now)
             self.old self.new (before.now ++ (head.now ++ (addresses.now ++ (tag.now ++ body.now))))) }
-        ensures rest { OnErr result (HoldsRest (length before.now + length head.now + length addresses.now + length tag.now + length body.now)
+        ensures rest { OnErr result (HoldsRest
+            (length before.now + length head.now + length addresses.now + length tag.now + length body.now)
             self.old self.new) }
         ensures size { self.new.size ≡ self.old.size }
     {

@@ -29,7 +29,8 @@ pub enum State {
 
 /// Reads the global header.
 pub fn fetch_header<R: Input>(ahead: &mut ReadAhead<R>) -> Result<State, DeviceFault>
-    ensures header { IfOk result (λ state. (octets : List ℕ) → ReadsHeader (left_of ahead.old) (left_of ahead.new) (standing_of state octets)) }
+    ensures header { IfOk result (λ state. (octets : List ℕ)
+        → ReadsHeader (left_of ahead.old) (left_of ahead.new) (standing_of state octets)) }
     ensures sound { IfOk result (λ state. (octets : List ℕ) → IsSound state octets) }
     ensures most { most_in ahead.new ≤ most_in ahead.old }
     ensures spent { Spends (left_of ahead.old) (left_of ahead.new) }
@@ -52,8 +53,10 @@ pub fn fetch<R: Input>(style: Style, ahead: &mut ReadAhead<R>) -> Result<State, 
     ensures spent { Spends (left_of ahead.old) (left_of ahead.new) }
     ensures thrift { IsThrifty (left_of ahead.old) (left_of ahead.new) }
     ensures below { IsThrifty ahead.old.input ahead.new.input }
-    ensures lends { IfOk result (λ state. IsSome (lent (standing_of state ahead.new.taken)) → 16 + most_in ahead.new ≤ most_in ahead.old) }
-    ensures lacks { IfOk result (λ state. ReadsWhatLacks ahead.old.ahead (left_of ahead.old) (left_of ahead.new) (standing_of state ahead.new.taken)) }
+    ensures lends { IfOk result (λ state. IsSome (lent (standing_of state ahead.new.taken))
+        → 16 + most_in ahead.new ≤ most_in ahead.old) }
+    ensures lacks { IfOk result (λ state.
+        ReadsWhatLacks ahead.old.ahead (left_of ahead.old) (left_of ahead.new) (standing_of state ahead.new.taken)) }
     ensures gives_up { OnErr result (GivesUp (left_of ahead.old) (left_of ahead.new)) }
     ensures short { OnErr result (StopsShort (IsShortRecord style) (length ahead.old.ahead) (left_of ahead.old) (left_of ahead.new)) }
 {

@@ -80,7 +80,8 @@ impl<R: Input> Supply<R> {
         ensures fewer { OnOk result (self.new.reads < self.old.reads) }
         ensures quiet { OnOk result (self.new.failures ≡ self.old.failures) }
         ensures gives_up { OnErr result (GivesUp self.old self.new) }
-        ensures failed { OnErr result (GoesOnBy 1 self.old.failures self.new.failures ⊎ ((self.new ≡ self.old) × (self.old.reads ≡ 0))) }
+        ensures failed { OnErr result (GoesOnBy 1 self.old.failures self.new.failures
+            ⊎ ((self.new ≡ self.old) × (self.old.reads ≡ 0))) }
     {
         if self.reads == 0 {
             return Err(DeviceFault);
@@ -105,7 +106,8 @@ impl<R: Input> Supply<R> {
         requires order { (held ≤ wanted) × (wanted ≤ end) }
         requires room { (end ≤ length octets.old) × (length octets.old ≤ longest) }
         ensures bound { IfOk result (λ n. (held ≤ n) × (n ≤ end)) }
-        ensures taken { IfOk result (λ n. Consumes (prepend_known (take held octets.old) self.old.rest) self.new.rest (take n octets.new)) }
+        ensures taken { IfOk result (λ n.
+            Consumes (prepend_known (take held octets.old) self.old.rest) self.new.rest (take n octets.new)) }
         ensures end { IfOk result (λ n. n < wanted → IsAtEnd self.new.rest) }
         ensures spent { Spends self.old self.new }
         ensures part { IfOk result (λ n. self.old.reads + held ≤ self.new.reads + n + 1) }
@@ -115,7 +117,8 @@ impl<R: Input> Supply<R> {
         ensures thrift { OnErr result (IsThrifty self.old self.new) }
         ensures quiet { OnOk result (self.new.failures ≡ self.old.failures) }
         ensures gives_up { OnErr result (GivesUp self.old self.new) }
-        ensures short { OnErr result (StopsShort (λ taken. length taken < wanted) held (with_ahead (take held octets.old) self.old) self.new) }
+        ensures short { OnErr result
+            (StopsShort (λ taken. length taken < wanted) held (with_ahead (take held octets.old) self.old) self.new) }
     {
         let mut at = held;
         while at < wanted {

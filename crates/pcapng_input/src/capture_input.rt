@@ -108,7 +108,8 @@ impl<'s, R: Input> Input for CaptureInput<'s, R> {
         ensures calls { GoesOnBy 1 self.old.calls self.new.calls }
         ensures failures { CountsFaults self.old.failures self.new.failures result }
         ensures fault { KeepsFault (told_fault self.old.adapter) (told_fault self.new.adapter) }
-        ensures all { IfOk result (λ n. n ≡ 0 → 0 < length octets.new → IsAllTold (left_out_by self.new.adapter) (told self.new.adapter)) }
+        ensures all { IfOk result (λ n. n ≡ 0 → 0 < length octets.new
+            → IsAllTold (left_out_by self.new.adapter) (told self.new.adapter)) }
         ensures spent { Spends self.old.adapter.below.supply self.new.adapter.below.supply }
         ensures cause { FailsFor self.old.adapter self.new.adapter self.new.lacks_memory result }
     {

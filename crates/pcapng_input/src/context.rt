@@ -166,7 +166,8 @@ impl Context {
     ) -> Result<BlockMeaning<'a>, PcapngFault>
         requires { self.now.blocks + 1 < 2 ^ 64 }
         ensures value { IfOk result (λ meant. block_meaning selection.entry self.now.interfaces self.now.last block.now ≡ Ok meant) }
-        ensures fault { IfErr result (λ fault. block_meaning selection.entry self.now.interfaces self.now.last block.now ≡ Err fault.fault) }
+        ensures fault { IfErr result
+            (λ fault. block_meaning selection.entry self.now.interfaces self.now.last block.now ≡ Err fault.fault) }
         ensures place { IfErr result (λ fault. fault ≡ block_fault_at self.now fault.fault) }
         ensures limits { IfOk result IsMeantWithinLimits }
     {
@@ -210,7 +211,8 @@ impl Context {
     ) -> Result<Option<Record<'a>>, PcapngError>
         requires blocks { self.old.blocks + 1 < 2 ^ 64 }
         requires offset { self.old.offset + (12 + length block.now.body) < 2 ^ 64 }
-        ensures step { IfOk result (λ found. step_of selection.entry self.old block.now ≡ Ok (record { context = self.new; found = found })) }
+        ensures step { IfOk result (λ found. step_of selection.entry self.old block.now
+            ≡ Ok (record { context = self.new; found = found })) }
         ensures fault { IfErr result (IsStepError (step_of selection.entry self.old block.now) self.old) }
         ensures blocks { OnOk result (self.new.blocks ≡ self.old.blocks + 1) }
         ensures offset { OnOk result (self.new.offset ≡ self.old.offset + (12 + length block.now.body)) }

@@ -38,7 +38,8 @@ pub fn read_magic<R: Input>(
 ) -> Result<State, Stop>
     requires sound { IsSound state.Begun context.now gathered.old }
     requires empty { ready.old ≡ [] }
-    ensures leads { IfOk result (λ state. (selection : Selection) → is_of_one selection ≡ false → Leads selection Begun gathered.old context.now ready.new gathered.new state) }
+    ensures leads { IfOk result (λ state. (selection : Selection) → is_of_one selection ≡ false
+        → Leads selection Begun gathered.old context.now ready.new gathered.new state) }
     ensures taken { IfOk result (λ state. (selection : Selection) → is_of_one selection ≡ false → IsTaken selection state) }
     ensures sound { IfOk result (λ state. IsSound state context.now gathered.new) }
     ensures ready { OnErr result (ready.new ≡ []) }
@@ -172,7 +173,8 @@ pub fn pass_body<R: Input>(
     requires sound { IsSound (state.Passing order size left) context.now gathered.old }
     requires some { 0 < left }
     requires empty { ready.old ≡ [] }
-    ensures leads { IfOk result (λ state. (selection : Selection) → Leads selection (Passing context.now order size left) gathered.old context.now ready.new gathered.new state) }
+    ensures leads { IfOk result (λ state. (selection : Selection)
+        → Leads selection (Passing context.now order size left) gathered.old context.now ready.new gathered.new state) }
     ensures taken { IfOk result (λ state. (selection : Selection) → IsTaken selection state) }
     ensures sound { IfOk result (λ state. IsSound state context.now gathered.new) }
     ensures ready { OnErr result (ready.new ≡ []) }
@@ -207,7 +209,8 @@ pub fn pass_end<R: Input>(
 ) -> Result<State, Stop>
     requires sound { IsSound (state.Passing order size 0) context.old gathered.old }
     requires empty { ready.old ≡ [] }
-    ensures leads { IfOk result (λ state. (selection : Selection) → Leads selection (Passing context.old order size 0) gathered.old context.new ready.new gathered.new state) }
+    ensures leads { IfOk result (λ state. (selection : Selection)
+        → Leads selection (Passing context.old order size 0) gathered.old context.new ready.new gathered.new state) }
     ensures taken { IfOk result (λ state. (selection : Selection) → IsTaken selection state) }
     ensures sound { IfOk result (λ state. IsSound state context.new gathered.new) }
     ensures context { OnErr result (context.new ≡ context.old) }

@@ -106,7 +106,8 @@ impl Flows {
 
 /// Adds to each flow another.
 fn add_each(flows: &mut [Flow; 256], others: &[Flow; 256])
-    ensures { (i : ℕ) → slice_index_or flows.new i no_flow ≡ flow_with (slice_index_or flows.old i no_flow) (slice_index_or others.now i no_flow) }
+    ensures { (i : ℕ) → slice_index_or flows.new i no_flow
+        ≡ flow_with (slice_index_or flows.old i no_flow) (slice_index_or others.now i no_flow) }
 {
     for index in 0..256 {
         flows[index] = flows[index].with(others[index]);

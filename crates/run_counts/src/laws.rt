@@ -17,6 +17,8 @@ ghost use Rattle.run_counts.specs.Totals.{totals_of};
 pub fn runs()
     ensures counts { (S : Settings) (cs : List Change) (es : List Event) (begun ended : Keeping) → IsRising 0 (map (event_of cs) es) →
         IsCounted S cs es begun ended → totals_in ended ≡ totals_of es (answers_of S cs es) }
-    ensures text { (S : Settings) (cs : List Change) (es : List Event) (begun ended : Keeping) (cut : List Tap) → IsRising 0 (map (event_of cs) es) →
-        IsCounted S cs es begun ended → (ended.text ++ cuts_text (totals_in ended) cut ≡ run_summary S cs es cut) ⊎ (ended.is_lost ≡ true) }
+    ensures text { (S : Settings) (cs : List Change) (es : List Event) (begun ended : Keeping) (cut : List Tap) →
+        IsRising 0 (map (event_of cs) es) →
+        IsCounted S cs es begun ended →
+        (ended.text ++ cuts_text (totals_in ended) cut ≡ run_summary S cs es cut) ⊎ (ended.is_lost ≡ true) }
 {}

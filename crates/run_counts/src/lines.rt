@@ -107,7 +107,8 @@ fn put_drops<C: Counted>(
     segment: &Option<Vid>,
     reasons: &[Reason],
 ) -> Result<(), AllocError>
-    ensures { OnOk result (string_bytes text.new ≡ string_bytes text.old ++ flat_map (dropped_line (C.counts counts.now) segment.now) reasons.now) }
+    ensures { OnOk result (string_bytes text.new
+        ≡ string_bytes text.old ++ flat_map (dropped_line (C.counts counts.now) segment.now) reasons.now) }
 {
     for reason in reasons {
         put_dropped(text, counts, segment, *reason)?;
@@ -178,7 +179,8 @@ fn put_causes(
     refusals: &Refusals,
     causes: &[ChangeFault],
 ) -> Result<(), AllocError>
-    ensures { OnOk result (string_bytes text.new ≡ string_bytes text.old ++ flat_map (refused_line (refusals_in refusals.now)) causes.now) }
+    ensures { OnOk result (string_bytes text.new
+        ≡ string_bytes text.old ++ flat_map (refused_line (refusals_in refusals.now)) causes.now) }
 {
     for cause in causes {
         put_refused(text, refusals, *cause)?;
@@ -207,7 +209,8 @@ pub fn put_places(
     left: &Flows,
     ports: u8,
 ) -> Result<(), AllocError>
-    ensures { OnOk result (string_bytes text.new ≡ string_bytes text.old ++ places_text (passed (flow_in came.now) (flow_in left.now)) ports) }
+    ensures { OnOk result (string_bytes text.new
+        ≡ string_bytes text.old ++ places_text (passed (flow_in came.now) (flow_in left.now)) ports) }
 {
     for index in 0..ports {
         put_place(text, came, left, Tap::Port(index + 1))?;
@@ -217,7 +220,8 @@ pub fn put_places(
 
 /// Puts the lines of a place: what came from there, and what left.
 fn put_place(text: &mut String, came: &Flows, left: &Flows, tap: Tap) -> Result<(), AllocError>
-    ensures { OnOk result (string_bytes text.new ≡ string_bytes text.old ++ place_lines (passed (flow_in came.now) (flow_in left.now)) tap) }
+    ensures { OnOk result (string_bytes text.new
+        ≡ string_bytes text.old ++ place_lines (passed (flow_in came.now) (flow_in left.now)) tap) }
 {
     put_flow(text, tap, "in", came.at(tap))?;
     put_flow(text, tap, "out", left.at(tap))
@@ -246,7 +250,8 @@ pub fn put_partial(text: &mut String, count: u64) -> Result<(), AllocError>
 
 /// Puts the lines of cut captures, of places where this came.
 pub fn put_cuts(text: &mut String, came: &Flows, cut: &[Tap]) -> Result<(), AllocError>
-    ensures { OnOk result (string_bytes text.new ≡ string_bytes text.old ++ cuts_text (passed (flow_in came.now) (flow_in came.now)) cut.now) }
+    ensures { OnOk result (string_bytes text.new
+        ≡ string_bytes text.old ++ cuts_text (passed (flow_in came.now) (flow_in came.now)) cut.now) }
 {
     for tap in cut {
         put_cut(text, *tap, came.at(*tap).frames)?;

@@ -44,7 +44,8 @@ impl Model for RunCounts {
 
     ghost Value = { Keeping };
 
-    ghost view = { λ c. record { came = c.came; left = c.left; refused = c.refused; partial = c.partial; text = string_bytes c.text; is_lost = c.is_lost } };
+    ghost view = { λ c. record
+        { came = c.came; left = c.left; refused = c.refused; partial = c.partial; text = string_bytes c.text; is_lost = c.is_lost } };
 }
 
 impl RunCounts {
@@ -151,7 +152,8 @@ impl RunCounts {
 
     /// The text of the counts, but for cut captures, as the endpoint stands.
     fn told(&self, endpoint: &Endpoint) -> Result<String, AllocError>
-        ensures { IfOk result (λ text. string_bytes text ≡ counts_text (state_of endpoint.now).counts (length (state_of endpoint.now).bridges.settings.ports.ports) (totals_in self.now)) }
+        ensures { IfOk result (λ text. string_bytes text ≡ counts_text (state_of endpoint.now).counts
+            (length (state_of endpoint.now).bridges.settings.ports.ports) (totals_in self.now)) }
     {
         let mut text = String::new(self.alloc);
         put_segments(&mut text, endpoint)?;

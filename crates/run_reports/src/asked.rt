@@ -93,7 +93,8 @@ fn mark_named(names: &[Asked], found: &mut [bool], source: Option<Source>, numbe
     requires rising { IsNonDecreasingBy (λ (a : Asked). a.name.number) names.now }
     requires places { All (λ (a : Asked). a.place < length found.old) names.now }
     ensures any { result ≡ list_any (is_its source number) names.now }
-    ensures each { (k : ℕ) (b : Bool) → slice_index_or found.new k b ≡ (list_any (is_its_at source number k) names.now || slice_index_or found.old k b) }
+    ensures each { (k : ℕ) (b : Bool)
+        → slice_index_or found.new k b ≡ (list_any (is_its_at source number k) names.now || slice_index_or found.old k b) }
 {
     let mut is_there = false;
     let mut at = names.partition_point(

@@ -63,7 +63,8 @@ impl<'n, 'a> Reports<'n, 'a> {
         tables_at: Option<u64>,
         tables: bool,
     ) -> Result<Reports<'n, 'a>, AllocError>
-        ensures { IfOk result (λ reports. reports ≡ asked (map (λ name. name.now) names.entry.now) changes.entry.now segments.entry.now tables_at tables) }
+        ensures { IfOk result (λ reports. reports
+            ≡ asked (map (λ name. name.now) names.entry.now) changes.entry.now segments.entry.now tables_at tables) }
     {
         let found = vec![in alloc; false; names.len()]?;
         Ok(Reports {

@@ -64,7 +64,8 @@ impl Sought {
     pub fn meet(&mut self, endpoint: &Endpoint, event: &Event) -> bool
         ensures first { result ≡ is_first self.old.reasons.items self.old.addresses.items (state_of endpoint.now) event.now }
         ensures reasons { self.new.reasons.items ≡ map (reason_met (foreseen (state_of endpoint.now) event.now)) self.old.reasons.items }
-        ensures addresses { self.new.addresses.items ≡ map (address_met (passing_of (state_of endpoint.now) event.now.happening)) self.old.addresses.items }
+        ensures addresses { self.new.addresses.items
+            ≡ map (address_met (passing_of (state_of endpoint.now) event.now.happening)) self.old.addresses.items }
     {
         let mut is_first = meet_reasons(self.reasons.as_mut_slice(), endpoint, event);
         is_first |= meet_addresses(self.addresses.as_mut_slice(), endpoint, event);

@@ -76,8 +76,10 @@ pub fn runs()
 /// The same of a run by texts. What a text of settings means meets the rules, and each change of a text names a segment by a
 /// VID of 1 to 4094, or none: so of parts of such a run nothing more is asked than that they part all segments.
 pub fn texts()
-    ensures changes { (text : List ℕ) (cs : List TimedChange) → changes_in text ≡ Ok cs → AllByRecursion NamesVid (map (λ (c : TimedChange). c.change) cs) }
-    ensures together { (parts : List Segments) (settings changes : List ℕ) (s : Rules) (x : Inputs) (timeline : Timeline) (o : Outputs) →
+    ensures changes { (text : List ℕ) (cs : List TimedChange) → changes_in text ≡ Ok cs →
+        AllByRecursion NamesVid (map (λ (c : TimedChange). c.change) cs) }
+    ensures together { (parts : List Segments) (settings changes : List ℕ)
+        (s : Rules) (x : Inputs) (timeline : Timeline) (o : Outputs) →
         settings_in settings ≡ Ok s → changes_in changes ≡ Ok x.changes → IsRunOf s x timeline o → PartAll parts →
         texts_of_pieces (length x.ports)
         (merged (map (λ (part : Segments). pieces_in part (pieces_of (settings_told s) (changes_of x) timeline)) parts))

@@ -50,7 +50,8 @@ fn read_event(number: u64, line: &[u8], end: usize) -> Result<LineParts, LineFau
     requires high { end ≤ length line.now }
     requires behind { behind line.now ≡ drop (end + 1) line.now }
     requires last { end ≡ length line.now → count_by (λ c. c == 32) line.now ≡ 0 }
-    requires inner { end < length line.now → count_by (λ c. c == 32) line.now ≡ count_by (λ c. c == 32) (drop (end + 1) line.now) + 1 }
+    requires inner { end < length line.now
+        → count_by (λ c. c == 32) line.now ≡ count_by (λ c. c == 32) (drop (end + 1) line.now) + 1 }
     ensures { told_by line.now result ≡ event_of line.now (Some number) }
 {
     let Some(at) = result_at(line, end) else {

@@ -64,7 +64,8 @@ impl<'a> Places<'a> {
 /// The first place of a result, which begins there, and where what stands behind it begins; none where it has no place.
 #[tactic(auto, using(crate::proofs::Splits::sent_found, crate::proofs::Splits::sent_skipped))]
 fn next_in(line: &[u8], from: usize) -> (Option<Tap>, usize)
-    ensures { MatchOption result.0 ((sent_in (drop from line.now) ≡ []) × (sent_in (drop result.1 line.now) ≡ [])) (λ tap. sent_in (drop from line.now) ≡ tap ∷ sent_in (drop result.1 line.now)) }
+    ensures { MatchOption result.0 ((sent_in (drop from line.now) ≡ []) × (sent_in (drop result.1 line.now) ≡ []))
+        (λ tap. sent_in (drop from line.now) ≡ tap ∷ sent_in (drop result.1 line.now)) }
 {
     let mut at = from;
     while at < line.len() {
@@ -176,7 +177,8 @@ fn two_digits(first: u8, second: u8) -> Option<u8>
 /// What stands before the first `=` of the last word of a text, which begins there.
 fn place_in(text: &[u8], from: usize) -> Option<&[u8]>
     requires { from ≤ length text.now }
-    ensures { MatchOption result (before_equals (drop from text.now) ≡ None) (λ place. before_equals (drop from text.now) ≡ Some place.now) }
+    ensures { MatchOption result (before_equals (drop from text.now) ≡ None)
+        (λ place. before_equals (drop from text.now) ≡ Some place.now) }
 {
     match first_place(b'=', text, from) {
         Some(end) => Some(&text[from..end]),

@@ -14,7 +14,8 @@ pub(crate) fn word_end(line: &[u8], from: usize) -> usize
     ensures word { word (drop from line.now) ≡ drop from (take result line.now) }
     ensures behind { behind (drop from line.now) ≡ drop (result + 1) line.now }
     ensures last { result ≡ length line.now → count_by (λ c. c == 32) (drop from line.now) ≡ 0 }
-    ensures inner { result < length line.now → count_by (λ c. c == 32) (drop from line.now) ≡ count_by (λ c. c == 32) (drop (result + 1) line.now) + 1 }
+    ensures inner { result < length line.now
+        → count_by (λ c. c == 32) (drop from line.now) ≡ count_by (λ c. c == 32) (drop (result + 1) line.now) + 1 }
 {
     match first_place(b' ', line, from) {
         Some(end) => end,
@@ -26,7 +27,8 @@ pub(crate) fn word_end(line: &[u8], from: usize) -> usize
 #[inline]
 fn field_behind(line: &[u8], from: usize) -> Option<usize>
     ensures { MatchOption result (count_by (λ c. c == 32) (drop from line.now) ≡ 0)
-        (λ next. (behind (drop from line.now) ≡ drop next line.now) × (count_by (λ c. c == 32) (drop from line.now) ≡ count_by (λ c. c == 32) (drop next line.now) + 1)) }
+        (λ next. (behind (drop from line.now) ≡ drop next line.now)
+        × (count_by (λ c. c == 32) (drop from line.now) ≡ count_by (λ c. c == 32) (drop next line.now) + 1)) }
 {
     match first_place(b' ', line, from) {
         Some(end) => Some(end + 1),
@@ -39,8 +41,10 @@ pub(crate) fn result_at(line: &[u8], end: usize) -> Option<usize>
     requires high { end ≤ length line.now }
     requires behind { behind line.now ≡ drop (end + 1) line.now }
     requires last { end ≡ length line.now → count_by (λ c. c == 32) line.now ≡ 0 }
-    requires inner { end < length line.now → count_by (λ c. c == 32) line.now ≡ count_by (λ c. c == 32) (drop (end + 1) line.now) + 1 }
-    ensures { MatchOption result (has_result line.now ≡ false) (λ at. (has_result line.now ≡ true) × (result_in line.now ≡ drop at line.now)) }
+    requires inner { end < length line.now
+        → count_by (λ c. c == 32) line.now ≡ count_by (λ c. c == 32) (drop (end + 1) line.now) + 1 }
+    ensures { MatchOption result (has_result line.now ≡ false)
+        (λ at. (has_result line.now ≡ true) × (result_in line.now ≡ drop at line.now)) }
 {
     if end == line.len() {
         return None;

@@ -50,7 +50,8 @@ impl<R: Input> Input for CountInput<R> {
         ensures taken { ReadConsumes (R.remaining self.old.input) (R.remaining self.new.input) result octets.new }
         ensures calls { GoesOnBy 1 (R.calls self.old.input) (R.calls self.new.input) }
         ensures failures { CountsFaults (R.failures self.old.input) (R.failures self.new.input) result }
-        ensures count { (before : List ℕ) → self.old.octets ≡ counted before → self.new.octets ≡ counted (before ++ taken result octets.new) }
+        ensures count { (before : List ℕ) → self.old.octets ≡ counted before
+            → self.new.octets ≡ counted (before ++ taken result octets.new) }
     {
         let n = self.input.read(octets)?;
         self.octets = self.octets.saturating_add(n as u64);

@@ -55,10 +55,12 @@ impl<R: Input> DigestInput<R> {
     /// on, and of those that were left. `Err`: a read failed, or the reads weren't enough.
     pub fn finish(&mut self, reads: u64) -> Result<CaptureDigest, DeviceFault>
         ensures sum { IfOk result (λ digest. (octets : List ℕ) → HasTaken self.old.hasher self.old.input.octets octets
-            → (rest : List ℕ) × Consumes (R.remaining self.old.input.input) (R.remaining self.new.input.input) rest × (digest ≡ digest_of (octets ++ rest))) }
+            → (rest : List ℕ) × Consumes (R.remaining self.old.input.input) (R.remaining self.new.input.input) rest
+            × (digest ≡ digest_of (octets ++ rest))) }
         ensures end { OnOk result (IsAtEnd (R.remaining self.new.input.input)) }
         ensures quiet { OnOk result (R.failures self.new.input.input ≡ R.failures self.old.input.input) }
-        ensures failed { OnErr result (GoesOnBy 1 (R.failures self.old.input.input) (R.failures self.new.input.input) ⊎ GoesOnBy reads (R.calls self.old.input.input) (R.calls self.new.input.input)) }
+        ensures failed { OnErr result (GoesOnBy 1 (R.failures self.old.input.input) (R.failures self.new.input.input)
+            ⊎ GoesOnBy reads (R.calls self.old.input.input) (R.calls self.new.input.input)) }
     {
         let mut block = [0; BLOCK];
         for _ in 0..reads {

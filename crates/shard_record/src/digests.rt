@@ -56,7 +56,8 @@ pub fn digests_text(alloc: Global, digests: &CaptureDigests) -> Result<Vec<u8>, 
 /// The digests of a text, exactly as [`digests_text`] writes it.
 pub fn digests_of(text: &str) -> Result<CaptureDigests, DigestsFault>
     ensures read { IfOk result (λ d. AreDigests d.ports.items d.underlay × (text.now ≡ digests_text d.ports.items d.underlay)) }
-    ensures none { OnErr result ((ports : List ADigest) (underlay : ADigest) → AreDigests ports underlay → text.now ≢ digests_text ports underlay) }
+    ensures none { OnErr result ((ports : List ADigest) (underlay : ADigest)
+        → AreDigests ports underlay → text.now ≢ digests_text ports underlay) }
     ensures fault { IfErr result (λ fault. IsFaultIn text.now fault) }
 {
     let Some(told) = behind(text, "tep digests 1\n") else {

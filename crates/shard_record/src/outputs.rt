@@ -145,7 +145,8 @@ fn numbers_told(text: &str) -> Option<(OutputFacts, &str)>
 
 /// What stands behind the word of the line of the output at a place.
 fn behind_word(text: &str, place: usize) -> Option<&str>
-    ensures { MatchOption result ((rest : List ℕ) → text.now ≢ output_word place ++ rest) (λ rest. text.now ≡ output_word place ++ rest.now) }
+    ensures { MatchOption result ((rest : List ℕ) → text.now ≢ output_word place ++ rest)
+        (λ rest. text.now ≡ output_word place ++ rest.now) }
 {
     match place {
         0 => behind(text, "output decisions "),

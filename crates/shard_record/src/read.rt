@@ -14,8 +14,10 @@ use crate::steps::{behind, events_of, first_line, ports_of, sum_behind};
 /// The record of a text, exactly as [`text_of`](crate::text_of) writes it, and what is told of the outputs: of two more than the
 /// record has ports. Its segments are a part of the text, and not looked into.
 pub fn record_of(text: &str) -> Result<(ShardRecord<'_>, ToldOutputs), ShardFault>
-    ensures read { IfOk result (λ r. IsRecord (facts_of r.0) × AreOutputs (length r.0.ports.items) r.1.items × (text.now ≡ text_of (facts_of r.0) r.1.items)) }
-    ensures none { OnErr result ((f : Facts) (outputs : List AnOutput) → IsRecord f → AreOutputs (length f.ports) outputs → text.now ≢ text_of f outputs) }
+    ensures read { IfOk result (λ r. IsRecord (facts_of r.0) × AreOutputs (length r.0.ports.items) r.1.items
+        × (text.now ≡ text_of (facts_of r.0) r.1.items)) }
+    ensures none { OnErr result ((f : Facts) (outputs : List AnOutput) → IsRecord f
+        → AreOutputs (length f.ports) outputs → text.now ≢ text_of f outputs) }
     ensures fault { IfErr result (λ fault. IsFaultIn text.now fault) }
 {
     let (record, told) = match facts_behind(text) {

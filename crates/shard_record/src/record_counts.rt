@@ -38,7 +38,8 @@ impl RecordCounts {
 
     /// The same of a port's.
     fn count_port(&mut self, number: u8)
-        ensures more { HasCount (Port number) → records_at self.new (Port number) ≡ min (2 ^ 64 - 1) (records_at self.old (Port number) + 1) }
+        ensures more { HasCount (Port number)
+            → records_at self.new (Port number) ≡ min (2 ^ 64 - 1) (records_at self.old (Port number) + 1) }
         ensures others { (other : ATap) → other ≢ Port number → records_at self.new other ≡ records_at self.old other }
     {
         if number == 0 {

@@ -24,8 +24,8 @@ pub enum Difference {
     Capture(Tap),
 }
 
-/// Whether two parts are of one run: all their facts but the segments and their own events are the same. `Err`: the first that isn't, in the order
-/// of their lines.
+/// Whether two parts are of one run: all their facts but the segments and their own events are the same. `Err`: the first that
+/// isn't, in the order of their lines.
 pub fn same_run(a: &ShardRecord<'_>, b: &ShardRecord<'_>) -> Result<(), Difference>
     ensures ok { OnOk result (AreOfOneRun (facts_of a.now) (facts_of b.now)) }
     ensures other { IfErr result (λ d. ¬ Agrees d (facts_of a.now) (facts_of b.now)) }

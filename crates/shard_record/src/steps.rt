@@ -59,7 +59,8 @@ pub(crate) fn is_same(a: &[u8], b: &[u8]) -> bool
 
 /// The number of these decimal digits, without zeros in front.
 pub(crate) fn number_of(digits: &str) -> Option<u64>
-    ensures { MatchOption result ((n : ℕ) → n < 2 ^ 64 → digits.now ≢ decimal n) (λ n. (n < 2 ^ 64) × (digits.now ≡ decimal n)) }
+    ensures { MatchOption result ((n : ℕ) → n < 2 ^ 64 → digits.now ≢ decimal n)
+        (λ n. (n < 2 ^ 64) × (digits.now ≡ decimal n)) }
 {
     match digits.parse::<u64>() {
         Ok(number) => {

@@ -72,7 +72,8 @@ impl<R: Input> Input for SumInput<R> {
         ensures same { self.new.told ≡ self.old.told }
         ensures sum { (before : List ℕ) → IsSumOf self.old.sum before → IsSumOf self.new.sum (before ++ taken result octets.new) }
         ensures end { IfOk result (λ n. n ≡ 0 → 0 < length octets.new → self.new.sum ≡ self.new.told) }
-        ensures other { self.old.is_other ≡ false → self.new.is_other ≡ true → (self.new.sum ≢ self.new.told) × (is_err result ≡ true) }
+        ensures other { self.old.is_other ≡ false → self.new.is_other ≡ true
+            → (self.new.sum ≢ self.new.told) × (is_err result ≡ true) }
     {
         let Ok(n) = self.input.read(octets) else {
             self.failures = self.failures.wrapping_add(1);

@@ -66,7 +66,8 @@ impl<W: Output> Output for SumOutput<W> {
         ensures appended { WriteAppends (W.written self.old.output) (W.written self.new.output) result octets.now }
         ensures failures { CountsRefusals (W.failures self.old.output) (W.failures self.new.output) result (length octets.now) }
         ensures none { self.old.sum ≡ None → self.new.sum ≡ None }
-        ensures sum { (before : List ℕ) → IfSome self.old.sum (λ sum. IsSumOf sum before) → IfSome self.new.sum (λ sum. IsSumOf sum (before ++ taken result octets.now)) }
+        ensures sum { (before : List ℕ) → IfSome self.old.sum (λ sum. IsSumOf sum before)
+            → IfSome self.new.sum (λ sum. IsSumOf sum (before ++ taken result octets.now)) }
     {
         let n = self.output.write(octets)?;
         self.sum = added(self.sum, &octets[..n]);

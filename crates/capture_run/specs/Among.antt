@@ -32,7 +32,8 @@ with_event_among segments changes number s o e =
 abbrev pub with_events_among : Segments → List Change → ℕ → State → Outputs → List Happens → Outputs
 with_events_among segments changes count s o [] = o
 with_events_among segments changes count s o (e ∷ es) =
-    with_events_among segments changes (count + 1) (after_among segments s (event_of changes e)) (with_event_among segments changes (count + 1) s o e) es
+    with_events_among segments changes (count + 1) (after_among segments s (event_of changes e))
+    (with_event_among segments changes (count + 1) s o e) es
 
 -- the lines of cut captures stand in the part that has what comes to no segment
 abbrev pub cuts_among : Segments → List Cut → List Cut
@@ -47,21 +48,25 @@ outputs_among segments S changes ports timeline =
 
 -- with these settings and changes, by what the captures tell
 abbrev pub by_timeline_among : Segments → Asked → List TimedChange → ℕ → Result Timeline TimelineFault → Result Outputs RunFault
-by_timeline_among segments s changes ports (Ok timeline) = Ok (outputs_among segments (settings_told s) (map (λ c. c.change) changes) ports timeline)
+by_timeline_among segments s changes ports (Ok timeline) =
+    Ok (outputs_among segments (settings_told s) (map (λ c. c.change) changes) ports timeline)
 by_timeline_among segments s changes ports (Err fault) = Err (of_timeline fault)
 
 -- the same with the octets of the captures: the number of captures is asked first
 abbrev pub with_texts_among : Segments → Asked → List TimedChange → List (Vec ℕ Global) → List ℕ → Result Outputs RunFault
 with_texts_among segments s changes ports underlay =
-    if length ports == length s.ports then by_timeline_among segments s changes (length ports) (told (map (λ c. c.at) changes) ports underlay)
+    if length ports == length s.ports
+    then by_timeline_among segments s changes (length ports) (told (map (λ c. c.at) changes) ports underlay)
     else Err faults.PortCount
 
 -- the same with the settings, and what the changes mean
-abbrev pub with_settings_among : Segments → Asked → Meaning (List TimedChange) → List (Vec ℕ Global) → List ℕ → Result Outputs RunFault
+abbrev pub with_settings_among : Segments → Asked → Meaning (List TimedChange)
+    → List (Vec ℕ Global) → List ℕ → Result Outputs RunFault
 with_settings_among segments s (Ok changes) ports underlay = with_texts_among segments s changes ports underlay
 with_settings_among segments s (Err fault) ports underlay = Err (of_changes fault)
 
 -- by what the settings and the changes mean, with the faults of a whole run in their order
-abbrev pub run_among : Segments → Meaning Asked → Meaning (List TimedChange) → List (Vec ℕ Global) → List ℕ → Result Outputs RunFault
+abbrev pub run_among : Segments → Meaning Asked → Meaning (List TimedChange)
+    → List (Vec ℕ Global) → List ℕ → Result Outputs RunFault
 run_among segments (Ok s) changes ports underlay = with_settings_among segments s changes ports underlay
 run_among segments (Err fault) changes ports underlay = Err (of_settings fault)

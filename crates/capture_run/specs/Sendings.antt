@@ -20,7 +20,8 @@ pub record Sending : Type 0 where
 
 -- what was sent of an outcome, where something was
 abbrev pub sending_of : ℕ → Sent → Option Sending
-sending_of moment outcome = elim outcome.sent [ Ok octets ↦ Some (record { moment = moment; place = outcome.place; octets = octets }) | Err reason ↦ None ]
+sending_of moment outcome =
+    elim outcome.sent [ Ok octets ↦ Some (record { moment = moment; place = outcome.place; octets = octets }) | Err reason ↦ None ]
 
 -- of the outcomes those that were sent, in order
 abbrev pub sendings_of : ℕ → List Sent → List Sending

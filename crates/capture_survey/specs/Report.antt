@@ -80,7 +80,8 @@ line_text tap note = if note_count note == 0 then [] else tap_word tap ++ codes 
 -- the first line: what the capture is, and its records
 unfoldable pub heading_text : Report → List ℕ
 heading_text r =
-    tap_word r.tap ++ codes ": " ++ format_words r.is_pcapng r.survey.style ++ codes ", " ++ summary_words r.survey.tally.records r.survey.tally.span ++ codes "\n"
+    tap_word r.tap ++ codes ": " ++ format_words r.is_pcapng r.survey.style ++ codes ", "
+    ++ summary_words r.survey.tally.records r.survey.tally.span ++ codes "\n"
 
 -- the lines of what may be unmeant
 unfoldable pub notes_text : Report → List ℕ

@@ -126,7 +126,8 @@ at_tunnel tunnels named next = tunnel_check named (kind_named tunnels named) ∷
 -- of a remote endpoint that is to come onto a flood list
 abbrev pub flood_checks : Own → Entries → Addr → Tunnel → List Check
 flood_checks own flood addr kind =
-    usable_check addr ∷ family_check own addr ∷ own_check own addr ∷ absent_check (holds flood kind addr) ∷ flood_check (length flood) ∷ []
+    usable_check addr ∷ family_check own addr ∷ own_check own addr
+    ∷ absent_check (holds flood kind addr) ∷ flood_check (length flood) ∷ []
 
 -- of one that is to leave it
 abbrev pub leaving_checks : Entries → Addr → Tunnel → List Check
@@ -165,7 +166,8 @@ limit_checks S limit g =
 
 -- all, in their order
 abbrev pub checks : State → Change → List Check
-checks B (AddFlood vid addr tunnel) = in_segment B.settings vid (λ g. at_tunnel g.tunnels tunnel (flood_checks (own B.settings.overlay.underlay) g.flood addr))
+checks B (AddFlood vid addr tunnel) =
+    in_segment B.settings vid (λ g. at_tunnel g.tunnels tunnel (flood_checks (own B.settings.overlay.underlay) g.flood addr))
 checks B (RemoveFlood vid addr tunnel) = in_segment B.settings vid (λ g. at_tunnel g.tunnels tunnel (leaving_checks g.flood addr))
 checks B (Fix vid mac target) = in_segment B.settings vid (fix_checks B.settings mac target (B.tables vid))
 checks B (Unfix vid mac) = in_segment B.settings vid (λ g. fixed_check mac (B.tables vid) ∷ [])

@@ -77,10 +77,12 @@ name_of subcommands.Merge = codes "merge"
 -- what it takes
 abbrev pub arguments_of : Subcommand → List Argument
 arguments_of subcommands.Run =
-    arguments.Settings ∷ arguments.Changes ∷ arguments.Underlay ∷ arguments.RunOut ∷ arguments.Ports ∷ arguments.Tables ∷ arguments.TablesAt
+    arguments.Settings ∷ arguments.Changes ∷ arguments.Underlay
+    ∷ arguments.RunOut ∷ arguments.Ports ∷ arguments.Tables ∷ arguments.TablesAt
     ∷ arguments.Why ∷ arguments.Summary ∷ arguments.Segments ∷ arguments.Digests ∷ []
 arguments_of subcommands.TellingRun =
-    arguments.Settings ∷ arguments.Changes ∷ arguments.Underlay ∷ arguments.OptionalOut ∷ arguments.Ports ∷ arguments.Tables ∷ arguments.TablesAt
+    arguments.Settings ∷ arguments.Changes ∷ arguments.Underlay
+    ∷ arguments.OptionalOut ∷ arguments.Ports ∷ arguments.Tables ∷ arguments.TablesAt
     ∷ arguments.Why ∷ arguments.Summary ∷ arguments.Segments ∷ arguments.Digests ∷ []
 arguments_of subcommands.Check = arguments.Settings ∷ arguments.Changes ∷ arguments.SeenUnderlay ∷ arguments.SeenPorts ∷ []
 arguments_of subcommands.Explain = arguments.Settings ∷ arguments.Depth ∷ arguments.Values ∷ arguments.Capture ∷ []
@@ -107,7 +109,8 @@ versioned_app = let app = new_app (codes "tep") in record app { top = record app
 abbrev pub tep_app : App
 tep_app =
     with_commands versioned_app
-    (subcommands.Run ∷ subcommands.Check ∷ subcommands.Explain ∷ subcommands.Migrate ∷ subcommands.Digest ∷ subcommands.Merge ∷ [])
+    (subcommands.Run ∷ subcommands.Check ∷ subcommands.Explain
+    ∷ subcommands.Migrate ∷ subcommands.Digest ∷ subcommands.Merge ∷ [])
 
 -- the program with the run alone that may leave its folder out
 abbrev pub telling_app : App

@@ -15,14 +15,16 @@ use Rattle.command_line.specs.declared.line.Line.TheVariants as line
 use Rattle.command_line.specs.declared.line.LineFault.{LineFault}
 use Rattle.command_line.specs.declared.line.LineFault.TheVariants as fault
 
--- a command with its values: of `run` the settings, the changes, the underlay, the folder if there is one, the ports, whether the tables are
--- told, the moment at which they are, the events that are told in full, whether the counts are told, the segments that a
--- part takes, and the file of the digests that are lent to it; of `check` the settings, the changes, the underlay and the ports;
+-- a command with its values: of `run` the settings, the changes, the underlay, the folder if there is one, the ports, whether
+-- the tables are told, the moment at which they are, the events that are told in full, whether the counts are told, the
+-- segments that a part takes, and the file of the digests that are lent to it; of `check` the settings, the changes, the
+-- underlay and the ports;
 -- of `explain` the settings, the depth, whether values are told, and the capture; of `migrate` the settings; of `digest` the
 -- underlay and the ports; of `merge` the folder, those of the parts, whether the tables are told, and whether the counts are
 pub data Meaning : Type 0 where
   sample : Meaning
-  run : Text → Option Text → Text → Option Text → List Text → Bool → Option ℕ → List Text → Bool → Option Text → Option Text → Meaning
+  run : Text → Option Text → Text → Option Text → List Text → Bool
+      → Option ℕ → List Text → Bool → Option Text → Option Text → Meaning
   check : Text → Option Text → Option Text → List Text → Meaning
   explain : Text → ℕ → Bool → Text → Meaning
   migrate : Text → Meaning
@@ -33,7 +35,8 @@ pub data Meaning : Type 0 where
 abbrev pub meaning_of : Line → Meaning
 meaning_of line.Sample = sample
 meaning_of (line.Run settings changes underlay out ports tables tables_at why summary segments digests) =
-    run settings.now (option_map (λ t. t.now) changes) underlay.now (option_map (λ t. t.now) out) (texts ports.items) tables tables_at (texts why.items) summary (option_map (λ t. t.now) segments) (option_map (λ t. t.now) digests)
+    run settings.now (option_map (λ t. t.now) changes) underlay.now (option_map (λ t. t.now) out) (texts ports.items) tables tables_at
+    (texts why.items) summary (option_map (λ t. t.now) segments) (option_map (λ t. t.now) digests)
 meaning_of (line.Check settings changes underlay ports) =
     check settings.now (option_map (λ t. t.now) changes) (option_map (λ t. t.now) underlay) (texts ports.items)
 meaning_of (line.Explain settings depth values capture) = explain settings.now depth values capture.now
@@ -101,7 +104,9 @@ why_in rows = unwrap_or (all_of (codes "why") rows) []
 -- what `run` is asked to do
 abbrev pub run_meant : List Row → Option Meaning
 run_meant rows = option_and_then (λ s. option_and_then (λ u.
-    option_map (λ ps. run s (changes_in rows) u (first_of (codes "out") rows) ps (is_set (codes "tables") rows) (moment_in rows) (why_in rows) (is_set (codes "summary") rows) (first_of (codes "segments") rows) (first_of (codes "digests") rows)) (all_of (codes "ports") rows))
+    option_map (λ ps. run s (changes_in rows) u (first_of (codes "out") rows) ps (is_set (codes "tables") rows) (moment_in rows)
+    (why_in rows) (is_set (codes "summary") rows) (first_of (codes "segments") rows)
+    (first_of (codes "digests") rows)) (all_of (codes "ports") rows))
     (first_of (codes "underlay") rows)) (settings_in rows)
 
 -- what `check` is asked to do
@@ -123,7 +128,9 @@ digest_meant rows = option_and_then (λ u. option_map (λ ps. digest u ps) (all_
 
 -- what `merge` is asked to do
 abbrev pub merge_meant : List Row → Option Meaning
-merge_meant rows = option_and_then (λ o. option_map (λ ps. merge o ps (is_set (codes "tables") rows) (is_set (codes "summary") rows)) (all_of (codes "shards") rows)) (first_of (codes "out") rows)
+merge_meant rows =
+    option_and_then (λ o. option_map (λ ps. merge o ps (is_set (codes "tables") rows) (is_set (codes "summary") rows))
+    (all_of (codes "shards") rows)) (first_of (codes "out") rows)
 
 -- what a subcommand of this name is asked to do
 abbrev pub command_meant : Text → List Row → Option Meaning
@@ -158,7 +165,8 @@ has_any (t ∷ ts) = true
 
 -- something is told of a run besides its outputs
 abbrev pub is_telling : Meaning → Bool
-is_telling (run settings changes underlay out ports tables tables_at why summary segments digests) = tables || (is_some tables_at || (has_any why || summary))
+is_telling (run settings changes underlay out ports tables tables_at why summary segments digests) =
+    tables || (is_some tables_at || (has_any why || summary))
 is_telling _ = false
 
 -- the same, where it is so
@@ -202,7 +210,8 @@ ReadsInputOnce meaning = input_uses meaning ≤ 1
 
 -- digests are lent to a run that is no part
 abbrev pub lends_to_a_whole : Meaning → Bool
-lends_to_a_whole (run settings changes underlay out ports tables tables_at why summary segments digests) = is_some digests && not (is_some segments)
+lends_to_a_whole (run settings changes underlay out ports tables tables_at why summary segments digests) =
+    is_some digests && not (is_some segments)
 lends_to_a_whole _ = false
 
 -- digests are lent to nothing but a part
@@ -221,7 +230,8 @@ RefusesAsWhole words e = (kind_of e ≡ OutOfMemory) ⊎ ((takes tep_app words �
 -- that is no part
 abbrev pub Explains : List Text → LineFault → Type 0
 Explains words fault.OutOfMemory = ⊤
-Explains words (fault.Refused e) = (takes tep_app words ≡ false) × IsAmong (kind_of e) (fault_of tep_app words) × (telling_meant words ≡ None)
+Explains words (fault.Refused e) = (takes tep_app words ≡ false)
+    × IsAmong (kind_of e) (fault_of tep_app words) × (telling_meant words ≡ None)
 Explains words fault.NoValue = (fault_of tep_app words ≡ []) × (words_meant words ≡ None)
 Explains words fault.InputTwice = AreTaken words × IsSomeAnd (words_meant words) (λ meaning. 2 ≤ input_uses meaning)
 Explains words fault.NoSegments = AreTaken words × IsSomeAnd (words_meant words) (λ meaning. lends_to_a_whole meaning ≡ true)

@@ -14,7 +14,9 @@ is_within low high c = nat_le low c && nat_le c high
 
 -- the value of a hexadecimal digit of either case: '0' to '9', 'a' to 'f', 'A' to 'F'
 abbrev pub hex_digit : ℕ → Option ℕ
-hex_digit c = if is_within 48 57 c then Some (c - 48) else (if is_within 97 102 c then Some (c - 87) else (if is_within 65 70 c then Some (c - 55) else None))
+hex_digit c =
+    if is_within 48 57 c then Some (c - 48)
+    else (if is_within 97 102 c then Some (c - 87) else (if is_within 65 70 c then Some (c - 55) else None))
 
 -- the value of a decimal digit, '0' to '9'
 abbrev pub decimal_digit : ℕ → Option ℕ
@@ -58,7 +60,8 @@ cut separator [] = None
 cut separator (c ∷ cs) = if c == separator then Some ([], cs) else option_map (λ h. (c ∷ h.0, h.1)) (cut separator cs)
 
 -- one part, or a part and more parts behind a separator
-abbrev pub parts_in : {A : Type 0} → (List ℕ → Option A) → (List ℕ → Option (List A)) → List ℕ → Option (List ℕ × List ℕ) → Option (List A)
+abbrev pub parts_in : {A : Type 0} → (List ℕ → Option A) → (List ℕ → Option (List A))
+    → List ℕ → Option (List ℕ × List ℕ) → Option (List A)
 parts_in part more text None = option_map (λ x. x ∷ []) (part text)
 parts_in part more text (Some h) = option_and_then (λ x. option_map (λ xs. x ∷ xs) (more h.1)) (part h.0)
 

@@ -26,7 +26,8 @@ answer_text named (Replied fault) = segment_text named ++ codes " " ++ reply_tex
 
 -- an event's number, its moment, its source and its number there
 abbrev pub front_text : ℕ → ℕ → Source → ℕ → List ℕ
-front_text number moment source own = decimal number ++ codes " " ++ decimal moment ++ codes " " ++ source_word source ++ codes " " ++ decimal own ++ codes " "
+front_text number moment source own =
+    decimal number ++ codes " " ++ decimal moment ++ codes " " ++ source_word source ++ codes " " ++ decimal own ++ codes " "
 
 -- the same of an event of the timeline
 abbrev pub line_front : ℕ → Event → List ℕ

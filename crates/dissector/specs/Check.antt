@@ -11,7 +11,8 @@ use Rattle.capture_run.specs.declared.fault.RunFault.TheVariants as faults
 -- the numbers of ports, segments and changes, ended by LF
 abbrev pub counts_line : ℕ → ℕ → ℕ → List ℕ
 counts_line ports segments changes =
-    codes "ok: " ++ (decimal ports ++ (codes " ports, " ++ (decimal segments ++ (codes " segments, " ++ (decimal changes ++ codes " changes\n")))))
+    codes "ok: "
+    ++ (decimal ports ++ (codes " ports, " ++ (decimal segments ++ (codes " segments, " ++ (decimal changes ++ codes " changes\n")))))
 
 -- what both texts mean: the first fault, the settings' before the changes', or else the settings and the changes
 abbrev pub both : Meaning Settings → Meaning (List TimedChange) → Result (Settings × List TimedChange) RunFault

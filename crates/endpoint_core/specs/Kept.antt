@@ -16,12 +16,14 @@ pub record Kept : Type 0 where
 -- counts are stored as the pair of their rows
 abbrev pub cells_code : Coded Cells
 cells_code =
-    code_by (List ℕ × List (List ℕ)) (coded× (coded_list coded_ℕ) (coded_list (coded_list coded_ℕ))) (λ c. (c.nowhere, c.segments)) (λ p. record { nowhere = p.0; segments = p.1 }) (λ _. refl)
+    code_by (List ℕ × List (List ℕ)) (coded× (coded_list coded_ℕ) (coded_list (coded_list coded_ℕ)))
+    (λ c. (c.nowhere, c.segments)) (λ p. record { nowhere = p.0; segments = p.1 }) (λ _. refl)
 
 -- stored as its three parts
 abbrev pub kept_code : Coded Kept
 kept_code =
-    code_by (Held × (Cells × ℕ)) (coded× held_code (coded× cells_code coded_ℕ)) (λ k. (k.held, (k.cells, k.moment))) (λ p. record { held = p.0; cells = p.1.0; moment = p.1.1 }) (λ _. refl)
+    code_by (Held × (Cells × ℕ)) (coded× held_code (coded× cells_code coded_ℕ))
+    (λ k. (k.held, (k.cells, k.moment))) (λ p. record { held = p.0; cells = p.1.0; moment = p.1.1 }) (λ _. refl)
 
 -- the state of the machine that this is
 abbrev pub state_of : Kept → State

@@ -99,9 +99,15 @@ fault_at S vid target = in_segment (segment_at S vid) (λ s. target_fault (own S
 
 -- the first cause in the order of the checks, of those that depend on the settings alone
 abbrev pub refused : Settings → Change → Option ChangeFault
-refused S (AddFlood vid addr tunnel) = in_segment (segment_at S vid) (λ s. at_tunnel (kind_named s.tunnels tunnel) (λ kind. option_map of_flood (first (add_faults (own S.overlay.underlay) s.flood kind addr))))
-refused S (RemoveFlood vid addr tunnel) = in_segment (segment_at S vid) (λ s. at_tunnel (kind_named s.tunnels tunnel) (λ kind. first ((NotThere, not (holds s.flood kind addr)) ∷ [])))
-refused S (Fix vid mac target) = in_segment (segment_at S vid) (λ s. if is_group_mac mac then Some GroupAddress else target_fault (own S.overlay.underlay) (length S.ports.ports) s.tunnels target)
+refused S (AddFlood vid addr tunnel) =
+    in_segment (segment_at S vid) (λ s. at_tunnel (kind_named s.tunnels tunnel)
+    (λ kind. option_map of_flood (first (add_faults (own S.overlay.underlay) s.flood kind addr))))
+refused S (RemoveFlood vid addr tunnel) =
+    in_segment (segment_at S vid)
+    (λ s. at_tunnel (kind_named s.tunnels tunnel) (λ kind. first ((NotThere, not (holds s.flood kind addr)) ∷ [])))
+refused S (Fix vid mac target) =
+    in_segment (segment_at S vid) (λ s. if is_group_mac mac then Some GroupAddress
+    else target_fault (own S.overlay.underlay) (length S.ports.ports) s.tunnels target)
 refused S (Unfix vid mac) = in_segment (segment_at S vid) (λ s. None)
 refused S (SetAgeing vid seconds) = in_segment (segment_at S vid) (λ s. first ((OutOfRange, not (is_ageing seconds)) ∷ []))
 refused S (SetLearning vid on) = in_segment (segment_at S vid) (λ s. None)
@@ -117,7 +123,9 @@ refused S (AddSegment new) =
     ∷ (PoolFull, is_too_much S new.limit)
     ∷ [])
 refused S (RemoveSegment vid) = in_segment (segment_at S vid) (λ s. None)
-refused S (SetLimit vid limit) = in_segment (segment_at S vid) (λ s. first ((OutOfRange, not (is_limit limit)) ∷ (PoolFull, nat_lt (S.pool + s.limit) (sum_of_limits (tables_asked S) + limit)) ∷ []))
+refused S (SetLimit vid limit) =
+    in_segment (segment_at S vid) (λ s. first ((OutOfRange, not (is_limit limit))
+    ∷ (PoolFull, nat_lt (S.pool + s.limit) (sum_of_limits (tables_asked S) + limit)) ∷ []))
 
 -- ---- the settings after a change
 

@@ -12,4 +12,7 @@ use Rattle.endpoint_state.specs.Held.{Held}
 -- stored as its four parts
 abbrev pub held_code : Coded Held
 held_code =
-    code_by (Ports × (Overlay × (Shared × List Bool))) (coded× ports_code (coded× overlay_code (coded× tables.the_row.coded (coded_list coded_bool)))) (λ h. (h.ports, (h.under, (h.tables, h.learning)))) (λ p. record { ports = p.0; under = p.1.0; tables = p.1.1.0; learning = p.1.1.1 }) (λ _. refl)
+    code_by (Ports × (Overlay × (Shared × List Bool)))
+    (coded× ports_code (coded× overlay_code (coded× tables.the_row.coded (coded_list coded_bool))))
+    (λ h. (h.ports, (h.under, (h.tables, h.learning))))
+    (λ p. record { ports = p.0; under = p.1.0; tables = p.1.1.0; learning = p.1.1.1 }) (λ _. refl)

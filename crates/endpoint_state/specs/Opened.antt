@@ -14,7 +14,8 @@ abbrev pub settings_told : Told → Settings
 settings_told s = record {
   ports = ports.told s.ports (map member_rule s.segments);
   overlay = overlay.told s.underlay (map tunnel_rule s.segments);
-  bridges = λ vid. option_map (λ rule. record { limit = rule.limit; ageing = rule.ageing; learning = tells_learning s.segments vid }) (find (λ rule. rule.vid == vid) s.segments);
+  bridges = λ vid. option_map (λ rule. record { limit = rule.limit; ageing = rule.ageing; learning = tells_learning s.segments vid })
+      (find (λ rule. rule.vid == vid) s.segments);
   pool = s.pool;
 }
 

@@ -73,7 +73,9 @@ joined bridge segment members = record {
 -- the settings of the segment of a VID, where it has one
 abbrev pub segment_at : Settings → ℕ → Option SegmentSettings
 segment_at S vid =
-    option_and_then (λ bridge. option_and_then (λ segment. option_map (λ members. joined bridge segment members) (members_at S.ports vid)) (overlay.segment_at S.overlay vid)) (S.bridges vid)
+    option_and_then (λ bridge. option_and_then (λ segment.
+    option_map (λ members. joined bridge segment members) (members_at S.ports vid))
+    (overlay.segment_at S.overlay vid)) (S.bridges vid)
 
 -- the kind of the tunnel that a change means: the named one, where the segment has it; the first one's, where none is
 -- named

@@ -33,7 +33,8 @@ AreReached S vid m = (mac : _) → is_reached_if S vid (stands mac m) ≡ true
 
 -- whatever a segment can send to: where all stations of its table stand there before, they do after
 abbrev pub StaysReached : Segments → Segments → Type 0
-StaysReached old new = (S : Overlay) (vid : ℕ) → AreReached S vid (table_of vid old).entries → AreReached S vid (table_of vid new).entries
+StaysReached old new = (S : Overlay) (vid : ℕ) → AreReached S vid (table_of vid old).entries
+    → AreReached S vid (table_of vid new).entries
 
 -- ports, underlay and tables have the same segments, and what these know of remote places they can send to
 pub record AreSound (ports : Ports) (overlay : Overlay) (segments : Segments) : Type 0 where

@@ -40,7 +40,8 @@ tables_at t segments = λ vid. (table_of vid (aged_all t segments)).entries
 
 -- the settings that parts have
 abbrev pub settings_by : Ports → Overlay → List Bool → ℕ → Segments → Settings
-settings_by ports overlay learning pool segments = record { ports = ports; overlay = overlay; bridges = bridges_of learning segments; pool = pool }
+settings_by ports overlay learning pool segments =
+    record { ports = ports; overlay = overlay; bridges = bridges_of learning segments; pool = pool }
 
 -- the settings in force
 abbrev pub settings_of : {T : Type 0} → (T → Segments) → (T → ℕ) → Parts T → Settings
@@ -77,7 +78,8 @@ table_changed t c (Some s) vid m = if is_about vid c then entries_changed t s c 
 
 -- the state after a change that the settings don't refuse
 abbrev pub accepted_state : ℕ → Change → State → State
-accepted_state t c S = record { settings = accepted S.settings c; tables = λ vid. table_changed t c (segment_at S.settings vid) vid (S.tables vid) }
+accepted_state t c S =
+    record { settings = accepted S.settings c; tables = λ vid. table_changed t c (segment_at S.settings vid) vid (S.tables vid) }
 
 -- the state after a change at its moment; one that the settings refuse changes nothing, and one that the table refuses
 -- leaves the table as it is

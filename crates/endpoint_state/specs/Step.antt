@@ -41,7 +41,8 @@ table_learned t from f (Some s) m = if s.learning then learn s.limit t from f.sr
 
 -- the state after it: no other segment learns
 abbrev pub after_frame : ℕ → ℕ → Place → Frame → State → State
-after_frame t vid from f S = record S { tables = λ w. if w == vid then table_learned t from f (segment_at S.settings w) (S.tables w) else S.tables w }
+after_frame t vid from f S = record S
+    { tables = λ w. if w == vid then table_learned t from f (segment_at S.settings w) (S.tables w) else S.tables w }
 
 -- a place where a frame of the segment can leave: a port that is there and a member, or a remote endpoint that it can
 -- send to

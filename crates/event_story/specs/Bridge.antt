@@ -101,7 +101,8 @@ aim_fact false stood (Some reason) = aim_by stood reason
 -- ---- both
 
 -- what there is to tell of a frame at the bridge, by what the bridge goes by and what stands for both addresses
-abbrev pub bridge_told : Config → ℕ → ℕ → Place → Option Entry → Bool → Option Entry → Fact → Option Reason → List Fact
+abbrev pub bridge_told : Config → ℕ → ℕ → Place → Option Entry
+    → Bool → Option Entry → Fact → Option Reason → List Fact
 bridge_told c limit entries from source group destination stood dropped =
     source_fact c.learning limit entries from source
     ∷ known_fact group stood
@@ -118,4 +119,5 @@ told_in t ports left before behind x dropped s =
 -- the state that the last event left, and in the same at that moment
 abbrev pub bridge_facts : ℕ → State → State → Came → Option Reason → List Fact
 bridge_facts t left B x dropped =
-    option_map_or (told_in t B.settings.ports (left.tables x.vid) (B.tables x.vid) ((after_frame t x.vid x.from x.frame B).tables x.vid) x dropped) (segment_at B.settings x.vid) []
+    option_map_or (told_in t B.settings.ports (left.tables x.vid) (B.tables x.vid)
+    ((after_frame t x.vid x.from x.frame B).tables x.vid) x dropped) (segment_at B.settings x.vid) []

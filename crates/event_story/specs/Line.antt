@@ -52,12 +52,14 @@ words (facts.Ether source destination) = codes "ether " ++ mac_text source ++ co
 words (facts.Source group) = codes "source " ++ group_word group
 words (facts.Destination group reserved) = codes "destination " ++ destination_word group reserved
 words (facts.Port port up) = port_text port ++ codes " " ++ up_word up
-words (facts.Tag vid pcp dei) = codes "tag vid " ++ decimal vid ++ codes " pcp " ++ decimal pcp ++ codes " dei " ++ (if dei then codes "1" else codes "0")
+words (facts.Tag vid pcp dei) =
+    codes "tag vid " ++ decimal vid ++ codes " pcp " ++ decimal pcp ++ codes " dei " ++ (if dei then codes "1" else codes "0")
 words facts.NoTag = codes "no tag"
 words facts.CutTag = codes "tag cut short"
 words facts.ReservedVid = codes "vid 4095 reserved"
 words (facts.Accepts port tagged taken) =
-    port_text port ++ (if taken then codes " takes " else codes " refuses ") ++ (if tagged then codes "frames with a vid" else codes "frames without a vid")
+    port_text port ++ (if taken then codes " takes " else codes " refuses ")
+    ++ (if tagged then codes "frames with a vid" else codes "frames without a vid")
 words (facts.Segment vid by_tag) = codes "segment " ++ decimal vid ++ codes " by the vid of " ++ origin_word by_tag
 words (facts.NoSegment vid by_tag) = codes "no segment " ++ decimal vid ++ codes " by the vid of " ++ origin_word by_tag
 words (facts.Member port egress) = port_text port ++ member_word egress
@@ -87,14 +89,16 @@ words (facts.Fixed stood) = codes "source not learned, it is at " ++ stood_text 
 words (facts.Full limit) = codes "source not learned, the table has its limit of " ++ decimal limit
 words facts.ToGroup = codes "destination a group, flooded"
 words (facts.Known stood) = known_text stood
-words (facts.Dead stood since) = codes "destination dead since " ++ decimal since ++ codes ", before at " ++ stood_text stood ++ codes ", flooded"
+words (facts.Dead stood since) =
+    codes "destination dead since " ++ decimal since ++ codes ", before at " ++ stood_text stood ++ codes ", flooded"
 words (facts.Same place) = place_text place ++ codes " is where it came from"
 words (facts.Horizon place) = place_text place ++ codes " is of the sender's horizon group"
 words (facts.Shut place) = place_text place ++ codes " down, or no member"
 words facts.Nobody = codes "nobody to flood to"
 words (facts.AtPort port egress) = codes "out p" ++ decimal port ++ egress_word egress
 words (facts.InTunnel kind addr vni hop packet mtu reason) =
-    codes "out " ++ place_text (Remote kind addr) ++ codes " vni " ++ decimal vni ++ codes " next hop " ++ mac_text hop ++ length_text packet mtu ++ unsent_text reason
+    codes "out " ++ place_text (Remote kind addr) ++ codes " vni " ++ decimal vni
+    ++ codes " next hop " ++ mac_text hop ++ length_text packet mtu ++ unsent_text reason
 
 -- a line of its own
 abbrev pub fact_line : Fact → List ℕ

@@ -29,7 +29,8 @@ use Rattle.event_story.specs.declared.fact.Fact.TheVariants as facts
 -- refuses
 abbrev pub packet_tests : List Reason
 packet_tests =
-    TooLong ∷ Sliced ∷ Runt ∷ NotIp ∷ BadIp ∷ BadIpSum ∷ BadOuterSource ∷ NotForUs ∷ Fragment ∷ NotUdp ∷ BadUdp ∷ NotTunnel ∷ ZeroSum ∷ BadUdpSum
+    TooLong ∷ Sliced ∷ Runt ∷ NotIp ∷ BadIp ∷ BadIpSum ∷ BadOuterSource
+    ∷ NotForUs ∷ Fragment ∷ NotUdp ∷ BadUdp ∷ NotTunnel ∷ ZeroSum ∷ BadUdpSum
     ∷ ShortTunnel ∷ NoVniFlag ∷ BadVersion ∷ Control ∷ NotEthernet ∷ BadOptions ∷ CriticalOption
     ∷ UnknownVni ∷ WrongGroup ∷ UnknownPeer ∷ InnerRunt ∷ BadSource ∷ Reserved ∷ InnerTag ∷ []
 
@@ -45,8 +46,10 @@ datagram_if p = if is_none (first (udp_faults p)) then Some (udp_parts p) else N
 
 -- what a tunnel header of a kind stands before: its VNI, and the text behind it
 abbrev pub inner_if : List (ℕ × ℕ) → List ℕ → Tunnel → Option Carried
-inner_if known d Vxlan = if is_none (first (vxlan_faults d)) then Some (record { kind = Vxlan; vni = vxlan_vni d; inner = vxlan_inner d }) else None
-inner_if known d Geneve = if is_none (first (geneve_faults known d)) then Some (record { kind = Geneve; vni = geneve_vni d; inner = geneve_inner d }) else None
+inner_if known d Vxlan =
+    if is_none (first (vxlan_faults d)) then Some (record { kind = Vxlan; vni = vxlan_vni d; inner = vxlan_inner d }) else None
+inner_if known d Geneve =
+    if is_none (first (geneve_faults known d)) then Some (record { kind = Geneve; vni = geneve_vni d; inner = geneve_inner d }) else None
 
 -- the datagram of a frame, with its packet
 abbrev pub datagram_in : List ℕ → Option (Packet × Parts)

@@ -58,9 +58,11 @@ can_come s e = nat_le s.moment e.moment && is_there (length s.bridges.settings.p
 abbrev pub story_of : State → ℕ → Happens → Happening → List ℕ
 story_of s number e (happenings.Change index) = []
 story_of s number e (happenings.Record (taps.Port port) c) =
-    told number e (frame_facts e.moment s.bridges (aged e.moment s.bridges) port c.original c.octets) (answer s (frame_at e.moment port c.original c.octets))
+    told number e (frame_facts e.moment s.bridges (aged e.moment s.bridges) port c.original c.octets)
+    (answer s (frame_at e.moment port c.original c.octets))
 story_of s number e (happenings.Record taps.Underlay c) =
-    told number e (arrival_facts e.moment s.bridges (aged e.moment s.bridges) c.original c.octets) (answer s (packet_at e.moment c.original c.octets))
+    told number e (arrival_facts e.moment s.bridges (aged e.moment s.bridges) c.original c.octets)
+    (answer s (packet_at e.moment c.original c.octets))
 
 -- the story of an event of this number that comes to an endpoint in this state; nothing, where it can't come
 abbrev pub story : State → ℕ → Happens → List ℕ
@@ -68,7 +70,8 @@ story s number e = if can_come s e then story_of s number e e.happening else []
 
 -- the story of an event of a run with these changes: that of a change that is there, or else as above
 abbrev pub run_story_of : List TimedChange → State → ℕ → Happens → Happening → List ℕ
-run_story_of changes s number e (happenings.Change index) = option_map_or (λ (c : TimedChange). change_story s number e c.change) (slice_get changes index) []
+run_story_of changes s number e (happenings.Change index) =
+    option_map_or (λ (c : TimedChange). change_story s number e c.change) (slice_get changes index) []
 run_story_of changes s number e (happenings.Record tap c) = story s number e
 
 -- by what happens

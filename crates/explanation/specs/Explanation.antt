@@ -39,7 +39,8 @@ event_text overlay depth values number row =
 -- the events are numbered on from this many
 abbrev pub event_texts : Overlay → ℕ → Values → ℕ → List (Happens × Answer) → List ℕ
 event_texts overlay depth values count [] = []
-event_texts overlay depth values count (row ∷ rows) = event_text overlay depth values (count + 1) row ++ event_texts overlay depth values (count + 1) rows
+event_texts overlay depth values count (row ∷ rows) =
+    event_text overlay depth values (count + 1) row ++ event_texts overlay depth values (count + 1) rows
 
 -- the events of a capture, each as the bridge of its segment decides it, and a line where the capture ends with a cut rest
 abbrev pub explanation : Settings → ℕ → Values → Timeline → List ℕ

@@ -13,4 +13,5 @@ text_at depth values number s e = event_text s.bridges.settings.overlay depth va
 -- events behind so many others
 abbrev pub texts_from : ℕ → Values → ℕ → State → List Happens → List ℕ
 texts_from depth values count s [] = []
-texts_from depth values count s (e ∷ es) = text_at depth values (count + 1) s e ++ texts_from depth values (count + 1) (after s (event_of [] e)) es
+texts_from depth values count s (e ∷ es) =
+    text_at depth values (count + 1) s e ++ texts_from depth values (count + 1) (after s (event_of [] e)) es

@@ -63,7 +63,8 @@ card_line is_left = if is_left then codes "  udp checksum left to the card" ++ 1
 
 -- all of them, in the order of the packet
 abbrev pub layers_text : Values → Layers → List ℕ
-layers_text values l = flat_map (head_line values) l.apart.heads ++ (payload_line l.apart.payload ++ (flat_map tail_line l.apart.tails ++ stop_line l.stop))
+layers_text values l =
+    flat_map (head_line values) l.apart.heads ++ (payload_line l.apart.payload ++ (flat_map tail_line l.apart.tails ++ stop_line l.stop))
 
 -- what was decided of a packet, and its layers without their values
 abbrev pub explained : Decision → Layers → List ℕ

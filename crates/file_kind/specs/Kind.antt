@@ -74,4 +74,5 @@ kind_words kinds.Zstd = codes "it is compressed with zstd: editcap -F nsecpcap I
 kind_words kinds.Snoop = codes "it is a snoop capture: editcap -F nsecpcap IN OUT converts it"
 kind_words kinds.Erf = codes "it begins as an ERF capture: editcap -F nsecpcap IN OUT converts it"
 kind_words kinds.Text = codes "it is a text"
-kind_words kinds.Other = codes "its first octets are of no format that is known here: editcap -F nsecpcap IN OUT converts what Wireshark reads"
+kind_words kinds.Other =
+    codes "its first octets are of no format that is known here: editcap -F nsecpcap IN OUT converts what Wireshark reads"

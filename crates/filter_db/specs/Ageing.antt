@@ -38,13 +38,15 @@ passes_sifted p (Some e) = refl
 pub get-kept : (p : Entry → Bool) (m : Table) (mac : List ℕ) → get (kept p m) mac ≡ sifted p (get m mac)
 unfolding kept
 get-kept p m mac =
-    get-retain_keys m (λ x. passes p (get m x)) mac (λ x e. ap (λ o. passes p (get m o)) (sym (mac_apart mac x e))) ∙ passes_sifted p (get m mac)
+    get-retain_keys m (λ x. passes p (get m x)) mac (λ x e. ap (λ o. passes p (get m o)) (sym (mac_apart mac x e)))
+    ∙ passes_sifted p (get m mac)
 
 no_more : (e : Entry) (b : Bool) → (b ≡ true → false ≡ true) → None ≡ cond b (Some e) None
 no_more e true k = absurd (false≢true (k refl))
 no_more e false k = refl
 
-sifted-sifted : (p q : Entry → Bool) → ((e : Entry) → q e ≡ true → p e ≡ true) → (o : Option Entry) → sifted q (sifted p o) ≡ sifted q o
+sifted-sifted : (p q : Entry → Bool) → ((e : Entry) → q e ≡ true → p e ≡ true)
+    → (o : Option Entry) → sifted q (sifted p o) ≡ sifted q o
 sifted-sifted p q h None = refl
 sifted-sifted p q h (Some e) = by (p e) (h e)
   where
@@ -53,14 +55,16 @@ sifted-sifted p q h (Some e) = by (p e) (h e)
     by false k = no_more e (q e) k
 
 -- to keep more first changes nothing
-pub kept-kept : (p q : Entry → Bool) → ((e : Entry) → q e ≡ true → p e ≡ true) → (m : Table) → kept q (kept p m) ≡ kept q m
+pub kept-kept : (p q : Entry → Bool) → ((e : Entry) → q e ≡ true → p e ≡ true)
+    → (m : Table) → kept q (kept p m) ≡ kept q m
 kept-kept p q h m = same_table _ _ (λ mac.
     get-kept q (kept p m) mac ∙ ap (sifted q) (get-kept p m mac) ∙ sifted-sifted p q h (get m mac) ∙ sym (get-kept q m mac))
 
 younger : (ageing t later last : ℕ) → t ≤ later → ltb (later - last) ageing ≡ true → ltb (t - last) ageing ≡ true
 younger ageing t later last h y = grind (arith, nat_tests)
 
-young_before : (ageing t later : ℕ) → t ≤ later → (last : Option ℕ) → is_young ageing later last ≡ true → is_young ageing t last ≡ true
+young_before : (ageing t later : ℕ) → t ≤ later → (last : Option ℕ)
+    → is_young ageing later last ≡ true → is_young ageing t last ≡ true
 young_before ageing t later h None y = refl
 young_before ageing t later h (Some last) y = younger ageing t later last h y
 
@@ -70,7 +74,9 @@ live-live ageing t later m h = kept-kept (is_live ageing t) (is_live ageing late
 
 -- the same of a segment
 pub aged-aged : (t u : ℕ) (s : Segment) → t ≤ u → aged u (aged t s) ≡ aged u s
-aged-aged t u s h = ap (λ (m : Table). let left : Segment = record { limit = s.limit; ageing = s.ageing; entries = m } in left) (live-live (nanoseconds s.ageing) t u s.entries h)
+aged-aged t u s h =
+    ap (λ (m : Table). let left : Segment = record { limit = s.limit; ageing = s.ageing; entries = m } in left)
+    (live-live (nanoseconds s.ageing) t u s.entries h)
 
 pub aged_later : (t u : ℕ) (o : Option Segment) → t ≤ u → option_map (aged u) (option_map (aged t) o) ≡ option_map (aged u) o
 aged_later t u None h = refl

@@ -13,4 +13,5 @@ table_code = code (coded_list coded_ℕ) entry.the_row.coded
 -- a segment is stored as the triple of its fields
 abbrev pub segment_code : Coded Segment
 segment_code =
-    code_by (ℕ × (ℕ × Table)) (coded× coded_ℕ (coded× coded_ℕ table_code)) (λ s. (s.limit, (s.ageing, s.entries))) (λ p. record { limit = p.0; ageing = p.1.0; entries = p.1.1 }) (λ _. refl)
+    code_by (ℕ × (ℕ × Table)) (coded× coded_ℕ (coded× coded_ℕ table_code))
+    (λ s. (s.limit, (s.ageing, s.entries))) (λ p. record { limit = p.0; ageing = p.1.0; entries = p.1.1 }) (λ _. refl)

@@ -14,7 +14,9 @@ pub record Database : Type 0 where
 
 -- a database is stored as the pair of its fields
 abbrev pub database_code : Coded Database
-database_code = code_by (ℕ × List (Option Segment)) (coded× coded_ℕ (coded_list (coded_option segment_code))) (λ d. (d.moment, d.segments)) (λ p. record { moment = p.0; segments = p.1 }) (λ _. refl)
+database_code =
+    code_by (ℕ × List (Option Segment)) (coded× coded_ℕ (coded_list (coded_option segment_code)))
+    (λ d. (d.moment, d.segments)) (λ p. record { moment = p.0; segments = p.1 }) (λ _. refl)
 
 -- tables at a moment: what is dead then is no part of them
 abbrev pub database_at : ℕ → List (Option Segment) → Database

@@ -22,7 +22,8 @@ settings_behind S changes = fold (λ S c. changed S c.change) S changes
 -- the change of an index, where the settings refuse it behind those before it
 abbrev pub refusal_at : Settings → List TimedChange → ℕ → Option Foreseen
 refusal_at S changes k =
-    option_and_then (λ c. option_map (λ why. record { number = k + 1; at = c.at; fault = why }) (refused (settings_behind S (take k changes)) c.change)) (slice_get changes k)
+    option_and_then (λ c. option_map (λ why. record { number = k + 1; at = c.at; fault = why })
+    (refused (settings_behind S (take k changes)) c.change)) (slice_get changes k)
 
 -- all that are refused, in their order
 abbrev pub refusals : Settings → List TimedChange → List Foreseen
@@ -31,7 +32,8 @@ refusals S changes = filter_map (refusal_at S changes) (range_with_len 0 (length
 -- its line, of which what stands behind the colon is what a decision line says
 abbrev pub foreseen_text : Foreseen → List ℕ
 foreseen_text f =
-    codes "change " ++ decimal f.number ++ codes " at " ++ decimal f.at ++ codes ": refused " ++ decimal (number_of f.fault) ++ codes " " ++ name_of f.fault
+    codes "change " ++ decimal f.number ++ codes " at " ++ decimal f.at
+    ++ codes ": refused " ++ decimal (number_of f.fault) ++ codes " " ++ name_of f.fault
 
 -- a law: what is told of the change of a number is that it is refused, where it is, and nothing else
 abbrev pub TellsEachRefusal : Type 0

@@ -13,9 +13,11 @@ has_tag b = begins_tag (drop 12 b)
 -- the text b is that of a frame without a tag and with this body; or of one with this tag and this body; or it has a
 -- tag's type and no room for a tag and a body of 2 octets
 abbrev pub SplitsTag : List ℕ → Tagging → Type 0
-SplitsTag b (Plain body) = (has_tag b ≡ false) × (b ≡ plain (frame_of b)) × (body.now ≡ (frame_of b).body) × (2 ≤ length body.now)
+SplitsTag b (Plain body) = (has_tag b ≡ false) × (b ≡ plain (frame_of b))
+    × (body.now ≡ (frame_of b).body) × (2 ≤ length body.now)
 SplitsTag b (Tagged tci body) =
-    (has_tag b ≡ true) × (b ≡ tagged (frame_behind_tag b) (vid_of tci)) × (tci ≡ field 14 2 b) × (body.now ≡ (frame_behind_tag b).body) × (2 ≤ length body.now)
+    (has_tag b ≡ true) × (b ≡ tagged (frame_behind_tag b) (vid_of tci))
+    × (tci ≡ field 14 2 b) × (body.now ≡ (frame_behind_tag b).body) × (2 ≤ length body.now)
 SplitsTag b Cut = (has_tag b ≡ true) × (length b < 18)
 
 -- the same as a value, without where it lies in memory

@@ -13,4 +13,5 @@ CarriesAreAdded = (s : ℕ) → folded s ≡ folded (s / 65536 + s % 65536)
 
 -- a text with its checksum put in, at an even place, sums up to all ones
 abbrev pub ChecksumsComplete : Type 0
-ChecksumsComplete = (k : ℕ) (a b : List ℕ) → length a ≡ 2 * k → folded (total (a ++ (octets 2 (check (a ++ 0 ∷ 0 ∷ b)) ++ b))) ≡ 65535
+ChecksumsComplete = (k : ℕ) (a b : List ℕ) → length a ≡ 2 * k
+    → folded (total (a ++ (octets 2 (check (a ++ 0 ∷ 0 ∷ b)) ++ b))) ≡ 65535

@@ -38,7 +38,8 @@ pub record Datagram (b : List ℕ) (src dst : Addr) (sport dport sum : ℕ) (d :
   pub are_tags : AllByRecursion IsOuterTag tags
   pub is_carrier : IsUdpCarrier family head src dst (8 + length d + length tail)
   pub fits : (sport < 2 ^ 16) × (dport < 2 ^ 16) × (sum < 2 ^ 16) × (8 + length d < 2 ^ 16)
-  pub whole : b ≡ addresses ++ (concat tags ++ (ether_type family ++ (head ++ ((udp_header sport dport sum d ++ (d ++ tail)) ++ trailer))))
+  pub whole : b
+      ≡ addresses ++ (concat tags ++ (ether_type family ++ (head ++ ((udp_header sport dport sum d ++ (d ++ tail)) ++ trailer))))
 
 -- ---- the same of a text by its places
 

@@ -38,7 +38,8 @@ BadUdpHasNoSplit = (p : List ℕ) → (is_bad_udp p ≡ true) ↔ ((v : Parts) �
 abbrev pub DatagramIsFound : Type 0
 DatagramIsFound =
     (b : List ℕ) → IsText b → first (datagram_reasons b) ≡ None
-    → Datagram b (source (family b) (ip_text b)) (destination (family b) (ip_text b)) (sport (ip_payload b)) (dport (ip_payload b)) (udp_sum (ip_payload b)) (data_of (ip_payload b))
+    → Datagram b (source (family b) (ip_text b)) (destination (family b) (ip_text b))
+    (sport (ip_payload b)) (dport (ip_payload b)) (udp_sum (ip_payload b)) (data_of (ip_payload b))
 
 -- a datagram is refused for no reason, and each of its parts is the one by place
 abbrev pub DatagramIsOnly : Type 0

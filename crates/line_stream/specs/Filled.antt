@@ -22,13 +22,15 @@ pub record EndsAt (text : List ℕ) (end : ℕ) : Type 0 where
 -- often it failed, are told first
 abbrev pub IsFilled : Option (List ℕ) → ℕ → Option (List ℕ) → ℕ → List ℕ → Result Ends LinesFault → Type 0
 IsFilled old failed left failures room (Ok ends) =
-    (failures ≡ failed) × IfSome old (λ text. (take ends.line room ≡ first_line text) × (prepend_known (drop ends.line (take ends.read room)) left ≡ Some (behind_line text)))
+    (failures ≡ failed) × IfSome old (λ text. (take ends.line room ≡ first_line text)
+    × (prepend_known (drop ends.line (take ends.read room)) left ≡ Some (behind_line text)))
 IsFilled old failed left failures room (Err TooLong) = (failures ≡ failed) × IfSome old IsLong
 IsFilled old failed left failures room (Err Read) = GoesOnBy 1 failed failures
 
 -- a line that is lent in the room is the first of a text, and behind it stands the rest, with what the input has left
 abbrev pub IsNext : Option (List ℕ) → Option (List ℕ) → List ℕ → Lent → Type 0
-IsNext old left room lent = IfSome old (λ text. (drop lent.begin (take lent.end room) ≡ first_line text) × (prepend_known (drop lent.end (take lent.read room)) left ≡ Some (behind_line text)))
+IsNext old left room lent = IfSome old (λ text. (drop lent.begin (take lent.end room) ≡ first_line text)
+    × (prepend_known (drop lent.end (take lent.read room)) left ≡ Some (behind_line text)))
 
 -- the next line is lent; what was there and what the input had left, and how often it failed, are told first
 abbrev pub IsLent : Option (List ℕ) → ℕ → Option (List ℕ) → ℕ → List ℕ → Result Lent LinesFault → Type 0

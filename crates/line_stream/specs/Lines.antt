@@ -32,6 +32,7 @@ pub record Reader : Type 0 where
 
 -- the next line is lent, or at the end nothing; or it is too long, or a read failed
 abbrev pub IsFetched : Reader → Reader → Result (Unit {0}) LinesFault → Type 0
-IsFetched old new (Ok x) = (new.failures ≡ old.failures) × IfSome old.rest (λ text. (new.line ≡ first_line text) × (new.rest ≡ Some (behind_line text)))
+IsFetched old new (Ok x) = (new.failures ≡ old.failures)
+    × IfSome old.rest (λ text. (new.line ≡ first_line text) × (new.rest ≡ Some (behind_line text)))
 IsFetched old new (Err TooLong) = (new.failures ≡ old.failures) × IfSome old.rest IsLong
 IsFetched old new (Err Read) = GoesOnBy 1 old.failures new.failures

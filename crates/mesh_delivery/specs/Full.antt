@@ -30,7 +30,8 @@ pub record IsFull (underlays : ℕ → Underlay) (s : SegmentSettings) : Type 0 
 
 -- each segment of each endpoint is so
 abbrev pub AreFull : Mesh → Type 0
-AreFull m = (endpoint vid : ℕ) (s : SegmentSettings) → segment_at (settings_at m endpoint) vid ≡ Some s → IsFull (λ n. (settings_at m n).overlay.underlay) s
+AreFull m = (endpoint vid : ℕ) (s : SegmentSettings) → segment_at (settings_at m endpoint) vid ≡ Some s
+    → IsFull (λ n. (settings_at m n).overlay.underlay) s
 
 -- before each of these happenings
 abbrev pub Throughout : Mesh → List Happening → Type 0

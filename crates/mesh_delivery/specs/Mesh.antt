@@ -81,7 +81,8 @@ outcomes_of (Replied fault) = []
 
 -- the frame that leaves at a place, if it is a local port
 abbrev pub left_one : Origin → ℕ → Settings → ℕ → Option Flying → Place → Result (List ℕ) Reason → List Left
-left_one origin endpoint S vid by (Local port) (Ok octets) = record { origin = origin; endpoint = endpoint; settings = S; vid = vid; port = port; by = by; octets = octets } ∷ []
+left_one origin endpoint S vid by (Local port) (Ok octets) =
+    record { origin = origin; endpoint = endpoint; settings = S; vid = vid; port = port; by = by; octets = octets } ∷ []
 left_one origin endpoint S vid by _ _ = []
 
 -- what left at local ports, of all that was sent
@@ -90,7 +91,8 @@ left_of origin endpoint S vid by sent = flat_map (λ o. left_one origin endpoint
 
 -- the packet that is sent to a place, if it is a remote endpoint
 abbrev pub flying_one : Origin → Settings → ℕ → Place → Result (List ℕ) Reason → List Flying
-flying_one origin S vid (Remote kind addr) (Ok octets) = record { origin = origin; sender = S; vid = vid; kind = kind; addr = addr; octets = octets } ∷ []
+flying_one origin S vid (Remote kind addr) (Ok octets) =
+    record { origin = origin; sender = S; vid = vid; kind = kind; addr = addr; octets = octets } ∷ []
 flying_one origin S vid _ _ = []
 
 -- the packets that go on their way, of all that was sent
@@ -124,7 +126,8 @@ after_local m endpoint port e (Ok x) =
       left = left_of origin endpoint S x.vid None sent ++ m.left;
       frames = m.frames + 1;
     }
-after_local m endpoint port e (Err refused) = record { endpoints = with_event m endpoint e; flying = m.flying; left = m.left; frames = m.frames + 1 }
+after_local m endpoint port e (Err refused) =
+    record { endpoints = with_event m endpoint e; flying = m.flying; left = m.left; frames = m.frames + 1 }
 
 -- after the delivery of packet y, which brought a frame into a segment, or none; the rest is still on its way
 abbrev pub after_delivery : Mesh → ℕ → Event → Flying → List Flying → Result Came Refused → Mesh
@@ -137,21 +140,24 @@ after_delivery m endpoint e y rest (Ok x) =
       left = left_of y.origin endpoint S x.vid (Some y) sent ++ m.left;
       frames = m.frames;
     }
-after_delivery m endpoint e y rest (Err refused) = record { endpoints = with_event m endpoint e; flying = rest; left = m.left; frames = m.frames }
+after_delivery m endpoint e y rest (Err refused) =
+    record { endpoints = with_event m endpoint e; flying = rest; left = m.left; frames = m.frames }
 
 -- a packet is delivered once, to an endpoint that owns its destination, and to no other
 abbrev pub delivered : Mesh → ℕ → ℕ → ℕ → Option Flying → Mesh
 delivered m endpoint t place None = m
 delivered m endpoint t place (Some y) =
     if is_own (settings_at m endpoint).overlay.underlay y.addr
-    then after_delivery m endpoint (packet_at t (length y.octets) y.octets) y (remove m.flying place) (came_by (settings_at m endpoint).overlay (length y.octets) y.octets)
+    then after_delivery m endpoint (packet_at t (length y.octets) y.octets) y
+    (remove m.flying place) (came_by (settings_at m endpoint).overlay (length y.octets) y.octets)
     else m
 
 -- the mesh after one thing happened
 abbrev pub mesh_after : Mesh → Happening → Mesh
 mesh_after m (Comes endpoint t port original octets) =
     after_local m endpoint port (frame_at t port original octets) (came_at (settings_at m endpoint).ports port original octets)
-mesh_after m (Changes endpoint t change) = record { endpoints = with_event m endpoint (change_at t change); flying = m.flying; left = m.left; frames = m.frames }
+mesh_after m (Changes endpoint t change) =
+    record { endpoints = with_event m endpoint (change_at t change); flying = m.flying; left = m.left; frames = m.frames }
 mesh_after m (Delivers endpoint t place) = delivered m endpoint t place (slice_get m.flying place)
 
 -- the mesh after these things happened, one after another

@@ -31,11 +31,13 @@ blank6 t = (t.next_hop ++ t.mac) ++ (ether_type Ip6 ++ (ip6_sent t.ttl t.src (re
 
 -- what a head over IPv4 tells, by its places
 abbrev pub fixed4 : List ℕ → Fixed
-fixed4 b = record { next_hop = part 0 6 b; mac = part 6 6 b; ttl = octet 22 b; src = part 26 4 b; dport = field 36 2 b; tunnel = part 42 8 b }
+fixed4 b =
+    record { next_hop = part 0 6 b; mac = part 6 6 b; ttl = octet 22 b; src = part 26 4 b; dport = field 36 2 b; tunnel = part 42 8 b }
 
 -- and over IPv6
 abbrev pub fixed6 : List ℕ → Fixed
-fixed6 b = record { next_hop = part 0 6 b; mac = part 6 6 b; ttl = octet 21 b; src = part 22 16 b; dport = field 56 2 b; tunnel = part 62 8 b }
+fixed6 b =
+    record { next_hop = part 0 6 b; mac = part 6 6 b; ttl = octet 21 b; src = part 22 16 b; dport = field 56 2 b; tunnel = part 62 8 b }
 
 -- the sum of the fixed words of the IPv4 header
 abbrev pub ip4_part : Fixed → ℕ

@@ -27,9 +27,13 @@ use Rattle.overlay_settings.specs.Rules.{IsWithin}
 
 -- the words of the kinds of changes
 abbrev pub kind_words : List (List ℕ × Kind)
-kind_words = (codes "add_flood", kinds.AddFlood) ∷ (codes "remove_flood", kinds.RemoveFlood) ∷ (codes "fix", kinds.Fix) ∷ (codes "unfix", kinds.Unfix) ∷ (codes "set_ageing", kinds.SetAgeing)
-    ∷ (codes "set_learning", kinds.SetLearning) ∷ (codes "set_member", kinds.SetMember) ∷ (codes "port_up", kinds.PortUp) ∷ (codes "port_down", kinds.PortDown) ∷ (codes "flush", kinds.Flush)
-    ∷ (codes "add_segment", kinds.AddSegment) ∷ (codes "remove_segment", kinds.RemoveSegment) ∷ (codes "set_limit", kinds.SetLimit) ∷ []
+kind_words =
+    (codes "add_flood", kinds.AddFlood) ∷ (codes "remove_flood", kinds.RemoveFlood)
+    ∷ (codes "fix", kinds.Fix) ∷ (codes "unfix", kinds.Unfix) ∷ (codes "set_ageing", kinds.SetAgeing)
+    ∷ (codes "set_learning", kinds.SetLearning) ∷ (codes "set_member", kinds.SetMember)
+    ∷ (codes "port_up", kinds.PortUp) ∷ (codes "port_down", kinds.PortDown) ∷ (codes "flush", kinds.Flush)
+    ∷ (codes "add_segment", kinds.AddSegment) ∷ (codes "remove_segment", kinds.RemoveSegment)
+    ∷ (codes "set_limit", kinds.SetLimit) ∷ []
 
 -- the words of how frames leave at a port
 abbrev pub egress_words : List (List ℕ × Option Egress)
@@ -51,7 +55,9 @@ keys_of kinds.SetMember = keys_with (codes "vid" ∷ codes "port" ∷ codes "egr
 keys_of kinds.PortUp = keys_with (codes "port" ∷ [])
 keys_of kinds.PortDown = keys_with (codes "port" ∷ [])
 keys_of kinds.Flush = keys_with (codes "vid" ∷ [])
-keys_of kinds.AddSegment = keys_with (codes "vid" ∷ codes "vni" ∷ codes "tunnel" ∷ codes "group" ∷ codes "vni2" ∷ codes "group2" ∷ codes "limit" ∷ codes "ageing" ∷ codes "learn" ∷ codes "peers" ∷ codes "tags" ∷ [])
+keys_of kinds.AddSegment =
+    keys_with (codes "vid" ∷ codes "vni" ∷ codes "tunnel" ∷ codes "group" ∷ codes "vni2" ∷ codes "group2"
+    ∷ codes "limit" ∷ codes "ageing" ∷ codes "learn" ∷ codes "peers" ∷ codes "tags" ∷ [])
 keys_of kinds.RemoveSegment = keys_with (codes "vid" ∷ [])
 keys_of kinds.SetLimit = keys_with (codes "vid" ∷ codes "limit" ∷ [])
 
@@ -109,7 +115,8 @@ other_kind Geneve = Vxlan
 -- the second tunnel, of the other kind, where a VNI of it is told; a horizon group goes with it alone
 abbrev pub second_in : Place → Tunnel → Option ℕ → Meaning (List SegmentTunnel)
 second_in at kind None = absent at (codes "group2") >>= λ none. Ok []
-second_in at kind (Some vni) = defaulted at (codes "group2") group_number 0 >>= λ group. Ok (record { kind = other_kind kind; vni = vni; group = group } ∷ [])
+second_in at kind (Some vni) =
+    defaulted at (codes "group2") group_number 0 >>= λ group. Ok (record { kind = other_kind kind; vni = vni; group = group } ∷ [])
 
 -- the tunnels of a segment that comes, of which there are one or two
 unfoldable pub new_tunnels_of : Place → Meaning (List SegmentTunnel)

@@ -10,7 +10,8 @@ use Rattle.config_text.specs.Column.{any_addr}
 
 -- a flood list with one more remote, where the list takes it
 abbrev pub with_remote : Own → Tunnel → Entries → Addr → Option Entries
-with_remote own kind flood addr = if is_none (first (add_faults own flood kind addr)) then Some (flood ++ record { tunnel = kind; addr = addr } ∷ []) else None
+with_remote own kind flood addr =
+    if is_none (first (add_faults own flood kind addr)) then Some (flood ++ record { tunnel = kind; addr = addr } ∷ []) else None
 
 -- a list with the remote that a value tells
 abbrev pub put_remote : Own → Tunnel → Entries → Data → Option Entries

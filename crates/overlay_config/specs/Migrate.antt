@@ -14,7 +14,8 @@ use Rattle.overlay_config.specs.Settings.{version_of}
 -- with a value at a key, in the keys' order
 abbrev pub with_value : List ℕ → Data → Members → Members
 with_value k d no_members = member k d no_members
-with_value k d (member l e ms) = match_ordering (slice_cmp nat_cmp k l) (member k d (member l e ms)) (member l d ms) (member l e (with_value k d ms))
+with_value k d (member l e ms) =
+    match_ordering (slice_cmp nat_cmp k l) (member k d (member l e ms)) (member l d ms) (member l e (with_value k d ms))
 
 -- with a value at a key, where there is one
 abbrev pub with_option : List ℕ → Option Data → Members → Members
@@ -37,7 +38,9 @@ tunnel_table s =
 
 -- a segment without `vni`, `tunnel` and `flood`, and with a list of one tunnel
 abbrev pub migrated_segment : Members → Members
-migrated_segment s = with_value (codes "tunnel") (array (item (table (tunnel_table s)) no_items)) (without (codes "flood") (without (codes "tunnel") (without (codes "vni") s)))
+migrated_segment s =
+    with_value (codes "tunnel") (array (item (table (tunnel_table s)) no_items))
+    (without (codes "flood") (without (codes "tunnel") (without (codes "vni") s)))
 
 -- an item of the list of segments
 abbrev pub migrated_item : Data → Data
@@ -58,7 +61,8 @@ migrated_list d = d
 
 -- with the list of segments migrated
 abbrev pub migrated_segments : Members → Members
-migrated_segments ms = with_option (codes "segment") (option_map migrated_list (get_member (codes "segment") ms)) (without (codes "segment") ms)
+migrated_segments ms =
+    with_option (codes "segment") (option_map migrated_list (get_member (codes "segment") ms)) (without (codes "segment") ms)
 
 -- each key stays as it is but `version` and `segment`
 abbrev pub version_2 : Members → Members

@@ -26,7 +26,8 @@ is_taken vid tunnels earlier = list_any (is_alike vid tunnels) earlier
 
 -- the keys that say nothing of tunnels
 abbrev pub local_keys : List (List ℕ)
-local_keys = codes "limit" ∷ codes "ageing" ∷ codes "learn" ∷ codes "peers" ∷ codes "tags" ∷ codes "untagged" ∷ codes "tagged" ∷ []
+local_keys =
+    codes "limit" ∷ codes "ageing" ∷ codes "learn" ∷ codes "peers" ∷ codes "tags" ∷ codes "untagged" ∷ codes "tagged" ∷ []
 
 -- the keys of a segment
 abbrev pub segment_keys : Version → List (List ℕ)

@@ -1,5 +1,5 @@
--- The tunnels of a segment and its flood list: in version 1 the keys `vni`, `tunnel` and `flood` of `segment.k`, in version 2 the tables of `segment.k.tunnel`.
--- It states no standard.
+-- The tunnels of a segment and its flood list: in version 1 the keys `vni`, `tunnel` and `flood` of `segment.k`, in version 2 the tables
+-- of `segment.k.tunnel`. It states no standard.
 use Rattle.std.specs.Prelude.{ℕ, ◌-◌, List, [], ◌∷◌, length, map, slice_get, Option, Ok, codes}
 use Rattle.std.specs.List.{list_any}
 use Rattle.std.specs.Option.{option_map_or}

@@ -24,7 +24,8 @@ keys_added Three = codes "partial" ∷ []
 -- all keys of the underlay
 abbrev pub underlay_keys : Version → List (List ℕ)
 underlay_keys version =
-    codes "mac" ∷ codes "next_hop" ∷ codes "ip4" ∷ codes "ip6" ∷ codes "mtu" ∷ codes "ttl" ∷ codes "vxlan_port" ∷ codes "geneve_port" ∷ codes "sum4" ∷ codes "sum6" ∷ codes "zero6"
+    codes "mac" ∷ codes "next_hop" ∷ codes "ip4" ∷ codes "ip6" ∷ codes "mtu" ∷ codes "ttl"
+    ∷ codes "vxlan_port" ∷ codes "geneve_port" ∷ codes "sum4" ∷ codes "sum6" ∷ codes "zero6"
     ∷ keys_added version ++ codes "known" ∷ codes "hop" ∷ []
 
 -- whether checksums left to the card are taken, which versions before the third can't ask for

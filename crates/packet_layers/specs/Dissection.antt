@@ -1,6 +1,6 @@
--- The layers of a packet of the underlay, and why taking them off stops. It states no standard. Each is read as an endpoint reads it that takes
--- packets from a tunnel, and the reasons are those for which it would refuse the packet. What it asks for its own sake is
--- left aside: who sent the packet, to whom, and for which segment.
+-- The layers of a packet of the underlay, and why taking them off stops. It states no standard. Each is read as an endpoint
+-- reads it that takes packets from a tunnel, and the reasons are those for which it would refuse the packet. What it asks for
+-- its own sake is left aside: who sent the packet, to whom, and for which segment.
 --     refusal      the reason of an endpoint
 --     dissection      the layers
 use Rattle.std.specs.Prelude.{ℕ, zero, suc, ◌==◌, ◌&&◌, nat_le, Bool, if◌then◌else◌, List, length, filter, Option, Some, None}

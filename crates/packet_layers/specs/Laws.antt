@@ -45,5 +45,6 @@ HasNoTunnel a = All (λ (h : Head). is_tunnel h.kind ≡ false) a.heads
 -- where an endpoint refuses the packet for such a reason, taking it apart stops with it, before any tunnel header
 abbrev pub AgreesWithArrival : Overlay → List ℕ → Layers → Type 0
 AgreesWithArrival S b layers =
-    (vid : Option ℕ) (reason : Reason) → IsTrue (is_of_layers reason) → arrival S b ≡ Err (record { segment = vid; reason = reason })
+    (vid : Option ℕ) (reason : Reason) → IsTrue (is_of_layers reason)
+    → arrival S b ≡ Err (record { segment = vid; reason = reason })
     → (layers.stop ≡ At reason) × HasNoTunnel layers.apart

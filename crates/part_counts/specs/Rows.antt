@@ -49,7 +49,8 @@ segment_of text =
 -- NUMBER NAME N
 abbrev pub dropped_in : Option ℕ → List ℕ → Option Row
 dropped_in segment text =
-    option_and_then (λ number. option_and_then (λ count. Some (Count segment number count)) (number_of (behind (behind text)))) (small (word text))
+    option_and_then (λ number. option_and_then (λ count. Some (Count segment number count))
+    (number_of (behind (behind text)))) (small (word text))
 
 -- sent N, dropped NUMBER NAME N
 abbrev pub count_of : Option ℕ → List ℕ → Option Row
@@ -63,16 +64,21 @@ count_in text = option_and_then (λ segment. count_of segment (behind text)) (se
 
 -- NUMBER NAME N
 abbrev pub refused_in : List ℕ → Option Row
-refused_in text = option_and_then (λ number. option_and_then (λ count. Some (Refused number count)) (number_of (behind (behind text)))) (small (word text))
+refused_in text =
+    option_and_then (λ number. option_and_then (λ count. Some (Refused number count))
+    (number_of (behind (behind text)))) (small (word text))
 
 -- N OCTETS
 abbrev pub flow_by : List ℕ → Option Flow
-flow_by text = option_and_then (λ frames. option_and_then (λ octets. Some (record { frames = frames; octets = octets })) (number_of (behind text))) (number_of (word text))
+flow_by text =
+    option_and_then (λ frames. option_and_then (λ octets. Some (record { frames = frames; octets = octets }))
+    (number_of (behind text))) (number_of (word text))
 
 -- P in N OCTETS, P out N OCTETS
 abbrev pub flow_in : List ℕ → Option Row
 flow_in text =
-    option_and_then (λ tap. option_and_then (λ flow. if is_same (word (behind text)) (codes "in") then Some (Came tap flow) else Some (Left tap flow)) (flow_by (behind (behind text)))) (tap_of (word text))
+    option_and_then (λ tap. option_and_then (λ flow. if is_same (word (behind text)) (codes "in")
+    then Some (Came tap flow) else Some (Left tap flow)) (flow_by (behind (behind text)))) (tap_of (word text))
 
 -- partial N
 abbrev pub partial_in : List ℕ → Option Row

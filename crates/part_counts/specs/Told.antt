@@ -54,7 +54,8 @@ pub record IsTold (ports : ℕ) (t : Told) : Type 0 where
 -- the same in all that a summary has a line for
 pub record SaysSame (ports : ℕ) (s t : Told) : Type 0 where
   pub sent : (segment : Option ℕ) → IsSegment segment → s.counts segment 0 ≡ t.counts segment 0
-  pub dropped : (segment : Option ℕ) (reason : Reason) → IsSegment segment → s.counts segment (number_of reason) ≡ t.counts segment (number_of reason)
+  pub dropped : (segment : Option ℕ) (reason : Reason) → IsSegment segment
+      → s.counts segment (number_of reason) ≡ t.counts segment (number_of reason)
   pub came : (tap : Tap) → IsPlace ports tap → s.totals.came tap ≡ t.totals.came tap
   pub left : (tap : Tap) → IsPlace ports tap → s.totals.left tap ≡ t.totals.left tap
   pub refused : (fault : ChangeFault) → s.totals.refused fault ≡ t.totals.refused fault

@@ -56,7 +56,8 @@ Refuses segments (Line line) text = IsFirstOther segments line text
 
 -- a law: a text with such a line is the lines of no rows
 abbrev pub HasNoRows : Type 0
-HasNoRows = (segments : Segments) (line : ℕ) (text : List ℕ) (rows : List TableRow) → IsFirstOther segments line text → AreRows segments rows text → ⊥
+HasNoRows = (segments : Segments) (line : ℕ) (text : List ℕ) (rows : List TableRow)
+    → IsFirstOther segments line text → AreRows segments rows text → ⊥
 
 -- ---- side by side
 

@@ -16,7 +16,8 @@ use Rattle.part_tables.specs.declared.row.TableRow.{TableRow}
 
 -- no line feed stands in what is told of an entry
 abbrev pub IsToldInLine : Bool → ℕ → List ℕ × Entry → Type 0
-IsToldInLine two_tunnels now row = All (λ c. c ≢ 10) (place_text two_tunnels row.1.place) × All (λ c. c ≢ 10) (seen_text now row.1.last)
+IsToldInLine two_tunnels now row = All (λ c. c ≢ 10) (place_text two_tunnels row.1.place)
+    × All (λ c. c ≢ 10) (seen_text now row.1.last)
 
 -- nor in that of any entry
 abbrev pub HasLines : State → Type 0
@@ -25,5 +26,7 @@ HasLines s = (vid : ℕ) → All (IsToldInLine (has_two_tunnels s.bridges.settin
 -- a law: where the rows of each part are those of its own segments' tables, and each segment is in one part, all of them side
 -- by side are the tables of the whole run
 abbrev pub AreWhole : Type 0
-AreWhole = (s : State) (parts : List Segments) (told : List (List TableRow)) → HasLines s → AllZip (λ part rows. AreRows part rows (tables_text part s)) parts told
-    → ((vid : ℕ) → IsVid vid → count_by (λ part. holds part (Some vid)) parts ≡ 1) → side_by_side (flat_map (λ rows. rows) told) ≡ tables_text segments.All s
+AreWhole = (s : State) (parts : List Segments) (told : List (List TableRow)) → HasLines s
+    → AllZip (λ part rows. AreRows part rows (tables_text part s)) parts told
+    → ((vid : ℕ) → IsVid vid → count_by (λ part. holds part (Some vid)) parts ≡ 1)
+    → side_by_side (flat_map (λ rows. rows) told) ≡ tables_text segments.All s

@@ -69,4 +69,5 @@ pub record HasTaken (old : Reading) (taken : List (Result Record RecordFault)) (
 
 -- calls until None hand out all in turn
 abbrev pub TakesAllInTurn : Type 0
-TakesAllInTurn = (old now : Reading) (taken : List (Result Record RecordFault)) → YieldsThen IsNext old taken None now → HasTaken old taken now
+TakesAllInTurn = (old now : Reading) (taken : List (Result Record RecordFault))
+    → YieldsThen IsNext old taken None now → HasTaken old taken now

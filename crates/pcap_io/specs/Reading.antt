@@ -20,7 +20,8 @@ whole rs = record { records = rs; end = Whole }
 abbrev pub AreRecordTexts : Style → List Record → List ℕ → List ℕ → Type 0
 AreRecordTexts style [] rest text = text ≡ rest
 AreRecordTexts style (r ∷ rs) rest text =
-    (front : List ℕ) × (behind : List ℕ) × IsRecordText style r front × AreRecordTexts style rs rest behind × (text ≡ front ++ behind)
+    (front : List ℕ) × (behind : List ℕ) × IsRecordText style r front
+    × AreRecordTexts style rs rest behind × (text ≡ front ++ behind)
 
 -- the text is the texts of the records and a rest in which no further record stands, by its end
 pub record IsReadAs (style : Style) (text : List ℕ) (reading : Reading) : Type 0 where

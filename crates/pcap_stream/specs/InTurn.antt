@@ -44,7 +44,8 @@ pub record IsReading (text : List ℕ) (rs : List Record) (new : Stream) : Type 
 
 -- a law: the records that are lent one after another are those of the input's octets
 abbrev pub LendsWhatIsThere : Type 0
-LendsWhatIsThere = (old new : Stream) (rs : List Record) (text : List ℕ) → old.supply.rest ≡ Some text → IsReadTo old rs new → IsReading text rs new
+LendsWhatIsThere = (old new : Stream) (rs : List Record) (text : List ℕ)
+    → old.supply.rest ≡ Some text → IsReadTo old rs new → IsReading text rs new
 
 -- one more call of `fill`, which lent none and answered no `Read`
 pub record IsReadOut (old new : Stream) (result : Result (Unit {0}) SourceFault) : Type 0 where

@@ -158,7 +158,8 @@ module _ {T : Type 0} where
   -- the same of `fill`, by where the source stood
   abbrev pub FillsToTheBoundFrom : Standing → Stream → Stream → Result T SourceFault → Type 0
   FillsToTheBoundFrom New old new result = ⊤
-  FillsToTheBoundFrom (Open style last) old new result = MatchRead result (StopsShort (IsShortRecord style) (length old.ahead) old.supply new.supply) ⊤
+  FillsToTheBoundFrom (Open style last) old new result = MatchRead result
+      (StopsShort (IsShortRecord style) (length old.ahead) old.supply new.supply) ⊤
   FillsToTheBoundFrom (Ended is_cut) old new result = ⊤
   FillsToTheBoundFrom (Failed fault) old new result = ⊤
 

@@ -63,11 +63,13 @@ TellsClassic told (Err fault) = told.fault ≡ Some fault
 
 -- a law: where a text is read as pcapng, its classic capture is told, or its first fault
 abbrev pub TellsTheClassicText : Type 0
-TellsTheClassicText = (selection : Selection) (text : List ℕ) → is_adapted selection text ≡ true → TellsClassic (told_text selection text) (classic_text selection text)
+TellsTheClassicText = (selection : Selection) (text : List ℕ) → is_adapted selection text ≡ true
+    → TellsClassic (told_text selection text) (classic_text selection text)
 
 -- a law: any other text is told as it is
 abbrev pub TellsOtherTexts : Type 0
-TellsOtherTexts = (selection : Selection) (text : List ℕ) → is_adapted selection text ≡ false → told_text selection text ≡ told_plain text
+TellsOtherTexts = (selection : Selection) (text : List ℕ)
+    → is_adapted selection text ≡ false → told_text selection text ≡ told_plain text
 
 -- ---- within a text
 

@@ -32,5 +32,6 @@ ReadsBlockTexts = (section : Option Order) (block : Block) (text behind : List �
 
 -- a law: where a block is next, its text stands in front
 abbrev pub FindsBlockTexts : Type 0
-FindsBlockTexts = (section : Option Order) (block : Block) (text rest : List ℕ) → IsText text → next_block section text ≡ AnotherBlock block rest
+FindsBlockTexts = (section : Option Order) (block : Block) (text rest : List ℕ)
+    → IsText text → next_block section text ≡ AnotherBlock block rest
     → (front : List ℕ) × IsBlockText section block front × (text ≡ front ++ rest)

@@ -46,7 +46,8 @@ abbrev pub IsFrontPacket : Order → List Interface → ℕ → List ℕ → Fro
 IsFrontPacket order interfaces last text (front.Other size) =
     IsEnhanced order text size × (is_other (slice_get interfaces (number_of order 4 (body_of text size))) ≡ true)
 IsFrontPacket order interfaces last text (front.Selected size r) =
-    IsEnhanced order text size × (packet_record interfaces last (enhanced_head order (body_of text size)) (drop 20 (body_of text size)) ≡ Ok (Some r))
+    IsEnhanced order text size
+    × (packet_record interfaces last (enhanced_head order (body_of text size)) (drop 20 (body_of text size)) ≡ Ok (Some r))
     × IsWithinLimits r × HasNoOptions (body_of text size) r
 IsFrontPacket order interfaces last text front.Unknown = ⊤
 
@@ -55,4 +56,5 @@ pub record GivesPackets (old new : Context) (text : List ℕ) (used : ℕ) (give
   pub blocks : new.blocks ≤ old.blocks + used
   pub offset : new.offset ≡ old.offset + used
   pub told : (selection : Selection) (rest : List ℕ)
-      → told_behind given (told_reading (packets_in selection new (drop used text ++ rest))) ≡ told_reading (packets_in selection old (text ++ rest))
+      → told_behind given (told_reading (packets_in selection new (drop used text ++ rest)))
+      ≡ told_reading (packets_in selection old (text ++ rest))

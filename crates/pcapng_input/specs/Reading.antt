@@ -115,7 +115,8 @@ reading_by_block more selection context (NoBlock end) = ended context (end_at co
 -- the packets of a text, where it has fewer than n blocks
 unfoldable pub first_packets : ℕ → Selection → Context → List ℕ → PacketReading
 first_packets zero selection context text = ended context EndsWhole
-first_packets (suc n) selection context text = reading_by_block (first_packets n selection) selection context (next_block context.order text)
+first_packets (suc n) selection context text =
+    reading_by_block (first_packets n selection) selection context (next_block context.order text)
 
 -- the packets of a text; there are no more blocks than it has octets
 unfoldable pub packets_in : Selection → Context → List ℕ → PacketReading

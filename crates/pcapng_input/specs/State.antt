@@ -79,14 +79,17 @@ abbrev pub IsSettled : Selection → Context → Context → List ℕ → List �
 IsSettled selection old new held ready is_more settled.Unfinished = (ready ≡ []) × (new ≡ old) × IsPart old.order held
 IsSettled selection old new held ready is_more (settled.Long order size) =
     (ready ≡ []) × (new ≡ old) × (length held + 4 ≤ size) × (12 ≤ length held) × (length held < wanted_size old.order held)
-    × ((rest : List ℕ) → TellsBlock selection old held (told_reading (packets_closing selection old order size (drop (size - 4) (held ++ rest)))) rest)
+    × ((rest : List ℕ)
+    → TellsBlock selection old held (told_reading (packets_closing selection old order size (drop (size - 4) (held ++ rest)))) rest)
 IsSettled selection old new held ready is_more settled.Taken =
     (new.blocks ≡ old.blocks + 1) × (old.offset + 12 ≤ new.offset) × (new.offset ≤ old.offset + length held)
     × ((rest : List ℕ) → TellsBlock selection old held (told_behind ready (told_reading (packets_in selection new rest))) rest)
 IsSettled selection old new held ready is_more settled.Ended =
-    (new ≡ old) × ((rest : List ℕ) → IsRest is_more rest → TellsBlock selection old held (record { octets = ready; fault = None; left_out = old.left_out }) rest)
+    (new ≡ old) × ((rest : List ℕ) → IsRest is_more rest
+    → TellsBlock selection old held (record { octets = ready; fault = None; left_out = old.left_out }) rest)
 IsSettled selection old new held ready is_more (settled.Refused fault) =
-    (ready ≡ []) × (new ≡ old) × ((rest : List ℕ) → IsRest is_more rest → TellsBlock selection old held (record { octets = []; fault = Some fault; left_out = old.left_out }) rest)
+    (ready ≡ []) × (new ≡ old) × ((rest : List ℕ) → IsRest is_more rest
+    → TellsBlock selection old held (record { octets = []; fault = Some fault; left_out = old.left_out }) rest)
 IsSettled selection old new held ready is_more settled.NoMemory = (ready ≡ []) × (new ≡ old)
 
 -- a block that is passed over has its second length behind so many octets

@@ -61,7 +61,8 @@ totals_in k = record {
 -- where the counters say what these events and answers come to, they say so afterwards of those
 abbrev pub CountsOn : Keeping → Keeping → (List Event → List Event) → (List Answer → List Answer) → Type 0
 CountsOn old new more_events more_answers =
-    (es : List Event) (given : List Answer) → totals_in old ≡ totals_of es given → totals_in new ≡ totals_of (more_events es) (more_answers given)
+    (es : List Event) (given : List Answer) → totals_in old ≡ totals_of es given
+    → totals_in new ≡ totals_of (more_events es) (more_answers given)
 
 -- an event more came
 abbrev pub Expects : Keeping → Due → Keeping → Type 0

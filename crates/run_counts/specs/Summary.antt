@@ -36,8 +36,10 @@ abbrev pub reasons : List Reason
 reasons =
     TooLong ∷ Sliced ∷ Runt ∷ PortDown ∷ BadSource ∷ Reserved ∷ CutTag ∷ BadVid ∷ FrameType ∷ NoSegment
     ∷ NotMember ∷ NotIp ∷ BadIp ∷ BadIpSum ∷ BadOuterSource ∷ NotForUs ∷ Fragment ∷ NotUdp ∷ BadUdp ∷ NotTunnel
-    ∷ ZeroSum ∷ BadUdpSum ∷ ShortTunnel ∷ NoVniFlag ∷ BadVersion ∷ Control ∷ NotEthernet ∷ BadOptions ∷ CriticalOption ∷ UnknownVni
-    ∷ WrongGroup ∷ UnknownPeer ∷ InnerRunt ∷ InnerTag ∷ SamePlace ∷ Horizon ∷ Unreachable ∷ NoOutlet ∷ TooBig ∷ InnerTagOut ∷ []
+    ∷ ZeroSum ∷ BadUdpSum ∷ ShortTunnel ∷ NoVniFlag ∷ BadVersion
+    ∷ Control ∷ NotEthernet ∷ BadOptions ∷ CriticalOption ∷ UnknownVni
+    ∷ WrongGroup ∷ UnknownPeer ∷ InnerRunt ∷ InnerTag ∷ SamePlace
+    ∷ Horizon ∷ Unreachable ∷ NoOutlet ∷ TooBig ∷ InnerTagOut ∷ []
 
 -- what was sent in a segment, or in none
 unfoldable pub sent_line : Counts → Option ℕ → List ℕ
@@ -46,7 +48,8 @@ sent_line counts segment = count_line (codes "segment " ++ segment_word segment 
 -- what was dropped there for a reason, or not sent for it
 unfoldable pub dropped_line : Counts → Option ℕ → Reason → List ℕ
 dropped_line counts segment reason =
-    count_line (codes "segment " ++ segment_word segment ++ codes " dropped " ++ decimal (number_of reason) ++ codes " " ++ name_of reason) (counts segment (number_of reason))
+    count_line (codes "segment " ++ segment_word segment ++ codes " dropped " ++ decimal (number_of reason) ++ codes " " ++ name_of reason)
+    (counts segment (number_of reason))
 
 -- the lines of a segment, or of none
 abbrev pub segment_lines : Counts → Option ℕ → List ℕ
@@ -65,8 +68,10 @@ segments_text counts = flat_map (λ vid. segment_lines counts (Some vid)) vids +
 -- the causes for which changes are refused, their numbers rising
 abbrev pub causes : List ChangeFault
 causes =
-    faults.NoSegment ∷ faults.NoPort ∷ faults.AlreadyThere ∷ faults.NotThere ∷ faults.FloodFull ∷ faults.TableFull ∷ faults.GroupAddress
-    ∷ faults.OutOfRange ∷ faults.NoFamily ∷ faults.OwnAddress ∷ faults.SegmentThere ∷ faults.PoolFull ∷ faults.SegmentsFull ∷ faults.NoTunnel ∷ []
+    faults.NoSegment ∷ faults.NoPort ∷ faults.AlreadyThere ∷ faults.NotThere
+    ∷ faults.FloodFull ∷ faults.TableFull ∷ faults.GroupAddress
+    ∷ faults.OutOfRange ∷ faults.NoFamily ∷ faults.OwnAddress ∷ faults.SegmentThere
+    ∷ faults.PoolFull ∷ faults.SegmentsFull ∷ faults.NoTunnel ∷ []
 
 -- the changes that were refused for a cause
 unfoldable pub refused_line : (ChangeFault → ℕ) → ChangeFault → List ℕ
@@ -82,7 +87,8 @@ changes_text refused = flat_map (refused_line refused) causes
 -- what passed at a place in one direction: frames or packets, and their octets together
 unfoldable pub flow_line : Tap → List ℕ → Flow → List ℕ
 flow_line tap direction flow =
-    codes "place " ++ tap_word tap ++ codes " " ++ direction ++ codes " " ++ decimal flow.frames ++ codes " " ++ decimal flow.octets ++ 10 ∷ []
+    codes "place " ++ tap_word tap ++ codes " " ++ direction ++ codes " "
+    ++ decimal flow.frames ++ codes " " ++ decimal flow.octets ++ 10 ∷ []
 
 -- what came from a place, and what left there
 abbrev pub place_lines : Totals → Tap → List ℕ
@@ -102,7 +108,8 @@ partial_line count = count_line (codes "checksum partial") count
 
 -- but for the cut captures
 abbrev pub counts_text : Counts → ℕ → Totals → List ℕ
-counts_text counts ports totals = segments_text counts ++ changes_text totals.refused ++ places_text totals ports ++ partial_line totals.partial
+counts_text counts ports totals =
+    segments_text counts ++ changes_text totals.refused ++ places_text totals ports ++ partial_line totals.partial
 
 -- the capture of a place is cut behind the records that came from there
 abbrev pub cut_at : Totals → Tap → Cut

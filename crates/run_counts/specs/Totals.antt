@@ -1,5 +1,5 @@
--- What is counted of a run, by the events that came and by what they were answered. It states no standard. A count ends at the greatest number of
--- 64 bits.
+-- What is counted of a run, by the events that came and by what they were answered. It states no standard. A count ends at
+-- the greatest number of 64 bits.
 --     flow_of      frames or packets, and their octets together
 --     sizes_from, sizes_to      those that came from a place, and those that left there
 --     refusals      the changes that were refused for a cause

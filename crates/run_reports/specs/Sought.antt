@@ -185,4 +185,5 @@ is_new_address p k = not k.is_met && has_address p k
 
 -- an event is the first of something that is sought
 abbrev pub is_first : List SoughtReason → List SoughtAddress → State → Event → Bool
-is_first reasons addresses s e = list_any (is_new_reason (foreseen s e)) reasons || list_any (is_new_address (passing_of s e.happening)) addresses
+is_first reasons addresses s e =
+    list_any (is_new_reason (foreseen s e)) reasons || list_any (is_new_address (passing_of s e.happening)) addresses

@@ -18,7 +18,9 @@ is_text a b = pointwise nat_eq a b
 
 -- what stands before the first of a character and behind it, where there is one
 abbrev pub cut : ℕ → List ℕ → Option (List ℕ × List ℕ)
-cut mark text = if nat_lt (position_or_len (λ c. c == mark) text) (length text) then Some (before_first (λ c. c == mark) text, after_first (λ c. c == mark) text) else None
+cut mark text =
+    if nat_lt (position_or_len (λ c. c == mark) text) (length text)
+    then Some (before_first (λ c. c == mark) text, after_first (λ c. c == mark) text) else None
 
 -- ---- an item
 

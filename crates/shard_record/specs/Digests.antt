@@ -56,7 +56,8 @@ digests_text ports underlay = first_line ++ (digest_lines 1 ports ++ underlay_li
 abbrev pub IsFaultIn : List ℕ → DigestsFault → Type 0
 IsFaultIn text faults.Head = (rest : List ℕ) → text ≢ first_line ++ rest
 IsFaultIn text faults.Capture =
-    (ports : List CaptureDigest) × (rest : List ℕ) × All IsDigest ports × (length ports ≤ 16) × (text ≡ first_line ++ (digest_lines 1 ports ++ rest))
+    (ports : List CaptureDigest) × (rest : List ℕ) × All IsDigest ports
+    × (length ports ≤ 16) × (text ≡ first_line ++ (digest_lines 1 ports ++ rest))
     × ((d : CaptureDigest) (behind : List ℕ) → IsDigest d → length ports < 16 → rest ≢ port_line (length ports + 1) d ++ behind)
     × ((d : CaptureDigest) (behind : List ℕ) → IsDigest d → rest ≢ underlay_line d ++ behind)
 IsFaultIn text faults.Behind =

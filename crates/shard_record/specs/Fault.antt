@@ -15,13 +15,16 @@ LacksChanges text = (behind : List ℕ) → text ≢ codes "changes " ++ behind
 -- what is told of a text in which the underlay's capture should stand
 abbrev pub IsNoCapture : List ℕ → ShardFault → Type 0
 IsNoCapture text fault =
-    ((behind : List ℕ) × (text ≡ codes "changes " ++ behind) × (fault ≡ faults.Changes)) ⊎ (LacksChanges text × (fault ≡ faults.Capture))
+    ((behind : List ℕ) × (text ≡ codes "changes " ++ behind) × (fault ≡ faults.Changes))
+    ⊎ (LacksChanges text × (fault ≡ faults.Capture))
 
 -- behind the changes and the ports' captures of these facts there is no line that can follow: of the changes, where there are
 -- none yet; of the next port's capture, of 16 at most; of the underlay's
 pub record LacksNext (f : Facts) (rest : List ℕ) : Type 0 where
-  pub changes : f.changes ≡ None → f.ports ≡ [] → (sum behind : List ℕ) → IsSum sum → rest ≢ changes_line (Some sum) ++ behind
-  pub port : (sum behind : List ℕ) → IsSum sum → length f.ports < 16 → rest ≢ capture_line (taps.Port (length f.ports + 1)) sum ++ behind
+  pub changes : f.changes ≡ None → f.ports ≡ [] → (sum behind : List ℕ)
+      → IsSum sum → rest ≢ changes_line (Some sum) ++ behind
+  pub port : (sum behind : List ℕ) → IsSum sum → length f.ports < 16
+      → rest ≢ capture_line (taps.Port (length f.ports + 1)) sum ++ behind
   pub underlay : (sum behind : List ℕ) → IsSum sum → rest ≢ capture_line taps.Underlay sum ++ behind
 
 -- up to the place that the fault names a text has a record's lines, and there it has none that can follow
@@ -35,14 +38,16 @@ IsFaultIn text faults.Settings =
     (segments rest : List ℕ) × IsOneLine segments × (text ≡ first_line ++ segments_line segments ++ rest)
     × ((sum behind : List ℕ) → IsSum sum → rest ≢ settings_line sum ++ behind)
 IsFaultIn text faults.Changes =
-    (f : Facts) × (rest behind : List ℕ) × IsRecord f × (text ≡ before_underlay f ++ rest) × LacksNext f rest × (rest ≡ codes "changes " ++ behind)
+    (f : Facts) × (rest behind : List ℕ) × IsRecord f × (text ≡ before_underlay f ++ rest)
+    × LacksNext f rest × (rest ≡ codes "changes " ++ behind)
 IsFaultIn text faults.Capture =
     (f : Facts) × (rest : List ℕ) × IsRecord f × (text ≡ before_underlay f ++ rest) × LacksNext f rest × LacksChanges rest
 IsFaultIn text faults.Events =
     (f : Facts) × (rest : List ℕ) × IsRecord f × (text ≡ before_events f ++ rest)
     × ((events : ℕ) (behind : List ℕ) → events < 2 ^ 64 → rest ≢ events_line events ++ behind)
 IsFaultIn text faults.Output =
-    (f : Facts) × (outputs : List OutputFacts) × (rest : List ℕ) × IsRecord f × All IsOutput outputs × (length outputs < length f.ports + 2)
+    (f : Facts) × (outputs : List OutputFacts) × (rest : List ℕ)
+    × IsRecord f × All IsOutput outputs × (length outputs < length f.ports + 2)
     × (text ≡ facts_text f ++ (output_lines 0 outputs ++ rest))
     × ((o : OutputFacts) (behind : List ℕ) → IsOutput o → rest ≢ output_line (length outputs) o ++ behind)
 IsFaultIn text faults.Behind =

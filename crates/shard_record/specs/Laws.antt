@@ -7,5 +7,6 @@ use Rattle.shard_record.specs.declared.outputs.OutputFacts.{OutputFacts}
 -- records that have one text are one, with the same outputs
 abbrev pub HasOneText : Type 0
 HasOneText =
-    (f g : Facts) (os ps : List OutputFacts) → IsRecord f → IsRecord g → AreOutputs (length f.ports) os → AreOutputs (length g.ports) ps
+    (f g : Facts) (os ps : List OutputFacts) → IsRecord f → IsRecord g
+    → AreOutputs (length f.ports) os → AreOutputs (length g.ports) ps
     → text_of f os ≡ text_of g ps → (f ≡ g) × (os ≡ ps)

@@ -20,5 +20,6 @@ abbrev pub IsWhatDiffers : List CaptureDigest → CaptureDigest → List ℕ →
 IsWhatDiffers ports underlay counts count faults.Ports = length ports ≢ length counts
 IsWhatDiffers ports underlay counts count (faults.Octets (taps.Port zero)) = ⊥
 IsWhatDiffers ports underlay counts count (faults.Octets (taps.Port (suc port))) =
-    (length ports ≡ length counts) × (take port (octets_told ports) ≡ take port counts) × (slice_get (octets_told ports) port ≢ slice_get counts port)
+    (length ports ≡ length counts) × (take port (octets_told ports) ≡ take port counts)
+    × (slice_get (octets_told ports) port ≢ slice_get counts port)
 IsWhatDiffers ports underlay counts count (faults.Octets taps.Underlay) = (octets_told ports ≡ counts) × (underlay.octets ≢ count)

@@ -40,7 +40,8 @@ ComesTo old new span e outcome.Full = Lacks old.entries e.vid e.mac × Refuses o
 abbrev pub MayAttach : Trees → ℕ → Option Beside → ℕ → Type 0
 MayAttach w tree None slot = Unit {0}
 MayAttach w tree (Some b) slot =
-    (b.leaf < length w.leaves) × (place_by tree (number_at w.leaves b.leaf) < length w.words) × (number_at w.leaves slot < length w.forks) × (b.bit < 64)
+    (b.leaf < length w.leaves) × (place_by tree (number_at w.leaves b.leaf) < length w.words)
+    × (number_at w.leaves slot < length w.forks) × (b.bit < 64)
 
 -- a slot is the only leaf of its tree, or stands beside another, behind a fork that sends its key to its side
 abbrev pub Attaches : Trees → Trees → Newcomer → Option Beside → ℕ → Type 0
@@ -49,6 +50,7 @@ Attaches old new n (Some b) slot = new ≡ grafted old n.tree b.leaf slot b.bit 
 
 -- a slot holds the address, or dead entries go and the entry comes, if there is room for it
 abbrev pub FindsOrAdmits : Shared → Shared → ℕ → Held → Outcome → Type 0
-FindsOrAdmits old new span e (outcome.Held slot) = IfHeld (entry_at old.entries slot) e.vid e.mac × IsHeld old.entries slot × (new ≡ old)
+FindsOrAdmits old new span e (outcome.Held slot) = IfHeld (entry_at old.entries slot) e.vid e.mac
+    × IsHeld old.entries slot × (new ≡ old)
 FindsOrAdmits old new span e outcome.Entered = Lacks old.entries e.vid e.mac × Admits old new e.vid span e true
 FindsOrAdmits old new span e outcome.Full = Lacks old.entries e.vid e.mac × Admits old new e.vid span e false

@@ -18,7 +18,8 @@ last_of (i ∷ is) before = last_of is (Some i)
 -- the slots are each other's neighbours, in this order, between these two
 abbrev pub IsLinked : List Links → Option ℕ → List ℕ → Option ℕ → Type 0
 IsLinked links before [] after = Unit {0}
-IsLinked links before (i ∷ is) after = (links_at links i ≡ record { previous = before; next = first_of is after }) × IsLinked links (Some i) is after
+IsLinked links before (i ∷ is) after = (links_at links i ≡ record { previous = before; next = first_of is after })
+    × IsLinked links (Some i) is after
 
 -- a slot is on the list
 abbrev pub is_on : ℕ → List ℕ → Bool
@@ -36,7 +37,8 @@ weight key entry = if key entry then 1 else 0
 
 -- the thread that begins and ends with these two slots runs through the slots whose entries pass the test, each once,
 -- in the order of the list
-pub record IsThread (links : List Links) (entries : List (Option Held)) (key : Option Held → Bool) (first last : Option ℕ) (is : List ℕ) : Type 0 where
+pub record IsThread (links : List Links) (entries : List (Option Held))
+    (key : Option Held → Bool) (first last : Option ℕ) (is : List ℕ) : Type 0 where
   pub linked : IsLinked links None is None
   pub apart : IsApart is
   pub members : (i : ℕ) → is_on i is ≡ key (entry_at entries i)

@@ -48,7 +48,8 @@ pub record CountsLive (entries : List (Option Held)) (vid ageing now told : ℕ)
   pub fixed : List ℕ
   pub aged : AreSlotsOf entries vid false queue
   pub others : AreSlotsOf entries vid true fixed
-  pub count : length (live_rows vid ageing now (map (entry_at entries) queue)) + length (live_rows vid ageing now (map (entry_at entries) fixed)) ≡ told
+  pub count : length (live_rows vid ageing now (map (entry_at entries) queue))
+      + length (live_rows vid ageing now (map (entry_at entries) fixed)) ≡ told
 
 -- an address as a number, its first octet the highest
 abbrev pub number_of : List ℕ → ℕ

@@ -127,20 +127,23 @@ held_count entries = sum_by (weight is_held) entries
 
 -- a slot keeps its entry, or lets a dead one of the segment go
 abbrev pub KeepsOrFrees : Option Held → Option Held → ℕ → ℕ → ℕ → Type 0
-KeepsOrFrees old new vid ageing now = (new ≡ old) ⊎ ((new ≡ None) × (line_key vid false old ≡ true) × (is_dead_in old ageing now ≡ true))
+KeepsOrFrees old new vid ageing now = (new ≡ old)
+    ⊎ ((new ≡ None) × (line_key vid false old ≡ true) × (is_dead_in old ageing now ≡ true))
 
 -- all dead entries of the segment have gone, for one visit more than have gone
 pub record Sweeps (old new : Shared) (vid ageing : ℕ) : Type 0 where
   pub same : new ≡ record old { entries = new.entries; visited = new.visited }
   pub size : length new.entries ≡ length old.entries
   pub each : (i : ℕ) → KeepsOrFrees (entry_at old.entries i) (entry_at new.entries i) vid ageing old.moment
-  pub live : (i : ℕ) → line_key vid false (entry_at new.entries i) ≡ true → is_dead_in (entry_at new.entries i) ageing old.moment ≡ false
+  pub live : (i : ℕ) → line_key vid false (entry_at new.entries i) ≡ true
+      → is_dead_in (entry_at new.entries i) ageing old.moment ≡ false
   pub paid : new.visited + held_count new.entries ≤ old.visited + held_count old.entries + 1
   pub counted : old.visited ≤ new.visited
 
 -- a slot's entry gets another place and another last moment, and nothing else changes
 abbrev pub Refreshes : Shared → Shared → ℕ → Place → Option ℕ → Type 0
-Refreshes old new slot place last = new ≡ record old { entries = slice_set old.entries slot (renewed (entry_at old.entries slot) place last) }
+Refreshes old new slot place last =
+    new ≡ record old { entries = slice_set old.entries slot (renewed (entry_at old.entries slot) place last) }
 
 -- the segment is at its limit
 abbrev pub IsAtLimit : Option Rule → ℕ → Type 0
@@ -151,18 +154,22 @@ IsAtLimit (Some rule) count = rule.limit ≤ count
 pub record Admits (old new : Shared) (vid ageing : ℕ) (e : Held) (answer : Bool) : Type 0 where
   pub mid : Shared
   pub swept : Sweeps old mid vid ageing
-  pub done : ((answer ≡ false) × (new ≡ mid) × IsAtLimit (rule_at mid.rules vid) (kept_count vid mid.entries)) ⊎ ((answer ≡ true) × HasRoom (rule_at mid.rules vid) (kept_count vid mid.entries) × Enters mid new e)
+  pub done : ((answer ≡ false) × (new ≡ mid) × IsAtLimit (rule_at mid.rules vid) (kept_count vid mid.entries))
+      ⊎ ((answer ≡ true) × HasRoom (rule_at mid.rules vid) (kept_count vid mid.entries) × Enters mid new e)
 
 -- what a slot's entry that ages gives as the answer, for another place
 abbrev pub answer_of : Option Held → ℕ → ℕ → Place → Learned
 answer_of None ageing now place = learned.New
-answer_of (Some e) ageing now place = if is_dead_in (Some e) ageing now then learned.New else if same_place e.place place then learned.Refreshed else learned.Moved
+answer_of (Some e) ageing now place =
+    if is_dead_in (Some e) ageing now then learned.New else if same_place e.place place then learned.Refreshed else learned.Moved
 
 -- A fixed entry stays. One that ages moves to the place, or is seen there again.
 pub record Relearns (old new : Shared) (slot ageing : ℕ) (place : Place) (answer : Learned) : Type 0 where
   pub stays : is_fixed_in (entry_at old.entries slot) ≡ true → (answer ≡ learned.Fixed) × (new ≡ old)
-  pub moves : is_fixed_in (entry_at old.entries slot) ≡ false → Refreshes (record old { visited = old.visited + 1 }) new slot place (Some old.moment)
-  pub answers : is_fixed_in (entry_at old.entries slot) ≡ false → answer ≡ answer_of (entry_at old.entries slot) ageing old.moment place
+  pub moves : is_fixed_in (entry_at old.entries slot) ≡ false
+      → Refreshes (record old { visited = old.visited + 1 }) new slot place (Some old.moment)
+  pub answers : is_fixed_in (entry_at old.entries slot) ≡ false
+      → answer ≡ answer_of (entry_at old.entries slot) ageing old.moment place
 
 -- where a slot's entry stands, if it is live
 abbrev pub live_place : Option Held → ℕ → ℕ → Option Place
@@ -203,7 +210,8 @@ DropsPlace old new vid place = DropsAll old new (λ e. line_key vid false e && s
 
 -- no two slots hold the same address of one segment
 abbrev pub IsUnique : List (Option Held) → Type 0
-IsUnique entries = (i j : ℕ) (e f : Held) → entry_at entries i ≡ Some e → entry_at entries j ≡ Some f → e.vid ≡ f.vid → e.mac ≡ f.mac → i ≡ j
+IsUnique entries = (i j : ℕ) (e f : Held) → entry_at entries i ≡ Some e
+    → entry_at entries j ≡ Some f → e.vid ≡ f.vid → e.mac ≡ f.mac → i ≡ j
 
 -- what holds in every state
 pub record IsOrderly (s : Shared) : Type 0 where

@@ -108,7 +108,8 @@ IsAged entries low (i ∷ is) high = (low ≤ last_at entries i) × IsAged entri
 -- the two lines of a segment
 pub record IsLines (entries : List (Option Held)) (lines : List Links) (vid : ℕ) (share : Share) (moment : ℕ) : Type 0 where
   pub list : Bool → List ℕ
-  pub thread : (fixed : Bool) → IsThread lines entries (line_key vid fixed) (line_at share fixed).first (line_at share fixed).last (list fixed)
+  pub thread : (fixed : Bool)
+      → IsThread lines entries (line_key vid fixed) (line_at share fixed).first (line_at share fixed).last (list fixed)
   pub aged : IsAged entries 0 (list false) moment
   pub count : share.count ≡ length (list true) + length (list false)
   pub limit : share.count ≤ share.limit

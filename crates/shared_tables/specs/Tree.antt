@@ -46,7 +46,8 @@ twig fork bit side slot leaf = by_bit side (Fork fork bit (Leaf slot) (Leaf leaf
 -- the tree with a twig in the place of the leaf to which a key leads
 abbrev pub with_twig : ℕ → ℕ → ℕ → ℕ → Tree → Tree
 with_twig key slot fork bit (Leaf i) = twig fork bit (bit_at key bit) slot i
-with_twig key slot fork bit (Fork n b l r) = by_bit (bit_at key b) (Fork n b (with_twig key slot fork bit l) r) (Fork n b l (with_twig key slot fork bit r))
+with_twig key slot fork bit (Fork n b l r) =
+    by_bit (bit_at key b) (Fork n b (with_twig key slot fork bit l) r) (Fork n b l (with_twig key slot fork bit r))
 
 -- a fork with another tree on the left; where there is none, the right one
 abbrev pub with_left : ℕ → ℕ → Option Tree → Tree → Tree

@@ -97,7 +97,8 @@ pruned w tree fork side slot =
     let above = number_at w.forks fork in
     let moved = standing (target_in sibling) above w in
     record moved {
-      words = slice_set (slice_set (slice_set w.words (place_by tree above) sibling) (child_of fork 0) 4294967295) (child_of fork 1) 4294967295;
+      words = slice_set (slice_set (slice_set w.words (place_by tree above) sibling) (child_of fork 0) 4294967295)
+          (child_of fork 1) 4294967295;
       leaves = slice_set moved.leaves slot fork;
     }
 
@@ -106,10 +107,13 @@ pub record MayGo (w : Trees) (tree slot : ℕ) : Type 0 where
   pub number_there : tree < 262144
   pub slot_there : slot < length w.leaves
   pub place : number_at w.leaves slot < length w.words
-  pub above : 262144 ≤ number_at w.leaves slot → place_by tree (number_at w.forks ((number_at w.leaves slot - 262144) / 2)) < length w.words
-  pub sibling : 262144 ≤ number_at w.leaves slot → Names w (target_at w.words (child_of ((number_at w.leaves slot - 262144) / 2) (1 - (number_at w.leaves slot - 262144) % 2)))
+  pub above : 262144 ≤ number_at w.leaves slot
+      → place_by tree (number_at w.forks ((number_at w.leaves slot - 262144) / 2)) < length w.words
+  pub sibling : 262144 ≤ number_at w.leaves slot
+      → Names w (target_at w.words (child_of ((number_at w.leaves slot - 262144) / 2) (1 - (number_at w.leaves slot - 262144) % 2)))
 
 -- a slot has left its tree
 pub record Uproots (old new : Trees) (tree slot : ℕ) : Type 0 where
   pub alone : number_at old.leaves slot < 262144 → new ≡ cleared old tree
-  pub behind : 262144 ≤ number_at old.leaves slot → new ≡ pruned old tree ((number_at old.leaves slot - 262144) / 2) ((number_at old.leaves slot - 262144) % 2) slot
+  pub behind : 262144 ≤ number_at old.leaves slot
+      → new ≡ pruned old tree ((number_at old.leaves slot - 262144) / 2) ((number_at old.leaves slot - 262144) % 2) slot

@@ -117,4 +117,5 @@ pub record AreTreesOf (entries : List (Option Held)) (w : Trees) : Type 0 where
   pub stands : (p : ℕ) → StandsAt entries w p (target_at w.words p)
   pub keeper : ℕ → ℕ
   pub frees : (i : ℕ) → i < length entries → entry_at entries i ≡ None → Keeps w keeper (number_at w.leaves i) i
-  pub spares : (c : ℕ) → c < 262144 → target_at w.words c ≢ target.Nothing → Keeps w keeper (spare_of w (target_at w.words c)) (65536 + c)
+  pub spares : (c : ℕ) → c < 262144 → target_at w.words c ≢ target.Nothing
+      → Keeps w keeper (spare_of w (target_at w.words c)) (65536 + c)

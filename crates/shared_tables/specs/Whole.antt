@@ -48,11 +48,13 @@ pub record Ousts (old new : Shared) (vid ageing : ℕ) (e : Held) : Type 0 where
 -- no entry of the segment is dead, and there is room for no other
 pub record Refuses (old new : Shared) (vid ageing : ℕ) : Type 0 where
   pub same : new ≡ record old { visited = new.visited }
-  pub live : (i : ℕ) → line_key vid false (entry_at old.entries i) ≡ true → is_dead_in (entry_at old.entries i) ageing old.moment ≡ false
+  pub live : (i : ℕ) → line_key vid false (entry_at old.entries i) ≡ true
+      → is_dead_in (entry_at old.entries i) ageing old.moment ≡ false
   pub full : IsAtLimit (rule_at old.rules vid) (kept_count vid old.entries)
   pub few : new.visited ≤ old.visited + 1
   pub counted : old.visited ≤ new.visited
 
 -- an entry comes, where there is room, or where there will be; the others that are dead stay for now
 abbrev pub Makes : Shared → Shared → ℕ → ℕ → Held → Type 0
-Makes old new vid ageing e = (HasRoom (rule_at old.rules vid) (kept_count vid old.entries) × Enters old new e) ⊎ Ousts old new vid ageing e
+Makes old new vid ageing e = (HasRoom (rule_at old.rules vid) (kept_count vid old.entries) × Enters old new e)
+    ⊎ Ousts old new vid ageing e

@@ -12,7 +12,8 @@ use Rattle.endpoint_core.specs.Text.{hex_octet, place_text}
 -- six pairs of hexadecimal digits between colons
 unfoldable pub mac_text : List ℕ → List ℕ
 mac_text mac =
-    hex_octet (octet 0 mac) ++ 58 ∷ hex_octet (octet 1 mac) ++ 58 ∷ hex_octet (octet 2 mac) ++ 58 ∷ hex_octet (octet 3 mac) ++ 58 ∷ hex_octet (octet 4 mac) ++ 58 ∷ hex_octet (octet 5 mac)
+    hex_octet (octet 0 mac) ++ 58 ∷ hex_octet (octet 1 mac) ++ 58 ∷ hex_octet (octet 2 mac) ++ 58
+    ∷ hex_octet (octet 3 mac) ++ 58 ∷ hex_octet (octet 4 mac) ++ 58 ∷ hex_octet (octet 5 mac)
 
 -- a number below 1,000,000,000 in nine digits
 unfoldable pub nine_digits : ℕ → List ℕ
@@ -30,7 +31,8 @@ seen_text now (Some last) = codes "seen " ++ decimal last ++ codes " age " ++ ag
 -- the line of an entry of a segment; the kind of a remote's tunnel is told where the segment has two
 unfoldable pub entry_line : Bool → ℕ → ℕ → List ℕ × Entry → List ℕ
 entry_line two_tunnels now vid row =
-    codes "segment " ++ decimal vid ++ codes " " ++ mac_text row.0 ++ codes " " ++ place_text two_tunnels row.1.place ++ codes " " ++ seen_text now row.1.last ++ 10 ∷ []
+    codes "segment " ++ decimal vid ++ codes " " ++ mac_text row.0 ++ codes " "
+    ++ place_text two_tunnels row.1.place ++ codes " " ++ seen_text now row.1.last ++ 10 ∷ []
 
 -- the lines of a segment, its addresses rising
 abbrev pub segment_lines : State → ℕ → List ℕ

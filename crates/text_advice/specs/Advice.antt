@@ -90,7 +90,9 @@ line_numbered number lines = get_or lines (number - 1) []
 
 -- the place, its line, and why
 abbrev pub syntax_lines : List ℕ → List ℕ → List ℕ → Place → List ℕ → List ℕ
-syntax_lines name text word p reason = head_line name (Some p) (word, []) ++ found_line (Some (line_numbered p.line (split 10 text))) ++ part (codes "  reason: ") (Some reason)
+syntax_lines name text word p reason =
+    head_line name (Some p) (word, []) ++ found_line (Some (line_numbered p.line (split 10 text)))
+    ++ part (codes "  reason: ") (Some reason)
 
 abbrev pub syntax_advice : List ℕ → List ℕ → List ℕ → Option Syntax → List ℕ
 syntax_advice name text word None = head_line name None (word, [])

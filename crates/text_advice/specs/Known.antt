@@ -27,7 +27,8 @@ keys_in [] path variant = []
 keys_in (r ∷ rs) path variant = if same r.path path && fits r.variant variant then r.keys else keys_in rs path variant
 
 -- the same of a row that stands in the code as a constant
-abbrev pub constant_row : record { now : List ℕ } × record { now : List ℕ } × record { now : List (record { now : List ℕ }) } → Row
+abbrev pub constant_row : record { now : List ℕ } × record { now : List ℕ }
+    × record { now : List (record { now : List ℕ }) } → Row
 constant_row t = record { path = t.0.now; variant = t.1.now; keys = map (λ k. k.now) t.2.now }
 
 -- the keys of a table of settings or of changes

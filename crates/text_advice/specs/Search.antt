@@ -90,7 +90,8 @@ abbrev pub unknown_table_at : List (List ℕ) → List ℕ → ℕ → List (Lis
 unknown_table_at keys around n [] = None
 unknown_table_at keys around n (l ∷ ls) =
     if opens around l then None
-    else (if is_none_of keys (child_on around l) then Some (record { number = n + 1; text = l }) else unknown_table_at keys around (n + 1) ls)
+    else (if is_none_of keys (child_on around l) then Some (record { number = n + 1; text = l })
+    else unknown_table_at keys around (n + 1) ls)
 
 abbrev pub unknown_table : List (List ℕ) → Block → Option Line
 unknown_table keys b = unknown_table_at keys (table_name b.header) b.header.number b.lines

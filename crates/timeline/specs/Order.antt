@@ -42,4 +42,5 @@ CapturesRise = (c : Opened) → IsRising 0 (events_of c)
 
 -- what rises among all stays in its order
 abbrev pub KeepsWhatRises : Type 0
-KeepsWhatRises = (test : Event → Bool) (all : List Event) → IsRising 0 (filter test all) → filter test (merged all) ≡ filter test all
+KeepsWhatRises = (test : Event → Bool) (all : List Event)
+    → IsRising 0 (filter test all) → filter test (merged all) ≡ filter test all

@@ -19,7 +19,8 @@ segments_code = code coded_ℕ segment.the_row.coded
 -- an overlay is stored as the pair of both
 abbrev pub overlay_code : Coded Overlay
 overlay_code =
-    code_by (Underlay × Segments) (coded× settings.the_row.coded segments_code) (λ s. (s.underlay, s.segments)) (λ p. record { underlay = p.0; segments = p.1 }) (λ _. refl)
+    code_by (Underlay × Segments) (coded× settings.the_row.coded segments_code)
+    (λ s. (s.underlay, s.segments)) (λ p. record { underlay = p.0; segments = p.1 }) (λ _. refl)
 
 -- heads are stored as pairs of a VID and the heads of its packets
 abbrev pub heads_code : Coded (FinMap nat_cmp SegmentHeads)
@@ -28,4 +29,5 @@ heads_code = code coded_ℕ heads.the_row.coded
 -- and segments with their heads likewise
 abbrev pub seats_code : Coded Seats
 seats_code =
-    code_by (Segments × FinMap nat_cmp SegmentHeads) (coded× segments_code heads_code) (λ s. (s.segments, s.heads)) (λ p. record { segments = p.0; heads = p.1 }) (λ _. refl)
+    code_by (Segments × FinMap nat_cmp SegmentHeads) (coded× segments_code heads_code)
+    (λ s. (s.segments, s.heads)) (λ p. record { segments = p.0; heads = p.1 }) (λ _. refl)

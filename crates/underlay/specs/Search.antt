@@ -11,4 +11,5 @@ IsAt {R = R} m k at = (at < length (entries m)) × HoldsAt (λ e. R e.0 k ≡ Eq
 
 -- the keys before this place are below this key, and those from it on above it
 abbrev pub IsGapFor : {K X : Type 0} {R : K → K → Ordering} → FinMap R X → K → ℕ → Type 0
-IsGapFor {R = R} m k at = (at ≤ length (entries m)) × AllWithin (λ e. R e.0 k ≡ Less) (entries m) 0 at × AllWithin (λ e. R e.0 k ≡ Greater) (entries m) at (length (entries m))
+IsGapFor {R = R} m k at = (at ≤ length (entries m)) × AllWithin (λ e. R e.0 k ≡ Less) (entries m) 0 at
+    × AllWithin (λ e. R e.0 k ≡ Greater) (entries m) at (length (entries m))

@@ -15,9 +15,11 @@ members_code = code coded_ℕ egress.the_row.coded
 -- ports and segments are stored as the pair of both
 abbrev pub ports_code : Coded Ports
 ports_code =
-    code_by (List PortRule × Segments) (coded× (coded_list port_rule.the_row.coded) (code coded_ℕ members_code)) (λ s. (s.ports, s.segments)) (λ p. record { ports = p.0; segments = p.1 }) (λ _. refl)
+    code_by (List PortRule × Segments) (coded× (coded_list port_rule.the_row.coded) (code coded_ℕ members_code))
+    (λ s. (s.ports, s.segments)) (λ p. record { ports = p.0; segments = p.1 }) (λ _. refl)
 
 -- a row is stored as the pair of its ports and its members
 abbrev pub row_code : Coded Row
 row_code =
-    code_by (List PortRule × Option Members) (coded× (coded_list port_rule.the_row.coded) (coded_option members_code)) (λ r. (r.ports, r.members)) (λ p. record { ports = p.0; members = p.1 }) (λ _. refl)
+    code_by (List PortRule × Option Members) (coded× (coded_list port_rule.the_row.coded) (coded_option members_code))
+    (λ r. (r.ports, r.members)) (λ p. record { ports = p.0; members = p.1 }) (λ _. refl)

@@ -143,7 +143,8 @@ pub record IsRefused (s : Ports) (port : ℕ) (b : List ℕ) (refused : Refused)
 
 -- a text is that of a frame exactly where it has 14 octets, and 18 with a tag; and of that one only
 abbrev pub ReadsWhereLongEnough : Type 0
-ReadsWhereLongEnough = (b : List ℕ) → IsText b → ((f : Frame) × (w : ℕ) × IsEntering b f w) ↔ ((14 ≤ length b) × (has_tag b ≡ true → 18 ≤ length b))
+ReadsWhereLongEnough = (b : List ℕ) → IsText b
+    → ((f : Frame) × (w : ℕ) × IsEntering b f w) ↔ ((14 ≤ length b) × (has_tag b ≡ true → 18 ≤ length b))
 
 -- it is the text of one frame and VID alone
 abbrev pub ReadsOneFrame : Type 0
@@ -151,11 +152,13 @@ ReadsOneFrame = (b : List ℕ) (f : Frame) (w : ℕ) → IsEntering b f w → (f
 
 -- a text enters a segment exactly where it meets all that is asked of it
 abbrev pub EntersExactly : Type 0
-EntersExactly = (s : Ports) (port : ℕ) (b : List ℕ) (vid : ℕ) (f : Frame) → IsText b → (enters s port b ≡ Ok (vid, f)) ↔ Enters s port b vid f
+EntersExactly = (s : Ports) (port : ℕ) (b : List ℕ) (vid : ℕ) (f : Frame)
+    → IsText b → (enters s port b ≡ Ok (vid, f)) ↔ Enters s port b vid f
 
 -- and is refused exactly for the first reason that holds
 abbrev pub RefusedExactly : Type 0
-RefusedExactly = (s : Ports) (port : ℕ) (b : List ℕ) (refused : Refused) → (enters s port b ≡ Err refused) ↔ IsRefused s port b refused
+RefusedExactly = (s : Ports) (port : ℕ) (b : List ℕ) (refused : Refused)
+    → (enters s port b ≡ Err refused) ↔ IsRefused s port b refused
 
 -- the order of the checks is that of the reasons' numbers
 abbrev pub InOrder : Type 0

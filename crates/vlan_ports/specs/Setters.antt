@@ -6,15 +6,18 @@ use Rattle.vlan_ports.specs.Ports.{Ports, port_at, members_at, has_segment, egre
 
 -- a port up or down: no other port
 abbrev pub UpAlone : Type 0
-UpAlone = (s : Ports) (port : ℕ) (up : Bool) (p : ℕ) → 1 ≤ port → port ≤ length s.ports → 1 ≤ p → port_at (with_up s port up) p ≡ (if p == port then record (port_at s p) { up = up } else port_at s p)
+UpAlone = (s : Ports) (port : ℕ) (up : Bool) (p : ℕ) → 1 ≤ port → port ≤ length s.ports → 1 ≤ p
+    → port_at (with_up s port up) p ≡ (if p == port then record (port_at s p) { up = up } else port_at s p)
 
 -- a membership: no other port of the segment, and no other segment
 abbrev pub MemberAlone : Type 0
-MemberAlone = (s : Ports) (vid port : ℕ) (egress : Option Egress) (v p : ℕ) → egress_at (with_member s vid port egress) v p ≡ (if v == vid && p == port then egress else egress_at s v p)
+MemberAlone = (s : Ports) (vid port : ℕ) (egress : Option Egress) (v p : ℕ)
+    → egress_at (with_member s vid port egress) v p ≡ (if v == vid && p == port then egress else egress_at s v p)
 
 -- no segment comes or goes, but that of the membership is there
 abbrev pub MemberKeepsSegments : Type 0
-MemberKeepsSegments = (s : Ports) (vid port : ℕ) (egress : Option Egress) (v : ℕ) → has_segment (with_member s vid port egress) v ≡ (v == vid || has_segment s v)
+MemberKeepsSegments = (s : Ports) (vid port : ℕ) (egress : Option Egress) (v : ℕ)
+    → has_segment (with_member s vid port egress) v ≡ (v == vid || has_segment s v)
 
 -- one segment more, without members, and one less
 abbrev pub SegmentAlone : Type 0

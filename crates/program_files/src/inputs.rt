@@ -3,8 +3,14 @@
 //! Below a source stands std's buffered reader of 32 KiB, for the first octets, which tell the format: behind them more is
 //! asked for at once, and goes past it. An interface's name of digits is a number, as in Wireshark's tools: so an interface
 //! whose name is digits is taken by its number.
-ghost use Rattle.std.specs.Prelude.{◌≡◌, ◌<◌, ◌^◌, All, IfOk, length};
+ghost use Rattle.std.specs.Prelude.{◌≡◌, ◌<◌, ◌^◌, All, IfOk, IfSome, length, option_map};
+ghost use Rattle.std.specs.Io.Buffered.{reader_remaining};
 ghost use Rattle.pcap_stream.specs.Source.{New, Stream, most_left};
+ghost use Rattle.pcapng_input.specs.Adapter.{told_octets};
+ghost use Rattle.program_files.specs.Asked.{IsAsked};
+ghost use Rattle.program_files.specs.Device.{left_in};
+ghost use Rattle.program_files.specs.Opened.{IsOpened, IsSomeOpened};
+ghost use Rattle.program_files.specs.declared.inputs.Device.{Device as AnyDevice};
 
 use command_line::{STANDARD_INPUT, capture_name};
 use file_kind::{FileKind, Peeked, peek};
@@ -38,6 +44,10 @@ pub enum Device<F: Read + Drop, I: Read + Drop> {
 }
 
 impl<F: Read + Drop, I: Read + Drop> Read for Device<F, I> {
+    ghost use Rattle.program_files.specs.Device.{left_in};
+
+    ghost remaining = { left_in F.remaining I.remaining };
+
     fn read(&mut self, octets: &mut [u8]) -> io::Result<usize> {
         match self {
             Device::File(file) => file.read(octets),
@@ -59,7 +69,9 @@ pub type Capture<'a, F, I> = Source<CountInput<ClassicInput<'a, F, I>>>;
 pub type SeenCapture<'a, F, I> = Source<CaptureInput<'a, Peeked<Blocks<F, I>>>>;
 
 /// The interfaces that the words ask for: one by its number, which is of digits alone, or by its name, or all.
-pub fn selection_of(interface: Option<&str>) -> Selection<'_> {
+pub fn selection_of(interface: Option<&str>) -> Selection<'_>
+    ensures { IsAsked (option_map (λ words. words.now) interface.entry) result }
+{
     let Some(interface) = interface else {
         return Selection::All;
     };
@@ -74,7 +86,11 @@ fn open_blocks<'a, R: Files + Input + AllocGlobal>(
     rt: &R,
     name: &'a str,
     file: &str,
-) -> Result<Blocks<R::File, R::Reader>, Failure<'a>> {
+) -> Result<Blocks<R::File, R::Reader>, Failure<'a>>
+    ensures left { IfOk result (λ blocks. (device : AnyDevice R.File R.Reader)
+        × (reader_remaining (left_in R.File.remaining R.Reader.remaining) blocks.reader
+        ≡ left_in R.File.remaining R.Reader.remaining device)) }
+{
     let device = if file == STANDARD_INPUT {
         Device::Standard(rt.reader())
     } else {
@@ -93,7 +109,9 @@ fn open_blocks<'a, R: Files + Input + AllocGlobal>(
 pub fn open_named<'a, R: Files + Input + AllocGlobal>(
     rt: &R,
     name: &'a str,
-) -> Result<ClassicInput<'a, R::File, R::Reader>, Failure<'a>> {
+) -> Result<ClassicInput<'a, R::File, R::Reader>, Failure<'a>>
+    ensures told { IfOk result (λ input. IsOpened R.File.remaining R.Reader.remaining name.now (told_octets input.adapter)) }
+{
     open_for(rt, name, CAPTURE_READS)
 }
 
@@ -102,7 +120,9 @@ fn open_for<'a, R: Files + Input + AllocGlobal>(
     rt: &R,
     name: &'a str,
     reads: u64,
-) -> Result<ClassicInput<'a, R::File, R::Reader>, Failure<'a>> {
+) -> Result<ClassicInput<'a, R::File, R::Reader>, Failure<'a>>
+    ensures told { IfOk result (λ input. IsOpened R.File.remaining R.Reader.remaining name.now (told_octets input.adapter)) }
+{
     let asked = capture_name(name);
     let input = match open_blocks(rt, name, asked.file) {
         Ok(input) => input,
@@ -121,7 +141,9 @@ const FRONT_READS: u64 = 4;
 pub fn open_front<'a, R: Files + Input + AllocGlobal>(
     rt: &R,
     name: &'a str,
-) -> Result<ClassicInput<'a, R::File, R::Reader>, Failure<'a>> {
+) -> Result<ClassicInput<'a, R::File, R::Reader>, Failure<'a>>
+    ensures told { IfOk result (λ input. IsOpened R.File.remaining R.Reader.remaining name.now (told_octets input.adapter)) }
+{
     open_for(rt, name, FRONT_READS)
 }
 
@@ -158,23 +180,26 @@ pub fn open_seen<'a, R: Files + Input + AllocGlobal>(
 }
 
 /// The whole of a text's file.
-pub fn read_file<'a, R: Files + AllocGlobal>(
-    rt: &R,
-    name: &'a str,
-) -> Result<Vec<u8>, Failure<'a>> {
+pub fn read_file<'a, R: Files + AllocGlobal>(rt: &R, name: &'a str) -> Result<Vec<u8>, Failure<'a>>
+    ensures told { IfOk result (λ text. (file : R.File) × IfSome (R.File.remaining file) (λ octets. text.items ≡ octets)) }
+{
     let Ok(file) = fs::open(rt, name) else {
         return Err(Failure::Read(name));
     };
-    read_text(rt.alloc(), &mut StdInput::new(file), TEXT_READS).map_err(|fault| Failure::reading(
-        name, fault,
-    ))
+    match read_text(rt.alloc(), &mut StdInput::new(file), TEXT_READS) {
+        Ok(text) => Ok(text),
+        Err(fault) => Err(Failure::reading(name, fault)),
+    }
 }
 
 /// The whole of a text's file that may be left out, which is empty then.
 pub fn read_if_given<'a, R: Files + AllocGlobal>(
     rt: &R,
     name: Option<&'a str>,
-) -> Result<Vec<u8>, Failure<'a>> {
+) -> Result<Vec<u8>, Failure<'a>>
+    ensures told { IfOk result (λ text. IfSome name.entry (λ _. (file : R.File)
+        × IfSome (R.File.remaining file) (λ octets. text.items ≡ octets))) }
+{
     match name {
         Some(name) => read_file(rt, name),
         None => Ok(Vec::new(rt.alloc())),
@@ -204,7 +229,8 @@ pub fn open_capture<'a, R: Files + Input + AllocGlobal>(
     rt: &R,
     name: &'a str,
 ) -> Result<Capture<'a, R::File, R::Reader>, Failure<'a>>
-    ensures { IfOk result (λ (capture : Stream). capture.standing ≡ New) }
+    ensures fresh { IfOk result (λ (capture : Stream). capture.standing ≡ New) }
+    ensures told { IfOk result (λ (capture : Stream). IsOpened R.File.remaining R.Reader.remaining name.now capture.supply.rest) }
 {
     let input = match open_named(rt, name) {
         Ok(input) => input,
@@ -223,6 +249,8 @@ pub fn open_captures<'a, R: Files + Input + AllocGlobal>(
 ) -> Result<Vec<Capture<'a, R::File, R::Reader>>, Failure<'a>>
     ensures count { IfOk result (λ captures. length captures.items ≡ length names.now) }
     ensures fresh { IfOk result (λ captures. All (λ (capture : Stream). capture.standing ≡ New) captures.items) }
+    ensures told { IfOk result (λ captures. All (λ (capture : Stream).
+        IsSomeOpened R.File.remaining R.Reader.remaining capture.supply.rest) captures.items) }
 {
     let mut captures = Vec::new(rt.alloc());
     for name in names {

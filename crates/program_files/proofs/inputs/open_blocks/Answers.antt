@@ -1,4 +1,4 @@
-use Rattle.std.proofs.Common.{◌≡◌, ◌∙◌, ap, arith}
+use Rattle.std.proofs.Common.{◌∙◌, ap, arith}
 use Rattle.std.specs.Io.Buffered.{reader_remaining}
 use Rattle.program_files.specs.Device.{left_in}
 use Rattle.program_files.proofs.Opening.{unread}

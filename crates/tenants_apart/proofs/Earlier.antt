@@ -1,0 +1,154 @@
+-- Two lists that agree in what concerns a segment, others' comings, goings and limits among it, agree in its own events.
+use Rattle.std.proofs.Common.{◌≡◌, ◌∙◌, refl, sym, ap, ℕ, Bool, true, false, cond, ◌||◌, ◌&&◌, List, [], ◌∷◌, ◌++◌, filter, Option, Some, None}
+use Rattle.std.specs.Option.{option_and_then}
+use Rattle.std.proofs.lemmas.Bool.{false≢true}
+use Rattle.overlay_settings.specs.declared.change.Change.{Change}
+use Rattle.overlay_settings.specs.declared.change.Change.TheVariants.{AddFlood, RemoveFlood, Fix, Unfix, SetAgeing, SetLearning, SetMember, PortUp, PortDown, Flush, AddSegment, RemoveSegment, SetLimit}
+use Rattle.endpoint_state.specs.declared.fault.ChangeFault.{ChangeFault}
+use Rattle.endpoint_state.specs.Effect.{effect}
+use Rattle.endpoint_state.specs.Change.{named, is_about, refused, table_fault}
+use Rattle.endpoint_state.specs.Settings.{Settings, SegmentSettings, segment_at}
+use Rattle.endpoint_state.specs.State.{State as Bridges, fault, aged}
+use Rattle.endpoint_core.specs.Arrival.{came_at, came_by}
+use Rattle.endpoint_core.specs.Event.{Input, FrameAt, Packet, Asks, Event, IsRising}
+use Rattle.endpoint_core.specs.Step.{State, Answer, Decided, Replied, opened, answer_by, after}
+use Rattle.segment_isolation.specs.Alone.{is_segment, all_see, concerns_by, concerns, only, Told, told_of, told, told_in}
+use Rattle.segment_isolation.proofs.Running.{told-alone}
+use Rattle.segment_isolation.proofs.Stepping.{decided-segment}
+use Rattle.noninterference.specs.Leaving.{rows, departures_in, lines_in}
+use Rattle.tenants_apart.specs.Own.{names_or_concerns, own_events, takes_room, asks_room, room_reply, room_replies}
+use Rattle.tenants_apart.proofs.Running.{own_from, replies_from, own_from-is, replies_from-is, room-none}
+use Rattle.tenants_apart.proofs.Events.{leaving-alike, lines-alike}
+
+-- ---- what concerns a segment and is its own
+
+-- of what concerns a segment its own is all but the changes that name another
+abbrev is_kept : ℕ → Input → Bool
+is_kept vid (FrameAt port original b) = true
+is_kept vid (Packet original b) = true
+is_kept vid (Asks c) = is_about vid c
+
+true-right : (b : Bool) → b ≡ b && true
+true-right true = refl
+true-right false = refl
+
+about-kept : (a b : Bool) → a ≡ (a || b) && a
+about-kept true b = refl
+about-kept false true = refl
+about-kept false false = refl
+
+own-by : (vid t : ℕ) (B : Bridges) (i : Input) → names_or_concerns vid B.settings i ≡ concerns_by vid (answer_by t B i) i && is_kept vid i
+own-by vid t B (FrameAt port original b) =
+    sym (ap (is_segment vid) (decided-segment t B (came_at B.settings.ports port original b))) ∙ true-right (concerns_by vid (answer_by t B (FrameAt port original b)) (FrameAt port original b))
+own-by vid t B (Packet original b) =
+    sym (ap (is_segment vid) (decided-segment t B (came_by B.settings.overlay original b))) ∙ true-right (concerns_by vid (answer_by t B (Packet original b)) (Packet original b))
+own-by vid t B (Asks c) = about-kept (is_about vid c) (all_see (effect c))
+
+-- what doesn't concern it isn't its own
+not_own : (vid : ℕ) (s : State) (e : Event) → concerns vid s e ≡ false → names_or_concerns vid s.bridges.settings e.input ≡ false
+not_own vid s e other = own-by vid e.at (aged e.at s.bridges) e.input ∙ ap (λ b. b && is_kept vid e.input) other
+
+module _ (vid : ℕ) where
+  kept_of : List Event → List Event
+  kept_of es = filter (λ e. is_kept vid e.input) es
+
+  own-kept : (s : State) (es : List Event) → own_from vid s es ≡ kept_of (only vid s es)
+  unfolding kept_of
+  own-kept s [] = refl
+  own-kept s (e ∷ es) =
+      ap (λ b. cond b (e ∷ own_from vid (after s e) es) (own_from vid (after s e) es)) (own-by vid e.at (aged e.at s.bridges) e.input)
+      ∙ by (concerns vid s e) (is_kept vid e.input) refl (own-kept (after s e) es)
+    where
+      by : (b c : Bool) → is_kept vid e.input ≡ c → own_from vid (after s e) es ≡ kept_of (only vid (after s e) es)
+          → cond (b && c) (e ∷ own_from vid (after s e) es) (own_from vid (after s e) es) ≡ kept_of (cond b (e ∷ only vid (after s e) es) (only vid (after s e) es))
+      by true true is rest = ap (λ l. e ∷ l) rest ∙ sym (ap (λ b. cond b (e ∷ kept_of (only vid (after s e) es)) (kept_of (only vid (after s e) es))) is)
+      by true false is rest = rest ∙ sym (ap (λ b. cond b (e ∷ kept_of (only vid (after s e) es)) (kept_of (only vid (after s e) es))) is)
+      by false c is rest = rest
+
+  -- ---- what is answered to changes that need room
+
+  none_there : (o : Option SegmentSettings) → (let none : Option ChangeFault = option_and_then (λ s. None) o in none) ≡ None
+  none_there None = refl
+  none_there (Some s) = refl
+
+  -- no table refuses one
+  faultless : (B : Bridges) (c : Change) → takes_room (effect c) ≡ true → option_and_then (λ v. option_and_then (λ s. table_fault s c (B.tables v)) (segment_at B.settings v)) (named c) ≡ None
+  faultless B (AddFlood v addr tunnel) takes = absurd (false≢true takes)
+  faultless B (RemoveFlood v addr tunnel) takes = absurd (false≢true takes)
+  faultless B (Fix v mac target) takes = absurd (false≢true takes)
+  faultless B (Unfix v mac) takes = absurd (false≢true takes)
+  faultless B (SetAgeing v seconds) takes = absurd (false≢true takes)
+  faultless B (SetLearning v on) takes = absurd (false≢true takes)
+  faultless B (SetMember v port egress) takes = absurd (false≢true takes)
+  faultless B (PortUp port) takes = absurd (false≢true takes)
+  faultless B (PortDown port) takes = absurd (false≢true takes)
+  faultless B (Flush v) takes = absurd (false≢true takes)
+  faultless B (AddSegment new) takes = none_there (segment_at B.settings new.vid)
+  faultless B (RemoveSegment v) takes = absurd (false≢true takes)
+  faultless B (SetLimit v limit) takes = none_there (segment_at B.settings v)
+
+  or_none : (o p : Option ChangeFault) → p ≡ None → (let first : Option ChangeFault = elim o [ Some why ↦ Some why | None ↦ p ] in first) ≡ o
+  or_none None p none = none
+  or_none (Some why) p none = refl
+
+  fault-refused : (B : Bridges) (c : Change) → takes_room (effect c) ≡ true → fault B c ≡ refused B.settings c
+  fault-refused B c takes = or_none (refused B.settings c) _ (faultless B c takes)
+
+  -- what a change of its own was answered
+  abbrev fault_in : Answer → Option ChangeFault
+  fault_in (Decided decision) = None
+  fault_in (Replied fault) = fault
+
+  abbrev reply_in : Input → Answer → List (Option ChangeFault)
+  reply_in (FrameAt port original b) a = []
+  reply_in (Packet original b) a = []
+  reply_in (Asks c) a = cond (asks_room vid c) (fault_in a ∷ []) []
+
+  reply-in : (t : ℕ) (B : Bridges) (i : Input) → room_reply vid B.settings i ≡ reply_in i (answer_by t B i)
+  reply-in t B (FrameAt port original b) = refl
+  reply-in t B (Packet original b) = refl
+  reply-in t B (Asks c) = by (takes_room (effect c)) (is_about vid c) (fault-refused B c)
+    where
+      by : (b d : Bool) → (b ≡ true → fault B c ≡ refused B.settings c) → cond (b && d) (refused B.settings c ∷ []) [] ≡ cond (b && d) (fault B c ∷ []) []
+      by true true same = sym (ap (λ why. why ∷ []) (same refl))
+      by true false same = refl
+      by false d same = refl
+
+  -- of events, each with what was told of it
+  abbrev replies_in : List Event → List Told → List (Option ChangeFault)
+  replies_in [] ts = []
+  replies_in (e ∷ es) [] = []
+  replies_in (e ∷ es) (t ∷ ts) = reply_in e.input t.reply ++ replies_in es ts
+
+  replies-in : (s : State) (es : List Event) → replies_from vid s es ≡ replies_in (only vid s es) (told_in vid s es)
+  replies-in s [] = refl
+  replies-in s (e ∷ es) = by (concerns vid s e) refl (replies-in (after s e) es)
+    where
+      by : (b : Bool) → concerns vid s e ≡ b → replies_from vid (after s e) es ≡ replies_in (only vid (after s e) es) (told_in vid (after s e) es)
+          → room_reply vid s.bridges.settings e.input ++ replies_from vid (after s e) es
+          ≡ replies_in (cond b (e ∷ only vid (after s e) es) (only vid (after s e) es)) (cond b (told_of s e ∷ told_in vid (after s e) es) (told_in vid (after s e) es))
+      by true is rest = λ i. reply-in e.at (aged e.at s.bridges) e.input i ++ rest i
+      by false is rest = ap (λ l. l ++ replies_from vid (after s e) es) (room-none vid s.bridges.settings e.input (not_own vid s e is)) ∙ rest
+
+  -- ---- two runs with the same settings
+
+  module _ (S : Settings) (es fs : List Event) (up : IsRising 0 es) (rising : IsRising 0 fs) (same : only vid (opened S) es ≡ only vid (opened S) fs) where
+    pub events-follow : own_events vid S es ≡ own_events vid S fs
+    events-follow =
+        sym (own_from-is vid (opened S) es) ∙ own-kept (opened S) es ∙ ap kept_of same ∙ sym (own-kept (opened S) fs) ∙ own_from-is vid (opened S) fs
+
+    pub replies-follow : room_replies vid S es ≡ room_replies vid S fs
+    replies-follow =
+        let heard : told_in vid (opened S) es ≡ told_in vid (opened S) fs = sym (told-alone vid S es up) ∙ ap (told (opened S)) same ∙ told-alone vid S fs rising in
+        sym (replies_from-is vid (opened S) es)
+        ∙ replies-in (opened S) es
+        ∙ (λ i. replies_in (same i) (heard i))
+        ∙ sym (replies-in (opened S) fs)
+        ∙ replies_from-is vid (opened S) fs
+
+    -- what `noninterference::laws::events` says
+    pub leaving-follows : departures_in vid (rows (opened S) es) ≡ departures_in vid (rows (opened S) fs)
+    leaving-follows = leaving-alike vid S S es fs up rising refl events-follow replies-follow
+
+    pub lines-follow : lines_in vid (rows (opened S) es) ≡ lines_in vid (rows (opened S) fs)
+    lines-follow = lines-alike vid S S es fs up rising refl events-follow replies-follow

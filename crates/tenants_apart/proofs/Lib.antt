@@ -1,0 +1,11 @@
+pub mod Captures
+pub mod Changing
+pub mod Coming
+pub mod Earlier
+pub mod Events
+pub mod Force
+pub mod Refusing
+pub mod Running
+pub mod Stepping
+pub mod Telling
+pub mod Told

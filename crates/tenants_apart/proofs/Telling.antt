@@ -1,0 +1,93 @@
+-- What leaves in a segment, and what is told of it, is told by its own events and what they are answered.
+use Rattle.std.proofs.Common.{◌≡◌, ◌∙◌, refl, sym, ap, ℕ, ◌==◌, Bool, true, false, cond, List, [], ◌∷◌, ◌++◌, filter, Option, Some, None, Result}
+use Rattle.std.specs.Option.{option_map_or}
+use Rattle.std.specs.List.{flat_map}
+use Rattle.std.proofs.lemmas.Bool.{false≢true}
+use Rattle.std.proofs.lemmas.Grind.{flat_map-append}
+use Rattle.std.proofs.lemmas.List.{map-append}
+use Rattle.std.proofs.lemmas.List.Elements.{filter-append}
+use Rattle.frame_view.specs.declared.reason.Refused.{Refused}
+use Rattle.overlay_settings.specs.Change.{named}
+use Rattle.endpoint_state.specs.State.{State as Bridges, aged}
+use Rattle.endpoint_core.specs.Came.{Came}
+use Rattle.endpoint_core.specs.Arrival.{came_at, came_by}
+use Rattle.endpoint_core.specs.Event.{Input, FrameAt, Packet, Asks, Event}
+use Rattle.endpoint_core.specs.Step.{State, decided, answer_by, after}
+use Rattle.capture_run.specs.Sendings.{sent_by}
+use Rattle.segment_isolation.specs.Alone.{is_segment}
+use Rattle.segment_isolation.proofs.Stepping.{decided-segment}
+use Rattle.noninterference.specs.Leaving.{Row, rows, Departure, decided_in, departure, departing, departures, departures_in, Line, line_of, lines, lines_in}
+use Rattle.noninterference.proofs.Lists.{filter-flat_map, filter-none, filter-lines}
+use Rattle.tenants_apart.specs.Own.{segment_met, names_or_concerns, own_rows}
+
+-- an event at moment t with its answer
+abbrev row_by : ℕ → Bridges → Input → Row
+row_by t B input = record { event = record { at = t; input = input }; reply = answer_by t B input }
+
+abbrev row_of : State → Event → Row
+row_of s e = row_by e.at (aged e.at s.bridges) e.input
+
+module _ (vid : ℕ) where
+  -- what is taken of each row, where an event that isn't the segment's own gives nothing
+  rows-own : {A : Type 0} (f : Row → List A) → ((s : State) (e : Event) → names_or_concerns vid s.bridges.settings e.input ≡ false → f (row_of s e) ≡ [])
+      → (s : State) (es : List Event) → flat_map f (rows s es) ≡ flat_map f (own_rows vid s es)
+  rows-own f nothing s [] = refl
+  rows-own f nothing s (e ∷ es) = by (names_or_concerns vid s.bridges.settings e.input) refl (rows-own f nothing (after s e) es)
+    where
+      by : (b : Bool) → names_or_concerns vid s.bridges.settings e.input ≡ b → flat_map f (rows (after s e) es) ≡ flat_map f (own_rows vid (after s e) es)
+          → f (row_of s e) ++ flat_map f (rows (after s e) es) ≡ flat_map f (cond b (row_of s e ∷ own_rows vid (after s e) es) (own_rows vid (after s e) es))
+      by true own rest = ap (λ l. f (row_of s e) ++ l) rest
+      by false other rest = ap (λ l. l ++ flat_map f (rows (after s e) es)) (nothing s e other) ∙ rest
+
+  -- ---- what leaves
+
+  abbrev leaves : Departure → Bool
+  leaves d = is_segment vid d.segment
+
+  none_of : (t : ℕ) (B : Bridges) (input : Input) (r : Result Came Refused) → decided_in (answer_by t B input) ≡ (decided t B r).segment → is_segment vid (segment_met r) ≡ false → filter leaves (departing (row_by t B input)) ≡ []
+  none_of t B input r here other =
+      filter-none leaves (departure (decided_in (answer_by t B input))) (λ s. ap (is_segment vid) (here ∙ decided-segment t B r) ∙ other) (sent_by t (answer_by t B input))
+
+  nothing_leaves : (t : ℕ) (B : Bridges) (input : Input) → names_or_concerns vid B.settings input ≡ false → filter leaves (departing (row_by t B input)) ≡ []
+  nothing_leaves t B (FrameAt port original b) other = none_of t B (FrameAt port original b) (came_at B.settings.ports port original b) refl other
+  nothing_leaves t B (Packet original b) other = none_of t B (Packet original b) (came_by B.settings.overlay original b) refl other
+  nothing_leaves t B (Asks c) other = refl
+
+  pub departures-own : (s : State) (es : List Event) → departures_in vid (rows s es) ≡ departures_in vid (own_rows vid s es)
+  departures-own s es =
+      filter-flat_map leaves departing (rows s es)
+      ∙ rows-own (λ row. filter leaves (departing row)) (λ s e other. nothing_leaves e.at (aged e.at s.bridges) e.input other) s es
+      ∙ sym (filter-flat_map leaves departing (own_rows vid s es))
+
+  -- ---- what is told
+
+  abbrev tells : Line → Bool
+  tells l = is_segment vid l.segment
+
+  named_apart : (segment : Option ℕ) → option_map_or (λ own. vid == own) segment true ≡ false → is_segment vid segment ≡ false
+  named_apart None other = absurd (false≢true (sym other))
+  named_apart (Some own) other = other
+
+  not_told : (row : Row) → tells (line_of row) ≡ false → filter tells (line_of row ∷ []) ≡ []
+  not_told row other = ap (λ b. cond b (line_of row ∷ []) []) other
+
+  nothing_told : (t : ℕ) (B : Bridges) (input : Input) → names_or_concerns vid B.settings input ≡ false → filter tells (line_of (row_by t B input) ∷ []) ≡ []
+  nothing_told t B (FrameAt port original b) other =
+      not_told (row_by t B (FrameAt port original b)) (ap (is_segment vid) (decided-segment t B (came_at B.settings.ports port original b)) ∙ other)
+  nothing_told t B (Packet original b) other =
+      not_told (row_by t B (Packet original b)) (ap (is_segment vid) (decided-segment t B (came_by B.settings.overlay original b)) ∙ other)
+  nothing_told t B (Asks c) other = not_told (row_by t B (Asks c)) (named_apart (named c) other)
+
+  pub lines-own : (s : State) (es : List Event) → lines_in vid (rows s es) ≡ lines_in vid (own_rows vid s es)
+  lines-own s es =
+      filter-lines tells line_of (rows s es)
+      ∙ rows-own (λ row. filter tells (line_of row ∷ [])) (λ s e other. nothing_told e.at (aged e.at s.bridges) e.input other) s es
+      ∙ sym (filter-lines tells line_of (own_rows vid s es))
+
+  -- ---- of rows, and then others
+
+  pub departures-append : (rs ts : List Row) → departures_in vid (rs ++ ts) ≡ departures_in vid rs ++ departures_in vid ts
+  departures-append rs ts = ap (filter leaves) (flat_map-append departing rs ts) ∙ filter-append leaves (departures rs) (departures ts)
+
+  pub lines-append : (rs ts : List Row) → lines_in vid (rs ++ ts) ≡ lines_in vid rs ++ lines_in vid ts
+  lines-append rs ts = ap (filter tells) (map-append line_of rs ts) ∙ filter-append tells (lines rs) (lines ts)

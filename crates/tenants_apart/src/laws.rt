@@ -1,0 +1,112 @@
+//! The laws of two runs with two settings.
+ghost use Rattle.std.specs.Prelude.{◌≡◌, ℕ, ◌||◌, List};
+ghost use Rattle.timeline.specs.Timeline.{Timeline};
+ghost use Rattle.timeline.specs.declared.source.Source.{Source};
+ghost use Rattle.timeline.specs.declared.source.Tap.{Tap};
+ghost use Rattle.vlan_ports.specs.Ports.{members_at};
+ghost use Rattle.overlay_settings.specs.Settings.{Settings as Told};
+ghost use Rattle.overlay_settings.specs.declared.change.Change.{Change};
+ghost use Rattle.endpoint_state.specs.Effect.{effect};
+ghost use Rattle.endpoint_state.specs.Opened.{settings_told};
+ghost use Rattle.endpoint_state.specs.Settings.{Settings};
+ghost use Rattle.endpoint_core.specs.Event.{Event, FrameAt, Packet, Asks, IsRising, frame_at, packet_at, change_at};
+ghost use Rattle.endpoint_core.specs.Run.{settings_after};
+ghost use Rattle.endpoint_core.specs.Step.{opened, state_after};
+ghost use Rattle.capture_run.specs.Outputs.{Outputs};
+ghost use Rattle.segment_isolation.specs.Alone.{all_see, concerns, only};
+ghost use Rattle.noninterference.specs.Coming.{Inputs, IsRunOf, ChangesNeverFall};
+ghost use Rattle.noninterference.specs.Leaving.{rows, rows_of, departures, departures_in, lines_in, records_in};
+ghost use Rattle.tenants_apart.specs.Own.{part_of, names_or_concerns, own_events, room_replies, own_rows, IsFrontOf};
+ghost use Rattle.tenants_apart.specs.Texts.{TellAlike, own_coming, replies_of, as_changed};
+
+/// Two lists of events whose moments never fall, to endpoints with two settings that agree in the underlay, the ports and
+/// in all that one segment has, or in that it isn't there. They agree in the segment's own events: the frames and packets
+/// that come to it or are refused in it, by the settings in force; the changes that name it; and those of ports. And its
+/// own `AddSegment` and `SetLimit`, which alone need room that others may have taken, are answered alike. Then each of
+/// these events is answered alike, and what leaves in the segment is the same, moment, place and octets, in order, and so
+/// are its decision lines but for their numbers: whatever other segments have, do, add, remove, fill or limit.
+pub fn events()
+    ensures answers { (vid : ℕ) (S T : Settings) (es fs : List Event) → IsRising 0 es → IsRising 0 fs →
+        part_of vid S ≡ part_of vid T → own_events vid S es ≡ own_events vid T fs →
+        room_replies vid S es ≡ room_replies vid T fs →
+        own_rows vid (opened S) es ≡ own_rows vid (opened T) fs }
+    ensures leaving { (vid : ℕ) (S T : Settings) (es fs : List Event) → IsRising 0 es → IsRising 0 fs →
+        part_of vid S ≡ part_of vid T → own_events vid S es ≡ own_events vid T fs →
+        room_replies vid S es ≡ room_replies vid T fs →
+        departures_in vid (rows (opened S) es) ≡ departures_in vid (rows (opened T) fs) }
+    ensures told { (vid : ℕ) (S T : Settings) (es fs : List Event) → IsRising 0 es → IsRising 0 fs →
+        part_of vid S ≡ part_of vid T → own_events vid S es ≡ own_events vid T fs →
+        room_replies vid S es ≡ room_replies vid T fs →
+        lines_in vid (rows (opened S) es) ≡ lines_in vid (rows (opened T) fs) }
+{}
+
+/// The same as far as the one goes, where it may have stopped: the segment's own events of the one are the first of those
+/// of the other. Then its answers, what leaves in it, and its decision lines are the first of the other's.
+pub fn fronts()
+    ensures answers { (vid : ℕ) (S T : Settings) (es fs : List Event) → IsRising 0 es → IsRising 0 fs →
+        part_of vid S ≡ part_of vid T → IsFrontOf (own_events vid S es) (own_events vid T fs) →
+        IsFrontOf (room_replies vid S es) (room_replies vid T fs) →
+        IsFrontOf (own_rows vid (opened S) es) (own_rows vid (opened T) fs) }
+    ensures leaving { (vid : ℕ) (S T : Settings) (es fs : List Event) → IsRising 0 es → IsRising 0 fs →
+        part_of vid S ≡ part_of vid T → IsFrontOf (own_events vid S es) (own_events vid T fs) →
+        IsFrontOf (room_replies vid S es) (room_replies vid T fs) →
+        IsFrontOf (departures_in vid (rows (opened S) es)) (departures_in vid (rows (opened T) fs)) }
+    ensures told { (vid : ℕ) (S T : Settings) (es fs : List Event) → IsRising 0 es → IsRising 0 fs →
+        part_of vid S ≡ part_of vid T → IsFrontOf (own_events vid S es) (own_events vid T fs) →
+        IsFrontOf (room_replies vid S es) (room_replies vid T fs) →
+        IsFrontOf (lines_in vid (rows (opened S) es)) (lines_in vid (rows (opened T) fs)) }
+{}
+
+/// Whether an event concerns a segment is told by the settings in force, which changes alone make, and not by any table.
+/// Of a frame it is told by the ports and the segment's own members.
+pub fn concerning()
+    ensures frames { (vid : ℕ) (S : Settings) (es : List Event) (t port original : ℕ) (b : List ℕ) →
+        concerns vid (state_after (opened S) es) (frame_at t port original b) ≡
+        names_or_concerns vid (settings_after S es) (FrameAt port original b) }
+    ensures packets { (vid : ℕ) (S : Settings) (es : List Event) (t original : ℕ) (b : List ℕ) →
+        concerns vid (state_after (opened S) es) (packet_at t original b) ≡
+        names_or_concerns vid (settings_after S es) (Packet original b) }
+    ensures changes { (vid : ℕ) (S : Settings) (es : List Event) (t : ℕ) (c : Change) →
+        concerns vid (state_after (opened S) es) (change_at t c) ≡
+        (names_or_concerns vid (settings_after S es) (Asks c) || all_see (effect c)) }
+    ensures own_frames { (vid : ℕ) (S T : Settings) (port original : ℕ) (b : List ℕ) →
+        S.ports.ports ≡ T.ports.ports → members_at S.ports vid ≡ members_at T.ports vid →
+        names_or_concerns vid S (FrameAt port original b) ≡ names_or_concerns vid T (FrameAt port original b) }
+{}
+
+/// Two runs over captures, with settings that tell the same underlay, the same ports and the same of a segment. If of each
+/// source, the list of changes, each port's capture and the underlay's, the same changes or records are the segment's own
+/// (moments, lengths, octets, in order), and its own `AddSegment` and `SetLimit` are answered alike, then in every output
+/// capture the records that leave in the segment are the same (moments, octets, in order), and so are its decision lines
+/// but for their numbers. Whatever other segments the two settings have, and whatever else stands in the captures and
+/// among the changes.
+pub fn captures()
+    ensures records { (vid : ℕ) (s t : Told) (x y : Inputs) (l m : Timeline) (o p : Outputs) →
+        IsRunOf s x l o → IsRunOf t y m p → TellAlike vid s t →
+        ((source : Source) → own_coming vid s x l source ≡ own_coming vid t y m source) →
+        replies_of vid s x l ≡ replies_of vid t y m → (output : Tap) →
+        records_in vid output (departures (rows_of s x l)) ≡ records_in vid output (departures (rows_of t y m)) }
+    ensures told { (vid : ℕ) (s t : Told) (x y : Inputs) (l m : Timeline) (o p : Outputs) →
+        IsRunOf s x l o → IsRunOf t y m p → TellAlike vid s t →
+        ((source : Source) → own_coming vid s x l source ≡ own_coming vid t y m source) →
+        replies_of vid s x l ≡ replies_of vid t y m →
+        lines_in vid (rows_of s x l) ≡ lines_in vid (rows_of t y m) }
+
+    // Settings that tell alike of a segment begin with the same of it in force.
+    ensures begins { (vid : ℕ) (s t : Told) → TellAlike vid s t →
+        part_of vid (settings_told s) ≡ part_of vid (settings_told t) }
+    // What is answered to those changes is told by the settings and the list of changes alone, whose moments never fall.
+    ensures replies { (vid : ℕ) (s : Told) (x : Inputs) (l : Timeline) (o : Outputs) → IsRunOf s x l o →
+        ChangesNeverFall 0 x.changes →
+        replies_of vid s x l ≡ room_replies vid (settings_told s) (as_changed x.changes) }
+{}
+
+/// With the same settings, lists that agree in what concerns a segment, others' comings, goings and limits among it, agree
+/// in the segment's own events, and its own changes are answered alike. So [`noninterference::laws::events`] follows from
+/// [`events`].
+pub fn earlier()
+    ensures events { (vid : ℕ) (S : Settings) (es fs : List Event) → IsRising 0 es → IsRising 0 fs →
+        only vid (opened S) es ≡ only vid (opened S) fs → own_events vid S es ≡ own_events vid S fs }
+    ensures replies { (vid : ℕ) (S : Settings) (es fs : List Event) → IsRising 0 es → IsRising 0 fs →
+        only vid (opened S) es ≡ only vid (opened S) fs → room_replies vid S es ≡ room_replies vid S fs }
+{}

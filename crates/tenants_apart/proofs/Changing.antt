@@ -20,10 +20,10 @@ use Rattle.tenants_apart.proofs.Refusing.{whole_of}
 
 -- ---- a flood list
 
-abbrev flooded : Entries → Segment → Segment
+abbrev pub flooded : Entries → Segment → Segment
 flooded flood g = record g { flood = flood }
 
-flooding-at : (segments : Segments) (v : ℕ) (flood : Entries) (w : ℕ) → get (flooding segments v flood) w ≡ cond (w == v) (option_map (flooded flood) (get segments v)) (get segments w)
+pub flooding-at : (segments : Segments) (v : ℕ) (flood : Entries) (w : ℕ) → get (flooding segments v flood) w ≡ cond (w == v) (option_map (flooded flood) (get segments v)) (get segments w)
 flooding-at segments v flood w = by (get segments v) refl
   where
     none : (b : Bool) → (w == v) ≡ b → get segments v ≡ None → get segments w ≡ cond b None (get segments w)

@@ -106,11 +106,15 @@ arriving U found original b =
     (unless (as_refused None (first (outer_reasons (record { underlay = U; segments = empty }) b))) (brought (kind_to U (packet_in b)) found (packet_in b)))
 
 -- the segment that is found for the data d at a port of a kind
-abbrev found_for : Overlay → List ℕ → Option Tunnel → Option (ℕ × Segment)
+abbrev pub found_for : Overlay → List ℕ → Option Tunnel → Option (ℕ × Segment)
 found_for S d kind = option_and_then (λ k. segment_by S k (vni_of k d)) kind
 
 pub found : Overlay → List ℕ → Option (ℕ × Segment)
 found S b = found_for S (data_of (packet_in b).payload) (kind_to S.underlay (packet_in b))
+
+pub found-is : (S : Overlay) (b : List ℕ) → found S b ≡ found_for S (data_of (packet_in b).payload) (kind_to S.underlay (packet_in b))
+unfolding found
+found-is S b = refl
 
 by-brought : (S : Overlay) (p : Packet) (kind : Option Tunnel) → arrival_by S kind p.source p.destination (data_of p.payload) ≡ brought kind (found_for S (data_of p.payload) kind) p
 by-brought S p None = refl
@@ -146,12 +150,12 @@ found-there : (S : Overlay) (d : List ℕ) (kind : Option Tunnel) (e : ℕ × Se
 found-there S d None e is = absurd (none-some e is)
 found-there S d (Some kind) e is = get-entries S.segments e.0 ∙ (found_where nat_cmp_total (has_tunnel kind (vni_of kind d)) (entries S.segments) e (entries_sorted S.segments) is).0
 
-pub found-stands : (S : Overlay) (b : List ℕ) (e : ℕ × Segment) → found S b ≡ Some e → segment_at S e.0 ≡ Some e.1
+found-stands : (S : Overlay) (b : List ℕ) (e : ℕ × Segment) → found S b ≡ Some e → segment_at S e.0 ≡ Some e.1
 unfolding found
 found-stands S b e is = found-there S (data_of (packet_in b).payload) (kind_to S.underlay (packet_in b)) e is
 
 -- what arrives in the segment was found for it
-pub arrives-found : (vid : ℕ) (S : Overlay) (original : ℕ) (b : List ℕ) → is_segment vid (segment_arrived (arrival_of S original b)) ≡ true → is_segment vid (option_map (λ e. e.0) (found S b)) ≡ true
+arrives-found : (vid : ℕ) (S : Overlay) (original : ℕ) (b : List ℕ) → is_segment vid (segment_arrived (arrival_of S original b)) ≡ true → is_segment vid (option_map (λ e. e.0) (found S b)) ≡ true
 arrives-found vid S original b own = by (is_segment vid (option_map (λ e. e.0) (found S b))) refl
   where
     by : (c : Bool) → is_segment vid (option_map (λ e. e.0) (found S b)) ≡ c → c ≡ true
@@ -177,13 +181,20 @@ by-tunnelled : (r : Result Arrived Refused) → segment_met (tunnelled r) ≡ se
 by-tunnelled (Ok x) = refl
 by-tunnelled (Err refused) = refl
 
--- what arrives in the segment, or is refused in it, in both
-pub came_by-own : (vid : ℕ) (S T : Overlay) → S.underlay ≡ T.underlay → segment_at S vid ≡ segment_at T vid → (original : ℕ) (b : List ℕ) → is_segment vid (segment_met (came_by S original b)) ≡ true → is_segment vid (segment_met (came_by T original b)) ≡ true → came_by T original b ≡ came_by S original b
+-- what comes to the segment was found for it
+pub met-found : (vid : ℕ) (S : Overlay) (original : ℕ) (b : List ℕ) → is_segment vid (segment_met (came_by S original b)) ≡ true → is_segment vid (option_map (λ e. e.0) (found S b)) ≡ true
 unfolding came_by
-came_by-own vid S T underlay here original b own other =
-    let in_S = arrives-found vid S original b (sym (ap (is_segment vid) (by-tunnelled (arrival_of S original b))) ∙ own) in
-    let in_T = arrives-found vid T original b (sym (ap (is_segment vid) (by-tunnelled (arrival_of T original b))) ∙ other) in
+met-found vid S original b own = arrives-found vid S original b (sym (ap (is_segment vid) (by-tunnelled (arrival_of S original b))) ∙ own)
+
+-- where the same is found for it, a packet is read alike
+pub came_by-found : (vid : ℕ) (S T : Overlay) → S.underlay ≡ T.underlay → segment_at S vid ≡ segment_at T vid → (original : ℕ) (b : List ℕ) → is_segment vid (option_map (λ e. e.0) (found S b)) ≡ true → is_segment vid (option_map (λ e. e.0) (found T b)) ≡ true → came_by T original b ≡ came_by S original b
+unfolding came_by
+came_by-found vid S T underlay here original b in_S in_T =
     ap tunnelled
     (arrival_of-is T original b
     ∙ (λ i. arriving (sym underlay i) (found-both vid S T here b in_S in_T i) original b)
     ∙ sym (arrival_of-is S original b))
+
+-- what arrives in the segment, or is refused in it, in both
+pub came_by-own : (vid : ℕ) (S T : Overlay) → S.underlay ≡ T.underlay → segment_at S vid ≡ segment_at T vid → (original : ℕ) (b : List ℕ) → is_segment vid (segment_met (came_by S original b)) ≡ true → is_segment vid (segment_met (came_by T original b)) ≡ true → came_by T original b ≡ came_by S original b
+came_by-own vid S T underlay here original b own other = came_by-found vid S T underlay here original b (met-found vid S original b own) (met-found vid T original b other)

@@ -6,6 +6,8 @@ pub mod Events
 pub mod Force
 pub mod Refusing
 pub mod Running
+pub mod Single
 pub mod Stepping
 pub mod Telling
 pub mod Told
+pub mod Vnis

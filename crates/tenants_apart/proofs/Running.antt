@@ -59,7 +59,7 @@ settings-after s e = settings-event e.at (aged e.at s.bridges) e.input
 
 -- ---- the segment's own events, told along states
 
-abbrev row_of : State → Event → Row
+abbrev pub row_of : State → Event → Row
 row_of s e = record { event = e; reply = answer s e }
 
 module _ (vid : ℕ) where
@@ -105,7 +105,7 @@ module _ (vid : ℕ) where
   room-none S (Packet original b) other = refl
   room-none S (Asks c) other = ap (λ (b : Bool). cond (takes_room (effect c) && b) (refused S c ∷ []) []) other ∙ ap (λ (b : Bool). cond b (refused S c ∷ []) []) (false-right (takes_room (effect c)))
 
-  room-split : (S T : Settings) (i : Input) (rs ts : List (Option ChangeFault)) → room_reply vid S i ++ rs ≡ room_reply vid T i ++ ts → AreRoomAlike vid S T i × (rs ≡ ts)
+  pub room-split : (S T : Settings) (i : Input) (rs ts : List (Option ChangeFault)) → room_reply vid S i ++ rs ≡ room_reply vid T i ++ ts → AreRoomAlike vid S T i × (rs ≡ ts)
   room-split S T (FrameAt port original b) rs ts same = (tt, same)
   room-split S T (Packet original b) rs ts same = (tt, same)
   room-split S T (Asks c) rs ts same = by (asks_room vid c) same

@@ -1,2 +1,4 @@
 pub mod Own
+pub mod Single
 pub mod Texts
+pub mod Vnis

@@ -4,6 +4,8 @@ ghost use Rattle.timeline.specs.Timeline.{Timeline};
 ghost use Rattle.timeline.specs.declared.source.Source.{Source};
 ghost use Rattle.timeline.specs.declared.source.Tap.{Tap};
 ghost use Rattle.vlan_ports.specs.Ports.{members_at};
+ghost use Rattle.underlay.specs.Overlay.{segment_at};
+ghost use Rattle.overlay_settings.specs.Rules.{MeetsRules};
 ghost use Rattle.overlay_settings.specs.Settings.{Settings as Told};
 ghost use Rattle.overlay_settings.specs.declared.change.Change.{Change};
 ghost use Rattle.endpoint_state.specs.Effect.{effect};
@@ -17,7 +19,9 @@ ghost use Rattle.segment_isolation.specs.Alone.{all_see, concerns, only};
 ghost use Rattle.noninterference.specs.Coming.{Inputs, IsRunOf, ChangesNeverFall};
 ghost use Rattle.noninterference.specs.Leaving.{rows, rows_of, departures, departures_in, lines_in, records_in};
 ghost use Rattle.tenants_apart.specs.Own.{part_of, names_or_concerns, own_events, room_replies, own_rows, IsFrontOf};
+ghost use Rattle.tenants_apart.specs.Single.{single};
 ghost use Rattle.tenants_apart.specs.Texts.{TellAlike, own_coming, replies_of, as_changed};
+ghost use Rattle.tenants_apart.specs.Vnis.{AreVnisApart};
 
 /// Two lists of events whose moments never fall, to endpoints with two settings that agree in the underlay, the ports and
 /// in all that one segment has, or in that it isn't there. They agree in the segment's own events: the frames and packets
@@ -72,6 +76,37 @@ pub fn concerning()
     ensures own_frames { (vid : ℕ) (S T : Settings) (port original : ℕ) (b : List ℕ) →
         S.ports.ports ≡ T.ports.ports → members_at S.ports vid ≡ members_at T.ports vid →
         names_or_concerns vid S (FrameAt port original b) ≡ names_or_concerns vid T (FrameAt port original b) }
+{}
+
+/// Settings texts, and changes after them, give no VNI to two segments: no two have tunnels of one kind with one VNI. Then
+/// whether a packet is a segment's own is told by the underlay and by its own tunnels, whatever other segments have.
+pub fn vnis()
+    ensures told { (s : Told) → MeetsRules s → AreVnisApart (settings_told s).overlay }
+    ensures kept { (S : Settings) (es : List Event) → AreVnisApart S.overlay → AreVnisApart (settings_after S es).overlay }
+    ensures own_packets { (vid : ℕ) (S T : Settings) (original : ℕ) (b : List ℕ) →
+        AreVnisApart S.overlay → AreVnisApart T.overlay → S.overlay.underlay ≡ T.overlay.underlay →
+        segment_at S.overlay vid ≡ segment_at T.overlay vid →
+        names_or_concerns vid S (Packet original b) ≡ names_or_concerns vid T (Packet original b) }
+{}
+
+/// A segment among others is answered as it is alone. Where its own `AddSegment` and `SetLimit` are answered alike, an
+/// endpoint that has this segment and no other, and to which its own events come and no others, answers each of them the
+/// same; what leaves there is what leaves in the segment among others, and the decision lines are its own but for their
+/// numbers.
+pub fn single()
+    ensures events { (vid : ℕ) (S : Settings) (es : List Event) → AreVnisApart S.overlay →
+        room_replies vid S es ≡ room_replies vid (single vid S) (own_events vid S es) →
+        own_events vid (single vid S) (own_events vid S es) ≡ own_events vid S es }
+    ensures answers { (vid : ℕ) (S : Settings) (es : List Event) → AreVnisApart S.overlay →
+        room_replies vid S es ≡ room_replies vid (single vid S) (own_events vid S es) → IsRising 0 es →
+        own_rows vid (opened S) es ≡ rows (opened (single vid S)) (own_events vid S es) }
+    ensures leaving { (vid : ℕ) (S : Settings) (es : List Event) → AreVnisApart S.overlay →
+        room_replies vid S es ≡ room_replies vid (single vid S) (own_events vid S es) → IsRising 0 es →
+        departures_in vid (rows (opened S) es) ≡
+        departures_in vid (rows (opened (single vid S)) (own_events vid S es)) }
+    ensures told { (vid : ℕ) (S : Settings) (es : List Event) → AreVnisApart S.overlay →
+        room_replies vid S es ≡ room_replies vid (single vid S) (own_events vid S es) → IsRising 0 es →
+        lines_in vid (rows (opened S) es) ≡ lines_in vid (rows (opened (single vid S)) (own_events vid S es)) }
 {}
 
 /// Two runs over captures, with settings that tell the same underlay, the same ports and the same of a segment. If of each

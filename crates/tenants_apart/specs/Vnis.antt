@@ -1,0 +1,9 @@
+-- Whose a VNI is, where no two segments have it. It states no standard.
+use Rattle.std.specs.Prelude.{◌≡◌, ℕ, true}
+use Rattle.ip_udp_view.specs.declared.addr.Tunnel.{Tunnel}
+use Rattle.underlay.specs.Index.{has_at}
+use Rattle.underlay.specs.Overlay.{Overlay}
+
+-- no two segments have tunnels of one kind with one VNI
+abbrev pub AreVnisApart : Overlay → Type 0
+AreVnisApart S = (v w : ℕ) (kind : Tunnel) (vni : ℕ) → has_at kind S.segments vni v ≡ true → has_at kind S.segments vni w ≡ true → w ≡ v

@@ -10,17 +10,19 @@ use Rattle.endpoint_state.specs.Opened.{settings_told}
 use Rattle.endpoint_state.specs.Settings.{Settings}
 use Rattle.endpoint_core.specs.Event.{Input, FrameAt, Packet, Asks, Event, IsRising}
 use Rattle.endpoint_core.specs.Run.{settings_after_input}
+use Rattle.endpoint_core.specs.Step.{opened}
 use Rattle.capture_run.specs.Outputs.{Outputs}
 use Rattle.capture_run.specs.Sendings.{record_of}
-use Rattle.segment_isolation.specs.Alone.{is_segment}
-use Rattle.noninterference.specs.Coming.{Inputs, IsRunOf, ChangesNeverFall, changes_of, coming, from_source}
+use Rattle.segment_isolation.specs.Alone.{is_segment, only}
+use Rattle.noninterference.specs.Coming.{Inputs, IsRunOf, ChangesNeverFall, changes_of, coming, coming_to, from_source}
 use Rattle.noninterference.specs.Leaving.{Row, rows_of, Departure, departures, departures_in, lines_in, leaves_at, records_in}
 use Rattle.noninterference.proofs.Asked.{changes-told}
 use Rattle.noninterference.proofs.Lists.{filter-both}
 use Rattle.noninterference.proofs.Merging.{coming-rises, coming-turns}
-use Rattle.noninterference.proofs.Turns.{Before, InTurn, same_by_source}
+use Rattle.noninterference.proofs.Turns.{Before, InTurn, same_by_source, turn-only}
 use Rattle.tenants_apart.specs.Own.{names_or_concerns, own_events, room_reply, room_replies}
 use Rattle.tenants_apart.specs.Texts.{TellAlike, own_coming, replies_of, as_changed}
+use Rattle.tenants_apart.proofs.Earlier.{events-follow, replies-follow}
 use Rattle.tenants_apart.proofs.Events.{leaving-alike, lines-alike}
 use Rattle.tenants_apart.proofs.Told.{part-told}
 
@@ -88,3 +90,27 @@ replies-changes vid S (e ∷ es) = replies-step vid S e.at e.input es (replies-c
 
 pub replies-told : (vid : ℕ) (s : Told) (x : Inputs) (l : Timeline) (o : Outputs) → IsRunOf s x l o → ChangesNeverFall 0 x.changes → replies_of vid s x l ≡ room_replies vid (settings_told s) (as_changed x.changes)
 replies-told vid s x l o is never = replies-changes vid (settings_told s) (coming x l) ∙ ap (room_replies vid (settings_told s)) (changes-told s x l o is never)
+
+-- ---- with the same settings
+
+module _ (vid : ℕ) (s : Told) (x y : Inputs) (l m : Timeline) (o p : Outputs) (is : IsRunOf s x l o) (other : IsRunOf s y m p)
+    (same : (source : Source) → coming_to vid s x l source ≡ coming_to vid s y m source) where
+  turns-concerning : (z : Inputs) (n : Timeline) (q : Outputs) → IsRunOf s z n q → InTurn Before (only vid (opened (settings_told s)) (coming z n))
+  turns-concerning z n q run =
+      turn-only Before vid (opened (settings_told s)) (coming z n) (coming-turns (changes_of z) (map (λ c. c.at) z.changes) z.ports z.underlay n run.read)
+
+  concerning-same : only vid (opened (settings_told s)) (coming x l) ≡ only vid (opened (settings_told s)) (coming y m)
+  concerning-same = same_by_source (only vid (opened (settings_told s)) (coming x l)) (only vid (opened (settings_told s)) (coming y m)) (turns-concerning x l o is) (turns-concerning y m p other) same
+
+  pub sources-follow : (source : Source) → own_coming vid s x l source ≡ own_coming vid s y m source
+  sources-follow source = ap (from_source source) (events-follow vid (settings_told s) (coming x l) (coming y m) (rises s x l o is) (rises s y m p other) concerning-same)
+
+  pub answers-follow : replies_of vid s x l ≡ replies_of vid s y m
+  answers-follow = replies-follow vid (settings_told s) (coming x l) (coming y m) (rises s x l o is) (rises s y m p other) concerning-same
+
+  -- what `noninterference::laws::captures` says
+  pub records-follow : (output : Tap) → records_in vid output (departures (rows_of s x l)) ≡ records_in vid output (departures (rows_of s y m))
+  records-follow = records-alike vid s s x y l m o p is other (record { underlay = refl; ports = refl; segment = refl }) sources-follow answers-follow
+
+  pub told-follow : lines_in vid (rows_of s x l) ≡ lines_in vid (rows_of s y m)
+  told-follow = told-alike vid s s x y l m o p is other (record { underlay = refl; ports = refl; segment = refl }) sources-follow answers-follow

@@ -5,6 +5,7 @@ pub mod Earlier
 pub mod Events
 pub mod Force
 pub mod Refusing
+pub mod Room
 pub mod Running
 pub mod Single
 pub mod Stepping

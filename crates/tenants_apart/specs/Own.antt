@@ -2,8 +2,10 @@
 --     Part, part_of      what a segment has of the settings in force, beside the ports and the underlay
 --     names_or_concerns, own_events      the events of a run that are the segment's own
 --     asks_room, room_replies      what those changes of its own are answered that others may have left no room for
+--     wants_room      such a change is refused because of others
 --     own_rows      its own events, each with its answer
 use Rattle.std.specs.Prelude.{◌≡◌, ℕ, Bool, true, false, ◌&&◌, if◌then◌else◌, List, [], ◌∷◌, ◌++◌, Option, Some, Result, Ok, Err}
+use Rattle.std.specs.Option.{option_map_or}
 use Rattle.frame_view.specs.declared.reason.Refused.{Refused}
 use Rattle.vlan_ports.specs.Ports.{Members, members_at}
 use Rattle.vlan_ports.specs.declared.port.PortRule.{PortRule}
@@ -12,6 +14,7 @@ use Rattle.underlay.specs.declared.segment.Segment.{Segment}
 use Rattle.underlay.specs.declared.settings.Underlay.{Underlay}
 use Rattle.overlay_settings.specs.declared.change.Change.{Change}
 use Rattle.endpoint_state.specs.declared.fault.ChangeFault.{ChangeFault}
+use Rattle.endpoint_state.specs.declared.fault.ChangeFault.TheVariants.{SegmentThere, SegmentsFull, PoolFull}
 use Rattle.endpoint_state.specs.Settings.{Settings, BridgeSettings}
 use Rattle.endpoint_state.specs.Effect.{Effect, ToFlood, ToBridge, ToLimit, ToMembers, ToPort, Comes, Goes, ToNothing, effect}
 use Rattle.endpoint_state.specs.Change.{is_about, refused}
@@ -96,6 +99,17 @@ room_reply vid S (Asks c) = if asks_room vid c then refused S c ∷ [] else []
 abbrev pub room_replies : ℕ → Settings → List Event → List (Option ChangeFault)
 room_replies vid S [] = []
 room_replies vid S (e ∷ es) = room_reply vid S e.input ++ room_replies vid (settings_after_input S e.input) es
+
+-- others have its VID or a VNI of it, or all places, or the room that it asks for
+abbrev pub is_want : ChangeFault → Bool
+is_want SegmentThere = true
+is_want SegmentsFull = true
+is_want PoolFull = true
+is_want why = false
+
+-- refused for that, and not made or refused for another reason
+abbrev pub wants_room : Option ChangeFault → Bool
+wants_room reply = option_map_or is_want reply false
 
 -- ---- answers
 

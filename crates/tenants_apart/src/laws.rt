@@ -1,5 +1,5 @@
 //! The laws of two runs with two settings.
-ghost use Rattle.std.specs.Prelude.{◌≡◌, ℕ, ◌||◌, List};
+ghost use Rattle.std.specs.Prelude.{◌≡◌, ℕ, false, true, ◌||◌, List};
 ghost use Rattle.timeline.specs.Timeline.{Timeline};
 ghost use Rattle.timeline.specs.declared.source.Source.{Source};
 ghost use Rattle.timeline.specs.declared.source.Tap.{Tap};
@@ -8,6 +8,7 @@ ghost use Rattle.underlay.specs.Overlay.{segment_at};
 ghost use Rattle.overlay_settings.specs.Rules.{MeetsRules};
 ghost use Rattle.overlay_settings.specs.Settings.{Settings as Told};
 ghost use Rattle.overlay_settings.specs.declared.change.Change.{Change};
+ghost use Rattle.endpoint_state.specs.Change.{is_about, refused};
 ghost use Rattle.endpoint_state.specs.Effect.{effect};
 ghost use Rattle.endpoint_state.specs.Opened.{settings_told};
 ghost use Rattle.endpoint_state.specs.Settings.{Settings};
@@ -16,9 +17,9 @@ ghost use Rattle.endpoint_core.specs.Run.{settings_after};
 ghost use Rattle.endpoint_core.specs.Step.{opened, state_after};
 ghost use Rattle.capture_run.specs.Outputs.{Outputs};
 ghost use Rattle.segment_isolation.specs.Alone.{all_see, concerns, only};
-ghost use Rattle.noninterference.specs.Coming.{Inputs, IsRunOf, ChangesNeverFall};
+ghost use Rattle.noninterference.specs.Coming.{Inputs, IsRunOf, ChangesNeverFall, coming_to};
 ghost use Rattle.noninterference.specs.Leaving.{rows, rows_of, departures, departures_in, lines_in, records_in};
-ghost use Rattle.tenants_apart.specs.Own.{part_of, names_or_concerns, own_events, room_replies, own_rows, IsFrontOf};
+ghost use Rattle.tenants_apart.specs.Own.{part_of, names_or_concerns, own_events, room_replies, wants_room, own_rows, IsFrontOf};
 ghost use Rattle.tenants_apart.specs.Single.{single};
 ghost use Rattle.tenants_apart.specs.Texts.{TellAlike, own_coming, replies_of, as_changed};
 ghost use Rattle.tenants_apart.specs.Vnis.{AreVnisApart};
@@ -136,12 +137,28 @@ pub fn captures()
         replies_of vid s x l ≡ room_replies vid (settings_told s) (as_changed x.changes) }
 {}
 
+/// Of others a segment feels the want of room, and nothing else. A change that names it, or one of a port, is refused alike
+/// by all settings that agree in the underlay, the ports and all that the segment has, where none of them refuses it
+/// because its VID or a VNI is taken, because there are as many segments as there can be, or because the pool is full.
+pub fn room()
+    ensures { (vid : ℕ) (S T : Settings) (c : Change) → part_of vid S ≡ part_of vid T → is_about vid c ≡ true →
+        wants_room (refused S c) ≡ false → wants_room (refused T c) ≡ false → refused S c ≡ refused T c }
+{}
+
 /// With the same settings, lists that agree in what concerns a segment, others' comings, goings and limits among it, agree
 /// in the segment's own events, and its own changes are answered alike. So [`noninterference::laws::events`] follows from
-/// [`events`].
+/// [`events`], and so does [`noninterference::laws::captures`] from [`captures`].
 pub fn earlier()
     ensures events { (vid : ℕ) (S : Settings) (es fs : List Event) → IsRising 0 es → IsRising 0 fs →
         only vid (opened S) es ≡ only vid (opened S) fs → own_events vid S es ≡ own_events vid S fs }
     ensures replies { (vid : ℕ) (S : Settings) (es fs : List Event) → IsRising 0 es → IsRising 0 fs →
         only vid (opened S) es ≡ only vid (opened S) fs → room_replies vid S es ≡ room_replies vid S fs }
+    ensures sources { (vid : ℕ) (s : Told) (x y : Inputs) (l m : Timeline) (o p : Outputs) →
+        IsRunOf s x l o → IsRunOf s y m p →
+        ((source : Source) → coming_to vid s x l source ≡ coming_to vid s y m source) → (source : Source) →
+        own_coming vid s x l source ≡ own_coming vid s y m source }
+    ensures answers { (vid : ℕ) (s : Told) (x y : Inputs) (l m : Timeline) (o p : Outputs) →
+        IsRunOf s x l o → IsRunOf s y m p →
+        ((source : Source) → coming_to vid s x l source ≡ coming_to vid s y m source) →
+        replies_of vid s x l ≡ replies_of vid s y m }
 {}

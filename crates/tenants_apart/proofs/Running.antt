@@ -21,13 +21,13 @@ use Rattle.tenants_apart.proofs.Stepping.{Own, owned, AreRoomAlike, answer-same,
 
 -- ---- lists
 
-same-head : {A : Type 0} (x y : A) (xs ys : List A) → x ∷ xs ≡ y ∷ ys → x ≡ y
+pub same-head : {A : Type 0} (x y : A) (xs ys : List A) → x ∷ xs ≡ y ∷ ys → x ≡ y
 same-head x y xs ys same = cc
 
-same-tail : {A : Type 0} (x y : A) (xs ys : List A) → x ∷ xs ≡ y ∷ ys → xs ≡ ys
+pub same-tail : {A : Type 0} (x y : A) (xs ys : List A) → x ∷ xs ≡ y ∷ ys → xs ≡ ys
 same-tail x y xs ys same = cc
 
-never-empty : {A : Type 0} (x : A) (xs : List A) → x ∷ xs ≡ [] → ⊥
+pub never-empty : {A : Type 0} (x : A) (xs : List A) → x ∷ xs ≡ [] → ⊥
 never-empty x xs same = cc
 
 -- ---- ageing

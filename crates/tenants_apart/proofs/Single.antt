@@ -21,7 +21,7 @@ use Rattle.tenants_apart.specs.Vnis.{AreVnisApart}
 use Rattle.tenants_apart.proofs.Changing.{changed-own, changed-other}
 use Rattle.tenants_apart.proofs.Coming.{frame-own}
 use Rattle.tenants_apart.proofs.Events.{answers-alike}
-use Rattle.tenants_apart.proofs.Refusing.{refused-own}
+use Rattle.tenants_apart.proofs.Room.{part-kept, part-left}
 use Rattle.tenants_apart.proofs.Running.{row_of, own_from, own_from-is, room-none, room-split}
 use Rattle.tenants_apart.proofs.Stepping.{AreRoomAlike}
 use Rattle.tenants_apart.proofs.Telling.{departures-own, lines-own}
@@ -62,16 +62,6 @@ module _ (vid : ℕ) where
   names-same S T h apart other (Packet original b) = packet-own vid S.overlay T.overlay (ap (λ (p : Part). p.underlay) h) (ap (λ (p : Part). p.tunnels) h) apart other original b
   names-same S T h apart other (Asks c) = refl
 
-  part-kept : (S T : Settings) → part_of vid S ≡ part_of vid T → (i : Input) → names_or_concerns vid S i ≡ true → AreRoomAlike vid S T i → part_of vid (settings_after_input S i) ≡ part_of vid (settings_after_input T i)
-  part-kept S T h (FrameAt port original b) own room = h
-  part-kept S T h (Packet original b) own room = h
-  part-kept S T h (Asks c) own room = changed-own vid S T h c (refused-own vid S T h c own room)
-
-  part-left : (S : Settings) (i : Input) → names_or_concerns vid S i ≡ false → part_of vid (settings_after_input S i) ≡ part_of vid S
-  part-left S (FrameAt port original b) other = refl
-  part-left S (Packet original b) other = refl
-  part-left S (Asks c) other = changed-other vid S c other
-
   own-again : (S T : Settings) (es : List Event) → part_of vid S ≡ part_of vid T → AreVnisApart S.overlay → AreVnisApart T.overlay
       → room_replies vid S es ≡ room_replies vid T (own_events vid S es) → own_events vid T (own_events vid S es) ≡ own_events vid S es
   own-again S T [] h apart other replies = refl
@@ -90,11 +80,11 @@ module _ (vid : ℕ) where
       by next true is asked =
           let there : names_or_concerns vid T e.input ≡ true = sym (names-same S T h apart other e.input) ∙ is in
           let split = room-split vid S T e.input (room_replies vid (settings_after_input S e.input) es) (room_replies vid (settings_after_input T e.input) (own_events vid (settings_after_input S e.input) es)) asked in
-          let rest = next (settings_after_input T e.input) (part-kept S T h e.input is split.0) (apart-input S e.input apart) (apart-input T e.input other) split.1 in
+          let rest = next (settings_after_input T e.input) (part-kept vid S T h e.input is split.0) (apart-input S e.input apart) (apart-input T e.input other) split.1 in
           ap (λ b. cond b (e ∷ own_events vid (settings_after_input T e.input) (own_events vid (settings_after_input S e.input) es)) (own_events vid (settings_after_input T e.input) (own_events vid (settings_after_input S e.input) es))) there
           ∙ ap (λ l. e ∷ l) rest
       by next false is asked =
-          next T (part-left S e.input is ∙ h) (apart-input S e.input apart) other
+          next T (part-left vid S e.input is ∙ h) (apart-input S e.input apart) other
           (sym (ap (λ l. l ++ room_replies vid (settings_after_input S e.input) es) (room-none vid S e.input is)) ∙ asked)
 
   -- ---- moments

@@ -1,5 +1,6 @@
 //! The laws of two runs with two settings.
 ghost use Rattle.std.specs.Prelude.{◌≡◌, ℕ, false, true, ◌||◌, List};
+ghost use Rattle.std.specs.List.{AllByRecursion};
 ghost use Rattle.timeline.specs.Timeline.{Timeline};
 ghost use Rattle.timeline.specs.declared.source.Source.{Source};
 ghost use Rattle.timeline.specs.declared.source.Tap.{Tap};
@@ -139,10 +140,16 @@ pub fn captures()
 
 /// Of others a segment feels the want of room, and nothing else. A change that names it, or one of a port, is refused alike
 /// by all settings that agree in the underlay, the ports and all that the segment has, where none of them refuses it
-/// because its VID or a VNI is taken, because there are as many segments as there can be, or because the pool is full.
+/// because its VID or a VNI is taken, because there are as many segments as there can be, or because the pool is full. So
+/// the premise of [`events`] on answers is met where in neither run a change of the segment's own is refused for that.
 pub fn room()
-    ensures { (vid : ℕ) (S T : Settings) (c : Change) → part_of vid S ≡ part_of vid T → is_about vid c ≡ true →
+    ensures felt { (vid : ℕ) (S T : Settings) (c : Change) → part_of vid S ≡ part_of vid T → is_about vid c ≡ true →
         wants_room (refused S c) ≡ false → wants_room (refused T c) ≡ false → refused S c ≡ refused T c }
+    ensures alike { (vid : ℕ) (S T : Settings) (es fs : List Event) → part_of vid S ≡ part_of vid T →
+        own_events vid S es ≡ own_events vid T fs →
+        AllByRecursion (λ reply. wants_room reply ≡ false) (room_replies vid S es) →
+        AllByRecursion (λ reply. wants_room reply ≡ false) (room_replies vid T fs) →
+        room_replies vid S es ≡ room_replies vid T fs }
 {}
 
 /// With the same settings, lists that agree in what concerns a segment, others' comings, goings and limits among it, agree

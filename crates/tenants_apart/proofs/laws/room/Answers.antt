@@ -1,5 +1,5 @@
-use Rattle.tenants_apart.proofs.Room.{refused-calm}
+use Rattle.tenants_apart.proofs.Room.{refused-calm, replies-calm}
 use Rattle.tenants_apart.proofs.laws.room.Goals as goal
 
 pub returns : goal.returns
-returns c = refused-calm
+returns c = record { felt = λ vid S T change. refused-calm vid S T change; alike = replies-calm }

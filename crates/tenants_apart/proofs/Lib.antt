@@ -4,6 +4,7 @@ pub mod Coming
 pub mod Earlier
 pub mod Events
 pub mod Force
+pub mod Lone
 pub mod Refusing
 pub mod Room
 pub mod Running

@@ -27,7 +27,7 @@ abbrev AllWant : List (ChangeFault × Bool) → Type 0
 AllWant rows = AllByRecursion (λ row. is_want row.0 ≡ true) rows
 
 -- no cause holds, if not one of others
-none-wants : (rows : List (ChangeFault × Bool)) → AllWant rows → wants_room (first rows) ≡ false → first rows ≡ None
+pub none-wants : (rows : List (ChangeFault × Bool)) → AllWant rows → wants_room (first rows) ≡ false → first rows ≡ None
 none-wants [] all calm = refl
 none-wants (row ∷ rows) all calm = by row.1 (none-wants rows all.1) calm
   where
@@ -96,14 +96,14 @@ part-left vid S (Asks c) other = changed-other vid S c other
 
 -- ---- lists of which none wants room
 
-abbrev Calm : List (Option ChangeFault) → Type 0
+abbrev pub Calm : List (Option ChangeFault) → Type 0
 Calm replies = AllByRecursion (λ reply. wants_room reply ≡ false) replies
 
-calm-parts : (rs ts : List (Option ChangeFault)) → Calm (rs ++ ts) → Calm rs × Calm ts
+pub calm-parts : (rs ts : List (Option ChangeFault)) → Calm (rs ++ ts) → Calm rs × Calm ts
 calm-parts [] ts all = (tt, all)
 calm-parts (r ∷ rs) ts all = let rest = calm-parts rs ts all.1 in ((all.0, rest.0), rest.1)
 
-about-asked : (a b : Bool) → a && b ≡ true → b ≡ true
+pub about-asked : (a b : Bool) → a && b ≡ true → b ≡ true
 about-asked true b is = is
 about-asked false b is = absurd (false≢true is)
 

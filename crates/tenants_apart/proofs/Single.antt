@@ -18,12 +18,10 @@ use Rattle.noninterference.specs.Leaving.{rows, departures_in, lines_in}
 use Rattle.tenants_apart.specs.Own.{Part, part_of, names_or_concerns, own_events, room_reply, room_replies, own_rows}
 use Rattle.tenants_apart.specs.Single.{just, single}
 use Rattle.tenants_apart.specs.Vnis.{AreVnisApart}
-use Rattle.tenants_apart.proofs.Changing.{changed-own, changed-other}
 use Rattle.tenants_apart.proofs.Coming.{frame-own}
 use Rattle.tenants_apart.proofs.Events.{answers-alike}
 use Rattle.tenants_apart.proofs.Room.{part-kept, part-left}
 use Rattle.tenants_apart.proofs.Running.{row_of, own_from, own_from-is, room-none, room-split}
-use Rattle.tenants_apart.proofs.Stepping.{AreRoomAlike}
 use Rattle.tenants_apart.proofs.Telling.{departures-own, lines-own}
 use Rattle.tenants_apart.proofs.Vnis.{packet-own, apart-input}
 
@@ -51,13 +49,13 @@ just-has vid (Some g) kind vni v h = by (v == vid) refl (sym (ap (λ (x : Option
     by true same there = eqb-true v vid same
     by false other there = absurd (false≢true (sym (ap (λ (x : Option Segment). option_map_or (has_tunnel kind vni) x false) (get-empty {X = Segment} nat_cmp v)) ∙ there))
 
-apart-single : (vid : ℕ) (S : Settings) → AreVnisApart (single vid S).overlay
+pub apart-single : (vid : ℕ) (S : Settings) → AreVnisApart (single vid S).overlay
 apart-single vid S v w kind vni h l = just-has vid (overlay_segment S.overlay vid) kind vni w l ∙ sym (just-has vid (overlay_segment S.overlay vid) kind vni v h)
 
 -- ---- its own events are its own there, too
 
 module _ (vid : ℕ) where
-  names-same : (S T : Settings) → part_of vid S ≡ part_of vid T → AreVnisApart S.overlay → AreVnisApart T.overlay → (i : Input) → names_or_concerns vid S i ≡ names_or_concerns vid T i
+  pub names-same : (S T : Settings) → part_of vid S ≡ part_of vid T → AreVnisApart S.overlay → AreVnisApart T.overlay → (i : Input) → names_or_concerns vid S i ≡ names_or_concerns vid T i
   names-same S T h apart other (FrameAt port original b) = frame-own vid S.ports T.ports (ap (λ (p : Part). p.ports) h) (ap (λ (p : Part). p.members) h) port original b
   names-same S T h apart other (Packet original b) = packet-own vid S.overlay T.overlay (ap (λ (p : Part). p.underlay) h) (ap (λ (p : Part). p.tunnels) h) apart other original b
   names-same S T h apart other (Asks c) = refl

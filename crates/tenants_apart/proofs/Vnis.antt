@@ -5,7 +5,7 @@ use Rattle.std.specs.Option.{option_map, option_map_or}
 use Rattle.std.specs.Cmp.{nat_cmp_total}
 use Rattle.std.specs.Ordering.{nat_cmp}
 use Rattle.std.specs.FinMap.{get, insert, remove, entries, entries_sorted, get-entries, get-empty}
-use Rattle.std.proofs.lemmas.Bool.{false≢true, eqb-true, eq-eqb, or_parts}
+use Rattle.std.proofs.lemmas.Bool.{false≢true, eqb-true, eq-eqb, not-false, or_parts}
 use Rattle.frame_view.proofs.FirstLemmas.{NothingHolds-from}
 use Rattle.frame_view.specs.declared.reason.Refused.{Refused}
 use Rattle.ip_udp_view.specs.Udp.{data_of}
@@ -127,10 +127,6 @@ apart-told s rules = apart-rules s.underlay [] (map tunnel_rule s.segments) (are
 none-is : (o : Option ChangeFault) → is_none o ≡ true → o ≡ None
 none-is None h = refl
 none-is (Some why) h = absurd (false≢true h)
-
-not-false : (b : Bool) → not b ≡ false → b ≡ true
-not-false true h = refl
-not-false false h = sym h
 
 free-if : (S : Settings) (new : NewSegment) → refused S (AddSegment new) ≡ None → are_free S.overlay new.tunnels ≡ true
 free-if S new none =

@@ -91,11 +91,14 @@ pub fn vnis()
         names_or_concerns vid S (Packet original b) ≡ names_or_concerns vid T (Packet original b) }
 {}
 
-/// A segment among others is answered as it is alone. Where its own `AddSegment` and `SetLimit` are answered alike, an
-/// endpoint that has this segment and no other, and to which its own events come and no others, answers each of them the
-/// same; what leaves there is what leaves in the segment among others, and the decision lines are its own but for their
-/// numbers.
+/// A segment among others is answered as it is alone. Where its own `AddSegment` and `SetLimit` are answered alike, as they
+/// are where none of them is refused among the others for want of room, an endpoint that has this segment and no other, and
+/// to which its own events come and no others, answers each of them the same; what leaves there is what leaves in the
+/// segment among others, and the decision lines are its own but for their numbers.
 pub fn single()
+    ensures replies { (vid : ℕ) (S : Settings) (es : List Event) → AreVnisApart S.overlay →
+        AllByRecursion (λ reply. wants_room reply ≡ false) (room_replies vid S es) →
+        room_replies vid S es ≡ room_replies vid (single vid S) (own_events vid S es) }
     ensures events { (vid : ℕ) (S : Settings) (es : List Event) → AreVnisApart S.overlay →
         room_replies vid S es ≡ room_replies vid (single vid S) (own_events vid S es) →
         own_events vid (single vid S) (own_events vid S es) ≡ own_events vid S es }

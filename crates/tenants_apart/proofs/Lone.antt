@@ -1,0 +1,294 @@
+-- A segment alone wants no room where it wants none among others.
+use Rattle.std.proofs.Common.{◌≡◌, ◌∙◌, refl, sym, ap, ℕ, ◌+◌, ◌≤◌, ◌<◌, arith, ◌==◌, Bool, true, false, cond, not, nat_lt, ◌||◌, ◌&&◌, List, [], ◌∷◌, ◌++◌, Option, Some, None}
+use Rattle.std.specs.Prelude.{is_none, is_some}
+use Rattle.std.specs.List.{AllByRecursion}
+use Rattle.std.specs.Option.{option_map, option_map_or}
+use Rattle.std.specs.Cmp.{nat_cmp_total}
+use Rattle.std.specs.FinMap.{empty, entries, entries_sorted, get-entries, get-empty, get}
+use Rattle.std.specs.Ordering.{nat_cmp}
+use Rattle.std.proofs.lemmas.Bool.{false≢true, eqb-true, ltb-true, ltb-false, lt-ltb, le-ltb, and_parts, or_parts, not-true, not-false}
+use Rattle.std.proofs.lemmas.List.Sums.{sum_by-le-sum_by}
+use Rattle.std.proofs.lemmas.Option.{none-some, same_Some}
+use Rattle.frame_view.specs.First.{first}
+use Rattle.frame_view.proofs.FirstLemmas.{NothingHolds-from}
+use Rattle.ip_udp_view.specs.declared.addr.Tunnel.{Tunnel}
+use Rattle.filter_db.specs.Segment.{Segment as TableSegment}
+use Rattle.filter_db.specs.Standing.{limit_in, numbers_of_12_bits, sum_of_limits, segment_count}
+use Rattle.vlan_ports.proofs.PlacesLemmas.{get-insert_at}
+use Rattle.underlay.specs.Overlay.{segment_at as overlay_segment, segment_by, has_tunnel, taken, are_free, with_flood}
+use Rattle.underlay.specs.declared.segment.Segment.{Segment}
+use Rattle.underlay.specs.declared.tunnels.SegmentTunnel.{SegmentTunnel}
+use Rattle.underlay.proofs.CountLemmas.{found_where, none_where}
+use Rattle.overlay_settings.specs.declared.change.Change.{Change}
+use Rattle.overlay_settings.specs.declared.change.Change.TheVariants.{AddFlood, RemoveFlood, Fix, Unfix, SetAgeing, SetLearning, SetMember, PortUp, PortDown, Flush, AddSegment, RemoveSegment, SetLimit}
+use Rattle.overlay_settings.specs.declared.change.NewSegment.{NewSegment}
+use Rattle.endpoint_state.specs.declared.fault.ChangeFault.{ChangeFault}
+use Rattle.endpoint_state.specs.declared.fault.ChangeFault.TheVariants.{OutOfRange, SegmentThere, SegmentsFull, PoolFull}
+use Rattle.endpoint_state.specs.Settings.{Settings, BridgeSettings, SegmentSettings, segment_at, tables_asked}
+use Rattle.endpoint_state.specs.Effect.{Effect, ToFlood, ToBridge, ToLimit, ToMembers, ToPort, Comes, Goes, ToNothing, effect, applied}
+use Rattle.endpoint_state.specs.Change.{named, is_about, in_segment, is_limit, is_ageing, are_vnis, is_taken, is_too_much, refused, accepted, changed}
+use Rattle.endpoint_core.specs.Event.{Input, FrameAt, Packet, Asks, Event}
+use Rattle.endpoint_core.specs.Run.{settings_after_input}
+use Rattle.tenants_apart.specs.Own.{Part, part_of, names_or_concerns, own_events, takes_room, asks_room, room_reply, room_replies, wants_room}
+use Rattle.tenants_apart.specs.Single.{just, single}
+use Rattle.tenants_apart.specs.Vnis.{AreVnisApart}
+use Rattle.tenants_apart.proofs.Changing.{changed-other}
+use Rattle.tenants_apart.proofs.Refusing.{whole_of, part-named}
+use Rattle.tenants_apart.proofs.Room.{Calm, calm-parts, about-asked, none-wants, refused-calm, part-kept, part-left}
+use Rattle.tenants_apart.proofs.Running.{room-none}
+use Rattle.tenants_apart.proofs.Single.{names-same, part-single, apart-single}
+use Rattle.tenants_apart.proofs.Stepping.{AreRoomAlike}
+use Rattle.tenants_apart.proofs.Vnis.{apart-input}
+
+-- ---- settings with no other segment
+
+-- nothing stands at another VID
+pub record IsLone (vid : ℕ) (S : Settings) : Type 0 where
+  pub bridge : (w : ℕ) → (w == vid) ≡ false → S.bridges w ≡ None
+  pub tunnels : (w : ℕ) → (w == vid) ≡ false → overlay_segment S.overlay w ≡ None
+
+just-other : {X : Type 0} (vid : ℕ) (o : Option X) (w : ℕ) → (w == vid) ≡ false → get (just vid o) w ≡ None
+just-other {X = X} vid None w other = get-empty {X = X} nat_cmp w
+just-other {X = X} vid (Some x) w other = get-insert_at empty vid x w ∙ ap (λ (b : Bool). cond b (Some x) (get (empty {X = X} {R = nat_cmp}) w)) other ∙ get-empty {X = X} nat_cmp w
+
+lone-single : (vid : ℕ) (S : Settings) → IsLone vid (single vid S)
+lone-single vid S = record {
+  bridge = λ w other. ap (λ (b : Bool). cond b (S.bridges vid) None) other;
+  tunnels = λ w other. just-other vid (overlay_segment S.overlay vid) w other;
+}
+
+-- ---- limits and counts
+
+module _ (vid : ℕ) (S T : Settings) (h : part_of vid S ≡ part_of vid T) (lone : IsLone vid T) where
+  bridges-same : (w : ℕ) → (w == vid) ≡ true → S.bridges w ≡ T.bridges w
+  bridges-same w same = ap S.bridges (eqb-true w vid same) ∙ ap (λ (p : Part). p.bridge) h ∙ sym (ap T.bridges (eqb-true w vid same))
+
+  abbrev table_of : Option BridgeSettings → Option TableSegment
+  table_of o = option_map (λ b. let s : TableSegment = record { limit = b.limit; ageing = b.ageing; entries = empty } in s) o
+
+  -- what is counted of a bridge, and nothing where there is none
+  counted-less : (f : Option TableSegment → ℕ) → f None ≡ 0 → (w : ℕ) → f (table_of (T.bridges w)) ≤ f (table_of (S.bridges w))
+  counted-less f none w = by (w == vid) refl
+    where
+      by : (b : Bool) → (w == vid) ≡ b → f (table_of (T.bridges w)) ≤ f (table_of (S.bridges w))
+      by true same = let here : f (table_of (S.bridges w)) ≡ f (table_of (T.bridges w)) = ap (λ o. f (table_of o)) (bridges-same w same) in omega (arith, here)
+      by false other = let nothing : f (table_of (T.bridges w)) ≡ 0 = ap (λ o. f (table_of o)) (lone.bridge w other) ∙ none in omega (arith, nothing)
+
+  limits-less : sum_of_limits (tables_asked T) ≤ sum_of_limits (tables_asked S)
+  unfolding sum_of_limits
+  limits-less = sum_by-le-sum_by (λ w. limit_in (table_of (T.bridges w))) (λ w. limit_in (table_of (S.bridges w))) numbers_of_12_bits (counted-less limit_in refl)
+
+  count-less : segment_count (tables_asked T) ≤ segment_count (tables_asked S)
+  unfolding segment_count
+  count-less = sum_by-le-sum_by (λ w. cond (is_some (table_of (T.bridges w))) 1 0) (λ w. cond (is_some (table_of (S.bridges w))) 1 0) numbers_of_12_bits (counted-less (λ o. cond (is_some o) 1 0) refl)
+
+  -- ---- VNIs
+
+  -- what stands here stands among the others
+  stands-there : (w : ℕ) (g : Segment) → overlay_segment T.overlay w ≡ Some g → overlay_segment S.overlay w ≡ Some g
+  stands-there w g there = by (w == vid) refl
+    where
+      by : (b : Bool) → (w == vid) ≡ b → overlay_segment S.overlay w ≡ Some g
+      by true same = ap (overlay_segment S.overlay) (eqb-true w vid same) ∙ ap (λ (p : Part). p.tunnels) h ∙ sym (ap (overlay_segment T.overlay) (eqb-true w vid same)) ∙ there
+      by false other = absurd (none-some g (sym (lone.tunnels w other) ∙ there))
+
+  not_taken : (kind : Tunnel) (vni : ℕ) → taken S.overlay kind vni ≡ false → taken T.overlay kind vni ≡ false
+  not_taken kind vni free = by (segment_by T.overlay kind vni) (segment_by S.overlay kind vni) refl refl free
+    where
+      by : (o p : Option (ℕ × Segment)) → segment_by T.overlay kind vni ≡ o → segment_by S.overlay kind vni ≡ p → is_some p ≡ false → is_some o ≡ false
+      by None p is was absent = refl
+      by (Some e) (Some f) is was absent = absurd (false≢true (sym absent))
+      by (Some e) None is was absent =
+          let it = found_where nat_cmp_total (has_tunnel kind vni) (entries T.overlay.segments) e (entries_sorted T.overlay.segments) is in
+          let there : overlay_segment S.overlay e.0 ≡ Some e.1 = stands-there e.0 e.1 (get-entries T.overlay.segments e.0 ∙ it.0) in
+          absurd (false≢true (sym (none_where nat_cmp_total (has_tunnel kind vni) (entries S.overlay.segments) e.0 e.1 was (sym (get-entries S.overlay.segments e.0) ∙ there)) ∙ it.1))
+
+  free-too : (ts : List SegmentTunnel) → are_free S.overlay ts ≡ true → are_free T.overlay ts ≡ true
+  free-too [] free = refl
+  free-too (t ∷ ts) free =
+      let both = and_parts (not (taken S.overlay t.kind t.vni)) (are_free S.overlay ts) free in
+      let here : taken T.overlay t.kind t.vni ≡ false = not_taken t.kind t.vni (not-true (taken S.overlay t.kind t.vni) both.0) in
+      rw (here, free-too ts both.1) refl
+
+  -- ---- changes that need room
+
+  -- a test of less that fails for more fails for less
+  still : (a b c d : ℕ) → a ≡ c → d ≤ b → nat_lt a b ≡ false → nat_lt c d ≡ false
+  still a b c d same less fails = let fewer = ltb-false a b fails in le-ltb c d (omega (arith, fewer, same, less))
+
+  still-less : (a b c : ℕ) → b ≤ a → not (nat_lt a c) ≡ false → not (nat_lt b c) ≡ false
+  still-less a b c less fails = let lt : a < c = ltb-true a c (not-false (nat_lt a c) fails) in ap not (lt-ltb b c (omega (arith, lt, less)))
+
+  module _ (pool : S.pool ≡ T.pool) where
+    segment-same : (v : ℕ) → (vid == v) ≡ true → segment_at S v ≡ segment_at T v
+    segment-same v about = ap whole_of (part-named vid v S T h about)
+
+    comes-calm : (new : NewSegment) → (vid == new.vid) ≡ true → wants_room (refused S (AddSegment new)) ≡ false → wants_room (refused T (AddSegment new)) ≡ false
+    comes-calm new about calm = by (not (is_limit new.limit && is_ageing new.ageing && are_vnis new.tunnels)) calm
+      where
+        by : (b : Bool)
+            → wants_room (first ((OutOfRange, b) ∷ (SegmentThere, is_taken S new) ∷ (SegmentsFull, not (nat_lt (segment_count (tables_asked S)) 256)) ∷ (PoolFull, is_too_much S new.limit) ∷ [])) ≡ false
+            → wants_room (first ((OutOfRange, b) ∷ (SegmentThere, is_taken T new) ∷ (SegmentsFull, not (nat_lt (segment_count (tables_asked T)) 256)) ∷ (PoolFull, is_too_much T new.limit) ∷ [])) ≡ false
+        by true x = refl
+        by false x =
+            let rows : List (ChangeFault × Bool) = (SegmentThere, is_taken S new) ∷ (SegmentsFull, not (nat_lt (segment_count (tables_asked S)) 256)) ∷ (PoolFull, is_too_much S new.limit) ∷ [] in
+            let none = NothingHolds-from rows (none-wants rows (refl, (refl, (refl, tt))) x) in
+            let parts = or_parts (is_some (segment_at S new.vid)) (not (are_free S.overlay new.tunnels)) none.0 in
+            let there : is_some (segment_at T new.vid) ≡ false = ap is_some (sym (segment-same new.vid about)) ∙ parts.0 in
+            let free : are_free T.overlay new.tunnels ≡ true = free-too new.tunnels (not-false (are_free S.overlay new.tunnels) parts.1) in
+            let full : not (nat_lt (segment_count (tables_asked T)) 256) ≡ false = still-less (segment_count (tables_asked S)) (segment_count (tables_asked T)) 256 count-less none.1.0 in
+            let much : is_too_much T new.limit ≡ false = still S.pool (sum_of_limits (tables_asked S) + new.limit) T.pool (sum_of_limits (tables_asked T) + new.limit) pool (omega (arith, limits-less)) none.1.1.0 in
+            λ i. wants_room (first ((SegmentThere, there i || not (free i)) ∷ (SegmentsFull, full i) ∷ (PoolFull, much i) ∷ []))
+
+    abbrev asked : Settings → ℕ → Option SegmentSettings → Option ChangeFault
+    asked R limit o = in_segment o (λ s. first ((OutOfRange, not (is_limit limit)) ∷ (PoolFull, nat_lt (R.pool + s.limit) (sum_of_limits (tables_asked R) + limit)) ∷ []))
+
+    limited-calm : (limit : ℕ) (o p : Option SegmentSettings) → o ≡ p → wants_room (asked S limit o) ≡ false → wants_room (asked T limit p) ≡ false
+    limited-calm limit None None same calm = refl
+    limited-calm limit None (Some s) same calm = absurd (none-some s same)
+    limited-calm limit (Some s) None same calm = absurd (none-some s (sym same))
+    limited-calm limit (Some s) (Some r) same calm = by (not (is_limit limit)) calm
+      where
+        limits : s.limit ≡ r.limit
+        limits = ap (λ (x : SegmentSettings). x.limit) (same_Some s r same)
+
+        by : (b : Bool)
+            → wants_room (first ((OutOfRange, b) ∷ (PoolFull, nat_lt (S.pool + s.limit) (sum_of_limits (tables_asked S) + limit)) ∷ [])) ≡ false
+            → wants_room (first ((OutOfRange, b) ∷ (PoolFull, nat_lt (T.pool + r.limit) (sum_of_limits (tables_asked T) + limit)) ∷ [])) ≡ false
+        by true x = refl
+        by false x =
+            let rows : List (ChangeFault × Bool) = (PoolFull, nat_lt (S.pool + s.limit) (sum_of_limits (tables_asked S) + limit)) ∷ [] in
+            let none = NothingHolds-from rows (none-wants rows (refl, tt) x) in
+            let much = still (S.pool + s.limit) (sum_of_limits (tables_asked S) + limit) (T.pool + r.limit) (sum_of_limits (tables_asked T) + limit) (omega (arith, pool, limits)) (omega (arith, limits-less)) none.0 in
+            λ i. wants_room (first ((PoolFull, much i) ∷ []))
+
+    change-calm : (c : Change) → asks_room vid c ≡ true → is_about vid c ≡ true → wants_room (refused S c) ≡ false → wants_room (refused T c) ≡ false
+    change-calm (AddFlood v addr tunnel) asks is x = absurd (false≢true asks)
+    change-calm (RemoveFlood v addr tunnel) asks is x = absurd (false≢true asks)
+    change-calm (Fix v mac target) asks is x = absurd (false≢true asks)
+    change-calm (Unfix v mac) asks is x = absurd (false≢true asks)
+    change-calm (SetAgeing v seconds) asks is x = absurd (false≢true asks)
+    change-calm (SetLearning v on) asks is x = absurd (false≢true asks)
+    change-calm (SetMember v port egress) asks is x = absurd (false≢true asks)
+    change-calm (PortUp port) asks is x = absurd (false≢true asks)
+    change-calm (PortDown port) asks is x = absurd (false≢true asks)
+    change-calm (Flush v) asks is x = absurd (false≢true asks)
+    change-calm (AddSegment new) asks is x = comes-calm new is x
+    change-calm (RemoveSegment v) asks is x = absurd (false≢true asks)
+    change-calm (SetLimit v limit) asks is x = limited-calm limit (segment_at S v) (segment_at T v) (segment-same v is) x
+
+    reply-lone : (i : Input) → Calm (room_reply vid S i) → AreRoomAlike vid S T i × (room_reply vid S i ≡ room_reply vid T i)
+    reply-lone (FrameAt port original b) calm = (tt, refl)
+    reply-lone (Packet original b) calm = (tt, refl)
+    reply-lone (Asks c) calm = by (asks_room vid c) refl calm
+      where
+        by : (b : Bool) → asks_room vid c ≡ b → Calm (cond b (refused S c ∷ []) [])
+            → (b ≡ true → refused S c ≡ refused T c) × (cond b (refused S c ∷ []) [] ≡ cond b (refused T c ∷ []) [])
+        by true asks x =
+            let about : is_about vid c ≡ true = about-asked (takes_room (effect c)) (is_about vid c) asks in
+            let same : refused S c ≡ refused T c = refused-calm vid S T c h about x.0 (change-calm c asks about x.0) in
+            (λ is. same, ap (λ why. why ∷ []) same)
+        by false asks x = (λ is. absurd (false≢true is), refl)
+
+-- ---- what stays
+
+pool-applied : (e : Effect) (S : Settings) → (applied e S).pool ≡ S.pool
+pool-applied (ToFlood v change) S = by (segment_at S v)
+  where
+    by : (o : Option SegmentSettings) → (option_map_or (λ s. let left : Settings = record S { overlay = with_flood S.overlay v (change s) } in left) o S).pool ≡ S.pool
+    by None = refl
+    by (Some s) = refl
+pool-applied (ToBridge v change) S = refl
+pool-applied (ToLimit v limit) S = refl
+pool-applied (ToMembers v port egress) S = refl
+pool-applied (ToPort port up) S = refl
+pool-applied (Comes new) S = refl
+pool-applied (Goes v) S = refl
+pool-applied ToNothing S = refl
+
+pool-changed : (S : Settings) (c : Change) → (changed S c).pool ≡ S.pool
+pool-changed S c = by (is_none (refused S c))
+  where
+    by : (b : Bool) → (cond b (accepted S c) S).pool ≡ S.pool
+    by true = pool-applied (effect c) S
+    by false = refl
+
+pool-kept : (S : Settings) (i : Input) → (settings_after_input S i).pool ≡ S.pool
+pool-kept S (FrameAt port original b) = refl
+pool-kept S (Packet original b) = refl
+pool-kept S (Asks c) = pool-changed S c
+
+-- a change that names no segment is of a port, and leaves all segments
+port-changed : (w : ℕ) (S : Settings) (c : Change) → named c ≡ None → ((changed S c).bridges w ≡ S.bridges w) × (overlay_segment (changed S c).overlay w ≡ overlay_segment S.overlay w)
+port-changed w S (AddFlood v addr tunnel) is = absurd (none-some v (sym is))
+port-changed w S (RemoveFlood v addr tunnel) is = absurd (none-some v (sym is))
+port-changed w S (Fix v mac target) is = absurd (none-some v (sym is))
+port-changed w S (Unfix v mac) is = absurd (none-some v (sym is))
+port-changed w S (SetAgeing v seconds) is = absurd (none-some v (sym is))
+port-changed w S (SetLearning v on) is = absurd (none-some v (sym is))
+port-changed w S (SetMember v port egress) is = absurd (none-some v (sym is))
+port-changed w S (PortUp port) is = by (is_none (refused S (PortUp port)))
+  where
+    by : (b : Bool) → ((cond b (accepted S (PortUp port)) S).bridges w ≡ S.bridges w) × (overlay_segment (cond b (accepted S (PortUp port)) S).overlay w ≡ overlay_segment S.overlay w)
+    by true = (refl, refl)
+    by false = (refl, refl)
+port-changed w S (PortDown port) is = by (is_none (refused S (PortDown port)))
+  where
+    by : (b : Bool) → ((cond b (accepted S (PortDown port)) S).bridges w ≡ S.bridges w) × (overlay_segment (cond b (accepted S (PortDown port)) S).overlay w ≡ overlay_segment S.overlay w)
+    by true = (refl, refl)
+    by false = (refl, refl)
+port-changed w S (Flush v) is = absurd (none-some v (sym is))
+port-changed w S (AddSegment new) is = absurd (none-some new.vid (sym is))
+port-changed w S (RemoveSegment v) is = absurd (none-some v (sym is))
+port-changed w S (SetLimit v limit) is = absurd (none-some v (sym is))
+
+-- a change of the segment's own or of a port leaves the others
+others-kept : (vid w : ℕ) (S : Settings) (c : Change) → is_about vid c ≡ true → (w == vid) ≡ false → ((changed S c).bridges w ≡ S.bridges w) × (overlay_segment (changed S c).overlay w ≡ overlay_segment S.overlay w)
+others-kept vid w S c about other = by (named c) refl about
+  where
+    by : (o : Option ℕ) → named c ≡ o → option_map_or (λ own. vid == own) o true ≡ true → ((changed S c).bridges w ≡ S.bridges w) × (overlay_segment (changed S c).overlay w ≡ overlay_segment S.overlay w)
+    by None is own = port-changed w S c is
+    by (Some v) is own =
+        let apart : is_about w c ≡ false = ap (λ o. option_map_or (λ own. w == own) o true) is ∙ ap (λ (n : ℕ). w == n) (sym (eqb-true vid v own)) ∙ other in
+        let kept : part_of w (changed S c) ≡ part_of w S = changed-other w S c apart in
+        (ap (λ (p : Part). p.bridge) kept, ap (λ (p : Part). p.tunnels) kept)
+
+lone-kept : (vid : ℕ) (S : Settings) (i : Input) → names_or_concerns vid S i ≡ true → IsLone vid S → IsLone vid (settings_after_input S i)
+lone-kept vid S (FrameAt port original b) own lone = lone
+lone-kept vid S (Packet original b) own lone = lone
+lone-kept vid S (Asks c) own lone = record {
+  bridge = λ w other. (others-kept vid w S c own other).0 ∙ lone.bridge w other;
+  tunnels = λ w other. (others-kept vid w S c own other).1 ∙ lone.tunnels w other;
+}
+
+-- ---- whole lists
+
+module _ (vid : ℕ) where
+  calm-again : (S T : Settings) (es : List Event) → part_of vid S ≡ part_of vid T → S.pool ≡ T.pool → IsLone vid T → AreVnisApart S.overlay → AreVnisApart T.overlay
+      → Calm (room_replies vid S es) → room_replies vid S es ≡ room_replies vid T (own_events vid S es)
+  calm-again S T [] h pool lone apart other calm = refl
+  calm-again S T (e ∷ es) h pool lone apart other calm = by (λ U. calm-again (settings_after_input S e.input) U es) (names_or_concerns vid S e.input) refl
+    where
+      Next : Settings → Type 0
+      Next U =
+          part_of vid (settings_after_input S e.input) ≡ part_of vid U → (settings_after_input S e.input).pool ≡ U.pool → IsLone vid U
+          → AreVnisApart (settings_after_input S e.input).overlay → AreVnisApart U.overlay → Calm (room_replies vid (settings_after_input S e.input) es)
+          → room_replies vid (settings_after_input S e.input) es ≡ room_replies vid U (own_events vid (settings_after_input S e.input) es)
+
+      parts : Calm (room_reply vid S e.input) × Calm (room_replies vid (settings_after_input S e.input) es)
+      parts = calm-parts (room_reply vid S e.input) (room_replies vid (settings_after_input S e.input) es) calm
+
+      by : ((U : Settings) → Next U) → (b : Bool) → names_or_concerns vid S e.input ≡ b
+          → room_replies vid S (e ∷ es) ≡ room_replies vid T (cond b (e ∷ own_events vid (settings_after_input S e.input) es) (own_events vid (settings_after_input S e.input) es))
+      by next true is =
+          let there : names_or_concerns vid T e.input ≡ true = sym (names-same vid S T h apart other e.input) ∙ is in
+          let first = reply-lone vid S T h lone pool e.input parts.0 in
+          let rest = next (settings_after_input T e.input) (part-kept vid S T h e.input is first.0) (pool-kept S e.input ∙ pool ∙ sym (pool-kept T e.input)) (lone-kept vid T e.input there lone) (apart-input S e.input apart) (apart-input T e.input other) parts.1 in
+          λ i. first.1 i ++ rest i
+      by next false is =
+          ap (λ l. l ++ room_replies vid (settings_after_input S e.input) es) (room-none vid S e.input is)
+          ∙ next T (part-left vid S e.input is ∙ h) (pool-kept S e.input ∙ pool) lone (apart-input S e.input apart) other parts.1
+
+  pub replies-single : (S : Settings) (es : List Event) → AreVnisApart S.overlay → AllByRecursion (λ reply. wants_room reply ≡ false) (room_replies vid S es)
+      → room_replies vid S es ≡ room_replies vid (single vid S) (own_events vid S es)
+  replies-single S es apart calm = calm-again S (single vid S) es (part-single vid S) refl (lone-single vid S) apart (apart-single vid S) calm

@@ -71,7 +71,7 @@ part-flooded_other vid v S flood (Some s) other = λ i.
     let p : Part = part_of vid S in
     record p { tunnels = (flooding-at S.overlay.segments v (flood s) vid ∙ ap (λ (b : Bool). cond b (option_map (flooded (flood s)) (get S.overlay.segments v)) (get S.overlay.segments vid)) other) i }
 
-part-applied : (vid : ℕ) (e : Effect) (S : Settings) → part_of vid (applied e S) ≡ part_applied vid e (part_of vid S)
+pub part-applied : (vid : ℕ) (e : Effect) (S : Settings) → part_of vid (applied e S) ≡ part_applied vid e (part_of vid S)
 part-applied vid (ToFlood v change) S = by (vid == v) refl
   where
     by : (b : Bool) → (vid == v) ≡ b → part_of vid (with_flood_of S v change) ≡ (let p : Part = part_of vid S in record p { tunnels = cond b (option_map_or (λ s. option_map (flooded (change s)) p.tunnels) (whole_of p) p.tunnels) p.tunnels })
@@ -111,7 +111,7 @@ part-applied vid (Goes v) S = λ i.
 part-applied vid ToNothing S = refl
 
 -- an effect to another segment leaves it
-part-other : (vid : ℕ) (e : Effect) (p : Part) → is_to vid e ≡ false → part_applied vid e p ≡ p
+pub part-other : (vid : ℕ) (e : Effect) (p : Part) → is_to vid e ≡ false → part_applied vid e p ≡ p
 part-other vid (ToFlood v change) p other = ap (λ (b : Bool). let left : Part = record p { tunnels = cond b (option_map_or (λ s. option_map (flooded (change s)) p.tunnels) (whole_of p) p.tunnels) p.tunnels } in left) other
 part-other vid (ToBridge v change) p other =
     ap (λ (b : Bool). let left : Part = record p { bridge = cond b (option_map (λ (r : BridgeSettings). let rule : BridgeSettings = record (change r) { limit = r.limit } in rule) p.bridge) p.bridge } in left) other

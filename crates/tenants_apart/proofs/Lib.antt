@@ -7,6 +7,7 @@ pub mod Force
 pub mod Lone
 pub mod Refusing
 pub mod Room
+pub mod Rows
 pub mod Running
 pub mod Single
 pub mod Stepping

@@ -100,14 +100,14 @@ abbrev pub room_replies : ℕ → Settings → List Event → List (Option Chang
 room_replies vid S [] = []
 room_replies vid S (e ∷ es) = room_reply vid S e.input ++ room_replies vid (settings_after_input S e.input) es
 
--- others have its VID or a VNI of it, or all places, or the room that it asks for
+-- the VID or a VNI is taken, there are as many segments as there can be, or the pool is full
 abbrev pub is_want : ChangeFault → Bool
 is_want SegmentThere = true
 is_want SegmentsFull = true
 is_want PoolFull = true
 is_want why = false
 
--- refused for that, and not made or refused for another reason
+-- the change is refused for that; it is neither made nor refused for another reason
 abbrev pub wants_room : Option ChangeFault → Bool
 wants_room reply = option_map_or is_want reply false
 

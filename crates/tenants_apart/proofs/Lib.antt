@@ -11,6 +11,7 @@ pub mod Rows
 pub mod Running
 pub mod Single
 pub mod Stepping
+pub mod Stopped
 pub mod Telling
 pub mod Told
 pub mod Vnis

@@ -4,7 +4,7 @@
 --     asks_room, room_replies      what those changes of its own are answered that others may have left no room for
 --     wants_room      such a change is refused because of others
 --     own_rows      its own events, each with its answer
-use Rattle.std.specs.Prelude.{◌≡◌, ℕ, Bool, true, false, ◌&&◌, if◌then◌else◌, List, [], ◌∷◌, ◌++◌, Option, Some, Result, Ok, Err}
+use Rattle.std.specs.Prelude.{◌≡◌, ◌⊎◌, ℕ, Bool, true, false, ◌&&◌, if◌then◌else◌, List, [], ◌∷◌, ◌++◌, Option, Some, Result, Ok, Err}
 use Rattle.std.specs.Option.{option_map_or}
 use Rattle.frame_view.specs.declared.reason.Refused.{Refused}
 use Rattle.vlan_ports.specs.Ports.{Members, members_at}
@@ -126,3 +126,7 @@ own_rows vid s (e ∷ es) =
 -- a list goes on with others, or with none
 abbrev pub IsFrontOf : {A : Type 0} → List A → List A → Type 0
 IsFrontOf {A} front whole = (others : List A) × (front ++ others ≡ whole)
+
+-- of two lists one is a front of the other
+abbrev pub IsOneFront : {A : Type 0} → List A → List A → Type 0
+IsOneFront xs ys = IsFrontOf xs ys ⊎ IsFrontOf ys xs

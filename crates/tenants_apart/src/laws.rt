@@ -1,5 +1,5 @@
 //! The laws of two runs with two settings.
-ghost use Rattle.std.specs.Prelude.{◌≡◌, ℕ, false, true, ◌||◌, List};
+ghost use Rattle.std.specs.Prelude.{◌≡◌, ℕ, false, true, ◌||◌, List, ◌++◌};
 ghost use Rattle.std.specs.List.{AllByRecursion};
 ghost use Rattle.timeline.specs.Timeline.{Timeline};
 ghost use Rattle.timeline.specs.declared.source.Source.{Source};
@@ -20,7 +20,7 @@ ghost use Rattle.capture_run.specs.Outputs.{Outputs};
 ghost use Rattle.segment_isolation.specs.Alone.{all_see, concerns, only};
 ghost use Rattle.noninterference.specs.Coming.{Inputs, IsRunOf, ChangesNeverFall, coming_to};
 ghost use Rattle.noninterference.specs.Leaving.{rows, rows_of, departures, departures_in, lines_in, records_in};
-ghost use Rattle.tenants_apart.specs.Own.{IsFrontOf, part_of, names_or_concerns, own_events, own_rows};
+ghost use Rattle.tenants_apart.specs.Own.{IsFrontOf, IsOneFront, part_of, names_or_concerns, own_events, own_rows};
 ghost use Rattle.tenants_apart.specs.Own.{room_replies, wants_room};
 ghost use Rattle.tenants_apart.specs.Single.{single};
 ghost use Rattle.tenants_apart.specs.Texts.{TellAlike, own_coming, replies_of, as_changed};
@@ -47,8 +47,7 @@ pub fn events()
         lines_in vid (rows (opened S) es) ≡ lines_in vid (rows (opened T) fs) }
 {}
 
-/// The same as far as the one goes, where it may have stopped: the segment's own events of the one are the first of those
-/// of the other. Then its answers, what leaves in it, and its decision lines are the first of the other's.
+/// The same as far as the one goes: the segment's own events of the one are the first of those of the other. Then its answers, what leaves in it, and its decision lines are the first of the other's.
 pub fn fronts()
     ensures answers { (vid : ℕ) (S T : Settings) (es fs : List Event) → IsRising 0 es → IsRising 0 fs →
         part_of vid S ≡ part_of vid T → IsFrontOf (own_events vid S es) (own_events vid T fs) →
@@ -62,6 +61,22 @@ pub fn fronts()
         part_of vid S ≡ part_of vid T → IsFrontOf (own_events vid S es) (own_events vid T fs) →
         IsFrontOf (room_replies vid S es) (room_replies vid T fs) →
         IsFrontOf (lines_in vid (rows (opened S) es)) (lines_in vid (rows (opened T) fs)) }
+{}
+
+/// Two runs, either of which may have stopped, as at a fault in another tenant's capture: of what would have come to each,
+/// whole, the segment's own is the same. Then of what left in the segment by then, and of its decision lines, those of one
+/// run are the first of those of the other.
+pub fn stopped()
+    ensures leaving { (vid : ℕ) (S T : Settings) (es later fs others : List Event) →
+        IsRising 0 (es ++ later) → IsRising 0 (fs ++ others) → part_of vid S ≡ part_of vid T →
+        own_events vid S (es ++ later) ≡ own_events vid T (fs ++ others) →
+        room_replies vid S (es ++ later) ≡ room_replies vid T (fs ++ others) →
+        IsOneFront (departures_in vid (rows (opened S) es)) (departures_in vid (rows (opened T) fs)) }
+    ensures told { (vid : ℕ) (S T : Settings) (es later fs others : List Event) →
+        IsRising 0 (es ++ later) → IsRising 0 (fs ++ others) → part_of vid S ≡ part_of vid T →
+        own_events vid S (es ++ later) ≡ own_events vid T (fs ++ others) →
+        room_replies vid S (es ++ later) ≡ room_replies vid T (fs ++ others) →
+        IsOneFront (lines_in vid (rows (opened S) es)) (lines_in vid (rows (opened T) fs)) }
 {}
 
 /// Whether an event concerns a segment is told by the settings in force, which changes alone make, and not by any table.

@@ -1,8 +1,9 @@
 //! Tenants apart: two runs that agree in what is one segment's own agree in what they answer it, whatever other segments
 //! have, do, add, remove, fill or limit.
 //!
-//! [`laws::events`] says it of events that come to endpoints with two settings, [`laws::fronts`] of runs of which one may have
-//! stopped, and [`laws::captures`] of whole captures. Which events are a segment's own, [`specs/Own`] says.
+//! [`laws::events`] says it of events that come to endpoints with two settings, [`laws::stopped`] of runs that may have
+//! stopped, and [`laws::captures`] of whole captures. [`laws::single`] says that a segment is answered as it would be alone,
+//! and [`laws::room`] what it feels of others. Which events are a segment's own, `specs/Own` says.
 #![tactic(auto)]
 
 pub mod laws;

@@ -47,7 +47,8 @@ pub fn events()
         lines_in vid (rows (opened S) es) ≡ lines_in vid (rows (opened T) fs) }
 {}
 
-/// The same as far as the one goes: the segment's own events of the one are the first of those of the other. Then its answers, what leaves in it, and its decision lines are the first of the other's.
+/// The same as far as the one goes: the segment's own events of the one are the first of those of the other. Then its answers,
+/// what leaves in it, and its decision lines are the first of the other's.
 pub fn fronts()
     ensures answers { (vid : ℕ) (S T : Settings) (es fs : List Event) → IsRising 0 es → IsRising 0 fs →
         part_of vid S ≡ part_of vid T → IsFrontOf (own_events vid S es) (own_events vid T fs) →

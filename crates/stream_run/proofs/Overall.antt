@@ -1,9 +1,9 @@
 -- What a run leaves in its outputs, by where it stops.
-use Rattle.std.proofs.Common.{◌≡◌, ◌∙◌, refl, sym, ap, subst, ℕ, suc, ◌+◌, ◌-◌, ◌<◌, ◌≤◌, Bool, true, false, cond, inl, inr, List, [], ◌∷◌, ◌++◌, append-nil, append_assoc, length, length-append, map, take, slice_index_or, arith, Vec, Global, Some, None, Result, Ok, Err}
-use Rattle.std.specs.Prelude.{nat_lt, ⊤}
+use Rattle.std.proofs.Common.{◌≡◌, ◌∙◌, refl, sym, ap, subst, ℕ, ◌+◌, ◌-◌, ◌<◌, inl, inr, List, [], ◌∷◌, ◌++◌, append-nil, append_assoc, length, length-append, map, take, slice_index_or, arith, Vec, Global, Some, None, Result, Ok, Err}
+use Rattle.std.specs.Prelude.{⊤}
 use Rattle.std.proofs.Math.Seq.{take-append_seam}
-use Rattle.std.proofs.lemmas.Bool.{eq-eqb, ltb-true, ltb-false}
-use Rattle.std.proofs.lemmas.List.{get_or-map, length-map, take_all}
+use Rattle.std.proofs.lemmas.Bool.{eq-eqb}
+use Rattle.std.proofs.lemmas.List.{get_or-map, length-map}
 use Rattle.std.specs.List.{FoldsTo}
 use Rattle.pcap_io.specs.declared.header.CaptureFault.{CaptureFault}
 use Rattle.pcap_stream.specs.InTurn.{IsReading}
@@ -43,9 +43,9 @@ use Rattle.stream_run.specs.Over.{BeginsIn, CanBeOpened, IsRunOverAmong, LeavesO
 use Rattle.stream_run.specs.Amidst.{StandsInEvent}
 use Rattle.stream_run.specs.Reached.{AreReadTo, IsReachedOverAmong, ReachesOver}
 use Rattle.stream_run.specs.Sights.{Sight, sights, state_among}
-use Rattle.stream_run.specs.Stage.{Drains, StandAt, StandBetween, first_of, no_texts, stage}
+use Rattle.stream_run.specs.Stage.{Drains, Events, Everything, Nothing, StandAt, StandBetween, events_at, no_texts, stage_texts}
 use Rattle.stream_run.specs.Steps.{AreReadBehind, EndsIn, EndsInOrder, EndsNumbered, IsAt, IsPart, LeadsBehind, Run, StopInFront, changes_of, octets_at, source_at, texts_behind}
-use Rattle.stream_run.specs.Watched.{IsWatchedOverAmong, SeesOver, first_sights, state_behind}
+use Rattle.stream_run.specs.Watched.{IsWatchedOverAmong, SeesOver, sights_at, state_behind}
 use Rattle.stream_run.specs.declared.fault.StreamFault.{StreamFault}
 use Rattle.stream_run.specs.declared.fault.StreamFault.TheVariants as stream
 use Rattle.stream_run.specs.declared.fault.Target.{Target}
@@ -56,14 +56,6 @@ use Rattle.segment_set.specs.Segments.{Segments}
 
 -- ---- the texts of the first events
 
--- so many events, and no cut capture
-uncut : (k : ℕ) (t : Timeline) → k ≤ length t.events → first_of k t ≡ record { events = take k t.events; cuts = [] }
-uncut k t le = by (nat_lt (length t.events) k) refl
-  where
-    by : (b : Bool) → nat_lt (length t.events) k ≡ b → ◌≡◌ {A = Timeline} (record { events = take k t.events; cuts = cond b t.cuts [] }) (record { events = take k t.events; cuts = [] })
-    by true is = absurd (omega (arith, ltb-true _ _ is, le))
-    by false is = refl
-
 -- behind the same, the same is left
 append_left : {A : Type 0} (xs ys zs : List A) → xs ++ ys ≡ xs ++ zs → ys ≡ zs
 append_left [] ys zs is = is
@@ -71,14 +63,6 @@ append_left (x ∷ xs) ys zs is = append_left xs ys zs (let left : xs ++ ys ≡ 
 
 first_events : (t : Timeline) (es rest : List Event) → t.events ≡ es ++ rest → take (length es) t.events ≡ es
 first_events t es rest is = ap (take (length es)) is ∙ take-append_seam es rest
-
--- all events, and the cut captures
-all_of : (k : ℕ) (t : Timeline) → k ≡ length t.events → ◌≡◌ {A = Timeline} (first_of (suc k) t) t
-all_of k t is = by (nat_lt (length t.events) (suc k)) refl (take_all (suc k) t.events (omega (arith, is)))
-  where
-    by : (b : Bool) → nat_lt (length t.events) (suc k) ≡ b → take (suc k) t.events ≡ t.events → ◌≡◌ {A = Timeline} (record { events = take (suc k) t.events; cuts = cond b t.cuts [] }) t
-    by true found all = ap (λ l. record { events = l; cuts = t.cuts }) all
-    by false found all = absurd (omega (arith, ltb-false _ _ found, is))
 
 -- ---- what the captures tell
 
@@ -164,18 +148,10 @@ changes_refusal fault = text_refusal (λ f. faults.Changes f) fault (λ f. tt)
 
 module _ (segments : Segments) where
   stage_events : (S : Bridged) (cs : List Change) (n : ℕ) (t : Timeline) (es rest : List Event) → t.events ≡ es ++ rest
-      → stage segments S cs n t (suc (length es)) ≡ with_events_among segments cs 0 (opened S) (empty_outputs n) es
+      → stage_texts segments S cs n t (Events (length es)) ≡ with_events_among segments cs 0 (opened S) (empty_outputs n) es
   stage_events S cs n t es rest is =
-      let le : length es ≤ length t.events = omega (arith, ap length is, length-append es rest) in
-      ap (outputs_among segments S cs n) (uncut (length es) t le)
-      ∙ ap (λ l. outputs_among segments S cs n (record { events = l; cuts = [] })) (first_events t es rest is)
+      ap (λ l. outputs_among segments S cs n (record { events = l; cuts = [] })) (first_events t es rest is)
       ∙ ap (with_cuts (with_events_among segments cs 0 (opened S) (empty_outputs n) es)) (no_cuts_among segments)
-
-  stage_end : (S : Bridged) (cs : List Change) (n : ℕ) (t : Timeline) (es : List Event) → t.events ≡ es
-      → stage segments S cs n t (suc (suc (length es))) ≡ with_cuts (with_events_among segments cs 0 (opened S) (empty_outputs n) es) (cuts_among segments t.cuts)
-  stage_end S cs n t es is =
-      ap (outputs_among segments S cs n) (all_of (length es) t (ap length (sym is)))
-      ∙ ap (λ l. with_cuts (with_events_among segments cs 0 (opened S) (empty_outputs n) l) (cuts_among segments t.cuts)) is
 
   -- ---- where a run stops
 
@@ -187,19 +163,17 @@ module _ (segments : Segments) where
     abbrev behind : List Event → Outputs
     behind es = texts_behind segments changes (opened (settings_told s)) (empty_outputs (length texts)) es
 
-    texts_are : (es rest : List Event) (k : ℕ) → whole.events ≡ es ++ rest → k ≡ length es + 1 → texts_at segments s changes texts text k ≡ behind es
-    texts_are es rest k is at =
-        let same : k ≡ suc (length es) = omega (arith, at) in
-        ap (texts_at segments s changes texts text) same ∙ stage_events (settings_told s) (changes_of changes) (length texts) whole es rest is
+    texts_are : (es rest : List Event) → whole.events ≡ es ++ rest → texts_at segments s changes texts text (Events (length es)) ≡ behind es
+    texts_are es rest is = stage_events (settings_told s) (changes_of changes) (length texts) whole es rest is
 
     -- before any capture was opened, or at one of which a read failed
     pub over_unopened : StandAt start new (no_texts (length texts)) → StandsSomewhere segments s changes texts text start new
-    over_unopened at = record { k = 0; most = omega arith; openings = inl refl; in_front = none_in_front (texts_octets texts) text; stands = at }
+    over_unopened at = record { stage = Nothing; amidst = tt; captures = tt; in_front = none_in_front (texts_octets texts) text; stands = at }
 
     -- for want of memory
     pub over_wanting : new ≡ start → StandAt start new (no_texts (length texts)) → LeavesOver segments s changes texts text start new (Err (stream.Run faults.OutOfMemory))
     unfolding over_unopened
-    over_wanting same at = (over_unopened at, inl (refl, same))
+    over_wanting same at = (over_unopened at, same)
 
     -- at a capture that can't be opened
     pub over_refused : (index : ℕ) (place : Tap) (fault : CaptureFault) → length texts ≡ length s.ports → IsFirstRefused texts text index place fault → StandAt start new (no_texts (length texts))
@@ -213,26 +187,26 @@ module _ (segments : Segments) where
 
     -- among the headers
     pub over_headers : (target : Target) → CanBeOpened texts text → StandBetween start new (no_texts (length texts)) (empty_outputs (length texts)) → LeavesOver segments s changes texts text start new (Err (stream.Write target))
-    over_headers target can between = record { k = 0; openings = can; most = inl (omega arith); in_front = none_in_front (texts_octets texts) text; order = λ es rest e is at. absurd (omega (arith, at)); stands = subst (StandBetween start new (no_texts (length texts))) (sym (texts_are [] whole.events 1 refl (omega arith))) between }
+    over_headers target can between = record { stage = Nothing; next = Events 0; comes = refl; captures = can; in_front = none_in_front (texts_octets texts) text; order = λ es rest e is at. absurd cc; stands = subst (StandBetween start new (no_texts (length texts))) (sym (texts_are [] whole.events refl)) between }
 
     -- the first events are these
-    front_of_all : (es rest : List Event) (k : ℕ) → whole.events ≡ es ++ rest → k ≡ length es → StopInFront (texts_octets texts) text es → StopInFront (texts_octets texts) text (take k whole.events)
-    front_of_all es rest k is at in_front = subst (StopInFront (texts_octets texts) text) (sym (ap (λ n. take n whole.events) at ∙ first_events whole es rest is)) in_front
+    front_of_all : (es rest : List Event) → whole.events ≡ es ++ rest → StopInFront (texts_octets texts) text es → StopInFront (texts_octets texts) text (events_at whole (Events (length es)))
+    front_of_all es rest is in_front = subst (StopInFront (texts_octets texts) text) (sym (first_events whole es rest is)) in_front
 
     stands_behind : (es rest : List Event) → CanBeOpened texts text → whole.events ≡ es ++ rest → StandAt start new (behind es) → StopInFront (texts_octets texts) text es → StandsSomewhere segments s changes texts text start new
     stands_behind es rest can is at in_front = record {
-      k = length es + 1;
-      openings = inr can;
-      in_front = front_of_all es rest (length es + 1 - 1) is (omega arith) in_front;
-      most = omega (arith, ap length is, length-append es rest);
-      stands = subst (StandAt start new) (sym (texts_are es rest (length es + 1) is refl)) at;
+      stage = Events (length es);
+      amidst = omega (arith, ap length is, length-append es rest);
+      captures = can;
+      in_front = front_of_all es rest is in_front;
+      stands = subst (StandAt start new) (sym (texts_are es rest is)) at;
     }
 
     -- at the first record of a capture
     pub over_firsts : (fault : StreamFault) (turns : List Turn) (ports : List Stream) (underlay : Stream) → BeginsIn {T = Unit {0}} (texts_octets texts) text turns ports underlay (Err fault) → CanBeOpened texts text → StandAt start new (empty_outputs (length texts))
         → LeavesOver segments s changes texts text start new (Err fault)
     over_firsts (stream.Run (faults.Record place n f)) turns ports underlay h can at =
-        record { k = 0; most = omega arith; openings = can; faulty = h.0; in_front = none_in_front (texts_octets texts) text; before = inl (refl, h.1); stands = subst (StandAt start new) (sym (texts_are [] whole.events 1 refl (omega arith))) at }
+        record { k = 0; most = omega arith; openings = can; faulty = h.0; in_front = none_in_front (texts_octets texts) text; before = inl (refl, h.1); stands = subst (StandAt start new) (sym (texts_are [] whole.events refl)) at }
     over_firsts (stream.Run (faults.Settings f)) turns ports underlay h can at = absurd h
     over_firsts (stream.Run (faults.Changes f)) turns ports underlay h can at = absurd h
     over_firsts (stream.Run faults.PortCount) turns ports underlay h can at = absurd h
@@ -245,19 +219,18 @@ module _ (segments : Segments) where
     abbrev pub Ordered : List Event → List Event → Result (Unit {0}) StreamFault → Type 0
     Ordered es more result = EndsInOrder segments changes (opened (settings_told s)) start new (empty_outputs (length texts)) es more result
 
-    in_order : (target : Target) (k : ℕ) (es more rest fs left : List Event) (e f : Event) → whole.events ≡ es ++ (more ++ rest) → more ≡ e ∷ [] → Ordered es more (Err (stream.Write target)) → k ≡ length es + 1
-        → whole.events ≡ fs ++ f ∷ left → k ≡ length fs + 1
-        → StandsInEvent (changes_of changes) start new k (state_among segments (changes_of changes) (opened (settings_told s)) fs) (texts_at segments s changes texts text k) f
-    in_order target k es more rest fs left e f is one ordered at also there =
-        let size : length es ≡ length fs = omega (arith, at, there) in
+    in_order : (target : Target) (es more rest fs left : List Event) (e f : Event) → whole.events ≡ es ++ (more ++ rest) → more ≡ e ∷ [] → Ordered es more (Err (stream.Write target))
+        → whole.events ≡ fs ++ f ∷ left → Events (length es) ≡ Events (length fs)
+        → StandsInEvent (changes_of changes) start new (length fs + 1) (state_among segments (changes_of changes) (opened (settings_told s)) fs) (texts_at segments s changes texts text (Events (length es))) f
+    in_order target es more rest fs left e f is one ordered also there =
+        let size : length es ≡ length fs = cc in
         let same : es ≡ fs = sym (first_events whole es (more ++ rest) is) ∙ ap (λ n. take n whole.events) size ∙ first_events whole fs (f ∷ left) also in
         let behind_es : es ++ (e ∷ rest) ≡ es ++ (f ∷ left) = ap (λ l. es ++ (l ++ rest)) (sym one) ∙ sym is ∙ also ∙ ap (λ l. l ++ f ∷ left) (sym same) in
         let same_left : e ∷ rest ≡ f ∷ left = append_left es (e ∷ rest) (f ∷ left) behind_es in
         let event : e ≡ f = cc in
         let stands = ordered f (one ∙ ap (λ x. x ∷ []) event) in
-        subst (λ l. StandsInEvent (changes_of changes) start new k (state_among segments (changes_of changes) (opened (settings_told s)) l) (texts_at segments s changes texts text k) f) same
-        (subst (λ o. StandsInEvent (changes_of changes) start new k (state_among segments (changes_of changes) (opened (settings_told s)) es) o f) (sym (texts_are es (more ++ rest) k is at))
-        (subst (λ n. StandsInEvent (changes_of changes) start new n (state_among segments (changes_of changes) (opened (settings_told s)) es) (behind es) f) (sym at) stands))
+        subst (λ l. StandsInEvent (changes_of changes) start new (length l + 1) (state_among segments (changes_of changes) (opened (settings_told s)) l) (texts_at segments s changes texts text (Events (length es))) f) same
+        (subst (λ o. StandsInEvent (changes_of changes) start new (length es + 1) (state_among segments (changes_of changes) (opened (settings_told s)) es) o f) (sym (texts_are es (more ++ rest) is)) stands)
 
     -- among the events
     pub over_events : (fault : StreamFault) (run : Run) (es more rest : List Event) → whole.events ≡ es ++ (more ++ rest) → EndsIn {T = Unit {0}} (texts_octets texts) text es rest run (Err fault) → IsPart {T = Unit {0}} more (Err fault)
@@ -268,46 +241,46 @@ module _ (segments : Segments) where
       most = omega (arith, ap length is, length-append es (more ++ rest));
       openings = can;
       faulty = h.0;
-      in_front = front_of_all es (more ++ rest) (length es) is refl (subst (StopInFront (texts_octets texts) text) (ap (λ l. es ++ l) part ∙ append-nil es) in_front);
+      in_front = front_of_all es (more ++ rest) is (subst (StopInFront (texts_octets texts) text) (ap (λ l. es ++ l) part ∙ append-nil es) in_front);
       before = inr (subst (EndBefore place n) (sym (first_events whole es (more ++ rest) is)) h.1);
-      stands = subst (StandAt start new) (sym (texts_are es (more ++ rest) (length es + 1) is refl)) at;
+      stands = subst (StandAt start new) (sym (texts_are es (more ++ rest) is)) at;
     }
     over_events (stream.Run (faults.Settings f)) run es more rest is h part at ordered in_front numbered can = absurd h
     over_events (stream.Run (faults.Changes f)) run es more rest is h part at ordered in_front numbered can = absurd h
     over_events (stream.Run faults.PortCount) run es more rest is h part at ordered in_front numbered can = absurd h
     over_events (stream.Run (faults.Capture place f)) run es more rest is h part at ordered in_front numbered can = absurd h
     over_events (stream.Run faults.OutOfMemory) run es more rest is h part at ordered in_front numbered can =
-        (stands_behind es (more ++ rest) can is at (subst (StopInFront (texts_octets texts) text) (ap (λ l. es ++ l) part ∙ append-nil es) in_front), inr (ap (λ n. n + 1) numbered))
+        (stands_behind es (more ++ rest) can is at (subst (StopInFront (texts_octets texts) text) (ap (λ l. es ++ l) part ∙ append-nil es) in_front), numbered)
     over_events (stream.Read place) run es more rest is h part at ordered in_front numbered can = stands_behind es (more ++ rest) can is at (subst (StopInFront (texts_octets texts) text) (ap (λ l. es ++ l) part ∙ append-nil es) in_front)
     over_events (stream.Write target) run es more rest is h part at ordered in_front numbered can =
         let one : length more ≡ 1 = ap length part.1 in
         let all : whole.events ≡ (es ++ more) ++ rest = is ∙ sym (append_assoc es more rest) in
         record {
-          k = length es + 1;
-          openings = can;
-          most = inl (omega (arith, one, ap length is, length-append es (more ++ rest), length-append more rest));
-          in_front = front_of_all (es ++ more) rest (length es + 1) all (omega (arith, one, length-append es more)) in_front;
-          order = λ fs left f also there. in_order target (length es + 1) es more rest fs left part.0 f is part.1 ordered refl also there;
-          stands = subst (λ o. StandBetween start new o (texts_at segments s changes texts text (length es + 1 + 1))) (sym (texts_are es (more ++ rest) (length es + 1) is refl))
-              (subst (StandBetween start new (behind es)) (sym (texts_are (es ++ more) rest (length es + 1 + 1) all (omega (arith, one, length-append es more)))) at.0);
+          stage = Events (length es);
+          next = Events (length (es ++ more));
+          comes = (omega (arith, one, length-append es more), omega (arith, ap length all, length-append (es ++ more) rest));
+          captures = can;
+          in_front = front_of_all (es ++ more) rest all in_front;
+          order = λ fs left f also there. in_order target es more rest fs left part.0 f is part.1 ordered also there;
+          stands = subst (λ o. StandBetween start new o (texts_at segments s changes texts text (Events (length (es ++ more))))) (sym (texts_are es (more ++ rest) is))
+              (subst (StandBetween start new (behind es)) (sym (texts_are (es ++ more) rest all)) at.0);
         }
 
     -- among the lines of the cut captures
     pub over_cuts : (target : Target) (es : List Event) (turns : List Turn) (ports : List Stream) (underlay : Stream) → whole.events ≡ es → AllStandAtEnd texts text turns ports underlay
         → StopInFront (texts_octets texts) text es → StandBetween start new (behind es) (with_cuts (behind es) (cuts_among segments (cuts_at ports underlay turns))) → LeavesOver segments s changes texts text start new (Err (stream.Write target))
     over_cuts target es turns ports underlay is ends in_front between =
-        let same : length es + 1 + 1 ≡ suc (suc (length es)) = omega arith in
-        let all : texts_at segments s changes texts text (length es + 1 + 1) ≡ with_cuts (behind es) (cuts_among segments (cuts_at ports underlay turns)) =
-        ap (texts_at segments s changes texts text) same
-        ∙ stage_end (settings_told s) (changes_of changes) (length texts) whole es is
+        let all : texts_at segments s changes texts text Everything ≡ with_cuts (behind es) (cuts_among segments (cuts_at ports underlay turns)) =
+        ap (λ l. with_cuts (behind l) (cuts_among segments whole.cuts)) is
         ∙ ap (λ l. with_cuts (behind es) (cuts_among segments l)) (cuts_at_end texts text turns ports underlay ends) in
         record {
-          k = length es + 1;
-          openings = whole_captures texts text (whole_at_end texts text turns ports underlay ends);
-          in_front = subst (StopInFront (texts_octets texts) text) (sym (take_all (length es + 1) whole.events (omega (arith, ap length is)) ∙ is)) in_front;
-          order = λ fs left f also there. absurd (omega (arith, there, ap length (sym is ∙ also), length-append fs (f ∷ left)));
-          most = inr (ap (λ (l : List Event). length l + 1) (sym is), no_faults texts text (whole_at_end texts text turns ports underlay ends));
-          stands = subst (λ o. StandBetween start new o (texts_at segments s changes texts text (length es + 1 + 1))) (sym (texts_are es [] (length es + 1) (is ∙ sym (append-nil es)) refl))
+          stage = Events (length es);
+          next = Everything;
+          comes = ap length (sym is);
+          captures = (whole_captures texts text (whole_at_end texts text turns ports underlay ends), no_faults texts text (whole_at_end texts text turns ports underlay ends));
+          in_front = subst (StopInFront (texts_octets texts) text) (sym is) in_front;
+          order = λ fs left f also there. let size : length es ≡ length fs = cc in absurd (omega (arith, size, ap length (sym is ∙ also), length-append fs (f ∷ left)));
+          stands = subst (λ o. StandBetween start new o (texts_at segments s changes texts text Everything)) (sym (texts_are es [] (is ∙ sym (append-nil es))))
               (subst (StandBetween start new (behind es)) (sym all) between);
         }
 
@@ -329,24 +302,18 @@ module _ (segments : Segments) where
     abbrev Reaches : List Stream → Stream → Result (Unit {0}) StreamFault → Type 0
     Reaches ports underlay result = ReachesOver segments s changes texts text start new ports underlay result
 
-    reads_first : (ports : List Stream) (underlay : Stream) (result : Result (Unit {0}) StreamFault) (es rest : List Event) (k : ℕ) → whole.events ≡ es ++ rest → k ≡ length es
-        → AreReadBehind (texts_octets texts) text es ports underlay result → AreReadTo changes texts text k ports underlay result
-    reads_first ports underlay result es rest k is at read =
-        subst (λ l. AreReadBehind (texts_octets texts) text l ports underlay result) (sym (ap (λ n. take n whole.events) at ∙ first_events whole es rest is)) read
-
-    none_told : 0 ≤ 1
-    none_told = omega arith
-
-    headers_told : 0 + 1 ≤ 1
-    headers_told = omega arith
+    reads_first : (ports : List Stream) (underlay : Stream) (result : Result (Unit {0}) StreamFault) (es rest : List Event) → whole.events ≡ es ++ rest
+        → AreReadBehind (texts_octets texts) text es ports underlay result → AreReadTo changes texts text (Events (length es)) ports underlay result
+    reads_first ports underlay result es rest is read =
+        subst (λ l. AreReadBehind (texts_octets texts) text l ports underlay result) (sym (first_events whole es rest is)) read
 
     pub reach_wanting : (ports : List Stream) (underlay : Stream) → new ≡ start → StandAt start new (no_texts (length texts)) → Reaches ports underlay (Err (stream.Run faults.OutOfMemory))
     unfolding over_unopened
-    reach_wanting ports underlay same at = (over_unopened at, inl (refl, same), inl none_told)
+    reach_wanting ports underlay same at = (over_unopened at, same, inl refl)
 
     pub reach_unread : (ports : List Stream) (underlay : Stream) (place : Tap) → StandAt start new (no_texts (length texts)) → Reaches ports underlay (Err (stream.Read place))
     unfolding over_unopened
-    reach_unread ports underlay place at = (over_unopened at, inl none_told)
+    reach_unread ports underlay place at = (over_unopened at, inl refl)
 
     pub reach_headers : (ports : List Stream) (underlay : Stream) (target : Target) → CanBeOpened texts text → StandBetween start new (no_texts (length texts)) (empty_outputs (length texts)) → Reaches ports underlay (Err (stream.Write target))
     unfolding over_headers
@@ -361,7 +328,7 @@ module _ (segments : Segments) where
     reach_firsts (stream.Run faults.PortCount) turns ports underlay h can at = absurd h
     reach_firsts (stream.Run (faults.Capture place f)) turns ports underlay h can at = absurd h
     reach_firsts (stream.Run faults.OutOfMemory) turns ports underlay h can at = absurd h
-    reach_firsts (stream.Read place) turns ports underlay h can at = (over_firsts (stream.Read place) turns ports underlay h can at, inl headers_told)
+    reach_firsts (stream.Read place) turns ports underlay h can at = (over_firsts (stream.Read place) turns ports underlay h can at, inl refl)
     reach_firsts (stream.Write target) turns ports underlay h can at = absurd h
 
     pub reach_events : (fault : StreamFault) (run : Run) (es more rest : List Event) → whole.events ≡ es ++ (more ++ rest) → EndsIn {T = Unit {0}} (texts_octets texts) text es rest run (Err fault) → IsPart {T = Unit {0}} more (Err fault)
@@ -369,25 +336,25 @@ module _ (segments : Segments) where
         → EndsNumbered {T = Unit {0}} es (Err fault) → CanBeOpened texts text → AreReadBehind {T = Unit {0}} (texts_octets texts) text es run.ports run.underlay (Err fault) → Reaches run.ports run.underlay (Err fault)
     unfolding over_events stands_behind
     reach_events (stream.Run (faults.Record place n f)) run es more rest is h part at ordered in_front numbered can read =
-        (over_events (stream.Run (faults.Record place n f)) run es more rest is h part at ordered in_front numbered can, inr (reads_first run.ports run.underlay (Err (stream.Run (faults.Record place n f))) es (more ++ rest) _ is refl read))
+        (over_events (stream.Run (faults.Record place n f)) run es more rest is h part at ordered in_front numbered can, inr (reads_first run.ports run.underlay (Err (stream.Run (faults.Record place n f))) es (more ++ rest) is read))
     reach_events (stream.Run (faults.Settings f)) run es more rest is h part at ordered in_front numbered can read = absurd h
     reach_events (stream.Run (faults.Changes f)) run es more rest is h part at ordered in_front numbered can read = absurd h
     reach_events (stream.Run faults.PortCount) run es more rest is h part at ordered in_front numbered can read = absurd h
     reach_events (stream.Run (faults.Capture place f)) run es more rest is h part at ordered in_front numbered can read = absurd h
     reach_events (stream.Run faults.OutOfMemory) run es more rest is h part at ordered in_front numbered can read =
         let at = over_events (stream.Run faults.OutOfMemory) run es more rest is h part at ordered in_front numbered can in
-        (at.0, at.1, inr (reads_first run.ports run.underlay (Err (stream.Run faults.OutOfMemory)) es (more ++ rest) _ is (omega arith) read))
+        (at.0, at.1, inr (reads_first run.ports run.underlay (Err (stream.Run faults.OutOfMemory)) es (more ++ rest) is read))
     reach_events (stream.Read place) run es more rest is h part at ordered in_front numbered can read =
-        (over_events (stream.Read place) run es more rest is h part at ordered in_front numbered can, inr (reads_first run.ports run.underlay (Err (stream.Read place)) es (more ++ rest) _ is (omega arith) read))
+        (over_events (stream.Read place) run es more rest is h part at ordered in_front numbered can, inr (reads_first run.ports run.underlay (Err (stream.Read place)) es (more ++ rest) is read))
     reach_events (stream.Write target) run es more rest is h part at ordered in_front numbered can read =
-        (over_events (stream.Write target) run es more rest is h part at ordered in_front numbered can, inr (reads_first run.ports run.underlay (Err (stream.Write target)) es (more ++ rest) _ is (omega arith) read))
+        (over_events (stream.Write target) run es more rest is h part at ordered in_front numbered can, inr (reads_first run.ports run.underlay (Err (stream.Write target)) es (more ++ rest) is read))
 
     pub reach_cuts : (target : Target) (es : List Event) (turns : List Turn) (ports : List Stream) (underlay : Stream) → whole.events ≡ es → AllStandAtEnd texts text turns ports underlay
         → StopInFront (texts_octets texts) text es → StandBetween start new (behind es) (with_cuts (behind es) (cuts_among segments (cuts_at ports underlay turns)))
         → AreReadBehind {T = Unit {0}} (texts_octets texts) text es ports underlay (Err (stream.Write target)) → Reaches ports underlay (Err (stream.Write target))
     unfolding over_cuts
     reach_cuts target es turns ports underlay is ends in_front between read =
-        (over_cuts target es turns ports underlay is ends in_front between, inr (reads_first ports underlay (Err (stream.Write target)) es [] _ (is ∙ sym (append-nil es)) (omega arith) read))
+        (over_cuts target es turns ports underlay is ends in_front between, inr (reads_first ports underlay (Err (stream.Write target)) es [] (is ∙ sym (append-nil es)) read))
 
     -- ---- what was seen
 
@@ -400,13 +367,13 @@ module _ (segments : Segments) where
       Seen new_watch result = SeesOver segments sees ends s changes texts text start new old_watch new_watch result
 
       -- they are the first ones
-      sees_first : (es rest : List Event) (k : ℕ) (new_watch : T) → whole.events ≡ es ++ rest → k ≡ length es → Sees es new_watch → FoldsTo sees old_watch (first_sights segments s changes texts text k) new_watch
+      sees_first : (es rest : List Event) (k : ℕ) (new_watch : T) → whole.events ≡ es ++ rest → k ≡ length es → Sees es new_watch → FoldsTo sees old_watch (sights_at segments s changes texts text (Events k)) new_watch
       sees_first es rest k new_watch is at h = subst (λ l. Sees l new_watch) (sym (ap (λ k. take k whole.events) at ∙ first_events whole es rest is)) h
 
       -- nothing was
       pub seen_wanting : new ≡ start → StandAt start new (no_texts (length texts)) → Seen old_watch (Err (stream.Run faults.OutOfMemory))
       unfolding over_unopened
-      seen_wanting same at = (over_unopened at, inl (refl, same), refl)
+      seen_wanting same at = (over_unopened at, same, refl)
 
       pub seen_unread : (place : Tap) → StandAt start new (no_texts (length texts)) → Seen old_watch (Err (stream.Read place))
       unfolding over_unopened
@@ -461,7 +428,7 @@ module _ (segments : Segments) where
       unfolding over_cuts
       seen_cuts target es turns ports underlay new_watch is at_end in_front between seen = (
         over_cuts target es turns ports underlay is at_end in_front between,
-        subst (λ l. Sees l new_watch) (sym (take_all (length es + 1) whole.events (omega (arith, ap length is)) ∙ is)) seen,
+        subst (λ l. Sees l new_watch) (sym is) seen,
       )
 
       -- all events were, and then the end

@@ -1,7 +1,7 @@
 -- What a run over streams answers, and what it leaves in its outputs, by the octets of its captures; it serves the contract of the run.
 --     whole_records      the events of all whole records, in order, and the captures that are cut
 --     IsRunOver      the answer of a run, and the texts that its outputs hold then
-use Rattle.std.specs.Prelude.{◌≡◌, ◌⊎◌, ◌≤◌, ⊤, ℕ, ◌+◌, ◌-◌, List, [], ◌∷◌, ◌++◌, length, map, take, Vec, Some, Result, Ok, Err}
+use Rattle.std.specs.Prelude.{◌≡◌, ◌⊎◌, ◌≤◌, ⊤, ℕ, ◌+◌, List, [], ◌∷◌, ◌++◌, length, map, take, Vec, Some, Result, Ok, Err}
 use Rattle.std.specs.declared.alloc.Global.{Global}
 use Rattle.pcap_io.specs.declared.record.RecordFault.{RecordFault}
 use Rattle.pcap_stream.specs.Source.{Stream}
@@ -23,7 +23,7 @@ use Rattle.capture_run.specs.declared.fault.RunFault.TheVariants as faults
 use Rattle.stream_run.specs.Amidst.{StandsInEvent}
 use Rattle.stream_run.specs.Coming.{EndBefore}
 use Rattle.stream_run.specs.Sights.{state_among}
-use Rattle.stream_run.specs.Stage.{Drains, StandAt, StandBetween, no_texts, stage}
+use Rattle.stream_run.specs.Stage.{ComesBeforeCuts, ComesNext, Drains, Events, Everything, Nothing, Stage, StandAt, StandBetween, events_at, no_texts, stage_texts}
 use Rattle.stream_run.specs.Steps.{AreRead, IsFaultyAt, StopInFront, changes_of, most_events}
 use Rattle.stream_run.specs.declared.fault.StreamFault.{StreamFault}
 use Rattle.stream_run.specs.declared.fault.StreamFault.TheVariants as stream
@@ -56,38 +56,47 @@ CanBeOpened texts text = opening_faults (inputs texts text) ≡ []
 abbrev pub AreFaultless : List (Vec ℕ Global) → List ℕ → Type 0
 AreFaultless texts text = faults_of (inputs texts text) ≡ []
 
+-- what a stage asks of them: no header stands where one can't be opened, and no line of a cut capture where one can't be
+-- read to its end
+abbrev pub AllowStage : List (Vec ℕ Global) → List ℕ → Stage → Type 0
+AllowStage texts text Nothing = ⊤
+AllowStage texts text (Events k) = CanBeOpened texts text
+AllowStage texts text Everything = CanBeOpened texts text × AreFaultless texts text
+
 -- ---- the texts
 
--- none; those of the headers; of the headers and an event; and so on to all events, and with the lines of the cut captures
-abbrev pub texts_at : Segments → Settings → List TimedChange → List (Vec ℕ Global) → List ℕ → ℕ → Outputs
-texts_at segments s changes texts text k = stage segments (settings_told s) (changes_of changes) (length texts) (whole_records changes texts text) k
+-- those of a stage
+abbrev pub texts_at : Segments → Settings → List TimedChange → List (Vec ℕ Global) → List ℕ → Stage → Outputs
+texts_at segments s changes texts text stage = stage_texts segments (settings_told s) (changes_of changes) (length texts) (whole_records changes texts text) stage
 
 -- the outputs hold the texts of whole events, with the headers or without them; where a capture has a fault, of none
 -- behind its last whole record
 pub record StandsSomewhere (segments : Segments) (s : Settings) (changes : List TimedChange) (texts : List (Vec ℕ Global)) (text : List ℕ) (old new : Drains) : Type 0 where
-  pub k : ℕ
-  pub most : k ≤ length (whole_records changes texts text).events + 1
-  -- no header stands where a capture can't be opened
-  pub openings : (k ≡ 0) ⊎ CanBeOpened texts text
-  pub in_front : StopInFront (texts_octets texts) text (take (k - 1) (whole_records changes texts text).events)
-  pub stands : StandAt old new (texts_at segments s changes texts text k)
+  pub stage : Stage
+  pub amidst : ComesBeforeCuts (whole_records changes texts text) stage
+  pub captures : AllowStage texts text stage
+  pub in_front : StopInFront (texts_octets texts) text (events_at (whole_records changes texts text) stage)
+  pub stands : StandAt old new (texts_at segments s changes texts text stage)
 
 -- memory is refused only where nothing was written; or it is numbers that are wanting, and then as many events stand as can
 -- be numbered
-abbrev pub LacksMemory : Drains → Drains → ℕ → Type 0
-LacksMemory old new k = ((k ≡ 0) × (new ≡ old)) ⊎ (k ≡ most_events + 1)
+abbrev pub LacksMemory : Drains → Drains → Stage → Type 0
+LacksMemory old new Nothing = new ≡ old
+LacksMemory old new (Events k) = k ≡ most_events
+LacksMemory old new Everything = ⊥
 
 -- or also a part of what comes next, so that all captures can be opened; lines of cut captures only where all were read to
 -- their ends
 pub record StandsAmong (segments : Segments) (s : Settings) (changes : List TimedChange) (texts : List (Vec ℕ Global)) (text : List ℕ) (old new : Drains) : Type 0 where
-  pub k : ℕ
-  pub in_front : StopInFront (texts_octets texts) text (take k (whole_records changes texts text).events)
-  pub openings : CanBeOpened texts text
-  pub most : (k ≤ length (whole_records changes texts text).events) ⊎ ((k ≡ length (whole_records changes texts text).events + 1) × AreFaultless texts text)
-  pub stands : StandBetween old new (texts_at segments s changes texts text k) (texts_at segments s changes texts text (k + 1))
+  pub stage : Stage
+  pub next : Stage
+  pub comes : ComesNext (whole_records changes texts text) stage next
+  pub captures : AllowStage texts text next
+  pub in_front : StopInFront (texts_octets texts) text (events_at (whole_records changes texts text) next)
+  pub stands : StandBetween old new (texts_at segments s changes texts text stage) (texts_at segments s changes texts text next)
   -- where an event comes next, the records of its first outlets, and the line behind them all
-  pub order : (es rest : List Event) (e : Event) → (whole_records changes texts text).events ≡ es ++ e ∷ rest → k ≡ length es + 1
-      → StandsInEvent (changes_of changes) old new k (state_among segments (changes_of changes) (opened (settings_told s)) es) (texts_at segments s changes texts text k) e
+  pub order : (es rest : List Event) (e : Event) → (whole_records changes texts text).events ≡ es ++ e ∷ rest → stage ≡ Events (length es)
+      → StandsInEvent (changes_of changes) old new (length es + 1) (state_among segments (changes_of changes) (opened (settings_told s)) es) (texts_at segments s changes texts text stage) e
 
 -- a record has this fault, and the outputs hold the texts of all events up to the record before it, and no more; all
 -- captures can be opened, and no other has a fault sooner
@@ -98,7 +107,7 @@ pub record StandsBefore (segments : Segments) (place : Tap) (n : ℕ) (fault : R
   pub faulty : IsFaultyAt (texts_octets texts) text place n fault
   pub in_front : StopInFront (texts_octets texts) text (take k (whole_records changes texts text).events)
   pub before : ((k ≡ 0) × (n ≡ 1)) ⊎ EndBefore place n (take k (whole_records changes texts text).events)
-  pub stands : StandAt old new (texts_at segments s changes texts text (k + 1))
+  pub stands : StandAt old new (texts_at segments s changes texts text (Events k))
 
 -- ---- the answer
 
@@ -106,7 +115,7 @@ pub record StandsBefore (segments : Segments) (place : Tap) (n : ℕ) (fault : R
 abbrev pub LeavesOver : Segments → Settings → List TimedChange → List (Vec ℕ Global) → List ℕ → Drains → Drains → Result (Unit {0}) StreamFault → Type 0
 LeavesOver segments s changes texts text old new (Ok x) = (found : Outputs) × (run_among segments (Ok s) (Ok changes) texts text ≡ Ok found) × StandAt old new found
 LeavesOver segments s changes texts text old new (Err (stream.Run (faults.Record place n fault))) = StandsBefore segments place n fault s changes texts text old new
-LeavesOver segments s changes texts text old new (Err (stream.Run faults.OutOfMemory)) = (at : StandsSomewhere segments s changes texts text old new) × LacksMemory old new at.k
+LeavesOver segments s changes texts text old new (Err (stream.Run faults.OutOfMemory)) = (at : StandsSomewhere segments s changes texts text old new) × LacksMemory old new at.stage
 LeavesOver segments s changes texts text old new (Err (stream.Run fault)) = (run (Ok s) (Ok changes) texts text ≡ Err fault) × StandAt old new (no_texts (length texts))
 LeavesOver segments s changes texts text old new (Err (stream.Read place)) = StandsSomewhere segments s changes texts text old new
 LeavesOver segments s changes texts text old new (Err (stream.Write target)) = StandsAmong segments s changes texts text old new

@@ -1,6 +1,6 @@
 -- How far a run over streams read its captures, by the events whose texts its outputs hold; it serves the contract of the run.
 --     ReachesOver      of each capture the records of these events were read, and one more
-use Rattle.std.specs.Prelude.{◌≡◌, ◌⊎◌, ◌≤◌, ⊤, ℕ, ◌-◌, List, take, Vec, Result, Ok, Err}
+use Rattle.std.specs.Prelude.{◌≡◌, ◌⊎◌, ⊤, ℕ, List, [], Vec, Result, Ok, Err}
 use Rattle.std.specs.declared.alloc.Global.{Global}
 use Rattle.pcap_stream.specs.Source.{Stream}
 use Rattle.overlay_config.specs.Fault.{Meaning}
@@ -9,14 +9,14 @@ use Rattle.overlay_settings.specs.declared.change.TimedChange.{TimedChange}
 use Rattle.capture_run.specs.declared.fault.RunFault.TheVariants as faults
 use Rattle.segment_set.specs.Segments.{Segments, All}
 use Rattle.stream_run.specs.Over.{LacksMemory, StandsAmong, StandsBefore, StandsSomewhere, texts_octets, whole_records}
-use Rattle.stream_run.specs.Stage.{Drains}
+use Rattle.stream_run.specs.Stage.{Drains, Events, Nothing, Stage, events_at}
 use Rattle.stream_run.specs.Steps.{AreReadBehind}
 use Rattle.stream_run.specs.declared.fault.StreamFault.{StreamFault}
 use Rattle.stream_run.specs.declared.fault.StreamFault.TheVariants as stream
 
--- behind the first k events of a run
-abbrev pub AreReadTo : List TimedChange → List (Vec ℕ Global) → List ℕ → ℕ → List Stream → Stream → Result (Unit {0}) StreamFault → Type 0
-AreReadTo changes texts text k ports underlay result = AreReadBehind (texts_octets texts) text (take k (whole_records changes texts text).events) ports underlay result
+-- behind the events of a stage
+abbrev pub AreReadTo : List TimedChange → List (Vec ℕ Global) → List ℕ → Stage → List Stream → Stream → Result (Unit {0}) StreamFault → Type 0
+AreReadTo changes texts text stage ports underlay result = AreReadBehind (texts_octets texts) text (events_at (whole_records changes texts text) stage) ports underlay result
 
 -- with these settings and changes: all captures were read to their ends; or those at whose record the run didn't stop, up to
 -- one record behind those of the events whose whole texts stand; before the first event nothing is said of them
@@ -27,14 +27,16 @@ abbrev pub ReachesOver : Segments → Settings → List TimedChange → List (Ve
 ReachesOver segments s changes texts text old new ports underlay (Ok x) = AreReadBehind {T = Unit {0}} (texts_octets texts) text (whole_records changes texts text).events ports underlay (Ok x)
 ReachesOver segments s changes texts text old new ports underlay (Err (stream.Run (faults.Record place n fault))) =
     (at : StandsBefore segments place n fault s changes texts text old new)
-    × ((at.k ≡ 0) ⊎ AreReadTo changes texts text at.k ports underlay (Err (stream.Run (faults.Record place n fault))))
+    × ((at.k ≡ 0) ⊎ AreReadTo changes texts text (Events at.k) ports underlay (Err (stream.Run (faults.Record place n fault))))
 ReachesOver segments s changes texts text old new ports underlay (Err (stream.Run faults.OutOfMemory)) =
-    (at : StandsSomewhere segments s changes texts text old new) × LacksMemory old new at.k × ((at.k ≤ 1) ⊎ AreReadTo changes texts text (at.k - 1) ports underlay (Err (stream.Run faults.OutOfMemory)))
+    (at : StandsSomewhere segments s changes texts text old new) × LacksMemory old new at.stage
+    × ((events_at (whole_records changes texts text) at.stage ≡ []) ⊎ AreReadTo changes texts text at.stage ports underlay (Err (stream.Run faults.OutOfMemory)))
 ReachesOver segments s changes texts text old new ports underlay (Err (stream.Run fault)) = ⊤
 ReachesOver segments s changes texts text old new ports underlay (Err (stream.Read place)) =
-    (at : StandsSomewhere segments s changes texts text old new) × ((at.k ≤ 1) ⊎ AreReadTo changes texts text (at.k - 1) ports underlay (Err (stream.Read place)))
+    (at : StandsSomewhere segments s changes texts text old new)
+    × ((events_at (whole_records changes texts text) at.stage ≡ []) ⊎ AreReadTo changes texts text at.stage ports underlay (Err (stream.Read place)))
 ReachesOver segments s changes texts text old new ports underlay (Err (stream.Write target)) =
-    (at : StandsAmong segments s changes texts text old new) × ((at.k ≡ 0) ⊎ AreReadTo changes texts text (at.k - 1) ports underlay (Err (stream.Write target)))
+    (at : StandsAmong segments s changes texts text old new) × ((at.stage ≡ Nothing) ⊎ AreReadTo changes texts text at.stage ports underlay (Err (stream.Write target)))
 
 -- by what the texts of the settings and of the changes mean
 abbrev pub IsReachedOverAmong : Segments → Meaning Settings → Meaning (List TimedChange) → List (Vec ℕ Global) → List ℕ → Drains → Drains → List Stream → Stream → Result (Unit {0}) StreamFault → Type 0

@@ -1,12 +1,15 @@
 -- How far the outputs of a run have come. It states no standard.
---     stage      the texts after so many steps: the headers, each event, the lines of the cut captures
+--     Stage      nothing, the headers and the first events, or everything
+--     ComesNext      the stage behind one: the headers, one event more, the lines of the cut captures
+--     stage_texts      the texts of a stage
 --     StandBetween      what the outputs hold more than before: at least the one texts, and at most the others
 --     LinesComeLast      no line stands there before all that leaves does
-use Rattle.std.specs.Prelude.{◌≡◌, ◌⊎◌, ◌<◌, ◌≤◌, ℕ, zero, suc, ◌-◌, nat_lt, if◌then◌else◌, Bool, false, List, [], length, replicate, take, slice_index_or, map, Option, Result, Ok, Err}
+use Rattle.std.specs.Prelude.{◌≡◌, ◌⊎◌, ◌<◌, ◌≤◌, ℕ, ◌+◌, ◌-◌, ⊤, Bool, false, List, [], length, replicate, take, slice_index_or, map, Option, Result, Ok, Err}
 use Rattle.std.specs.Io.KnownBytes.{Appends}
 use Rattle.pcap_stream.specs.Counts.{GoesOnBy}
 use Rattle.pcap_stream.specs.Sink.{Drain}
 use Rattle.timeline.specs.Timeline.{Timeline}
+use Rattle.timeline.specs.declared.event.Event.{Event}
 use Rattle.overlay_settings.specs.declared.change.Change.{Change}
 use Rattle.endpoint_state.specs.Settings.{Settings}
 use Rattle.capture_run.specs.Among.{outputs_among}
@@ -15,21 +18,47 @@ use Rattle.stream_run.specs.declared.fault.Target.{Target}
 use Rattle.stream_run.specs.declared.fault.Target.TheVariants as targets
 use Rattle.segment_set.specs.Segments.{Segments}
 
+-- ---- the stages
+
+-- how far a run is told
+pub data Stage : Type 0 where
+  -- no header stands
+  Nothing : Stage
+  -- the headers, and the texts of so many first events; of none: the headers alone
+  Events : ℕ → Stage
+  -- the headers, the texts of all events, and the lines of the cut captures
+  Everything : Stage
+
+-- the events whose texts stand
+abbrev pub events_at : Timeline → Stage → List Event
+events_at t Nothing = []
+events_at t (Events k) = take k t.events
+events_at t Everything = t.events
+
+-- no line of a cut capture stands, and of events no more than there are
+abbrev pub ComesBeforeCuts : Timeline → Stage → Type 0
+ComesBeforeCuts t Nothing = ⊤
+ComesBeforeCuts t (Events k) = k ≤ length t.events
+ComesBeforeCuts t Everything = ⊥
+
+-- behind nothing come the headers, behind these one event after another, and behind all events the lines of the cut captures
+abbrev pub ComesNext : Timeline → Stage → Stage → Type 0
+ComesNext t Nothing (Events k) = k ≡ 0
+ComesNext t (Events k) (Events more) = (more ≡ k + 1) × (more ≤ length t.events)
+ComesNext t (Events k) Everything = k ≡ length t.events
+ComesNext t stage next = ⊥
+
 -- ---- the texts
 
 -- none
 abbrev pub no_texts : ℕ → Outputs
 no_texts ports = record { ports = replicate ports []; underlay = []; decisions = [] }
 
--- the first k events; behind them all also the captures that are cut
-abbrev pub first_of : ℕ → Timeline → Timeline
-first_of k t = record { events = take k t.events; cuts = if nat_lt (length t.events) k then t.cuts else [] }
-
--- none; those of the headers; of the headers and an event; and so on to those of the whole run: of what is told to these
--- segments
-abbrev pub stage : Segments → Settings → List Change → ℕ → Timeline → ℕ → Outputs
-stage segments S changes ports t zero = no_texts ports
-stage segments S changes ports t (suc k) = outputs_among segments S changes ports (first_of k t)
+-- those of a stage, of what is told to these segments
+abbrev pub stage_texts : Segments → Settings → List Change → ℕ → Timeline → Stage → Outputs
+stage_texts segments S changes ports t Nothing = no_texts ports
+stage_texts segments S changes ports t (Events k) = outputs_among segments S changes ports (record { events = take k t.events; cuts = [] })
+stage_texts segments S changes ports t Everything = outputs_among segments S changes ports t
 
 -- ---- the outputs
 

@@ -2,7 +2,7 @@
 --     IsWatchedTake, IsWatchedStep, IsPut, IsWatchedRun      each event is seen, taken, and its answer heard, where it is told
 --     IsShown      a whole run: the events of which the outputs hold texts, and the end
 --     IsWatchedOver      the same by the octets of its captures: all events and the end, or the first events
-use Rattle.std.specs.Prelude.{◌≡◌, ◌≢◌, ◌⊎◌, ◌==◌, ℕ, ◌+◌, ◌-◌, List, [], ◌∷◌, ◌++◌, length, take, MatchBool, slice_index_or, Vec, Result, Ok, Err}
+use Rattle.std.specs.Prelude.{◌≡◌, ◌≢◌, ◌⊎◌, ◌==◌, ℕ, ◌+◌, List, [], ◌∷◌, ◌++◌, length, MatchBool, slice_index_or, Vec, Result, Ok, Err}
 use Rattle.std.specs.List.{FoldsTo}
 use Rattle.std.specs.declared.alloc.Global.{Global}
 use Rattle.pcap_stream.specs.Source.{Stream}
@@ -19,7 +19,7 @@ use Rattle.capture_run.specs.declared.fault.RunFault.TheVariants as faults
 use Rattle.stream_run.specs.Left.{texts_of}
 use Rattle.stream_run.specs.Over.{LacksMemory, StandsAmong, StandsBefore, StandsSomewhere, whole_records}
 use Rattle.stream_run.specs.Sights.{Sight, sight_among, sights, state_among}
-use Rattle.stream_run.specs.Stage.{Drains, StandAt, StandBetween, no_texts}
+use Rattle.stream_run.specs.Stage.{Drains, Events, Stage, StandAt, StandBetween, events_at, no_texts}
 use Rattle.stream_run.specs.Steps.{IsAt, IsRunOn, IsStep, IsTaken, Run, changes_of}
 use Rattle.stream_run.specs.Fault.{stopped}
 use Rattle.stream_run.specs.declared.fault.Halt.{Halt}
@@ -101,9 +101,9 @@ module _ (segments : Segments) {T : Type 0} (sees : T → Sight → T → Type 0
 
 -- ---- the same by the octets of the captures
 
--- the sights of the first k events of a run
-abbrev pub first_sights : Segments → Settings → List TimedChange → List (Vec ℕ Global) → List ℕ → ℕ → List Sight
-first_sights segments s changes texts text k = sights_of segments s changes (take k (whole_records changes texts text).events)
+-- the sights of the events of a stage
+abbrev pub sights_at : Segments → Settings → List TimedChange → List (Vec ℕ Global) → List ℕ → Stage → List Sight
+sights_at segments s changes texts text stage = sights_of segments s changes (events_at (whole_records changes texts text) stage)
 
 module _ (segments : Segments) {T : Type 0} (sees : T → Sight → T → Type 0) (ends : T → State → T → Type 0) where
   -- with these settings and changes: all events were seen in order, and then the end; or the first of them, as many as
@@ -112,14 +112,14 @@ module _ (segments : Segments) {T : Type 0} (sees : T → Sight → T → Type 0
   SeesOver s changes texts text old new old_watch new_watch (Ok x) =
       (last : T) × FoldsTo sees old_watch (sights_of segments s changes (whole_records changes texts text).events) last × ends last (state_of_run segments s changes (whole_records changes texts text).events) new_watch
   SeesOver s changes texts text old new old_watch new_watch (Err (stream.Run (faults.Record place n fault))) =
-      (at : StandsBefore segments place n fault s changes texts text old new) × FoldsTo sees old_watch (first_sights segments s changes texts text at.k) new_watch
+      (at : StandsBefore segments place n fault s changes texts text old new) × FoldsTo sees old_watch (sights_at segments s changes texts text (Events at.k)) new_watch
   SeesOver s changes texts text old new old_watch new_watch (Err (stream.Run faults.OutOfMemory)) =
-      (at : StandsSomewhere segments s changes texts text old new) × LacksMemory old new at.k × FoldsTo sees old_watch (first_sights segments s changes texts text (at.k - 1)) new_watch
+      (at : StandsSomewhere segments s changes texts text old new) × LacksMemory old new at.stage × FoldsTo sees old_watch (sights_at segments s changes texts text at.stage) new_watch
   SeesOver s changes texts text old new old_watch new_watch (Err (stream.Run fault)) = new_watch ≡ old_watch
   SeesOver s changes texts text old new old_watch new_watch (Err (stream.Read place)) =
-      (at : StandsSomewhere segments s changes texts text old new) × FoldsTo sees old_watch (first_sights segments s changes texts text (at.k - 1)) new_watch
+      (at : StandsSomewhere segments s changes texts text old new) × FoldsTo sees old_watch (sights_at segments s changes texts text at.stage) new_watch
   SeesOver s changes texts text old new old_watch new_watch (Err (stream.Write target)) =
-      (at : StandsAmong segments s changes texts text old new) × FoldsTo sees old_watch (first_sights segments s changes texts text at.k) new_watch
+      (at : StandsAmong segments s changes texts text old new) × FoldsTo sees old_watch (sights_at segments s changes texts text at.next) new_watch
 
   -- by what the texts of the settings and of the changes mean: without them nothing was seen
   abbrev pub IsWatchedOverAmong : Meaning Settings → Meaning (List TimedChange) → List (Vec ℕ Global) → List ℕ → Drains → Drains → T → T → Result (Unit {0}) StreamFault → Type 0

@@ -317,6 +317,35 @@ tests/shard_outputs.py "$folder/broken"
 refused 1 "missing 2" merge --out out one broken
 rm -f "$folder"/out/*
 
+# What a merge doesn't notice (docs/FORMATS.md, "Parts of a run"): another octet of a record, of its moment or of a line's
+# second word, where shard.txt tells of the output as it is now; and lists of segments that two parts exchanged.
+"$tep" merge --out "$folder/out" "$folder/one" "$folder/other" || complain "the parts aren't merged"
+mkdir "$folder/sound"
+mv "$folder"/out/* "$folder/sound"
+
+# unnoticed FILE: where what stands on standard input stands in a file of the second part and its shard.txt tells of that, the
+# parts are merged, and the whole has one other octet, in that file
+unnoticed() {
+    replaced "$1"
+    tests/shard_outputs.py "$folder/broken"
+    "$tep" merge --out "$folder/out" "$folder/one" "$folder/broken" || complain "another octet in $1 is noticed"
+    [ "$(cmp -l "$folder/sound/$1" "$folder/out/$1" | wc -l)" -eq 1 ] || complain "another octet in $1 isn't merged as it is"
+    cp "$folder/sound/$1" "$folder/out/$1"
+    diff -r "$folder/sound" "$folder/out" || complain "another octet in $1 changes another output"
+    rm -f "$folder"/out/*
+}
+
+turned port2.pcap 28 | unnoticed port2.pcap
+turned port2.pcap 45 | unnoticed port2.pcap
+turned decisions.txt 3 | unnoticed decisions.txt
+cp -r "$folder/one" "$folder/exchanged"
+sed -i 's/^segments .*/segments 16-4094,none/' "$folder/exchanged/shard.txt"
+sed 's/^segments .*/segments 1-15/' "$folder/other/shard.txt" | replaced shard.txt
+"$tep" merge --out "$folder/out" "$folder/exchanged" "$folder/broken" || complain "exchanged lists of segments are noticed"
+diff -r "$folder/sound" "$folder/out" || complain "exchanged lists of segments change the whole"
+rm -f "$folder"/out/*
+rm -r "$folder/sound" "$folder/exchanged"
+
 # ---- tables and counts of parts
 
 # A part that wasn't asked for them has none.

@@ -22,6 +22,17 @@ const BLOCK: usize = 65_536;
 ///
 /// Where they aren't all parts of one run, what they told isn't there or is no such text, or an output is one of their files,
 /// nothing is made or written. All outputs that couldn't be written are noted.
+///
+/// Noticed before an output is made: a `shard.txt` that isn't written as one is; settings, changes or captures with another
+/// digest than those of the first part; a segment, or what comes to none, that isn't in exactly one part's list; and outputs
+/// with another number of events, lines, records or octets than `shard.txt` says. Noticed on the way: what [`merge_streams`]
+/// notices, and an output that was read to its end and has other sums than `shard.txt` says. Each is told with the part's name.
+///
+/// Not noticed: octets or moments of records and words of lines that were changed together with the numbers and sums in
+/// `shard.txt`, or so that the sums stay; lists of segments that were changed there, or exchanged between parts, since no line
+/// is held against its part's list; events behind the last that are missing where `shard.txt` counts none of them; a part of
+/// another run with the same digests, as by another version of the program or over digests that were lent; and other values in
+/// `tables.txt` and `summary.txt`, of which nothing is told. In what order the folders are named plays no part.
 pub fn merge<'a, R: Files + AllocGlobal>(
     rt: &R,
     out: &str,

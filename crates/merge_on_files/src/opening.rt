@@ -40,8 +40,8 @@ pub fn open_parts<'a, R: Files + AllocGlobal>(
         };
         let part = match Part::open(index, lines, ports, underlay) {
             Ok(part) => part,
-            Err(MergeFault::Read(_)) => return Err(read_failure(rt, *folder, told)),
-            Err(fault) => return Err(failure_of(folders, fault)),
+            Err((MergeFault::Read(_), _)) => return Err(read_failure(rt, *folder, told)),
+            Err((fault, _)) => return Err(failure_of(folders, fault)),
         };
         if parts.push(part).is_err() {
             return Err(Failure::from(AllocError));
@@ -112,8 +112,8 @@ fn open_capture<'a, R: Files + AllocGlobal>(
     };
     match Capture::open(source) {
         Ok(capture) => Ok(capture),
-        Err(SourceFault::Read) => Err(read_failure(rt, folder, told)),
-        Err(fault) => Err(Failure::in_part(
+        Err((SourceFault::Read, _)) => Err(read_failure(rt, folder, told)),
+        Err((fault, _)) => Err(Failure::in_part(
             folder,
             PartFault::Capture(tap, RecordsFault::Source(fault)),
         )),

@@ -24,10 +24,11 @@ use Rattle.capture_run.specs.declared.fault.RunFault.TheVariants.{PortCount}
 use Rattle.noninterference.specs.Coming.{Inputs, IsRunOf, changes_of}
 use Rattle.stream_run.specs.Over.{IsRunOverAmong, LeavesOver}
 use Rattle.stream_run.specs.Stage.{Drains, StandAt}
-use Rattle.shard_merge.specs.Coming.{Holds, HoldsAll, Shard, UnlessPart}
+use Rattle.shard_merge.specs.Blame.{UnlessLines}
+use Rattle.shard_merge.specs.Coming.{Holds, HoldsAll, Shard}
 use Rattle.shard_merge.specs.Left.{UnlessDevice}
 use Rattle.shard_merge.specs.Merged.{IsRising, Piece, merged, side_by_side, texts_of_pieces}
-use Rattle.shard_merge.specs.Numbers.{AreNumbered, numbers}
+use Rattle.shard_merge.specs.Numbers.{AreNumbered, UnlessMissing, numbers}
 use Rattle.shard_merge.specs.Whole.{Adds, AllHold, AllRise, AreParts, cut_lines}
 use Rattle.shard_merge.specs.declared.fault.MergeFault.{MergeFault}
 use Rattle.segment_shards.specs.Pieces.{PartAll, Told, pieces_in, pieces_of}
@@ -36,7 +37,9 @@ use Rattle.segment_shards.proofs.Merging.{merged-rises, part-of_run, part-rises,
 use Rattle.segment_shards.proofs.Vids.{vids-told}
 use Rattle.segment_shards.proofs.Writing.{numbers-rise}
 use Rattle.shard_merge.proofs.Missing.{unless_device}
-use Rattle.part_files.specs.Files.{HoldCaptures, Merges, OpenedOver, OpensWith, Part, RanOver, ReadOver, segments_of, shards_of}
+use Rattle.shard_merge.proofs.Blaming.{unless_lines}
+use Rattle.line_stream.specs.Lines.{Reader}
+use Rattle.part_files.specs.Files.{HoldCaptures, OpenedOver, OpensWith, Part, RanOver, ReadOver, segments_of, shards_of}
 use Rattle.part_files.proofs.Lists.{all-two, map-length}
 use Rattle.part_files.proofs.Opening.{part-holds}
 use Rattle.part_files.proofs.Reading.{HoldTexts, texts-held}
@@ -155,7 +158,7 @@ module _ (settings changes : List ℕ) (texts : List (Vec ℕ Global)) (text : L
     holds-own : AreReadable (length texts) s cs timeline → (p : Part) → RanOver settings changes texts text p → OpenedOver p → HoldsOwn (length texts) own_pieces own_cuts p
     unfolding x ts
     holds-own readable p ran_over opened =
-        opened.part (length texts) (own_pieces p.segments) (map cut_line (own_cuts p.segments)) (reads-own readable p ran_over opened.read)
+        opened.part.opened (length texts) (own_pieces p.segments) (map cut_line (own_cuts p.segments)) (reads-own readable p ran_over opened.read)
 
     are-parts : (parts : List Part) → PartAll (segments_of parts) → AllByRecursion (RanOver settings changes texts text) parts → AllByRecursion OpenedOver parts → AreReadable (length texts) s cs timeline
         → AreParts (length texts) (map own_pieces (segments_of parts)) (map own_cuts (segments_of parts)) (shards_of parts)
@@ -186,9 +189,14 @@ module _ (settings changes : List ℕ) (texts : List (Vec ℕ Global)) (text : L
   abbrev Answered : Type 0
   Answered = (o : Outputs) × (run (settings_in settings) (changes_in changes) texts text ≡ Ok o) × UnlessDevice result (Adds o old old_underlay written new new_underlay now)
 
+  -- what the merge makes of whatever pieces the parts hold
+  abbrev Puts : List Shard → Type 0
+  Puts shards = (pieces : List (List Piece)) (cuts : List (List Cut)) → AreParts (length old) pieces cuts shards
+      → UnlessMissing result (merged pieces) (Adds (texts_of_pieces (length old) (merged pieces) (side_by_side cuts)) old old_underlay written new new_underlay now)
+
   merged-run : (parts : List Part) (s : Rules) (cs : List TimedChange) → settings_in settings ≡ Ok s → changes_in changes ≡ Ok cs → Whole s (record { changes = cs; ports = texts; underlay = text })
       → PartAll (segments_of parts) → AllByRecursion (RanOver settings changes texts text) parts → AllByRecursion OpenedOver parts → ReadsBack settings changes texts text → length old ≡ length texts
-      → Merges (shards_of parts) old old_underlay written new new_underlay now result → Answered
+      → Puts (shards_of parts) → Answered
   unfolding x
   merged-run parts s cs settings_are changes_are w parted all opened reads many merges =
       let counted = port-count s cs (length texts) (told (map (λ (c : TimedChange). c.at) cs) texts text) w.o w.is.outputs in
@@ -208,7 +216,7 @@ module _ (settings changes : List ℕ) (texts : List (Vec ℕ Global)) (text : L
       )
 
   pub files-merged : (parts : List Part) → PartAll (segments_of parts) → AllByRecursion (RanOver settings changes texts text) parts → AllByRecursion OpenedOver parts → ReadsBack settings changes texts text → length old ≡ length texts
-      → Merges (shards_of parts) old old_underlay written new new_underlay now result → Answered
+      → Puts (shards_of parts) → Answered
   files-merged [] parted all opened reads many merges = let none : 0 ≡ 1 = parted None tt in absurd (omega (arith, none))
   files-merged (p ∷ ps) parted all opened reads many merges =
       let first = ran p.segments (settings_in settings) (changes_in changes) texts text p.old p.new all.0.ran in
@@ -233,13 +241,9 @@ module _ (settings changes : List ℕ) (texts : List (Vec ℕ Global)) (text : L
         underlay = (_, held.underlay);
       }
 
-  pub opens-part : ReadOver p → ReadsBack settings changes texts text → (result : Result Shard MergeFault) → OpensWith p result → UnlessPart result (λ shard. Unit {0})
+  pub opens-part : ReadOver p → ReadsBack settings changes texts text → (number : ℕ) (result : Result Shard (MergeFault × Reader)) → OpensWith number p result → UnlessLines number p.reader result
   unfolding x
-  opens-part read reads result opens =
+  opens-part read reads number result opens =
       let counted = port-count first.s first.cs (length texts) (told (map (λ (c : TimedChange). c.at) first.cs) texts text) its_whole.o its_whole.is.outputs in
       let readable = reads first.s first.cs its_whole.timeline first.settings_are first.changes_are its_whole.is.read counted in
-      by _ result (opens (length texts) _ _ (reads-own settings changes texts text first.s first.cs first.settings_are first.changes_are its_whole.timeline its_whole.o its_whole.is readable p ran_over read))
-    where
-      by : (P : Shard → Type 0) (r : Result Shard MergeFault) → UnlessPart r P → UnlessPart r (λ shard. Unit {0})
-      by P (Ok shard) holds = tt
-      by P (Err fault) failed = failed
+      unless_lines number p.reader p.ports p.underlay _ result (opens.opened (length texts) _ _ (reads-own settings changes texts text first.s first.cs first.settings_are first.changes_are its_whole.timeline its_whole.o its_whole.is readable p ran_over read)) opens.reads

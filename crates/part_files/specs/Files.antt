@@ -21,6 +21,7 @@ use Rattle.overlay_settings.specs.declared.change.TimedChange.{TimedChange}
 use Rattle.segment_set.specs.Segments.{Segments}
 use Rattle.stream_run.specs.Over.{IsRunOverAmong}
 use Rattle.stream_run.specs.Stage.{Drains}
+use Rattle.shard_merge.specs.Blame.{PartOpens, ReadsWith, WritesWith}
 use Rattle.shard_merge.specs.Coming.{Holds, HoldsAll, Shard, UnlessPart}
 use Rattle.shard_merge.specs.Copied.{Opens}
 use Rattle.shard_merge.specs.Merged.{Piece, merged, side_by_side, texts_of_pieces}
@@ -78,14 +79,16 @@ pub record ReadOver (p : Part) : Type 0 where
   pub ports : (d : Drain) (s : Stream) (k : ℕ) → k < length p.new.ports → IsCaptureOf (slice_index_or p.new.ports k d) (slice_index_or p.sources k s) (slice_index_or p.ports k s)
   pub underlay : IsCaptureOf p.new.underlay p.underlay_source p.underlay
 
--- what comes of opening a part with these lines and captures
-abbrev pub OpensWith : Part → Result Shard MergeFault → Type 0
-OpensWith p result = (count : ℕ) (pieces : List Piece) (cuts : List (List ℕ)) → HoldsAll count pieces cuts p.reader p.ports p.underlay → UnlessPart result (Holds count pieces cuts)
+-- what comes of opening a part of this number with these lines and captures
+pub record OpensWith (number : ℕ) (p : Part) (result : Result Shard (MergeFault × Reader)) : Type 0 where
+  pub opened : (count : ℕ) (pieces : List Piece) (cuts : List (List ℕ)) → HoldsAll count pieces cuts p.reader p.ports p.underlay → UnlessPart result (Holds count pieces cuts)
+  pub reads : PartOpens number p.reader p.ports p.underlay result
 
 -- it is opened over what its outputs hold
 pub record OpenedOver (p : Part) : Type 0 where
   pub read : ReadOver p
-  pub part : OpensWith p (Ok p.shard)
+  pub number : ℕ
+  pub part : OpensWith number p (Ok p.shard)
 
 -- an output holds the header of a capture and something behind it
 abbrev pub HoldsCapture : Drain → Type 0
@@ -106,11 +109,13 @@ segments_of parts = map (λ (p : Part). p.segments) parts
 abbrev pub shards_of : List Part → List Shard
 shards_of parts = map (λ (p : Part). p.shard) parts
 
--- a merge of parts that are opened: of whatever pieces these hold, it puts the texts to its outputs, or tells which is missing
-abbrev pub Merges : List Shard → List Drain → Drain → Option (List ℕ) → List Drain → Drain → Option (List ℕ) → Result (Unit {0}) MergeFault → Type 0
-Merges shards old old_underlay written new new_underlay now result =
-    (pieces : List (List Piece)) (cuts : List (List Cut)) → AreParts (length old) pieces cuts shards
-    → UnlessMissing result (merged pieces) (Adds (texts_of_pieces (length old) (merged pieces) (side_by_side cuts)) old old_underlay written new new_underlay now)
+-- a merge of parts that are opened: of whatever pieces these hold, it puts the texts to its outputs, or tells which is missing;
+-- and it blames a device only where that failed
+pub record Merges (shards shards_now : List Shard) (old : List Drain) (old_underlay : Drain) (written : Option (List ℕ)) (failures : ℕ) (new : List Drain) (new_underlay : Drain) (now : Option (List ℕ)) (failures_now : ℕ) (result : Result (Unit {0}) MergeFault) : Type 0 where
+  pub puts : (pieces : List (List Piece)) (cuts : List (List Cut)) → AreParts (length old) pieces cuts shards
+      → UnlessMissing result (merged pieces) (Adds (texts_of_pieces (length old) (merged pieces) (side_by_side cuts)) old old_underlay written new new_underlay now)
+  pub reads : ReadsWith shards shards_now result
+  pub writes : WritesWith old old_underlay failures new new_underlay failures_now result
 
 -- ---- what comes in
 

@@ -7,16 +7,16 @@ use Rattle.line_stream.specs.declared.fault.LinesFault.TheVariants as lines
 use Rattle.pcap_io.specs.declared.style.Style.{Style}
 use Rattle.pcap_stream.specs.Counts.{GoesOnBy}
 use Rattle.pcap_stream.specs.Sink.{Drain, IsPut, Writes}
-use Rattle.pcap_stream.specs.Source.{New, Open, Ended, Failed, IsFilled, IsFilledFrom, MatchRead as MatchSource, ReadsNext, Standing, Stream, answer}
+use Rattle.pcap_stream.specs.Source.{New, Open, Ended, Failed, IsFilled, IsFilledFrom, IsOpened, MatchRead as MatchSource, ReadsNext, Standing, Stream, answer}
 use Rattle.pcap_stream.specs.Supply.{GivesUp}
 use Rattle.pcap_stream.specs.declared.fault.SourceFault.{SourceFault}
 use Rattle.pcap_stream.specs.declared.fault.SourceFault.TheVariants as source
 use Rattle.timeline.specs.declared.source.Tap.{Tap}
 use Rattle.timeline.specs.declared.source.Tap.TheVariants.{Port, Underlay}
-use Rattle.shard_merge.specs.Blame.{BlamesNoRead, BlamesNoWrite, CaptureStops, CapturesRead, CopyReads, CopyWrites, Health, Healths, LinesRead, MatchRead, MatchWrite, OutputStops, PartReads, PartStops, ReadsWith, SinkStops, SinkWrites, SourceReads, SourceStops, WritesWith, captures_health, has_given_up, is_read, outputs_health, part_health, sink_health, source_health}
-use Rattle.shard_merge.specs.Coming.{Shard, stopped_by}
+use Rattle.shard_merge.specs.Blame.{BlamesNoRead, BlamesNoWrite, CaptureStops, CapturesRead, CopyReads, CopyWrites, Health, Healths, LinesRead, MatchRead, MatchWrite, OutputStops, PartReads, PartStops, ReadsWith, SinkStops, SinkWrites, SourceBack, SourceReads, SourceStops, UnlessBlamed, UnlessLines, PartOpens, WritesWith, captures_health, has_given_up, is_read, outputs_health, part_health, sink_health, source_health}
+use Rattle.shard_merge.specs.Coming.{Shard, UnlessPart, stopped_by}
 use Rattle.shard_merge.specs.Copied.{TellsEnd, stop_by}
-use Rattle.shard_merge.specs.Left.{IsTap, of_tap}
+use Rattle.shard_merge.specs.Left.{IsTap, UnlessDevice, of_tap}
 use Rattle.shard_merge.specs.Moved.{stopped_at}
 use Rattle.shard_merge.specs.Whole.{behind}
 use Rattle.shard_merge.specs.declared.capture.Stop.{Stop}
@@ -140,6 +140,14 @@ fill_reads old new result is answered = by old.standing refl is
     by (Open style last) is h = open_ result (ap has_given_up is) (given_up new.standing ∙ ap gives_up (sym answered)) style h
     by (Ended is_cut) is h = still h result answered
     by (Failed fault) is h = still h result answered
+
+-- a source that isn't opened
+pub open_reads : (old new : Stream) (fault : SourceFault) → IsOpened {T = Unit {0}} old new (Err fault) → SourceBack fault old new
+open_reads old new source.Read h = h
+open_reads old new source.NotPcap h = h.quiet
+open_reads old new source.BadLink h = h.quiet
+open_reads old new source.TooLarge h = h.quiet
+open_reads old new source.BadFraction h = h.quiet
 
 pub stop_reads : (old new : Stream) (fault : SourceFault) → FillReads old new (Err fault) → CopyReads {T = Unit {0}} old new (Err (stop_by fault))
 stop_reads old new source.Read h = h
@@ -341,3 +349,24 @@ behind_no_write last part number = by (number == last && nat_lt 0 number)
     by : (b : Bool) → BlamesNoWrite {T = Unit {0}} (Err (if b then faults.Part part (part_faults.Doubled number) else faults.Part part (part_faults.Falls number)))
     by true = tt
     by false = tt
+
+-- ---- the whole
+
+module _ {T : Type 0} where
+  -- a merge that is stopped by a device alone is stopped by the one that it blames
+  pub unless_blamed : (parts parts_now : List Shard) (old : List Drain) (old_underlay : Drain) (failures : ℕ) (new : List Drain) (new_underlay : Drain) (failures_now : ℕ) (result : Result T MergeFault) (P : Type 0)
+      → UnlessDevice result P → ReadsWith parts parts_now result → WritesWith old old_underlay failures new new_underlay failures_now result
+      → UnlessBlamed parts parts_now old old_underlay failures new new_underlay failures_now result P
+  unless_blamed parts parts_now old old_underlay failures new new_underlay failures_now (Ok x) P unless reads writes = unless
+  unless_blamed parts parts_now old old_underlay failures new new_underlay failures_now (Err (faults.Read part)) P unless reads writes = reads
+  unless_blamed parts parts_now old old_underlay failures new new_underlay failures_now (Err (faults.Write target)) P unless reads writes = writes
+  unless_blamed parts parts_now old old_underlay failures new new_underlay failures_now (Err (faults.Missing number)) P unless reads writes = unless
+  unless_blamed parts parts_now old old_underlay failures new new_underlay failures_now (Err (faults.Part part fault)) P unless reads writes = unless
+
+-- a part that a device alone keeps from being opened has lines whose read failed
+pub unless_lines : (part : ℕ) (old : Reader) (ports : List Stream) (underlay : Stream) (P : Shard → Type 0) (result : Result Shard (MergeFault × Reader)) → UnlessPart result P → PartOpens part old ports underlay result → UnlessLines part old result
+unless_lines part old ports underlay P (Ok s) unless opens = tt
+unless_lines part old ports underlay P (Err (faults.Read blamed, back)) unless opens = opens.0
+unless_lines part old ports underlay P (Err (faults.Write target, back)) unless opens = opens.1
+unless_lines part old ports underlay P (Err (faults.Missing number, back)) unless opens = unless
+unless_lines part old ports underlay P (Err (faults.Part other fault, back)) unless opens = unless

@@ -8,5 +8,6 @@ mod Finishing
 mod Merging
 pub mod Missing
 mod WholeTexts
-mod Blaming
+pub mod Blaming
 mod Handing
+mod Numbering

@@ -1,5 +1,5 @@
 -- What comes of a merge whose pieces are numbered or not.
-use Rattle.std.proofs.Common.{◌≡◌, ◌≢◌, ◌∙◌, sym, ap, ℕ, zero, suc, ◌+◌, ◌<◌, arith, List, [], ◌∷◌, ◌++◌, Result, Ok, Err}
+use Rattle.std.proofs.Common.{◌≡◌, ◌∙◌, sym, ℕ, zero, suc, ◌+◌, ◌<◌, arith, List, ◌∷◌, ◌++◌, Result, Ok, Err}
 use Rattle.std.specs.List.{range_with_len}
 use Rattle.shard_merge.specs.Left.{IsDeviceFault, UnlessDevice}
 use Rattle.shard_merge.specs.Merged.{Piece}

@@ -172,3 +172,39 @@ module _ {T : Type 0} where
   -- no write is
   abbrev pub BlamesNoWrite : Result T MergeFault → Type 0
   BlamesNoWrite result = MatchWrite result (λ target. ⊥) ⊤
+
+  -- a merge comes to its end and this holds, or it is stopped by the device that it blames
+  abbrev pub UnlessBlamed : List Shard → List Shard → List Drain → Drain → ℕ → List Drain → Drain → ℕ → Result T MergeFault → Type 0 → Type 0
+  UnlessBlamed parts parts_now old old_underlay failures new new_underlay failures_now (Ok x) P = P
+  UnlessBlamed parts parts_now old old_underlay failures new new_underlay failures_now (Err (faults.Read part)) P = PartStopsAt part parts parts_now
+  UnlessBlamed parts parts_now old old_underlay failures new new_underlay failures_now (Err (faults.Write target)) P = OutputStops target old old_underlay failures new new_underlay failures_now
+  UnlessBlamed parts parts_now old old_underlay failures new new_underlay failures_now (Err (faults.Missing number)) P = ⊥
+  UnlessBlamed parts parts_now old old_underlay failures new new_underlay failures_now (Err (faults.Part part fault)) P = ⊥
+
+-- ---- what is opened
+
+-- a source that isn't opened is handed back: it gave up where a read is blamed, and its input failed at no other fault
+abbrev pub SourceBack : SourceFault → Stream → Stream → Type 0
+SourceBack source.Read old new = GivesUp old.supply new.supply
+SourceBack source.NotPcap old new = new.supply.failures ≡ old.supply.failures
+SourceBack source.BadLink old new = new.supply.failures ≡ old.supply.failures
+SourceBack source.TooLarge old new = new.supply.failures ≡ old.supply.failures
+SourceBack source.BadFraction old new = new.supply.failures ≡ old.supply.failures
+
+-- a capture is opened, and no read failed; or its source is handed back
+abbrev pub OpenReads : Stream → Result Stream (SourceFault × Stream) → Type 0
+OpenReads old (Ok s) = s.supply.failures ≡ old.supply.failures
+OpenReads old (Err back) = SourceBack back.0 old back.1
+
+-- the part of this number is opened, and no read failed; or its lines are handed back, of which a read failed where one is blamed
+abbrev pub PartOpens : ℕ → Reader → List Stream → Stream → Result Shard (MergeFault × Reader) → Type 0
+PartOpens part old ports underlay (Ok s) = part_health s ≡ record { lines = old.failures; captures = captures_health ports underlay }
+PartOpens part old ports underlay (Err back) = LinesRead {T = Unit {0}} part old back.1 (Err back.0) × BlamesNoWrite {T = Unit {0}} (Err back.0)
+
+-- a part is opened, or a read of its lines failed and is blamed
+abbrev pub UnlessLines : ℕ → Reader → Result Shard (MergeFault × Reader) → Type 0
+UnlessLines part old (Ok s) = ⊤
+UnlessLines part old (Err (faults.Read blamed, back)) = (blamed ≡ part) × GoesOnBy 1 old.failures back.failures
+UnlessLines part old (Err (faults.Write target, back)) = ⊥
+UnlessLines part old (Err (faults.Missing number, back)) = ⊥
+UnlessLines part old (Err (faults.Part other fault, back)) = ⊥

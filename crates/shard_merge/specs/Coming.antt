@@ -128,7 +128,7 @@ pub record HoldsAll (ports : ℕ) (pieces : List Piece) (cuts : List (List ℕ))
   pub rest : reader.rest ≡ Some (lines_in pieces ++ concat cuts)
   pub left : AreLeft (λ tap. capture_at tap pieces) captures underlay
 
--- a part that is as it should be, or a device failed
-abbrev pub UnlessPart : Result Shard MergeFault → (Shard → Type 0) → Type 0
+-- a part that is as it should be, or its lines are handed back, at which a device failed
+abbrev pub UnlessPart : Result Shard (MergeFault × Reader) → (Shard → Type 0) → Type 0
 UnlessPart (Ok s) P = P s
-UnlessPart (Err fault) P = IsDeviceFault fault
+UnlessPart (Err back) P = IsDeviceFault back.0

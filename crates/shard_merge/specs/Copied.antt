@@ -19,10 +19,10 @@ stop_by source.BadLink = stops.Wrong (faults.Source source.BadLink)
 stop_by source.TooLarge = stops.Wrong (faults.Source source.TooLarge)
 stop_by source.BadFraction = stops.Wrong (faults.Source source.BadFraction)
 
--- it is open, with all of that text left behind its header; or a read failed
-abbrev pub Opens : List ℕ → Result Stream SourceFault → Type 0
+-- it is open, with all of that text left behind its header; or its source is handed back, at which a read failed
+abbrev pub Opens : List ℕ → Result Stream (SourceFault × Stream) → Type 0
 Opens text (Ok s) = IsLeft text s
-Opens text (Err fault) = fault ≡ source.Read
+Opens text (Err back) = back.0 ≡ source.Read
 
 -- a device failed, and nothing is wrong
 abbrev pub IsDeviceStop : Stop → Type 0

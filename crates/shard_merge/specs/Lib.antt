@@ -8,4 +8,5 @@ pub mod Coming
 pub mod Told
 pub mod Firsts
 pub mod Whole
+pub mod Numbered
 pub mod Blame

@@ -2,7 +2,7 @@
 ghost use Rattle.std.specs.Prelude.{◌≡◌, ◌++◌, ℕ, List, [], Some};
 ghost use Rattle.pcap_io.specs.Written.{written_header};
 ghost use Rattle.pcap_stream.specs.Source.{New};
-ghost use Rattle.shard_merge.specs.Blame.{CopyReads, CopyWrites};
+ghost use Rattle.shard_merge.specs.Blame.{CopyReads, CopyWrites, OpenReads};
 ghost use Rattle.shard_merge.specs.Copied.{Copies, EndsWith, Opens, TellsEnd, TellsStop};
 ghost use Rattle.shard_merge.specs.Left.{IsLeft, IsWritten};
 
@@ -40,17 +40,16 @@ impl<R: Input> Model for Capture<R> {
 
 impl<R: Input> Capture<R> {
     /// Reads the header of a capture of which nothing was read yet. A capture that a run wrote is opened, unless a read
-    /// fails.
-    pub fn open(source: Source<R>) -> Result<Capture<R>, SourceFault>
-    where
-        R: Drop,
+    /// fails, or one more is needed than may be made. A source that isn't opened is handed back, as it stands then.
+    pub fn open(source: Source<R>) -> Result<Capture<R>, (SourceFault, Source<R>)>
         requires { source.standing ≡ New }
-        ensures { (text : List ℕ) → source.supply.rest ≡ Some (written_header ++ text) → Opens text result }
+        ensures opened { (text : List ℕ) → source.supply.rest ≡ Some (written_header ++ text) → Opens text result }
+        ensures reads { OpenReads source result }
     {
         let mut source = source;
         match source.open() {
             Ok(()) => Ok(Capture { source }),
-            Err(fault) => Err(fault),
+            Err(fault) => Err((fault, source)),
         }
     }
 

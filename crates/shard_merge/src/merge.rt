@@ -9,6 +9,7 @@ ghost use Rattle.shard_merge.specs.Blame.{BlamesNoRead, BlamesNoWrite, ReadsWith
 ghost use Rattle.shard_merge.specs.Coming.{Shard};
 ghost use Rattle.shard_merge.specs.Left.{AreAdded, UnlessDevice};
 ghost use Rattle.shard_merge.specs.Merged.{IsRising, Piece, merged, side_by_side, texts_of_pieces};
+ghost use Rattle.shard_merge.specs.Numbered.{AddsCuts, AddsEvents, AddsLine, AddsNumbered, AreRead, HaveNoEvent};
 ghost use Rattle.shard_merge.specs.Numbers.{UnlessMissing};
 ghost use Rattle.shard_merge.specs.Whole.{Adds, AllHold, AllRise, AreParts, HaveAll, OnlyCuts, PutsAll, PutsAt, behind};
 
@@ -25,6 +26,16 @@ use timeline::Tap;
 /// the order that the lines tell. Where the parts hold the texts of a run's events, each event in one of them and numbered from
 /// 1 on, the outputs hold the texts of all these events then, unless a read or a write fails. Where numbers from 1 to the last
 /// are missing, the first of them is told. Everything else is a fault; what was written before it stands.
+///
+/// Whatever the parts hold: where it answers `Ok`, no line of theirs is left, and the lines that were written are those of
+/// events numbered 1, 2 and so on, each number once, and behind them those of cut captures.
+///
+/// Of parts that hold something else it notices what [`PartFault`] names: of a line its end, its number, its fields, its places
+/// and its length; numbers that fall or stand twice; lines of cut captures in front of an event's, or more than 256; another
+/// number of captures than the outputs; and of a capture what can't be read, fewer or more records than the lines tell, and one
+/// that isn't whole. A number that is missing in front of a greater one is [`MergeFault::Missing`]. Nothing else is noticed:
+/// neither other octets or another moment of a record, nor another word of a line, nor that a line stands in another part with
+/// its records, nor that the last events are missing, nor that a part is of another run.
 pub fn merge_streams<R: Input, W: Output>(
     parts: &mut [Part<R>],
     port_sinks: &mut [Sink<W>],
@@ -34,6 +45,8 @@ pub fn merge_streams<R: Input, W: Output>(
     requires few { length port_sinks.old ≤ 255 }
     ensures merged { (pieces : List (List Piece)) (cuts : List (List Cut)) → AreParts (length port_sinks.old) pieces cuts parts.old
         → UnlessMissing result (merged pieces) (Adds (texts_of_pieces (length port_sinks.old) (merged pieces) (side_by_side cuts)) port_sinks.old underlay_sink.old (W.written decisions.old) port_sinks.new underlay_sink.new (W.written decisions.new)) }
+    ensures numbered { OnOk result (AddsNumbered (W.written decisions.old) (W.written decisions.new)) }
+    ensures read { OnOk result (AreRead parts.new) }
     ensures reads { ReadsWith parts.old parts.new result }
     ensures writes { WritesWith port_sinks.old underlay_sink.old (W.failures decisions.old) port_sinks.new underlay_sink.new (W.failures decisions.new) result }
 {
@@ -96,6 +109,7 @@ fn put_at<R: Input, W: Output>(
     requires there { index < length parts.old }
     requires count { (s : Shard) → length port_sinks.old ≡ length (slice_index_or parts.old index s).ports }
     ensures put { (s : Shard) → PutsAt parts.old index s parts.new port_sinks.old underlay_sink.old (W.written decisions.old) port_sinks.new underlay_sink.new (W.written decisions.new) result }
+    ensures line { (s : Shard) → OnOk result (AddsLine (slice_index_or parts.old index s).coming (W.written decisions.old) (W.written decisions.new)) }
     ensures reads { ReadsWith parts.old parts.new result }
     ensures writes { WritesWith port_sinks.old underlay_sink.old (W.failures decisions.old) port_sinks.new underlay_sink.new (W.failures decisions.new) result }
 {
@@ -114,6 +128,7 @@ fn put_and_hand_on<R: Input, W: Output>(
     requires there { index < length parts.old }
     requires count { (s : Shard) → length port_sinks.old ≡ length (slice_index_or parts.old index s).ports }
     ensures put { (s : Shard) → PutsAt parts.old index s parts.new port_sinks.old underlay_sink.old (W.written decisions.old) port_sinks.new underlay_sink.new (W.written decisions.new) result }
+    ensures line { (s : Shard) → OnOk result (AddsLine (slice_index_or parts.old index s).coming (W.written decisions.old) (W.written decisions.new)) }
     ensures reads { ReadsWith parts.old parts.new result }
     ensures writes { WritesWith port_sinks.old underlay_sink.old (W.failures decisions.old) port_sinks.new underlay_sink.new (W.failures decisions.new) result }
 {
@@ -137,6 +152,8 @@ fn put_events<R: Input, W: Output>(
     ensures counts { HaveAll (length port_sinks.old) parts.new }
     ensures events { (pieces : List (List Piece)) (cuts : List (List (List ℕ))) → AllHold (length port_sinks.old) pieces cuts parts.old → AllRise pieces → IsRising 0 (merged pieces)
         → UnlessMissing result (merged pieces) (PutsAll (length port_sinks.old) (merged pieces) cuts parts.new port_sinks.old underlay_sink.old (W.written decisions.old) port_sinks.new underlay_sink.new (W.written decisions.new)) }
+    ensures numbered { OnOk result ((count : ℕ) × AddsEvents count (W.written decisions.old) (W.written decisions.new)) }
+    ensures over { OnOk result (HaveNoEvent parts.new) }
     ensures reads { ReadsWith parts.old parts.new result }
     ensures writes { WritesWith port_sinks.old underlay_sink.old (W.failures decisions.old) port_sinks.new underlay_sink.new (W.failures decisions.new) result }
 {
@@ -185,6 +202,8 @@ fn finish_all<R: Input, W: Output>(
     requires few { count ≤ 255 }
     requires counts { HaveAll count parts.old }
     ensures cuts { (cuts : List (List (List ℕ))) → OnlyCuts count cuts parts.old → UnlessDevice result (Appends (W.written decisions.old) (W.written decisions.new) (concat (side_by_side cuts))) }
+    ensures put { OnOk result (AddsCuts (W.written decisions.old) (W.written decisions.new)) }
+    ensures over { OnOk result (HaveNoEvent parts.old → AreRead parts.new) }
     ensures reads { ReadsWith parts.old parts.new result }
     ensures writes { (sinks : List Drain) (underlay_sink : Drain) → WritesWith sinks underlay_sink (W.failures decisions.old) sinks underlay_sink (W.failures decisions.new) result }
 {

@@ -1,17 +1,20 @@
 //! A part of a run: its decision lines and its captures.
-ghost use Rattle.std.specs.Prelude.{◌≡◌, ◌≤◌, ◌++◌, ℕ, List, [], ◌∷◌, IfOk, IfSome, Ok, length};
+ghost use Rattle.std.specs.Prelude.{◌≡◌, ◌≤◌, ◌++◌, ℕ, List, [], ◌∷◌, IfOk, IfSome, Ok, OnOk, length, true};
 ghost use Rattle.std.specs.Io.KnownBytes.{Appends};
 ghost use Rattle.std.specs.List.{concat};
 ghost use Rattle.pcap_stream.specs.Sink.{Drain};
 ghost use Rattle.shard_lines.specs.Facts.{facts_of};
 ghost use Rattle.shard_lines.specs.declared.facts.LineFacts.TheVariants.{Event};
 ghost use Rattle.timeline.specs.declared.source.Tap.{Tap as ATap};
-ghost use Rattle.shard_merge.specs.Blame.{BlamesNoRead, BlamesNoWrite, CapturesRead, LinesRead, PartReads, WritesWith};
+ghost use Rattle.shard_merge.specs.Blame.{BlamesNoRead, BlamesNoWrite, CapturesRead, LinesRead, PartOpens, PartReads, WritesWith};
 ghost use Rattle.shard_merge.specs.Coming.{ComesNext, Holds, HoldsAll, StandBehind, UnlessPart, coming_in, is_cut, is_over, stopped_by};
 ghost use Rattle.shard_merge.specs.Left.{AreAdded, AreLeft, UnlessDevice};
 ghost use Rattle.shard_merge.specs.Merged.{Piece, records_at};
 ghost use Rattle.shard_merge.specs.Moved.{AreRecords, Moves, taps};
+ghost use Rattle.shard_merge.specs.Firsts.{IsNone};
+ghost use Rattle.shard_merge.specs.Numbered.{AddsCuts, AddsLine, IsOf};
 ghost use Rattle.shard_merge.specs.Told.{IsPlaced, coming_told};
+ghost use Rattle.shard_merge.specs.declared.part.Coming.TheVariants.{Nothing};
 
 use crate::capture::Capture;
 use crate::fault::{MergeFault, PartFault, Target};
@@ -50,13 +53,14 @@ pub struct Part<R: Input> {
 impl<R: Input> Model for Part<R> {
     ghost use Rattle.std.specs.Prelude.{IfSome};
     ghost use Rattle.shard_merge.specs.Coming.{Shard};
+    ghost use Rattle.shard_merge.specs.Numbered.{IsOf};
     ghost use Rattle.shard_merge.specs.Told.{IsPlaced};
 
     ghost Value = { Shard };
 
     ghost view = { λ p. record { reader = p.lines; ports = p.ports.items; underlay = p.underlay; coming = p.coming } };
 
-    ghost invariant = { λ p. IfSome p.begins (IsPlaced p.lines.line) };
+    ghost invariant = { λ p. IfSome p.begins (IsPlaced p.lines.line) × IsOf p.coming p.lines.line };
 }
 
 /// What a part keeps of its next line.
@@ -174,17 +178,18 @@ fn put_line<W: Output>(decisions: &mut W, line: &[u8]) -> Result<(), MergeFault>
 }
 
 impl<R: Input> Part<R> {
-    /// A part with these decision lines, of which none was read, and these captures. It reads the first line; of its faults
-    /// `part` is the number.
+    /// A part with these decision lines, of which none was read, and these captures. It reads the first line, and nothing
+    /// else; of its faults `part` is the number. Lines that aren't read are handed back, as they stand then.
     pub fn open(
         part: usize,
         lines: Lines<R>,
         ports: Vec<Capture<R>>,
         underlay: Capture<R>,
-    ) -> Result<Part<R>, MergeFault>
+    ) -> Result<Part<R>, (MergeFault, Lines<R>)>
     where
         R: Drop,
-        ensures { (count : ℕ) (pieces : List Piece) (cuts : List (List ℕ)) → HoldsAll count pieces cuts lines ports.items underlay → UnlessPart result (Holds count pieces cuts) }
+        ensures opened { (count : ℕ) (pieces : List Piece) (cuts : List (List ℕ)) → HoldsAll count pieces cuts lines ports.items underlay → UnlessPart result (Holds count pieces cuts) }
+        ensures reads { PartOpens part lines ports.items underlay result }
     {
         let coming = Coming::Nothing;
         let mut opened = Part {
@@ -196,7 +201,7 @@ impl<R: Input> Part<R> {
         };
         match opened.next(part) {
             Ok(()) => Ok(opened),
-            Err(fault) => Err(fault),
+            Err(fault) => Err((fault, opened.lines)),
         }
     }
 
@@ -216,20 +221,23 @@ impl<R: Input> Part<R> {
 
     /// The next line.
     fn line(&self) -> &[u8]
-        ensures { result.now ≡ self.now.reader.line }
+        ensures line { result.now ≡ self.now.reader.line }
+        ensures is_of { IsOf self.now.coming self.now.reader.line }
     {
         self.lines.line()
     }
 
-    /// Goes on to the next line.
+    /// Goes on to the next line. Where it can't be read, none comes.
     fn next(&mut self, part: usize) -> Result<(), MergeFault>
         ensures ports { self.new.ports ≡ self.old.ports }
         ensures underlay { self.new.underlay ≡ self.old.underlay }
         ensures next { (count : ℕ) (pieces : List Piece) (cuts : List (List ℕ)) → StandBehind count pieces cuts self.old → UnlessDevice result (ComesNext pieces cuts self.new) }
+        ensures behind_cut { OnOk result (is_cut self.old.coming ≡ true → IsNone self.new.coming) }
         ensures reads { LinesRead part self.old.reader self.new.reader result }
         ensures no_write { BlamesNoWrite result }
     {
         let was_cut = is_cut(self.coming);
+        self.coming = Coming::Nothing;
         self.begins = None;
         if let Err(fault) = self.lines.fetch() {
             return Err(stopped_by(part, fault));
@@ -284,6 +292,7 @@ impl<R: Input> Part<R> {
         ensures ports { length self.new.ports ≡ length self.old.ports }
         ensures event { (count : ℕ) (p : Piece) (ps : List Piece) (cuts : List (List ℕ)) → Holds count (p ∷ ps) cuts self.old
             → UnlessDevice result (Holds count ps cuts self.new × AreAdded (λ t. records_at t p.records) port_sinks.old underlay_sink.old port_sinks.new underlay_sink.new × Appends (W.written decisions.old) (W.written decisions.new) p.line) }
+        ensures put { OnOk result (AddsLine self.old.coming (W.written decisions.old) (W.written decisions.new)) }
         ensures reads { PartReads part self.old self.new result }
         ensures writes { WritesWith port_sinks.old underlay_sink.old (W.failures decisions.old) port_sinks.new underlay_sink.new (W.failures decisions.new) result }
     {
@@ -299,6 +308,8 @@ impl<R: Input> Part<R> {
         ensures underlay { self.new.underlay ≡ self.old.underlay }
         ensures line { (count : ℕ) (pieces : List Piece) (cuts : List (List ℕ)) → StandBehind count pieces cuts self.old
             → UnlessDevice result (ComesNext pieces cuts self.new × Appends (W.written decisions.old) (W.written decisions.new) self.old.reader.line) }
+        ensures put { OnOk result (AddsLine self.old.coming (W.written decisions.old) (W.written decisions.new)) }
+        ensures behind_cut { OnOk result (is_cut self.old.coming ≡ true → IsNone self.new.coming) }
         ensures reads { PartReads part self.old self.new result }
         ensures writes { (sinks : List Drain) (underlay_sink : Drain) → WritesWith sinks underlay_sink (W.failures decisions.old) sinks underlay_sink (W.failures decisions.new) result }
     {
@@ -312,6 +323,8 @@ impl<R: Input> Part<R> {
     fn put_cuts<W: Output>(&mut self, part: usize, decisions: &mut W) -> Result<(), MergeFault>
         ensures ports { length self.new.ports ≡ length self.old.ports }
         ensures cuts { (count : ℕ) (cuts : List (List ℕ)) → Holds count [] cuts self.old → UnlessDevice result (Holds count [] [] self.new × Appends (W.written decisions.old) (W.written decisions.new) (concat cuts)) }
+        ensures put { OnOk result (AddsCuts (W.written decisions.old) (W.written decisions.new)) }
+        ensures over { OnOk result (IsNone self.old.coming → self.new.coming ≡ Nothing) }
         ensures reads { PartReads part self.old self.new result }
         ensures writes { (sinks : List Drain) (underlay_sink : Drain) → WritesWith sinks underlay_sink (W.failures decisions.old) sinks underlay_sink (W.failures decisions.new) result }
     {
@@ -334,6 +347,8 @@ impl<R: Input> Part<R> {
     ) -> Result<(), MergeFault>
         requires { length self.old.ports ≤ 255 }
         ensures cuts { (count : ℕ) (cuts : List (List ℕ)) → Holds count [] cuts self.old → UnlessDevice result (Appends (W.written decisions.old) (W.written decisions.new) (concat cuts)) }
+        ensures put { OnOk result (AddsCuts (W.written decisions.old) (W.written decisions.new)) }
+        ensures over { OnOk result (IsNone self.old.coming → self.new.coming ≡ Nothing) }
         ensures reads { PartReads part self.old self.new result }
         ensures writes { (sinks : List Drain) (underlay_sink : Drain) → WritesWith sinks underlay_sink (W.failures decisions.old) sinks underlay_sink (W.failures decisions.new) result }
     {
@@ -346,6 +361,7 @@ impl<R: Input> Part<R> {
     /// Sees that nothing is left in the captures.
     fn end(&mut self, part: usize) -> Result<(), MergeFault>
         requires { length self.old.ports ≤ 255 }
+        ensures coming { self.new.coming ≡ self.old.coming }
         ensures ended { (count : ℕ) → Holds count [] [] self.old → UnlessDevice result (Unit {0}) }
         ensures reads { PartReads part self.old self.new result }
         ensures no_write { BlamesNoWrite result }

@@ -5,6 +5,8 @@ use Rattle.shard_merge.specs.Blame.{Health, outputs_health, part_health}
 use Rattle.shard_merge.specs.Coming.{Holds, Shard}
 use Rattle.shard_merge.proofs.Blaming.{reads_behind, same_set, set_reads, writes_behind}
 use Rattle.shard_merge.proofs.Finishing.{all_cuts, more_cuts, no_cuts}
+use Rattle.shard_merge.specs.Firsts.{IsNone}
+use Rattle.shard_merge.proofs.Numbering.{finished, more_cut, none_cut}
 use Rattle.shard_merge.proofs.merge.finish_all.Goals as goal
 
 -- no output
@@ -12,7 +14,7 @@ nowhere : Drain
 nowhere = record { written = None; failures = 0; is_failed = false }
 
 pub loop-index-init : goal.loop-index-init
-loop-index-init g c = record { others = λ s k le. refl; same = refl; added = λ cuts only. no_cuts cuts (g.W.Output.written c.args.decisions.now); reads = refl; writes = refl }
+loop-index-init g c = record { others = λ s k le. refl; same = refl; added = λ cuts only. no_cuts cuts (g.W.Output.written c.args.decisions.now); put = none_cut (g.W.Output.written c.args.decisions.now); over = λ none s k lt. absurd (omega (arith, lt)); reads = refl; writes = refl }
 
 pub finish-requires : goal.finish-requires
 finish-requires g c =
@@ -38,6 +40,12 @@ loop-index-preserved g c = record {
       let same = c.loop-index.invariant.others c.index-parts-index.result c.loop-index.index (omega arith) in
       more_cuts cuts c.loop-index.index (g.W.Output.written c.args.decisions.now) (g.W.Output.written c.loop-index.decisions) (g.W.Output.written c.finish.new.decisions) (omega (arith, there, only.many_cuts)) (c.loop-index.invariant.added cuts only)
       (c.in_default.ensures.cuts c.args.count (slice_index_or cuts c.loop-index.index []) (subst (Holds c.args.count [] (slice_index_or cuts c.loop-index.index [])) (sym same) (only.each c.index-parts-index.result c.loop-index.index there)));
+  put = more_cut (g.W.Output.written c.args.decisions.now) (g.W.Output.written c.loop-index.decisions) (g.W.Output.written c.finish.new.decisions) c.loop-index.invariant.put c.in_default.ensures.put;
+  over = λ none.
+      let there : c.loop-index.index < length c.args.parts.now = omega (arith, c.loop-index-test.true, c.loop-index.invariant.same) in
+      let same = c.loop-index.invariant.others c.index-parts-index.result c.loop-index.index (omega arith) in
+      finished c.loop-index.parts c.loop-index.index c.finish.new.self (omega (arith, there, c.loop-index.invariant.same)) (c.loop-index.invariant.over none)
+      (c.in_default.ensures.over (subst (λ (s : Shard). IsNone s.coming) (sym same) (none c.index-parts-index.result c.loop-index.index there)));
   reads = same_set part_health c.loop-index.parts c.loop-index.index c.finish.new.self c.index-parts-index.result (omega (arith, c.loop-index-test.true, c.loop-index.invariant.same)) c.in_default.ensures.reads ∙ c.loop-index.invariant.reads;
   writes = ap (λ (h : Health). h.lines) (c.in_default.ensures.writes [] nowhere) ∙ c.loop-index.invariant.writes;
 }
@@ -62,3 +70,9 @@ returns-clause-reads g c = c.loop-index.invariant.reads
 
 pub returns-clause-writes : goal.returns-clause-writes
 returns-clause-writes g c = λ sinks underlay_sink. ap (outputs_health sinks underlay_sink) c.loop-index.invariant.writes
+
+pub returns-clause-put : goal.returns-clause-put
+returns-clause-put g c = c.loop-index.invariant.put
+
+pub returns-clause-over : goal.returns-clause-over
+returns-clause-over g c = λ none s k lt. c.loop-index.invariant.over none s k (omega (arith, lt, c.loop-index-test.false, c.loop-index.invariant.same))

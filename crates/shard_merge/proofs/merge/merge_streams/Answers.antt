@@ -6,6 +6,8 @@ use Rattle.shard_merge.specs.Whole.{AllHold, OnlyCuts, cut_lines}
 use Rattle.shard_merge.proofs.Blaming.{no_read, no_write, reads_behind, writes_behind}
 use Rattle.shard_merge.proofs.Missing.{device_stops, unless_missing}
 use Rattle.shard_merge.proofs.WholeTexts.{adds_all}
+use Rattle.std.proofs.lemmas.Result.{on_ok_weaker}
+use Rattle.shard_merge.proofs.Numbering.{all_lines}
 use Rattle.shard_merge.proofs.merge.merge_streams.Goals as goal
 
 pub returns-in-Err-clause-merged : goal.returns-in-Err-clause-merged
@@ -65,3 +67,11 @@ returns-clause-writes g c =
     let failures = g.W.Output.failures c.args.decisions.now in
     writes_behind c.args.port_sinks.now c.args.underlay_sink.now failures c.put_events.new.port_sinks c.put_events.new.underlay_sink (g.W.Output.failures c.put_events.new.decisions) c.put_events.new.port_sinks c.put_events.new.underlay_sink
     (g.W.Output.failures c.finish_all.new.decisions) c.finish_all.result (c.in_default-put_events.ensures.writes ∙ c.in_default-begin_all.ensures.writes failures) (c.finish_all.ensures.writes c.put_events.new.port_sinks c.put_events.new.underlay_sink)
+
+pub returns-clause-numbered : goal.returns-clause-numbered
+returns-clause-numbered g c =
+    let events = c.in_default-put_events.ensures.numbered in
+    on_ok_weaker c.finish_all.result (all_lines events.0 (g.W.Output.written c.args.decisions.now) (g.W.Output.written c.put_events.new.decisions) (g.W.Output.written c.finish_all.new.decisions) events.1) c.finish_all.ensures.put
+
+pub returns-clause-read : goal.returns-clause-read
+returns-clause-read g c = on_ok_weaker c.finish_all.result (λ over. over c.in_default-put_events.ensures.over) c.finish_all.ensures.over

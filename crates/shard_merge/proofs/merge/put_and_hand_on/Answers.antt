@@ -2,6 +2,8 @@ use Rattle.std.proofs.KnownBytes.{Appends-kept}
 use Rattle.shard_merge.specs.Merged.{records_at}
 use Rattle.shard_merge.proofs.Blaming.{no_read, writes_behind}
 use Rattle.shard_merge.proofs.Handing.{added_kept, unless_both}
+use Rattle.std.proofs.Common.{slice_index_or}
+use Rattle.shard_merge.proofs.Numbering.{handed_line}
 use Rattle.shard_merge.proofs.merge.put_and_hand_on.Goals as goal
 
 pub returns-then-must_hand_on-clause-put : goal.returns-then-must_hand_on-clause-put
@@ -26,3 +28,8 @@ pub returns-then-must_hand_on-clause-writes : goal.returns-then-must_hand_on-cla
 returns-then-must_hand_on-clause-writes g c =
     writes_behind c.args.port_sinks.now c.args.underlay_sink.now (g.W.Output.failures c.args.decisions.now) c.put_at.new.port_sinks c.put_at.new.underlay_sink (g.W.Output.failures c.put_at.new.decisions)
     c.hand_on_all.new.port_sinks c.hand_on_all.new.underlay_sink (g.W.Output.failures c.hand_on_all.new.decisions) c.hand_on_all.result c.in_default.ensures.writes c.hand_on_all.ensures.writes
+
+pub returns-then-must_hand_on-clause-line : goal.returns-then-must_hand_on-clause-line
+returns-then-must_hand_on-clause-line g c = λ s.
+    handed_line (slice_index_or c.args.parts.now c.args.index s).coming (g.W.Output.written c.args.decisions.now) (g.W.Output.written c.put_at.new.decisions) (g.W.Output.written c.hand_on_all.new.decisions) _ c.hand_on_all.result
+    (c.in_default.ensures.line s) c.hand_on_all.ensures.kept

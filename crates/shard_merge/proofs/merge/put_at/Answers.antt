@@ -2,6 +2,8 @@ use Rattle.std.proofs.Common.{◌∙◌, ◌∷◌, refl, sym, ap, subst, length
 use Rattle.std.proofs.lemmas.List.{get_or_default}
 use Rattle.shard_merge.specs.Coming.{Holds, Shard}
 use Rattle.shard_merge.proofs.Blaming.{set_reads}
+use Rattle.std.specs.Prelude.{OnOk}
+use Rattle.shard_merge.specs.Numbered.{AddsLine}
 use Rattle.shard_merge.proofs.merge.put_at.Goals as goal
 
 pub put_event-requires : goal.put_event-requires
@@ -22,3 +24,8 @@ returns-clause-reads g c = set_reads c.args.parts.now c.args.index c.index-parts
 
 pub returns-clause-writes : goal.returns-clause-writes
 returns-clause-writes g c = c.put_event.ensures.writes
+
+pub returns-clause-line : goal.returns-clause-line
+returns-clause-line g c = λ s.
+    let same = get_or_default c.args.parts.now c.args.index s c.index-parts-index.result c.requires.there in
+    subst (λ (x : Shard). OnOk c.put_event.result (AddsLine x.coming (g.W.Output.written c.args.decisions.now) (g.W.Output.written c.put_event.new.decisions))) (sym same) c.put_event.ensures.put

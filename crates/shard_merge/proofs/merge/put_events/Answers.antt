@@ -7,6 +7,9 @@ use Rattle.shard_merge.specs.declared.part.Coming.TheVariants as coming
 use Rattle.shard_merge.proofs.Blaming.{behind_no_read, behind_no_write, no_read, no_write, reads_behind, writes_behind}
 use Rattle.shard_merge.proofs.Merging.{MergedSoFar, above_last, all_merged, counts_set, next_missing, next_piece, none_merged_yet, one_merged}
 use Rattle.shard_merge.proofs.Missing.{device_stops}
+use Rattle.shard_merge.specs.Numbered.{AddsLine}
+use Rattle.shard_merge.specs.declared.part.Coming.{Coming}
+use Rattle.shard_merge.proofs.Numbering.{no_events, one_event}
 use Rattle.shard_merge.proofs.merge.put_events.Goals as goal
 
 -- a part of nothing, for places where there is none
@@ -22,6 +25,7 @@ loop-first-init g c = record {
   sinks = refl;
   fits = omega arith;
   events = λ pieces cuts holds rise above. none_merged_yet (length c.args.port_sinks.now) pieces cuts c.args.parts.now c.args.port_sinks.now c.args.underlay_sink.now (g.W.Output.written c.args.decisions.now) holds rise above;
+  numbered = no_events (g.W.Output.written c.args.decisions.now);
   reads = refl;
   writes = refl;
 }
@@ -77,6 +81,9 @@ loop-first-preserved g c =
           (one_merged (length c.args.port_sinks.now) (merged pieces) cuts c.loop-first.last c.loop-first.parts c.in-Some.first put.behind_it c.args.port_sinks.now c.args.underlay_sink.now (g.W.Output.written c.args.decisions.now)
           c.loop-first.port_sinks c.loop-first.underlay_sink (g.W.Output.written c.loop-first.decisions) c.put_and_hand_on.new.port_sinks c.put_and_hand_on.new.underlay_sink (g.W.Output.written c.put_and_hand_on.new.decisions)
           so_far next c.in-Some.ensures.there (omega (arith, above.0, c.if-first-next.false)) c.loop-first.invariant.sinks done.0 done.1 done.2);
+      numbered = one_event c.loop-first.last c.in-Some.first.number (g.W.Output.written c.args.decisions.now) (g.W.Output.written c.loop-first.decisions) (g.W.Output.written c.put_and_hand_on.new.decisions) c.loop-first.invariant.numbered
+          (omega (arith, c.if-first-last.false, c.if-first-next.false))
+          (subst (λ (k : Coming). AddsLine k (g.W.Output.written c.loop-first.decisions) (g.W.Output.written c.put_and_hand_on.new.decisions)) (c.in-Some.ensures.next fresh) (c.in_default-put_and_hand_on.ensures.line fresh));
       reads = c.in_default-put_and_hand_on.ensures.reads ∙ c.loop-first.invariant.reads;
       writes = c.in_default-put_and_hand_on.ensures.writes ∙ c.loop-first.invariant.writes;
     }
@@ -112,3 +119,9 @@ returns-clause-reads g c = c.loop-first.invariant.reads
 
 pub returns-clause-writes : goal.returns-clause-writes
 returns-clause-writes g c = c.loop-first.invariant.writes
+
+pub returns-clause-numbered : goal.returns-clause-numbered
+returns-clause-numbered g c = (c.loop-first.last, c.loop-first.invariant.numbered)
+
+pub returns-clause-over : goal.returns-clause-over
+returns-clause-over g c = λ s k lt. c.in_default.ensures s k lt

@@ -1,11 +1,12 @@
-use Rattle.std.proofs.Common.{◌∙◌, ap, sym, subst, Err}
+use Rattle.std.proofs.Common.{◌≡◌, ◌∙◌, Bool, ap, sym, subst, Ok, Err}
 use Rattle.line_stream.specs.Lines.{IsFetched, Reader}
 use Rattle.shard_merge.specs.Blame.{BlamesNoWrite, LinesRead}
-use Rattle.shard_merge.specs.Coming.{Shard, StandBehind}
+use Rattle.shard_merge.specs.Coming.{Shard, StandBehind, coming_in, is_cut}
 use Rattle.shard_merge.specs.Left.{IsDeviceFault}
 use Rattle.shard_merge.specs.declared.fault.MergeFault.{MergeFault}
 use Rattle.shard_merge.proofs.Blaming.{lines_no_write, lines_reads, no_read}
 use Rattle.shard_merge.proofs.Lining.{comes_next, never_wrong, stop_device}
+use Rattle.shard_merge.proofs.Numbering.{behind_cut}
 use Rattle.shard_merge.proofs.part.Part.next.Goals as goal
 
 pub returns-in-Err-clause-next : goal.returns-in-Err-clause-next
@@ -40,3 +41,8 @@ returns-in-Err-coming_of-clause-reads g c =
 
 pub returns-in-Err-coming_of-clause-no_write : goal.returns-in-Err-coming_of-clause-no_write
 returns-in-Err-coming_of-clause-no_write g c = c.in-Err-coming_of.ensures.no_write
+
+pub returns-in-Ok-clause-behind_cut : goal.returns-in-Ok-clause-behind_cut
+returns-in-Ok-clause-behind_cut g c = λ cut.
+    let was = c.is_cut-was_cut.ensures ∙ ap (λ (s : Shard). is_cut s.coming) c.self.view_is ∙ cut in
+    behind_cut c.args.part c.line.result.now c.in-Ok.told.coming (subst (λ (b : Bool). Ok c.in-Ok.told.coming ≡ coming_in c.args.part b c.line.result.now) was c.in-Ok.ensures.coming)

@@ -1,5 +1,6 @@
 use Rattle.std.proofs.Common.{◌∙◌, sym, ap, subst, ℕ}
 use Rattle.std.specs.Io.KnownBytes.{Appends}
+use Rattle.std.specs.Prelude.{OnOk}
 use Rattle.line_stream.specs.Lines.{Reader}
 use Rattle.shard_lines.specs.Facts.{facts_of}
 use Rattle.shard_merge.specs.Coming.{ComesNext}
@@ -7,6 +8,8 @@ use Rattle.shard_merge.specs.Merged.{capture_at}
 use Rattle.shard_merge.specs.Moved.{AreRecords}
 use Rattle.shard_merge.proofs.Blaming.{part_behind, writes_behind}
 use Rattle.shard_merge.proofs.Lining.{behind_event, holds_on, unless}
+use Rattle.shard_merge.specs.Numbered.{AddsLine}
+use Rattle.shard_merge.specs.declared.part.Coming.{Coming}
 use Rattle.shard_merge.proofs.part.Part.put_event.Goals as goal
 
 pub returns-in-Err-clause-event : goal.returns-in-Err-clause-event
@@ -44,3 +47,7 @@ returns-clause-writes g c =
     let failures = g.W.Output.failures c.args.decisions.now in
     writes_behind c.args.port_sinks.now c.args.underlay_sink.now failures c.copy_records.new.port_sinks c.copy_records.new.underlay_sink failures c.copy_records.new.port_sinks c.copy_records.new.underlay_sink
     (g.W.Output.failures c.put_next_line.new.decisions) c.put_next_line.result (c.in_default.ensures.writes failures) (c.put_next_line.ensures.writes c.copy_records.new.port_sinks c.copy_records.new.underlay_sink)
+
+pub returns-clause-put : goal.returns-clause-put
+returns-clause-put g c =
+    subst (λ (k : Coming). OnOk c.put_next_line.result (AddsLine k (g.W.Output.written c.args.decisions.now) (g.W.Output.written c.put_next_line.new.decisions))) c.in_default.ensures.coming c.put_next_line.ensures.put

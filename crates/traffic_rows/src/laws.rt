@@ -1,0 +1,12 @@
+//! Laws over the definitions.
+ghost use Rattle.std.specs.Prelude.{◌≡◌, ℕ, List, []};
+ghost use Rattle.traffic_rows.specs.Rows.{all_traffic, counted_all, counted_in, no_rows, shown, with_traffic};
+ghost use Rattle.traffic_rows.specs.declared.key.TunnelKey.{TunnelKey as AKey};
+ghost use Rattle.traffic_rows.specs.declared.rows.TrafficRow.{TrafficRow as ARow};
+ghost use Rattle.traffic_rows.specs.declared.traffic.Traffic.{Traffic as ATraffic};
+
+/// A table shows the first rows of all traffic, whatever came first, and what all others come to.
+pub fn shows_the_first()
+    ensures one { (most : ℕ) (rows : List ARow) (key : AKey) (traffic : ATraffic) → counted_in most (shown most rows) key traffic ≡ shown most (with_traffic key traffic rows) }
+    ensures all { (rows : List ARow) → counted_all no_rows rows ≡ shown 4096 (all_traffic [] rows) }
+{}

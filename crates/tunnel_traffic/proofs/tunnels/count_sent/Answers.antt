@@ -1,0 +1,21 @@
+use Rattle.std.proofs.Common.{◌∙◌, ap}
+use Rattle.endpoint_core.specs.Decision.{Sent}
+use Rattle.endpoint_core.specs.Kept.{state_of}
+use Rattle.endpoint_core.specs.Step.{sent_at}
+use Rattle.traffic_rows.specs.Rows.{counted_all}
+use Rattle.traffic_rows.specs.declared.traffic.Traffic.{Traffic}
+use Rattle.tunnel_traffic.specs.Tunnels.{rows_at}
+use Rattle.tunnel_traffic.proofs.Counting.{sized_rows, unsized_rows}
+use Rattle.tunnel_traffic.proofs.tunnels.count_sent.Goals as goal
+
+pub returns-in-Ok : goal.returns-in-Ok
+returns-in-Ok c =
+    let o : Sent = sent_at (state_of c.args.endpoint.now).bridges.settings c.args.came.now.vid c.args.came.now.frame c.args.place in
+    c.count_at.ensures
+    ∙ ap (λ (t : Traffic). counted_all c.args.remotes.now (rows_at c.args.place t)) c.one_left.ensures
+    ∙ ap (counted_all c.args.remotes.now) (sized_rows o c.size_at.result c.in-Ok.size c.in-Ok.is c.size_at.ensures)
+
+pub returns-in_default : goal.returns-in_default
+returns-in_default c =
+    let o : Sent = sent_at (state_of c.args.endpoint.now).bridges.settings c.args.came.now.vid c.args.came.now.frame c.args.place in
+    ap (counted_all c.args.remotes.now) (unsized_rows o c.size_at.result c.in_default.field-0 c.in_default.is c.size_at.ensures)

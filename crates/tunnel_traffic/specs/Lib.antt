@@ -1,0 +1,4 @@
+pub mod Header
+pub mod Tunnels
+pub mod Lines
+pub mod Run

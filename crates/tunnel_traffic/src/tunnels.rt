@@ -1,0 +1,197 @@
+//! What passes by tunnels.
+ghost use Rattle.std.specs.Prelude.{◌≡◌, IfOk, IsSome, IsTrue, map};
+ghost use Rattle.std.specs.List.{flat_map, list_all};
+ghost use Rattle.endpoint_core.specs.Course.{CanLeave, IsThere, decision_of};
+ghost use Rattle.endpoint_core.specs.Kept.{state_of};
+ghost use Rattle.endpoint_core.specs.Step.{Decided, sent_at};
+ghost use Rattle.endpoint_core.specs.Arrival.{came_by};
+ghost use Rattle.endpoint_state.specs.Settings.{segment_at};
+ghost use Rattle.endpoint_state.specs.Step.{can_leave};
+ghost use Rattle.timeline.specs.declared.event.Happening.TheVariants.{Record};
+ghost use Rattle.traffic_rows.specs.Rows.{counted_all};
+ghost use Rattle.tunnel_traffic.specs.Lines.{tunnels_text};
+ghost use Rattle.tunnel_traffic.specs.Tunnels.{answer_rows, answer_told, came_told, is_unknown, key_rows, no_tunnels, outcome_rows, packet_told, refused_rows, rows_at};
+
+use crate::header::key_in;
+use crate::lines::put_tunnels;
+use endpoint_core::{Came, ChangeFault, Course, Endpoint};
+use filter_db::Place;
+use frame_view::Reason;
+use std::alloc::{AllocError, Global};
+use std::marker::Model;
+use stream_run::Watch;
+use timeline::{Captured, Event, Happening, Tap};
+use traffic_rows::{Traffic, TrafficRows, TunnelKey};
+use vxlan_head::Vni;
+
+/// What passes by the tunnels of an endpoint. It looks on while a run goes. Only [`TunnelTraffic::open`] and
+/// [`TunnelTraffic::text`] take memory; the tables take 0.5 MiB together.
+#[derive(Drop)]
+pub struct TunnelTraffic {
+    /// Packets of networks that no segment has.
+    unknown: TrafficRows,
+    remotes: TrafficRows,
+}
+
+impl Model for TunnelTraffic {
+    ghost use Rattle.tunnel_traffic.specs.Tunnels.{Tunnels};
+
+    ghost Value = { Tunnels };
+
+    ghost view = { λ t. record { unknown = t.unknown; remotes = t.remotes } };
+}
+
+impl TunnelTraffic {
+    /// Nothing passed yet. `AllocError`: memory was refused.
+    pub fn open(alloc: Global) -> Result<TunnelTraffic, AllocError>
+        ensures { IfOk result (λ tunnels. tunnels ≡ no_tunnels) }
+    {
+        Ok(TunnelTraffic {
+            unknown: TrafficRows::open(alloc)?,
+            remotes: TrafficRows::open(alloc)?,
+        })
+    }
+
+    /// What passed so far, as text. `AllocError`: memory was refused.
+    pub fn text(&self, alloc: Global) -> Result<Vec<u8>, AllocError>
+        ensures { IfOk result (λ text. text.items ≡ tunnels_text self.now) }
+    {
+        let mut text = String::new(alloc);
+        put_tunnels(&mut text, &self.unknown, &self.remotes)?;
+        Ok(text.into_bytes())
+    }
+}
+
+impl Watch for TunnelTraffic {
+    ghost use Rattle.std.specs.Prelude.{◌≡◌};
+    ghost use Rattle.tunnel_traffic.specs.Tunnels.{Expects, Sees};
+
+    ghost sees = { Sees };
+
+    ghost expects = { Expects };
+
+    ghost ends = { λ old state new. new ≡ old };
+
+    fn see(&mut self, endpoint: &Endpoint, _number: u64, event: &Event) {
+        match &event.happening {
+            Happening::Change(_) => {}
+            Happening::Record(tap, captured) => self.count_record(endpoint, *tap, captured),
+        }
+    }
+
+    fn hear_decision(&mut self, endpoint: &Endpoint, course: &Course, places: &[Place]) {
+        self.count_decision(endpoint, course, places);
+    }
+
+    fn hear_reply(&mut self, _reply: Result<(), ChangeFault>) {}
+
+    fn pass_over(&mut self, _endpoint: &Endpoint, _number: u64, _event: &Event) {}
+
+    fn end(&mut self, _endpoint: &Endpoint) {}
+}
+
+impl TunnelTraffic {
+    /// Counts what leaves of a frame or a packet.
+    fn count_decision(&mut self, endpoint: &Endpoint, course: &Course, places: &[Place])
+        requires there { IsThere (state_of endpoint.now).bridges.settings course.now }
+        requires leave { CanLeave (state_of endpoint.now).bridges.settings course.now places.now }
+        ensures { self.new ≡ answer_told self.old (Decided (decision_of (state_of endpoint.now).bridges.settings course.now places.now)) }
+    {
+        count_answer(&mut self.remotes, endpoint, course, places);
+    }
+
+    /// Counts what a record is before its answer.
+    fn count_record(&mut self, endpoint: &Endpoint, tap: Tap, captured: &Captured)
+        ensures { self.new ≡ came_told self.old (state_of endpoint.now).bridges.settings.overlay (Record tap captured.now) }
+    {
+        match tap {
+            Tap::Port(_) => {}
+            Tap::Underlay => self.count_packet(endpoint, captured.original, captured.octets),
+        }
+    }
+
+    /// Counts what a packet of the underlay is before its answer.
+    fn count_packet(&mut self, endpoint: &Endpoint, original: u32, octets: &[u8])
+        ensures { let overlay = (state_of endpoint.now).bridges.settings.overlay in
+            self.new ≡ packet_told self.old overlay octets.now (came_by overlay original octets.now) }
+    {
+        match endpoint.frame_in(original, octets) {
+            Ok(came) => count_at(
+                &mut self.remotes,
+                came.place(),
+                Traffic::one_came(octets.len() as u64),
+            ),
+            Err(refused) => count_refused(&mut self.unknown, endpoint, refused.reason, octets),
+        }
+    }
+}
+
+/// Counts a packet that was refused for a reason, where that is that no segment has its network.
+fn count_refused(unknown: &mut TrafficRows, endpoint: &Endpoint, reason: Reason, octets: &[u8])
+    ensures { unknown.new ≡ counted_all unknown.old (refused_rows (state_of endpoint.now).bridges.settings.overlay octets.now reason) }
+{
+    if is_unknown(reason) {
+        let key = key_in(endpoint.under(), octets);
+        count_key(unknown, key, Traffic::one_came(octets.len() as u64));
+    }
+}
+
+/// Counts traffic of a network and a sender, where there is one.
+fn count_key(unknown: &mut TrafficRows, key: Option<TunnelKey>, traffic: Traffic)
+    ensures { unknown.new ≡ counted_all unknown.old (key_rows key traffic) }
+{
+    if let Some(key) = key {
+        unknown.add(key, traffic);
+    }
+}
+
+/// Whether no segment has the network.
+fn is_unknown(reason: Reason) -> bool
+    ensures { result ≡ is_unknown reason }
+{
+    reason.number() == Reason::UnknownVni.number()
+}
+
+/// Counts traffic of a place, where that is a remote endpoint.
+fn count_at(remotes: &mut TrafficRows, place: Place, traffic: Traffic)
+    ensures { remotes.new ≡ counted_all remotes.old (rows_at place traffic) }
+{
+    if let Place::Remote(kind, address) = place {
+        let vni = Vni::from_octets([0; 3]);
+        remotes.add(TunnelKey { kind, vni, address }, traffic);
+    }
+}
+
+/// Counts what leaves of a frame or a packet.
+fn count_answer(remotes: &mut TrafficRows, endpoint: &Endpoint, course: &Course, places: &[Place])
+    requires there { IsThere (state_of endpoint.now).bridges.settings course.now }
+    requires leave { CanLeave (state_of endpoint.now).bridges.settings course.now places.now }
+    ensures { remotes.new ≡ counted_all remotes.old (answer_rows (Decided (decision_of (state_of endpoint.now).bridges.settings course.now places.now))) }
+{
+    if let Ok(came) = course {
+        count_leaving(remotes, endpoint, came, places);
+    }
+}
+
+/// Counts what leaves of a frame at each of these places.
+fn count_leaving(remotes: &mut TrafficRows, endpoint: &Endpoint, came: &Came, places: &[Place])
+    requires there { IsSome (segment_at (state_of endpoint.now).bridges.settings came.now.vid) }
+    requires leave { IsTrue (list_all (can_leave (state_of endpoint.now).bridges.settings came.now.vid) places.now) }
+    ensures { let S = (state_of endpoint.now).bridges.settings in
+        remotes.new ≡ counted_all remotes.old (flat_map outcome_rows (map (sent_at S came.now.vid came.now.frame) places.now)) }
+{
+    for place in places {
+        count_sent(remotes, endpoint, came, *place);
+    }
+}
+
+/// Counts what leaves of a frame at a place, where something does.
+fn count_sent(remotes: &mut TrafficRows, endpoint: &Endpoint, came: &Came, place: Place)
+    requires { IsTrue (can_leave (state_of endpoint.now).bridges.settings came.now.vid place) }
+    ensures { let S = (state_of endpoint.now).bridges.settings in
+        remotes.new ≡ counted_all remotes.old (outcome_rows (sent_at S came.now.vid came.now.frame place)) }
+{
+    if let Ok(size) = endpoint.size_at(came, place) {
+        count_at(remotes, place, Traffic::one_left(size as u64));
+    }
+}

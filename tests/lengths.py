@@ -193,6 +193,18 @@ def all_limits_hold_at_once():
     expect_lines("the greatest settings", checked, ["ok: 16 ports, 256 segments, 0 changes"])
 
 
+def more_tunnels_than_rows():
+    """Packets of 4,100 networks that no segment has, their numbers falling: the 4,096 least have lines, and the others one."""
+    captures = runs.Captures()
+    vnis = range(9099, 4999, -1)
+    for n, vni in enumerate([*vnis, 5000, 9099], 1):
+        captures.of["u"] += runs.record(n * 10**9, runs.octets(f"OUTER12 08000000 {vni:06X}00 ALL M1 0806 00*46"))
+    told = runs.Run(runs.PEER.replace("vni = 5000", "vni = 4999"), "", captures, words=["run", "--summary"])
+    summary = [line for line in told.stdout.splitlines() if line.startswith(("unknown", "remote"))]
+    wanted = [f"unknown vxlan {vni} from 192.0.2.1 {1 + (vni == 5000)}" for vni in range(5000, 9096)]
+    expect_lines("more networks than rows", "\n".join(summary), [*wanted, "unknown others 5"])
+
+
 def main():
     a_packet_is_cut_at_every_length()
     a_datagram_has_every_length()
@@ -201,6 +213,7 @@ def main():
     the_longest_record_is_too_long_a_frame()
     ten_thousand_changes_are_made()
     all_limits_hold_at_once()
+    more_tunnels_than_rows()
     for fault in FAULTS:
         print(f"tests/lengths.py: {fault}")
     return 1 if FAULTS else 0

@@ -181,6 +181,8 @@ place p3 in 1 64
 place p3 out 4 256
 place u in 2 170
 place u out 4 440
+remote vxlan:192.0.2.2 in 1 110 out 3 330
+remote geneve:192.0.2.2 in 0 0 out 1 110
 T
 tells 0 "" --summary <"$folder/counts"
 tells 0 "" --summary --tables --why 8 < <(cat "$folder/eighth" "$folder/last" "$folder/counts")

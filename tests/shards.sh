@@ -48,7 +48,7 @@ in_pairs() {
     rm -rf "$folder"/{whole,one,other,merged}
     besides=(--tables --summary)
     runs whole "" "${besides[@]}" "$@"
-    cp "$folder/stdout" "$folder/told"
+    grep -vE '^(unknown|remote) ' "$folder/stdout" >"$folder/told"
     for ((pair = 1; pair < 31; pair++)); do
         one=
         other=

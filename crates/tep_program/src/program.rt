@@ -30,6 +30,7 @@ use std::process::ExitCode;
 use std::rt::{Env, Files};
 use stream_run::{Unwatched, Watch};
 use timeline::Tap;
+use tunnel_traffic::{Beside, TunnelTraffic};
 
 /// The exit status where the words are refused.
 const WORDS_REFUSED: u8 = 2;
@@ -296,7 +297,10 @@ fn run_and_tell<'a, R: Files + Input + AllocGlobal + Print + Eprint>(
         Some(changes) => Some(changes.as_slice()),
         None => None,
     };
-    let mut onlooker = onlooker_of(rt.alloc(), asked, told.unwrap_or(&[]), &segments)?;
+    let mut beside = Beside {
+        watch: onlooker_of(rt.alloc(), asked, told.unwrap_or(&[]), &segments)?,
+        tunnels: tunnels_of(rt.alloc(), asked)?,
+    };
     let run = run_asked(
         rt,
         names,
@@ -305,14 +309,15 @@ fn run_and_tell<'a, R: Files + Input + AllocGlobal + Print + Eprint>(
         folder,
         asked,
         &segments,
-        &mut onlooker,
+        &mut beside,
         failed,
     );
-    let Onlooker { reports, counts } = onlooker;
+    let Beside { watch, tunnels } = beside;
+    let Onlooker { reports, counts } = watch;
     match run {
         Ok(ran) => {
             let found = tell_missing(rt, asked.why, &reports);
-            tell_all(rt, folder, asked, reports, counts, ran).and(found)
+            tell_all(rt, folder, asked, reports, counts, tunnels, ran).and(found)
         }
         Err(failure) => {
             // What was told stands, wherever the run stopped.
@@ -343,6 +348,16 @@ fn onlooker_of<'n, 'a>(
         None
     };
     Ok(Onlooker { reports, counts })
+}
+
+/// Whoever counts what passes by tunnels, where a whole run is asked for its summary.
+fn tunnels_of(alloc: Global, asked: Asked<'_, '_>) -> Result<Option<TunnelTraffic>, AllocError> {
+    if asked.summary && asked.segments.is_none() {
+        let tunnels = TunnelTraffic::open(alloc)?;
+        Ok(Some(tunnels))
+    } else {
+        Ok(None)
+    }
 }
 
 /// Runs on captures, all segments, or those of a list as a part, and writes nothing where no folder is named. `told` are the
@@ -401,12 +416,14 @@ fn tell_all<R: Files + AllocGlobal + Print>(
     asked: Asked<'_, '_>,
     reports: Reports<'_, '_>,
     counts: Option<RunCounts>,
+    tunnels: Option<TunnelTraffic>,
     ran: Ran<R::File>,
 ) -> Result<(), Failure<'static>> {
     let Ok((told, tables)) = reports.into_texts() else {
         return Err(Failure::from(AllocError));
     };
     let summary = summary_of(rt.alloc(), counts, ran.cut.as_slice())?;
+    let passed = passed_text(rt.alloc(), tunnels)?;
     let left = match leave_texts(rt, folder, asked, tables.as_slice(), summary.as_slice()) {
         Ok(()) => ran.finish(),
         Err(failure) => Err(failure),
@@ -414,6 +431,15 @@ fn tell_all<R: Files + AllocGlobal + Print>(
     left.and(print_text(rt, told.as_slice()))
         .and(print_text(rt, tables.as_slice()))
         .and(print_text(rt, summary.as_slice()))
+        .and(print_text(rt, passed.as_slice()))
+}
+
+/// What passed by tunnels, where that is asked for.
+fn passed_text(alloc: Global, tunnels: Option<TunnelTraffic>) -> Result<Vec<u8>, AllocError> {
+    match tunnels {
+        Some(tunnels) => tunnels.text(alloc),
+        None => Ok(Vec::new(alloc)),
+    }
 }
 
 /// Writes the tables and the counts of a part into its folder, where it has one, as far as they are asked for.

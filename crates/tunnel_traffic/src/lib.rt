@@ -2,9 +2,15 @@
 //! packets that were taken in from it and sent to it, and for each network that no segment has, and each sender, the packets
 //! that were dropped.
 //!
-//! [`TunnelTraffic`] looks on while `stream_run` runs. Its tables are made before the run, so no event asks for memory, and
-//! show the first 4,096 rows of each kind, whatever came first. [`laws::runs`] says what they show behind a run. [`Beside`] puts it
-//! beside whoever else looks on.
+//! Use first: [`TunnelTraffic`] looks on while `stream_run` runs, and makes the text behind it; [`Beside`] puts it beside whoever
+//! else looks on.
+//!
+//! Specs to read, in order: `specs/Header`, `specs/Run`, `specs/Tunnels`, `specs/Lines`.
+//!
+//! Proved: behind a run of any events, or of a part of it, the tables show what those events and the answers of their segments'
+//! bridges come to (`laws::runs`), and the text is exactly the lines of these. Whoever else looks on sees what it would alone.
+//!
+//! Why it is so: the tables are made before the run, so no event asks for memory.
 #![tactic(auto)]
 
 mod beside;

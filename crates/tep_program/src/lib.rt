@@ -24,5 +24,6 @@ mod notes;
 mod program;
 mod refusals;
 mod swapped;
+mod told_runs;
 
 pub use program::{run, start};

@@ -1,36 +1,28 @@
 //! What the program does with its words.
-ghost use Rattle.std.specs.Prelude.{◌≡◌, ◌≤◌, [], Ok, IfSome, option_map};
+ghost use Rattle.std.specs.Prelude.{◌≡◌, ◌≤◌, option_map};
 ghost use Rattle.clap.specs.Walk.{texts};
 ghost use Rattle.command_line.specs.Meaning.{HasDepth, meaning_of};
-ghost use Rattle.overlay_config.specs.Change.{IsRising, changes_in};
-ghost use Rattle.overlay_settings.specs.Rules.{EachBehind};
 ghost use Rattle.program_faults.specs.Status.{failure_status_of};
 ghost use Rattle.tep_program.specs.Status.{IsDoneStatus, IsStatusOf, first_no_event, no_event_in};
 
 use crate::causes::{tell_causes, tell_failed_besides};
 use crate::checks::check;
 use crate::notes::tell_notes;
+use crate::told_runs::{Asked, run_and_tell};
 use capture_run::{RunFault, of_settings};
 use clap::error::ErrorKind as Refusal;
-use dissector::{Line, LineFault, Values, explain_bytes, line_of, sample, segments_of};
+use dissector::{Line, LineFault, Values, explain_bytes, line_of, sample};
 use merge_on_files::{TextsAsked, merge};
-use overlay_config::{TimedChange, migrate};
+use overlay_config::migrate;
 use program_faults::{Failure, OutputFile, is_lost};
-use program_files::{FailedOutputs, Names, leave_text, print_text, read_file, read_underlay};
-use run_counts::RunCounts;
-use run_reports::{Onlooker, Reports, is_event_name};
-use runs_on_files::{
-    Ran, Scope, Texts, print_digests, run_on_files_with, run_part_with, run_unwritten_with,
-};
-use segment_set::SegmentSet;
+use program_files::{FailedOutputs, Names, print_text, read_file, read_underlay};
+use run_reports::is_event_name;
+use runs_on_files::print_digests;
 use std::alloc::{AllocError, Global};
 use std::env;
 use std::io::{ErrorKind, Input};
 use std::process::ExitCode;
 use std::rt::{Env, Files};
-use stream_run::{Unwatched, Watch};
-use timeline::Tap;
-use tunnel_traffic::{Beside, TunnelTraffic};
 
 /// The exit status where the words are refused.
 const WORDS_REFUSED: u8 = 2;
@@ -241,245 +233,6 @@ fn merge_and_tell<'a, R: Files + AllocGlobal + Print>(
 fn print_sample<R: AllocGlobal + Print>(rt: &R) -> Result<(), Failure<'static>> {
     let lines = sample(rt.alloc())?;
     print_text(rt, lines.as_slice())
-}
-
-/// What is asked for of a run.
-#[derive(Clone, Copy)]
-struct Asked<'n, 'a> {
-    /// Why the events of these names came out as they did.
-    why: &'n [&'a str],
-    /// The tables at a moment.
-    tables_at: Option<u64>,
-    /// The tables at the end.
-    tables: bool,
-    /// What was counted.
-    summary: bool,
-    /// The list of a part's segments.
-    segments: Option<&'a str>,
-}
-
-impl Asked<'_, '_> {
-    /// Whether nothing is told besides the outputs.
-    fn is_nothing(self) -> bool {
-        self.why.is_empty() && self.tables_at.is_none() && !self.tables && !self.summary
-    }
-}
-
-/// Runs on captures, and prints what is asked for besides.
-fn run_and_tell<'a, R: Files + Input + AllocGlobal + Print + Eprint>(
-    rt: &R,
-    names: Names<'_, 'a>,
-    folder: Option<&str>,
-    asked: Asked<'_, 'a>,
-    failed: &mut FailedOutputs,
-) -> Result<(), Failure<'a>> {
-    let texts = Texts::read(rt, names)?;
-    let segments = segments_of(asked.segments)?;
-    // Who asks for nothing pays nothing for it.
-    if asked.is_nothing() {
-        return match run_asked(
-            rt,
-            names,
-            &texts,
-            None,
-            folder,
-            asked,
-            &segments,
-            &mut Unwatched,
-            failed,
-        ) {
-            Ok(ran) => ran.finish(),
-            Err(failure) => Err(failure),
-        };
-    }
-    let changes = texts.changes_read(rt.alloc())?;
-    let told = match &changes {
-        Some(changes) => Some(changes.as_slice()),
-        None => None,
-    };
-    let mut beside = Beside {
-        watch: onlooker_of(rt.alloc(), asked, told.unwrap_or(&[]), &segments)?,
-        tunnels: tunnels_of(rt.alloc(), asked)?,
-    };
-    let run = run_asked(
-        rt,
-        names,
-        &texts,
-        told,
-        folder,
-        asked,
-        &segments,
-        &mut beside,
-        failed,
-    );
-    let Beside { watch, tunnels } = beside;
-    let Onlooker { reports, counts } = watch;
-    match run {
-        Ok(ran) => {
-            let found = tell_missing(rt, asked.why, &reports);
-            tell_all(rt, folder, asked, reports, counts, tunnels, ran).and(found)
-        }
-        Err(failure) => {
-            // What was told stands, wherever the run stopped.
-            let _ = print_told(rt, reports);
-            Err(failure)
-        }
-    }
-}
-
-/// Who looks on at a run with these changes, of these segments, for whom asks.
-fn onlooker_of<'n, 'a>(
-    alloc: Global,
-    asked: Asked<'n, 'a>,
-    changes: &'n [TimedChange],
-    segments: &'n SegmentSet,
-) -> Result<Onlooker<'n, 'a>, AllocError> {
-    let reports = Reports::new(
-        alloc,
-        asked.why,
-        changes,
-        segments,
-        asked.tables_at,
-        asked.tables,
-    )?;
-    let counts = if asked.summary {
-        Some(RunCounts::new(alloc))
-    } else {
-        None
-    };
-    Ok(Onlooker { reports, counts })
-}
-
-/// Whoever counts what passes by tunnels, where a whole run is asked for its summary.
-fn tunnels_of(alloc: Global, asked: Asked<'_, '_>) -> Result<Option<TunnelTraffic>, AllocError> {
-    if asked.summary && asked.segments.is_none() {
-        let tunnels = TunnelTraffic::open(alloc)?;
-        Ok(Some(tunnels))
-    } else {
-        Ok(None)
-    }
-}
-
-/// Runs on captures, all segments, or those of a list as a part, and writes nothing where no folder is named. `told` are the
-/// changes, where their text was read before.
-fn run_asked<'a, R: Files + Input + AllocGlobal, T: Watch>(
-    rt: &R,
-    names: Names<'_, 'a>,
-    texts: &Texts,
-    told: Option<&[TimedChange]>,
-    folder: Option<&str>,
-    asked: Asked<'_, 'a>,
-    segments: &SegmentSet,
-    watch: &mut T,
-    failed: &mut FailedOutputs,
-) -> Result<Ran<R::File>, Failure<'a>>
-    requires told { IfSome told (λ t. changes_in texts.now.changes.items ≡ Ok t.now) }
-    requires rising { IfSome told (λ t. EachBehind IsRising [] t.now) }
-{
-    match (folder, asked.segments) {
-        (None, _) => run_unwritten_with(rt, names, texts, told, segments, watch),
-        (Some(folder), Some(list)) => run_part_with(
-            rt, names, texts, told, folder, list, segments, watch, failed,
-        ),
-        (Some(_), None) => {
-            match run_on_files_with(rt, names, texts, told, folder, Scope::Whole, watch, failed) {
-                Ok(done) => Ok(Ran::whole(rt.alloc(), done.cut)),
-                Err(failure) => Err(failure),
-            }
-        }
-    }
-}
-
-/// Says of each name that no event had that none did, but for the last, which is the failure.
-fn tell_missing<'a>(
-    rt: &impl Eprint,
-    names: &[&'a str],
-    reports: &Reports<'_, '_>,
-) -> Result<(), Failure<'a>> {
-    let mut missing = Ok(());
-    for (place, name) in names.iter().enumerate() {
-        if !reports.is_found(place) {
-            if let Err(failure) = &missing {
-                let _ = eprintln!(rt; "{failure}");
-            }
-            missing = Err(Failure::NoEvent(*name));
-        }
-    }
-    missing
-}
-
-/// Prints what a run told and counted. A part leaves its tables at the end and its counts in its folder before, and last what
-/// it was made from.
-fn tell_all<R: Files + AllocGlobal + Print>(
-    rt: &R,
-    folder: Option<&str>,
-    asked: Asked<'_, '_>,
-    reports: Reports<'_, '_>,
-    counts: Option<RunCounts>,
-    tunnels: Option<TunnelTraffic>,
-    ran: Ran<R::File>,
-) -> Result<(), Failure<'static>> {
-    let Ok((told, tables)) = reports.into_texts() else {
-        return Err(Failure::from(AllocError));
-    };
-    let summary = summary_of(rt.alloc(), counts, ran.cut.as_slice())?;
-    let passed = passed_text(rt.alloc(), tunnels)?;
-    let left = match leave_texts(rt, folder, asked, tables.as_slice(), summary.as_slice()) {
-        Ok(()) => ran.finish(),
-        Err(failure) => Err(failure),
-    };
-    left.and(print_text(rt, told.as_slice()))
-        .and(print_text(rt, tables.as_slice()))
-        .and(print_text(rt, summary.as_slice()))
-        .and(print_text(rt, passed.as_slice()))
-}
-
-/// What passed by tunnels, where that is asked for.
-fn passed_text(alloc: Global, tunnels: Option<TunnelTraffic>) -> Result<Vec<u8>, AllocError> {
-    match tunnels {
-        Some(tunnels) => tunnels.text(alloc),
-        None => Ok(Vec::new(alloc)),
-    }
-}
-
-/// Writes the tables and the counts of a part into its folder, where it has one, as far as they are asked for.
-fn leave_texts<R: Files + AllocGlobal>(
-    rt: &R,
-    folder: Option<&str>,
-    asked: Asked<'_, '_>,
-    tables: &[u8],
-    summary: &[u8],
-) -> Result<(), Failure<'static>> {
-    let (Some(folder), Some(_)) = (folder, asked.segments) else {
-        return Ok(());
-    };
-    if asked.tables {
-        leave_text(rt, folder, OutputFile::Tables, tables)?;
-    }
-    if asked.summary {
-        leave_text(rt, folder, OutputFile::Summary, summary)?;
-    }
-    Ok(())
-}
-
-/// What a run counted, where that is asked for.
-fn summary_of(
-    alloc: Global,
-    counts: Option<RunCounts>,
-    cut: &[Tap],
-) -> Result<Vec<u8>, AllocError> {
-    match counts {
-        Some(counts) => counts.into_text(cut),
-        None => Ok(Vec::new(alloc)),
-    }
-}
-
-/// Prints what a run told.
-fn print_told<R: Print>(rt: &R, reports: Reports<'_, '_>) -> Result<(), Failure<'static>> {
-    let Ok((told, tables)) = reports.into_texts() else {
-        return Err(Failure::from(AllocError));
-    };
-    print_text(rt, told.as_slice()).and(print_text(rt, tables.as_slice()))
 }
 
 /// Prints a settings text as one of version 2.

@@ -1,0 +1,258 @@
+//! Runs, with whoever looks on for what is told besides their outputs.
+ghost use Rattle.std.specs.Prelude.{◌≡◌, [], Ok, IfSome};
+ghost use Rattle.overlay_config.specs.Change.{IsRising, changes_in};
+ghost use Rattle.overlay_settings.specs.Rules.{EachBehind};
+
+use dissector::segments_of;
+use overlay_config::TimedChange;
+use program_faults::{Failure, OutputFile};
+use program_files::{FailedOutputs, Names, leave_text, print_text};
+use run_counts::RunCounts;
+use run_reports::{Onlooker, Reports};
+use runs_on_files::{Ran, Scope, Texts, run_on_files_with, run_part_with, run_unwritten_with};
+use segment_set::SegmentSet;
+use std::alloc::{AllocError, Global};
+use std::io::Input;
+use std::rt::Files;
+use stream_run::{Unwatched, Watch};
+use timeline::Tap;
+use tunnel_traffic::{Beside, TunnelTraffic};
+
+/// What is asked for of a run.
+#[derive(Clone, Copy)]
+pub struct Asked<'n, 'a> {
+    /// Why the events of these names came out as they did.
+    pub why: &'n [&'a str],
+    /// The tables at a moment.
+    pub tables_at: Option<u64>,
+    /// The tables at the end.
+    pub tables: bool,
+    /// What was counted.
+    pub summary: bool,
+    /// The list of a part's segments.
+    pub segments: Option<&'a str>,
+}
+
+impl Asked<'_, '_> {
+    /// Whether nothing is told besides the outputs.
+    fn is_nothing(self) -> bool {
+        self.why.is_empty() && self.tables_at.is_none() && !self.tables && !self.summary
+    }
+}
+
+/// Runs on captures, and prints what is asked for besides.
+pub fn run_and_tell<'a, R: Files + Input + AllocGlobal + Print + Eprint>(
+    rt: &R,
+    names: Names<'_, 'a>,
+    folder: Option<&str>,
+    asked: Asked<'_, 'a>,
+    failed: &mut FailedOutputs,
+) -> Result<(), Failure<'a>> {
+    let texts = Texts::read(rt, names)?;
+    let segments = segments_of(asked.segments)?;
+    // Who asks for nothing pays nothing for it.
+    if asked.is_nothing() {
+        return match run_asked(
+            rt,
+            names,
+            &texts,
+            None,
+            folder,
+            asked,
+            &segments,
+            &mut Unwatched,
+            failed,
+        ) {
+            Ok(ran) => ran.finish(),
+            Err(failure) => Err(failure),
+        };
+    }
+    let changes = texts.changes_read(rt.alloc())?;
+    let told = match &changes {
+        Some(changes) => Some(changes.as_slice()),
+        None => None,
+    };
+    let mut beside = Beside {
+        watch: onlooker_of(rt.alloc(), asked, told.unwrap_or(&[]), &segments)?,
+        tunnels: tunnels_of(rt.alloc(), asked)?,
+    };
+    let run = run_asked(
+        rt,
+        names,
+        &texts,
+        told,
+        folder,
+        asked,
+        &segments,
+        &mut beside,
+        failed,
+    );
+    let Beside { watch, tunnels } = beside;
+    let Onlooker { reports, counts } = watch;
+    match run {
+        Ok(ran) => {
+            let found = tell_missing(rt, asked.why, &reports);
+            tell_all(rt, folder, asked, reports, counts, tunnels, ran).and(found)
+        }
+        Err(failure) => {
+            // What was told stands, wherever the run stopped.
+            let _ = print_told(rt, reports);
+            Err(failure)
+        }
+    }
+}
+
+/// Who looks on at a run with these changes, of these segments, for whom asks.
+fn onlooker_of<'n, 'a>(
+    alloc: Global,
+    asked: Asked<'n, 'a>,
+    changes: &'n [TimedChange],
+    segments: &'n SegmentSet,
+) -> Result<Onlooker<'n, 'a>, AllocError> {
+    let reports = Reports::new(
+        alloc,
+        asked.why,
+        changes,
+        segments,
+        asked.tables_at,
+        asked.tables,
+    )?;
+    let counts = if asked.summary {
+        Some(RunCounts::new(alloc))
+    } else {
+        None
+    };
+    Ok(Onlooker { reports, counts })
+}
+
+/// Whoever counts what passes by tunnels, where a whole run is asked for its summary.
+fn tunnels_of(alloc: Global, asked: Asked<'_, '_>) -> Result<Option<TunnelTraffic>, AllocError> {
+    if asked.summary && asked.segments.is_none() {
+        let tunnels = TunnelTraffic::open(alloc)?;
+        Ok(Some(tunnels))
+    } else {
+        Ok(None)
+    }
+}
+
+/// Runs on captures, all segments, or those of a list as a part, and writes nothing where no folder is named. `told` are the
+/// changes, where their text was read before.
+fn run_asked<'a, R: Files + Input + AllocGlobal, T: Watch>(
+    rt: &R,
+    names: Names<'_, 'a>,
+    texts: &Texts,
+    told: Option<&[TimedChange]>,
+    folder: Option<&str>,
+    asked: Asked<'_, 'a>,
+    segments: &SegmentSet,
+    watch: &mut T,
+    failed: &mut FailedOutputs,
+) -> Result<Ran<R::File>, Failure<'a>>
+    requires told { IfSome told (λ t. changes_in texts.now.changes.items ≡ Ok t.now) }
+    requires rising { IfSome told (λ t. EachBehind IsRising [] t.now) }
+{
+    match (folder, asked.segments) {
+        (None, _) => run_unwritten_with(rt, names, texts, told, segments, watch),
+        (Some(folder), Some(list)) => run_part_with(
+            rt, names, texts, told, folder, list, segments, watch, failed,
+        ),
+        (Some(_), None) => {
+            match run_on_files_with(rt, names, texts, told, folder, Scope::Whole, watch, failed) {
+                Ok(done) => Ok(Ran::whole(rt.alloc(), done.cut)),
+                Err(failure) => Err(failure),
+            }
+        }
+    }
+}
+
+/// Says of each name that no event had that none did, but for the last, which is the failure.
+fn tell_missing<'a>(
+    rt: &impl Eprint,
+    names: &[&'a str],
+    reports: &Reports<'_, '_>,
+) -> Result<(), Failure<'a>> {
+    let mut missing = Ok(());
+    for (place, name) in names.iter().enumerate() {
+        if !reports.is_found(place) {
+            if let Err(failure) = &missing {
+                let _ = eprintln!(rt; "{failure}");
+            }
+            missing = Err(Failure::NoEvent(*name));
+        }
+    }
+    missing
+}
+
+/// Prints what a run told and counted. A part leaves its tables at the end and its counts in its folder before, and last what
+/// it was made from.
+fn tell_all<R: Files + AllocGlobal + Print>(
+    rt: &R,
+    folder: Option<&str>,
+    asked: Asked<'_, '_>,
+    reports: Reports<'_, '_>,
+    counts: Option<RunCounts>,
+    tunnels: Option<TunnelTraffic>,
+    ran: Ran<R::File>,
+) -> Result<(), Failure<'static>> {
+    let Ok((told, tables)) = reports.into_texts() else {
+        return Err(Failure::from(AllocError));
+    };
+    let summary = summary_of(rt.alloc(), counts, ran.cut.as_slice())?;
+    let passed = passed_text(rt.alloc(), tunnels)?;
+    let left = match leave_texts(rt, folder, asked, tables.as_slice(), summary.as_slice()) {
+        Ok(()) => ran.finish(),
+        Err(failure) => Err(failure),
+    };
+    left.and(print_text(rt, told.as_slice()))
+        .and(print_text(rt, tables.as_slice()))
+        .and(print_text(rt, summary.as_slice()))
+        .and(print_text(rt, passed.as_slice()))
+}
+
+/// What passed by tunnels, where that is asked for.
+fn passed_text(alloc: Global, tunnels: Option<TunnelTraffic>) -> Result<Vec<u8>, AllocError> {
+    match tunnels {
+        Some(tunnels) => tunnels.text(alloc),
+        None => Ok(Vec::new(alloc)),
+    }
+}
+
+/// Writes the tables and the counts of a part into its folder, where it has one, as far as they are asked for.
+fn leave_texts<R: Files + AllocGlobal>(
+    rt: &R,
+    folder: Option<&str>,
+    asked: Asked<'_, '_>,
+    tables: &[u8],
+    summary: &[u8],
+) -> Result<(), Failure<'static>> {
+    let (Some(folder), Some(_)) = (folder, asked.segments) else {
+        return Ok(());
+    };
+    if asked.tables {
+        leave_text(rt, folder, OutputFile::Tables, tables)?;
+    }
+    if asked.summary {
+        leave_text(rt, folder, OutputFile::Summary, summary)?;
+    }
+    Ok(())
+}
+
+/// What a run counted, where that is asked for.
+fn summary_of(
+    alloc: Global,
+    counts: Option<RunCounts>,
+    cut: &[Tap],
+) -> Result<Vec<u8>, AllocError> {
+    match counts {
+        Some(counts) => counts.into_text(cut),
+        None => Ok(Vec::new(alloc)),
+    }
+}
+
+/// Prints what a run told.
+fn print_told<R: Print>(rt: &R, reports: Reports<'_, '_>) -> Result<(), Failure<'static>> {
+    let Ok((told, tables)) = reports.into_texts() else {
+        return Err(Failure::from(AllocError));
+    };
+    print_text(rt, told.as_slice()).and(print_text(rt, tables.as_slice()))
+}

@@ -1,40 +1,62 @@
 //! How a run over streams begins: with the headers of its outputs, and the first record of each capture.
-ghost use Rattle.std.specs.Prelude.{◌≡◌, ◌≤◌, ◌<◌, ◌+◌, ◌^◌, ℕ, List, Option, length, IfOk, OnOk};
+ghost use Rattle.std.specs.Prelude.{◌≡◌, ◌≤◌, ◌<◌, ◌+◌, ◌++◌, ◌^◌, ℕ, List, [], length, slice_index_or, slice_set, IfOk, OnOk};
 ghost use Rattle.timeline.specs.declared.source.Tap.{Tap as ATap};
 ghost use Rattle.endpoint_core.specs.Step.{State};
+ghost use Rattle.pcap_io.specs.Written.{written_header};
+ghost use Rattle.capture_run.specs.Outputs.{Outputs as Texts};
 ghost use Rattle.capture_run.specs.Writing.{empty_outputs};
 ghost use Rattle.stream_run.specs.Begun.{AreAtFirst, OnlyReads, first_turns};
 ghost use Rattle.stream_run.specs.Fetched.{IsOpen};
 ghost use Rattle.stream_run.specs.Over.{BeginsIn};
 ghost use Rattle.stream_run.specs.Read.{ReadsWith};
-ghost use Rattle.stream_run.specs.Stage.{Drains, Lead, StandAt, drains, no_texts};
+ghost use Rattle.stream_run.specs.Stage.{Drains, Lead, StandAt, no_texts};
 ghost use Rattle.stream_run.specs.Steps.{AreReady, AreTimely, IsAt, run_at, source_at};
 
+use crate::captures::Captures;
 use crate::fault::{StreamFault, Target, fault_at};
 use crate::fetch::{fetch_at, moment_of, tap_at};
+use crate::outputs::Outputs;
 use crate::turn::{Turn, Upcoming};
 use overlay_config::TimedChange;
-use pcap_stream::{Input, Output, Sink, Source};
+use pcap_stream::{Input, Output};
 use std::alloc::{AllocError, Global};
 
-/// Writes the headers of the ports' captures, rising, and then that of the underlay's.
-pub fn begin_all<W: Output>(
-    port_sinks: &mut [Sink<W>],
-    underlay_sink: &mut Sink<W>,
-) -> Result<(), Target>
-    requires { length port_sinks.old ≤ 16 }
-    ensures { (start : Drains) (written : Option (List ℕ)) (failures : ℕ) → StandAt start (drains port_sinks.old underlay_sink.old written failures) (no_texts (length port_sinks.old))
-        → Lead start (drains port_sinks.new underlay_sink.new written failures) (no_texts (length port_sinks.old)) (empty_outputs (length port_sinks.old)) result }
+/// Writes the header of the capture of the port with this index, from 0.
+fn begin_port<W: Output>(outputs: &mut Outputs<W>, index: usize) -> Result<(), Target>
+    requires there { index < length outputs.old.ports }
+    requires few { index < 16 }
+    ensures begun { (start : Drains) (o : Texts) → StandAt start outputs.old o
+        → Lead start outputs.new o (record o { ports = slice_set o.ports index (slice_index_or o.ports index [] ++ written_header) }) result }
+    ensures many { length outputs.new.ports ≡ length outputs.old.ports }
 {
-    for i in 0..port_sinks.len() {
-        if let Err(_) = port_sinks[i].begin() {
-            return Err(Target::Port(i as u8 + 1));
+    if let Err(_) = outputs.ports[index].begin() {
+        return Err(Target::Port(index as u8 + 1));
+    }
+    Ok(())
+}
+
+/// Writes the header of the underlay's capture.
+fn begin_underlay<W: Output>(outputs: &mut Outputs<W>) -> Result<(), Target>
+    ensures { (start : Drains) (o : Texts) → StandAt start outputs.old o → Lead start outputs.new o (record o { underlay = o.underlay ++ written_header }) result }
+{
+    if let Err(_) = outputs.underlay.begin() {
+        return Err(Target::Underlay);
+    }
+    Ok(())
+}
+
+/// Writes the headers of the ports' captures, rising, and then that of the underlay's.
+pub fn begin_all<W: Output>(outputs: &mut Outputs<W>) -> Result<(), Target>
+    requires { length outputs.old.ports ≤ 16 }
+    ensures { (start : Drains) → StandAt start outputs.old (no_texts (length outputs.old.ports))
+        → Lead start outputs.new (no_texts (length outputs.old.ports)) (empty_outputs (length outputs.old.ports)) result }
+{
+    for index in 0..outputs.ports.len() {
+        if let Err(target) = begin_port(outputs, index) {
+            return Err(target);
         }
     }
-    match underlay_sink.begin() {
-        Ok(()) => Ok(()),
-        Err(_) => Err(Target::Underlay),
-    }
+    begin_underlay(outputs)
 }
 
 /// Where the changes and so many captures stand before the first fetch.
@@ -59,22 +81,22 @@ pub fn first_turns(
 /// Fetches the first record of each port's capture, rising, and then of the underlay's.
 pub fn fetch_all<R: Input>(
     changes: &[TimedChange],
-    ports: &mut [Source<R>],
-    underlay: &mut Source<R>,
+    captures: &mut Captures<R>,
     turns: &mut [Turn],
 ) -> Result<(), StreamFault>
-    requires few { length ports.old ≤ 16 }
-    requires size { length turns.old ≡ length ports.old + 2 }
-    requires open { (place : ATap) (index : ℕ) → IsAt (length ports.old) index place → IsOpen (source_at ports.old underlay.old place).standing }
-    ensures ready { (state : State) (d : Drains) → state.moment ≡ 0 → AreReady changes.now (run_at ports.old underlay.old turns.old state 0 d)
-        → OnOk result (AreReady changes.now (run_at ports.new underlay.new turns.new state 0 d)) }
-    ensures told { (texts : List (List ℕ)) (text : List ℕ) → AreAtFirst texts text ports.old underlay.old → BeginsIn texts text turns.new ports.new underlay.new result }
-    ensures reads { ReadsWith ports.old underlay.old ports.new underlay.new result }
+    requires few { length captures.old.ports.items ≤ 16 }
+    requires size { length turns.old ≡ length captures.old.ports.items + 2 }
+    requires open { (place : ATap) (index : ℕ) → IsAt (length captures.old.ports.items) index place → IsOpen (source_at captures.old.ports.items captures.old.underlay place).standing }
+    ensures ready { (state : State) (d : Drains) → state.moment ≡ 0 → AreReady changes.now (run_at captures.old.ports.items captures.old.underlay turns.old state 0 d)
+        → OnOk result (AreReady changes.now (run_at captures.new.ports.items captures.new.underlay turns.new state 0 d)) }
+    ensures told { (texts : List (List ℕ)) (text : List ℕ) → AreAtFirst texts text captures.old.ports.items captures.old.underlay → BeginsIn texts text turns.new captures.new.ports.items captures.new.underlay result }
+    ensures many { length captures.new.ports.items ≡ length captures.old.ports.items }
+    ensures reads { ReadsWith captures.old.ports.items captures.old.underlay captures.new.ports.items captures.new.underlay result }
     ensures only_reads { OnlyReads result }
 {
     for index in 1..turns.len() {
         let mut next = None;
-        if let Err(fault) = fetch_at(changes, ports, underlay, index, 0, 0, &mut next) {
+        if let Err(fault) = fetch_at(changes, captures, index, 0, 0, &mut next) {
             return Err(fault_at(tap_at(turns.len() - 2, index), 1, fault));
         }
         turns[index] = Turn {

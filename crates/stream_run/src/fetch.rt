@@ -4,6 +4,7 @@ ghost use Rattle.timeline.specs.declared.source.Tap.{Tap as ATap};
 ghost use Rattle.stream_run.specs.Fetched.{IsFetch, IsOpen, fetched};
 ghost use Rattle.stream_run.specs.Steps.{FetchesFrom, IsAt, moment_at, source_at};
 
+use crate::captures::Captures;
 use overlay_config::TimedChange;
 use pcap_stream::{Input, Source, SourceFault};
 use timeline::Tap;
@@ -43,26 +44,26 @@ pub fn moment_of(changes: &[TimedChange], index: u64) -> Option<u64>
 /// changes, the ports, the underlay. The changes never fail.
 pub fn fetch_at<R: Input>(
     changes: &[TimedChange],
-    ports: &mut [Source<R>],
-    underlay: &mut Source<R>,
+    captures: &mut Captures<R>,
     index: usize,
     done: u64,
     latest: u64,
     next: &mut Option<u64>,
 ) -> Result<(), SourceFault>
-    requires index { index ≤ length ports.old + 1 }
-    requires few { length ports.old ≤ 16 }
-    requires open { (place : ATap) → IsAt (length ports.old) index place → IsOpen (source_at ports.old underlay.old place).standing }
-    ensures { FetchesFrom changes.now index done latest ports.old underlay.old ports.new underlay.new next.new result }
+    requires index { index ≤ length captures.old.ports.items + 1 }
+    requires few { length captures.old.ports.items ≤ 16 }
+    requires open { (place : ATap) → IsAt (length captures.old.ports.items) index place → IsOpen (source_at captures.old.ports.items captures.old.underlay place).standing }
+    ensures fetched { FetchesFrom changes.now index done latest captures.old.ports.items captures.old.underlay captures.new.ports.items captures.new.underlay next.new result }
+    ensures many { length captures.new.ports.items ≡ length captures.old.ports.items }
 {
     if index == 0 {
         *next = moment_of(changes, done);
         return Ok(());
     }
-    if index <= ports.len() {
-        return fetch(&mut ports[index - 1], latest, next);
+    if index <= captures.ports.len() {
+        return fetch(&mut captures.ports[index - 1], latest, next);
     }
-    fetch(underlay, latest, next)
+    fetch(&mut captures.underlay, latest, next)
 }
 
 /// Where the source with this index stands, behind the changes: one of so many ports, or the underlay.

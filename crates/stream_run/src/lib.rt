@@ -1,11 +1,12 @@
 //! Runs over streams: captures of any size, in the memory of one record each.
 //!
-//! Use first: [`run_streams`] is a whole run. It reads both texts, opens the captures, `pcap_stream` sources from which nothing
-//! was read yet, and writes the headers. Then it takes the records and the changes in order of moment through an endpoint, and
+//! Use first: [`run_streams`] is a whole run, of [`Captures`] into [`Outputs`]. It reads both texts, opens the captures,
+//! `pcap_stream` sources from which nothing was read yet, and writes the headers. Then it takes the records and the changes in order of moment through an endpoint, and
 //! writes what comes of each event before it fetches the next record; the lines of cut captures come last. [`run_segments`] is
 //! a part of a run: of what comes to some segments, a [`SegmentSet`](segment_set::SegmentSet), with the numbers and the
-//! decisions of the whole. [`run_read`] is the same where the texts were read before. A [`Watch`] looks on; with [`Unwatched`]
-//! nobody does. The parts of a run are [`open_capture`], [`fetch_at`], [`put_events`], [`put_line`] and each source's [`Turn`].
+//! decisions of the whole. [`run_read`] is the same where the texts were read before, as [`ReadTexts`]. A [`Watch`] looks on;
+//! with [`Unwatched`] nobody does. The parts of a run are [`open_capture`], [`fetch_at`], [`put_events`], [`put_line`], each
+//! source's [`Turn`], and the [`Taker`] that takes events, as far as a [`Part`] of the run tells them.
 //!
 //! Specs to read, in order: `specs/Over` (by the octets of the captures), `specs/Left` (by one list of events), `specs/Stage`,
 //! `specs/Amidst`, `specs/Reached`, `specs/Watched`; the others serve the contracts of its parts.
@@ -24,12 +25,15 @@
 #![tactic(auto)]
 
 mod begin;
+mod captures;
 mod cuts;
 mod fault;
 mod fetch;
 mod hand_on;
 mod opening;
 mod order;
+mod outputs;
+mod part;
 mod put;
 mod run;
 mod step;
@@ -37,11 +41,14 @@ mod take;
 mod turn;
 mod watch;
 
+pub use captures::Captures;
 pub use fault::{StreamFault, Target};
 pub use fetch::fetch_at;
 pub use opening::open_capture;
+pub use outputs::Outputs;
+pub use part::{Part, Taker};
 pub use put::put_line;
-pub use run::{run_read, run_segments, run_streams};
+pub use run::{ReadTexts, run_read, run_segments, run_streams};
 pub use step::put_events;
 pub use turn::{Turn, Upcoming};
 pub use watch::{Unwatched, Watch};

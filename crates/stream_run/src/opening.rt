@@ -10,6 +10,7 @@ ghost use Rattle.stream_run.specs.Fetched.{IsOpen, ReadsOne};
 ghost use Rattle.stream_run.specs.Read.{ReadsWith};
 ghost use Rattle.stream_run.specs.Steps.{IsAt, source_at};
 
+use crate::captures::Captures;
 use crate::fault::{StreamFault, fault_at};
 use pcap_stream::{Input, Source};
 use timeline::Tap;
@@ -28,36 +29,31 @@ pub fn open_capture<R: Input>(source: &mut Source<R>, tap: Tap) -> Result<(), St
 }
 
 /// Opens the source with this index, from 1: the ports, the underlay.
-fn open_at<R: Input>(
-    ports: &mut [Source<R>],
-    underlay: &mut Source<R>,
-    index: usize,
-) -> Result<(), StreamFault>
+fn open_at<R: Input>(captures: &mut Captures<R>, index: usize) -> Result<(), StreamFault>
     requires first { 1 ≤ index }
-    requires index { index ≤ length ports.old + 1 }
-    requires few { length ports.old ≤ 16 }
-    requires new { (place : ATap) → IsAt (length ports.old) index place → IsUnread (source_at ports.old underlay.old place) }
-    ensures { OpensAt index ports.old underlay.old ports.new underlay.new result }
+    requires index { index ≤ length captures.old.ports.items + 1 }
+    requires few { length captures.old.ports.items ≤ 16 }
+    requires new { (place : ATap) → IsAt (length captures.old.ports.items) index place → IsUnread (source_at captures.old.ports.items captures.old.underlay place) }
+    ensures opened { OpensAt index captures.old.ports.items captures.old.underlay captures.new.ports.items captures.new.underlay result }
+    ensures many { length captures.new.ports.items ≡ length captures.old.ports.items }
 {
-    if index <= ports.len() {
-        return open_capture(&mut ports[index - 1], Tap::Port(index as u8));
+    if index <= captures.ports.len() {
+        return open_capture(&mut captures.ports[index - 1], Tap::Port(index as u8));
     }
-    open_capture(underlay, Tap::Underlay)
+    open_capture(&mut captures.underlay, Tap::Underlay)
 }
 
 /// Opens the captures of the ports, rising, and then that of the underlay.
-pub fn open_all<R: Input>(
-    ports: &mut [Source<R>],
-    underlay: &mut Source<R>,
-) -> Result<(), StreamFault>
-    requires few { length ports.old ≤ 16 }
-    requires new_ports { All IsUnread ports.old }
-    requires new_underlay { IsUnread underlay.old }
-    ensures opened { OpensInTurn ports.old underlay.old ports.new underlay.new result }
-    ensures reads { ReadsWith ports.old underlay.old ports.new underlay.new result }
+pub fn open_all<R: Input>(captures: &mut Captures<R>) -> Result<(), StreamFault>
+    requires few { length captures.old.ports.items ≤ 16 }
+    requires new_ports { All IsUnread captures.old.ports.items }
+    requires new_underlay { IsUnread captures.old.underlay }
+    ensures opened { OpensInTurn captures.old.ports.items captures.old.underlay captures.new.ports.items captures.new.underlay result }
+    ensures many { length captures.new.ports.items ≡ length captures.old.ports.items }
+    ensures reads { ReadsWith captures.old.ports.items captures.old.underlay captures.new.ports.items captures.new.underlay result }
 {
-    for index in 1..ports.len() + 2 {
-        if let Err(fault) = open_at(ports, underlay, index) {
+    for index in 1..captures.ports.len() + 2 {
+        if let Err(fault) = open_at(captures, index) {
             return Err(fault);
         }
     }

@@ -12,14 +12,16 @@ ghost use Rattle.stream_run.specs.Left.{Answers, AnswersAmong, CanBegin, IsOpene
 ghost use Rattle.stream_run.specs.Over.{IsRunOver, IsRunOverAmong, IsWholeRun, Tells};
 ghost use Rattle.stream_run.specs.Reached.{IsReachedOver, IsReachedOverAmong};
 ghost use Rattle.stream_run.specs.Read.{ReadsWith};
-ghost use Rattle.stream_run.specs.Stage.{drains};
 ghost use Rattle.stream_run.specs.Steps.{AreTimely};
 ghost use Rattle.stream_run.specs.Watched.{IsShown, IsShownAmong, IsWatchedOver, IsWatchedOverAmong};
 
 use crate::begin::{begin_all, fetch_all, first_turns};
+use crate::captures::Captures;
 use crate::cuts::put_cuts_among;
 use crate::fault::StreamFault;
 use crate::opening::open_all;
+use crate::outputs::Outputs;
+use crate::part::{Part, Taker};
 use crate::step::put_events;
 use crate::turn::Turn;
 use crate::watch::Watch;
@@ -27,7 +29,7 @@ use capture_run::{RunFault, of_changes, of_settings};
 use decision_lines::Desk;
 use endpoint_core::Endpoint;
 use overlay_config::{Settings, TimedChange, changes_of, settings_of};
-use pcap_stream::{Input, Output, Sink, Source};
+use pcap_stream::{Input, Output};
 use segment_set::SegmentSet;
 use std::alloc::Global;
 
@@ -49,52 +51,35 @@ pub fn run_streams<R: Input, W: Output, T: Watch>(
     alloc: Global,
     settings: &[u8],
     changes: &[u8],
-    ports: &mut [Source<R>],
-    underlay: &mut Source<R>,
-    port_sinks: &mut [Sink<W>],
-    underlay_sink: &mut Sink<W>,
-    decisions: &mut W,
+    captures: &mut Captures<R>,
+    outputs: &mut Outputs<W>,
     watch: &mut T,
 ) -> Result<(), StreamFault>
-    requires sinks { length port_sinks.old ≡ length ports.old }
-    requires new_ports { All IsUnread ports.old }
-    requires new_underlay { IsUnread underlay.old }
+    requires sinks { length outputs.old.ports ≡ length captures.old.ports.items }
+    requires new_ports { All IsUnread captures.old.ports.items }
+    requires new_underlay { IsUnread captures.old.underlay }
     ensures run { Answers (settings_in settings.now) (changes_in changes.now)
-        (ends ports.old underlay.old (drains port_sinks.old underlay_sink.old (W.written decisions.old) (W.failures decisions.old)))
-        (ends ports.new underlay.new (drains port_sinks.new underlay_sink.new (W.written decisions.new) (W.failures decisions.new))) result }
-    ensures over { (texts : List (AVec ℕ AGlobal)) (text : List ℕ) → Tells ports.old underlay.old texts text
-        → IsRunOver (settings_in settings.now) (changes_in changes.now) texts text
-        (drains port_sinks.old underlay_sink.old (W.written decisions.old) (W.failures decisions.old))
-        (drains port_sinks.new underlay_sink.new (W.written decisions.new) (W.failures decisions.new)) result }
-    ensures whole { (texts : List (AVec ℕ AGlobal)) (text : List ℕ) → Tells ports.old underlay.old texts text
-        → IsWholeRun (settings_in settings.now) (changes_in changes.now) texts text
-        (drains port_sinks.old underlay_sink.old (W.written decisions.old) (W.failures decisions.old))
-        (drains port_sinks.new underlay_sink.new (W.written decisions.new) (W.failures decisions.new)) result }
-    ensures reached { (texts : List (AVec ℕ AGlobal)) (text : List ℕ) → Tells ports.old underlay.old texts text
-        → IsReachedOver (settings_in settings.now) (changes_in changes.now) texts text
-        (drains port_sinks.old underlay_sink.old (W.written decisions.old) (W.failures decisions.old))
-        (drains port_sinks.new underlay_sink.new (W.written decisions.new) (W.failures decisions.new)) ports.new underlay.new result }
-    ensures shown { IsShown T.sees T.ends (settings_in settings.now) (changes_in changes.now) ports.old
-        (drains port_sinks.old underlay_sink.old (W.written decisions.old) (W.failures decisions.old))
-        (drains port_sinks.new underlay_sink.new (W.written decisions.new) (W.failures decisions.new)) watch.old watch.new result }
-    ensures watched { (texts : List (AVec ℕ AGlobal)) (text : List ℕ) → Tells ports.old underlay.old texts text
-        → IsWatchedOver T.sees T.ends (settings_in settings.now) (changes_in changes.now) texts text
-        (drains port_sinks.old underlay_sink.old (W.written decisions.old) (W.failures decisions.old))
-        (drains port_sinks.new underlay_sink.new (W.written decisions.new) (W.failures decisions.new)) watch.old watch.new result }
-    ensures reads { ReadsWith ports.old underlay.old ports.new underlay.new result }
-    ensures writes { WritesWith
-        (drains port_sinks.old underlay_sink.old (W.written decisions.old) (W.failures decisions.old))
-        (drains port_sinks.new underlay_sink.new (W.written decisions.new) (W.failures decisions.new)) result }
+        (ends captures.old.ports.items captures.old.underlay outputs.old)
+        (ends captures.new.ports.items captures.new.underlay outputs.new) result }
+    ensures over { (texts : List (AVec ℕ AGlobal)) (text : List ℕ) → Tells captures.old.ports.items captures.old.underlay texts text
+        → IsRunOver (settings_in settings.now) (changes_in changes.now) texts text outputs.old outputs.new result }
+    ensures whole { (texts : List (AVec ℕ AGlobal)) (text : List ℕ) → Tells captures.old.ports.items captures.old.underlay texts text
+        → IsWholeRun (settings_in settings.now) (changes_in changes.now) texts text outputs.old outputs.new result }
+    ensures reached { (texts : List (AVec ℕ AGlobal)) (text : List ℕ) → Tells captures.old.ports.items captures.old.underlay texts text
+        → IsReachedOver (settings_in settings.now) (changes_in changes.now) texts text outputs.old outputs.new captures.new.ports.items captures.new.underlay result }
+    ensures shown { IsShown T.sees T.ends (settings_in settings.now) (changes_in changes.now) captures.old.ports.items outputs.old outputs.new watch.old watch.new result }
+    ensures watched { (texts : List (AVec ℕ AGlobal)) (text : List ℕ) → Tells captures.old.ports.items captures.old.underlay texts text
+        → IsWatchedOver T.sees T.ends (settings_in settings.now) (changes_in changes.now) texts text outputs.old outputs.new watch.old watch.new result }
+    ensures many { length captures.new.ports.items ≡ length captures.old.ports.items }
+    ensures reads { ReadsWith captures.old.ports.items captures.old.underlay captures.new.ports.items captures.new.underlay result }
+    ensures writes { WritesWith outputs.old outputs.new result }
 {
     run_segments(
         alloc,
         settings,
         changes,
-        ports,
-        underlay,
-        port_sinks,
-        underlay_sink,
-        decisions,
+        captures,
+        outputs,
         &SegmentSet::all(),
         watch,
     )
@@ -110,39 +95,27 @@ pub fn run_segments<R: Input, W: Output, T: Watch>(
     alloc: Global,
     settings: &[u8],
     changes: &[u8],
-    ports: &mut [Source<R>],
-    underlay: &mut Source<R>,
-    port_sinks: &mut [Sink<W>],
-    underlay_sink: &mut Sink<W>,
-    decisions: &mut W,
+    captures: &mut Captures<R>,
+    outputs: &mut Outputs<W>,
     segments: &SegmentSet,
     watch: &mut T,
 ) -> Result<(), StreamFault>
-    requires sinks { length port_sinks.old ≡ length ports.old }
-    requires new_ports { All IsUnread ports.old }
-    requires new_underlay { IsUnread underlay.old }
+    requires sinks { length outputs.old.ports ≡ length captures.old.ports.items }
+    requires new_ports { All IsUnread captures.old.ports.items }
+    requires new_underlay { IsUnread captures.old.underlay }
     ensures run { AnswersAmong segments.now (settings_in settings.now) (changes_in changes.now)
-        (ends ports.old underlay.old (drains port_sinks.old underlay_sink.old (W.written decisions.old) (W.failures decisions.old)))
-        (ends ports.new underlay.new (drains port_sinks.new underlay_sink.new (W.written decisions.new) (W.failures decisions.new))) result }
-    ensures over { (texts : List (AVec ℕ AGlobal)) (text : List ℕ) → Tells ports.old underlay.old texts text
-        → IsRunOverAmong segments.now (settings_in settings.now) (changes_in changes.now) texts text
-        (drains port_sinks.old underlay_sink.old (W.written decisions.old) (W.failures decisions.old))
-        (drains port_sinks.new underlay_sink.new (W.written decisions.new) (W.failures decisions.new)) result }
-    ensures reached { (texts : List (AVec ℕ AGlobal)) (text : List ℕ) → Tells ports.old underlay.old texts text
-        → IsReachedOverAmong segments.now (settings_in settings.now) (changes_in changes.now) texts text
-        (drains port_sinks.old underlay_sink.old (W.written decisions.old) (W.failures decisions.old))
-        (drains port_sinks.new underlay_sink.new (W.written decisions.new) (W.failures decisions.new)) ports.new underlay.new result }
-    ensures shown { IsShownAmong segments.now T.sees T.ends (settings_in settings.now) (changes_in changes.now) ports.old
-        (drains port_sinks.old underlay_sink.old (W.written decisions.old) (W.failures decisions.old))
-        (drains port_sinks.new underlay_sink.new (W.written decisions.new) (W.failures decisions.new)) watch.old watch.new result }
-    ensures watched { (texts : List (AVec ℕ AGlobal)) (text : List ℕ) → Tells ports.old underlay.old texts text
-        → IsWatchedOverAmong segments.now T.sees T.ends (settings_in settings.now) (changes_in changes.now) texts text
-        (drains port_sinks.old underlay_sink.old (W.written decisions.old) (W.failures decisions.old))
-        (drains port_sinks.new underlay_sink.new (W.written decisions.new) (W.failures decisions.new)) watch.old watch.new result }
-    ensures reads { ReadsWith ports.old underlay.old ports.new underlay.new result }
-    ensures writes { WritesWith
-        (drains port_sinks.old underlay_sink.old (W.written decisions.old) (W.failures decisions.old))
-        (drains port_sinks.new underlay_sink.new (W.written decisions.new) (W.failures decisions.new)) result }
+        (ends captures.old.ports.items captures.old.underlay outputs.old)
+        (ends captures.new.ports.items captures.new.underlay outputs.new) result }
+    ensures over { (texts : List (AVec ℕ AGlobal)) (text : List ℕ) → Tells captures.old.ports.items captures.old.underlay texts text
+        → IsRunOverAmong segments.now (settings_in settings.now) (changes_in changes.now) texts text outputs.old outputs.new result }
+    ensures reached { (texts : List (AVec ℕ AGlobal)) (text : List ℕ) → Tells captures.old.ports.items captures.old.underlay texts text
+        → IsReachedOverAmong segments.now (settings_in settings.now) (changes_in changes.now) texts text outputs.old outputs.new captures.new.ports.items captures.new.underlay result }
+    ensures shown { IsShownAmong segments.now T.sees T.ends (settings_in settings.now) (changes_in changes.now) captures.old.ports.items outputs.old outputs.new watch.old watch.new result }
+    ensures watched { (texts : List (AVec ℕ AGlobal)) (text : List ℕ) → Tells captures.old.ports.items captures.old.underlay texts text
+        → IsWatchedOverAmong segments.now T.sees T.ends (settings_in settings.now) (changes_in changes.now) texts text outputs.old outputs.new watch.old watch.new result }
+    ensures many { length captures.new.ports.items ≡ length captures.old.ports.items }
+    ensures reads { ReadsWith captures.old.ports.items captures.old.underlay captures.new.ports.items captures.new.underlay result }
+    ensures writes { WritesWith outputs.old outputs.new result }
 {
     let read = match settings_of(alloc, settings) {
         Ok(read) => read,
@@ -152,185 +125,142 @@ pub fn run_segments<R: Input, W: Output, T: Watch>(
         Ok(told) => told,
         Err(fault) => return Err(StreamFault::Run(of_changes(fault))),
     };
-    run_read(
-        alloc,
-        settings,
-        changes,
-        read,
-        told.as_slice(),
-        ports,
-        underlay,
-        port_sinks,
-        underlay_sink,
-        decisions,
-        segments,
-        watch,
-    )
+    let texts = ReadTexts {
+        settings_text: settings,
+        changes_text: changes,
+        settings: read,
+        changes: told.as_slice(),
+    };
+    run_read(alloc, texts, captures, outputs, segments, watch)
 }
 
-/// Runs what [`run_segments`] runs, where the texts were read before: `read` are the settings that the first one means, and
-/// `told` the changes that the second one means. No text is read here.
+/// The texts of a run's settings and of its changes, and what they mean.
+#[derive(Drop)]
+pub struct ReadTexts<'a> {
+    pub settings_text: &'a [u8],
+    pub changes_text: &'a [u8],
+    pub settings: Settings,
+    pub changes: &'a [TimedChange],
+}
+
+/// Runs what [`run_segments`] runs, where the texts were read before. No text is read here.
 pub fn run_read<R: Input, W: Output, T: Watch>(
     alloc: Global,
-    settings: &[u8],
-    changes: &[u8],
-    read: Settings,
-    told: &[TimedChange],
-    ports: &mut [Source<R>],
-    underlay: &mut Source<R>,
-    port_sinks: &mut [Sink<W>],
-    underlay_sink: &mut Sink<W>,
-    decisions: &mut W,
+    read: ReadTexts,
+    captures: &mut Captures<R>,
+    outputs: &mut Outputs<W>,
     segments: &SegmentSet,
     watch: &mut T,
 ) -> Result<(), StreamFault>
-    requires read { settings_in settings.now ≡ Ok read }
-    requires told { changes_in changes.now ≡ Ok told.now }
-    requires rising { EachBehind IsRising [] told.now }
-    requires sinks { length port_sinks.old ≡ length ports.old }
-    requires new_ports { All IsUnread ports.old }
-    requires new_underlay { IsUnread underlay.old }
-    ensures run { AnswersAmong segments.now (settings_in settings.now) (changes_in changes.now)
-        (ends ports.old underlay.old (drains port_sinks.old underlay_sink.old (W.written decisions.old) (W.failures decisions.old)))
-        (ends ports.new underlay.new (drains port_sinks.new underlay_sink.new (W.written decisions.new) (W.failures decisions.new))) result }
-    ensures over { (texts : List (AVec ℕ AGlobal)) (text : List ℕ) → Tells ports.old underlay.old texts text
-        → IsRunOverAmong segments.now (settings_in settings.now) (changes_in changes.now) texts text
-        (drains port_sinks.old underlay_sink.old (W.written decisions.old) (W.failures decisions.old))
-        (drains port_sinks.new underlay_sink.new (W.written decisions.new) (W.failures decisions.new)) result }
-    ensures reached { (texts : List (AVec ℕ AGlobal)) (text : List ℕ) → Tells ports.old underlay.old texts text
-        → IsReachedOverAmong segments.now (settings_in settings.now) (changes_in changes.now) texts text
-        (drains port_sinks.old underlay_sink.old (W.written decisions.old) (W.failures decisions.old))
-        (drains port_sinks.new underlay_sink.new (W.written decisions.new) (W.failures decisions.new)) ports.new underlay.new result }
-    ensures shown { IsShownAmong segments.now T.sees T.ends (settings_in settings.now) (changes_in changes.now) ports.old
-        (drains port_sinks.old underlay_sink.old (W.written decisions.old) (W.failures decisions.old))
-        (drains port_sinks.new underlay_sink.new (W.written decisions.new) (W.failures decisions.new)) watch.old watch.new result }
-    ensures watched { (texts : List (AVec ℕ AGlobal)) (text : List ℕ) → Tells ports.old underlay.old texts text
-        → IsWatchedOverAmong segments.now T.sees T.ends (settings_in settings.now) (changes_in changes.now) texts text
-        (drains port_sinks.old underlay_sink.old (W.written decisions.old) (W.failures decisions.old))
-        (drains port_sinks.new underlay_sink.new (W.written decisions.new) (W.failures decisions.new)) watch.old watch.new result }
-    ensures reads { ReadsWith ports.old underlay.old ports.new underlay.new result }
-    ensures writes { WritesWith
-        (drains port_sinks.old underlay_sink.old (W.written decisions.old) (W.failures decisions.old))
-        (drains port_sinks.new underlay_sink.new (W.written decisions.new) (W.failures decisions.new)) result }
+    requires read { settings_in read.settings_text.now ≡ Ok read.settings }
+    requires told { changes_in read.changes_text.now ≡ Ok read.changes.now }
+    requires rising { EachBehind IsRising [] read.changes.now }
+    requires sinks { length outputs.old.ports ≡ length captures.old.ports.items }
+    requires new_ports { All IsUnread captures.old.ports.items }
+    requires new_underlay { IsUnread captures.old.underlay }
+    ensures run { AnswersAmong segments.now (settings_in read.entry.settings_text.now) (changes_in read.entry.changes_text.now)
+        (ends captures.old.ports.items captures.old.underlay outputs.old)
+        (ends captures.new.ports.items captures.new.underlay outputs.new) result }
+    ensures over { (texts : List (AVec ℕ AGlobal)) (text : List ℕ) → Tells captures.old.ports.items captures.old.underlay texts text
+        → IsRunOverAmong segments.now (settings_in read.entry.settings_text.now) (changes_in read.entry.changes_text.now) texts text outputs.old outputs.new result }
+    ensures reached { (texts : List (AVec ℕ AGlobal)) (text : List ℕ) → Tells captures.old.ports.items captures.old.underlay texts text
+        → IsReachedOverAmong segments.now (settings_in read.entry.settings_text.now) (changes_in read.entry.changes_text.now) texts text outputs.old outputs.new captures.new.ports.items captures.new.underlay result }
+    ensures shown { IsShownAmong segments.now T.sees T.ends (settings_in read.entry.settings_text.now) (changes_in read.entry.changes_text.now) captures.old.ports.items outputs.old outputs.new watch.old watch.new result }
+    ensures watched { (texts : List (AVec ℕ AGlobal)) (text : List ℕ) → Tells captures.old.ports.items captures.old.underlay texts text
+        → IsWatchedOverAmong segments.now T.sees T.ends (settings_in read.entry.settings_text.now) (changes_in read.entry.changes_text.now) texts text outputs.old outputs.new watch.old watch.new result }
+    ensures many { length captures.new.ports.items ≡ length captures.old.ports.items }
+    ensures reads { ReadsWith captures.old.ports.items captures.old.underlay captures.new.ports.items captures.new.underlay result }
+    ensures writes { WritesWith outputs.old outputs.new result }
 {
-    if ports.len() != read.ports().len() {
+    let ReadTexts {
+        settings,
+        changes,
+        ..
+    } = read;
+    if captures.ports.len() != settings.ports().len() {
         return Err(StreamFault::Run(RunFault::PortCount));
     }
-    run_with(
-        alloc,
-        read,
-        told,
-        ports,
-        underlay,
-        port_sinks,
-        underlay_sink,
-        decisions,
-        segments,
-        watch,
-    )
+    let part = Part { changes, segments };
+    run_with(alloc, settings, &part, captures, outputs, watch)
 }
 
-/// The run with these settings and changes, on as many captures as there are ports, of what is told to these segments.
+/// The run with these settings, on as many captures as there are ports.
 fn run_with<R: Input, W: Output, T: Watch>(
     alloc: Global,
     settings: Settings,
-    changes: &[TimedChange],
-    ports: &mut [Source<R>],
-    underlay: &mut Source<R>,
-    port_sinks: &mut [Sink<W>],
-    underlay_sink: &mut Sink<W>,
-    decisions: &mut W,
-    segments: &SegmentSet,
+    part: &Part,
+    captures: &mut Captures<R>,
+    outputs: &mut Outputs<W>,
     watch: &mut T,
 ) -> Result<(), StreamFault>
-    requires few { length ports.old ≤ 16 }
-    requires ports { length ports.old ≡ length settings.ports }
-    requires sinks { length port_sinks.old ≡ length ports.old }
-    requires timely { AreTimely changes.now }
-    requires new_ports { All IsUnread ports.old }
-    requires new_underlay { IsUnread underlay.old }
-    ensures done { IsDone segments.now T.sees T.ends settings changes.now ports.old underlay.old ports.new underlay.new
-        (drains port_sinks.old underlay_sink.old (W.written decisions.old) (W.failures decisions.old))
-        (drains port_sinks.new underlay_sink.new (W.written decisions.new) (W.failures decisions.new)) watch.old watch.new result }
-    ensures reads { ReadsWith ports.old underlay.old ports.new underlay.new result }
+    requires few { length captures.old.ports.items ≤ 16 }
+    requires ports { length captures.old.ports.items ≡ length settings.ports }
+    requires sinks { length outputs.old.ports ≡ length captures.old.ports.items }
+    requires timely { AreTimely part.now.changes.now }
+    requires new_ports { All IsUnread captures.old.ports.items }
+    requires new_underlay { IsUnread captures.old.underlay }
+    ensures done { IsDone part.now.segments.now T.sees T.ends settings part.now.changes.now captures.old.ports.items captures.old.underlay captures.new.ports.items captures.new.underlay outputs.old outputs.new watch.old watch.new result }
+    ensures many { length captures.new.ports.items ≡ length captures.old.ports.items }
+    ensures reads { ReadsWith captures.old.ports.items captures.old.underlay captures.new.ports.items captures.new.underlay result }
 {
-    let Ok(mut turns) = first_turns(alloc, changes, ports.len() + 1) else {
+    let Ok(mut turns) = first_turns(alloc, part.changes, captures.ports.len() + 1) else {
         return Err(StreamFault::Run(RunFault::OutOfMemory));
     };
-    let Ok(mut endpoint) = Endpoint::open(alloc, settings) else {
+    let Ok(endpoint) = Endpoint::open(alloc, settings) else {
         return Err(StreamFault::Run(RunFault::OutOfMemory));
     };
-    let mut desk = Desk::new();
+    let mut taker = Taker {
+        endpoint,
+        desk: Desk::new(),
+    };
     run_on(
-        changes,
-        ports,
-        underlay,
+        part,
+        captures,
         turns.as_mut_slice(),
-        &mut endpoint,
-        &mut desk,
-        port_sinks,
-        underlay_sink,
-        decisions,
-        segments,
+        &mut taker,
+        outputs,
         watch,
     )
 }
 
 /// The run with an endpoint that was opened just now, whose steps are lent what they need.
 fn run_on<R: Input, W: Output, T: Watch>(
-    changes: &[TimedChange],
-    ports: &mut [Source<R>],
-    underlay: &mut Source<R>,
+    part: &Part,
+    captures: &mut Captures<R>,
     turns: &mut [Turn],
-    endpoint: &mut Endpoint,
-    desk: &mut Desk,
-    port_sinks: &mut [Sink<W>],
-    underlay_sink: &mut Sink<W>,
-    decisions: &mut W,
-    segments: &SegmentSet,
+    taker: &mut Taker,
+    outputs: &mut Outputs<W>,
     watch: &mut T,
 ) -> Result<(), StreamFault>
-    requires few { length ports.old ≤ 16 }
-    requires opened { CanBegin ports.old (state_of endpoint.old) }
-    requires turns { turns.old ≡ first_turns changes.now (length ports.old + 1) }
-    requires number { desk.old.number ≡ 0 }
-    requires sinks { length port_sinks.old ≡ length ports.old }
-    requires timely { AreTimely changes.now }
-    requires new_ports { All IsUnread ports.old }
-    requires new_underlay { IsUnread underlay.old }
-    ensures done { (settings : Settings) → IsOpenedWith settings ports.old (state_of endpoint.old)
-        → IsDone segments.now T.sees T.ends settings changes.now ports.old underlay.old ports.new underlay.new
-        (drains port_sinks.old underlay_sink.old (W.written decisions.old) (W.failures decisions.old))
-        (drains port_sinks.new underlay_sink.new (W.written decisions.new) (W.failures decisions.new)) watch.old watch.new result }
-    ensures reads { ReadsWith ports.old underlay.old ports.new underlay.new result }
+    requires few { length captures.old.ports.items ≤ 16 }
+    requires opened { CanBegin captures.old.ports.items (state_of taker.old.endpoint) }
+    requires turns { turns.old ≡ first_turns part.now.changes.now (length captures.old.ports.items + 1) }
+    requires number { taker.old.desk.number ≡ 0 }
+    requires sinks { length outputs.old.ports ≡ length captures.old.ports.items }
+    requires timely { AreTimely part.now.changes.now }
+    requires new_ports { All IsUnread captures.old.ports.items }
+    requires new_underlay { IsUnread captures.old.underlay }
+    ensures done { (settings : Settings) → IsOpenedWith settings captures.old.ports.items (state_of taker.old.endpoint)
+        → IsDone part.now.segments.now T.sees T.ends settings part.now.changes.now captures.old.ports.items captures.old.underlay captures.new.ports.items captures.new.underlay outputs.old outputs.new watch.old watch.new result }
+    ensures many { length captures.new.ports.items ≡ length captures.old.ports.items }
+    ensures reads { ReadsWith captures.old.ports.items captures.old.underlay captures.new.ports.items captures.new.underlay result }
 {
-    if let Err(fault) = open_all(ports, underlay) {
+    if let Err(fault) = open_all(captures) {
         return Err(fault);
     }
-    if let Err(target) = begin_all(port_sinks, underlay_sink) {
+    if let Err(target) = begin_all(outputs) {
         return Err(StreamFault::Write(target));
     }
-    if let Err(fault) = fetch_all(changes, ports, underlay, turns) {
+    if let Err(fault) = fetch_all(part.changes, captures, turns) {
         return Err(fault);
     }
-    if let Err(fault) = put_events(
-        changes,
-        ports,
-        underlay,
-        turns,
-        endpoint,
-        desk,
-        port_sinks,
-        underlay_sink,
-        decisions,
-        segments,
-        watch,
-    ) {
+    if let Err(fault) = put_events(part, captures, turns, taker, outputs, watch) {
         return Err(fault);
     }
-    match put_cuts_among(segments, ports, underlay, turns, &mut desk.line, decisions) {
+    let line = &mut taker.desk.line;
+    match put_cuts_among(part.segments, captures, turns, line, outputs) {
         Ok(()) => {
-            watch.end(endpoint);
+            watch.end(&taker.endpoint);
             Ok(())
         }
         Err(target) => Err(StreamFault::Write(target)),

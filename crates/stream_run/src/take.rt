@@ -1,7 +1,6 @@
 //! Events as the endpoint takes them: a change, a frame, a packet.
-ghost use Rattle.std.specs.Prelude.{◌≡◌, ◌≤◌, ◌<◌, ◌+◌, ◌^◌, ℕ, List, [], Option, Some, None, IfOk, IsSome, length, true};
+ghost use Rattle.std.specs.Prelude.{◌≡◌, ◌≤◌, ◌<◌, ◌+◌, ◌^◌, List, Some, None, IfOk, IsSome, length, true};
 ghost use Rattle.pcap_io.specs.Record.{Record as ARecord, last_moment};
-ghost use Rattle.pcap_stream.specs.Sink.{Drain};
 ghost use Rattle.pcap_stream.specs.Source.{Stream, lent};
 ghost use Rattle.timeline.specs.declared.source.Tap.{Tap as ATap};
 ghost use Rattle.timeline.specs.declared.source.Tap.TheVariants.{Port, Underlay};
@@ -13,27 +12,30 @@ ghost use Rattle.endpoint_core.specs.Step.{Decided, after, after_coming, answer,
 ghost use Rattle.endpoint_state.specs.Settings.{segment_at};
 ghost use Rattle.endpoint_state.specs.Sound.{is_reached};
 ghost use Rattle.endpoint_state.specs.State.{aged};
-ghost use Rattle.capture_run.specs.Outputs.{Outputs, change_at as change_told};
+ghost use Rattle.capture_run.specs.Outputs.{Outputs as Texts, change_at as change_told};
 ghost use Rattle.capture_run.specs.Writing.{with_input};
 ghost use Rattle.stream_run.specs.Amidst.{PutsInOrder};
 ghost use Rattle.stream_run.specs.Sights.{answered, due};
-ghost use Rattle.stream_run.specs.Stage.{Drains, Lead, StandAt, drains};
+ghost use Rattle.stream_run.specs.Stage.{Drains, Lead, StandAt};
 ghost use Rattle.stream_run.specs.Steps.{IsAt, changes_of, moment_at, seen_among, with_input_among, record_event, source_at};
 ghost use Rattle.stream_run.specs.Watched.{IsWatchedTake};
 
+use crate::captures::Captures;
 use crate::fault::Target;
+use crate::outputs::Outputs;
+use crate::part::{Next, Part, Taker};
 use crate::put::{put_course, put_line};
 use crate::watch::Watch;
 use decision_lines::Desk;
 use endpoint_core::{Course, Endpoint, nothing_came, segment_of};
 use overlay_config::{Change, TimedChange};
-use pcap_stream::{Input, Output, Sink, Source};
+use pcap_stream::{Input, Output, Source};
 use segment_set::SegmentSet;
 use timeline::{Captured, Event, Happening, Tap};
 
 /// Shows a change, puts it to the endpoint, tells its reply, and puts what comes of it to the outputs.
 pub fn take_change<W: Output, T: Watch>(
-    decisions: &mut W,
+    outputs: &mut Outputs<W>,
     endpoint: &mut Endpoint,
     desk: &mut Desk,
     event: &Event,
@@ -42,8 +44,8 @@ pub fn take_change<W: Output, T: Watch>(
 ) -> Result<(), Target>
     requires { (state_of endpoint.old).moment ≤ event.now.moment }
     ensures state { state_of endpoint.new ≡ after (state_of endpoint.old) (change_at event.now.moment change) }
-    ensures outputs { (start : Drains) (o : Outputs) (ports : List Drain) (underlay : Drain) → StandAt start (drains ports underlay (W.written decisions.old) (W.failures decisions.old)) o
-        → Lead start (drains ports underlay (W.written decisions.new) (W.failures decisions.new)) o
+    ensures outputs { (start : Drains) (o : Texts) → StandAt start outputs.old o
+        → Lead start outputs.new o
         (with_input desk.old.number (named change) o event.now (answer (state_of endpoint.old) (change_at event.now.moment change))) result }
     ensures number { desk.new.number ≡ desk.old.number }
     ensures seen { T.sees watch.old (answered (due (state_of endpoint.old) desk.old.number event.now) (answer (state_of endpoint.old) (change_at event.now.moment change))) watch.new }
@@ -54,15 +56,13 @@ pub fn take_change<W: Output, T: Watch>(
     watch.hear_reply(reply);
     desk.line
         .write_reply(&desk.number, event, change.vid(), reply);
-    put_line(decisions, desk.line.text())
+    put_line(outputs, desk.line.text())
 }
 
 /// Shows a frame or a packet that came to a segment, or to none, as the endpoint tells it; puts it to the endpoint, tells what
 /// is decided, and puts what comes of it to the outputs.
 fn take_came<W: Output, T: Watch>(
-    port_sinks: &mut [Sink<W>],
-    underlay_sink: &mut Sink<W>,
-    decisions: &mut W,
+    outputs: &mut Outputs<W>,
     endpoint: &mut Endpoint,
     desk: &mut Desk,
     event: &Event,
@@ -75,13 +75,13 @@ fn take_came<W: Output, T: Watch>(
     requires short { IfOk course.old (λ x. length x.frame.body ≤ 65549) }
     requires reached { IfOk course.old (λ x. is_reached (state_of endpoint.old).bridges.settings.overlay x.vid x.from ≡ true) }
     ensures state { state_of endpoint.new ≡ after_coming event.now.moment course.old (state_of endpoint.old) }
-    ensures outputs { (start : Drains) (o : Outputs)
-        → StandAt start (drains port_sinks.old underlay_sink.old (W.written decisions.old) (W.failures decisions.old)) o
-        → Lead start (drains port_sinks.new underlay_sink.new (W.written decisions.new) (W.failures decisions.new)) o
+    ensures outputs { (start : Drains) (o : Texts)
+        → StandAt start outputs.old o
+        → Lead start outputs.new o
         (with_input desk.old.number None o event.now (Decided (decided event.now.moment (aged event.now.moment (state_of endpoint.old).bridges) course.old))) result }
-    ensures order { (start : Drains) (o : Outputs)
-        → StandAt start (drains port_sinks.old underlay_sink.old (W.written decisions.old) (W.failures decisions.old)) o
-        → PutsInOrder start (drains port_sinks.new underlay_sink.new (W.written decisions.new) (W.failures decisions.new)) desk.old.number None o event.now
+    ensures order { (start : Drains) (o : Texts)
+        → StandAt start outputs.old o
+        → PutsInOrder start outputs.new desk.old.number None o event.now
         (Decided (decided event.now.moment (aged event.now.moment (state_of endpoint.old).bridges) course.old)) result }
     ensures number { desk.new.number ≡ desk.old.number }
     ensures seen { T.sees watch.old (answered (due (state_of endpoint.old) desk.old.number event.now)
@@ -91,57 +91,47 @@ fn take_came<W: Output, T: Watch>(
     watch.see(endpoint, number, event);
     endpoint.take(event.moment, course, &mut desk.places);
     watch.hear_decision(endpoint, course, desk.places.as_slice());
-    put_course(
-        port_sinks,
-        underlay_sink,
-        decisions,
-        endpoint,
-        desk,
-        event,
-        course,
-    )
+    put_course(outputs, endpoint, desk, event, course)
 }
 
 /// Takes the frame that a port's source lends, behind so many others: where it is told to these segments, it's shown, put to the
 /// endpoint, and what comes of it to the outputs; else it's shown as passed over, and time passes.
 pub fn take_frame<R: Input, W: Output, T: Watch>(
     source: &Source<R>,
-    port_sinks: &mut [Sink<W>],
-    underlay_sink: &mut Sink<W>,
-    decisions: &mut W,
-    endpoint: &mut Endpoint,
-    desk: &mut Desk,
+    outputs: &mut Outputs<W>,
+    taker: &mut Taker,
     port: u8,
-    moment: u64,
-    count: u64,
+    next: Next,
     segments: &SegmentSet,
     watch: &mut T,
 ) -> Result<(), Target>
-    requires time { (state_of endpoint.old).moment ≤ moment }
-    requires moment { moment ≤ last_moment }
-    requires count { count + 1 < 2 ^ 64 }
+    requires time { (state_of taker.old.endpoint).moment ≤ next.moment }
+    requires moment { next.moment ≤ last_moment }
+    requires count { next.done + 1 < 2 ^ 64 }
     requires low { 1 ≤ port }
-    requires high { port ≤ length (state_of endpoint.old).bridges.settings.ports.ports }
+    requires high { port ≤ length (state_of taker.old.endpoint).bridges.settings.ports.ports }
     requires lent { IsSome (lent source.now.standing) }
-    ensures state { (r : ARecord) → lent source.now.standing ≡ Some r → state_of endpoint.new ≡ after_among segments.now (state_of endpoint.old) (frame_at moment port r.original r.octets) }
-    ensures outputs { (r : ARecord) (start : Drains) (o : Outputs) → lent source.now.standing ≡ Some r
-        → StandAt start (drains port_sinks.old underlay_sink.old (W.written decisions.old) (W.failures decisions.old)) o
-        → Lead start (drains port_sinks.new underlay_sink.new (W.written decisions.new) (W.failures decisions.new)) o
-        (with_input_among segments.now desk.old.number None (state_of endpoint.old) o (record_event (Port port) count moment r) (frame_at moment port r.original r.octets)) result }
-    ensures order { (r : ARecord) (start : Drains) (o : Outputs) → lent source.now.standing ≡ Some r
-        → StandAt start (drains port_sinks.old underlay_sink.old (W.written decisions.old) (W.failures decisions.old)) o
-        → PutsInOrder start (drains port_sinks.new underlay_sink.new (W.written decisions.new) (W.failures decisions.new)) desk.old.number None o
-        (record_event (Port port) count moment r) (answer (state_of endpoint.old) (frame_at moment port r.original r.octets)) result }
-    ensures number { desk.new.number ≡ desk.old.number }
+    ensures state { (r : ARecord) → lent source.now.standing ≡ Some r → state_of taker.new.endpoint ≡ after_among segments.now (state_of taker.old.endpoint) (frame_at next.moment port r.original r.octets) }
+    ensures outputs { (r : ARecord) (start : Drains) (o : Texts) → lent source.now.standing ≡ Some r
+        → StandAt start outputs.old o
+        → Lead start outputs.new o
+        (with_input_among segments.now taker.old.desk.number None (state_of taker.old.endpoint) o (record_event (Port port) next.done next.moment r) (frame_at next.moment port r.original r.octets)) result }
+    ensures order { (r : ARecord) (start : Drains) (o : Texts) → lent source.now.standing ≡ Some r
+        → StandAt start outputs.old o
+        → PutsInOrder start outputs.new taker.old.desk.number None o
+        (record_event (Port port) next.done next.moment r) (answer (state_of taker.old.endpoint) (frame_at next.moment port r.original r.octets)) result }
+    ensures number { taker.new.desk.number ≡ taker.old.desk.number }
     ensures seen { (r : ARecord) → lent source.now.standing ≡ Some r
-        → T.sees watch.old (seen_among segments.now (state_of endpoint.old) desk.old.number (record_event (Port port) count moment r) (frame_at moment port r.original r.octets)) watch.new }
+        → T.sees watch.old (seen_among segments.now (state_of taker.old.endpoint) taker.old.desk.number (record_event (Port port) next.done next.moment r) (frame_at next.moment port r.original r.octets)) watch.new }
 {
     let record = source.head().unwrap();
     let mut came = nothing_came();
-    endpoint.bring_frame(port, record.original, record.octets, &mut came);
+    taker
+        .endpoint
+        .bring_frame(port, record.original, record.octets, &mut came);
     let event = Event {
-        moment,
-        number: count + 1,
+        moment: next.moment,
+        number: next.done + 1,
         happening: Happening::Record(
             Tap::Port(port),
             Captured {
@@ -151,16 +141,14 @@ pub fn take_frame<R: Input, W: Output, T: Watch>(
         ),
     };
     if !segments.has(segment_of(&came)) {
-        watch.pass_over(endpoint, desk.number.value(), &event);
-        endpoint.pass(moment);
+        watch.pass_over(&taker.endpoint, taker.desk.number.value(), &event);
+        taker.endpoint.pass(next.moment);
         return Ok(());
     }
     take_came(
-        port_sinks,
-        underlay_sink,
-        decisions,
-        endpoint,
-        desk,
+        outputs,
+        &mut taker.endpoint,
+        &mut taker.desk,
         &event,
         &mut came,
         watch,
@@ -171,39 +159,37 @@ pub fn take_frame<R: Input, W: Output, T: Watch>(
 /// to the endpoint, and what comes of it to the outputs; else it's shown as passed over, and time passes.
 pub fn take_packet<R: Input, W: Output, T: Watch>(
     source: &Source<R>,
-    port_sinks: &mut [Sink<W>],
-    underlay_sink: &mut Sink<W>,
-    decisions: &mut W,
-    endpoint: &mut Endpoint,
-    desk: &mut Desk,
-    moment: u64,
-    count: u64,
+    outputs: &mut Outputs<W>,
+    taker: &mut Taker,
+    next: Next,
     segments: &SegmentSet,
     watch: &mut T,
 ) -> Result<(), Target>
-    requires time { (state_of endpoint.old).moment ≤ moment }
-    requires moment { moment ≤ last_moment }
-    requires count { count + 1 < 2 ^ 64 }
+    requires time { (state_of taker.old.endpoint).moment ≤ next.moment }
+    requires moment { next.moment ≤ last_moment }
+    requires count { next.done + 1 < 2 ^ 64 }
     requires lent { IsSome (lent source.now.standing) }
-    ensures state { (r : ARecord) → lent source.now.standing ≡ Some r → state_of endpoint.new ≡ after_among segments.now (state_of endpoint.old) (packet_at moment r.original r.octets) }
-    ensures outputs { (r : ARecord) (start : Drains) (o : Outputs) → lent source.now.standing ≡ Some r
-        → StandAt start (drains port_sinks.old underlay_sink.old (W.written decisions.old) (W.failures decisions.old)) o
-        → Lead start (drains port_sinks.new underlay_sink.new (W.written decisions.new) (W.failures decisions.new)) o
-        (with_input_among segments.now desk.old.number None (state_of endpoint.old) o (record_event Underlay count moment r) (packet_at moment r.original r.octets)) result }
-    ensures order { (r : ARecord) (start : Drains) (o : Outputs) → lent source.now.standing ≡ Some r
-        → StandAt start (drains port_sinks.old underlay_sink.old (W.written decisions.old) (W.failures decisions.old)) o
-        → PutsInOrder start (drains port_sinks.new underlay_sink.new (W.written decisions.new) (W.failures decisions.new)) desk.old.number None o
-        (record_event Underlay count moment r) (answer (state_of endpoint.old) (packet_at moment r.original r.octets)) result }
-    ensures number { desk.new.number ≡ desk.old.number }
+    ensures state { (r : ARecord) → lent source.now.standing ≡ Some r → state_of taker.new.endpoint ≡ after_among segments.now (state_of taker.old.endpoint) (packet_at next.moment r.original r.octets) }
+    ensures outputs { (r : ARecord) (start : Drains) (o : Texts) → lent source.now.standing ≡ Some r
+        → StandAt start outputs.old o
+        → Lead start outputs.new o
+        (with_input_among segments.now taker.old.desk.number None (state_of taker.old.endpoint) o (record_event Underlay next.done next.moment r) (packet_at next.moment r.original r.octets)) result }
+    ensures order { (r : ARecord) (start : Drains) (o : Texts) → lent source.now.standing ≡ Some r
+        → StandAt start outputs.old o
+        → PutsInOrder start outputs.new taker.old.desk.number None o
+        (record_event Underlay next.done next.moment r) (answer (state_of taker.old.endpoint) (packet_at next.moment r.original r.octets)) result }
+    ensures number { taker.new.desk.number ≡ taker.old.desk.number }
     ensures seen { (r : ARecord) → lent source.now.standing ≡ Some r
-        → T.sees watch.old (seen_among segments.now (state_of endpoint.old) desk.old.number (record_event Underlay count moment r) (packet_at moment r.original r.octets)) watch.new }
+        → T.sees watch.old (seen_among segments.now (state_of taker.old.endpoint) taker.old.desk.number (record_event Underlay next.done next.moment r) (packet_at next.moment r.original r.octets)) watch.new }
 {
     let record = source.head().unwrap();
     let mut brought = nothing_came();
-    endpoint.bring_packet(record.original, record.octets, &mut brought);
+    taker
+        .endpoint
+        .bring_packet(record.original, record.octets, &mut brought);
     let event = Event {
-        moment,
-        number: count + 1,
+        moment: next.moment,
+        number: next.done + 1,
         happening: Happening::Record(
             Tap::Underlay,
             Captured {
@@ -213,119 +199,102 @@ pub fn take_packet<R: Input, W: Output, T: Watch>(
         ),
     };
     if !segments.has(segment_of(&brought)) {
-        watch.pass_over(endpoint, desk.number.value(), &event);
-        endpoint.pass(moment);
+        watch.pass_over(&taker.endpoint, taker.desk.number.value(), &event);
+        taker.endpoint.pass(next.moment);
         return Ok(());
     }
     take_came(
-        port_sinks,
-        underlay_sink,
-        decisions,
-        endpoint,
-        desk,
+        outputs,
+        &mut taker.endpoint,
+        &mut taker.desk,
         &event,
         &mut brought,
         watch,
     )
 }
 
-/// Takes the next event of the source with this index, behind so many others of that source, and shows it, as passed over where
-/// it isn't told to these segments: the changes, the ports, the underlay.
+/// Takes the next event of a source, and shows it, as passed over where it isn't told to the part's segments: the changes, the
+/// ports, the underlay.
 pub fn take_at<R: Input, W: Output, T: Watch>(
-    changes: &[TimedChange],
-    ports: &[Source<R>],
-    underlay: &Source<R>,
-    port_sinks: &mut [Sink<W>],
-    underlay_sink: &mut Sink<W>,
-    decisions: &mut W,
-    endpoint: &mut Endpoint,
-    desk: &mut Desk,
-    index: usize,
-    moment: u64,
-    done: u64,
-    segments: &SegmentSet,
+    part: &Part,
+    captures: &Captures<R>,
+    outputs: &mut Outputs<W>,
+    taker: &mut Taker,
+    next: Next,
     watch: &mut T,
 ) -> Result<(), Target>
-    requires time { (state_of endpoint.old).moment ≤ moment }
-    requires moment { moment ≤ last_moment }
-    requires count { done + 1 < 2 ^ 64 }
-    requires index { index ≤ length ports.now + 1 }
-    requires few { length ports.now ≤ 16 }
-    requires known { length ports.now ≡ length (state_of endpoint.old).bridges.settings.ports.ports }
-    requires change { index ≡ 0 → moment_at changes.now done ≡ Some moment }
-    requires lent { (place : ATap) → IsAt (length ports.now) index place → IsSome (lent (source_at ports.now underlay.now place).standing) }
-    ensures taken { IsWatchedTake segments.now T.sees changes.now ports.now underlay.now index done moment desk.old.number (state_of endpoint.old) (state_of endpoint.new)
-        (drains port_sinks.old underlay_sink.old (W.written decisions.old) (W.failures decisions.old))
-        (drains port_sinks.new underlay_sink.new (W.written decisions.new) (W.failures decisions.new)) watch.old watch.new result }
-    ensures number { desk.new.number ≡ desk.old.number }
+    requires time { (state_of taker.old.endpoint).moment ≤ next.moment }
+    requires moment { next.moment ≤ last_moment }
+    requires count { next.done + 1 < 2 ^ 64 }
+    requires index { next.index ≤ length captures.now.ports.items + 1 }
+    requires few { length captures.now.ports.items ≤ 16 }
+    requires known { length captures.now.ports.items ≡ length (state_of taker.old.endpoint).bridges.settings.ports.ports }
+    requires change { next.index ≡ 0 → moment_at part.now.changes.now next.done ≡ Some next.moment }
+    requires lent { (place : ATap) → IsAt (length captures.now.ports.items) next.index place → IsSome (lent (source_at captures.now.ports.items captures.now.underlay place).standing) }
+    ensures taken { IsWatchedTake part.now.segments.now T.sees part.now.changes.now captures.now.ports.items captures.now.underlay next.index next.done next.moment taker.old.desk.number (state_of taker.old.endpoint) (state_of taker.new.endpoint)
+        outputs.old outputs.new watch.old watch.new result }
+    ensures number { taker.new.desk.number ≡ taker.old.desk.number }
 {
-    if index == 0 {
-        return take_change_at(
-            decisions, endpoint, desk, changes, moment, done, segments, watch,
-        );
+    if next.index == 0 {
+        return take_change_at(part, outputs, taker, next, watch);
     }
-    if index <= ports.len() {
+    if next.index <= captures.ports.len() {
         return take_frame(
-            &ports[index - 1],
-            port_sinks,
-            underlay_sink,
-            decisions,
-            endpoint,
-            desk,
-            index as u8,
-            moment,
-            done,
-            segments,
+            &captures.ports[next.index - 1],
+            outputs,
+            taker,
+            next.index as u8,
+            next,
+            part.segments,
             watch,
         );
     }
     take_packet(
-        underlay,
-        port_sinks,
-        underlay_sink,
-        decisions,
-        endpoint,
-        desk,
-        moment,
-        done,
-        segments,
+        &captures.underlay,
+        outputs,
+        taker,
+        next,
+        part.segments,
         watch,
     )
 }
 
-/// Shows the change of this index, and puts it to the endpoint; where it is told to these segments, its reply is told, and what
-/// comes of it is put to the outputs.
+/// Shows a change, and puts it to the endpoint; where it is told to the part's segments, its reply is told, and what comes of it
+/// is put to the outputs.
 fn take_change_at<W: Output, T: Watch>(
-    decisions: &mut W,
-    endpoint: &mut Endpoint,
-    desk: &mut Desk,
-    changes: &[TimedChange],
-    moment: u64,
-    index: u64,
-    segments: &SegmentSet,
+    part: &Part,
+    outputs: &mut Outputs<W>,
+    taker: &mut Taker,
+    next: Next,
     watch: &mut T,
 ) -> Result<(), Target>
-    requires time { (state_of endpoint.old).moment ≤ moment }
-    requires there { index < length changes.now }
-    requires count { index + 1 < 2 ^ 64 }
-    ensures taken { (ports : List Stream) (underlay : Stream) (port_sinks : List Drain) (underlay_sink : Drain) → IsWatchedTake segments.now T.sees changes.now ports underlay 0 index moment desk.old.number (state_of endpoint.old) (state_of endpoint.new)
-        (drains port_sinks underlay_sink (W.written decisions.old) (W.failures decisions.old))
-        (drains port_sinks underlay_sink (W.written decisions.new) (W.failures decisions.new)) watch.old watch.new result }
-    ensures number { desk.new.number ≡ desk.old.number }
+    requires time { (state_of taker.old.endpoint).moment ≤ next.moment }
+    requires there { next.done < length part.now.changes.now }
+    requires count { next.done + 1 < 2 ^ 64 }
+    ensures taken { (ports : List Stream) (underlay : Stream) → IsWatchedTake part.now.segments.now T.sees part.now.changes.now ports underlay 0 next.done next.moment taker.old.desk.number (state_of taker.old.endpoint) (state_of taker.new.endpoint)
+        outputs.old outputs.new watch.old watch.new result }
+    ensures number { taker.new.desk.number ≡ taker.old.desk.number }
 {
     let event = Event {
-        moment,
-        number: index + 1,
-        happening: Happening::Change(index as usize),
+        moment: next.moment,
+        number: next.done + 1,
+        happening: Happening::Change(next.done as usize),
     };
-    let named = changes[index as usize].change.vid();
-    if !segments.has(named) {
-        watch.pass_over(endpoint, desk.number.value(), &event);
-        make_change(endpoint, changes, moment, index);
+    let named = part.changes[next.done as usize].change.vid();
+    if !part.segments.has(named) {
+        watch.pass_over(&taker.endpoint, taker.desk.number.value(), &event);
+        make_change(&mut taker.endpoint, part.changes, next.moment, next.done);
         return Ok(());
     }
-    let change = changes[index as usize].change;
-    take_change(decisions, endpoint, desk, &event, change, watch)
+    let change = part.changes[next.done as usize].change;
+    take_change(
+        outputs,
+        &mut taker.endpoint,
+        &mut taker.desk,
+        &event,
+        change,
+        watch,
+    )
 }
 
 /// Makes the change of this index, or refuses it, and tells nobody: it may be one of settings that all segments stand on.

@@ -8,21 +8,21 @@ use Rattle.stream_run.proofs.Readying.{fetched_to}
 use Rattle.stream_run.proofs.begin.fetch_all.Goals as goal
 
 pub loop-index-init : goal.loop-index-init
-loop-index-init g c = none_fetched c.args.changes.now c.args.ports.now c.args.underlay.now c.args.turns.now c.requires.open
+loop-index-init g c = none_fetched c.args.changes.now c.args.captures.now.ports.items c.args.captures.now.underlay c.args.turns.now c.requires.open
 
 pub fetch_at-requires-clause-open : goal.fetch_at-requires-clause-open
 fetch_at-requires-clause-open g c place at = c.loop-index.invariant.open_ place c.loop-index.index (omega arith) (subst (λ n. IsAt n c.loop-index.index place) c.loop-index.invariant.many at)
 
 pub at-requires : goal.at-requires
-at-requires g c = (asked_first c.args.changes.now c.loop-index.index c.loop-index.ports c.loop-index.underlay c.fetch_at.new.ports c.fetch_at.new.underlay _ c.loop-index.invariant.first c.in_default.ensures).moment
+at-requires g c = (asked_first c.args.changes.now c.loop-index.index c.loop-index.captures.ports.items c.loop-index.captures.underlay c.fetch_at.new.captures.ports.items c.fetch_at.new.captures.underlay _ c.loop-index.invariant.first c.in_default.ensures.fetched).moment
 
 pub loop-index-preserved : goal.loop-index-preserved
 loop-index-preserved g c =
-    one_fetched c.args.changes.now c.loop-index.index c.args.ports.now c.args.underlay.now c.args.turns.now c.loop-index.ports c.loop-index.underlay c.loop-index.turns c.loop-index.invariant c.fetch_at.new.ports c.fetch_at.new.underlay _ (omega (arith, c.loop-index-test.true, c.loop-index.invariant.size))
-    (fetched_to c.args.changes.now c.loop-index.index 0 0 c.loop-index.ports c.loop-index.underlay c.fetch_at.new.ports c.fetch_at.new.underlay c.fetch_at.new.next c.at.result c.at.ensures c.in_default.ensures)
+    one_fetched c.args.changes.now c.loop-index.index c.args.captures.now.ports.items c.args.captures.now.underlay c.args.turns.now c.loop-index.captures.ports.items c.loop-index.captures.underlay c.loop-index.turns c.loop-index.invariant c.fetch_at.new.captures.ports.items c.fetch_at.new.captures.underlay _ (omega (arith, c.loop-index-test.true, c.loop-index.invariant.size))
+    (fetched_to c.args.changes.now c.loop-index.index 0 0 c.loop-index.captures.ports.items c.loop-index.captures.underlay c.fetch_at.new.captures.ports.items c.fetch_at.new.captures.underlay c.fetch_at.new.next c.at.result c.at.ensures c.in_default.ensures.fetched)
 
 pub returns-in-Err-clause-reads : goal.returns-in-Err-clause-reads
-returns-in-Err-clause-reads g c = fetch_stops c.args.changes.now c.loop-index.index c.args.ports.now c.args.underlay.now c.args.turns.now c.loop-index.ports c.loop-index.underlay c.loop-index.turns c.loop-index.invariant c.fetch_at.new.ports c.fetch_at.new.underlay c.fault_at.result (fault_from c.args.changes.now c.loop-index.index 0 0 c.loop-index.ports c.loop-index.underlay c.fetch_at.new.ports c.fetch_at.new.underlay c.fetch_at.new.next c.in-Err.fault c.tap_at.result c.fault_at.result _ c.fault_at.ensures c.tap_at.ensures (omega (arith, c.loop-index.invariant.size, c.loop-index.invariant.many, c.requires.size)) c.in-Err.ensures)
+returns-in-Err-clause-reads g c = fetch_stops c.args.changes.now c.loop-index.index c.args.captures.now.ports.items c.args.captures.now.underlay c.args.turns.now c.loop-index.captures.ports.items c.loop-index.captures.underlay c.loop-index.turns c.loop-index.invariant c.fetch_at.new.captures.ports.items c.fetch_at.new.captures.underlay c.fault_at.result (fault_from c.args.changes.now c.loop-index.index 0 0 c.loop-index.captures.ports.items c.loop-index.captures.underlay c.fetch_at.new.captures.ports.items c.fetch_at.new.captures.underlay c.fetch_at.new.next c.in-Err.fault c.tap_at.result c.fault_at.result _ c.fault_at.ensures c.tap_at.ensures (omega (arith, c.loop-index.invariant.size, c.loop-index.invariant.many, c.requires.size)) c.in-Err.ensures.fetched)
 
 pub returns-in-Err-clause-only_reads : goal.returns-in-Err-clause-only_reads
 returns-in-Err-clause-only_reads g c = subst (λ (f : StreamFault). OnlyReads (Err f)) (sym c.fault_at.ensures) (fault_only_reads c.tap_at.result 1 c.in-Err.fault)
@@ -34,9 +34,9 @@ pub returns-clause-reads : goal.returns-clause-reads
 returns-clause-reads g c = c.loop-index.invariant.quiet
 
 pub returns-in-Err-clause-told : goal.returns-in-Err-clause-told
-returns-in-Err-clause-told g c = faults_told c.args.changes.now c.loop-index.index c.args.ports.now c.args.underlay.now c.args.turns.now c.loop-index.ports c.loop-index.underlay c.loop-index.turns c.loop-index.invariant c.fetch_at.new.ports c.fetch_at.new.underlay c.fault_at.result c.loop-index.turns (fault_from c.args.changes.now c.loop-index.index 0 0 c.loop-index.ports c.loop-index.underlay c.fetch_at.new.ports c.fetch_at.new.underlay c.fetch_at.new.next c.in-Err.fault c.tap_at.result c.fault_at.result _ c.fault_at.ensures c.tap_at.ensures (omega (arith, c.loop-index.invariant.size, c.loop-index.invariant.many, c.requires.size)) c.in-Err.ensures)
+returns-in-Err-clause-told g c = faults_told c.args.changes.now c.loop-index.index c.args.captures.now.ports.items c.args.captures.now.underlay c.args.turns.now c.loop-index.captures.ports.items c.loop-index.captures.underlay c.loop-index.turns c.loop-index.invariant c.fetch_at.new.captures.ports.items c.fetch_at.new.captures.underlay c.fault_at.result c.loop-index.turns (fault_from c.args.changes.now c.loop-index.index 0 0 c.loop-index.captures.ports.items c.loop-index.captures.underlay c.fetch_at.new.captures.ports.items c.fetch_at.new.captures.underlay c.fetch_at.new.next c.in-Err.fault c.tap_at.result c.fault_at.result _ c.fault_at.ensures c.tap_at.ensures (omega (arith, c.loop-index.invariant.size, c.loop-index.invariant.many, c.requires.size)) c.in-Err.ensures.fetched)
 
 pub returns-clause-told : goal.returns-clause-told
 returns-clause-told g c =
-    all_fetched c.args.changes.now c.loop-index.index c.args.ports.now c.args.underlay.now c.args.turns.now c.loop-index.ports c.loop-index.underlay c.loop-index.turns c.loop-index.invariant
+    all_fetched c.args.changes.now c.loop-index.index c.args.captures.now.ports.items c.args.captures.now.underlay c.args.turns.now c.loop-index.captures.ports.items c.loop-index.captures.underlay c.loop-index.turns c.loop-index.invariant
     (omega (arith, c.loop-index-test.false, c.loop-index.auto.index-end, c.requires.size))

@@ -2,4 +2,4 @@ use Rattle.stream_run.proofs.Begun.{FetchedSoFar}
 use Rattle.stream_run.proofs.begin.fetch_all.Given as goal
 
 abbrev pub invariant-loop-index : goal.invariant-loop-index
-invariant-loop-index g l = FetchedSoFar l.changes l.index l.initial.ports l.initial.underlay l.initial.turns l.ports l.underlay l.turns
+invariant-loop-index g l = FetchedSoFar l.changes l.index l.initial.captures.ports.items l.initial.captures.underlay l.initial.turns l.captures.ports.items l.captures.underlay l.turns

@@ -1,4 +1,4 @@
-use Rattle.std.proofs.Common.{◌-◌, ◌<◌, subst, refl, arith, length}
+use Rattle.std.proofs.Common.{◌≡◌, ◌-◌, ◌<◌, ◌∙◌, sym, subst, refl, arith, length}
 use Rattle.std.proofs.lemmas.List.{get_or_default}
 use Rattle.pcap_stream.specs.Source.{Stream}
 use Rattle.timeline.specs.declared.source.Tap.TheVariants.{Port, Underlay}
@@ -9,20 +9,22 @@ use Rattle.stream_run.proofs.fetch.fetch_at.Goals as goal
 
 pub fetch-requires : goal.fetch-requires
 fetch-requires g c =
-    let there : c.args.index - 1 < length c.args.ports.now = omega arith in
-    subst (λ (s : Stream). IsOpen s.standing) (get_or_default c.args.ports.now (c.args.index - 1) c.args.underlay.now c.index-ports-index.result there) (c.requires.open (Port c.args.index) (refl, omega arith, omega arith))
+    let many : c.len.result ≡ length c.args.captures.now.ports.items = c.len.ensures ∙ c.args.captures.now.ports.ok.0 in
+    let there : c.args.index - 1 < length c.args.captures.now.ports.items = omega (arith, many, c.if-index-len.true, c.if-index-eq0.false) in
+    subst (λ (s : Stream). IsOpen s.standing) (get_or_default c.args.captures.now.ports.items (c.args.index - 1) c.args.captures.now.underlay _ there ∙ sym c.index_mut.ensures.value) (c.requires.open (Port c.args.index) (refl, omega (arith, many, c.if-index-len.true, c.if-index-eq0.false), omega (arith, many, c.if-index-len.true)))
 
 pub fetch-requires-2 : goal.fetch-requires-2
-fetch-requires-2 g c = c.requires.open Underlay (omega arith)
+fetch-requires-2 g c = c.requires.open Underlay (omega (arith, c.if-index-len.false, c.requires.index, c.len.ensures, c.args.captures.now.ports.ok.0))
 
-pub returns-then-index-ports : goal.returns-then-index-ports
-returns-then-index-ports g c =
-    let there : c.args.index - 1 < length c.args.ports.now = omega arith in
-    let here : IsAt (length c.args.ports.now) c.args.index (Port c.args.index) = (refl, omega arith, omega arith) in
-    fetches_from c.args.changes.now c.args.index c.args.done c.args.latest c.args.ports.now c.args.underlay.now _ _ (Port c.args.index) c.fetch.new.source c.fetch.new.next c.fetch.result here (refl, refl)
-    (subst (λ (s : Stream). IsFetch s c.fetch.new.source (Port c.args.index) c.args.done c.args.latest (fetched (Port c.args.index) c.args.done c.fetch.new.next c.fetch.result)) (get_or_default c.args.ports.now (c.args.index - 1) c.index-ports-index.result c.args.underlay.now there) (c.fetch.ensures (Port c.args.index) c.args.done))
+pub returns-then-index-len-clause-fetched : goal.returns-then-index-len-clause-fetched
+returns-then-index-len-clause-fetched g c =
+    let many : c.len.result ≡ length c.args.captures.now.ports.items = c.len.ensures ∙ c.args.captures.now.ports.ok.0 in
+    let there : c.args.index - 1 < length c.args.captures.now.ports.items = omega (arith, many, c.if-index-len.true, c.if-index-eq0.false) in
+    let here : IsAt (length c.args.captures.now.ports.items) c.args.index (Port c.args.index) = (refl, omega (arith, many, c.if-index-len.true, c.if-index-eq0.false), omega (arith, many, c.if-index-len.true)) in
+    fetches_from c.args.changes.now c.args.index c.args.done c.args.latest c.args.captures.now.ports.items c.args.captures.now.underlay _ _ (Port c.args.index) c.fetch.new.source c.fetch.new.next c.fetch.result here (refl, refl)
+    (subst (λ (s : Stream). IsFetch s c.fetch.new.source (Port c.args.index) c.args.done c.args.latest (fetched (Port c.args.index) c.args.done c.fetch.new.next c.fetch.result)) (c.index_mut.ensures.value ∙ get_or_default c.args.captures.now.ports.items (c.args.index - 1) _ c.args.captures.now.underlay there) (c.fetch.ensures (Port c.args.index) c.args.done))
 
-pub returns : goal.returns
-returns g c =
-    fetches_from c.args.changes.now c.args.index c.args.done c.args.latest c.args.ports.now c.args.underlay.now _ _ Underlay c.fetch-2.new.source c.fetch-2.new.next c.fetch-2.result (omega arith) (refl, refl)
+pub returns-clause-fetched : goal.returns-clause-fetched
+returns-clause-fetched g c =
+    fetches_from c.args.changes.now c.args.index c.args.done c.args.latest c.args.captures.now.ports.items c.args.captures.now.underlay _ _ Underlay c.fetch-2.new.source c.fetch-2.new.next c.fetch-2.result (omega (arith, c.if-index-len.false, c.requires.index, c.len.ensures, c.args.captures.now.ports.ok.0)) (refl, refl)
     (c.fetch-2.ensures Underlay c.args.done)

@@ -1,22 +1,20 @@
-use Rattle.std.proofs.Common.{◌<◌, arith, length}
-use Rattle.pcap_stream.specs.declared.fault.WriteFault.{WriteFault}
-use Rattle.stream_run.proofs.Handing.{port_handed, port_held}
+use Rattle.std.proofs.Common.{◌≡◌, ◌∙◌, ap, arith, length, refl}
+use Rattle.stream_run.specs.Stage.{Drains}
 use Rattle.stream_run.proofs.hand_on.hand_on_ports.Goals as goal
 
-pub loop-i-init : goal.loop-i-init
-loop-i-init g c start o underlay written failures at = at
+pub hand_on_port-requires-clause-there : goal.hand_on_port-requires-clause-there
+hand_on_port-requires-clause-there g c =
+    let many : c.len.result ≡ length c.args.outputs.now.ports = c.len.ensures ∙ c.outputs.inside.ports.ok.0 ∙ ap (λ (d : Drains). length d.ports) c.outputs.view_is in
+    omega (arith, c.loop-index-test.true, c.loop-index.invariant.many, c.min-index-end.ensures, many)
+
+pub loop-index-init : goal.loop-index-init
+loop-index-init g c = record { many = refl; stand = λ start o at. at }
 
 pub returns-in-Err : goal.returns-in-Err
-returns-in-Err g c start o underlay written failures at =
-    let there : c.loop-i.i < length c.loop-i.port_sinks = omega (arith, c.loop-i-test.true, c.loop-i.auto.port_sinks) in
-    port_held (Unit {0}) WriteFault start o c.loop-i.port_sinks underlay written failures c.loop-i.i c.index-port_sinks-i.result c.hand_on_held.new.self there
-    (c.loop-i.invariant start o underlay written failures at) c.in-Err.field-0 c.in-Err.ensures
+returns-in-Err g c start o at = c.in-Err.ensures.handed start o (c.loop-index.invariant.stand start o at)
 
-pub loop-i-preserved : goal.loop-i-preserved
-loop-i-preserved g c start o underlay written failures at =
-    let there : c.loop-i.i < length c.loop-i.port_sinks = omega (arith, c.loop-i-test.true, c.loop-i.auto.port_sinks) in
-    port_handed (Unit {0}) WriteFault start o c.loop-i.port_sinks underlay written failures c.loop-i.i c.index-port_sinks-i.result c.hand_on_held.new.self there
-    (c.loop-i.invariant start o underlay written failures at) c.in_default.field-0 c.in_default.ensures
+pub loop-index-preserved : goal.loop-index-preserved
+loop-index-preserved g c = record { many = c.in_default.ensures.many ∙ c.loop-index.invariant.many; stand = λ start o at. c.in_default.ensures.handed start o (c.loop-index.invariant.stand start o at) }
 
 pub returns : goal.returns
-returns g c start o underlay written failures at = c.loop-i.invariant start o underlay written failures at
+returns g c start o at = c.loop-index.invariant.stand start o at

@@ -2,15 +2,15 @@ use Rattle.std.proofs.Common.{◌∙◌, subst, None}
 use Rattle.endpoint_core.specs.Decision.{refused_as}
 use Rattle.endpoint_core.specs.Step.{Decided}
 use Rattle.capture_run.specs.Writing.{with_line}
-use Rattle.stream_run.specs.Stage.{Lead, drains}
+use Rattle.stream_run.specs.Stage.{Lead}
 use Rattle.stream_run.proofs.Amidst.{put_at_line}
 use Rattle.stream_run.proofs.put.put_course.Goals as goal
 
 pub returns-in-Err-clause-order : goal.returns-in-Err-clause-order
 returns-in-Err-clause-order g c start o at =
-    let new = drains c.args.port_sinks.now c.args.underlay_sink.now (g.W.Output.written c.put_line.new.decisions) (g.W.Output.failures c.put_line.new.decisions) in
+    let new = c.put_line.new.outputs in
     let answer = Decided (refused_as c.in-Err.refused) in
-    let lead : Lead {T = Unit {0}} start new o (with_line o c.text.result.now) c.put_line.result = c.put_line.ensures start o c.args.port_sinks.now c.args.underlay_sink.now at in
+    let lead : Lead {T = Unit {0}} start new o (with_line o c.text.result.now) c.put_line.result = c.put_line.ensures.line start o at in
     let order = put_at_line c.args.desk.now.number None o c.args.event.now answer start new c.put_line.result
     (subst (λ l. Lead {T = Unit {0}} start new o (with_line o l) c.put_line.result) (c.text.ensures.value ∙ c.write_drop.ensures) lead) in
     rw c.in-Err.is order

@@ -8,7 +8,7 @@ use Rattle.endpoint_core.specs.Text.{outcomes_text}
 use Rattle.decision_lines.specs.Lines.{line_front, segment_text}
 use Rattle.capture_run.specs.Outputs.{Outputs}
 use Rattle.capture_run.specs.Writing.{with_all_sent, with_line}
-use Rattle.stream_run.specs.Stage.{Drains, Lead, StandAt, drains}
+use Rattle.stream_run.specs.Stage.{Drains, Lead, StandAt}
 use Rattle.stream_run.specs.Amidst.{SendsInOrder}
 use Rattle.stream_run.proofs.Amidst.{at_outlet, put_at_line}
 use Rattle.stream_run.proofs.Lining.{pieces}
@@ -21,9 +21,9 @@ pub returns-in-Err-clause-outputs : goal.returns-in-Err-clause-outputs
 returns-in-Err-clause-outputs g c start o at =
     let f = sent_at (state_of c.args.endpoint.now).bridges.settings c.args.came.now.vid c.args.came.now.frame in
     let sent = with_all_sent c.args.event.now.moment o (map f c.args.desk.now.places.items) in
-    let new = drains c.put_places.new.port_sinks c.put_places.new.underlay_sink (g.W.Output.written c.args.decisions.now) (g.W.Output.failures c.args.decisions.now) in
+    let new = c.put_places.new.outputs in
     let lead = subst (λ (ps : List Place). Lead start new o (with_all_sent c.args.event.now.moment o (map f ps)) c.put_places.result) c.as_slice.ensures.value
-    (c.put_places.ensures.sent start o (g.W.Output.written c.args.decisions.now) (g.W.Output.failures c.args.decisions.now) at) in
+    (c.put_places.ensures.sent start o at) in
     let failed = rw c.in-Err.is at lead in (
       wider start new o o sent (with_line sent _) failed.0 (fronts_self o) (front_line sent _)
           (no_line start new o o sent (with_line sent _) failed.0 refl (lines_stay c.args.event.now.moment o (map f c.args.desk.now.places.items))),
@@ -34,10 +34,10 @@ pub returns-in-Err-clause-order : goal.returns-in-Err-clause-order
 returns-in-Err-clause-order g c start o at =
     let S = (state_of c.args.endpoint.now).bridges.settings in
     let f = sent_at S c.args.came.now.vid c.args.came.now.frame in
-    let new = drains c.put_places.new.port_sinks c.put_places.new.underlay_sink (g.W.Output.written c.args.decisions.now) (g.W.Output.failures c.args.decisions.now) in
+    let new = c.put_places.new.outputs in
     let answer = Decided (by_verdict S c.args.came.now (Ok c.args.desk.now.places.items)) in
     let sends = subst (λ (ps : List Place). SendsInOrder start new c.args.event.now.moment o (map f ps) c.put_places.result) c.as_slice.ensures.value
-    (c.put_places.ensures.order start o (g.W.Output.written c.args.decisions.now) (g.W.Output.failures c.args.decisions.now) at) in
+    (c.put_places.ensures.order start o at) in
     let failed = rw c.in-Err.is at sends in
     at_outlet c.args.desk.now.number None o c.args.event.now answer start new failed.0 failed.2 failed.1 failed.3 failed.4
 
@@ -66,15 +66,15 @@ module _ (g : Over) (c : After-put_line g) where
       ∙ ap (λ l. (l ++ outcomes_text two outcomes) ++ 10 ∷ []) (c.begin.ensures.text ∙ ap (λ s. front ++ (segment_text (Some s) ++ codes " ")) c.segment.ensures)
       ∙ pieces front seg (codes " ") (outcomes_text two outcomes) (10 ∷ [])
 
-  line_put : (start : Drains) (o : Outputs) → StandAt start (drains c.args.port_sinks.now c.args.underlay_sink.now (g.W.Output.written c.args.decisions.now) (g.W.Output.failures c.args.decisions.now)) o
-      → Lead {T = Unit {0}} start (drains c.put_places.new.port_sinks c.put_places.new.underlay_sink (g.W.Output.written c.put_line.new.decisions) (g.W.Output.failures c.put_line.new.decisions)) (emitted o) (with_line (emitted o) text) c.put_line.result
+  line_put : (start : Drains) (o : Outputs) → StandAt start c.args.outputs.now o
+      → Lead {T = Unit {0}} start c.put_line.new.outputs (emitted o) (with_line (emitted o) text) c.put_line.result
   line_put start o at =
       let f = sent_at (state_of c.args.endpoint.now).bridges.settings c.args.came.now.vid c.args.came.now.frame in
-      let before = drains c.put_places.new.port_sinks c.put_places.new.underlay_sink (g.W.Output.written c.args.decisions.now) (g.W.Output.failures c.args.decisions.now) in
-      let new = drains c.put_places.new.port_sinks c.put_places.new.underlay_sink (g.W.Output.written c.put_line.new.decisions) (g.W.Output.failures c.put_line.new.decisions) in
+      let before = c.put_places.new.outputs in
+      let new = c.put_line.new.outputs in
       let stood = subst (λ (ps : List Place). StandAt start before (with_all_sent c.args.event.now.moment o (map f ps))) c.as_slice.ensures.value
-      (c.in_default.ensures.sent start o (g.W.Output.written c.args.decisions.now) (g.W.Output.failures c.args.decisions.now) at) in
-      let lead : Lead {T = Unit {0}} start new (emitted o) (with_line (emitted o) c.text.result.now) c.put_line.result = c.put_line.ensures start (emitted o) c.put_places.new.port_sinks c.put_places.new.underlay_sink stood in
+      (c.in_default.ensures.sent start o at) in
+      let lead : Lead {T = Unit {0}} start new (emitted o) (with_line (emitted o) c.text.result.now) c.put_line.result = c.put_line.ensures.line start (emitted o) stood in
       subst (λ l. Lead {T = Unit {0}} start new (emitted o) (with_line (emitted o) l) c.put_line.result) text_is lead
 
 pub returns-clause-order : goal.returns-clause-order

@@ -7,7 +7,7 @@ use Rattle.endpoint_state.specs.Settings.{Settings}
 use Rattle.endpoint_core.specs.Kept.{state_of}
 use Rattle.endpoint_core.specs.Step.{sent_at}
 use Rattle.capture_run.specs.Writing.{with_sent}
-use Rattle.stream_run.specs.Stage.{Lead, StandAt, drains}
+use Rattle.stream_run.specs.Stage.{Lead, StandAt}
 use Rattle.stream_run.proofs.put.put_local.Goals as goal
 
 -- the addresses, the tag and the body side by side are what is sent
@@ -20,13 +20,13 @@ octets_sent S vid port f v addresses tag put_in front behind same is =
     ∙ is
 
 pub returns-in-Err-clause-sent : goal.returns-in-Err-clause-sent
-returns-in-Err-clause-sent g c start o underlay written failures at =
-    let is = octets_sent (state_of c.args.endpoint.now).bridges.settings c.args.came.now.vid c.args.port c.args.came.now.frame _ _ _ c.tag_at-tag.result (sym (take-append-drop 6 _)) c.octets_of-tag.ensures.value (c.frame.view_is ∙ c.frame-frame.ensures) c.tag_at-tag.ensures in
-    subst (λ (s : Result (List ℕ) Reason). Lead {T = Unit {0}} start (drains c.put_at.new.sinks underlay written failures) o (with_sent c.args.moment o (record { place = Local c.args.port; sent = s })) (Err c.in-Err.target))
-    is (c.in-Err.ensures start o underlay written failures at)
+returns-in-Err-clause-sent g c start o at =
+    let is = octets_sent (state_of c.args.leaving.now.endpoint.now).bridges.settings c.args.leaving.now.came.now.vid c.args.port c.args.leaving.now.came.now.frame _ _ _ c.tag_at-tag.result (sym (take-append-drop 6 _)) c.octets_of-tag.ensures.value (c.frame.view_is ∙ c.frame-frame.ensures) c.tag_at-tag.ensures in
+    subst (λ (s : Result (List ℕ) Reason). Lead {T = Unit {0}} start c.put_at.new.outputs o (with_sent c.args.leaving.now.moment o (record { place = Local c.args.port; sent = s })) (Err c.in-Err.target))
+    is (c.in-Err.ensures start o at)
 
 pub returns-clause-sent : goal.returns-clause-sent
-returns-clause-sent g c start o underlay written failures at =
-    let is = octets_sent (state_of c.args.endpoint.now).bridges.settings c.args.came.now.vid c.args.port c.args.came.now.frame _ _ _ c.tag_at-tag.result (sym (take-append-drop 6 _)) c.octets_of-tag.ensures.value (c.frame.view_is ∙ c.frame-frame.ensures) c.tag_at-tag.ensures in
-    subst (λ (s : Result (List ℕ) Reason). StandAt start (drains c.put_at.new.sinks underlay written failures) (with_sent c.args.moment o (record { place = Local c.args.port; sent = s })))
-    is (c.in_default.ensures start o underlay written failures at)
+returns-clause-sent g c start o at =
+    let is = octets_sent (state_of c.args.leaving.now.endpoint.now).bridges.settings c.args.leaving.now.came.now.vid c.args.port c.args.leaving.now.came.now.frame _ _ _ c.tag_at-tag.result (sym (take-append-drop 6 _)) c.octets_of-tag.ensures.value (c.frame.view_is ∙ c.frame-frame.ensures) c.tag_at-tag.ensures in
+    subst (λ (s : Result (List ℕ) Reason). StandAt start c.put_at.new.outputs (with_sent c.args.leaving.now.moment o (record { place = Local c.args.port; sent = s })))
+    is (c.in_default.ensures start o at)

@@ -1,18 +1,21 @@
-use Rattle.std.proofs.Common.{◌++◌, [], Ok, Err, inl}
+use Rattle.std.proofs.Common.{◌++◌, [], sym, subst, Ok, Err, inl}
 use Rattle.pcap_io.specs.Written.{whole_frame, written_record}
 use Rattle.pcap_stream.specs.declared.fault.WriteFault.{WriteFault}
+use Rattle.stream_run.specs.Stage.{Drains, StandAt}
 use Rattle.stream_run.proofs.Standing.{sink_put}
 use Rattle.stream_run.proofs.put.put_out.Goals as goal
 
-pub returns-in-Ok : goal.returns-in-Ok
-returns-in-Ok g c start o ports written failures at =
-    let put = sink_put {E = WriteFault} start.underlay c.args.sink.now c.put.new.self o.underlay (written_record (whole_frame c.args.moment (c.args.head.now ++ (c.args.addresses.now ++ ([] ++ c.args.body.now))))) (Ok c.in-Ok.field-0) at.between.underlay at.well.underlay c.in-Ok.ensures in
+pub returns : goal.returns
+returns g c start o at =
+    let stood = subst (λ (d : Drains). StandAt start d o) (sym c.outputs.view_is) at in
+    let put = sink_put {E = WriteFault} start.underlay c.outputs.inside.underlay c.put.new.self o.underlay (written_record (whole_frame c.args.moment (c.args.head.now ++ (c.args.addresses.now ++ ([] ++ c.args.body.now))))) (Ok c.in_default.field-0) stood.between.underlay stood.well.underlay c.in_default.ensures in
     record {
-      between = record { ports = at.between.ports; underlay = put.0; decisions = at.between.decisions; order = inl at.between.decisions };
-      well = record { ports = at.well.ports; underlay = put.1; decisions = at.well.decisions };
+      between = record { ports = stood.between.ports; underlay = put.0; decisions = stood.between.decisions; order = inl stood.between.decisions };
+      well = record { ports = stood.well.ports; underlay = put.1; decisions = stood.well.decisions };
     }
 
 pub returns-in-Err : goal.returns-in-Err
-returns-in-Err g c start o ports written failures at =
-    let put = sink_put {T = Unit {0}} start.underlay c.args.sink.now c.put.new.self o.underlay (written_record (whole_frame c.args.moment (c.args.head.now ++ (c.args.addresses.now ++ ([] ++ c.args.body.now))))) (Err c.in-Err.field-0) at.between.underlay at.well.underlay c.in-Err.ensures in
-    (record { ports = at.between.ports; underlay = put.0; decisions = at.between.decisions; order = inl at.between.decisions }, put.1)
+returns-in-Err g c start o at =
+    let stood = subst (λ (d : Drains). StandAt start d o) (sym c.outputs.view_is) at in
+    let put = sink_put {T = Unit {0}} start.underlay c.outputs.inside.underlay c.put.new.self o.underlay (written_record (whole_frame c.args.moment (c.args.head.now ++ (c.args.addresses.now ++ ([] ++ c.args.body.now))))) (Err c.in-Err.field-0) stood.between.underlay stood.well.underlay c.in-Err.ensures in
+    (record { ports = stood.between.ports; underlay = put.0; decisions = stood.between.decisions; order = inl stood.between.decisions }, put.1)

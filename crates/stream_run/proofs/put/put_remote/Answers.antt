@@ -8,7 +8,7 @@ use Rattle.filter_db.specs.declared.place.Place.TheVariants.{Remote}
 use Rattle.endpoint_core.specs.Kept.{state_of}
 use Rattle.endpoint_core.specs.Step.{sent_at}
 use Rattle.capture_run.specs.Writing.{with_sent}
-use Rattle.stream_run.specs.Stage.{Lead, StandAt, drains}
+use Rattle.stream_run.specs.Stage.{Lead, StandAt}
 use Rattle.stream_run.proofs.put.put_remote.Goals as goal
 use Rattle.stream_run.proofs.put.put_remote.Goals.{in-Ok+in_default, in-Err}
 
@@ -22,27 +22,27 @@ packet_sent items head addresses f v sent lent front same is =
     ∙ is
 
 pub returns-in-Err-put_out-clause-sent : goal.returns-in-Err-put_out-clause-sent
-returns-in-Err-put_out-clause-sent g c start o ports written failures at =
-    let S = (state_of c.args.endpoint.now).bridges.settings in
-    let f = c.args.came.now.frame in
-    let whole = sent_at S c.args.came.now.vid f (Remote c.args.kind c.args.addr) in
+returns-in-Err-put_out-clause-sent g c start o at =
+    let S = (state_of c.args.leaving.now.endpoint.now).bridges.settings in
+    let f = c.args.leaving.now.came.now.frame in
+    let whole = sent_at S c.args.leaving.now.came.now.vid f (Remote c.args.kind c.args.addr) in
     let is = packet_sent c.put_head.new.head.items _ _ f _ whole.sent c.as_slice-head.ensures.value (sym (take-append-drop 6 _)) (c.frame.view_is ∙ c.frame-frame.ensures)
     (ap (text_behind c.put_head.new.head.items f) (sym c.in-Ok.is) ∙ c.put_head.ensures) in
-    subst (λ (s : Result (List ℕ) Reason). Lead {T = Unit {0}} start (drains ports c.put_out.new.sink written failures) o (with_sent c.args.moment o (record { place = Remote c.args.kind c.args.addr; sent = s })) (Err c.in-Err-put_out.target))
-    is (c.in-Err-put_out.ensures start o ports written failures at)
+    subst (λ (s : Result (List ℕ) Reason). Lead {T = Unit {0}} start c.put_out.new.outputs o (with_sent c.args.leaving.now.moment o (record { place = Remote c.args.kind c.args.addr; sent = s })) (Err c.in-Err-put_out.target))
+    is (c.in-Err-put_out.ensures start o at)
 
 pub returns-clause-sent : goal.returns-clause-sent
-returns-clause-sent g c start o ports written failures at =
-    let S = (state_of c.args.endpoint.now).bridges.settings in
-    let f = c.args.came.now.frame in
-    let whole = sent_at S c.args.came.now.vid f (Remote c.args.kind c.args.addr) in
+returns-clause-sent g c start o at =
+    let S = (state_of c.args.leaving.now.endpoint.now).bridges.settings in
+    let f = c.args.leaving.now.came.now.frame in
+    let whole = sent_at S c.args.leaving.now.came.now.vid f (Remote c.args.kind c.args.addr) in
     elim c.match-put_head.branch [
       | in-Ok+in_default w ↦
           let is = packet_sent c.put_head.new.head.items _ _ f _ whole.sent w.as_slice-head.ensures.value (sym (take-append-drop 6 _)) (w.frame.view_is ∙ w.frame-frame.ensures)
           (ap (text_behind c.put_head.new.head.items f) (sym w.in-Ok.is) ∙ c.put_head.ensures) in
-          rw w.underlay_sink-is (subst (λ (s : Result (List ℕ) Reason). StandAt start (drains ports w.put_out.new.sink written failures) (with_sent c.args.moment o (record { place = Remote c.args.kind c.args.addr; sent = s })))
-          is (w.in_default.ensures start o ports written failures at))
+          rw w.outputs-is (subst (λ (s : Result (List ℕ) Reason). StandAt start w.put_out.new.outputs (with_sent c.args.leaving.now.moment o (record { place = Remote c.args.kind c.args.addr; sent = s })))
+          is (w.in_default.ensures start o at))
       | in-Err w ↦
           let is : Err w.in-Err.reason ≡ whole.sent = ap (text_behind c.put_head.new.head.items f) (sym w.in-Err.is) ∙ c.put_head.ensures in
-          rw w.underlay_sink-is (subst (λ (s : Result (List ℕ) Reason). StandAt start (drains ports c.args.underlay_sink.now written failures) (with_sent c.args.moment o (record { place = Remote c.args.kind c.args.addr; sent = s }))) is at)
+          rw w.outputs-is (subst (λ (s : Result (List ℕ) Reason). StandAt start c.args.outputs.now (with_sent c.args.leaving.now.moment o (record { place = Remote c.args.kind c.args.addr; sent = s }))) is at)
     ]

@@ -1,5 +1,4 @@
 use Rattle.std.proofs.Common.{◌≡◌, ◌∙◌, ◌+◌, arith, ap, sym, subst, refl, length, ℕ, List, Vec, Global, Err}
-use Rattle.pcap_stream.specs.Sink.{Drain}
 use Rattle.overlay_settings.specs.Settings.{Settings}
 use Rattle.capture_run.specs.Among.{cuts_among}
 use Rattle.capture_run.specs.Outputs.{Outputs}
@@ -10,7 +9,7 @@ use Rattle.stream_run.specs.Begun.{AreAtFirst, first_turns}
 use Rattle.stream_run.specs.Cuts.{cuts_at}
 use Rattle.stream_run.specs.Left.{IsOpenedWith, ends}
 use Rattle.stream_run.specs.Over.{Tells, texts_octets}
-use Rattle.stream_run.specs.Stage.{Drains, FailedAt, StandAt, StandBetween, drains, no_texts}
+use Rattle.stream_run.specs.Stage.{FailedAt, StandAt, StandBetween, no_texts}
 use Rattle.stream_run.specs.Steps.{AreRead, AreReady, run_at, texts_behind}
 use Rattle.stream_run.proofs.Closing.{opened_read, over_lines, over_opening, over_run, over_whole, reach_lines, reach_opening, reach_run, reach_whole, seen_lines, seen_opening, seen_run, seen_whole}
 use Rattle.stream_run.proofs.Framing.{leaves_all, leaves_begun, leaves_cuts, leaves_events, leaves_headers, leaves_nothing, none_at, opened_all, opens_only_reads, ready_begun}
@@ -24,91 +23,87 @@ use Rattle.stream_run.proofs.run.run_on.Goals as goal
 
 -- ---- how far it has come
 
--- the outputs
-abbrev outputs_at : (g : Over) → List Drain → Drain → g.row.W.Denot → Drains
-outputs_at g ports underlay decisions = drains ports underlay (g.W.Output.written decisions) (g.W.Output.failures decisions)
-
 -- before anything is written
-none_written : (g : Over) (c : After-open_all g) (n : ℕ) → length c.args.ports.now ≡ n → let start = outputs_at g c.args.port_sinks.now c.args.underlay_sink.now c.args.decisions.now in StandAt start start (no_texts n)
-none_written g c n many = none_at (outputs_at g c.args.port_sinks.now c.args.underlay_sink.now c.args.decisions.now) n (c.requires.sinks ∙ many)
+none_written : (g : Over) (c : After-open_all g) (n : ℕ) → length c.args.captures.now.ports.items ≡ n → let start = c.args.outputs.now in StandAt start start (no_texts n)
+none_written g c n many = none_at c.args.outputs.now n (c.requires.sinks ∙ many)
 
 -- where a header failed, they hold a part of the headers
-header_failed : (g : Over) (c : In-Err-begin_all g) (n : ℕ) → length c.args.ports.now ≡ n
-    → let start = outputs_at g c.args.port_sinks.now c.args.underlay_sink.now c.args.decisions.now in let begun = outputs_at g c.begin_all.new.port_sinks c.begin_all.new.underlay_sink c.args.decisions.now in
+header_failed : (g : Over) (c : In-Err-begin_all g) (n : ℕ) → length c.args.captures.now.ports.items ≡ n
+    → let start = c.args.outputs.now in let begun = c.begin_all.new.outputs in
     StandBetween start begun (no_texts n) (empty_outputs n) × FailedAt c.in-Err-begin_all.target start begun
 header_failed g c n many =
-    let start = outputs_at g c.args.port_sinks.now c.args.underlay_sink.now c.args.decisions.now in
-    let begun = outputs_at g c.begin_all.new.port_sinks c.begin_all.new.underlay_sink c.args.decisions.now in
+    let start = c.args.outputs.now in
+    let begun = c.begin_all.new.outputs in
     subst (λ n. StandBetween start begun (no_texts n) (empty_outputs n) × FailedAt c.in-Err-begin_all.target start begun) (c.requires.sinks ∙ many)
-    (c.in-Err-begin_all.ensures start (g.W.Output.written c.args.decisions.now) (g.W.Output.failures c.args.decisions.now) (none_at start (length c.args.port_sinks.now) refl))
+    (c.in-Err-begin_all.ensures start (none_at start (length c.args.outputs.now.ports) refl))
 
 -- behind the headers
-headers_written : (g : Over) (c : After-fetch_all g) (n : ℕ) → length c.args.ports.now ≡ n
-    → let start = outputs_at g c.args.port_sinks.now c.args.underlay_sink.now c.args.decisions.now in let begun = outputs_at g c.begin_all.new.port_sinks c.begin_all.new.underlay_sink c.args.decisions.now in StandAt start begun (empty_outputs n)
+headers_written : (g : Over) (c : After-fetch_all g) (n : ℕ) → length c.args.captures.now.ports.items ≡ n
+    → let start = c.args.outputs.now in let begun = c.begin_all.new.outputs in StandAt start begun (empty_outputs n)
 headers_written g c n many =
-    let start = outputs_at g c.args.port_sinks.now c.args.underlay_sink.now c.args.decisions.now in
-    let begun = outputs_at g c.begin_all.new.port_sinks c.begin_all.new.underlay_sink c.args.decisions.now in
-    subst (λ n. StandAt start begun (empty_outputs n)) (c.requires.sinks ∙ many) (c.in_default-begin_all.ensures start (g.W.Output.written c.args.decisions.now) (g.W.Output.failures c.args.decisions.now) (none_at start (length c.args.port_sinks.now) refl))
+    let start = c.args.outputs.now in
+    let begun = c.begin_all.new.outputs in
+    subst (λ n. StandAt start begun (empty_outputs n)) (c.requires.sinks ∙ many) (c.in_default-begin_all.ensures start (none_at start (length c.args.outputs.now.ports) refl))
 
 -- the captures are as many as before, and where they tell their octets, they stand at their first records
-as_many : (g : Over) (c : After-fetch_all g) → length c.open_all.new.ports ≡ length c.args.ports.now
-as_many g c = omega (arith, c.open_all.auto.ports)
+as_many : (g : Over) (c : After-fetch_all g) → length c.open_all.new.captures.ports.items ≡ length c.args.captures.now.ports.items
+as_many g c = omega (arith, c.in_default.ensures.many)
 
-at_first : (g : Over) (c : After-fetch_all g) (texts : List (Vec ℕ Global)) (text : List ℕ) → Tells c.args.ports.now c.args.underlay.now texts text
-    → AreAtFirst (texts_octets texts) text c.open_all.new.ports c.open_all.new.underlay
-at_first g c texts text tells = opened_read c.args.ports.now c.open_all.new.ports c.args.underlay.now c.open_all.new.underlay texts text tells (as_many g c) c.in_default.ensures.opened
+at_first : (g : Over) (c : After-fetch_all g) (texts : List (Vec ℕ Global)) (text : List ℕ) → Tells c.args.captures.now.ports.items c.args.captures.now.underlay texts text
+    → AreAtFirst (texts_octets texts) text c.open_all.new.captures.ports.items c.open_all.new.captures.underlay
+at_first g c texts text tells = opened_read c.args.captures.now.ports.items c.open_all.new.captures.ports.items c.args.captures.now.underlay c.open_all.new.captures.underlay texts text tells (as_many g c) c.in_default.ensures.opened
 
 -- the first records were fetched
-ready : (g : Over) (c : In_default-fetch_all g) (settings : Settings) → IsOpenedWith settings c.args.ports.now (state_of c.args.endpoint.now)
-    → AreReady c.args.changes.now (run_at c.fetch_all.new.ports c.fetch_all.new.underlay c.fetch_all.new.turns (state_of c.args.endpoint.now) 0 (outputs_at g c.begin_all.new.port_sinks c.begin_all.new.underlay_sink c.args.decisions.now))
+ready : (g : Over) (c : In_default-fetch_all g) (settings : Settings) → IsOpenedWith settings c.args.captures.now.ports.items (state_of c.args.taker.now.endpoint)
+    → AreReady c.args.part.now.changes.now (run_at c.fetch_all.new.captures.ports.items c.fetch_all.new.captures.underlay c.fetch_all.new.turns (state_of c.args.taker.now.endpoint) 0 c.begin_all.new.outputs)
 ready g c settings is =
-    let begun = outputs_at g c.begin_all.new.port_sinks c.begin_all.new.underlay_sink c.args.decisions.now in
-    let many : length c.open_all.new.ports ≡ length c.args.ports.now = omega (arith, c.open_all.auto.ports) in
-    let turns : c.args.turns.now ≡ _ = c.requires.turns ∙ ap (λ n. first_turns c.args.changes.now (n + 1)) (sym many) in
-    subst (λ ts. AreReady c.args.changes.now (run_at c.fetch_all.new.ports c.fetch_all.new.underlay ts (state_of c.args.endpoint.now) 0 begun)) refl
-    (c.in_default-fetch_all.ensures.ready (state_of c.args.endpoint.now) begun (ap (λ (s : State). s.moment) is.state_is)
-    (ready_begun c.args.changes.now c.open_all.new.ports c.open_all.new.underlay settings (state_of c.args.endpoint.now) begun _ c.requires.timely (omega (arith, many, c.requires.few)) (many ∙ is.many) is.state_is turns))
+    let begun = c.begin_all.new.outputs in
+    let many : length c.open_all.new.captures.ports.items ≡ length c.args.captures.now.ports.items = omega (arith, c.in_default.ensures.many) in
+    let turns : c.args.turns.now ≡ _ = c.requires.turns ∙ ap (λ n. first_turns c.args.part.now.changes.now (n + 1)) (sym many) in
+    subst (λ ts. AreReady c.args.part.now.changes.now (run_at c.fetch_all.new.captures.ports.items c.fetch_all.new.captures.underlay ts (state_of c.args.taker.now.endpoint) 0 begun)) refl
+    (c.in_default-fetch_all.ensures.ready (state_of c.args.taker.now.endpoint) begun (ap (λ (s : State). s.moment) is.state_is)
+    (ready_begun c.args.part.now.changes.now c.open_all.new.captures.ports.items c.open_all.new.captures.underlay settings (state_of c.args.taker.now.endpoint) begun _ c.requires.timely (omega (arith, many, c.requires.few)) (many ∙ is.many) is.state_is turns))
 
-read : (g : Over) (c : In_default-fetch_all g) (texts : List (Vec ℕ Global)) (text : List ℕ) → AreAtFirst (texts_octets texts) text c.open_all.new.ports c.open_all.new.underlay
-    → AreRead (texts_octets texts) text c.fetch_all.new.turns c.fetch_all.new.ports c.fetch_all.new.underlay
-read g c texts text at = subst (λ ts. AreRead (texts_octets texts) text ts c.fetch_all.new.ports c.fetch_all.new.underlay) refl (c.in_default-fetch_all.ensures.told (texts_octets texts) text at)
+read : (g : Over) (c : In_default-fetch_all g) (texts : List (Vec ℕ Global)) (text : List ℕ) → AreAtFirst (texts_octets texts) text c.open_all.new.captures.ports.items c.open_all.new.captures.underlay
+    → AreRead (texts_octets texts) text c.fetch_all.new.turns c.fetch_all.new.captures.ports.items c.fetch_all.new.captures.underlay
+read g c texts text at = subst (λ ts. AreRead (texts_octets texts) text ts c.fetch_all.new.captures.ports.items c.fetch_all.new.captures.underlay) refl (c.in_default-fetch_all.ensures.told (texts_octets texts) text at)
 
 -- behind the events
 abbrev texts_put : (g : Over) → After-put_cuts_among g → ℕ → Outputs
-texts_put g c n = texts_behind c.args.segments.now c.args.changes.now (state_of c.args.endpoint.now) (empty_outputs n) c.in_default-put_events.ensures.run.es
+texts_put g c n = texts_behind c.args.part.now.segments.now c.args.part.now.changes.now (state_of c.args.taker.now.endpoint) (empty_outputs n) c.in_default-put_events.ensures.run.run.es
 
-events_written : (g : Over) (c : After-put_cuts_among g) (n : ℕ) → let start = outputs_at g c.args.port_sinks.now c.args.underlay_sink.now c.args.decisions.now in let begun = outputs_at g c.begin_all.new.port_sinks c.begin_all.new.underlay_sink c.args.decisions.now in StandAt start begun (empty_outputs n)
-    → StandAt start (outputs_at g c.put_events.new.port_sinks c.put_events.new.underlay_sink c.put_events.new.decisions) (texts_put g c n)
-events_written g c n at = c.in_default-put_events.ensures.run.outputs (outputs_at g c.args.port_sinks.now c.args.underlay_sink.now c.args.decisions.now) (empty_outputs n) at
+events_written : (g : Over) (c : After-put_cuts_among g) (n : ℕ) → let start = c.args.outputs.now in let begun = c.begin_all.new.outputs in StandAt start begun (empty_outputs n)
+    → StandAt start c.put_events.new.outputs (texts_put g c n)
+events_written g c n at = c.in_default-put_events.ensures.run.run.outputs c.args.outputs.now (empty_outputs n) at
 
 -- where a line of a cut capture failed, they hold a part of those lines
 lines_failed : (g : Over) (c : In-Err-put_cuts_among g) (n : ℕ)
-    → let start = outputs_at g c.args.port_sinks.now c.args.underlay_sink.now c.args.decisions.now in let o = texts_behind c.args.segments.now c.args.changes.now (state_of c.args.endpoint.now) (empty_outputs n) c.in_default-put_events.ensures.run.es in StandAt start (outputs_at g c.put_events.new.port_sinks c.put_events.new.underlay_sink c.put_events.new.decisions) o
-    → let cut = outputs_at g c.put_events.new.port_sinks c.put_events.new.underlay_sink c.put_cuts_among.new.decisions in StandBetween start cut o (with_cuts o (cuts_among c.args.segments.now (cuts_at c.put_events.new.ports c.put_events.new.underlay c.put_events.new.turns))) × FailedAt c.in-Err-put_cuts_among.target start cut
+    → let start = c.args.outputs.now in let o = texts_behind c.args.part.now.segments.now c.args.part.now.changes.now (state_of c.args.taker.now.endpoint) (empty_outputs n) c.in_default-put_events.ensures.run.run.es in StandAt start c.put_events.new.outputs o
+    → let cut = c.put_cuts_among.new.outputs in StandBetween start cut o (with_cuts o (cuts_among c.args.part.now.segments.now (cuts_at c.put_events.new.captures.ports.items c.put_events.new.captures.underlay c.put_events.new.turns))) × FailedAt c.in-Err-put_cuts_among.target start cut
 lines_failed g c n put =
-    let start = outputs_at g c.args.port_sinks.now c.args.underlay_sink.now c.args.decisions.now in
-    let o = texts_behind c.args.segments.now c.args.changes.now (state_of c.args.endpoint.now) (empty_outputs n) c.in_default-put_events.ensures.run.es in
-    let cut = outputs_at g c.put_events.new.port_sinks c.put_events.new.underlay_sink c.put_cuts_among.new.decisions in
-    subst (λ ts. StandBetween start cut o (with_cuts o (cuts_among c.args.segments.now (cuts_at c.put_events.new.ports c.put_events.new.underlay ts))) × FailedAt c.in-Err-put_cuts_among.target start cut) refl
-    (c.in-Err-put_cuts_among.ensures start o c.put_events.new.port_sinks c.put_events.new.underlay_sink put)
+    let start = c.args.outputs.now in
+    let o = texts_behind c.args.part.now.segments.now c.args.part.now.changes.now (state_of c.args.taker.now.endpoint) (empty_outputs n) c.in_default-put_events.ensures.run.run.es in
+    let cut = c.put_cuts_among.new.outputs in
+    subst (λ ts. StandBetween start cut o (with_cuts o (cuts_among c.args.part.now.segments.now (cuts_at c.put_events.new.captures.ports.items c.put_events.new.captures.underlay ts))) × FailedAt c.in-Err-put_cuts_among.target start cut) refl
+    (c.in-Err-put_cuts_among.ensures start o put)
 
 -- ---- a capture can't be opened
 
 pub returns-in-Err-clause-done : goal.returns-in-Err-clause-done
 returns-in-Err-clause-done g c settings is =
     let w = goal.at.returns-in-Err-clause-done g c in
-    let start = outputs_at g c.args.port_sinks.now c.args.underlay_sink.now c.args.decisions.now in
+    let start = c.args.outputs.now in
     let none = none_written g w.After-open_all in
-    let only_reads = opens_only_reads c.args.ports.now c.args.underlay.now c.open_all.new.ports c.open_all.new.underlay c.in-Err.fault c.in-Err.ensures.opened in
+    let only_reads = opens_only_reads c.args.captures.now.ports.items c.args.captures.now.underlay c.open_all.new.captures.ports.items c.open_all.new.captures.underlay c.in-Err.fault c.in-Err.ensures.opened in
     record {
-      left = leaves_nothing c.args.segments.now settings c.args.changes.now (ends c.args.ports.now c.args.underlay.now start) (ends c.open_all.new.ports c.open_all.new.underlay start) c.in-Err.fault only_reads (none (length settings.ports) is.many);
-      shown = shows_nothing c.args.segments.now settings c.args.changes.now start start g.T.Watch.sees g.T.Watch.ends c.args.watch.now c.in-Err.fault only_reads (none (length settings.ports) is.many);
+      left = leaves_nothing c.args.part.now.segments.now settings c.args.part.now.changes.now (ends c.args.captures.now.ports.items c.args.captures.now.underlay start) (ends c.open_all.new.captures.ports.items c.open_all.new.captures.underlay start) c.in-Err.fault only_reads (none (length settings.ports) is.many);
+      shown = shows_nothing c.args.part.now.segments.now settings c.args.part.now.changes.now start start g.T.Watch.sees g.T.Watch.ends c.args.watch.now c.in-Err.fault only_reads (none (length settings.ports) is.many);
       over = λ texts text tells.
-          let many = tells_texts c.args.ports.now c.args.underlay.now texts text tells in
+          let many = tells_texts c.args.captures.now.ports.items c.args.captures.now.underlay texts text tells in
           record {
-            left = over_opening c.args.segments.now settings c.args.changes.now texts text start start c.args.ports.now c.open_all.new.ports c.args.underlay.now c.open_all.new.underlay c.in-Err.fault tells c.in-Err.ensures.opened (sym many ∙ is.many) (none (length texts) many);
-            reached = reach_opening c.args.segments.now settings c.args.changes.now texts text start start c.args.ports.now c.open_all.new.ports c.args.underlay.now c.open_all.new.underlay c.in-Err.fault c.in-Err.ensures.opened (none (length texts) many);
-            seen = seen_opening c.args.segments.now settings c.args.changes.now texts text start g.T.Watch.sees g.T.Watch.ends c.args.watch.now start c.args.ports.now c.open_all.new.ports c.args.underlay.now c.open_all.new.underlay c.in-Err.fault c.in-Err.ensures.opened (none (length texts) many);
+            left = over_opening c.args.part.now.segments.now settings c.args.part.now.changes.now texts text start start c.args.captures.now.ports.items c.open_all.new.captures.ports.items c.args.captures.now.underlay c.open_all.new.captures.underlay c.in-Err.fault tells c.in-Err.ensures.opened (sym many ∙ is.many) (none (length texts) many);
+            reached = reach_opening c.args.part.now.segments.now settings c.args.part.now.changes.now texts text start start c.args.captures.now.ports.items c.open_all.new.captures.ports.items c.args.captures.now.underlay c.open_all.new.captures.underlay c.in-Err.fault c.in-Err.ensures.opened (none (length texts) many);
+            seen = seen_opening c.args.part.now.segments.now settings c.args.part.now.changes.now texts text start g.T.Watch.sees g.T.Watch.ends c.args.watch.now start c.args.captures.now.ports.items c.open_all.new.captures.ports.items c.args.captures.now.underlay c.open_all.new.captures.underlay c.in-Err.fault c.in-Err.ensures.opened (none (length texts) many);
           };
     }
 
@@ -117,53 +112,53 @@ returns-in-Err-clause-done g c settings is =
 pub returns-in-Err-begin_all-clause-done : goal.returns-in-Err-begin_all-clause-done
 returns-in-Err-begin_all-clause-done g c settings is =
     let w = goal.at.returns-in-Err-begin_all-clause-done g c in
-    let start = outputs_at g c.args.port_sinks.now c.args.underlay_sink.now c.args.decisions.now in
-    let begun = outputs_at g c.begin_all.new.port_sinks c.begin_all.new.underlay_sink c.args.decisions.now in
+    let start = c.args.outputs.now in
+    let begun = c.begin_all.new.outputs in
     let failed = header_failed g w.In-Err-begin_all in
     record {
-      left = leaves_begun c.args.segments.now settings c.args.changes.now (ends c.args.ports.now c.args.underlay.now start) (ends c.open_all.new.ports c.open_all.new.underlay begun) c.in-Err-begin_all.target (failed (length settings.ports) is.many);
-      shown = shows_begun c.args.segments.now settings c.args.changes.now start begun g.T.Watch.sees g.T.Watch.ends c.args.watch.now c.in-Err-begin_all.target (failed (length settings.ports) is.many).0;
+      left = leaves_begun c.args.part.now.segments.now settings c.args.part.now.changes.now (ends c.args.captures.now.ports.items c.args.captures.now.underlay start) (ends c.open_all.new.captures.ports.items c.open_all.new.captures.underlay begun) c.in-Err-begin_all.target (failed (length settings.ports) is.many);
+      shown = shows_begun c.args.part.now.segments.now settings c.args.part.now.changes.now start begun g.T.Watch.sees g.T.Watch.ends c.args.watch.now c.in-Err-begin_all.target (failed (length settings.ports) is.many).0;
       over = λ texts text tells.
-          let many = tells_texts c.args.ports.now c.args.underlay.now texts text tells in
+          let many = tells_texts c.args.captures.now.ports.items c.args.captures.now.underlay texts text tells in
           let half = (failed (length texts) many).0 in
-          let can = all_first texts text c.open_all.new.ports c.open_all.new.underlay (opened_read c.args.ports.now c.open_all.new.ports c.args.underlay.now c.open_all.new.underlay texts text tells (omega (arith, c.open_all.auto.ports)) c.in_default.ensures.opened) in
+          let can = all_first texts text c.open_all.new.captures.ports.items c.open_all.new.captures.underlay (opened_read c.args.captures.now.ports.items c.open_all.new.captures.ports.items c.args.captures.now.underlay c.open_all.new.captures.underlay texts text tells (omega (arith, c.in_default.ensures.many)) c.in_default.ensures.opened) in
           record {
-            left = over_headers c.args.segments.now settings c.args.changes.now texts text start begun c.in-Err-begin_all.target can half;
-            reached = reach_headers c.args.segments.now settings c.args.changes.now texts text start begun c.open_all.new.ports c.open_all.new.underlay c.in-Err-begin_all.target can half;
-            seen = seen_headers c.args.segments.now settings c.args.changes.now texts text start begun g.T.Watch.sees g.T.Watch.ends c.args.watch.now c.in-Err-begin_all.target can half;
+            left = over_headers c.args.part.now.segments.now settings c.args.part.now.changes.now texts text start begun c.in-Err-begin_all.target can half;
+            reached = reach_headers c.args.part.now.segments.now settings c.args.part.now.changes.now texts text start begun c.open_all.new.captures.ports.items c.open_all.new.captures.underlay c.in-Err-begin_all.target can half;
+            seen = seen_headers c.args.part.now.segments.now settings c.args.part.now.changes.now texts text start begun g.T.Watch.sees g.T.Watch.ends c.args.watch.now c.in-Err-begin_all.target can half;
           };
     }
 
 -- ---- a first record can't be fetched
 
 pub fetch_all-requires-clause-open : goal.fetch_all-requires-clause-open
-fetch_all-requires-clause-open g c = opened_all c.args.ports.now c.args.underlay.now c.open_all.new.ports c.open_all.new.underlay (omega (arith, c.open_all.auto.ports)) c.in_default.ensures.opened
+fetch_all-requires-clause-open g c = opened_all c.args.captures.now.ports.items c.args.captures.now.underlay c.open_all.new.captures.ports.items c.open_all.new.captures.underlay (omega (arith, c.in_default.ensures.many)) c.in_default.ensures.opened
 
 pub returns-in-Err-fetch_all-clause-done : goal.returns-in-Err-fetch_all-clause-done
 returns-in-Err-fetch_all-clause-done g c settings is =
     let w = goal.at.returns-in-Err-fetch_all-clause-done g c in
-    let start = outputs_at g c.args.port_sinks.now c.args.underlay_sink.now c.args.decisions.now in
-    let begun = outputs_at g c.begin_all.new.port_sinks c.begin_all.new.underlay_sink c.args.decisions.now in
+    let start = c.args.outputs.now in
+    let begun = c.begin_all.new.outputs in
     let headers = headers_written g w.After-fetch_all in
     record {
-      left = leaves_headers c.args.segments.now settings c.args.changes.now (ends c.args.ports.now c.args.underlay.now start) (ends c.fetch_all.new.ports c.fetch_all.new.underlay begun) c.in-Err-fetch_all.fault c.in-Err-fetch_all.ensures.only_reads (headers (length settings.ports) is.many);
-      shown = shows_headers c.args.segments.now settings c.args.changes.now start begun g.T.Watch.sees g.T.Watch.ends c.args.watch.now c.in-Err-fetch_all.fault c.in-Err-fetch_all.ensures.only_reads (headers (length settings.ports) is.many);
+      left = leaves_headers c.args.part.now.segments.now settings c.args.part.now.changes.now (ends c.args.captures.now.ports.items c.args.captures.now.underlay start) (ends c.fetch_all.new.captures.ports.items c.fetch_all.new.captures.underlay begun) c.in-Err-fetch_all.fault c.in-Err-fetch_all.ensures.only_reads (headers (length settings.ports) is.many);
+      shown = shows_headers c.args.part.now.segments.now settings c.args.part.now.changes.now start begun g.T.Watch.sees g.T.Watch.ends c.args.watch.now c.in-Err-fetch_all.fault c.in-Err-fetch_all.ensures.only_reads (headers (length settings.ports) is.many);
       over = λ texts text tells.
-          let many = tells_texts c.args.ports.now c.args.underlay.now texts text tells in
+          let many = tells_texts c.args.captures.now.ports.items c.args.captures.now.underlay texts text tells in
           let at = headers (length texts) many in
           let first = at_first g w.After-fetch_all texts text tells in
-          let can = all_first texts text c.open_all.new.ports c.open_all.new.underlay first in
+          let can = all_first texts text c.open_all.new.captures.ports.items c.open_all.new.captures.underlay first in
           let told = c.in-Err-fetch_all.ensures.told (texts_octets texts) text first in
           record {
-            left = over_firsts c.args.segments.now settings c.args.changes.now texts text start begun c.in-Err-fetch_all.fault c.fetch_all.new.turns c.fetch_all.new.ports c.fetch_all.new.underlay told can at;
-            reached = reach_firsts c.args.segments.now settings c.args.changes.now texts text start begun c.in-Err-fetch_all.fault c.fetch_all.new.turns c.fetch_all.new.ports c.fetch_all.new.underlay told can at;
-            seen = seen_firsts c.args.segments.now settings c.args.changes.now texts text start begun g.T.Watch.sees g.T.Watch.ends c.args.watch.now c.in-Err-fetch_all.fault c.fetch_all.new.turns c.fetch_all.new.ports c.fetch_all.new.underlay told can at;
+            left = over_firsts c.args.part.now.segments.now settings c.args.part.now.changes.now texts text start begun c.in-Err-fetch_all.fault c.fetch_all.new.turns c.fetch_all.new.captures.ports.items c.fetch_all.new.captures.underlay told can at;
+            reached = reach_firsts c.args.part.now.segments.now settings c.args.part.now.changes.now texts text start begun c.in-Err-fetch_all.fault c.fetch_all.new.turns c.fetch_all.new.captures.ports.items c.fetch_all.new.captures.underlay told can at;
+            seen = seen_firsts c.args.part.now.segments.now settings c.args.part.now.changes.now texts text start begun g.T.Watch.sees g.T.Watch.ends c.args.watch.now c.in-Err-fetch_all.fault c.fetch_all.new.turns c.fetch_all.new.captures.ports.items c.fetch_all.new.captures.underlay told can at;
           };
     }
 
 pub returns-in-Err-fetch_all-clause-reads : goal.returns-in-Err-fetch_all-clause-reads
 returns-in-Err-fetch_all-clause-reads g c =
-    reads_behind {T = Unit {0}} c.args.ports.now c.open_all.new.ports c.fetch_all.new.ports c.args.underlay.now c.open_all.new.underlay c.fetch_all.new.underlay (Err c.in-Err-fetch_all.fault) c.in_default.ensures.reads c.in-Err-fetch_all.ensures.reads
+    reads_behind {T = Unit {0}} c.args.captures.now.ports.items c.open_all.new.captures.ports.items c.fetch_all.new.captures.ports.items c.args.captures.now.underlay c.open_all.new.captures.underlay c.fetch_all.new.captures.underlay (Err c.in-Err-fetch_all.fault) c.in_default.ensures.reads c.in-Err-fetch_all.ensures.reads
 
 -- ---- it stops among the events
 
@@ -173,63 +168,63 @@ put_events-requires-clause-ready g c = ready g (goal.at.put_events-requires-clau
 pub returns-in-Err-put_events-clause-done : goal.returns-in-Err-put_events-clause-done
 returns-in-Err-put_events-clause-done g c settings is =
     let w = goal.at.returns-in-Err-put_events-clause-done g c in
-    let start = outputs_at g c.args.port_sinks.now c.args.underlay_sink.now c.args.decisions.now in
-    let begun = outputs_at g c.begin_all.new.port_sinks c.begin_all.new.underlay_sink c.args.decisions.now in
+    let start = c.args.outputs.now in
+    let begun = c.begin_all.new.outputs in
     let headers = headers_written g w.After-fetch_all in
     let all_ready = ready g w.In_default-fetch_all settings is in
-    let run = c.in-Err-put_events.ensures.run in
+    let run = c.in-Err-put_events.ensures.run.run in
     let n = length settings.ports in
     record {
-      left = leaves_events c.args.segments.now settings c.args.changes.now (ends c.args.ports.now c.args.underlay.now start) (ends c.put_events.new.ports c.put_events.new.underlay (outputs_at g c.put_events.new.port_sinks c.put_events.new.underlay_sink c.put_events.new.decisions)) (state_of c.args.endpoint.now) run.es run.more c.in-Err-put_events.fault is.state_is run.part run.numbered
+      left = leaves_events c.args.part.now.segments.now settings c.args.part.now.changes.now (ends c.args.captures.now.ports.items c.args.captures.now.underlay start) (ends c.put_events.new.captures.ports.items c.put_events.new.captures.underlay c.put_events.new.outputs) (state_of c.args.taker.now.endpoint) run.es run.more c.in-Err-put_events.fault is.state_is run.part run.numbered
           (run.outputs start (empty_outputs n) (headers n is.many)) (run.order start (empty_outputs n) (headers n is.many));
-      shown = shows_events c.args.segments.now settings c.args.changes.now start begun g.T.Watch.sees g.T.Watch.ends c.args.watch.now
-          (run_at c.fetch_all.new.ports c.fetch_all.new.underlay c.fetch_all.new.turns (state_of c.args.endpoint.now) 0 begun) _ is.state_is (headers n is.many) c.put_events.new.watch c.in-Err-put_events.fault c.in-Err-put_events.ensures;
+      shown = shows_events c.args.part.now.segments.now settings c.args.part.now.changes.now start begun g.T.Watch.sees g.T.Watch.ends c.args.watch.now
+          (run_at c.fetch_all.new.captures.ports.items c.fetch_all.new.captures.underlay c.fetch_all.new.turns (state_of c.args.taker.now.endpoint) 0 begun) _ is.state_is (headers n is.many) c.put_events.new.watch c.in-Err-put_events.fault c.in-Err-put_events.ensures.run;
       over = λ texts text tells.
-          let many = tells_texts c.args.ports.now c.args.underlay.now texts text tells in
+          let many = tells_texts c.args.captures.now.ports.items c.args.captures.now.underlay texts text tells in
           let at = headers (length texts) many in
           let first = read g w.In_default-fetch_all texts text (at_first g w.After-fetch_all texts text tells) in
           record {
-            left = over_run c.args.segments.now settings c.args.changes.now texts text start c.fetch_all.new.ports c.fetch_all.new.underlay c.fetch_all.new.turns (state_of c.args.endpoint.now) begun _ all_ready first at is.state_is c.in-Err-put_events.fault run;
-            reached = reach_run c.args.segments.now settings c.args.changes.now texts text start c.fetch_all.new.ports c.fetch_all.new.underlay c.fetch_all.new.turns (state_of c.args.endpoint.now) begun _ all_ready first at is.state_is c.in-Err-put_events.fault run;
-            seen = seen_run c.args.segments.now settings c.args.changes.now texts text start c.fetch_all.new.ports c.fetch_all.new.underlay c.fetch_all.new.turns (state_of c.args.endpoint.now) begun _ all_ready first at is.state_is
-                g.T.Watch.sees g.T.Watch.ends c.args.watch.now c.in-Err-put_events.fault c.put_events.new.watch c.in-Err-put_events.ensures;
+            left = over_run c.args.part.now.segments.now settings c.args.part.now.changes.now texts text start c.fetch_all.new.captures.ports.items c.fetch_all.new.captures.underlay c.fetch_all.new.turns (state_of c.args.taker.now.endpoint) begun _ all_ready first at is.state_is c.in-Err-put_events.fault run;
+            reached = reach_run c.args.part.now.segments.now settings c.args.part.now.changes.now texts text start c.fetch_all.new.captures.ports.items c.fetch_all.new.captures.underlay c.fetch_all.new.turns (state_of c.args.taker.now.endpoint) begun _ all_ready first at is.state_is c.in-Err-put_events.fault run;
+            seen = seen_run c.args.part.now.segments.now settings c.args.part.now.changes.now texts text start c.fetch_all.new.captures.ports.items c.fetch_all.new.captures.underlay c.fetch_all.new.turns (state_of c.args.taker.now.endpoint) begun _ all_ready first at is.state_is
+                g.T.Watch.sees g.T.Watch.ends c.args.watch.now c.in-Err-put_events.fault c.put_events.new.watch c.in-Err-put_events.ensures.run;
           };
     }
 
 pub returns-in-Err-put_events-clause-reads : goal.returns-in-Err-put_events-clause-reads
 returns-in-Err-put_events-clause-reads g c =
-    reads_behind {T = Unit {0}} c.args.ports.now c.fetch_all.new.ports c.put_events.new.ports c.args.underlay.now c.fetch_all.new.underlay c.put_events.new.underlay (Err c.in-Err-put_events.fault)
-    (quiet_on c.args.ports.now c.open_all.new.ports c.fetch_all.new.ports c.args.underlay.now c.open_all.new.underlay c.fetch_all.new.underlay c.in_default.ensures.reads c.in_default-fetch_all.ensures.reads)
-    c.in-Err-put_events.ensures.run.reads
+    reads_behind {T = Unit {0}} c.args.captures.now.ports.items c.fetch_all.new.captures.ports.items c.put_events.new.captures.ports.items c.args.captures.now.underlay c.fetch_all.new.captures.underlay c.put_events.new.captures.underlay (Err c.in-Err-put_events.fault)
+    (quiet_on c.args.captures.now.ports.items c.open_all.new.captures.ports.items c.fetch_all.new.captures.ports.items c.args.captures.now.underlay c.open_all.new.captures.underlay c.fetch_all.new.captures.underlay c.in_default.ensures.reads c.in_default-fetch_all.ensures.reads)
+    c.in-Err-put_events.ensures.run.run.reads
 
 -- ---- behind the last event
 
 pub returns-in-Ok-clause-done : goal.returns-in-Ok-clause-done
 returns-in-Ok-clause-done g c settings is =
     let w = goal.at.returns-in-Ok-clause-done g c in
-    let start = outputs_at g c.args.port_sinks.now c.args.underlay_sink.now c.args.decisions.now in
-    let begun = outputs_at g c.begin_all.new.port_sinks c.begin_all.new.underlay_sink c.args.decisions.now in
+    let start = c.args.outputs.now in
+    let begun = c.begin_all.new.outputs in
     let headers = headers_written g w.After-fetch_all in
     let all_ready = ready g w.In_default-fetch_all settings is in
-    let cut = outputs_at g c.put_events.new.port_sinks c.put_events.new.underlay_sink c.put_cuts_among.new.decisions in
-    let run = c.in_default-put_events.ensures.run in
+    let cut = c.put_cuts_among.new.outputs in
+    let run = c.in_default-put_events.ensures.run.run in
     let put = events_written g w.After-put_cuts_among in
     let n = length settings.ports in
-    let lines = c.in-Ok.ensures start (texts_put g w.After-put_cuts_among n) c.put_events.new.port_sinks c.put_events.new.underlay_sink (put n (headers n is.many)) in
+    let lines = c.in-Ok.ensures start (texts_put g w.After-put_cuts_among n) (put n (headers n is.many)) in
     record {
-      left = leaves_all c.args.segments.now settings c.args.changes.now (ends c.args.ports.now c.args.underlay.now start) (ends c.put_events.new.ports c.put_events.new.underlay cut) (state_of c.args.endpoint.now) run.es (cuts_among c.args.segments.now (cuts_at c.put_events.new.ports c.put_events.new.underlay c.put_events.new.turns)) is.state_is lines;
-      shown = shows_all c.args.segments.now settings c.args.changes.now start cut g.T.Watch.sees g.T.Watch.ends c.args.watch.now
-          (run_at c.fetch_all.new.ports c.fetch_all.new.underlay c.fetch_all.new.turns (state_of c.args.endpoint.now) 0 begun) _ is.state_is (headers n is.many) c.put_events.new.watch (cuts_among c.args.segments.now (cuts_at c.put_events.new.ports c.put_events.new.underlay c.put_events.new.turns)) c.end.new.self c.in_default-put_events.ensures lines c.end.ensures;
+      left = leaves_all c.args.part.now.segments.now settings c.args.part.now.changes.now (ends c.args.captures.now.ports.items c.args.captures.now.underlay start) (ends c.put_events.new.captures.ports.items c.put_events.new.captures.underlay cut) (state_of c.args.taker.now.endpoint) run.es (cuts_among c.args.part.now.segments.now (cuts_at c.put_events.new.captures.ports.items c.put_events.new.captures.underlay c.put_events.new.turns)) is.state_is lines;
+      shown = shows_all c.args.part.now.segments.now settings c.args.part.now.changes.now start cut g.T.Watch.sees g.T.Watch.ends c.args.watch.now
+          (run_at c.fetch_all.new.captures.ports.items c.fetch_all.new.captures.underlay c.fetch_all.new.turns (state_of c.args.taker.now.endpoint) 0 begun) _ is.state_is (headers n is.many) c.put_events.new.watch (cuts_among c.args.part.now.segments.now (cuts_at c.put_events.new.captures.ports.items c.put_events.new.captures.underlay c.put_events.new.turns)) c.end.new.self c.in_default-put_events.ensures.run lines c.end.ensures;
       over = λ texts text tells.
-          let many = tells_texts c.args.ports.now c.args.underlay.now texts text tells in
+          let many = tells_texts c.args.captures.now.ports.items c.args.captures.now.underlay texts text tells in
           let at = headers (length texts) many in
           let first = read g w.In_default-fetch_all texts text (at_first g w.After-fetch_all texts text tells) in
           record {
-            left = over_whole c.args.segments.now settings c.args.changes.now texts text start c.fetch_all.new.ports c.fetch_all.new.underlay c.fetch_all.new.turns (state_of c.args.endpoint.now) begun _ all_ready first at is.state_is cut run (sym many ∙ is.many)
-                (subst (λ ts. StandAt start cut (with_cuts (texts_put g w.After-put_cuts_among (length texts)) (cuts_among c.args.segments.now (cuts_at c.put_events.new.ports c.put_events.new.underlay ts)))) refl (c.in-Ok.ensures start (texts_put g w.After-put_cuts_among (length texts)) c.put_events.new.port_sinks c.put_events.new.underlay_sink (put (length texts) at)));
-            reached = reach_whole c.args.segments.now settings c.args.changes.now texts text start c.fetch_all.new.ports c.fetch_all.new.underlay c.fetch_all.new.turns (state_of c.args.endpoint.now) begun _ all_ready first at is.state_is cut run;
-            seen = seen_whole c.args.segments.now settings c.args.changes.now texts text start c.fetch_all.new.ports c.fetch_all.new.underlay c.fetch_all.new.turns (state_of c.args.endpoint.now) begun _ all_ready first at is.state_is
-                g.T.Watch.sees g.T.Watch.ends c.args.watch.now cut c.put_events.new.watch c.end.new.self c.in_default-put_events.ensures c.end.ensures;
+            left = over_whole c.args.part.now.segments.now settings c.args.part.now.changes.now texts text start c.fetch_all.new.captures.ports.items c.fetch_all.new.captures.underlay c.fetch_all.new.turns (state_of c.args.taker.now.endpoint) begun _ all_ready first at is.state_is cut run (sym many ∙ is.many)
+                (subst (λ ts. StandAt start cut (with_cuts (texts_put g w.After-put_cuts_among (length texts)) (cuts_among c.args.part.now.segments.now (cuts_at c.put_events.new.captures.ports.items c.put_events.new.captures.underlay ts)))) refl (c.in-Ok.ensures start (texts_put g w.After-put_cuts_among (length texts)) (put (length texts) at)));
+            reached = reach_whole c.args.part.now.segments.now settings c.args.part.now.changes.now texts text start c.fetch_all.new.captures.ports.items c.fetch_all.new.captures.underlay c.fetch_all.new.turns (state_of c.args.taker.now.endpoint) begun _ all_ready first at is.state_is cut run;
+            seen = seen_whole c.args.part.now.segments.now settings c.args.part.now.changes.now texts text start c.fetch_all.new.captures.ports.items c.fetch_all.new.captures.underlay c.fetch_all.new.turns (state_of c.args.taker.now.endpoint) begun _ all_ready first at is.state_is
+                g.T.Watch.sees g.T.Watch.ends c.args.watch.now cut c.put_events.new.watch c.end.new.self c.in_default-put_events.ensures.run c.end.ensures;
           };
     }
 
@@ -238,28 +233,28 @@ returns-in-Ok-clause-done g c settings is =
 pub returns-in-Err-put_cuts_among-clause-done : goal.returns-in-Err-put_cuts_among-clause-done
 returns-in-Err-put_cuts_among-clause-done g c settings is =
     let w = goal.at.returns-in-Err-put_cuts_among-clause-done g c in
-    let start = outputs_at g c.args.port_sinks.now c.args.underlay_sink.now c.args.decisions.now in
-    let begun = outputs_at g c.begin_all.new.port_sinks c.begin_all.new.underlay_sink c.args.decisions.now in
+    let start = c.args.outputs.now in
+    let begun = c.begin_all.new.outputs in
     let headers = headers_written g w.After-fetch_all in
     let all_ready = ready g w.In_default-fetch_all settings is in
-    let cut = outputs_at g c.put_events.new.port_sinks c.put_events.new.underlay_sink c.put_cuts_among.new.decisions in
-    let run = c.in_default-put_events.ensures.run in
+    let cut = c.put_cuts_among.new.outputs in
+    let run = c.in_default-put_events.ensures.run.run in
     let put = events_written g w.After-put_cuts_among in
     let n = length settings.ports in
     let failed = lines_failed g w.In-Err-put_cuts_among n (put n (headers n is.many)) in
     record {
-      left = leaves_cuts c.args.segments.now settings c.args.changes.now (ends c.args.ports.now c.args.underlay.now start) (ends c.put_events.new.ports c.put_events.new.underlay cut) (state_of c.args.endpoint.now) run.es (cuts_among c.args.segments.now (cuts_at c.put_events.new.ports c.put_events.new.underlay c.put_events.new.turns)) c.in-Err-put_cuts_among.target is.state_is failed;
-      shown = shows_cuts c.args.segments.now settings c.args.changes.now start cut g.T.Watch.sees g.T.Watch.ends c.args.watch.now
-          (run_at c.fetch_all.new.ports c.fetch_all.new.underlay c.fetch_all.new.turns (state_of c.args.endpoint.now) 0 begun) _ is.state_is (headers n is.many) c.put_events.new.watch (cuts_among c.args.segments.now (cuts_at c.put_events.new.ports c.put_events.new.underlay c.put_events.new.turns)) c.in-Err-put_cuts_among.target c.in_default-put_events.ensures failed.0;
+      left = leaves_cuts c.args.part.now.segments.now settings c.args.part.now.changes.now (ends c.args.captures.now.ports.items c.args.captures.now.underlay start) (ends c.put_events.new.captures.ports.items c.put_events.new.captures.underlay cut) (state_of c.args.taker.now.endpoint) run.es (cuts_among c.args.part.now.segments.now (cuts_at c.put_events.new.captures.ports.items c.put_events.new.captures.underlay c.put_events.new.turns)) c.in-Err-put_cuts_among.target is.state_is failed;
+      shown = shows_cuts c.args.part.now.segments.now settings c.args.part.now.changes.now start cut g.T.Watch.sees g.T.Watch.ends c.args.watch.now
+          (run_at c.fetch_all.new.captures.ports.items c.fetch_all.new.captures.underlay c.fetch_all.new.turns (state_of c.args.taker.now.endpoint) 0 begun) _ is.state_is (headers n is.many) c.put_events.new.watch (cuts_among c.args.part.now.segments.now (cuts_at c.put_events.new.captures.ports.items c.put_events.new.captures.underlay c.put_events.new.turns)) c.in-Err-put_cuts_among.target c.in_default-put_events.ensures.run failed.0;
       over = λ texts text tells.
-          let many = tells_texts c.args.ports.now c.args.underlay.now texts text tells in
+          let many = tells_texts c.args.captures.now.ports.items c.args.captures.now.underlay texts text tells in
           let at = headers (length texts) many in
           let first = read g w.In_default-fetch_all texts text (at_first g w.After-fetch_all texts text tells) in
           let lines = lines_failed g w.In-Err-put_cuts_among (length texts) (put (length texts) at) in
           record {
-            left = over_lines c.args.segments.now settings c.args.changes.now texts text start c.fetch_all.new.ports c.fetch_all.new.underlay c.fetch_all.new.turns (state_of c.args.endpoint.now) begun _ all_ready first at is.state_is cut c.in-Err-put_cuts_among.target run lines;
-            reached = reach_lines c.args.segments.now settings c.args.changes.now texts text start c.fetch_all.new.ports c.fetch_all.new.underlay c.fetch_all.new.turns (state_of c.args.endpoint.now) begun _ all_ready first at is.state_is cut c.in-Err-put_cuts_among.target run lines;
-            seen = seen_lines c.args.segments.now settings c.args.changes.now texts text start c.fetch_all.new.ports c.fetch_all.new.underlay c.fetch_all.new.turns (state_of c.args.endpoint.now) begun _ all_ready first at is.state_is
-                g.T.Watch.sees g.T.Watch.ends c.args.watch.now cut c.in-Err-put_cuts_among.target c.put_events.new.watch c.in_default-put_events.ensures lines;
+            left = over_lines c.args.part.now.segments.now settings c.args.part.now.changes.now texts text start c.fetch_all.new.captures.ports.items c.fetch_all.new.captures.underlay c.fetch_all.new.turns (state_of c.args.taker.now.endpoint) begun _ all_ready first at is.state_is cut c.in-Err-put_cuts_among.target run lines;
+            reached = reach_lines c.args.part.now.segments.now settings c.args.part.now.changes.now texts text start c.fetch_all.new.captures.ports.items c.fetch_all.new.captures.underlay c.fetch_all.new.turns (state_of c.args.taker.now.endpoint) begun _ all_ready first at is.state_is cut c.in-Err-put_cuts_among.target run lines;
+            seen = seen_lines c.args.part.now.segments.now settings c.args.part.now.changes.now texts text start c.fetch_all.new.captures.ports.items c.fetch_all.new.captures.underlay c.fetch_all.new.turns (state_of c.args.taker.now.endpoint) begun _ all_ready first at is.state_is
+                g.T.Watch.sees g.T.Watch.ends c.args.watch.now cut c.in-Err-put_cuts_among.target c.put_events.new.watch c.in_default-put_events.ensures.run lines;
           };
     }

@@ -1,10 +1,11 @@
-use Rattle.std.proofs.Common.{◌≡◌, ◌∙◌, length, refl, inl, List, Err}
+use Rattle.std.proofs.Common.{◌≡◌, ◌∙◌, ◌+◌, ap, length, refl, inl, List, Err}
 use Rattle.pcap_stream.specs.Source.{Stream}
 use Rattle.overlay_settings.specs.Settings.{Settings}
 use Rattle.overlay_settings.specs.declared.change.TimedChange.{TimedChange}
 use Rattle.endpoint_core.specs.Step.{State}
 use Rattle.capture_run.specs.declared.fault.RunFault.TheVariants as faults
 use Rattle.segment_set.specs.Segments.{Segments}
+use Rattle.stream_run.specs.Begun.{first_turns}
 use Rattle.stream_run.specs.Done.{IsDone}
 use Rattle.stream_run.specs.Sights.{Sight}
 use Rattle.stream_run.specs.Stage.{Drains}
@@ -29,10 +30,10 @@ unopened segments sees ends s changes ports underlay start watch sinks many = re
 }
 
 pub returns-in_default-clause-done : goal.returns-in_default-clause-done
-returns-in_default-clause-done g c = unopened c.args.segments.now g.T.Watch.sees g.T.Watch.ends c.args.settings c.args.changes.now c.args.ports.now c.args.underlay.now _ c.args.watch.now c.requires.sinks c.requires.ports
+returns-in_default-clause-done g c = unopened c.args.part.now.segments.now g.T.Watch.sees g.T.Watch.ends c.args.settings c.args.part.now.changes.now c.args.captures.now.ports.items c.args.captures.now.underlay _ c.args.watch.now c.requires.sinks c.requires.ports
 
 pub returns-in_default-open-clause-done : goal.returns-in_default-open-clause-done
-returns-in_default-open-clause-done g c = unopened c.args.segments.now g.T.Watch.sees g.T.Watch.ends c.args.settings c.args.changes.now c.args.ports.now c.args.underlay.now _ c.args.watch.now c.requires.sinks c.requires.ports
+returns-in_default-open-clause-done g c = unopened c.args.part.now.segments.now g.T.Watch.sees g.T.Watch.ends c.args.settings c.args.part.now.changes.now c.args.captures.now.ports.items c.args.captures.now.underlay _ c.args.watch.now c.requires.sinks c.requires.ports
 
 pub returns-clause-done : goal.returns-clause-done
 returns-clause-done g c = c.run_on.ensures.done c.args.settings (record { state_is = c.in-Ok-open.ensures; many = c.requires.ports })
@@ -44,4 +45,5 @@ pub run_on-requires-clause-opened : goal.run_on-requires-clause-opened
 run_on-requires-clause-opened g c = (c.args.settings, record { state_is = c.in-Ok-open.ensures; many = c.requires.ports })
 
 pub run_on-requires-clause-turns : goal.run_on-requires-clause-turns
-run_on-requires-clause-turns g c = c.as_mut_slice.ensures.value ∙ c.in-Ok.ensures
+run_on-requires-clause-turns g c =
+    c.as_mut_slice.ensures.value ∙ c.in-Ok.ensures ∙ ap (λ n. first_turns c.args.part.now.changes.now (n + 1)) (c.len.ensures ∙ c.args.captures.now.ports.ok.0)

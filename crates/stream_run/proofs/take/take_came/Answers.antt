@@ -7,17 +7,17 @@ use Rattle.endpoint_core.specs.Step.{Decided}
 use Rattle.capture_run.specs.Writing.{with_input}
 use Rattle.stream_run.specs.Amidst.{PutsInOrder}
 use Rattle.stream_run.specs.Sights.{answered, due}
-use Rattle.stream_run.specs.Stage.{Lead, drains}
+use Rattle.stream_run.specs.Stage.{Lead}
 use Rattle.stream_run.proofs.take.take_came.Goals as goal
 
 pub returns-clause-outputs : goal.returns-clause-outputs
 returns-clause-outputs g c start o at =
-    let new = drains c.put_course.new.port_sinks c.put_course.new.underlay_sink (g.W.Output.written c.put_course.new.decisions) (g.W.Output.failures c.put_course.new.decisions) in
+    let new = c.put_course.new.outputs in
     subst (λ (d : Decision). Lead {T = Unit {0}} start new o (with_input c.args.desk.now.number None o c.args.event.now (Decided d)) c.put_course.result) c.take.ensures.answer (c.put_course.ensures.outputs start o at)
 
 pub returns-clause-order : goal.returns-clause-order
 returns-clause-order g c start o at =
-    let new = drains c.put_course.new.port_sinks c.put_course.new.underlay_sink (g.W.Output.written c.put_course.new.decisions) (g.W.Output.failures c.put_course.new.decisions) in
+    let new = c.put_course.new.outputs in
     subst (λ (d : Decision). PutsInOrder {T = Unit {0}} start new c.args.desk.now.number None o c.args.event.now (Decided d) c.put_course.result) c.take.ensures.answer (c.put_course.ensures.order start o at)
 
 pub returns-clause-seen : goal.returns-clause-seen

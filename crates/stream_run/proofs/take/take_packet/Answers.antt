@@ -16,7 +16,7 @@ use Rattle.endpoint_core.specs.Step.{Decided, after_coming, answer, decided}
 use Rattle.capture_run.specs.Writing.{with_input}
 use Rattle.stream_run.specs.Amidst.{PutsInOrder}
 use Rattle.stream_run.specs.Sights.{answered, due, untold}
-use Rattle.stream_run.specs.Stage.{Lead, drains}
+use Rattle.stream_run.specs.Stage.{Lead}
 use Rattle.stream_run.specs.Steps.{record_event}
 use Rattle.stream_run.proofs.Taking.{after_not_told, after_told, puts_nothing, puts_told, seen_told, seen_untold}
 use Rattle.stream_run.proofs.take.take_packet.Given.{Over}
@@ -26,68 +26,68 @@ use Rattle.stream_run.proofs.take.take_packet.Goals as goal
 -- the record that is lent, and what it is to the endpoint
 module _ (g : Over) (c : After-has g) (r : Record) (lends : lent c.args.source.now.standing ≡ Some r) where
   abbrev asked : Asked
-  asked = packet_at c.args.moment r.original r.octets
+  asked = packet_at c.args.next.moment r.original r.octets
 
   abbrev event : Event
-  event = record { moment = c.args.moment; number = c.args.count + 1; happening = happenings.Record Underlay (record { original = c.record.inside.original; octets = c.record.inside.octets.now }) }
+  event = record { moment = c.args.next.moment; number = c.args.next.done + 1; happening = happenings.Record Underlay (record { original = c.record.inside.original; octets = c.record.inside.octets.now }) }
 
   same : c.unwrap-record.result ≡ r
   same = cc (c.unwrap-record.ensures, c.head.ensures.record, lends)
 
-  came : c.bring_packet.new.course ≡ came_by (state_of c.args.endpoint.now).bridges.settings.overlay r.original r.octets
-  came = c.bring_packet.ensures.value ∙ ap (λ (r : Record). came_by (state_of c.args.endpoint.now).bridges.settings.overlay r.original r.octets) (c.record.view_is ∙ same)
+  came : c.bring_packet.new.course ≡ came_by (state_of c.args.taker.now.endpoint).bridges.settings.overlay r.original r.octets
+  came = c.bring_packet.ensures.value ∙ ap (λ (r : Record). came_by (state_of c.args.taker.now.endpoint).bridges.settings.overlay r.original r.octets) (c.record.view_is ∙ same)
 
   -- whether it is told
-  told : is_told c.args.segments.now (state_of c.args.endpoint.now) asked ≡ c.has.result
+  told : is_told c.args.segments.now (state_of c.args.taker.now.endpoint) asked ≡ c.has.result
   told = sym (ap (λ (r : Result Came Refused). holds c.args.segments.now (segment_of r)) came) ∙ sym (ap (holds c.args.segments.now) c.segment_of.ensures) ∙ sym c.has.ensures
 
 pub returns-then-not-has-clause-state : goal.returns-then-not-has-clause-state
 returns-then-not-has-clause-state g c r lends =
     let w = (goal.at.returns-then-not-has-clause-state g c).After-has in
-    let s = state_of c.args.endpoint.now in
+    let s = state_of c.args.taker.now.endpoint in
     c.pass.ensures ∙ sym (after_not_told c.args.segments.now s (asked g w r lends) (told g w r lends ∙ c.if-not-has.true))
 
 pub returns-then-not-has-clause-outputs : goal.returns-then-not-has-clause-outputs
 returns-then-not-has-clause-outputs g c r start o lends at =
     let w = (goal.at.returns-then-not-has-clause-outputs g c).After-has in
-    let s = state_of c.args.endpoint.now in
-    puts_nothing c.args.segments.now s (asked g w r lends) c.args.desk.now.number None (record_event Underlay c.args.count c.args.moment r) start _ o (told g w r lends ∙ c.if-not-has.true) at
+    let s = state_of c.args.taker.now.endpoint in
+    puts_nothing c.args.segments.now s (asked g w r lends) c.args.taker.now.desk.number None (record_event Underlay c.args.next.done c.args.next.moment r) start _ o (told g w r lends ∙ c.if-not-has.true) at
 
 pub returns-then-not-has-clause-seen : goal.returns-then-not-has-clause-seen
 returns-then-not-has-clause-seen g c r lends =
     let w = (goal.at.returns-then-not-has-clause-seen g c).After-has in
-    let s = state_of c.args.endpoint.now in
-    seen_untold c.args.segments.now s (asked g w r lends) g.T.Watch.sees c.args.desk.now.number (record_event Underlay c.args.count c.args.moment r) c.args.watch.now c.pass_over.new.self (told g w r lends ∙ c.if-not-has.true)
-    (subst (λ (q : Record). g.T.Watch.sees c.args.watch.now (untold (due s c.args.desk.now.number (record_event Underlay c.args.count c.args.moment q))) c.pass_over.new.self) (c.record.view_is ∙ same g w r lends)
+    let s = state_of c.args.taker.now.endpoint in
+    seen_untold c.args.segments.now s (asked g w r lends) g.T.Watch.sees c.args.taker.now.desk.number (record_event Underlay c.args.next.done c.args.next.moment r) c.args.watch.now c.pass_over.new.self (told g w r lends ∙ c.if-not-has.true)
+    (subst (λ (q : Record). g.T.Watch.sees c.args.watch.now (untold (due s c.args.taker.now.desk.number (record_event Underlay c.args.next.done c.args.next.moment q))) c.pass_over.new.self) (c.record.view_is ∙ same g w r lends)
     (subst (λ (n : ℕ). g.T.Watch.sees c.args.watch.now (untold (due s n (event g w r lends))) c.pass_over.new.self) c.value.ensures c.pass_over.ensures))
 
 pub returns-clause-state : goal.returns-clause-state
 returns-clause-state g c r lends =
     let w = (goal.at.returns-clause-state g c).After-has in
-    let s = state_of c.args.endpoint.now in
-    c.take_came.ensures.state ∙ ap (λ (x : Result Came Refused). after_coming c.args.moment x s) (came g w r lends) ∙ sym (after_told c.args.segments.now s (asked g w r lends) (told g w r lends ∙ c.if-not-has.false))
+    let s = state_of c.args.taker.now.endpoint in
+    c.take_came.ensures.state ∙ ap (λ (x : Result Came Refused). after_coming c.args.next.moment x s) (came g w r lends) ∙ sym (after_told c.args.segments.now s (asked g w r lends) (told g w r lends ∙ c.if-not-has.false))
 
 pub returns-clause-outputs : goal.returns-clause-outputs
 returns-clause-outputs g c r start o lends at =
     let w = (goal.at.returns-clause-outputs g c).After-has in
-    let s = state_of c.args.endpoint.now in
-    let new = drains c.take_came.new.port_sinks c.take_came.new.underlay_sink (g.W.Output.written c.take_came.new.decisions) (g.W.Output.failures c.take_came.new.decisions) in
-    puts_told c.args.segments.now s (asked g w r lends) c.args.desk.now.number None (record_event Underlay c.args.count c.args.moment r) start new o c.take_came.result (told g w r lends ∙ c.if-not-has.false)
-    (subst (λ (q : Record). Lead {T = Unit {0}} start new o (with_input c.args.desk.now.number None o (record_event Underlay c.args.count c.args.moment q) (answer s (asked g w r lends))) c.take_came.result) (c.record.view_is ∙ same g w r lends)
-    (subst (λ (x : Result Came Refused). Lead {T = Unit {0}} start new o (with_input c.args.desk.now.number None o (event g w r lends) (Decided (decided c.args.moment (aged c.args.moment s.bridges) x))) c.take_came.result) (came g w r lends) (c.take_came.ensures.outputs start o at)))
+    let s = state_of c.args.taker.now.endpoint in
+    let new = c.take_came.new.outputs in
+    puts_told c.args.segments.now s (asked g w r lends) c.args.taker.now.desk.number None (record_event Underlay c.args.next.done c.args.next.moment r) start new o c.take_came.result (told g w r lends ∙ c.if-not-has.false)
+    (subst (λ (q : Record). Lead {T = Unit {0}} start new o (with_input c.args.taker.now.desk.number None o (record_event Underlay c.args.next.done c.args.next.moment q) (answer s (asked g w r lends))) c.take_came.result) (c.record.view_is ∙ same g w r lends)
+    (subst (λ (x : Result Came Refused). Lead {T = Unit {0}} start new o (with_input c.args.taker.now.desk.number None o (event g w r lends) (Decided (decided c.args.next.moment (aged c.args.next.moment s.bridges) x))) c.take_came.result) (came g w r lends) (c.take_came.ensures.outputs start o at)))
 
 pub returns-clause-order : goal.returns-clause-order
 returns-clause-order g c r start o lends at =
     let w = (goal.at.returns-clause-order g c).After-has in
-    let s = state_of c.args.endpoint.now in
-    let new = drains c.take_came.new.port_sinks c.take_came.new.underlay_sink (g.W.Output.written c.take_came.new.decisions) (g.W.Output.failures c.take_came.new.decisions) in
-    subst (λ (q : Record). PutsInOrder {T = Unit {0}} start new c.args.desk.now.number None o (record_event Underlay c.args.count c.args.moment q) (answer s (asked g w r lends)) c.take_came.result) (c.record.view_is ∙ same g w r lends)
-    (subst (λ (x : Result Came Refused). PutsInOrder {T = Unit {0}} start new c.args.desk.now.number None o (event g w r lends) (Decided (decided c.args.moment (aged c.args.moment s.bridges) x)) c.take_came.result) (came g w r lends) (c.take_came.ensures.order start o at))
+    let s = state_of c.args.taker.now.endpoint in
+    let new = c.take_came.new.outputs in
+    subst (λ (q : Record). PutsInOrder {T = Unit {0}} start new c.args.taker.now.desk.number None o (record_event Underlay c.args.next.done c.args.next.moment q) (answer s (asked g w r lends)) c.take_came.result) (c.record.view_is ∙ same g w r lends)
+    (subst (λ (x : Result Came Refused). PutsInOrder {T = Unit {0}} start new c.args.taker.now.desk.number None o (event g w r lends) (Decided (decided c.args.next.moment (aged c.args.next.moment s.bridges) x)) c.take_came.result) (came g w r lends) (c.take_came.ensures.order start o at))
 
 pub returns-clause-seen : goal.returns-clause-seen
 returns-clause-seen g c r lends =
     let w = (goal.at.returns-clause-seen g c).After-has in
-    let s = state_of c.args.endpoint.now in
-    seen_told c.args.segments.now s (asked g w r lends) g.T.Watch.sees c.args.desk.now.number (record_event Underlay c.args.count c.args.moment r) c.args.watch.now c.take_came.new.watch (told g w r lends ∙ c.if-not-has.false)
-    (subst (λ (q : Record). g.T.Watch.sees c.args.watch.now (answered (due s c.args.desk.now.number (record_event Underlay c.args.count c.args.moment q)) (answer s (asked g w r lends))) c.take_came.new.watch) (c.record.view_is ∙ same g w r lends)
-    (subst (λ (x : Result Came Refused). g.T.Watch.sees c.args.watch.now (answered (due s c.args.desk.now.number (event g w r lends)) (Decided (decided c.args.moment (aged c.args.moment s.bridges) x))) c.take_came.new.watch) (came g w r lends) c.take_came.ensures.seen))
+    let s = state_of c.args.taker.now.endpoint in
+    seen_told c.args.segments.now s (asked g w r lends) g.T.Watch.sees c.args.taker.now.desk.number (record_event Underlay c.args.next.done c.args.next.moment r) c.args.watch.now c.take_came.new.watch (told g w r lends ∙ c.if-not-has.false)
+    (subst (λ (q : Record). g.T.Watch.sees c.args.watch.now (answered (due s c.args.taker.now.desk.number (record_event Underlay c.args.next.done c.args.next.moment q)) (answer s (asked g w r lends))) c.take_came.new.watch) (c.record.view_is ∙ same g w r lends)
+    (subst (λ (x : Result Came Refused). g.T.Watch.sees c.args.watch.now (answered (due s c.args.taker.now.desk.number (event g w r lends)) (Decided (decided c.args.next.moment (aged c.args.next.moment s.bridges) x))) c.take_came.new.watch) (came g w r lends) c.take_came.ensures.seen))

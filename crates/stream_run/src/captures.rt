@@ -1,0 +1,9 @@
+//! What a run reads.
+use pcap_stream::{Input, Source};
+
+/// The captures that a run reads: those of the ports, that of port 1 first, and that of the underlay.
+#[derive(Drop)]
+pub struct Captures<R: Input> {
+    pub ports: Vec<Source<R>>,
+    pub underlay: Source<R>,
+}

@@ -1,0 +1,22 @@
+//! What a run writes.
+use pcap_stream::{Output, Sink};
+use std::marker::Model;
+
+/// Where a run writes: the captures of the ports, that of port 1 first, the capture of the underlay, and the decision lines.
+///
+/// Contracts see what each holds, how often it failed, and whether its sink has given up. The output of the lines is no sink:
+/// it gives up at no time.
+#[derive(Drop)]
+pub struct Outputs<W: Output> {
+    pub ports: Vec<Sink<W>>,
+    pub underlay: Sink<W>,
+    pub decisions: W,
+}
+
+impl<W: Output> Model for Outputs<W> {
+    ghost use Rattle.stream_run.specs.Stage.{Drains, drains};
+
+    ghost Value = { Drains };
+
+    ghost view = { λ o. drains o.ports.items o.underlay (W.written o.decisions) (W.failures o.decisions) };
+}

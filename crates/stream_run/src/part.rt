@@ -1,0 +1,30 @@
+//! What the steps of a run are lent.
+use decision_lines::Desk;
+use endpoint_core::Endpoint;
+use overlay_config::TimedChange;
+use segment_set::SegmentSet;
+
+/// A part of a run: its changes, and the segments to which it is told.
+#[derive(Clone, Copy)]
+pub struct Part<'a> {
+    pub changes: &'a [TimedChange],
+    pub segments: &'a SegmentSet,
+}
+
+/// The next event of a run.
+#[derive(Clone, Copy)]
+pub struct Next {
+    /// Where its source stands: the changes, the ports, the underlay.
+    pub index: usize,
+    /// In nanoseconds.
+    pub moment: u64,
+    /// How many events of its source came before.
+    pub done: u64,
+}
+
+/// Who takes the events of a run: the endpoint, and the desk at which its decisions are written.
+#[derive(Drop)]
+pub struct Taker {
+    pub endpoint: Endpoint,
+    pub desk: Desk,
+}

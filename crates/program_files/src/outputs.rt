@@ -43,7 +43,8 @@ pub struct Outputs<F: Write + Drop> {
     pub ports: Vec<Sink<Written<F>>>,
     pub underlay: Sink<Written<F>>,
     pub decisions: Written<F>,
-    pub(crate) shard: Option<F>,
+    /// The file in which a part is to say what it was made from.
+    pub shard: Option<F>,
 }
 
 /// The same files, opened, with what stood in them.

@@ -1,5 +1,5 @@
 //! Whole runs.
-ghost use Rattle.std.specs.Prelude.{◌≡◌, All, IfOk, None, length};
+ghost use Rattle.std.specs.Prelude.{◌≡◌, All, IfOk, None, [], ◌∷◌, length};
 ghost use Rattle.pcap_stream.specs.Source.{New};
 ghost use Rattle.stream_run.specs.Begun.{IsUnread};
 
@@ -11,7 +11,7 @@ use dissector::{Values, explain_bytes, sample};
 use pcap_stream::{DeviceFault, Output, Sink, Source, StdInput};
 use std::alloc::{AllocError, Global};
 use std::test::Fail;
-use stream_run::{StreamFault, Unwatched, run_streams};
+use stream_run::{Captures, Outputs, StreamFault, Unwatched, run_streams};
 use test_inputs::memory::request;
 
 /// Runs the built-in sample.
@@ -82,30 +82,13 @@ fn sink() -> Sink<Counted> {
     Sink::new(Counted { octets: 0 })
 }
 
-/// The run over these streams.
-fn run_over<'a>(
-    alloc: Global,
-    ports: &mut [Source<Octets<'a>>],
-    underlay: &mut Source<Octets<'a>>,
-    sinks: &mut [Sink<Counted>],
-    underlay_sink: &mut Sink<Counted>,
-    decisions: &mut Counted,
-) -> Result<(), StreamFault>
-    requires sinks { length sinks.old ≡ length ports.old }
-    requires new_ports { All IsUnread ports.old }
-    requires new_underlay { IsUnread underlay.old }
+/// One item alone.
+fn one<T: Drop>(alloc: Global, item: T) -> Result<Vec<T>, AllocError>
+    ensures { IfOk result (λ items. items.items ≡ item ∷ []) }
 {
-    run_streams(
-        alloc,
-        inputs::small().as_bytes(),
-        inputs::changes().as_bytes(),
-        ports,
-        underlay,
-        sinks,
-        underlay_sink,
-        decisions,
-        &mut Unwatched,
-    )
+    let mut items = Vec::new(alloc);
+    items.push(item)?;
+    Ok(items)
 }
 
 /// Of a run that wrote so many octets of lines and of packets. Where memory is refused, there are none.
@@ -125,31 +108,41 @@ fn told(end: Result<(), StreamFault>, lines: usize, packets: usize) -> Answer {
 /// Of a run over these captures.
 fn streamed_over<'a>(
     alloc: Global,
-    port: Source<Octets<'a>>,
-    mut underlay: Source<Octets<'a>>,
+    captures: Captures<Octets<'a>>,
+    outputs: Outputs<Counted>,
 ) -> Answer
-    requires port { port.standing ≡ New }
-    requires underlay { underlay.standing ≡ New }
+    requires sinks { length outputs.ports ≡ length captures.ports.items }
+    requires ports { All IsUnread captures.ports.items }
+    requires underlay { IsUnread captures.underlay }
 {
-    let mut ports = [port];
-    let mut sinks = [sink()];
-    let mut underlay_sink = sink();
-    let mut decisions = Counted { octets: 0 };
-    let end = run_over(
+    let mut captures = captures;
+    let mut outputs = outputs;
+    let end = run_streams(
         alloc,
-        &mut ports,
-        &mut underlay,
-        &mut sinks,
-        &mut underlay_sink,
-        &mut decisions,
+        inputs::small().as_bytes(),
+        inputs::changes().as_bytes(),
+        &mut captures,
+        &mut outputs,
+        &mut Unwatched,
     );
-    told(end, decisions.octets, underlay_sink.into_inner().octets)
+    told(
+        end,
+        outputs.decisions.octets,
+        outputs.underlay.into_inner().octets,
+    )
 }
 
 /// A run over streams.
 pub(crate) fn streamed(alloc: Global, count: u16) -> Result<Answer, Fail> {
-    let port = source(alloc, inputs::capture())?;
-    let underlay = source(alloc, inputs::cut())?;
+    let captures = Captures {
+        ports: one(alloc, source(alloc, inputs::capture())?)?,
+        underlay: source(alloc, inputs::cut())?,
+    };
+    let outputs = Outputs {
+        ports: one(alloc, sink())?,
+        underlay: sink(),
+        decisions: Counted { octets: 0 },
+    };
     request(alloc, count);
-    Ok(streamed_over(alloc, port, underlay))
+    Ok(streamed_over(alloc, captures, outputs))
 }

@@ -17,18 +17,23 @@ use overlay_config::{Settings, TimedChange, changes_of, settings_of};
 use pcapng_input::PcapngFault;
 use program_faults::Failure;
 use program_files::{
-    Capture, FailedOutputs, HandedOn, Names, Outputs, ShardFile, drop_part, drop_texts,
-    open_capture, open_captures, open_outputs, read_file, read_if_given, spare_inputs,
+    Capture, ClassicInput, FailedOutputs, HandedOn, Names, Outputs as OutputFiles, ShardFile,
+    drop_part, drop_texts, open_capture, open_captures, open_outputs, read_file, read_if_given,
+    spare_inputs,
 };
 use segment_set::SegmentSet;
+use shard_record::CountInput;
 use std::alloc::{AllocError, Global};
 use std::io::{Input, Read, Write};
 use std::rt::Files;
-use stream_run::{StreamFault, Watch, run_read};
+use stream_run::{Captures, Outputs, ReadTexts, StreamFault, Watch, run_read};
 use timeline::Tap;
 
 /// How many octets of an output are written at once, where no capture's next octets are waited for.
 const BLOCK: usize = 65_536;
+
+/// The captures of a run on files, whose octets are counted.
+pub type RunCaptures<'a, F, I> = Captures<CountInput<ClassicInput<'a, F, I>>>;
 
 /// The texts of a run.
 #[derive(Drop)]
@@ -137,8 +142,9 @@ pub fn run_on_files_with<'a, R: Files + Input + AllocGlobal, T: Watch>(
         Ok(ports) => ports,
         Err(failure) => return Err(failure),
     };
+    let captures = Captures { ports, underlay };
     run_on_opened(
-        rt, names, texts, told, folder, scope, ports, underlay, watch, failed,
+        rt, names, texts, told, folder, scope, captures, watch, failed,
     )
 }
 
@@ -150,18 +156,16 @@ fn run_on_opened<'a, R: Files + Input + AllocGlobal, T: Watch>(
     told: Option<&[TimedChange]>,
     folder: Option<&str>,
     scope: Scope<'_>,
-    ports: Vec<Capture<'a, R::File, R::Reader>>,
-    underlay: Capture<'a, R::File, R::Reader>,
+    captures: RunCaptures<'a, R::File, R::Reader>,
     watch: &mut T,
     failed: &mut FailedOutputs,
 ) -> Result<Done<R::File>, Failure<'a>>
     requires told { IfSome told (λ t. changes_in texts.now.changes.items ≡ Ok t.now) }
     requires rising { IfSome told (λ t. EachBehind IsRising [] t.now) }
-    requires ports { All IsUnread ports.items }
-    requires underlay { IsUnread underlay }
+    requires ports { All IsUnread captures.ports.items }
+    requires underlay { IsUnread captures.underlay }
 {
-    let mut ports = ports;
-    let mut underlay = underlay;
+    let mut captures = captures;
     let shard = match run_on_captures(
         rt,
         names,
@@ -169,15 +173,14 @@ fn run_on_opened<'a, R: Files + Input + AllocGlobal, T: Watch>(
         told,
         folder,
         scope,
-        ports.as_mut_slice(),
-        &mut underlay,
+        &mut captures,
         watch,
         failed,
     ) {
         Ok(shard) => shard,
         Err(failure) => return Err(failure),
     };
-    match done_on(rt.alloc(), ports.as_slice(), &underlay, shard) {
+    match done_on(rt.alloc(), &captures, shard) {
         Ok(done) => Ok(done),
         Err(error) => Err(Failure::from(error)),
     }
@@ -194,15 +197,14 @@ fn run_on_captures<'a, R: Files + Input + AllocGlobal, T: Watch>(
     told: Option<&[TimedChange]>,
     folder: Option<&str>,
     scope: Scope<'_>,
-    ports: &mut [Capture<'a, R::File, R::Reader>],
-    underlay: &mut Capture<'a, R::File, R::Reader>,
+    captures: &mut RunCaptures<'a, R::File, R::Reader>,
     watch: &mut T,
     failed: &mut FailedOutputs,
 ) -> Result<Option<ShardFile<R::File>>, Failure<'a>>
     requires told { IfSome told (λ t. changes_in texts.now.changes.items ≡ Ok t.now) }
     requires rising { IfSome told (λ t. EachBehind IsRising [] t.now) }
-    requires ports { All IsUnread ports.old }
-    requires underlay { IsUnread underlay.old }
+    requires ports { All IsUnread captures.old.ports.items }
+    requires underlay { IsUnread captures.old.underlay }
 {
     let settings = match settings_of(rt.alloc(), texts.settings.as_slice()) {
         Ok(settings) => settings,
@@ -210,7 +212,7 @@ fn run_on_captures<'a, R: Files + Input + AllocGlobal, T: Watch>(
     };
     if let Some(told) = told {
         return run_on_read(
-            rt, names, texts, settings, told, folder, scope, ports, underlay, watch, failed,
+            rt, names, texts, settings, told, folder, scope, captures, watch, failed,
         );
     }
     match changes_of(rt.alloc(), texts.changes.as_slice()) {
@@ -222,8 +224,7 @@ fn run_on_captures<'a, R: Files + Input + AllocGlobal, T: Watch>(
             told.as_slice(),
             folder,
             scope,
-            ports,
-            underlay,
+            captures,
             watch,
             failed,
         ),
@@ -240,18 +241,17 @@ fn run_on_read<'a, R: Files + Input + AllocGlobal, T: Watch>(
     told: &[TimedChange],
     folder: Option<&str>,
     scope: Scope<'_>,
-    ports: &mut [Capture<'a, R::File, R::Reader>],
-    underlay: &mut Capture<'a, R::File, R::Reader>,
+    captures: &mut RunCaptures<'a, R::File, R::Reader>,
     watch: &mut T,
     failed: &mut FailedOutputs,
 ) -> Result<Option<ShardFile<R::File>>, Failure<'a>>
     requires settings { settings_in texts.now.settings.items ≡ Ok settings }
     requires told { changes_in texts.now.changes.items ≡ Ok told.now }
     requires rising { EachBehind IsRising [] told.now }
-    requires ports { All IsUnread ports.old }
-    requires underlay { IsUnread underlay.old }
+    requires ports { All IsUnread captures.old.ports.items }
+    requires underlay { IsUnread captures.old.underlay }
 {
-    if settings.ports().len() != ports.len() {
+    if settings.ports().len() != captures.ports.len() {
         return Err(Failure::Run(RunFault::PortCount));
     }
     let all = SegmentSet::all();
@@ -259,33 +259,26 @@ fn run_on_read<'a, R: Files + Input + AllocGlobal, T: Watch>(
         Scope::Whole => (false, &all),
         Scope::Part(segments) => (true, segments),
     };
+    let read = ReadTexts {
+        settings_text: texts.settings.as_slice(),
+        changes_text: texts.changes.as_slice(),
+        settings,
+        changes: told,
+    };
     let Some(folder) = folder else {
-        let run = run_unwritten(
-            rt.alloc(),
-            texts,
-            settings,
-            told,
-            ports,
-            underlay,
-            segments,
-            watch,
-        );
-        return match run {
+        return match run_unwritten(rt.alloc(), read, captures, segments, watch) {
             Ok(()) => Ok(None),
-            Err(fault) => Err(failure_of(names, fault, ports, underlay)),
+            Err(fault) => Err(failure_of(names, fault, captures)),
         };
     };
-    let outputs = prepare_outputs(rt, names, folder, is_part, ports.len())?;
+    let outputs = prepare_outputs(rt, names, folder, is_part, captures.ports.len())?;
     match run_into(
         rt.alloc(),
         names,
-        texts,
-        settings,
-        told,
+        read,
         outputs,
         segments,
-        ports,
-        underlay,
+        captures,
         watch,
         failed,
     ) {
@@ -298,48 +291,53 @@ fn run_on_read<'a, R: Files + Input + AllocGlobal, T: Watch>(
 fn run_into<'a, F: Read + Drop, I: Read + Drop, O: Write + Drop, T: Watch>(
     alloc: Global,
     names: Names<'_, 'a>,
-    texts: &Texts,
-    settings: Settings,
-    told: &[TimedChange],
-    outputs: Outputs<O>,
+    read: ReadTexts<'_>,
+    outputs: OutputFiles<O>,
     segments: &SegmentSet,
-    ports: &mut [Capture<'a, F, I>],
-    underlay: &mut Capture<'a, F, I>,
+    captures: &mut RunCaptures<'a, F, I>,
     watch: &mut T,
     failed: &mut FailedOutputs,
 ) -> Result<HandedOn<O>, Failure<'a>>
-    requires settings { settings_in texts.now.settings.items ≡ Ok settings }
-    requires told { changes_in texts.now.changes.items ≡ Ok told.now }
-    requires rising { EachBehind IsRising [] told.now }
-    requires outputs { length outputs.ports.items ≡ length ports.old }
-    requires ports { All IsUnread ports.old }
-    requires underlay { IsUnread underlay.old }
+    requires settings { settings_in read.settings_text.now ≡ Ok read.settings }
+    requires told { changes_in read.changes_text.now ≡ Ok read.changes.now }
+    requires rising { EachBehind IsRising [] read.changes.now }
+    requires outputs { length outputs.ports.items ≡ length captures.old.ports.items }
+    requires ports { All IsUnread captures.old.ports.items }
+    requires underlay { IsUnread captures.old.underlay }
     ensures handed_ports { IfOk result (λ files. All (λ (b : Block). b.held ≡ []) files.ports.items) }
     ensures handed_underlay { IfOk result (λ files. files.underlay.held ≡ []) }
     ensures handed_decisions { IfOk result (λ files. files.decisions.held ≡ []) }
 {
-    let mut outputs = outputs;
-    let run = run_read(
-        alloc,
-        texts.settings.as_slice(),
-        texts.changes.as_slice(),
-        settings,
-        told,
+    let OutputFiles {
         ports,
         underlay,
-        outputs.ports.as_mut_slice(),
-        &mut outputs.underlay,
-        &mut outputs.decisions,
-        segments,
-        watch,
-    );
+        decisions,
+        shard,
+    } = outputs;
+    let mut written = Outputs {
+        ports,
+        underlay,
+        decisions,
+    };
+    let run = run_read(alloc, read, captures, &mut written, segments, watch);
+    let Outputs {
+        ports,
+        underlay,
+        decisions,
+    } = written;
+    let outputs = OutputFiles {
+        ports,
+        underlay,
+        decisions,
+        shard,
+    };
     match run {
         Ok(()) => match outputs.finish(alloc, failed) {
             Ok(files) => Ok(files),
             Err(failure) => Err(failure),
         },
         Err(fault) => {
-            let failure = failure_of(names, fault, ports, underlay);
+            let failure = failure_of(names, fault, captures);
             Err(outputs.finish_behind(alloc, failure, failed))
         }
     }
@@ -348,16 +346,15 @@ fn run_into<'a, F: Read + Drop, I: Read + Drop, O: Write + Drop, T: Watch>(
 /// What a run on these captures leaves besides its outputs.
 fn done_on<F: Read + Drop, I: Read + Drop>(
     alloc: Global,
-    ports: &[Capture<'_, F, I>],
-    underlay: &Capture<'_, F, I>,
+    captures: &RunCaptures<'_, F, I>,
     shard: Option<ShardFile<F>>,
 ) -> Result<Done<F>, AllocError> {
-    let cut = cut_taps(alloc, ports, underlay)?;
-    let counts = octets_read(alloc, ports)?;
+    let cut = cut_taps(alloc, captures)?;
+    let counts = octets_read(alloc, captures.ports.as_slice())?;
     Ok(Done {
         cut,
         ports: counts,
-        underlay: underlay.input().octets(),
+        underlay: captures.underlay.input().octets(),
         shard,
     })
 }
@@ -370,7 +367,7 @@ fn prepare_outputs<'a, R: Files + Input + AllocGlobal>(
     folder: &str,
     is_part: bool,
     count: usize,
-) -> Result<Outputs<R::File>, Failure<'a>>
+) -> Result<OutputFiles<R::File>, Failure<'a>>
     ensures { IfOk result (λ outputs. length outputs.ports.items ≡ count) }
 {
     spare_inputs(rt, folder, names)?;
@@ -396,11 +393,10 @@ fn prepare_outputs<'a, R: Files + Input + AllocGlobal>(
 fn failure_of<'a, F: Read + Drop, I: Read + Drop>(
     names: Names<'_, 'a>,
     fault: StreamFault,
-    ports: &[Capture<'_, F, I>],
-    underlay: &Capture<'_, F, I>,
+    captures: &RunCaptures<'_, F, I>,
 ) -> Failure<'a> {
     match fault {
-        StreamFault::Read(tap) => match fault_of(tap, ports, underlay) {
+        StreamFault::Read(tap) => match fault_of(tap, captures) {
             Some(fault) => Failure::Pcapng(tap, fault),
             None => Failure::Read(names.capture(tap)),
         },
@@ -411,16 +407,15 @@ fn failure_of<'a, F: Read + Drop, I: Read + Drop>(
 /// The taps of the captures that are cut.
 fn cut_taps<F: Read + Drop, I: Read + Drop>(
     alloc: Global,
-    ports: &[Capture<'_, F, I>],
-    underlay: &Capture<'_, F, I>,
+    captures: &RunCaptures<'_, F, I>,
 ) -> Result<Vec<Tap>, AllocError> {
     let mut cut = Vec::new(alloc);
-    for index in 0..ports.len() {
-        if ports[index].is_cut() {
+    for index in 0..captures.ports.len() {
+        if captures.ports[index].is_cut() {
             cut.push(tap_of(index))?;
         }
     }
-    if underlay.is_cut() {
+    if captures.underlay.is_cut() {
         cut.push(Tap::Underlay)?;
     }
     Ok(cut)
@@ -441,14 +436,13 @@ fn octets_read<F: Read + Drop, I: Read + Drop>(
 /// The fault of the pcapng capture at a tap, where it has met one.
 fn fault_of<F: Read + Drop, I: Read + Drop>(
     tap: Tap,
-    ports: &[Capture<'_, F, I>],
-    underlay: &Capture<'_, F, I>,
+    captures: &RunCaptures<'_, F, I>,
 ) -> Option<PcapngFault> {
     match tap {
-        Tap::Underlay => underlay.input().input().fault(),
+        Tap::Underlay => captures.underlay.input().input().fault(),
         Tap::Port(number) => {
             let index = usize::from(number).checked_sub(1)?;
-            ports.get(index)?.input().input().fault()
+            captures.ports.get(index)?.input().input().fault()
         }
     }
 }

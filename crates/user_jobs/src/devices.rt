@@ -11,7 +11,7 @@ use pcapng_input::{CaptureInput, Selection};
 use segment_set::SegmentSet;
 use shard_record::CountInput;
 use std::alloc::{AllocError, Global};
-use stream_run::{Watch, run_segments};
+use stream_run::{Captures as RunCaptures, Outputs, Watch, run_segments};
 use test_inputs::{Pieces, in_pieces};
 
 /// How many octets are read, and written, at once.
@@ -98,35 +98,35 @@ pub fn run<'a, T: Watch>(
     digest: &mut Digest,
     settings: &[u8],
     changes: &[u8],
-    ports: &mut [Capture<'a>],
-    underlay: &mut Capture<'a>,
+    ports: Vec<Capture<'a>>,
+    underlay: Capture<'a>,
     watch: &mut T,
 ) -> Result<(), JobFault>
-    requires new_ports { All IsUnread ports.old }
-    requires new_underlay { IsUnread underlay.old }
+    requires new_ports { All IsUnread ports.items }
+    requires new_underlay { IsUnread underlay }
 {
-    let mut sinks = digest_sinks(alloc, ports.len())?;
-    let mut underlay_sink = Sink::new(BlockOutput::new(alloc, DigestOutput::new(), BLOCK)?);
-    let mut decisions = BlockOutput::new(alloc, DigestOutput::new(), BLOCK)?;
+    let mut outputs = Outputs {
+        ports: digest_sinks(alloc, ports.len())?,
+        underlay: Sink::new(BlockOutput::new(alloc, DigestOutput::new(), BLOCK)?),
+        decisions: BlockOutput::new(alloc, DigestOutput::new(), BLOCK)?,
+    };
+    let mut captures = RunCaptures { ports, underlay };
     let end = run_segments(
         alloc,
         settings,
         changes,
-        ports,
-        underlay,
-        sinks.as_mut_slice(),
-        &mut underlay_sink,
-        &mut decisions,
+        &mut captures,
+        &mut outputs,
         &SegmentSet::all(),
         watch,
     );
     if end.is_err() {
         return Err(JobFault::Failed(Stage::Run));
     }
-    for sink in sinks {
+    for sink in outputs.ports {
         add_output(digest, sink.into_inner());
     }
-    add_output(digest, underlay_sink.into_inner());
-    add_output(digest, decisions);
+    add_output(digest, outputs.underlay.into_inner());
+    add_output(digest, outputs.decisions);
     Ok(())
 }

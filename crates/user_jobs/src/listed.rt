@@ -101,17 +101,9 @@ fn told_run(
         reports,
         counts: None,
     };
-    let mut ports = open_all(alloc, captures, PORTS)?;
-    let mut underlay = open(alloc, captures.underlay(), Selection::All)?;
-    run(
-        alloc,
-        digest,
-        settings,
-        &[],
-        ports.as_mut_slice(),
-        &mut underlay,
-        &mut onlooker,
-    )?;
+    let ports = open_all(alloc, captures, PORTS)?;
+    let underlay = open(alloc, captures.underlay(), Selection::All)?;
+    run(alloc, digest, settings, &[], ports, underlay, &mut onlooker)?;
     add_told(digest, onlooker)
 }
 

@@ -15,7 +15,7 @@ use shard_lines::{LineFacts, read_line};
 use shard_merge::{Capture, Part, merge_streams};
 use shard_record::{CaptureDigest, CaptureDigests, DigestInput, digests_of, digests_text};
 use std::alloc::{AllocError, Global};
-use stream_run::{Unwatched, run_segments};
+use stream_run::{Captures as RunCaptures, Outputs, Unwatched, run_segments};
 use test_inputs::{Pieces, Room, in_pieces};
 
 /// The segments of the parts.
@@ -128,20 +128,21 @@ fn run_part(
     captures: &Captures,
     segments: &SegmentSet,
 ) -> Result<Written, JobFault> {
-    let mut ports = open_all(alloc, captures, PORTS)?;
-    let mut underlay = open(alloc, captures.underlay(), Selection::All)?;
-    let mut sinks = kept_sinks(alloc, ports.len())?;
-    let mut underlay_sink = Sink::new(kept(alloc)?);
-    let mut decisions = kept(alloc)?;
+    let mut read = RunCaptures {
+        ports: open_all(alloc, captures, PORTS)?,
+        underlay: open(alloc, captures.underlay(), Selection::All)?,
+    };
+    let mut outputs = Outputs {
+        ports: kept_sinks(alloc, read.ports.len())?,
+        underlay: Sink::new(kept(alloc)?),
+        decisions: kept(alloc)?,
+    };
     let end = run_segments(
         alloc,
         settings,
         &[],
-        ports.as_mut_slice(),
-        &mut underlay,
-        sinks.as_mut_slice(),
-        &mut underlay_sink,
-        &mut decisions,
+        &mut read,
+        &mut outputs,
         segments,
         &mut Unwatched,
     );
@@ -149,13 +150,13 @@ fn run_part(
         return Err(JobFault::Failed(Stage::Part));
     }
     let mut texts = Vec::new(alloc);
-    for sink in sinks {
+    for sink in outputs.ports {
         texts.push(octets_of(sink.into_inner()))?;
     }
     Ok(Written {
         ports: texts,
-        underlay: octets_of(underlay_sink.into_inner()),
-        decisions: octets_of(decisions),
+        underlay: octets_of(outputs.underlay.into_inner()),
+        decisions: octets_of(outputs.decisions),
     })
 }
 

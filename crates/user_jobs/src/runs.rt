@@ -26,15 +26,15 @@ pub fn switch_hours(
     let mut traffic = Traffic::new(alloc, draws, STATIONS)?;
     for _round in 0..rounds {
         traffic.put(&mut captures, events);
-        let mut ports = open_all(alloc, &captures, PORTS)?;
-        let mut underlay = open(alloc, captures.underlay(), Selection::All)?;
+        let ports = open_all(alloc, &captures, PORTS)?;
+        let underlay = open(alloc, captures.underlay(), Selection::All)?;
         run(
             alloc,
             digest,
             settings.as_bytes(),
             &[],
-            ports.as_mut_slice(),
-            &mut underlay,
+            ports,
+            underlay,
             &mut Unwatched,
         )?;
     }
@@ -55,15 +55,15 @@ pub fn one_file(
     for _round in 0..rounds {
         traffic.put(&mut captures, events);
         let text = captures.text(0);
-        let mut ports = open_interfaces(alloc, text, PORTS as u32)?;
-        let mut underlay = open(alloc, text, Selection::Number(PORTS as u32))?;
+        let ports = open_interfaces(alloc, text, PORTS as u32)?;
+        let underlay = open(alloc, text, Selection::Number(PORTS as u32))?;
         run(
             alloc,
             digest,
             settings.as_bytes(),
             &[],
-            ports.as_mut_slice(),
-            &mut underlay,
+            ports,
+            underlay,
             &mut Unwatched,
         )?;
     }
@@ -100,15 +100,15 @@ pub fn colliding(
             stations.as_slice(),
             events,
         );
-        let mut ports = open_all(alloc, &captures, 3)?;
-        let mut underlay = open(alloc, captures.underlay(), Selection::All)?;
+        let ports = open_all(alloc, &captures, 3)?;
+        let underlay = open(alloc, captures.underlay(), Selection::All)?;
         run(
             alloc,
             digest,
             COLLIDING.as_bytes(),
             &[],
-            ports.as_mut_slice(),
-            &mut underlay,
+            ports,
+            underlay,
             &mut Unwatched,
         )?;
     }

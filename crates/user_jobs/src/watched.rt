@@ -82,15 +82,15 @@ fn watched_run(
         reports,
         counts: Some(RunCounts::new(alloc)),
     };
-    let mut ports = open_all(alloc, captures, PORTS)?;
-    let mut underlay = open(alloc, captures.underlay(), Selection::All)?;
+    let ports = open_all(alloc, captures, PORTS)?;
+    let underlay = open(alloc, captures.underlay(), Selection::All)?;
     run(
         alloc,
         digest,
         settings.as_bytes(),
         changes.as_bytes(),
-        ports.as_mut_slice(),
-        &mut underlay,
+        ports,
+        underlay,
         &mut onlooker,
     )?;
     add_told(digest, onlooker)

@@ -7,7 +7,7 @@ use capture_run::Outputs;
 use pcap_stream::{Sink, Source};
 use std::alloc::{AllocError, Global};
 use std::test::Fail;
-use stream_run::{StreamFault, Unwatched, run_streams};
+use stream_run::{Captures, Outputs as RunOutputs, StreamFault, Unwatched, run_streams};
 use test_inputs::{GoingOn, Pieces, Room, going_on, in_pieces};
 
 /// An input of a run.
@@ -93,34 +93,34 @@ impl Manner {
         row: &Row,
     ) -> Result<(Outputs, Result<(), StreamFault>), Fail> {
         let count = row.captures.ports.len();
-        let mut sources = self.sources(alloc, row.captures.ports.as_slice())?;
-        let mut underlay = Source::new(
+        let ports = self.sources(alloc, row.captures.ports.as_slice())?;
+        let underlay = Source::new(
             alloc,
             self.input(count, row.captures.underlay.as_slice()),
             self.reads,
         )?;
-        let mut sinks = self.sinks(alloc, count)?;
-        let mut underlay_sink = Sink::new(self.output(alloc, count));
-        let mut decisions = self.output(alloc, count.saturating_add(1));
+        let mut captures = Captures { ports, underlay };
+        let mut written = RunOutputs {
+            ports: self.sinks(alloc, count)?,
+            underlay: Sink::new(self.output(alloc, count)),
+            decisions: self.output(alloc, count.saturating_add(1)),
+        };
         let end = run_streams(
             alloc,
             row.settings.as_bytes(),
             row.changes.as_bytes(),
-            sources.as_mut_slice(),
-            &mut underlay,
-            sinks.as_mut_slice(),
-            &mut underlay_sink,
-            &mut decisions,
+            &mut captures,
+            &mut written,
             &mut Unwatched,
         );
         let mut ports = Vec::new(alloc);
-        for sink in sinks {
+        for sink in written.ports {
             ports.push(sink.into_inner().octets)?;
         }
         let outputs = Outputs {
             ports,
-            underlay: underlay_sink.into_inner().octets,
-            decisions: decisions.octets,
+            underlay: written.underlay.into_inner().octets,
+            decisions: written.decisions.octets,
         };
         Ok((outputs, end))
     }

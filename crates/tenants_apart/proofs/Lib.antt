@@ -1,14 +1,17 @@
+pub mod Again
 pub mod Captures
 pub mod Changing
 pub mod Coming
 pub mod Earlier
 pub mod Events
 pub mod Force
+pub mod Forwarded
 pub mod Lone
 pub mod Refusing
 pub mod Room
 pub mod Rows
 pub mod Running
+pub mod SecondTag
 pub mod Single
 pub mod Stepping
 pub mod Stopped

@@ -1,3 +1,4 @@
+pub mod Again
 pub mod Own
 pub mod Single
 pub mod Texts

@@ -1,11 +1,21 @@
 //! The laws of two runs with two settings.
-ghost use Rattle.std.specs.Prelude.{◌≡◌, ℕ, false, true, ◌||◌, List, ◌++◌};
+ghost use Rattle.std.specs.Prelude.{◌≡◌, ◌↔◌, ◌<◌, ◌≤◌, ℕ, false, true, ◌||◌, List, ◌++◌, length, Some, Ok, Err};
 ghost use Rattle.std.specs.List.{AllByRecursion};
 ghost use Rattle.timeline.specs.Timeline.{Timeline};
 ghost use Rattle.timeline.specs.declared.source.Source.{Source};
 ghost use Rattle.timeline.specs.declared.source.Tap.{Tap};
-ghost use Rattle.vlan_ports.specs.Ports.{members_at};
-ghost use Rattle.underlay.specs.Overlay.{segment_at};
+ghost use Rattle.header_sums.specs.Octets.{IsText};
+ghost use Rattle.frame_view.specs.Frame.{Frame, IsFrame};
+ghost use Rattle.frame_view.specs.Refusal.{nowhere};
+ghost use Rattle.frame_view.specs.Tag.{IsVid, begins_tag};
+ghost use Rattle.frame_view.specs.declared.reason.Reason.TheVariants.{CutTag};
+ghost use Rattle.filter_db.specs.declared.place.Place.TheVariants.{Local};
+ghost use Rattle.vlan_ports.specs.Ingress.{enters};
+ghost use Rattle.vlan_ports.specs.Ports.{Ports, is_up, egress_at, members_at};
+ghost use Rattle.vlan_ports.specs.declared.member.Egress.{Egress};
+ghost use Rattle.vlan_ports.specs.declared.member.Egress.TheVariants.{Tagged, Untagged};
+ghost use Rattle.underlay.specs.Overlay.{Overlay, segment_at};
+ghost use Rattle.encapsulate.specs.Emission.{local_text};
 ghost use Rattle.overlay_settings.specs.Rules.{MeetsRules};
 ghost use Rattle.overlay_settings.specs.Settings.{Settings as Told};
 ghost use Rattle.overlay_settings.specs.declared.change.Change.{Change};
@@ -13,6 +23,8 @@ ghost use Rattle.endpoint_state.specs.Change.{is_about, refused};
 ghost use Rattle.endpoint_state.specs.Effect.{effect};
 ghost use Rattle.endpoint_state.specs.Opened.{settings_told};
 ghost use Rattle.endpoint_state.specs.Settings.{Settings};
+ghost use Rattle.endpoint_core.specs.Arrival.{came_at, came_by, emitted};
+ghost use Rattle.endpoint_core.specs.Came.{Came};
 ghost use Rattle.endpoint_core.specs.Event.{Event, FrameAt, Packet, Asks, IsRising, frame_at, packet_at, change_at};
 ghost use Rattle.endpoint_core.specs.Run.{settings_after};
 ghost use Rattle.endpoint_core.specs.Step.{opened, state_after};
@@ -20,6 +32,7 @@ ghost use Rattle.capture_run.specs.Outputs.{Outputs};
 ghost use Rattle.segment_isolation.specs.Alone.{all_see, concerns, only};
 ghost use Rattle.noninterference.specs.Coming.{Inputs, IsRunOf, ChangesNeverFall, coming_to};
 ghost use Rattle.noninterference.specs.Leaving.{rows, rows_of, departures, departures_in, lines_in, records_in};
+ghost use Rattle.tenants_apart.specs.Again.{IsForwarded, TakesInto, as_untagged, IsBehindTag};
 ghost use Rattle.tenants_apart.specs.Own.{IsFrontOf, IsOneFront, part_of, names_or_concerns, own_events, own_rows};
 ghost use Rattle.tenants_apart.specs.Own.{room_replies, wants_room};
 ghost use Rattle.tenants_apart.specs.Single.{single};
@@ -188,4 +201,40 @@ pub fn earlier()
         IsRunOf s x l o → IsRunOf s y m p →
         ((source : Source) → coming_to vid s x l source ≡ coming_to vid s y m source) →
         replies_of vid s x l ≡ replies_of vid s y m }
+{}
+
+/// What leaves at a local port in a segment enters that segment again, as the same frame, at each port that takes it there:
+/// with a tag whatever its body begins with, and without one where its body begins with no tag, but for its priority, which
+/// nothing tells then. The port may be the one where it left, or one with the same PVID, acceptance and membership. A whole
+/// record of it comes so where it has at most 65,535 octets: one that came with as many and no tag leaves longer with one.
+/// What is asked of the frame, every frame has that came by a port or a tunnel, and no other leaves.
+pub fn again()
+    ensures tagged { (s : Ports) (port v : ℕ) (f : Frame) → IsForwarded f → IsVid v → TakesInto s port v v →
+        enters s port (local_text v Tagged f) ≡ Ok (v, f) }
+    ensures untagged { (s : Ports) (port v : ℕ) (f : Frame) → IsForwarded f → begins_tag f.body ≡ false →
+        TakesInto s port 0 v → enters s port (local_text v Untagged f) ≡ Ok (v, as_untagged f) }
+    ensures records { (s : Ports) (port v : ℕ) (b : List ℕ) (f : Frame) → enters s port b ≡ Ok (v, f) → length b ≤ 65535 →
+        came_at s port (length b) b ≡ Ok (record { vid = v; from = Local port; frame = f }) }
+    ensures leaving { (s : Ports) (o : Overlay) (port v : ℕ) (egress : Egress) (f : Frame) →
+        egress_at s v port ≡ Some egress → emitted s o v f (Local port) ≡ Ok (local_text v egress f) }
+    ensures frames { (s : Ports) (port original : ℕ) (b : List ℕ) (came : Came) → IsText b →
+        came_at s port original b ≡ Ok came → IsForwarded came.frame }
+    ensures packets { (o : Overlay) (original : ℕ) (b : List ℕ) (came : Came) →
+        came_by o original b ≡ Ok came → IsForwarded came.frame }
+{}
+
+/// A frame whose body begins with a tag, a second one, leaves without its own as the octets of another frame with another
+/// tag: they are those that leave with a tag in the segment of that VID, and where a port takes such frames they enter its
+/// segment and no other, the port's own where the VID is 0. A body begins with such a tag exactly where it has the type of
+/// one and 6 octets, and that tells one VID and one frame. Where it is shorter, the tag is cut, and nothing enters.
+pub fn second_tag()
+    ensures whole { (f : Frame) → IsText f.body →
+        ((w : ℕ) × (g : Frame) × IsBehindTag f w g) ↔ ((begins_tag f.body ≡ true) × (6 ≤ length f.body)) }
+    ensures one { (f : Frame) (v w : ℕ) (g h : Frame) → IsFrame f → IsBehindTag f v g → IsBehindTag f w h →
+        (v ≡ w) × (g ≡ h) }
+    ensures octets { (v w : ℕ) (f g : Frame) → IsBehindTag f w g → local_text v Untagged f ≡ local_text w Tagged g }
+    ensures enters { (s : Ports) (port v w u : ℕ) (f g : Frame) → IsForwarded f → IsBehindTag f w g → w < 4095 →
+        TakesInto s port w u → enters s port (local_text v Untagged f) ≡ Ok (u, g) }
+    ensures cut { (s : Ports) (port v : ℕ) (f : Frame) → IsForwarded f → begins_tag f.body ≡ true → length f.body < 6 →
+        is_up s port ≡ true → enters s port (local_text v Untagged f) ≡ Err (nowhere CutTag) }
 {}

@@ -4,6 +4,9 @@
 //! [`laws::events`] says it of events that come to endpoints with two settings, [`laws::stopped`] of runs that may have
 //! stopped, and [`laws::captures`] of whole captures. [`laws::single`] says that a segment is answered as it would be alone,
 //! and [`laws::room`] what it feels of others. Which events are a segment's own, `specs/Own` says.
+//!
+//! What leaves at a local port in a segment enters it again where it is read, says [`laws::again`], and [`laws::second_tag`]
+//! the exception: what leaves without a tag and has one in its body.
 #![tactic(auto)]
 
 pub mod laws;

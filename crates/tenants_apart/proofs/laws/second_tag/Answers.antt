@@ -1,0 +1,12 @@
+use Rattle.tenants_apart.proofs.Again.{same-octets, one-behind, other-enters}
+use Rattle.tenants_apart.proofs.SecondTag.{whole-tag, cut-refused}
+use Rattle.tenants_apart.proofs.laws.second_tag.Goals as goal
+
+pub returns : goal.returns
+returns c = record {
+  whole = whole-tag;
+  one = one-behind;
+  octets = same-octets;
+  enters = other-enters;
+  cut = cut-refused;
+}

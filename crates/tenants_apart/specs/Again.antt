@@ -1,0 +1,40 @@
+-- What leaves at a local port, where it is read at one again: by who stands at that port, or in a second run of the port's
+-- capture (IEEE 802.1Q, 6.9, 8.8 and 9.6).
+--     IsForwarded      a frame that bridges forward
+--     TakesInto      a port takes frames with such a tag, or without one, into a segment
+--     as_untagged      a frame as it is read where no tag tells its priority
+--     IsBehindTag      a frame, and the one behind the tag that its body begins with
+use Rattle.std.specs.Prelude.{◌≡◌, ◌<◌, ◌≤◌, ℕ, true, false, ◌++◌, length, IsSome}
+use Rattle.frame_view.specs.Address.{is_group, is_reserved}
+use Rattle.frame_view.specs.Frame.{Frame, IsFrame}
+use Rattle.frame_view.specs.Tag.{tag_text, tci_of}
+use Rattle.vlan_ports.specs.Ingress.{accepts, segment_vid}
+use Rattle.vlan_ports.specs.Ports.{Ports, port_at, is_up, egress_at}
+
+-- a frame with an individual source, to an address that bridges forward
+pub record IsForwarded (f : Frame) : Type 0 where
+  pub is_frame : IsFrame f
+  pub source_is_individual : is_group f.src ≡ false
+  pub destination_is_forwarded : is_reserved f.dst ≡ false
+
+-- frames with the VID w in their tag, where w is 0 those with no VID or no tag, are taken at the port into the segment v:
+-- it is up, it accepts such frames, v is w, or the port's VID where w is 0, and the port is a member of v
+pub record TakesInto (s : Ports) (port : ℕ) (w : ℕ) (v : ℕ) : Type 0 where
+  pub up : is_up s port ≡ true
+  pub accepted : accepts (port_at s port).accept w ≡ true
+  pub segment : v ≡ segment_vid (port_at s port).pvid w
+  pub member : IsSome (egress_at s v port)
+
+-- a frame as it is read where no tag tells its priority
+abbrev pub as_untagged : Frame → Frame
+as_untagged f = record f { pcp = 0; dei = false }
+
+-- the body of f begins with a whole tag of the VID w, and g is the frame behind it: of the same addresses, with what that
+-- tag says of priority, and with what stands behind the tag for its body
+pub record IsBehindTag (f : Frame) (w : ℕ) (g : Frame) : Type 0 where
+  pub vid : w < 4096
+  pub pcp : g.pcp < 8
+  pub dst : g.dst ≡ f.dst
+  pub src : g.src ≡ f.src
+  pub body : f.body ≡ tag_text (tci_of g.pcp g.dei w) ++ g.body
+  pub long : 2 ≤ length g.body

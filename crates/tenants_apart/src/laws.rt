@@ -203,16 +203,17 @@ pub fn earlier()
         replies_of vid s x l ≡ replies_of vid s y m }
 {}
 
-/// What leaves at a local port in a segment enters that segment again, as the same frame, at each port that takes it there:
-/// with a tag whatever its body begins with, and without one where its body begins with no tag, but for its priority, which
-/// nothing tells then. The port may be the one where it left, or one with the same PVID, acceptance and membership. A whole
-/// record of it comes so where it has at most 65,535 octets: one that came with as many and no tag leaves longer with one.
-/// What is asked of the frame, every frame has that came by a port or a tunnel, and no other leaves.
+/// What leaves at a local port in a segment, where it is read at a local port: it enters exactly where that takes it. With a
+/// tag it enters the segment where it left and no other, as the same frame, whatever its body begins with. Without one,
+/// where its body begins with no tag, it enters the segment that the port's VID names, which is the same one where that is
+/// its VID, as the same frame but for its priority, which nothing tells then. A whole record of it comes so where it has at
+/// most 65,535 octets: a frame that came with as many and without a tag is longer with one. What is asked of the frame,
+/// every frame has that comes by a port or a tunnel.
 pub fn again()
-    ensures tagged { (s : Ports) (port v : ℕ) (f : Frame) → IsForwarded f → IsVid v → TakesInto s port v v →
-        enters s port (local_text v Tagged f) ≡ Ok (v, f) }
-    ensures untagged { (s : Ports) (port v : ℕ) (f : Frame) → IsForwarded f → begins_tag f.body ≡ false →
-        TakesInto s port 0 v → enters s port (local_text v Untagged f) ≡ Ok (v, as_untagged f) }
+    ensures tagged { (s : Ports) (port v u : ℕ) (f h : Frame) → IsForwarded f → IsVid v →
+        (enters s port (local_text v Tagged f) ≡ Ok (u, h)) ↔ ((u ≡ v) × (h ≡ f) × TakesInto s port v v) }
+    ensures untagged { (s : Ports) (port v u : ℕ) (f h : Frame) → IsForwarded f → begins_tag f.body ≡ false →
+        (enters s port (local_text v Untagged f) ≡ Ok (u, h)) ↔ ((h ≡ as_untagged f) × TakesInto s port 0 u) }
     ensures records { (s : Ports) (port v : ℕ) (b : List ℕ) (f : Frame) → enters s port b ≡ Ok (v, f) → length b ≤ 65535 →
         came_at s port (length b) b ≡ Ok (record { vid = v; from = Local port; frame = f }) }
     ensures leaving { (s : Ports) (o : Overlay) (port v : ℕ) (egress : Egress) (f : Frame) →
@@ -223,18 +224,19 @@ pub fn again()
         came_by o original b ≡ Ok came → IsForwarded came.frame }
 {}
 
-/// A frame whose body begins with a tag, a second one, leaves without its own as the octets of another frame with another
-/// tag: they are those that leave with a tag in the segment of that VID, and where a port takes such frames they enter its
-/// segment and no other, the port's own where the VID is 0. A body begins with such a tag exactly where it has the type of
-/// one and 6 octets, and that tells one VID and one frame. Where it is shorter, the tag is cut, and nothing enters.
+/// A frame whose body begins with a tag, a second one, leaves without a tag of its own as the octets of another frame: they
+/// are those that leave with a tag in the segment of the VID in the second tag. They enter exactly where a port takes frames
+/// with that tag, in its segment and no other, which is that of the port's VID where the tag's is 0. A body begins with a
+/// whole tag exactly where it has the type of one and 6 octets, and that tells one VID and one frame. Where it is shorter the
+/// tag is cut, and nothing enters.
 pub fn second_tag()
     ensures whole { (f : Frame) → IsText f.body →
         ((w : ℕ) × (g : Frame) × IsBehindTag f w g) ↔ ((begins_tag f.body ≡ true) × (6 ≤ length f.body)) }
     ensures one { (f : Frame) (v w : ℕ) (g h : Frame) → IsFrame f → IsBehindTag f v g → IsBehindTag f w h →
         (v ≡ w) × (g ≡ h) }
     ensures octets { (v w : ℕ) (f g : Frame) → IsBehindTag f w g → local_text v Untagged f ≡ local_text w Tagged g }
-    ensures enters { (s : Ports) (port v w u : ℕ) (f g : Frame) → IsForwarded f → IsBehindTag f w g → w < 4095 →
-        TakesInto s port w u → enters s port (local_text v Untagged f) ≡ Ok (u, g) }
+    ensures enters { (s : Ports) (port v w u : ℕ) (f g h : Frame) → IsForwarded f → IsBehindTag f w g → w < 4095 →
+        (enters s port (local_text v Untagged f) ≡ Ok (u, h)) ↔ ((h ≡ g) × TakesInto s port w u) }
     ensures cut { (s : Ports) (port v : ℕ) (f : Frame) → IsForwarded f → begins_tag f.body ≡ true → length f.body < 6 →
         is_up s port ≡ true → enters s port (local_text v Untagged f) ≡ Err (nowhere CutTag) }
 {}

@@ -1,6 +1,5 @@
 -- What comes to a bridge, by a port or by a tunnel, is forwarded; and a whole record comes as it enters.
-use Rattle.std.proofs.Common.{◌≡◌, ℕ, ◌≤◌, List, [], length, drop, Option, Some, None, Result, Ok, Err, refl, ap, ◌∙◌, subst, arith}
-use Rattle.std.specs.Option.{option_map_or}
+use Rattle.std.proofs.Common.{◌≡◌, ℕ, ◌≤◌, List, length, drop, Option, Some, None, Result, Ok, Err, refl, ap, ◌∙◌, subst, arith}
 use Rattle.std.proofs.lemmas.Bool.{ltb-false, le-ltb}
 use Rattle.std.proofs.lemmas.List.{length-take, length-drop}
 use Rattle.header_sums.specs.Octets.{IsText}
@@ -11,8 +10,7 @@ use Rattle.frame_view.proofs.FirstLemmas.{NothingHolds-from, first-nothing, unle
 use Rattle.frame_view.proofs.RefusalLemmas.{refused-ok}
 use Rattle.filter_db.specs.declared.place.Place.TheVariants.{Local}
 use Rattle.vlan_ports.specs.Ingress.{enters}
-use Rattle.vlan_ports.specs.Ports.{Ports, egress_at}
-use Rattle.vlan_ports.specs.declared.member.Egress.{Egress}
+use Rattle.vlan_ports.specs.Ports.{Ports}
 use Rattle.vlan_ports.proofs.Entering.{enters-from}
 use Rattle.ip_udp_view.specs.Udp.{data_of}
 use Rattle.ip_udp_view.specs.declared.addr.Addr.{Addr}
@@ -21,9 +19,8 @@ use Rattle.underlay.specs.Overlay.{Overlay, segment_by}
 use Rattle.underlay.specs.declared.segment.Segment.{Segment}
 use Rattle.decapsulate.specs.Arrival.{capture_reasons as packet_reasons, outer_reasons, inner_reasons, packet_in, kind_to, vni_of, inner_of, arrival_in, arrival_by, arrival, arrival_of}
 use Rattle.decapsulate.specs.declared.arrived.Arrived.{Arrived}
-use Rattle.encapsulate.specs.Emission.{local_text}
 use Rattle.endpoint_core.specs.Came.{Came}
-use Rattle.endpoint_core.specs.Arrival.{capture_reasons, entered, tunnelled, came_at, came_by, emitted}
+use Rattle.endpoint_core.specs.Arrival.{capture_reasons, entered, tunnelled, came_at, came_by}
 use Rattle.tenants_apart.specs.Again.{IsForwarded}
 
 -- ---- by a port
@@ -46,12 +43,6 @@ frame-forwarded s port original b came text h =
     let inside = unless-ok (first (capture_reasons original b)) (entered port (enters s port b)) came h in
     let it = enters-from s port b came.vid came.frame text (entered-from port (enters s port b) came inside.1) in
     record { is_frame = it.text.is_frame; source_is_individual = it.source_is_individual; destination_is_forwarded = it.destination_is_forwarded }
-
--- ---- where it leaves
-
-pub leaves : (s : Ports) (o : Overlay) (port v : ℕ) (egress : Egress) (f : Frame) → egress_at s v port ≡ Some egress → emitted s o v f (Local port) ≡ Ok (local_text v egress f)
-unfolding emitted
-leaves s o port v egress f there = ap (λ (e : Option Egress). Ok (option_map_or (λ egress. local_text v egress f) e [])) there
 
 -- ---- by a tunnel
 

@@ -6,6 +6,7 @@ pub mod Earlier
 pub mod Events
 pub mod Force
 pub mod Forwarded
+pub mod Leaving
 pub mod Lone
 pub mod Refusing
 pub mod Room

@@ -1,5 +1,5 @@
 //! The laws of two runs with two settings.
-ghost use Rattle.std.specs.Prelude.{◌≡◌, ◌↔◌, ◌<◌, ◌≤◌, ℕ, false, true, ◌||◌, List, ◌++◌, length, Some, Ok, Err};
+ghost use Rattle.std.specs.Prelude.{◌≡◌, ◌↔◌, ◌<◌, ◌≤◌, ℕ, false, true, ◌||◌, List, ◌++◌, length, Ok, Err};
 ghost use Rattle.std.specs.List.{AllByRecursion};
 ghost use Rattle.timeline.specs.Timeline.{Timeline};
 ghost use Rattle.timeline.specs.declared.source.Source.{Source};
@@ -11,8 +11,7 @@ ghost use Rattle.frame_view.specs.Tag.{IsVid, begins_tag};
 ghost use Rattle.frame_view.specs.declared.reason.Reason.TheVariants.{CutTag};
 ghost use Rattle.filter_db.specs.declared.place.Place.TheVariants.{Local};
 ghost use Rattle.vlan_ports.specs.Ingress.{enters};
-ghost use Rattle.vlan_ports.specs.Ports.{Ports, is_up, egress_at, members_at};
-ghost use Rattle.vlan_ports.specs.declared.member.Egress.{Egress};
+ghost use Rattle.vlan_ports.specs.Ports.{Ports, is_up, members_at};
 ghost use Rattle.vlan_ports.specs.declared.member.Egress.TheVariants.{Tagged, Untagged};
 ghost use Rattle.underlay.specs.Overlay.{Overlay, segment_at};
 ghost use Rattle.encapsulate.specs.Emission.{local_text};
@@ -23,16 +22,16 @@ ghost use Rattle.endpoint_state.specs.Change.{is_about, refused};
 ghost use Rattle.endpoint_state.specs.Effect.{effect};
 ghost use Rattle.endpoint_state.specs.Opened.{settings_told};
 ghost use Rattle.endpoint_state.specs.Settings.{Settings};
-ghost use Rattle.endpoint_core.specs.Arrival.{came_at, came_by, emitted};
+ghost use Rattle.endpoint_core.specs.Arrival.{came_at, came_by};
 ghost use Rattle.endpoint_core.specs.Came.{Came};
 ghost use Rattle.endpoint_core.specs.Event.{Event, FrameAt, Packet, Asks, IsRising, frame_at, packet_at, change_at};
 ghost use Rattle.endpoint_core.specs.Run.{settings_after};
-ghost use Rattle.endpoint_core.specs.Step.{opened, state_after};
+ghost use Rattle.endpoint_core.specs.Step.{State, opened, answer, state_after};
 ghost use Rattle.capture_run.specs.Outputs.{Outputs};
 ghost use Rattle.segment_isolation.specs.Alone.{all_see, concerns, only};
 ghost use Rattle.noninterference.specs.Coming.{Inputs, IsRunOf, ChangesNeverFall, coming_to};
-ghost use Rattle.noninterference.specs.Leaving.{rows, rows_of, departures, departures_in, lines_in, records_in};
-ghost use Rattle.tenants_apart.specs.Again.{IsForwarded, TakesInto, as_untagged, IsBehindTag};
+ghost use Rattle.noninterference.specs.Leaving.{rows, rows_of, departing, departures, departures_in, lines_in, records_in};
+ghost use Rattle.tenants_apart.specs.Again.{IsForwarded, TakesInto, as_untagged, IsBehindTag, IsTextIn, LeavesAsText};
 ghost use Rattle.tenants_apart.specs.Own.{IsFrontOf, IsOneFront, part_of, names_or_concerns, own_events, own_rows};
 ghost use Rattle.tenants_apart.specs.Own.{room_replies, wants_room};
 ghost use Rattle.tenants_apart.specs.Single.{single};
@@ -216,8 +215,6 @@ pub fn again()
         (enters s port (local_text v Untagged f) ≡ Ok (u, h)) ↔ ((h ≡ as_untagged f) × TakesInto s port 0 u) }
     ensures records { (s : Ports) (port v : ℕ) (b : List ℕ) (f : Frame) → enters s port b ≡ Ok (v, f) → length b ≤ 65535 →
         came_at s port (length b) b ≡ Ok (record { vid = v; from = Local port; frame = f }) }
-    ensures leaving { (s : Ports) (o : Overlay) (port v : ℕ) (egress : Egress) (f : Frame) →
-        egress_at s v port ≡ Some egress → emitted s o v f (Local port) ≡ Ok (local_text v egress f) }
     ensures frames { (s : Ports) (port original : ℕ) (b : List ℕ) (came : Came) → IsText b →
         came_at s port original b ≡ Ok came → IsForwarded came.frame }
     ensures packets { (o : Overlay) (original : ℕ) (b : List ℕ) (came : Came) →
@@ -239,4 +236,13 @@ pub fn second_tag()
         (enters s port (local_text v Untagged f) ≡ Ok (u, h)) ↔ ((h ≡ g) × TakesInto s port w u) }
     ensures cut { (s : Ports) (port v : ℕ) (f : Frame) → IsForwarded f → begins_tag f.body ≡ true → length f.body < 6 →
         is_up s port ≡ true → enters s port (local_text v Untagged f) ≡ Err (nowhere CutTag) }
+{}
+
+/// All that leaves at a local port, whatever state an endpoint is in and whatever comes: it leaves in a segment that the
+/// port is a member of by the settings in force, as that member has it, with a tag or without, and is the text of a frame of
+/// which [`again`] and [`second_tag`] tell where it enters.
+pub fn leaving()
+    ensures { (s : State) (e : Event) → IsTextIn e.input →
+        AllByRecursion (λ d. LeavesAsText s.bridges.settings.ports d.segment d.sending.place d.sending.octets)
+        (departing (record { event = e; reply = answer s e })) }
 {}

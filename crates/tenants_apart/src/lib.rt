@@ -5,8 +5,8 @@
 //! stopped, and [`laws::captures`] of whole captures. [`laws::single`] says that a segment is answered as it would be alone,
 //! and [`laws::room`] what it feels of others. Which events are a segment's own, `specs/Own` says.
 //!
-//! What leaves at a local port in a segment enters it again where it is read, says [`laws::again`], and [`laws::second_tag`]
-//! the exception: what leaves without a tag and has one in its body.
+//! What leaves at a local port is the text of a frame in its segment ([`laws::leaving`]), and enters that again where it is
+//! read ([`laws::again`]), but for what leaves without a tag and has one in its body ([`laws::second_tag`]).
 #![tactic(auto)]
 
 pub mod laws;

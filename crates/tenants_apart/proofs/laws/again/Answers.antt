@@ -1,5 +1,5 @@
 use Rattle.tenants_apart.proofs.Again.{tagged-again, untagged-again}
-use Rattle.tenants_apart.proofs.Forwarded.{record-comes, leaves, frame-forwarded, packet-forwarded}
+use Rattle.tenants_apart.proofs.Forwarded.{record-comes, frame-forwarded, packet-forwarded}
 use Rattle.tenants_apart.proofs.laws.again.Goals as goal
 
 pub returns : goal.returns
@@ -7,7 +7,6 @@ returns c = record {
   tagged = tagged-again;
   untagged = untagged-again;
   records = record-comes;
-  leaving = leaves;
   frames = frame-forwarded;
   packets = packet-forwarded;
 }

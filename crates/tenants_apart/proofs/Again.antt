@@ -96,7 +96,7 @@ untagged-again s port v u f h forwarded no_tag =
 
 -- ---- a second tag
 
-frame-behind : (f : Frame) (w : ℕ) (g : Frame) → IsFrame f → IsBehindTag f w g → IsFrame g
+pub frame-behind : (f : Frame) (w : ℕ) (g : Frame) → IsFrame f → IsBehindTag f w g → IsFrame g
 frame-behind f w g is_frame h = record {
   dst = ap length h.dst ∙ is_frame.dst;
   src = ap length h.src ∙ is_frame.src;

@@ -1,5 +1,5 @@
 -- Where the body of a frame begins with a tag: whole, and then with one frame behind it, or cut.
-use Rattle.std.proofs.Common.{◌≡◌, ◌↔◌, ℕ, suc, ◌+◌, ◌<◌, ◌≤◌, true, List, [], ◌∷◌, ◌++◌, length, take, drop, Err, refl, sym, ap, ◌∙◌, arith}
+use Rattle.std.proofs.Common.{◌≡◌, ◌↔◌, ℕ, suc, ◌+◌, ◌<◌, ◌≤◌, true, List, [], ◌∷◌, ◌++◌, length, take, drop, Err, refl, sym, ap, ◌∙◌, arith, inr}
 use Rattle.std.proofs.lemmas.Bool.{false≢true}
 use Rattle.std.proofs.lemmas.List.{length-append, length-drop, drop-drop, take_at, drop_at}
 use Rattle.header_sums.specs.Octets.{IsText, octet, field, octets}
@@ -10,12 +10,14 @@ use Rattle.frame_view.specs.Tag.{begins_tag, tag_text, tci_of, vid_of, pcp_of, d
 use Rattle.frame_view.specs.Refusal.{nowhere}
 use Rattle.frame_view.specs.declared.reason.Reason.TheVariants.{Runt, PortDown, BadSource, Reserved, CutTag, BadVid, FrameType, NoSegment, NotMember}
 use Rattle.frame_view.proofs.FrameLemmas.{control-parts}
-use Rattle.vlan_ports.specs.Ingress.{IsRefused, enters, source, destination}
+use Rattle.vlan_ports.specs.Ingress.{IsEntering, IsRefused, enters, source, destination}
 use Rattle.vlan_ports.specs.Ports.{Ports, is_up}
 use Rattle.vlan_ports.specs.declared.member.Egress.TheVariants.{Untagged}
+use Rattle.vlan_ports.proofs.Entering.{reads}
 use Rattle.vlan_ports.proofs.Refusals.{refused-of}
 use Rattle.encapsulate.specs.Emission.{local_text}
 use Rattle.tenants_apart.specs.Again.{IsForwarded, IsBehindTag}
+use Rattle.tenants_apart.proofs.Again.{frame-behind, same-octets}
 
 -- ---- a whole tag
 
@@ -89,3 +91,39 @@ cut-refused s port v f forwarded has short up =
       segment_is = refl;
     } in
     refused-of s port (plain f) (nowhere CutTag) it
+
+-- ---- the reserved VID
+
+pub reserved-refused : (s : Ports) (port v : ℕ) (f g : Frame) → IsForwarded f → IsBehindTag f 4095 g → is_up s port ≡ true → enters s port (local_text v Untagged f) ≡ Err (nowhere BadVid)
+reserved-refused s port v f g forwarded second up =
+    let frame = forwarded.is_frame in
+    let text : IsEntering (plain f) g 4095 = record { is_frame = frame-behind f 4095 g frame second; below = omega arith; text = inr (same-octets v 4095 f g second) } in
+    let r = reads (plain f) g 4095 text in
+    let long = r.long in
+    let it : IsRefused s port (plain f) (nowhere BadVid) = record {
+      before = Runt ∷ PortDown ∷ BadSource ∷ Reserved ∷ CutTag ∷ [];
+      behind = FrameType ∷ NoSegment ∷ NotMember ∷ [];
+      in_order = refl;
+      none_before = (
+        (λ runt. omega arith),
+        (
+          (λ down. false≢true (sym down ∙ up)),
+          (
+            (λ group. false≢true (sym forwarded.source_is_individual ∙ ap is_group (sym (source-there f frame)) ∙ group)),
+            (
+              (λ reserved. false≢true (sym forwarded.destination_is_forwarded ∙ ap is_reserved (sym (destination-there f frame)) ∙ reserved)),
+              (
+                (λ cut.
+                    let room = r.room cut.0 in
+                    let short = cut.1 in
+                    omega arith),
+                tt,
+              ),
+            ),
+          ),
+        ),
+      );
+      holds = r.vid;
+      segment_is = refl;
+    } in
+    refused-of s port (plain f) (nowhere BadVid) it

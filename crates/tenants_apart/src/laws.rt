@@ -8,7 +8,7 @@ ghost use Rattle.header_sums.specs.Octets.{IsText};
 ghost use Rattle.frame_view.specs.Frame.{Frame, IsFrame};
 ghost use Rattle.frame_view.specs.Refusal.{nowhere};
 ghost use Rattle.frame_view.specs.Tag.{IsVid, begins_tag};
-ghost use Rattle.frame_view.specs.declared.reason.Reason.TheVariants.{CutTag};
+ghost use Rattle.frame_view.specs.declared.reason.Reason.TheVariants.{BadVid, CutTag};
 ghost use Rattle.filter_db.specs.declared.place.Place.TheVariants.{Local};
 ghost use Rattle.vlan_ports.specs.Ingress.{enters};
 ghost use Rattle.vlan_ports.specs.Ports.{Ports, is_up, members_at};
@@ -225,7 +225,7 @@ pub fn again()
 /// are those that leave with a tag in the segment of the VID in the second tag. They enter exactly where a port takes frames
 /// with that tag, in its segment and no other, which is that of the port's VID where the tag's is 0. A body begins with a
 /// whole tag exactly where it has the type of one and 6 octets, and that tells one VID and one frame. Where it is shorter the
-/// tag is cut, and nothing enters.
+/// tag is cut, and nothing enters, nor where the VID is the reserved one.
 pub fn second_tag()
     ensures whole { (f : Frame) → IsText f.body →
         ((w : ℕ) × (g : Frame) × IsBehindTag f w g) ↔ ((begins_tag f.body ≡ true) × (6 ≤ length f.body)) }
@@ -234,6 +234,8 @@ pub fn second_tag()
     ensures octets { (v w : ℕ) (f g : Frame) → IsBehindTag f w g → local_text v Untagged f ≡ local_text w Tagged g }
     ensures enters { (s : Ports) (port v w u : ℕ) (f g h : Frame) → IsForwarded f → IsBehindTag f w g → w < 4095 →
         (enters s port (local_text v Untagged f) ≡ Ok (u, h)) ↔ ((h ≡ g) × TakesInto s port w u) }
+    ensures reserved { (s : Ports) (port v : ℕ) (f g : Frame) → IsForwarded f → IsBehindTag f 4095 g →
+        is_up s port ≡ true → enters s port (local_text v Untagged f) ≡ Err (nowhere BadVid) }
     ensures cut { (s : Ports) (port v : ℕ) (f : Frame) → IsForwarded f → begins_tag f.body ≡ true → length f.body < 6 →
         is_up s port ≡ true → enters s port (local_text v Untagged f) ≡ Err (nowhere CutTag) }
 {}

@@ -1,5 +1,5 @@
 use Rattle.tenants_apart.proofs.Again.{same-octets, one-behind, other-enters}
-use Rattle.tenants_apart.proofs.SecondTag.{whole-tag, cut-refused}
+use Rattle.tenants_apart.proofs.SecondTag.{whole-tag, cut-refused, reserved-refused}
 use Rattle.tenants_apart.proofs.laws.second_tag.Goals as goal
 
 pub returns : goal.returns
@@ -8,5 +8,6 @@ returns c = record {
   one = one-behind;
   octets = same-octets;
   enters = other-enters;
+  reserved = reserved-refused;
   cut = cut-refused;
 }

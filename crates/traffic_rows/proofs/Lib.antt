@@ -1,3 +1,4 @@
 pub mod Sums
 pub mod Shown
 pub mod Places
+pub mod Merging

@@ -1,7 +1,7 @@
 -- The first rows of a map, as traffic is added.
-use Rattle.std.proofs.Common.{◌≡◌, ◌∙◌, ap, sym, refl, ℕ, zero, suc, Bool, true, false, cond, nat_lt, List, [], ◌∷◌, take, drop}
+use Rattle.std.proofs.Common.{◌≡◌, ◌<◌, ◌∙◌, ap, sym, refl, ℕ, zero, suc, Bool, true, false, cond, nat_lt, List, [], ◌∷◌, length, get_or, take, drop, arith}
 use Rattle.traffic_rows.specs.Key.{rank}
-use Rattle.traffic_rows.specs.Rows.{Rows, all_traffic, counted_all, counted_in, no_rows, rank_of, row_of, shown, total, with_traffic}
+use Rattle.traffic_rows.specs.Rows.{Rows, all_traffic, counted, counted_all, counted_in, no_rows, rank_of, row_of, shown, total, with_traffic}
 use Rattle.traffic_rows.specs.Traffic.{no_traffic, traffic_with}
 use Rattle.traffic_rows.specs.declared.key.TunnelKey.{TunnelKey}
 use Rattle.traffic_rows.specs.declared.rows.TrafficRow.{TrafficRow}
@@ -38,7 +38,7 @@ drop_taken (suc n) (x ∷ xs) = drop_taken n xs
 
 -- ---- what rows come to
 
-total_none : (rows : List TrafficRow) → traffic_with (total rows) no_traffic ≡ total rows
+pub total_none : (rows : List TrafficRow) → traffic_with (total rows) no_traffic ≡ total rows
 total_none [] = none_none
 total_none (row ∷ rows) = with_nothing_more row.traffic (total rows)
 
@@ -50,7 +50,7 @@ total_apart (suc n) [] = sym none_none
 total_apart (suc n) (row ∷ rows) = total_apart n rows
 
 -- with more traffic of a key
-total_more : (key : TunnelKey) (traffic : Traffic) (rows : List TrafficRow) → total (with_traffic key traffic rows) ≡ traffic_with (total rows) (traffic_with traffic no_traffic)
+pub total_more : (key : TunnelKey) (traffic : Traffic) (rows : List TrafficRow) → total (with_traffic key traffic rows) ≡ traffic_with (total rows) (traffic_with traffic no_traffic)
 total_more key traffic [] = sym (with_nothing traffic)
 total_more key traffic (row ∷ rows) = by (nat_lt (rank_of row) (rank key)) (nat_lt (rank key) (rank_of row)) (total_more key traffic rows)
   where
@@ -94,9 +94,18 @@ shown_more n rows key traffic = λ i. record { rows = rows_more n key traffic ro
 pub none_shown : (n : ℕ) → no_rows ≡ shown n []
 none_shown n = λ i. record { rows = sym (take_none n) i; others = ap total (sym (drop_none n)) i }
 
-shown_all : (rows more : List TrafficRow) → counted_all (shown 4096 rows) more ≡ shown 4096 (all_traffic rows more)
+pub shown_all : (rows more : List TrafficRow) → counted_all (shown 4096 rows) more ≡ shown 4096 (all_traffic rows more)
 shown_all rows [] = refl
 shown_all rows (row ∷ more) = ap (λ (table : Rows). counted_all table more) (shown_more 4096 rows row.key row.traffic) ∙ shown_all (with_traffic row.key row.traffic rows) more
 
 pub all_shown : (rows : List TrafficRow) → counted_all no_rows rows ≡ shown 4096 (all_traffic [] rows)
 all_shown rows = ap (λ (table : Rows). counted_all table rows) (none_shown 4096) ∙ shown_all [] rows
+
+-- ---- row by row
+
+pub counted_next : (start now new : Rows) (rows : List TrafficRow) (i : ℕ) (row : TrafficRow) → i < length rows → row ≡ get_or rows i row → now ≡ counted_all start (take i rows)
+    → new ≡ counted now row.key row.traffic → new ≡ counted_all start (take (suc i) rows)
+counted_next start now new [] i row inside here so more = absurd (omega (arith, inside))
+counted_next start now new (first ∷ rows) zero row inside here so more = more ∙ (λ k. counted (so k) (here k).key (here k).traffic)
+counted_next start now new (first ∷ rows) (suc i) row inside here so more =
+    counted_next (counted start first.key first.traffic) now new rows i row (omega (arith, inside)) here so more

@@ -25,6 +25,12 @@ module _ (m : ℕ) where
   pub turned : (a b : ℕ) → sum a b ≡ sum b (sum a 0)
   turned a b = omega arith
 
+  pub ahead : (a b : ℕ) → sum 0 (sum a b) ≡ sum a b
+  ahead a b = omega arith
+
+  pub between : (a b c : ℕ) → sum (sum a (sum b 0)) c ≡ sum a (sum b c)
+  between a b c = omega arith
+
 abbrev most : ℕ
 most = 18446744073709551615
 
@@ -73,4 +79,20 @@ with_turned a b = λ i. record {
   came_octets = turned most a.came_octets b.came_octets i;
   left = turned most a.left b.left i;
   left_octets = turned most a.left_octets b.left_octets i;
+}
+
+pub none_before : (a b : Traffic) → traffic_with no_traffic (traffic_with a b) ≡ traffic_with a b
+none_before a b = λ i. record {
+  came = ahead most a.came b.came i;
+  came_octets = ahead most a.came_octets b.came_octets i;
+  left = ahead most a.left b.left i;
+  left_octets = ahead most a.left_octets b.left_octets i;
+}
+
+pub none_between : (a b c : Traffic) → traffic_with (traffic_with a (traffic_with b no_traffic)) c ≡ traffic_with a (traffic_with b c)
+none_between a b c = λ i. record {
+  came = between most a.came b.came c.came i;
+  came_octets = between most a.came_octets b.came_octets c.came_octets i;
+  left = between most a.left b.left c.left i;
+  left_octets = between most a.left_octets b.left_octets c.left_octets i;
 }

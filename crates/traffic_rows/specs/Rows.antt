@@ -1,7 +1,7 @@
 -- Tables of traffic. It states no standard.
 --     with_traffic, all_traffic      the traffic of all tunnels, as a finite map in the order of its keys
 --     Rows, shown      its first rows, and what the others come to
---     counted      the same with more traffic
+--     counted, together      the same with more traffic, and with all of another table
 use Rattle.std.specs.Prelude.{◌<◌, ◌≤◌, ℕ, nat_lt, if◌then◌else◌, ⊤, List, [], ◌∷◌, length, take, drop, slice_index_or}
 use Rattle.traffic_rows.specs.Key.{rank}
 use Rattle.traffic_rows.specs.Traffic.{no_traffic, traffic_with}
@@ -67,6 +67,14 @@ counted table key traffic = counted_in 4096 table key traffic
 abbrev pub counted_all : Rows → List TrafficRow → Rows
 counted_all table [] = table
 counted_all table (row ∷ rows) = counted_all (counted table row.key row.traffic) rows
+
+-- with more of the others
+abbrev pub with_others : Rows → Traffic → Rows
+with_others table traffic = record { rows = table.rows; others = traffic_with table.others traffic }
+
+-- with all that another table shows
+abbrev pub together : Rows → Rows → Rows
+together table other = with_others (counted_all table other.rows) other.others
 
 -- ---- order
 

@@ -2,7 +2,7 @@
 ghost use Rattle.std.specs.Prelude.{◌≡◌, ◌<◌, ◌≤◌, ◌+◌, ◌*◌, ◌^◌, IfOk, drop, false, length, nat_lt, slice_index_or, take, true, vec_capacity};
 ghost use Rattle.std.specs.List.{insert};
 ghost use Rattle.traffic_rows.specs.Key.{rank};
-ghost use Rattle.traffic_rows.specs.Rows.{AreRising, IsPlaceOf, counted, no_rows, rank_of, total, with_traffic};
+ghost use Rattle.traffic_rows.specs.Rows.{AreRising, IsPlaceOf, counted, no_rows, rank_of, together, total, with_others, with_traffic};
 ghost use Rattle.traffic_rows.specs.declared.rows.TrafficRow.{TrafficRow as ARow};
 ghost use Rattle.traffic_rows.specs.Traffic.{no_traffic, traffic_with};
 
@@ -72,6 +72,23 @@ impl TrafficRows {
     {
         let rest = put(&mut self.rows, key, traffic);
         self.others = self.others.with(rest);
+    }
+
+    /// Counts traffic of tunnels that have no row.
+    pub fn add_others(&mut self, traffic: Traffic)
+        ensures { self.new ≡ with_others self.old traffic }
+    {
+        self.others = self.others.with(traffic);
+    }
+
+    /// Counts all that another table shows.
+    pub fn add_all(&mut self, other: &TrafficRows)
+        ensures { self.new ≡ together self.old other.now }
+    {
+        for row in other.rows() {
+            self.add(row.key, row.traffic);
+        }
+        self.add_others(other.others());
     }
 }
 

@@ -1,5 +1,5 @@
 """Cuts the run of each worked row of tests/rows/ into each pair of parts, and puts them together again: files, tables and counts
-are those of the whole run, octet for octet, but for its lines of tunnels. The parts share the segments 10 and 20, all others, and what comes to none."""
+are those of the whole run, octet for octet. The parts share the segments 10 and 20, all others, and what comes to none."""
 import concurrent.futures
 import os
 import pathlib
@@ -28,11 +28,6 @@ def written(folder, words, out):
     return ended, {file.name: file.read_bytes() for file in (folder / out).iterdir()}
 
 
-def added_up(text):
-    """The lines of a whole run's tables and counts that a merge prints, too: all but those of tunnels."""
-    return b"".join(line for line in text.splitlines(True) if not line.startswith((b"unknown ", b"remote ")))
-
-
 def faults(row):
     """Where the parts of a row's run, put together, aren't the whole run; and whether it is a run that ends well."""
     told = []
@@ -53,7 +48,7 @@ def faults(row):
                 if ended.returncode:
                     told.append(f"the part {share}: {ended.stderr.decode()}")
             merged, again = written(folder, ["merge", *parts], f"merged{number}")
-            if merged.returncode or (merged.stdout, again) != (added_up(whole.stdout), files):
+            if merged.returncode or (merged.stdout, again) != (whole.stdout, files):
                 told.append(f"{one} and {other}: {merged.stderr.decode() or 'the merge is another run'}")
     return told, True
 

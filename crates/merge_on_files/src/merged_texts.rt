@@ -8,6 +8,7 @@ use std::alloc::AllocError;
 use std::fs;
 use std::io::ErrorKind;
 use std::rt::Files;
+use tunnel_tables::{TrafficFault, TunnelTables, parted};
 
 /// How many reads are made of a text that a part left, at most.
 const TEXT_READS: u64 = 4_294_967_296;
@@ -85,27 +86,71 @@ fn merge_tables<'a, R: Files + AllocGlobal>(
     Ok(tables_of(rt.alloc(), rows.as_slice())?)
 }
 
-/// The counts of all parts.
+/// The counts of all parts, and what passed by their tunnels.
 fn merge_summaries<'a, R: Files + AllocGlobal>(
     rt: &R,
     folders: &[&'a str],
     ports: u8,
 ) -> Result<Vec<u8>, Failure<'a>> {
     let mut all = Summary::none(rt.alloc())?;
+    let mut passed = TunnelTables::none(rt.alloc())?;
     for folder in folders {
         let text = match read_left(rt, *folder, OutputFile::Summary) {
             Ok(text) => text,
             Err(failure) => return Err(failure),
         };
-        match Summary::read(rt.alloc(), text.as_slice(), ports) {
-            Ok(summary) => all.add(&summary)?,
-            Err(ReportFault::OutOfMemory) => return Err(Failure::from(AllocError)),
-            Err(ReportFault::Line(line)) => {
-                return Err(wrong_line(*folder, OutputFile::Summary, line));
-            }
+        let (counts, tunnels) = parted(text.as_slice());
+        if let Err(failure) = add_counts(rt, *folder, counts, ports, &mut all) {
+            return Err(failure);
+        }
+        if let Err(failure) = add_tunnels(rt, *folder, counts, tunnels, &mut passed) {
+            return Err(failure);
         }
     }
-    Ok(all.to_text(rt.alloc(), ports)?)
+    let mut text = all.to_text(rt.alloc(), ports)?;
+    let behind = passed.to_text(rt.alloc())?;
+    text.extend_from_slice(behind.as_slice())?;
+    Ok(text)
+}
+
+/// Adds the counts of the part in this folder.
+fn add_counts<'a, R: AllocGlobal>(
+    rt: &R,
+    folder: &'a str,
+    text: &[u8],
+    ports: u8,
+    all: &mut Summary,
+) -> Result<(), Failure<'a>> {
+    match Summary::read(rt.alloc(), text, ports) {
+        Ok(summary) => {
+            all.add(&summary)?;
+            Ok(())
+        }
+        Err(ReportFault::OutOfMemory) => Err(Failure::from(AllocError)),
+        Err(ReportFault::Line(line)) => Err(wrong_line(folder, OutputFile::Summary, line)),
+    }
+}
+
+/// Adds what passed by the tunnels of the part in this folder, which stands behind its counts.
+fn add_tunnels<'a, R: AllocGlobal>(
+    rt: &R,
+    folder: &'a str,
+    counts: &[u8],
+    text: &[u8],
+    all: &mut TunnelTables,
+) -> Result<(), Failure<'a>> {
+    match TunnelTables::read(rt.alloc(), text) {
+        Ok(tables) => {
+            all.add(&tables);
+            Ok(())
+        }
+        Err(TrafficFault::OutOfMemory) => Err(Failure::from(AllocError)),
+        Err(TrafficFault::Line(line)) => {
+            let before = counts.iter().filter(|c| **c == b'\n').count();
+            let number = before.saturating_add(line);
+            Err(wrong_line(folder, OutputFile::Summary, number))
+        }
+    }
 }
 
 /// A text that the part in this folder left.

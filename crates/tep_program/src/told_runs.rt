@@ -125,9 +125,9 @@ fn onlooker_of<'n, 'a>(
     Ok(Onlooker { reports, counts })
 }
 
-/// Whoever counts what passes by tunnels, where a whole run is asked for its summary.
+/// Whoever counts what passes by tunnels, where a run is asked for its summary.
 fn tunnels_of(alloc: Global, asked: Asked<'_, '_>) -> Result<Option<TunnelTraffic>, AllocError> {
-    if asked.summary && asked.segments.is_none() {
+    if asked.summary {
         let tunnels = TunnelTraffic::open(alloc)?;
         Ok(Some(tunnels))
     } else {
@@ -197,8 +197,7 @@ fn tell_all<R: Files + AllocGlobal + Print>(
     let Ok((told, tables)) = reports.into_texts() else {
         return Err(Failure::from(AllocError));
     };
-    let summary = summary_of(rt.alloc(), counts, ran.cut.as_slice())?;
-    let passed = passed_text(rt.alloc(), tunnels)?;
+    let summary = summary_of(rt.alloc(), counts, tunnels, ran.cut.as_slice())?;
     let left = match leave_texts(rt, folder, asked, tables.as_slice(), summary.as_slice()) {
         Ok(()) => ran.finish(),
         Err(failure) => Err(failure),
@@ -206,15 +205,6 @@ fn tell_all<R: Files + AllocGlobal + Print>(
     left.and(print_text(rt, told.as_slice()))
         .and(print_text(rt, tables.as_slice()))
         .and(print_text(rt, summary.as_slice()))
-        .and(print_text(rt, passed.as_slice()))
-}
-
-/// What passed by tunnels, where that is asked for.
-fn passed_text(alloc: Global, tunnels: Option<TunnelTraffic>) -> Result<Vec<u8>, AllocError> {
-    match tunnels {
-        Some(tunnels) => tunnels.text(alloc),
-        None => Ok(Vec::new(alloc)),
-    }
 }
 
 /// Writes the tables and the counts of a part into its folder, where it has one, as far as they are asked for.
@@ -237,16 +227,20 @@ fn leave_texts<R: Files + AllocGlobal>(
     Ok(())
 }
 
-/// What a run counted, where that is asked for.
+/// What a run counted, and what passed by tunnels, where that is asked for.
 fn summary_of(
     alloc: Global,
     counts: Option<RunCounts>,
+    tunnels: Option<TunnelTraffic>,
     cut: &[Tap],
 ) -> Result<Vec<u8>, AllocError> {
-    match counts {
-        Some(counts) => counts.into_text(cut),
-        None => Ok(Vec::new(alloc)),
-    }
+    let (Some(counts), Some(tunnels)) = (counts, tunnels) else {
+        return Ok(Vec::new(alloc));
+    };
+    let mut text = counts.into_text(cut)?;
+    let passed = tunnels.text(alloc)?;
+    text.extend_from_slice(passed.as_slice())?;
+    Ok(text)
 }
 
 /// Prints what a run told.

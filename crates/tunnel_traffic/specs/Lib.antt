@@ -1,4 +1,3 @@
 pub mod Header
 pub mod Tunnels
-pub mod Lines
 pub mod Run

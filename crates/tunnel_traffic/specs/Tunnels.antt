@@ -29,12 +29,9 @@ use Rattle.traffic_rows.specs.declared.key.TunnelKey.{TunnelKey}
 use Rattle.traffic_rows.specs.declared.rows.TrafficRow.{TrafficRow}
 use Rattle.traffic_rows.specs.declared.traffic.Traffic.{Traffic}
 use Rattle.tunnel_traffic.specs.Header.{key_in}
+pub use Rattle.tunnel_tables.specs.Tables.{Tunnels, no_tunnels, endpoint_key}
 
 -- ---- rows
-
--- all networks of a remote endpoint
-abbrev pub endpoint_key : Tunnel → Addr → TunnelKey
-endpoint_key kind addr = record { kind = kind; vni = 0; address = addr }
 
 -- traffic of a place, where that is a remote endpoint
 abbrev pub rows_at : Place → Traffic → List TrafficRow
@@ -52,9 +49,9 @@ abbrev pub key_rows : Option TunnelKey → Traffic → List TrafficRow
 key_rows None traffic = []
 key_rows (Some key) traffic = row_of key traffic ∷ []
 
--- a packet that was refused for a reason
+-- a packet that was refused for a reason: no line tells its octets, and none are counted
 abbrev pub refused_rows : Overlay → List ℕ → Reason → List TrafficRow
-refused_rows overlay b reason = if is_unknown reason then key_rows (key_in overlay.underlay b) (came_of (length b)) else []
+refused_rows overlay b reason = if is_unknown reason then key_rows (key_in overlay.underlay b) (came_of 0) else []
 
 -- a packet of a network that no segment has
 abbrev pub unknown_by : Overlay → List ℕ → Result Came Refused → List TrafficRow
@@ -95,15 +92,6 @@ answer_rows (Decided decision) = flat_map outcome_rows decision.outcomes
 answer_rows (Replied fault) = []
 
 -- ---- what was counted
-
--- of packets of networks that no segment has, and of remote endpoints
-pub record Tunnels : Type 0 where
-  pub unknown : Rows
-  pub remotes : Rows
-
--- nothing
-abbrev pub no_tunnels : Tunnels
-no_tunnels = record { unknown = no_rows; remotes = no_rows }
 
 -- with a packet that brings this
 abbrev pub packet_told : Tunnels → Overlay → List ℕ → Result Came Refused → Tunnels

@@ -5,7 +5,7 @@
 //! Use first: [`TunnelTraffic`] looks on while `stream_run` runs, and makes the text behind it; [`Beside`] puts it beside whoever
 //! else looks on.
 //!
-//! Specs to read, in order: `specs/Header`, `specs/Run`, `specs/Tunnels`, `specs/Lines`.
+//! Specs to read, in order: `specs/Header`, `specs/Run`, `specs/Tunnels`, and `specs/Lines` of `tunnel_tables`.
 //!
 //! Proved: behind a run of any events, or of a part of it, the tables show what those events and the answers of their segments'
 //! bridges come to (`laws::runs`), and the text is exactly the lines of these. Whoever else looks on sees what it would alone.
@@ -16,7 +16,6 @@
 mod beside;
 mod header;
 pub mod laws;
-mod lines;
 mod tunnels;
 
 pub use beside::Beside;

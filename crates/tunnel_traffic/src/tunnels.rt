@@ -9,11 +9,10 @@ ghost use Rattle.endpoint_state.specs.Settings.{segment_at};
 ghost use Rattle.endpoint_state.specs.Step.{can_leave};
 ghost use Rattle.timeline.specs.declared.event.Happening.TheVariants.{Record};
 ghost use Rattle.traffic_rows.specs.Rows.{counted_all};
-ghost use Rattle.tunnel_traffic.specs.Lines.{tunnels_text};
+ghost use Rattle.tunnel_tables.specs.Lines.{tunnels_text};
 ghost use Rattle.tunnel_traffic.specs.Tunnels.{answer_rows, answer_told, came_told, is_unknown, key_rows, no_tunnels, outcome_rows, packet_told, refused_rows, rows_at};
 
 use crate::header::key_in;
-use crate::lines::put_tunnels;
 use endpoint_core::{Came, ChangeFault, Course, Endpoint};
 use filter_db::Place;
 use frame_view::Reason;
@@ -22,6 +21,7 @@ use std::marker::Model;
 use stream_run::Watch;
 use timeline::{Captured, Event, Happening, Tap};
 use traffic_rows::{Traffic, TrafficRows, TunnelKey};
+use tunnel_tables::put_tunnels;
 use vxlan_head::Vni;
 
 /// What passes by the tunnels of an endpoint. It looks on while a run goes. Only [`TunnelTraffic::open`] and
@@ -126,13 +126,13 @@ impl TunnelTraffic {
     }
 }
 
-/// Counts a packet that was refused for a reason, where that is that no segment has its network.
+/// Counts a packet that was refused for a reason, where that is that no segment has its network, and not its octets.
 fn count_refused(unknown: &mut TrafficRows, endpoint: &Endpoint, reason: Reason, octets: &[u8])
     ensures { unknown.new ≡ counted_all unknown.old (refused_rows (state_of endpoint.now).bridges.settings.overlay octets.now reason) }
 {
     if is_unknown(reason) {
         let key = key_in(endpoint.under(), octets);
-        count_key(unknown, key, Traffic::one_came(octets.len() as u64));
+        count_key(unknown, key, Traffic::one_came(0));
     }
 }
 

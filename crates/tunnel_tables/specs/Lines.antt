@@ -8,7 +8,7 @@ use Rattle.ip_udp_view.specs.declared.addr.Tunnel.TheVariants.{Vxlan, Geneve}
 use Rattle.endpoint_core.specs.Text.{addr_text, kind_text}
 use Rattle.traffic_rows.specs.declared.rows.TrafficRow.{TrafficRow}
 use Rattle.traffic_rows.specs.declared.traffic.Traffic.{Traffic}
-use Rattle.tunnel_traffic.specs.Tunnels.{Tunnels}
+use Rattle.tunnel_tables.specs.Tables.{Tunnels}
 
 -- ---- networks that no segment has
 
@@ -20,7 +20,8 @@ kind_name Geneve = codes "geneve"
 -- how many packets of a network came from a sender
 unfoldable pub unknown_line : TrafficRow → List ℕ
 unknown_line row =
-    codes "unknown " ++ kind_name row.key.kind ++ codes " " ++ decimal row.key.vni ++ codes " from " ++ addr_text row.key.address ++ codes " " ++ decimal row.traffic.came ++ 10 ∷ []
+    codes "unknown " ++ kind_name row.key.kind ++ codes " " ++ decimal row.key.vni
+    ++ codes " from " ++ addr_text row.key.address ++ codes " " ++ decimal row.traffic.came ++ 10 ∷ []
 
 -- how many of others; nothing where there are none
 unfoldable pub unknown_others : Traffic → List ℕ
@@ -31,7 +32,8 @@ unknown_others traffic = if traffic.came == 0 then [] else codes "unknown others
 -- packets in both directions, and their octets together
 abbrev pub flows_text : Traffic → List ℕ
 flows_text traffic =
-    codes " in " ++ decimal traffic.came ++ codes " " ++ decimal traffic.came_octets ++ codes " out " ++ decimal traffic.left ++ codes " " ++ decimal traffic.left_octets ++ 10 ∷ []
+    codes " in " ++ decimal traffic.came ++ codes " " ++ decimal traffic.came_octets
+    ++ codes " out " ++ decimal traffic.left ++ codes " " ++ decimal traffic.left_octets ++ 10 ∷ []
 
 -- of a remote endpoint
 unfoldable pub remote_line : TrafficRow → List ℕ
@@ -45,4 +47,5 @@ remote_others traffic = if (traffic.came == 0) && (traffic.left == 0) then [] el
 
 abbrev pub tunnels_text : Tunnels → List ℕ
 tunnels_text t =
-    flat_map unknown_line t.unknown.rows ++ unknown_others t.unknown.others ++ flat_map remote_line t.remotes.rows ++ remote_others t.remotes.others
+    flat_map unknown_line t.unknown.rows ++ unknown_others t.unknown.others
+    ++ flat_map remote_line t.remotes.rows ++ remote_others t.remotes.others

@@ -1,7 +1,7 @@
 //! The lines of what passes by tunnels.
 ghost use Rattle.std.specs.Prelude.{◌≡◌, ◌++◌, OnOk, codes, string_bytes};
 ghost use Rattle.std.specs.List.{flat_map};
-ghost use Rattle.tunnel_traffic.specs.Lines.{flows_text, kind_name, remote_line, remote_others, tunnels_text, unknown_line, unknown_others};
+ghost use Rattle.tunnel_tables.specs.Lines.{flows_text, kind_name, remote_line, remote_others, tunnels_text, unknown_line, unknown_others};
 
 use endpoint_core::{put_addr, put_place};
 use filter_db::Place;
@@ -16,7 +16,8 @@ pub fn put_tunnels(
     unknown: &TrafficRows,
     remotes: &TrafficRows,
 ) -> Result<(), AllocError>
-    ensures { OnOk result (string_bytes text.new ≡ string_bytes text.old ++ tunnels_text (record { unknown = unknown.now; remotes = remotes.now })) }
+    ensures { OnOk result (string_bytes text.new
+        ≡ string_bytes text.old ++ tunnels_text (record { unknown = unknown.now; remotes = remotes.now })) }
 {
     put_unknown(text, unknown.rows())?;
     put_unknown_others(text, unknown.others())?;

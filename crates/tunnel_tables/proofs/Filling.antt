@@ -1,0 +1,154 @@
+-- Tables that are filled row by row, as their lines tell them.
+use Rattle.std.proofs.Common.{◌≡◌, ◌∙◌, ap, sym, refl, ℕ, ◌+◌, ◌^◌, ◌<◌, ◌≤◌, Bool, true, false, cond, List, [], ◌∷◌, ◌++◌, append-nil, append_assoc, arith}
+use Rattle.std.specs.Prelude.{◌==◌, ◌&&◌, if◌then◌else◌, ⊤, min}
+use Rattle.std.specs.List.{AllByRecursion, flat_map}
+use Rattle.std.proofs.lemmas.Bool.{cond-true, eqb-true, lt-ltb}
+use Rattle.std.proofs.lemmas.List.Elements.{recursion_from_All}
+use Rattle.traffic_rows.specs.Key.{rank}
+use Rattle.traffic_rows.specs.Rows.{Rows, all_traffic, counted, counted_all, no_rows, rank_of, row_of, shown, total, with_traffic}
+use Rattle.traffic_rows.specs.Traffic.{no_traffic, traffic_with}
+use Rattle.traffic_rows.specs.declared.key.TunnelKey.{TunnelKey}
+use Rattle.traffic_rows.specs.declared.rows.TrafficRow.{TrafficRow}
+use Rattle.traffic_rows.specs.declared.traffic.Traffic.{Traffic}
+use Rattle.traffic_rows.proofs.Places.{drop_whole, take_whole}
+use Rattle.traffic_rows.proofs.Shown.{all_shown}
+use Rattle.tunnel_tables.specs.Tables.{Tunnels, no_tunnels}
+use Rattle.tunnel_tables.specs.Tables.{IsRemote, IsTable, IsTold, IsTraffic, IsUnknown, RiseFrom, packets_of}
+use Rattle.tunnel_tables.specs.Rows.{told_by, with_row}
+use Rattle.tunnel_tables.specs.declared.row.Row.{Row}
+use Rattle.tunnel_tables.specs.declared.row.Row.TheVariants.{Unknown, UnknownOthers, Remote, RemoteOthers}
+
+-- ---- rows whose ranks rise
+
+-- all ranks are below this one
+abbrev Below : ℕ → List TrafficRow → Type 0
+Below n [] = ⊤
+Below n (row ∷ rows) = (rank_of row < n) × Below n rows
+
+below_more : (m n : ℕ) → m ≤ n → (rows : List TrafficRow) → Below m rows → Below n rows
+below_more m n le [] below = tt
+below_more m n le (row ∷ rows) below = (omega (arith, le, below.0), below_more m n le rows below.1)
+
+below_last : (n : ℕ) (rows : List TrafficRow) (row : TrafficRow) → Below n rows → rank_of row < n → Below n (rows ++ row ∷ [])
+below_last n [] row below low = (low, tt)
+below_last n (first ∷ rows) row below low = (below.0, below_last n rows row below.1 low)
+
+with_last : (key : TunnelKey) (traffic : Traffic) (rows : List TrafficRow) → Below (rank key) rows → with_traffic key traffic rows ≡ rows ++ row_of key traffic ∷ []
+with_last key traffic [] below = refl
+with_last key traffic (row ∷ rows) below =
+    cond-true _ _ _ (lt-ltb (rank_of row) (rank key) below.0) ∙ ap (λ (l : List TrafficRow). row ∷ l) (with_last key traffic rows below.1)
+
+all_behind : (least : ℕ) (before rows : List TrafficRow) → Below least before → RiseFrom least rows → all_traffic before rows ≡ before ++ rows
+all_behind least before [] below rise = sym (append-nil before)
+all_behind least before (row ∷ rows) below rise =
+    let low = below_more least (rank_of row) rise.0 before below in
+    let next : rank_of row < rank_of row + 1 = omega arith in
+    let le : least ≤ rank_of row + 1 = omega (arith, rise.0) in
+    ap (λ (l : List TrafficRow). all_traffic l rows) (with_last row.key row.traffic before low)
+    ∙ all_behind (rank_of row + 1) (before ++ row ∷ []) rows (below_last (rank_of row + 1) before row (below_more least (rank_of row + 1) le before below) next) rise.1
+    ∙ append_assoc before (row ∷ []) rows
+
+-- counted one after another they are the table
+pub filled : (IsRow : TrafficRow → Type 0) (rows : List TrafficRow) → IsTable IsRow rows → counted_all no_rows rows ≡ record { rows = rows; others = no_traffic }
+filled IsRow rows is =
+    let same : all_traffic [] rows ≡ rows = all_behind 0 [] rows tt is.rise in
+    all_shown rows ∙ ap (shown 4096) same
+    ∙ (λ i. record { rows = take_whole 4096 rows is.few i; others = ap total (drop_whole 4096 rows is.few) i })
+
+-- ---- the lines of tables
+
+abbrev pub unknown_row : TrafficRow → List Row
+unknown_row row = Unknown row.key row.traffic.came ∷ []
+
+abbrev pub remote_row : TrafficRow → List Row
+remote_row row = Remote row.key row.traffic ∷ []
+
+-- nothing where there are none
+abbrev pub unknown_others_row : Traffic → List Row
+unknown_others_row traffic = if traffic.came == 0 then [] else UnknownOthers traffic.came ∷ []
+
+abbrev pub remote_others_row : Traffic → List Row
+remote_others_row traffic = if (traffic.came == 0) && (traffic.left == 0) then [] else RemoteOthers traffic ∷ []
+
+-- all of them
+abbrev pub rows_told : Tunnels → List Row
+rows_told t = flat_map unknown_row t.unknown.rows ++ unknown_others_row t.unknown.others ++ flat_map remote_row t.remotes.rows ++ remote_others_row t.remotes.others
+
+told_append : (t : Tunnels) (xs ys : List Row) → told_by t (xs ++ ys) ≡ told_by (told_by t xs) ys
+told_append t [] ys = refl
+told_append t (x ∷ xs) ys = told_append (with_row t x) xs ys
+
+abbrev tables : Rows → Rows → Tunnels
+tables unknown remotes = record { unknown = unknown; remotes = remotes }
+
+unknown_counted : (unknown remotes : Rows) (rows : List TrafficRow) → AllByRecursion IsUnknown rows
+    → told_by (tables unknown remotes) (flat_map unknown_row rows) ≡ tables (counted_all unknown rows) remotes
+unknown_counted unknown remotes [] all = refl
+unknown_counted unknown remotes (row ∷ rows) all =
+    ap (λ (traffic : Traffic). told_by (tables (counted unknown row.key traffic) remotes) (flat_map unknown_row rows)) (sym all.0.counts)
+    ∙ unknown_counted (counted unknown row.key row.traffic) remotes rows all.1
+
+remotes_counted : (unknown remotes : Rows) (rows : List TrafficRow) → told_by (tables unknown remotes) (flat_map remote_row rows) ≡ tables unknown (counted_all remotes rows)
+remotes_counted unknown remotes [] = refl
+remotes_counted unknown remotes (row ∷ rows) = remotes_counted unknown (counted remotes row.key row.traffic) rows
+
+-- a count of 64 bits on its own
+alone : (n : ℕ) → n < 2 ^ 64 → min 18446744073709551615 (0 + n) ≡ n
+alone n fits = omega arith
+
+abbrev table : List TrafficRow → Traffic → Rows
+table rows others = record { rows = rows; others = others }
+
+packets_alone : (traffic : Traffic) → traffic ≡ packets_of traffic.came → traffic.came < 2 ^ 64 → traffic_with no_traffic (packets_of traffic.came) ≡ traffic
+packets_alone traffic is fits = (λ i. record { came = alone traffic.came fits i; came_octets = 0; left = 0; left_octets = 0 }) ∙ sym is
+
+traffic_alone : (traffic : Traffic) → IsTraffic traffic → traffic_with no_traffic traffic ≡ traffic
+traffic_alone traffic is = λ i. record {
+  came = alone traffic.came is.came i;
+  came_octets = alone traffic.came_octets is.came_octets i;
+  left = alone traffic.left is.left i;
+  left_octets = alone traffic.left_octets is.left_octets i;
+}
+
+unknown_further : (rows : List TrafficRow) (others : Traffic) (remotes : Rows) → others ≡ packets_of others.came → others.came < 2 ^ 64
+    → told_by (tables (table rows no_traffic) remotes) (unknown_others_row others) ≡ tables (table rows others) remotes
+unknown_further rows others remotes is fits = by (others.came == 0) refl
+  where
+    by : (b : Bool) → (others.came == 0) ≡ b → told_by (tables (table rows no_traffic) remotes) (cond b [] (UnknownOthers others.came ∷ [])) ≡ tables (table rows others) remotes
+    by true h = ap (λ (o : Traffic). tables (table rows o) remotes) (ap packets_of (sym (eqb-true others.came 0 h)) ∙ sym is)
+    by false h = ap (λ (o : Traffic). tables (table rows o) remotes) (packets_alone others is fits)
+
+both_of : (a b : Bool) → (a && b) ≡ true → (a ≡ true) × (b ≡ true)
+both_of true b h = (refl, h)
+both_of false b h = absurd cc
+
+remotes_further : (unknown : Rows) (rows : List TrafficRow) (others : Traffic) → IsTraffic others → (others.came ≡ 0 → others.left ≡ 0 → others ≡ no_traffic)
+    → told_by (tables unknown (table rows no_traffic)) (remote_others_row others) ≡ tables unknown (table rows others)
+remotes_further unknown rows others is silent = by ((others.came == 0) && (others.left == 0)) refl
+  where
+    by : (b : Bool) → ((others.came == 0) && (others.left == 0)) ≡ b
+        → told_by (tables unknown (table rows no_traffic)) (cond b [] (RemoteOthers others ∷ [])) ≡ tables unknown (table rows others)
+    by true h =
+        let zero = both_of (others.came == 0) (others.left == 0) h in
+        ap (λ (o : Traffic). tables unknown (table rows o)) (sym (silent (eqb-true others.came 0 zero.0) (eqb-true others.left 0 zero.1)))
+    by false h = ap (λ (o : Traffic). tables unknown (table rows o)) (traffic_alone others is)
+
+-- what the lines of tables tell together are these tables
+pub told_back : (t : Tunnels) → IsTold t → told_by no_tunnels (rows_told t) ≡ t
+told_back t is =
+    let u : List TrafficRow = t.unknown.rows in
+    let r : List TrafficRow = t.remotes.rows in
+    let one : List Row = flat_map unknown_row u in
+    let two : List Row = unknown_others_row t.unknown.others in
+    let three : List Row = flat_map remote_row r in
+    let four : List Row = remote_others_row t.remotes.others in
+    let each = recursion_from_All IsUnknown u is.unknown.each in
+    let first : told_by no_tunnels one ≡ tables (table u no_traffic) no_rows =
+    unknown_counted no_rows no_rows u each ∙ ap (λ (x : Rows). tables x no_rows) (filled IsUnknown u is.unknown) in
+    let second : told_by no_tunnels (one ++ two) ≡ tables (table u t.unknown.others) no_rows =
+    told_append no_tunnels one two ∙ ap (λ (x : Tunnels). told_by x two) first ∙ unknown_further u t.unknown.others no_rows is.others is.fits in
+    let third : told_by no_tunnels ((one ++ two) ++ three) ≡ tables (table u t.unknown.others) (table r no_traffic) =
+    told_append no_tunnels (one ++ two) three ∙ ap (λ (x : Tunnels). told_by x three) second ∙ remotes_counted (table u t.unknown.others) no_rows r
+    ∙ ap (λ (x : Rows). tables (table u t.unknown.others) x) (filled IsRemote r is.remotes) in
+    told_append no_tunnels ((one ++ two) ++ three) four ∙ ap (λ (x : Tunnels). told_by x four) third
+    ∙ remotes_further (table u t.unknown.others) r t.remotes.others is.further is.silent

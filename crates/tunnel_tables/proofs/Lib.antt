@@ -1,0 +1,5 @@
+pub mod Cuts
+pub mod Telling
+pub mod Addresses
+pub mod Filling
+pub mod Reading

@@ -46,7 +46,7 @@ result_text 3 Endpoint 0
 sample 88 none 0
 explain_bytes 56 none 0
 run_bytes 91 none 1
-run_streams 79 none 2
+run_streams 79 none 4
 "
 
 # fail SENTENCE: this isn't as it should be

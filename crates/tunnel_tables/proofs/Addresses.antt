@@ -5,12 +5,12 @@ use Rattle.std.specs.Option.{option_and_then}
 use Rattle.std.proofs.lemmas.Bool.{cases_lt, cond-true, cond-false, le-ltb, lt-ltb, ne_eqb}
 use Rattle.std.proofs.lemmas.Fmt.{length-decimal-le}
 use Rattle.header_sums.specs.Octets.{IsText, octet}
+use Rattle.ip_udp_view.specs.Addr.{IsAddr}
 use Rattle.ip_udp_view.specs.declared.addr.Addr.{Addr}
 use Rattle.ip_udp_view.specs.declared.addr.Addr.TheVariants.{V4, V6}
 use Rattle.endpoint_core.specs.Text.{addr_text, grouped, hex_digit, ip4_text, ip6_text}
 use Rattle.line_words.proofs.Decimals.{lacks, lacks_decimal, lacks_more, number_decimal}
 use Rattle.tunnel_tables.specs.Address.{addr_of, back, byte_of, decimal_octet, front, hex_value, ip4_of}
-use Rattle.tunnel_tables.specs.Tables.{IsAddr}
 use Rattle.tunnel_tables.proofs.Cuts.{back_front, front_front}
 
 -- ---- digits

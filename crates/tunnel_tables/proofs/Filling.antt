@@ -13,7 +13,7 @@ use Rattle.traffic_rows.specs.declared.traffic.Traffic.{Traffic}
 use Rattle.traffic_rows.proofs.Places.{drop_whole, take_whole}
 use Rattle.traffic_rows.proofs.Shown.{all_shown}
 use Rattle.tunnel_tables.specs.Tables.{Tunnels, no_tunnels}
-use Rattle.tunnel_tables.specs.Tables.{IsRemote, IsTable, IsTold, IsTraffic, IsUnknown, RiseFrom, packets_of}
+use Rattle.tunnel_tables.specs.Tables.{ArePackets, IsEndpoint, IsNetwork, IsRow, IsTable, IsTold, IsTraffic, RiseFrom, packets_of}
 use Rattle.tunnel_tables.specs.Rows.{told_by, with_row}
 use Rattle.tunnel_tables.specs.declared.row.Row.{Row}
 use Rattle.tunnel_tables.specs.declared.row.Row.TheVariants.{Unknown, UnknownOthers, Remote, RemoteOthers}
@@ -49,11 +49,11 @@ all_behind least before (row ∷ rows) below rise =
     ∙ append_assoc before (row ∷ []) rows
 
 -- counted one after another they are the table
-pub filled : (IsRow : TrafficRow → Type 0) (rows : List TrafficRow) → IsTable IsRow rows → counted_all no_rows rows ≡ record { rows = rows; others = no_traffic }
-filled IsRow rows is =
-    let same : all_traffic [] rows ≡ rows = all_behind 0 [] rows tt is.rise in
+pub filled : (rows : List TrafficRow) → RiseFrom 0 rows → length rows ≤ 4096 → counted_all no_rows rows ≡ record { rows = rows; others = no_traffic }
+filled rows rise few =
+    let same : all_traffic [] rows ≡ rows = all_behind 0 [] rows tt rise in
     all_shown rows ∙ ap (shown 4096) same
-    ∙ (λ i. record { rows = take_whole 4096 rows is.few i; others = ap total (drop_whole 4096 rows is.few) i })
+    ∙ (λ i. record { rows = take_whole 4096 rows few i; others = ap total (drop_whole 4096 rows few) i })
 
 -- ---- the lines of tables
 
@@ -81,11 +81,11 @@ told_append t (x ∷ xs) ys = told_append (with_row t x) xs ys
 abbrev tables : Rows → Rows → Tunnels
 tables unknown remotes = record { unknown = unknown; remotes = remotes }
 
-unknown_counted : (unknown remotes : Rows) (rows : List TrafficRow) → AllByRecursion IsUnknown rows
+unknown_counted : (unknown remotes : Rows) (rows : List TrafficRow) → AllByRecursion (IsRow IsNetwork ArePackets) rows
     → told_by (tables unknown remotes) (flat_map unknown_row rows) ≡ tables (counted_all unknown rows) remotes
 unknown_counted unknown remotes [] all = refl
 unknown_counted unknown remotes (row ∷ rows) all =
-    ap (λ (traffic : Traffic). told_by (tables (counted unknown row.key traffic) remotes) (flat_map unknown_row rows)) (sym all.0.counts)
+    ap (λ (traffic : Traffic). told_by (tables (counted unknown row.key traffic) remotes) (flat_map unknown_row rows)) (sym all.0.count.packets)
     ∙ unknown_counted (counted unknown row.key row.traffic) remotes rows all.1
 
 remotes_counted : (unknown remotes : Rows) (rows : List TrafficRow) → told_by (tables unknown remotes) (flat_map remote_row rows) ≡ tables unknown (counted_all remotes rows)
@@ -99,8 +99,8 @@ alone n fits = omega arith
 abbrev table : List TrafficRow → Traffic → Rows
 table rows others = record { rows = rows; others = others }
 
-packets_alone : (traffic : Traffic) → traffic ≡ packets_of traffic.came → traffic.came < 2 ^ 64 → traffic_with no_traffic (packets_of traffic.came) ≡ traffic
-packets_alone traffic is fits = (λ i. record { came = alone traffic.came fits i; came_octets = 0; left = 0; left_octets = 0 }) ∙ sym is
+packets_alone : (traffic : Traffic) → ArePackets traffic → traffic_with no_traffic (packets_of traffic.came) ≡ traffic
+packets_alone traffic is = (λ i. record { came = alone traffic.came is.fits i; came_octets = 0; left = 0; left_octets = 0 }) ∙ sym is.packets
 
 traffic_alone : (traffic : Traffic) → IsTraffic traffic → traffic_with no_traffic traffic ≡ traffic
 traffic_alone traffic is = λ i. record {
@@ -110,27 +110,27 @@ traffic_alone traffic is = λ i. record {
   left_octets = alone traffic.left_octets is.left_octets i;
 }
 
-unknown_further : (rows : List TrafficRow) (others : Traffic) (remotes : Rows) → others ≡ packets_of others.came → others.came < 2 ^ 64
+unknown_further : (rows : List TrafficRow) (others : Traffic) (remotes : Rows) → ArePackets others
     → told_by (tables (table rows no_traffic) remotes) (unknown_others_row others) ≡ tables (table rows others) remotes
-unknown_further rows others remotes is fits = by (others.came == 0) refl
+unknown_further rows others remotes is = by (others.came == 0) refl
   where
     by : (b : Bool) → (others.came == 0) ≡ b → told_by (tables (table rows no_traffic) remotes) (cond b [] (UnknownOthers others.came ∷ [])) ≡ tables (table rows others) remotes
-    by true h = ap (λ (o : Traffic). tables (table rows o) remotes) (ap packets_of (sym (eqb-true others.came 0 h)) ∙ sym is)
-    by false h = ap (λ (o : Traffic). tables (table rows o) remotes) (packets_alone others is fits)
+    by true h = ap (λ (o : Traffic). tables (table rows o) remotes) (ap packets_of (sym (eqb-true others.came 0 h)) ∙ sym is.packets)
+    by false h = ap (λ (o : Traffic). tables (table rows o) remotes) (packets_alone others is)
 
 both_of : (a b : Bool) → (a && b) ≡ true → (a ≡ true) × (b ≡ true)
 both_of true b h = (refl, h)
 both_of false b h = absurd cc
 
-remotes_further : (unknown : Rows) (rows : List TrafficRow) (others : Traffic) → IsTraffic others → (others.came ≡ 0 → others.left ≡ 0 → others ≡ no_traffic)
+remotes_further : (unknown : Rows) (rows : List TrafficRow) (others : Traffic) → IsTraffic others
     → told_by (tables unknown (table rows no_traffic)) (remote_others_row others) ≡ tables unknown (table rows others)
-remotes_further unknown rows others is silent = by ((others.came == 0) && (others.left == 0)) refl
+remotes_further unknown rows others is = by ((others.came == 0) && (others.left == 0)) refl
   where
     by : (b : Bool) → ((others.came == 0) && (others.left == 0)) ≡ b
         → told_by (tables unknown (table rows no_traffic)) (cond b [] (RemoteOthers others ∷ [])) ≡ tables unknown (table rows others)
     by true h =
         let zero = both_of (others.came == 0) (others.left == 0) h in
-        ap (λ (o : Traffic). tables unknown (table rows o)) (sym (silent (eqb-true others.came 0 zero.0) (eqb-true others.left 0 zero.1)))
+        ap (λ (o : Traffic). tables unknown (table rows o)) (sym (is.silent (eqb-true others.came 0 zero.0) (eqb-true others.left 0 zero.1)))
     by false h = ap (λ (o : Traffic). tables unknown (table rows o)) (traffic_alone others is)
 
 -- what the lines of tables tell together are these tables
@@ -142,13 +142,13 @@ told_back t is =
     let two : List Row = unknown_others_row t.unknown.others in
     let three : List Row = flat_map remote_row r in
     let four : List Row = remote_others_row t.remotes.others in
-    let each = recursion_from_All IsUnknown u is.unknown.each in
+    let each = recursion_from_All (IsRow IsNetwork ArePackets) u is.unknown.each in
     let first : told_by no_tunnels one ≡ tables (table u no_traffic) no_rows =
-    unknown_counted no_rows no_rows u each ∙ ap (λ (x : Rows). tables x no_rows) (filled IsUnknown u is.unknown) in
+    unknown_counted no_rows no_rows u each ∙ ap (λ (x : Rows). tables x no_rows) (filled u is.unknown.rise is.unknown.few) in
     let second : told_by no_tunnels (one ++ two) ≡ tables (table u t.unknown.others) no_rows =
-    told_append no_tunnels one two ∙ ap (λ (x : Tunnels). told_by x two) first ∙ unknown_further u t.unknown.others no_rows is.others is.fits in
+    told_append no_tunnels one two ∙ ap (λ (x : Tunnels). told_by x two) first ∙ unknown_further u t.unknown.others no_rows is.unknown.others in
     let third : told_by no_tunnels ((one ++ two) ++ three) ≡ tables (table u t.unknown.others) (table r no_traffic) =
     told_append no_tunnels (one ++ two) three ∙ ap (λ (x : Tunnels). told_by x three) second ∙ remotes_counted (table u t.unknown.others) no_rows r
-    ∙ ap (λ (x : Rows). tables (table u t.unknown.others) x) (filled IsRemote r is.remotes) in
+    ∙ ap (λ (x : Rows). tables (table u t.unknown.others) x) (filled r is.remotes.rise is.remotes.few) in
     told_append no_tunnels ((one ++ two) ++ three) four ∙ ap (λ (x : Tunnels). told_by x four) third
-    ∙ remotes_further (table u t.unknown.others) r t.remotes.others is.further is.silent
+    ∙ remotes_further (table u t.unknown.others) r t.remotes.others is.remotes.others

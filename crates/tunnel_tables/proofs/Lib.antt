@@ -2,4 +2,5 @@ pub mod Cuts
 pub mod Telling
 pub mod Addresses
 pub mod Filling
+pub mod Kept
 pub mod Reading

@@ -6,6 +6,7 @@ use Rattle.std.specs.Option.{option_and_then}
 use Rattle.std.proofs.lemmas.Bool.{cond-true, cond-false, lt-ltb}
 use Rattle.std.proofs.lemmas.List.Elements.{recursion_from_All}
 use Rattle.header_sums.specs.Octets.{is_same}
+use Rattle.ip_udp_view.specs.Addr.{IsAddr}
 use Rattle.ip_udp_view.specs.declared.addr.Addr.{Addr}
 use Rattle.ip_udp_view.specs.declared.addr.Tunnel.{Tunnel}
 use Rattle.ip_udp_view.specs.declared.addr.Tunnel.TheVariants.{Vxlan, Geneve}
@@ -21,7 +22,7 @@ use Rattle.traffic_rows.specs.declared.traffic.Traffic.{Traffic}
 use Rattle.tunnel_tables.specs.Lines.{flows_text, kind_name, remote_line, remote_others, tunnels_text, unknown_line, unknown_others}
 use Rattle.tunnel_tables.specs.Tables.{Tunnels, endpoint_key, no_tunnels}
 use Rattle.tunnel_tables.specs.Address.{addr_of}
-use Rattle.tunnel_tables.specs.Tables.{IsAddr, IsRemote, IsTold, IsTraffic, IsUnknown}
+use Rattle.tunnel_tables.specs.Tables.{ArePackets, IsEndpoint, IsNetwork, IsRow, IsTold, IsTraffic}
 use Rattle.tunnel_tables.specs.Rows.{endpoint_of, flows_in, remote_in, row_in, rows_of, told_by, unknown_by, unknown_in, unknown_of, vni_numbered, vni_of}
 use Rattle.tunnel_tables.specs.declared.row.Row.{Row}
 use Rattle.tunnel_tables.specs.declared.row.Row.TheVariants.{Unknown, UnknownOthers, Remote, RemoteOthers}
@@ -110,21 +111,21 @@ flat_unknown : (a k v f w n : List ℕ) → (a ++ 32 ∷ []) ++ k ++ (32 ∷ [])
     ≡ (a ++ 32 ∷ (k ++ 32 ∷ (v ++ 32 ∷ (f ++ 32 ∷ (w ++ 32 ∷ n))))) ++ 10 ∷ []
 flat_unknown a k v f w n = simp append_assoc refl
 
-tells_unknown : (row : TrafficRow) → IsUnknown row → Tells (unknown_line row) (unknown_row row)
+tells_unknown : (row : TrafficRow) → IsRow IsNetwork ArePackets row → Tells (unknown_line row) (unknown_row row)
 unfolding unknown_line
 tells_unknown row is =
     let key = row.key in
     let count = row.traffic.came in
-    let fits : key.vni < 2 ^ 64 = omega (arith, is.network) in
-    let w = addr_word key.address is.address in
+    let fits : key.vni < 2 ^ 64 = omega (arith, is.key.network) in
+    let w = addr_word key.address is.key.address in
     let l4 : List ℕ = addr_text key.address ++ 32 ∷ decimal count in
     let l3 : List ℕ = codes "from" ++ 32 ∷ l4 in
     let l2 : List ℕ = decimal key.vni ++ 32 ∷ l3 in
     let l1 : List ℕ = kind_name key.kind ++ 32 ∷ l2 in
     tells_as _ _ (Unknown key count) (flat_unknown (codes "unknown") (kind_name key.kind) (decimal key.vni) (codes "from") (addr_text key.address) (decimal count))
     (join (codes "unknown") l1 refl (join (kind_name key.kind) l2 (kind_word key.kind).line (join (decimal key.vni) l3 (number_word key.vni fits).line
-    (join (codes "from") l4 refl (join (addr_text key.address) (decimal count) w.line (number_word count is.fits).line)))))
-    (unknown_told key count is.network is.address is.fits)
+    (join (codes "from") l4 refl (join (addr_text key.address) (decimal count) w.line (number_word count is.count.fits).line)))))
+    (unknown_told key count is.key.network is.key.address is.count.fits)
 
 further_told : (count : ℕ) → count < 2 ^ 64 → row_in (codes "unknown others " ++ decimal count) ≡ Some (UnknownOthers count)
 unfolding row_in
@@ -210,19 +211,19 @@ flat_remote : (r k w d a b e l m : List ℕ) → (r ++ 32 ∷ []) ++ k ++ w ++ (
     ≡ (r ++ 32 ∷ ((k ++ w) ++ 32 ∷ (d ++ 32 ∷ (a ++ 32 ∷ (b ++ 32 ∷ (e ++ 32 ∷ (l ++ 32 ∷ m))))))) ++ 10 ∷ []
 flat_remote r k w d a b e l m = simp append_assoc refl
 
-tells_remote : (row : TrafficRow) → IsRemote row → Tells (remote_line row) (remote_row row)
+tells_remote : (row : TrafficRow) → IsRow IsEndpoint IsTraffic row → Tells (remote_line row) (remote_row row)
 unfolding remote_line
 tells_remote row is =
     let kind = row.key.kind in
     let a = row.key.address in
     let t = row.traffic in
-    let w = endpoint_word kind (addr_text a) (addr_word a is.address) in
-    let same : endpoint_key kind a ≡ row.key = λ i. record { kind = kind; vni = sym is.network i; address = a } in
+    let w = endpoint_word kind (addr_text a) (addr_word a is.key.address) in
+    let same : endpoint_key kind a ≡ row.key = λ i. record { kind = kind; vni = sym is.key.network i; address = a } in
     subst (λ key. Tells (remote_line row) (Remote key t ∷ [])) same
     (tells_as (remote_line row) (codes "remote" ++ 32 ∷ ((kind_text kind ++ addr_text a) ++ 32 ∷ flows_words t)) (Remote (endpoint_key kind a) t)
     (flat_remote (codes "remote") (kind_text kind) (addr_text a) (codes "in") (decimal t.came) (decimal t.came_octets) (codes "out") (decimal t.left) (decimal t.left_octets))
-    (join (codes "remote") ((kind_text kind ++ addr_text a) ++ 32 ∷ flows_words t) refl (join (kind_text kind ++ addr_text a) (flows_words t) w.line (flows_line t is.counts)))
-    (remote_told kind a t is.address is.counts))
+    (join (codes "remote") ((kind_text kind ++ addr_text a) ++ 32 ∷ flows_words t) refl (join (kind_text kind ++ addr_text a) (flows_words t) w.line (flows_line t is.count)))
+    (remote_told kind a t is.key.address is.count))
 
 others_told : (t : Traffic) → IsTraffic t → row_in (codes "remote others" ++ 32 ∷ flows_words t) ≡ Some (RemoteOthers t)
 unfolding row_in
@@ -245,10 +246,10 @@ tells_told : (t : Tunnels) → IsTold t → Tells (tunnels_text t) (rows_told t)
 tells_told t is =
     tells_more _ _ _ _
     (tells_more _ _ _ _
-    (tells_more _ _ _ _ (tells_each IsUnknown unknown_line unknown_row tells_unknown t.unknown.rows (recursion_from_All IsUnknown t.unknown.rows is.unknown.each))
-    (tells_further t.unknown.others is.fits))
-    (tells_each IsRemote remote_line remote_row tells_remote t.remotes.rows (recursion_from_All IsRemote t.remotes.rows is.remotes.each)))
-    (tells_others t.remotes.others is.further)
+    (tells_more _ _ _ _ (tells_each (IsRow IsNetwork ArePackets) unknown_line unknown_row tells_unknown t.unknown.rows (recursion_from_All (IsRow IsNetwork ArePackets) t.unknown.rows is.unknown.each))
+    (tells_further t.unknown.others is.unknown.others.fits))
+    (tells_each (IsRow IsEndpoint IsTraffic) remote_line remote_row tells_remote t.remotes.rows (recursion_from_All (IsRow IsEndpoint IsTraffic) t.remotes.rows is.remotes.each)))
+    (tells_others t.remotes.others is.remotes.others)
 
 pub read_back : (t : Tunnels) → IsTold t → told_by no_tunnels (rows_of (tunnels_text t)) ≡ t
 read_back t is = ap (told_by no_tunnels) (tells_all (tunnels_text t) (rows_told t) (tells_told t is)) ∙ told_back t is

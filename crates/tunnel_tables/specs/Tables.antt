@@ -3,9 +3,8 @@
 --     both      that of two parts of a run
 --     IsTold      tables that a run can have
 use Rattle.std.specs.Prelude.{◌≡◌, ◌<◌, ◌≤◌, ◌+◌, ◌^◌, ⊤, All, ℕ, List, [], ◌∷◌, length}
-use Rattle.header_sums.specs.Octets.{IsText}
+use Rattle.ip_udp_view.specs.Addr.{IsAddr}
 use Rattle.ip_udp_view.specs.declared.addr.Addr.{Addr}
-use Rattle.ip_udp_view.specs.declared.addr.Addr.TheVariants.{V4, V6}
 use Rattle.vxlan_head.specs.Vxlan.{IsVni}
 use Rattle.ip_udp_view.specs.declared.addr.Tunnel.{Tunnel}
 use Rattle.traffic_rows.specs.Rows.{Rows, no_rows, rank_of, together}
@@ -39,47 +38,47 @@ packets_of count = record { came = count; came_octets = 0; left = 0; left_octets
 
 -- ---- tables of runs
 
--- four or sixteen octets
-abbrev pub IsAddr : Addr → Type 0
-IsAddr (V4 b) = (length b ≡ 4) × IsText b
-IsAddr (V6 b) = (length b ≡ 16) × IsText b
+-- a network, and who sent its packets
+pub record IsNetwork (key : TunnelKey) : Type 0 where
+  pub network : IsVni key.vni
+  pub address : IsAddr key.address
 
--- all counts are of 64 bits
+-- a remote endpoint
+pub record IsEndpoint (key : TunnelKey) : Type 0 where
+  pub network : key.vni ≡ 0
+  pub address : IsAddr key.address
+
+-- packets that came, without their octets
+pub record ArePackets (traffic : Traffic) : Type 0 where
+  pub packets : traffic ≡ packets_of traffic.came
+  pub fits : traffic.came < 2 ^ 64
+
+-- all counts are of 64 bits, and octets are there only where packets are
 pub record IsTraffic (traffic : Traffic) : Type 0 where
   pub came : traffic.came < 2 ^ 64
   pub came_octets : traffic.came_octets < 2 ^ 64
   pub left : traffic.left < 2 ^ 64
   pub left_octets : traffic.left_octets < 2 ^ 64
+  pub silent : traffic.came ≡ 0 → traffic.left ≡ 0 → traffic ≡ no_traffic
 
--- a network that no segment has, and a sender
-pub record IsUnknown (row : TrafficRow) : Type 0 where
-  pub network : IsVni row.key.vni
-  pub address : IsAddr row.key.address
-  pub counts : row.traffic ≡ packets_of row.traffic.came
-  pub fits : row.traffic.came < 2 ^ 64
-
--- a remote endpoint
-pub record IsRemote (row : TrafficRow) : Type 0 where
-  pub network : row.key.vni ≡ 0
-  pub address : IsAddr row.key.address
-  pub counts : IsTraffic row.traffic
+-- a row with such a key and such traffic
+pub record IsRow (IsKey : TunnelKey → Type 0) (IsCount : Traffic → Type 0) (row : TrafficRow) : Type 0 where
+  pub key : IsKey row.key
+  pub count : IsCount row.traffic
 
 -- ranks rise, from this one on
 abbrev pub RiseFrom : ℕ → List TrafficRow → Type 0
 RiseFrom least [] = ⊤
 RiseFrom least (row ∷ rows) = (least ≤ rank_of row) × RiseFrom (rank_of row + 1) rows
 
--- at most 4,096 such rows, one for each key, in the order of their ranks
-pub record IsTable (IsRow : TrafficRow → Type 0) (rows : List TrafficRow) : Type 0 where
-  pub each : All IsRow rows
-  pub rise : RiseFrom 0 rows
-  pub few : length rows ≤ 4096
+-- at most 4,096 such rows, one for each key, in the order of their ranks, and what the others come to
+pub record IsTable (IsKey : TunnelKey → Type 0) (IsCount : Traffic → Type 0) (table : Rows) : Type 0 where
+  pub each : All (IsRow IsKey IsCount) table.rows
+  pub rise : RiseFrom 0 table.rows
+  pub few : length table.rows ≤ 4096
+  pub others : IsCount table.others
 
--- tables of both, and what the others come to, which has octets only where it has packets
+-- a table of each
 pub record IsTold (t : Tunnels) : Type 0 where
-  pub unknown : IsTable IsUnknown t.unknown.rows
-  pub others : t.unknown.others ≡ packets_of t.unknown.others.came
-  pub fits : t.unknown.others.came < 2 ^ 64
-  pub remotes : IsTable IsRemote t.remotes.rows
-  pub further : IsTraffic t.remotes.others
-  pub silent : t.remotes.others.came ≡ 0 → t.remotes.others.left ≡ 0 → t.remotes.others ≡ no_traffic
+  pub unknown : IsTable IsNetwork ArePackets t.unknown
+  pub remotes : IsTable IsEndpoint IsTraffic t.remotes

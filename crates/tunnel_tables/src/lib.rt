@@ -9,8 +9,7 @@
 //! Proved: the lines are exactly the stated ones of the tables. A text is read only where it is the lines of the tables that are
 //! read, and always where it is the lines of tables that a run can have, unless memory was refused; these are then the tables
 //! that are read, row for row. The tables of two parts come together as both tables' rows counted in one, and what the others
-//! come to, and are again such as a run can have ([`laws::stays_told`]). Which line a fault names isn't proved, nor that the
-//! tables of a run are such as are read back.
+//! come to, and are again such as a run can have ([`laws::stays_told`]). Which line a fault names isn't proved.
 //!
 //! Why it is so: a line is read by its words alone, and an address by its digits. Whether they are written as they have to be is
 //! seen where the tables are written again. The lines stand behind all others of a summary, so that those are read as before.

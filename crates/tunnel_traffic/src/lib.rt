@@ -8,7 +8,8 @@
 //! Specs to read, in order: `specs/Header`, `specs/Run`, `specs/Tunnels`, and `specs/Lines` of `tunnel_tables`.
 //!
 //! Proved: behind a run of any events, or of a part of it, the tables show what those events and the answers of their segments'
-//! bridges come to (`laws::runs`), and the text is exactly the lines of these. Whoever else looks on sees what it would alone.
+//! bridges come to (`laws::runs`), and the text is exactly the lines of these, which are read back. Whoever else looks on sees
+//! what it would alone.
 //!
 //! Why it is so: the tables are made before the run, so no event asks for memory.
 #![tactic(auto)]
@@ -16,6 +17,7 @@
 mod beside;
 mod header;
 pub mod laws;
+mod tables;
 mod tunnels;
 
 pub use beside::Beside;

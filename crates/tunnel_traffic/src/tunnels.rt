@@ -1,5 +1,5 @@
 //! What passes by tunnels.
-ghost use Rattle.std.specs.Prelude.{◌≡◌, IfOk, IsSome, IsTrue, map};
+ghost use Rattle.std.specs.Prelude.{◌≡◌, ◌<◌, ◌+◌, IfOk, IsSome, IsTrue, map};
 ghost use Rattle.std.specs.List.{flat_map, list_all};
 ghost use Rattle.endpoint_core.specs.Course.{CanLeave, IsThere, decision_of};
 ghost use Rattle.endpoint_core.specs.Kept.{state_of};
@@ -9,10 +9,13 @@ ghost use Rattle.endpoint_state.specs.Settings.{segment_at};
 ghost use Rattle.endpoint_state.specs.Step.{can_leave};
 ghost use Rattle.timeline.specs.declared.event.Happening.TheVariants.{Record};
 ghost use Rattle.traffic_rows.specs.Rows.{counted_all};
+ghost use Rattle.traffic_rows.specs.Traffic.{came_of};
 ghost use Rattle.tunnel_tables.specs.Lines.{tunnels_text};
+ghost use Rattle.tunnel_tables.specs.Tables.{IsTold};
 ghost use Rattle.tunnel_traffic.specs.Tunnels.{answer_rows, answer_told, came_told, is_unknown, key_rows, no_tunnels, outcome_rows, packet_told, refused_rows, rows_at};
 
 use crate::header::key_in;
+use crate::tables::{RemoteRows, UnknownRows};
 use endpoint_core::{Came, ChangeFault, Course, Endpoint};
 use filter_db::Place;
 use frame_view::Reason;
@@ -20,17 +23,15 @@ use std::alloc::{AllocError, Global};
 use std::marker::Model;
 use stream_run::Watch;
 use timeline::{Captured, Event, Happening, Tap};
-use traffic_rows::{Traffic, TrafficRows, TunnelKey};
+use traffic_rows::{Traffic, TunnelKey};
 use tunnel_tables::put_tunnels;
-use vxlan_head::Vni;
 
 /// What passes by the tunnels of an endpoint. It looks on while a run goes. Only [`TunnelTraffic::open`] and
 /// [`TunnelTraffic::text`] take memory; the tables take 0.5 MiB together.
 #[derive(Drop)]
 pub struct TunnelTraffic {
-    /// Packets of networks that no segment has.
-    unknown: TrafficRows,
-    remotes: TrafficRows,
+    unknown: UnknownRows,
+    remotes: RemoteRows,
 }
 
 impl Model for TunnelTraffic {
@@ -47,17 +48,18 @@ impl TunnelTraffic {
         ensures { IfOk result (λ tunnels. tunnels ≡ no_tunnels) }
     {
         Ok(TunnelTraffic {
-            unknown: TrafficRows::open(alloc)?,
-            remotes: TrafficRows::open(alloc)?,
+            unknown: UnknownRows::open(alloc)?,
+            remotes: RemoteRows::open(alloc)?,
         })
     }
 
-    /// What passed so far, as text. `AllocError`: memory was refused.
+    /// What passed so far, as text, which is read back. `AllocError`: memory was refused.
     pub fn text(&self, alloc: Global) -> Result<Vec<u8>, AllocError>
-        ensures { IfOk result (λ text. text.items ≡ tunnels_text self.now) }
+        ensures text { IfOk result (λ text. text.items ≡ tunnels_text self.now) }
+        ensures told { IsTold self.now }
     {
         let mut text = String::new(alloc);
-        put_tunnels(&mut text, &self.unknown, &self.remotes)?;
+        put_tunnels(&mut text, self.unknown.table(), self.remotes.table())?;
         Ok(text.into_bytes())
     }
 }
@@ -127,21 +129,21 @@ impl TunnelTraffic {
 }
 
 /// Counts a packet that was refused for a reason, where that is that no segment has its network, and not its octets.
-fn count_refused(unknown: &mut TrafficRows, endpoint: &Endpoint, reason: Reason, octets: &[u8])
+fn count_refused(unknown: &mut UnknownRows, endpoint: &Endpoint, reason: Reason, octets: &[u8])
     ensures { unknown.new ≡ counted_all unknown.old (refused_rows (state_of endpoint.now).bridges.settings.overlay octets.now reason) }
 {
     if is_unknown(reason) {
         let key = key_in(endpoint.under(), octets);
-        count_key(unknown, key, Traffic::one_came(0));
+        count_key(unknown, key);
     }
 }
 
-/// Counts traffic of a network and a sender, where there is one.
-fn count_key(unknown: &mut TrafficRows, key: Option<TunnelKey>, traffic: Traffic)
-    ensures { unknown.new ≡ counted_all unknown.old (key_rows key traffic) }
+/// Counts a packet of a network and a sender, where there is one.
+fn count_key(unknown: &mut UnknownRows, key: Option<TunnelKey>)
+    ensures { unknown.new ≡ counted_all unknown.old (key_rows key (came_of 0)) }
 {
     if let Some(key) = key {
-        unknown.add(key, traffic);
+        unknown.add(key);
     }
 }
 
@@ -152,18 +154,18 @@ fn is_unknown(reason: Reason) -> bool
     reason.number() == Reason::UnknownVni.number()
 }
 
-/// Counts traffic of a place, where that is a remote endpoint.
-fn count_at(remotes: &mut TrafficRows, place: Place, traffic: Traffic)
+/// Counts packets, one or more, of a place, where that is a remote endpoint.
+fn count_at(remotes: &mut RemoteRows, place: Place, traffic: Traffic)
+    requires { 0 < traffic.came + traffic.left }
     ensures { remotes.new ≡ counted_all remotes.old (rows_at place traffic) }
 {
     if let Place::Remote(kind, address) = place {
-        let vni = Vni::from_octets([0; 3]);
-        remotes.add(TunnelKey { kind, vni, address }, traffic);
+        remotes.add(kind, address, traffic);
     }
 }
 
 /// Counts what leaves of a frame or a packet.
-fn count_answer(remotes: &mut TrafficRows, endpoint: &Endpoint, course: &Course, places: &[Place])
+fn count_answer(remotes: &mut RemoteRows, endpoint: &Endpoint, course: &Course, places: &[Place])
     requires there { IsThere (state_of endpoint.now).bridges.settings course.now }
     requires leave { CanLeave (state_of endpoint.now).bridges.settings course.now places.now }
     ensures { remotes.new ≡ counted_all remotes.old (answer_rows (Decided (decision_of (state_of endpoint.now).bridges.settings course.now places.now))) }
@@ -174,7 +176,7 @@ fn count_answer(remotes: &mut TrafficRows, endpoint: &Endpoint, course: &Course,
 }
 
 /// Counts what leaves of a frame at each of these places.
-fn count_leaving(remotes: &mut TrafficRows, endpoint: &Endpoint, came: &Came, places: &[Place])
+fn count_leaving(remotes: &mut RemoteRows, endpoint: &Endpoint, came: &Came, places: &[Place])
     requires there { IsSome (segment_at (state_of endpoint.now).bridges.settings came.now.vid) }
     requires leave { IsTrue (list_all (can_leave (state_of endpoint.now).bridges.settings came.now.vid) places.now) }
     ensures { let S = (state_of endpoint.now).bridges.settings in
@@ -186,7 +188,7 @@ fn count_leaving(remotes: &mut TrafficRows, endpoint: &Endpoint, came: &Came, pl
 }
 
 /// Counts what leaves of a frame at a place, where something does.
-fn count_sent(remotes: &mut TrafficRows, endpoint: &Endpoint, came: &Came, place: Place)
+fn count_sent(remotes: &mut RemoteRows, endpoint: &Endpoint, came: &Came, place: Place)
     requires { IsTrue (can_leave (state_of endpoint.now).bridges.settings came.now.vid place) }
     ensures { let S = (state_of endpoint.now).bridges.settings in
         remotes.new ≡ counted_all remotes.old (outcome_rows (sent_at S came.now.vid came.now.frame place)) }

@@ -31,5 +31,5 @@ mod packet;
 pub use arrived::Arrived;
 pub use card::is_left_to_card;
 pub use datagram::{needs_sum, sum_refusal};
-pub use outer::unwrap;
+pub use outer::{Carried, carried_in, unwrap};
 pub use packet::{Packet, ip_view};

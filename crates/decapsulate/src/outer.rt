@@ -12,15 +12,18 @@ use crate::inner::frame_in;
 use crate::packet::Packet;
 use frame_view::{Reason, Refused};
 use ip_udp_view::{Addr, Tunnel};
-use underlay::Under;
+use underlay::{Under, Underlay};
 use vxlan_head::Vni;
 
-/// What a packet carries, before its segment is known.
+/// What a packet carries in a tunnel to this endpoint, before its segment is known.
 #[derive(Debug, Drop)]
-struct Carried<'a> {
-    kind: Tunnel,
-    vni: Vni,
-    inner: &'a [u8],
+pub struct Carried<'a> {
+    /// The kind of the tunnel, by the port of the datagram.
+    pub kind: Tunnel,
+    /// The number of the network.
+    pub vni: Vni,
+    /// The text behind the tunnel header.
+    pub inner: &'a [u8],
 }
 
 /// What a whole packet of the underlay brings, or the first reason, of 3, 5, 6 and 12 to 34, why it brings nothing. From
@@ -34,7 +37,7 @@ pub fn unwrap<'a>(under: &Under, octets: &'a [u8]) -> Result<Arrived<'a>, Refuse
         Ok(packet) => packet,
         Err(reason) => return Err(Refused::nowhere(reason)),
     };
-    let carried = match carried_in(under, &packet) {
+    let carried = match carried_in(under.settings(), &packet) {
         Ok(carried) => carried,
         Err(reason) => return Err(Refused::nowhere(reason)),
     };
@@ -57,16 +60,17 @@ pub fn unwrap<'a>(under: &Under, octets: &'a [u8]) -> Result<Arrived<'a>, Refuse
     }
 }
 
-/// Takes off the headers of a packet, up to the tunnel header.
-fn carried_in<'a>(under: &Under, packet: &Packet<'a>) -> Result<Carried<'a>, Reason>
-    ensures fault { fault_of result ≡ first (carried_reasons under.now.underlay packet.now) }
-    ensures kind { IfOk result (λ carried. kind_to under.now.underlay packet.now ≡ Some carried.kind) }
+/// Takes off the headers of a packet, up to the tunnel header: what it carries, or the first reason, of 15 to 29, why it
+/// carries nothing to this endpoint.
+pub fn carried_in<'a>(underlay: &Underlay, packet: &Packet<'a>) -> Result<Carried<'a>, Reason>
+    ensures fault { fault_of result ≡ first (carried_reasons underlay.now packet.now) }
+    ensures kind { IfOk result (λ carried. kind_to underlay.now packet.now ≡ Some carried.kind) }
     ensures vni { IfOk result (λ carried. carried.vni ≡ vni_of carried.kind (data_of packet.now.payload)) }
     ensures inner { IfOk result (λ carried. carried.inner.now ≡ inner_of carried.kind (data_of packet.now.payload)) }
 {
-    packet.check(under.settings())?;
-    let (kind, data) = datagram_of(packet, under.settings())?;
-    match tunnel_of(under.known(), kind, data) {
+    packet.check(underlay)?;
+    let (kind, data) = datagram_of(packet, underlay)?;
+    match tunnel_of(&underlay.known, kind, data) {
         Ok((vni, inner)) => Ok(Carried { kind, vni, inner }),
         Err(reason) => Err(reason),
     }

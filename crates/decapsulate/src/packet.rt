@@ -44,8 +44,9 @@ impl<'a> Model for Packet<'a> {
 
 impl<'a> Packet<'a> {
     /// The packet behind the addresses, at most two tags and the type of a frame.
+    /// The first reason, of 3 and 12 to 14, why there is none.
     #[inline(always)]
-    pub(crate) fn read(octets: &'a [u8]) -> Result<Packet<'a>, Reason>
+    pub fn read(octets: &'a [u8]) -> Result<Packet<'a>, Reason>
         ensures fault { fault_of result ≡ first (frame_reasons octets.now) }
         ensures packet { IfOk result (λ packet. packet ≡ packet_in octets.now) }
     {

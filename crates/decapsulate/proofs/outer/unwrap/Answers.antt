@@ -28,7 +28,8 @@ returns-in-Err-carried_in-clause-value c =
     let S = c.args.under.now in
     let b = c.args.octets.now in
     let reason = c.in-Err-carried_in.reason in
-    let told = c.in-Err-carried_in.ensures.fault ∙ ap (λ k. first (carried_reasons S.underlay k)) c.in-Ok.ensures.packet in
+    let U = ap (λ u. first (carried_reasons u c.in-Ok.packet)) c.settings.ensures in
+    let told = c.in-Err-carried_in.ensures.fault ∙ U ∙ ap (λ k. first (carried_reasons S.underlay k)) c.in-Ok.ensures.packet in
     ap Err c.nowhere-in-Err-carried_in.ensures ∙ sym (refused S b reason (outer-carried S b (Some reason) (sym c.in-Ok.ensures.fault) (sym told)))
 
 pub returns-in-Ok-frame_in-clause-place : goal.returns-in-Ok-frame_in-clause-place

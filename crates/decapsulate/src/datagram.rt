@@ -56,8 +56,9 @@ pub fn needs_sum(underlay: &Underlay, source: Addr) -> bool
     }
 }
 
-/// The network's number in a tunnel header, and what stands behind it.
-pub(crate) fn tunnel_of<'a>(
+/// The network's number in a tunnel header of a kind, and what stands behind it, or the first reason, of 23 to 29, why there is
+/// none (RFC 7348, 5; RFC 8926, 3). Options that are known are passed over.
+pub fn tunnel_of<'a>(
     known: &Known,
     kind: Tunnel,
     carried: &'a [u8],

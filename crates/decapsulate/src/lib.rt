@@ -30,6 +30,6 @@ mod packet;
 
 pub use arrived::Arrived;
 pub use card::is_left_to_card;
-pub use datagram::{needs_sum, sum_refusal};
+pub use datagram::{needs_sum, sum_refusal, tunnel_of};
 pub use outer::{Carried, carried_in, unwrap};
 pub use packet::{Packet, ip_view};

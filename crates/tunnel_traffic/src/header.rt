@@ -2,43 +2,24 @@
 ghost use Rattle.std.specs.Prelude.{◌≡◌, if◌then◌else◌, IfOk, None, Some, is_none};
 ghost use Rattle.frame_view.specs.First.{fault_of, first};
 ghost use Rattle.ip_udp_view.specs.Udp.{data_of};
-ghost use Rattle.decapsulate.specs.Arrival.{frame_reasons, kind_to, packet_in, tunnel_reasons, vni_of};
+ghost use Rattle.decapsulate.specs.Arrival.{kind_to, tunnel_reasons, vni_of};
 ghost use Rattle.tunnel_traffic.specs.Header.{key_by, key_in, port_reasons};
 
-use decapsulate::{Packet, ip_view};
-use frame_view::{EtherView, Reason};
-use geneve_head::{GnView, Known};
+use decapsulate::{Packet, tunnel_of};
+use frame_view::Reason;
+use geneve_head::Known;
 use ip_udp_view::{Addr, Tunnel, UdpView};
 use traffic_rows::TunnelKey;
 use underlay::{Under, Underlay};
-use vxlan_head::{Vni, VxView};
-
-/// The most VLAN tags in front of the type of an outer frame.
-const MOST_TAGS: usize = 2;
 
 /// The network that the tunnel header of a packet names, and who sent it. None: no tunnel header stands there. Whom the
 /// packet is for, and what its checksum says, isn't asked.
 pub fn key_in(under: &Under, octets: &[u8]) -> Option<TunnelKey>
     ensures { result ≡ key_in under.now.underlay octets.now }
 {
-    match packet_in(octets) {
+    match Packet::read(octets) {
         Ok(packet) => key_by(under, &packet),
         Err(_) => None,
-    }
-}
-
-/// The packet in a frame, behind at most two tags.
-fn packet_in(octets: &[u8]) -> Result<Packet<'_>, Reason>
-    ensures fault { fault_of result ≡ first (frame_reasons octets.now) }
-    ensures packet { IfOk result (λ packet. packet ≡ packet_in octets.now) }
-{
-    let Ok(frame) = EtherView::read(octets) else {
-        return Err(Reason::Runt);
-    };
-    let (_tags, typed) = frame.skip_tags(MOST_TAGS);
-    match ip_view(typed) {
-        Ok(view) => Ok(Packet::of(&view)),
-        Err(reason) => Err(reason),
     }
 }
 
@@ -71,25 +52,8 @@ fn data_in<'a>(packet: &Packet<'a>, underlay: &Underlay) -> Result<(Tunnel, &'a 
 fn key_at(known: &Known, kind: Tunnel, address: Addr, payload: &[u8]) -> Option<TunnelKey>
     ensures { result ≡ (if is_none (first (tunnel_reasons known.now kind payload.now)) then Some (record { kind = kind; vni = vni_of kind payload.now; address = address }) else None) }
 {
-    match vni_in(known, kind, payload) {
-        Ok(vni) => Some(TunnelKey { kind, vni, address }),
+    match tunnel_of(known, kind, payload) {
+        Ok((vni, _)) => Some(TunnelKey { kind, vni, address }),
         Err(_) => None,
-    }
-}
-
-/// The network's number in a tunnel header.
-fn vni_in(known: &Known, kind: Tunnel, payload: &[u8]) -> Result<Vni, Reason>
-    ensures fault { fault_of result ≡ first (tunnel_reasons known.now kind payload.now) }
-    ensures vni { IfOk result (λ vni. vni ≡ vni_of kind payload.now) }
-{
-    match kind {
-        Tunnel::Vxlan => {
-            let view = VxView::read(payload)?;
-            Ok(view.vni())
-        }
-        Tunnel::Geneve => {
-            let view = GnView::read(payload, known)?;
-            Ok(view.vni())
-        }
     }
 }

@@ -1,0 +1,64 @@
+# Completion of tep in fish. Made by share/make.py of what the program's help says.
+
+# The words before the one at hand are tep and a command, and with a name its command is that one.
+function __tep_command
+    set -l words (commandline -opc)
+    test (count $words) -gt 1; and contains -- $words[2] $argv
+end
+
+function __tep_first
+    test (count (commandline -opc)) -eq 1
+end
+
+complete -c tep -n '__tep_first' -f -a run -d 'Runs the endpoint over captures'
+complete -c tep -n '__tep_first' -f -a check -d 'Checks a settings text, a changes text and captures'
+complete -c tep -n '__tep_first' -f -a explain -d 'Takes the packets of a capture apart'
+complete -c tep -n '__tep_first' -f -a migrate -d 'Prints a settings text as one of version 2'
+complete -c tep -n '__tep_first' -f -a digest -d 'Prints the digests of captures, to lend them to the parts of a run'
+complete -c tep -n '__tep_first' -f -a merge -d 'Makes of the parts of a run the whole run'
+complete -c tep -n '__tep_first' -f -a help -d 'Print this message or the help of the given subcommand(s)'
+complete -c tep -n '__tep_first' -s h -l help -d 'Print help'
+complete -c tep -n '__tep_first' -s V -l version -d 'Print version'
+
+complete -c tep -n '__tep_command run' -s s -l settings -r -F -d 'The settings text'
+complete -c tep -n '__tep_command run' -s c -l changes -r -F -d 'The changes text; without it nothing changes'
+complete -c tep -n '__tep_command run' -s u -l underlay -r -F -d 'The capture of the underlay; \'-\' is standard input'
+complete -c tep -n '__tep_command run' -s o -l out -x -a '(__fish_complete_directories)' -d 'The folder that outputs are written into, which must exist; not needed where something is printed'
+complete -c tep -n '__tep_command run' -l tables -d 'Prints the live entries of all tables behind the last event'
+complete -c tep -n '__tep_command run' -l tables-at -x -d 'Prints them behind the last event up to this moment, in nanoseconds'
+complete -c tep -n '__tep_command run' -l why -x -d 'Prints why an event came out as it did: 7, p2:7, u:13, c:1, drop:30, drop:any, mac:M; repeatable'
+complete -c tep -n '__tep_command run' -l summary -d 'Prints what was sent and dropped, by segment, place and reason'
+complete -c tep -n '__tep_command run' -l segments -x -d 'Runs these segments alone, a part of the run: 10,20-29,none; none is what comes to no segment'
+complete -c tep -n '__tep_command run' -l digests -r -F -d 'The digests of the captures, as \'tep digest\' prints them, for a part of a run'
+complete -c tep -n '__tep_command run' -s h -l help -d 'Print help'
+complete -c tep -n '__tep_command run' -s V -l version -d 'Print version'
+
+complete -c tep -n '__tep_command check' -s s -l settings -r -F -d 'The settings text'
+complete -c tep -n '__tep_command check' -s c -l changes -r -F -d 'The changes text; without it nothing changes'
+complete -c tep -n '__tep_command check' -s u -l underlay -r -F -d 'A capture of the underlay to look at; \'-\' is standard input'
+complete -c tep -n '__tep_command check' -s h -l help -d 'Print help'
+complete -c tep -n '__tep_command check' -s V -l version -d 'Print version'
+
+complete -c tep -n '__tep_command explain' -s s -l settings -r -F -d 'The settings text'
+complete -c tep -n '__tep_command explain' -s d -l depth -x -a '1 2 3 4' -d 'The most tunnels, one in another, that are taken apart [default: 4]'
+complete -c tep -n '__tep_command explain' -l values -d 'Tells the values of each head, too'
+complete -c tep -n '__tep_command explain' -s h -l help -d 'Print help'
+complete -c tep -n '__tep_command explain' -s V -l version -d 'Print version'
+
+complete -c tep -n '__tep_command migrate' -s s -l settings -r -F -d 'The settings text'
+complete -c tep -n '__tep_command migrate' -s h -l help -d 'Print help'
+complete -c tep -n '__tep_command migrate' -s V -l version -d 'Print version'
+complete -c tep -n '__tep_command migrate' -f
+
+complete -c tep -n '__tep_command digest' -s u -l underlay -r -F -d 'The capture of the underlay; \'-\' is standard input'
+complete -c tep -n '__tep_command digest' -s h -l help -d 'Print help'
+complete -c tep -n '__tep_command digest' -s V -l version -d 'Print version'
+
+complete -c tep -n '__tep_command merge' -s o -l out -x -a '(__fish_complete_directories)' -d 'The folder that outputs are written into, which must exist'
+complete -c tep -n '__tep_command merge' -l tables -d 'Prints the live entries of all tables behind the last event'
+complete -c tep -n '__tep_command merge' -l summary -d 'Prints what was sent and dropped, by segment, place and reason'
+complete -c tep -n '__tep_command merge' -s h -l help -d 'Print help'
+complete -c tep -n '__tep_command merge' -s V -l version -d 'Print version'
+complete -c tep -n '__tep_command merge' -f -a '(__fish_complete_directories)'
+
+complete -c tep -n '__tep_command help' -f -a 'run check explain migrate digest merge help'

@@ -113,7 +113,8 @@ diff <(sed '1,/^<!-- headline -->$/d; /^<!-- end -->$/,$d' docs/HEADLINE.md) "$f
 
 # The changelog's last release is the one that the program tells.
 release=$(sed -nE 's/^## \[([0-9][0-9.]*)\] - .*/\1/p' CHANGELOG.md | head -n 1)
-[ "$(./tep --version)" = "tep $release" ] || complain "CHANGELOG.md's last release is '$release', and tep tells '$(./tep --version)'"
+version=$(./tep --version | head -n 1)
+[ "$version" = "tep $release" ] || complain "CHANGELOG.md's last release is '$release', and tep tells '$version'"
 
 # Each file that a document names is there.
 while read -r page; do

@@ -47,8 +47,12 @@ for words in --help -h help --version -V "run --help" "help run" "check -h" "exp
 done
 ends 0 --help
 told stdout "$(sed -n '/^\$ tep --help$/,/^\$ tep --version$/ { /^\$ tep/d; p }' docs/HELP.txt)"
-ends 0 --version
-told stdout "$(sed -n '/^\$ tep -V$/ { n; p }' docs/HELP.txt)"
+for word in --version -V; do
+    ends 0 $word
+    told stdout "$(sed -n '/^\$ tep -V$/ { n; p }' docs/HELP.txt)
+commit: unknown
+proved: not yet"
+done
 for words in "" nothing "run --settings s" "check --settings examples/a.toml"; do
     # shellcheck disable=SC2086
     ends 3 $words
@@ -112,6 +116,10 @@ grep -q '^fn some: proved$' "$log" || complain "the log lacks what the check sai
 ends 0 three
 told stdout "words: three"
 told stderr ""
+ends 0 --version
+told stdout "words: --version
+commit: unknown
+proved: all that it stands on"
 touch "$clone/crates/wire_tests/src/lib.rt"
 ends 0
 called

@@ -95,7 +95,7 @@ def command_of(name, text):
     for paragraph in paragraphs:
         head, *lines = paragraph.split("\n")
         if head.startswith("Usage: "):
-            command.usage = head.removeprefix("Usage: ") + " "
+            command.usage = head[len("Usage: ") :] + " "
         elif head == "Commands:":
             command.commands = [found(r"  (\w+)  +(\S.*)", line) for line in lines]
         elif head == "Arguments:":
@@ -226,7 +226,8 @@ def example_section(own, commands):
     for command in [own, *commands]:
         about = "A run" if not command.name else command.about
         lines += [".Pp"] if lines else []
-        lines += [*filled(about)[:-1], filled(about)[-1].removesuffix(".") + ":", ".Bd -literal -offset indent"]
+        *before, last = filled(about)
+        lines += [*before, last.rstrip(".") + ":", ".Bd -literal -offset indent"]
         for example in command.examples:
             lines += shown(example)
         lines.append(".Ed")
@@ -421,10 +422,8 @@ def zsh_argument(argument):
 
 def zsh_case(command):
     words = [zsh_option(option) for option in command.options] + [zsh_argument(argument) for argument in command.arguments]
-    lines = [f"                {command.name})", "                    _arguments -s -S \\"]
-    lines += [f"                        {word} \\" for word in words]
-    lines[-1] = lines[-1].removesuffix(" \\")
-    return [*lines, "                    ;;"]
+    call = " \\\n                        ".join(["_arguments -s -S", *words])
+    return [f"                {command.name})", f"                    {call}", "                    ;;"]
 
 
 def zsh(own, commands):

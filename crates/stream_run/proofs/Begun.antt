@@ -40,8 +40,8 @@ asked_first changes index ports underlay new new_underlay turn first (inl h) = a
 asked_first changes index ports underlay new new_underlay turn first (inr h) = asked_capture changes index 0 0 ports underlay new new_underlay turn (omega arith) h
 
 ready_fetched : (changes : List TimedChange) (index : ℕ) (ports : List Stream) (underlay : Stream) (turns : List Turn) (state : State) (d : Drains) (new : List Stream) (new_underlay : Stream) (turn : Turn)
-    → 1 ≤ index → index < length turns → state.moment ≡ 0 → IsAsked changes index 0 0 ports underlay new new_underlay turn → AreReady changes (run_at ports underlay turns state 0 d)
-    → AreReady changes (run_at new new_underlay (slice_set turns index turn) state 0 d)
+    → 1 ≤ index → index < length turns → state.moment ≡ 0 → IsAsked changes index 0 0 ports underlay new new_underlay turn → AreReady changes 0 (run_at ports underlay turns state 0 d)
+    → AreReady changes 0 (run_at new new_underlay (slice_set turns index turn) state 0 d)
 ready_fetched changes index ports underlay turns state d new new_underlay turn first there none asked ready = record {
   timely = ready.timely;
   size = length-set turns index turn ∙ ready.size ∙ ap (λ n. n + 2) (sym asked.many);
@@ -72,7 +72,7 @@ pub record FetchedSoFar (changes : List TimedChange) (index : ℕ) (ports : List
   pub open_ : (place : Tap) (i : ℕ) → index ≤ i → IsAt (length ports) i place → IsOpen (source_at now now_underlay place).standing
   pub quiet : AreQuiet ports underlay now now_underlay
   pub told : (texts : List (List ℕ)) (text : List ℕ) → AreAtFirst texts text ports underlay → AreReadBelow index texts text now_turns now now_underlay
-  pub ready : (state : State) (d : Drains) → state.moment ≡ 0 → AreReady changes (run_at ports underlay turns state 0 d) → AreReady changes (run_at now now_underlay now_turns state 0 d)
+  pub ready : (state : State) (d : Drains) → state.moment ≡ 0 → AreReady changes 0 (run_at ports underlay turns state 0 d) → AreReady changes 0 (run_at now now_underlay now_turns state 0 d)
 
 pub none_fetched : (changes : List TimedChange) (ports : List Stream) (underlay : Stream) (turns : List Turn)
     → ((place : Tap) (i : ℕ) → IsAt (length ports) i place → IsOpen (source_at ports underlay place).standing) → FetchedSoFar changes 1 ports underlay turns ports underlay turns

@@ -85,7 +85,7 @@ first_change [] timely = tt
 first_change (c ∷ changes) timely = timely.moments c 0 (omega arith)
 
 pub ready_first : (changes : List TimedChange) (ports : List Stream) (underlay : Stream) (s : Settings) (state : State) (d : Drains) → AreTimely changes → length ports ≤ 16 → length ports ≡ length s.ports
-    → state ≡ opened (settings_told s) → AreReady changes (run_at ports underlay (first_turns changes (length ports + 1)) state 0 d)
+    → state ≡ opened (settings_told s) → AreReady changes 0 (run_at ports underlay (first_turns changes (length ports + 1)) state 0 d)
 ready_first changes ports underlay s state d timely few known is = rw is (record {
   timely = timely;
   size = size;
@@ -107,9 +107,9 @@ ready_first changes ports underlay s state d timely few known is = rw is (record
     within Underlay index at = omega (arith, at, size)
 
 pub ready_begun : (changes : List TimedChange) (ports : List Stream) (underlay : Stream) (s : Settings) (state : State) (d : Drains) (turns : List Turn) → AreTimely changes → length ports ≤ 16 → length ports ≡ length s.ports
-    → state ≡ opened (settings_told s) → turns ≡ first_turns changes (length ports + 1) → AreReady changes (run_at ports underlay turns state 0 d)
+    → state ≡ opened (settings_told s) → turns ≡ first_turns changes (length ports + 1) → AreReady changes 0 (run_at ports underlay turns state 0 d)
 ready_begun changes ports underlay s state d turns timely few known is begun =
-    subst (λ ts. AreReady changes (run_at ports underlay ts state 0 d)) (sym begun) (ready_first changes ports underlay s state d timely few known is)
+    subst (λ ts. AreReady changes 0 (run_at ports underlay ts state 0 d)) (sym begun) (ready_first changes ports underlay s state d timely few known is)
 
 -- ---- the ends
 
@@ -136,13 +136,17 @@ opens_only_reads ports underlay new new_underlay (stream.Write target) h = absur
 pub none_at : (start : Drains) (n : ℕ) → length start.ports ≡ n → StandAt start start (no_texts n)
 none_at start n many = stands_still_at start (no_texts n) (λ k lt. nothing_at n k) (length-replicate n [] ∙ sym many) refl refl
 
-module _ (segments : Segments) where
+module _ (taken : List Event → List Event) (nothing : taken [] ≡ []) (segments : Segments) where
+  -- before any event the headers stand
+  pub headers_of : (s : Settings) (changes : List TimedChange) → texts_of taken segments s changes [] [] ≡ empty_outputs (length s.ports)
+  headers_of s changes = ap (λ es. with_cuts (texts_behind segments changes (opened (settings_told s)) (empty_outputs (length s.ports)) es) []) nothing
+
   module _ (s : Settings) (changes : List TimedChange) (from to : Ends) where
     -- the texts of whole events stand, with the headers or without them
     abbrev StandsWhole : Type 0
-    StandsWhole = StandAt from.drains to.drains (no_texts (length s.ports)) ⊎ ((es : List Event) × StandAt from.drains to.drains (texts_of segments s changes es []))
+    StandsWhole = StandAt from.drains to.drains (no_texts (length s.ports)) ⊎ ((es : List Event) × StandAt from.drains to.drains (texts_of taken segments s changes es []))
 
-    leaves_whole : (fault : StreamFault) → OnlyReads (Err fault) → StandsWhole → Leaves segments s changes from to (Err fault)
+    leaves_whole : (fault : StreamFault) → OnlyReads (Err fault) → StandsWhole → Leaves taken segments s changes from to (Err fault)
     leaves_whole (stream.Run (faults.Settings f)) only_reads at = at
     leaves_whole (stream.Run (faults.Changes f)) only_reads at = at
     leaves_whole (stream.Run faults.PortCount) only_reads at = at
@@ -152,19 +156,19 @@ module _ (segments : Segments) where
     leaves_whole (stream.Read place) only_reads at = at
     leaves_whole (stream.Write target) only_reads at = absurd only_reads
 
-    pub leaves_nothing : (fault : StreamFault) → OnlyReads (Err fault) → StandAt from.drains to.drains (no_texts (length s.ports)) → Leaves segments s changes from to (Err fault)
+    pub leaves_nothing : (fault : StreamFault) → OnlyReads (Err fault) → StandAt from.drains to.drains (no_texts (length s.ports)) → Leaves taken segments s changes from to (Err fault)
     leaves_nothing fault only_reads at = leaves_whole fault only_reads (inl at)
 
-    pub leaves_headers : (fault : StreamFault) → OnlyReads (Err fault) → StandAt from.drains to.drains (empty_outputs (length s.ports)) → Leaves segments s changes from to (Err fault)
-    leaves_headers fault only_reads at = leaves_whole fault only_reads (inr ([], at))
+    pub leaves_headers : (fault : StreamFault) → OnlyReads (Err fault) → StandAt from.drains to.drains (empty_outputs (length s.ports)) → Leaves taken segments s changes from to (Err fault)
+    leaves_headers fault only_reads at = leaves_whole fault only_reads (inr ([], subst (StandAt from.drains to.drains) (sym (headers_of s changes)) at))
 
-    pub leaves_begun : (target : Target) → StandBetween from.drains to.drains (no_texts (length s.ports)) (empty_outputs (length s.ports)) × FailedAt target from.drains to.drains → Leaves segments s changes from to (Err (stream.Write target))
-    leaves_begun target h = (no_texts (length s.ports), empty_outputs (length s.ports), inl (refl, refl), h.0, h.1)
+    pub leaves_begun : (target : Target) → StandBetween from.drains to.drains (no_texts (length s.ports)) (empty_outputs (length s.ports)) × FailedAt target from.drains to.drains → Leaves taken segments s changes from to (Err (stream.Write target))
+    leaves_begun target h = (no_texts (length s.ports), empty_outputs (length s.ports), inl (refl, sym (headers_of s changes)), h.0, h.1)
 
     -- among the events, from the settings on
     stops_among : (es more : List Event) (fault : StreamFault) → IsPart {T = Unit {0}} more (Err fault) → EndsNumbered {T = Unit {0}} es (Err fault)
-        → LeadsBehind {T = Unit {0}} segments changes (opened (settings_told s)) from.drains to.drains (empty_outputs (length s.ports)) es more (Err fault)
-        → EndsInOrder {T = Unit {0}} segments changes (opened (settings_told s)) from.drains to.drains (empty_outputs (length s.ports)) es more (Err fault) → Leaves segments s changes from to (Err fault)
+        → LeadsBehind {T = Unit {0}} taken segments changes (opened (settings_told s)) from.drains to.drains (empty_outputs (length s.ports)) es more (Err fault)
+        → EndsInOrder {T = Unit {0}} taken segments changes (opened (settings_told s)) from.drains to.drains (empty_outputs (length s.ports)) es more (Err fault) → Leaves taken segments s changes from to (Err fault)
     stops_among es more (stream.Run (faults.Settings f)) part numbered h order = inr (es, h)
     stops_among es more (stream.Run (faults.Changes f)) part numbered h order = inr (es, h)
     stops_among es more (stream.Run faults.PortCount) part numbered h order = inr (es, h)
@@ -173,35 +177,35 @@ module _ (segments : Segments) where
     stops_among es more (stream.Run faults.OutOfMemory) part numbered h order = inr (es, numbered, h)
     stops_among es more (stream.Read place) part numbered h order = inr (es, h)
     stops_among es more (stream.Write target) part numbered h order = (
-      texts_of segments s changes es [],
-      texts_of segments s changes (es ++ more) [],
-      inr (inl (es, part.0, refl, ap (λ l. texts_of segments s changes (es ++ l) []) part.1, order part.0 part.1)),
+      texts_of taken segments s changes es [],
+      texts_of taken segments s changes (es ++ more) [],
+      inr (inl (es, part.0, refl, ap (λ l. texts_of taken segments s changes (es ++ l) []) part.1, order part.0 part.1)),
       h.0,
       h.1,
     )
 
     pub leaves_events : (state : State) (es more : List Event) (fault : StreamFault) → state ≡ opened (settings_told s) → IsPart {T = Unit {0}} more (Err fault) → EndsNumbered {T = Unit {0}} es (Err fault)
-        → LeadsBehind {T = Unit {0}} segments changes state from.drains to.drains (empty_outputs (length s.ports)) es more (Err fault) → EndsInOrder {T = Unit {0}} segments changes state from.drains to.drains (empty_outputs (length s.ports)) es more (Err fault)
-        → Leaves segments s changes from to (Err fault)
+        → LeadsBehind {T = Unit {0}} taken segments changes state from.drains to.drains (empty_outputs (length s.ports)) es more (Err fault) → EndsInOrder {T = Unit {0}} taken segments changes state from.drains to.drains (empty_outputs (length s.ports)) es more (Err fault)
+        → Leaves taken segments s changes from to (Err fault)
     leaves_events state es more fault is part numbered h order =
-        stops_among es more fault part numbered (subst (λ state. LeadsBehind {T = Unit {0}} segments changes state from.drains to.drains (empty_outputs (length s.ports)) es more (Err fault)) is h)
-        (subst (λ state. EndsInOrder {T = Unit {0}} segments changes state from.drains to.drains (empty_outputs (length s.ports)) es more (Err fault)) is order)
+        stops_among es more fault part numbered (subst (λ state. LeadsBehind {T = Unit {0}} taken segments changes state from.drains to.drains (empty_outputs (length s.ports)) es more (Err fault)) is h)
+        (subst (λ state. EndsInOrder {T = Unit {0}} taken segments changes state from.drains to.drains (empty_outputs (length s.ports)) es more (Err fault)) is order)
 
     pub leaves_cuts : (state : State) (es : List Event) (cuts : List Cut) (target : Target) → state ≡ opened (settings_told s)
-        → StandBetween from.drains to.drains (texts_behind segments changes state (empty_outputs (length s.ports)) es) (with_cuts (texts_behind segments changes state (empty_outputs (length s.ports)) es) cuts) × FailedAt target from.drains to.drains
-        → Leaves segments s changes from to (Err (stream.Write target))
+        → StandBetween from.drains to.drains (texts_behind segments changes state (empty_outputs (length s.ports)) (taken es)) (with_cuts (texts_behind segments changes state (empty_outputs (length s.ports)) (taken es)) cuts) × FailedAt target from.drains to.drains
+        → Leaves taken segments s changes from to (Err (stream.Write target))
     leaves_cuts state es cuts target is h =
-        (texts_of segments s changes es [], texts_of segments s changes es cuts, inr (inr (es, cuts, refl, refl)), subst (λ state. StandBetween from.drains to.drains (texts_behind segments changes state (empty_outputs (length s.ports)) es) (with_cuts (texts_behind segments changes state (empty_outputs (length s.ports)) es) cuts)) is h.0, h.1)
+        (texts_of taken segments s changes es [], texts_of taken segments s changes es cuts, inr (inr (es, cuts, refl, refl)), subst (λ state. StandBetween from.drains to.drains (texts_behind segments changes state (empty_outputs (length s.ports)) (taken es)) (with_cuts (texts_behind segments changes state (empty_outputs (length s.ports)) (taken es)) cuts)) is h.0, h.1)
 
-    pub leaves_all : (state : State) (es : List Event) (cuts : List Cut) → state ≡ opened (settings_told s) → StandAt from.drains to.drains (with_cuts (texts_behind segments changes state (empty_outputs (length s.ports)) es) cuts)
-        → Leaves segments s changes from to (Ok tt)
-    leaves_all state es cuts is at = (es, cuts, subst (λ state. StandAt from.drains to.drains (with_cuts (texts_behind segments changes state (empty_outputs (length s.ports)) es) cuts)) is at)
+    pub leaves_all : (state : State) (es : List Event) (cuts : List Cut) → state ≡ opened (settings_told s) → StandAt from.drains to.drains (with_cuts (texts_behind segments changes state (empty_outputs (length s.ports)) (taken es)) cuts)
+        → Leaves taken segments s changes from to (Ok tt)
+    leaves_all state es cuts is at = (es, cuts, subst (λ state. StandAt from.drains to.drains (with_cuts (texts_behind segments changes state (empty_outputs (length s.ports)) (taken es)) cuts)) is at)
 
     well : StandsWhole → AreWell from.drains to.drains
     well (inl h) = h.well
     well (inr h) = h.1.well
 
-    pub writes_by : (result : Result (Unit {0}) StreamFault) → Leaves segments s changes from to result → WritesWith from.drains to.drains result
+    pub writes_by : (result : Result (Unit {0}) StreamFault) → Leaves taken segments s changes from to result → WritesWith from.drains to.drains result
     writes_by (Ok x) h = h.2.well
     writes_by (Err (stream.Write target)) h = h.4
     writes_by (Err (stream.Run (faults.Settings f))) h = well h

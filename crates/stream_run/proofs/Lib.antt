@@ -10,6 +10,7 @@ mod Firsts
 mod Wholes
 mod Overall
 mod Handing
+mod Sieving
 mod Stepping
 mod Counting
 mod Running

@@ -39,13 +39,13 @@ use Rattle.capture_run.specs.declared.fault.RunFault.TheVariants as faults
 use Rattle.stream_run.specs.Begun.{AreAtFirst, OpensInTurn}
 use Rattle.stream_run.specs.Coming.{EndBefore}
 use Rattle.stream_run.specs.Cuts.{cuts_at}
-use Rattle.stream_run.specs.Over.{BeginsIn, CanBeOpened, IsRunOverAmong, LeavesOver, StandsSomewhere, Tells, texts_octets, texts_at, whole_records}
+use Rattle.stream_run.specs.Over.{BeginsIn, CanBeOpened, IsRunOverSieved, LeavesSieved, StandsSomewhere, Tells, texts_octets, texts_at, whole_records}
 use Rattle.stream_run.specs.Amidst.{StandsInEvent}
-use Rattle.stream_run.specs.Reached.{AreReadTo, IsReachedOverAmong, ReachesOver}
+use Rattle.stream_run.specs.Reached.{AreReadTo, IsReachedOverSieved, ReachesOver}
 use Rattle.stream_run.specs.Sights.{Sight, sights, state_among}
 use Rattle.stream_run.specs.Stage.{Drains, Events, Everything, Nothing, StandAt, StandBetween, events_at, no_texts, stage_texts}
 use Rattle.stream_run.specs.Steps.{AreReadBehind, EndsIn, EndsInOrder, EndsNumbered, IsAt, IsPart, LeadsBehind, Run, StopInFront, changes_of, octets_at, source_at, texts_behind}
-use Rattle.stream_run.specs.Watched.{IsWatchedOverAmong, SeesOver, sights_at, state_behind}
+use Rattle.stream_run.specs.Watched.{IsWatchedOverSieved, SeesOver, sights_at, state_behind}
 use Rattle.stream_run.specs.declared.fault.StreamFault.{StreamFault}
 use Rattle.stream_run.specs.declared.fault.StreamFault.TheVariants as stream
 use Rattle.stream_run.specs.declared.fault.Target.{Target}
@@ -146,12 +146,12 @@ settings_refusal fault = text_refusal (λ f. faults.Settings f) fault (λ f. tt)
 pub changes_refusal : (fault : SettingsFault) → IsRefusal (of_changes fault)
 changes_refusal fault = text_refusal (λ f. faults.Changes f) fault (λ f. tt)
 
-module _ (segments : Segments) where
+module _ (taken : List Event → List Event) (nothing : taken [] ≡ []) (segments : Segments) where
   stage_events : (S : Bridged) (cs : List Change) (n : ℕ) (t : Timeline) (es rest : List Event) → t.events ≡ es ++ rest
-      → stage_texts segments S cs n t (Events (length es)) ≡ with_events_among segments cs 0 (opened S) (empty_outputs n) es
+      → stage_texts taken segments S cs n t (Events (length es)) ≡ with_events_among segments cs 0 (opened S) (empty_outputs n) (taken es)
   stage_events S cs n t es rest is =
-      ap (λ l. outputs_among segments S cs n (record { events = l; cuts = [] })) (first_events t es rest is)
-      ∙ ap (with_cuts (with_events_among segments cs 0 (opened S) (empty_outputs n) es)) (no_cuts_among segments)
+      ap (λ l. outputs_among segments S cs n (record { events = taken l; cuts = [] })) (first_events t es rest is)
+      ∙ ap (with_cuts (with_events_among segments cs 0 (opened S) (empty_outputs n) (taken es))) (no_cuts_among segments)
 
   -- ---- where a run stops
 
@@ -161,23 +161,27 @@ module _ (segments : Segments) where
 
     -- the texts of the headers and of some events
     abbrev behind : List Event → Outputs
-    behind es = texts_behind segments changes (opened (settings_told s)) (empty_outputs (length texts)) es
+    behind es = texts_behind segments changes (opened (settings_told s)) (empty_outputs (length texts)) (taken es)
 
-    texts_are : (es rest : List Event) → whole.events ≡ es ++ rest → texts_at segments s changes texts text (Events (length es)) ≡ behind es
+    -- before any event the headers stand
+    behind_none : behind [] ≡ empty_outputs (length texts)
+    behind_none = ap (texts_behind segments changes (opened (settings_told s)) (empty_outputs (length texts))) nothing
+
+    texts_are : (es rest : List Event) → whole.events ≡ es ++ rest → texts_at taken segments s changes texts text (Events (length es)) ≡ behind es
     texts_are es rest is = stage_events (settings_told s) (changes_of changes) (length texts) whole es rest is
 
     -- before any capture was opened, or at one of which a read failed
-    pub over_unopened : StandAt start new (no_texts (length texts)) → StandsSomewhere segments s changes texts text start new
+    pub over_unopened : StandAt start new (no_texts (length texts)) → StandsSomewhere taken segments s changes texts text start new
     over_unopened at = record { stage = Nothing; amidst = tt; captures = tt; in_front = none_in_front (texts_octets texts) text; stands = at }
 
     -- for want of memory
-    pub over_wanting : new ≡ start → StandAt start new (no_texts (length texts)) → LeavesOver segments s changes texts text start new (Err (stream.Run faults.OutOfMemory))
+    pub over_wanting : new ≡ start → StandAt start new (no_texts (length texts)) → LeavesSieved taken segments s changes texts text start new (Err (stream.Run faults.OutOfMemory))
     unfolding over_unopened
     over_wanting same at = (over_unopened at, same)
 
     -- at a capture that can't be opened
     pub over_refused : (index : ℕ) (place : Tap) (fault : CaptureFault) → length texts ≡ length s.ports → IsFirstRefused texts text index place fault → StandAt start new (no_texts (length texts))
-        → LeavesOver segments s changes texts text start new (Err (stream.Run (faults.Capture place fault)))
+        → LeavesSieved taken segments s changes texts text start new (Err (stream.Run (faults.Capture place fault)))
     over_refused index place fault many first at =
         let found = first_refused texts text index place fault first in (
           ports_counted s changes texts text (eq-eqb _ _ many)
@@ -186,14 +190,14 @@ module _ (segments : Segments) where
         )
 
     -- among the headers
-    pub over_headers : (target : Target) → CanBeOpened texts text → StandBetween start new (no_texts (length texts)) (empty_outputs (length texts)) → LeavesOver segments s changes texts text start new (Err (stream.Write target))
-    over_headers target can between = record { stage = Nothing; next = Events 0; comes = refl; captures = can; in_front = none_in_front (texts_octets texts) text; order = λ es rest e is at. absurd cc; stands = subst (StandBetween start new (no_texts (length texts))) (sym (texts_are [] whole.events refl)) between }
+    pub over_headers : (target : Target) → CanBeOpened texts text → StandBetween start new (no_texts (length texts)) (empty_outputs (length texts)) → LeavesSieved taken segments s changes texts text start new (Err (stream.Write target))
+    over_headers target can between = record { stage = Nothing; next = Events 0; comes = refl; captures = can; in_front = none_in_front (texts_octets texts) text; order = λ es rest e is at. absurd cc; stands = subst (StandBetween start new (no_texts (length texts))) (sym (texts_are [] whole.events refl ∙ behind_none)) between }
 
     -- the first events are these
     front_of_all : (es rest : List Event) → whole.events ≡ es ++ rest → StopInFront (texts_octets texts) text es → StopInFront (texts_octets texts) text (events_at whole (Events (length es)))
     front_of_all es rest is in_front = subst (StopInFront (texts_octets texts) text) (sym (first_events whole es rest is)) in_front
 
-    stands_behind : (es rest : List Event) → CanBeOpened texts text → whole.events ≡ es ++ rest → StandAt start new (behind es) → StopInFront (texts_octets texts) text es → StandsSomewhere segments s changes texts text start new
+    stands_behind : (es rest : List Event) → CanBeOpened texts text → whole.events ≡ es ++ rest → StandAt start new (behind es) → StopInFront (texts_octets texts) text es → StandsSomewhere taken segments s changes texts text start new
     stands_behind es rest can is at in_front = record {
       stage = Events (length es);
       amidst = omega (arith, ap length is, length-append es rest);
@@ -204,24 +208,24 @@ module _ (segments : Segments) where
 
     -- at the first record of a capture
     pub over_firsts : (fault : StreamFault) (turns : List Turn) (ports : List Stream) (underlay : Stream) → BeginsIn {T = Unit {0}} (texts_octets texts) text turns ports underlay (Err fault) → CanBeOpened texts text → StandAt start new (empty_outputs (length texts))
-        → LeavesOver segments s changes texts text start new (Err fault)
+        → LeavesSieved taken segments s changes texts text start new (Err fault)
     over_firsts (stream.Run (faults.Record place n f)) turns ports underlay h can at =
-        record { k = 0; most = omega arith; openings = can; faulty = h.0; in_front = none_in_front (texts_octets texts) text; before = inl (refl, h.1); stands = subst (StandAt start new) (sym (texts_are [] whole.events refl)) at }
+        record { k = 0; most = omega arith; openings = can; faulty = h.0; in_front = none_in_front (texts_octets texts) text; before = inl (refl, h.1); stands = subst (StandAt start new) (sym (texts_are [] whole.events refl ∙ behind_none)) at }
     over_firsts (stream.Run (faults.Settings f)) turns ports underlay h can at = absurd h
     over_firsts (stream.Run (faults.Changes f)) turns ports underlay h can at = absurd h
     over_firsts (stream.Run faults.PortCount) turns ports underlay h can at = absurd h
     over_firsts (stream.Run (faults.Capture place f)) turns ports underlay h can at = absurd h
     over_firsts (stream.Run faults.OutOfMemory) turns ports underlay h can at = absurd h
-    over_firsts (stream.Read place) turns ports underlay h can at = stands_behind [] whole.events can refl at (none_in_front (texts_octets texts) text)
+    over_firsts (stream.Read place) turns ports underlay h can at = stands_behind [] whole.events can refl (subst (StandAt start new) (sym behind_none) at) (none_in_front (texts_octets texts) text)
     over_firsts (stream.Write target) turns ports underlay h can at = absurd h
 
     -- the texts of the event behind some others stand in order
     abbrev pub Ordered : List Event → List Event → Result (Unit {0}) StreamFault → Type 0
-    Ordered es more result = EndsInOrder segments changes (opened (settings_told s)) start new (empty_outputs (length texts)) es more result
+    Ordered es more result = EndsInOrder taken segments changes (opened (settings_told s)) start new (empty_outputs (length texts)) es more result
 
     in_order : (target : Target) (es more rest fs left : List Event) (e f : Event) → whole.events ≡ es ++ (more ++ rest) → more ≡ e ∷ [] → Ordered es more (Err (stream.Write target))
         → whole.events ≡ fs ++ f ∷ left → Events (length es) ≡ Events (length fs)
-        → StandsInEvent (changes_of changes) start new (length fs + 1) (state_among segments (changes_of changes) (opened (settings_told s)) fs) (texts_at segments s changes texts text (Events (length es))) f
+        → StandsInEvent (changes_of changes) start new (length (taken fs) + 1) (state_among segments (changes_of changes) (opened (settings_told s)) (taken fs)) (texts_at taken segments s changes texts text (Events (length es))) f
     in_order target es more rest fs left e f is one ordered also there =
         let size : length es ≡ length fs = cc in
         let same : es ≡ fs = sym (first_events whole es (more ++ rest) is) ∙ ap (λ n. take n whole.events) size ∙ first_events whole fs (f ∷ left) also in
@@ -229,12 +233,12 @@ module _ (segments : Segments) where
         let same_left : e ∷ rest ≡ f ∷ left = append_left es (e ∷ rest) (f ∷ left) behind_es in
         let event : e ≡ f = cc in
         let stands = ordered f (one ∙ ap (λ x. x ∷ []) event) in
-        subst (λ l. StandsInEvent (changes_of changes) start new (length l + 1) (state_among segments (changes_of changes) (opened (settings_told s)) l) (texts_at segments s changes texts text (Events (length es))) f) same
-        (subst (λ o. StandsInEvent (changes_of changes) start new (length es + 1) (state_among segments (changes_of changes) (opened (settings_told s)) es) o f) (sym (texts_are es (more ++ rest) is)) stands)
+        subst (λ l. StandsInEvent (changes_of changes) start new (length (taken l) + 1) (state_among segments (changes_of changes) (opened (settings_told s)) (taken l)) (texts_at taken segments s changes texts text (Events (length es))) f) same
+        (subst (λ o. StandsInEvent (changes_of changes) start new (length (taken es) + 1) (state_among segments (changes_of changes) (opened (settings_told s)) (taken es)) o f) (sym (texts_are es (more ++ rest) is)) stands)
 
     -- among the events
     pub over_events : (fault : StreamFault) (run : Run) (es more rest : List Event) → whole.events ≡ es ++ (more ++ rest) → EndsIn {T = Unit {0}} (texts_octets texts) text es rest run (Err fault) → IsPart {T = Unit {0}} more (Err fault)
-        → LeadsBehind {T = Unit {0}} segments changes (opened (settings_told s)) start new (empty_outputs (length texts)) es more (Err fault) → Ordered es more (Err fault) → StopInFront (texts_octets texts) text (es ++ more) → EndsNumbered {T = Unit {0}} es (Err fault) → CanBeOpened texts text → LeavesOver segments s changes texts text start new (Err fault)
+        → LeadsBehind {T = Unit {0}} taken segments changes (opened (settings_told s)) start new (empty_outputs (length texts)) es more (Err fault) → Ordered es more (Err fault) → StopInFront (texts_octets texts) text (es ++ more) → EndsNumbered {T = Unit {0}} es (Err fault) → CanBeOpened texts text → LeavesSieved taken segments s changes texts text start new (Err fault)
     unfolding stands_behind
     over_events (stream.Run (faults.Record place n f)) run es more rest is h part at ordered in_front numbered can = record {
       k = length es;
@@ -262,15 +266,15 @@ module _ (segments : Segments) where
           captures = can;
           in_front = front_of_all (es ++ more) rest all in_front;
           order = λ fs left f also there. in_order target es more rest fs left part.0 f is part.1 ordered also there;
-          stands = subst (λ o. StandBetween start new o (texts_at segments s changes texts text (Events (length (es ++ more))))) (sym (texts_are es (more ++ rest) is))
+          stands = subst (λ o. StandBetween start new o (texts_at taken segments s changes texts text (Events (length (es ++ more))))) (sym (texts_are es (more ++ rest) is))
               (subst (StandBetween start new (behind es)) (sym (texts_are (es ++ more) rest all)) at.0);
         }
 
     -- among the lines of the cut captures
     pub over_cuts : (target : Target) (es : List Event) (turns : List Turn) (ports : List Stream) (underlay : Stream) → whole.events ≡ es → AllStandAtEnd texts text turns ports underlay
-        → StopInFront (texts_octets texts) text es → StandBetween start new (behind es) (with_cuts (behind es) (cuts_among segments (cuts_at ports underlay turns))) → LeavesOver segments s changes texts text start new (Err (stream.Write target))
+        → StopInFront (texts_octets texts) text es → StandBetween start new (behind es) (with_cuts (behind es) (cuts_among segments (cuts_at ports underlay turns))) → LeavesSieved taken segments s changes texts text start new (Err (stream.Write target))
     over_cuts target es turns ports underlay is ends in_front between =
-        let all : texts_at segments s changes texts text Everything ≡ with_cuts (behind es) (cuts_among segments (cuts_at ports underlay turns)) =
+        let all : texts_at taken segments s changes texts text Everything ≡ with_cuts (behind es) (cuts_among segments (cuts_at ports underlay turns)) =
         ap (λ l. with_cuts (behind l) (cuts_among segments whole.cuts)) is
         ∙ ap (λ l. with_cuts (behind es) (cuts_among segments l)) (cuts_at_end texts text turns ports underlay ends) in
         record {
@@ -280,17 +284,15 @@ module _ (segments : Segments) where
           captures = (whole_captures texts text (whole_at_end texts text turns ports underlay ends), no_faults texts text (whole_at_end texts text turns ports underlay ends));
           in_front = subst (StopInFront (texts_octets texts) text) (sym is) in_front;
           order = λ fs left f also there. let size : length es ≡ length fs = cc in absurd (omega (arith, size, ap length (sym is ∙ also), length-append fs (f ∷ left)));
-          stands = subst (λ o. StandBetween start new o (texts_at segments s changes texts text Everything)) (sym (texts_are es [] (is ∙ sym (append-nil es))))
+          stands = subst (λ o. StandBetween start new o (texts_at taken segments s changes texts text Everything)) (sym (texts_are es [] (is ∙ sym (append-nil es))))
               (subst (StandBetween start new (behind es)) (sym all) between);
         }
 
     -- nowhere
     pub over_all : (es : List Event) (turns : List Turn) (ports : List Stream) (underlay : Stream) → length texts ≡ length s.ports → whole.events ≡ es → AllStandAtEnd texts text turns ports underlay
-        → StandAt start new (with_cuts (behind es) (cuts_among segments (cuts_at ports underlay turns))) → LeavesOver segments s changes texts text start new (Ok tt)
+        → StandAt start new (with_cuts (behind es) (cuts_among segments (cuts_at ports underlay turns))) → LeavesSieved taken segments s changes texts text start new (Ok tt)
     over_all es turns ports underlay many is ends at =
-        let S = settings_told s in
-        let cs = changes_of changes in (
-          outputs_among segments S cs (length texts) whole,
+        (
           ports_counted_among segments s changes texts text (eq-eqb _ _ many)
               ∙ ap (by_timeline_among segments s changes (length texts)) (told_whole changes texts text (no_faults texts text (whole_at_end texts text turns ports underlay ends))),
           subst (StandAt start new)
@@ -300,7 +302,7 @@ module _ (segments : Segments) where
     -- ---- how far the captures are read
 
     abbrev Reaches : List Stream → Stream → Result (Unit {0}) StreamFault → Type 0
-    Reaches ports underlay result = ReachesOver segments s changes texts text start new ports underlay result
+    Reaches ports underlay result = ReachesOver taken segments s changes texts text start new ports underlay result
 
     reads_first : (ports : List Stream) (underlay : Stream) (result : Result (Unit {0}) StreamFault) (es rest : List Event) → whole.events ≡ es ++ rest
         → AreReadBehind (texts_octets texts) text es ports underlay result → AreReadTo changes texts text (Events (length es)) ports underlay result
@@ -332,7 +334,7 @@ module _ (segments : Segments) where
     reach_firsts (stream.Write target) turns ports underlay h can at = absurd h
 
     pub reach_events : (fault : StreamFault) (run : Run) (es more rest : List Event) → whole.events ≡ es ++ (more ++ rest) → EndsIn {T = Unit {0}} (texts_octets texts) text es rest run (Err fault) → IsPart {T = Unit {0}} more (Err fault)
-        → LeadsBehind {T = Unit {0}} segments changes (opened (settings_told s)) start new (empty_outputs (length texts)) es more (Err fault) → Ordered es more (Err fault) → StopInFront (texts_octets texts) text (es ++ more)
+        → LeadsBehind {T = Unit {0}} taken segments changes (opened (settings_told s)) start new (empty_outputs (length texts)) es more (Err fault) → Ordered es more (Err fault) → StopInFront (texts_octets texts) text (es ++ more)
         → EndsNumbered {T = Unit {0}} es (Err fault) → CanBeOpened texts text → AreReadBehind {T = Unit {0}} (texts_octets texts) text es run.ports run.underlay (Err fault) → Reaches run.ports run.underlay (Err fault)
     unfolding over_events stands_behind
     reach_events (stream.Run (faults.Record place n f)) run es more rest is h part at ordered in_front numbered can read =
@@ -361,43 +363,47 @@ module _ (segments : Segments) where
     module _ {T : Type 0} (sees : T → Sight → T → Type 0) (ends : T → State → T → Type 0) (old_watch : T) where
       -- these events were seen
       abbrev Sees : List Event → T → Type 0
-      Sees es new_watch = FoldsTo sees old_watch (sights segments (changes_of changes) (opened (settings_told s)) 0 es) new_watch
+      Sees es new_watch = FoldsTo sees old_watch (sights segments (changes_of changes) (opened (settings_told s)) 0 (taken es)) new_watch
+
+      -- of no event nothing is seen
+      sees_none : Sees [] old_watch
+      sees_none = subst (λ l. FoldsTo sees old_watch (sights segments (changes_of changes) (opened (settings_told s)) 0 l) old_watch) (sym nothing) refl
 
       abbrev Seen : T → Result (Unit {0}) StreamFault → Type 0
-      Seen new_watch result = SeesOver segments sees ends s changes texts text start new old_watch new_watch result
+      Seen new_watch result = SeesOver taken segments sees ends s changes texts text start new old_watch new_watch result
 
       -- they are the first ones
-      sees_first : (es rest : List Event) (k : ℕ) (new_watch : T) → whole.events ≡ es ++ rest → k ≡ length es → Sees es new_watch → FoldsTo sees old_watch (sights_at segments s changes texts text (Events k)) new_watch
+      sees_first : (es rest : List Event) (k : ℕ) (new_watch : T) → whole.events ≡ es ++ rest → k ≡ length es → Sees es new_watch → FoldsTo sees old_watch (sights_at taken segments s changes texts text (Events k)) new_watch
       sees_first es rest k new_watch is at h = subst (λ l. Sees l new_watch) (sym (ap (λ k. take k whole.events) at ∙ first_events whole es rest is)) h
 
       -- nothing was
       pub seen_wanting : new ≡ start → StandAt start new (no_texts (length texts)) → Seen old_watch (Err (stream.Run faults.OutOfMemory))
       unfolding over_unopened
-      seen_wanting same at = (over_unopened at, same, refl)
+      seen_wanting same at = (over_unopened at, same, sees_none)
 
       pub seen_unread : (place : Tap) → StandAt start new (no_texts (length texts)) → Seen old_watch (Err (stream.Read place))
       unfolding over_unopened
-      seen_unread place at = (over_unopened at, refl)
+      seen_unread place at = (over_unopened at, sees_none)
 
       pub seen_headers : (target : Target) → CanBeOpened texts text → StandBetween start new (no_texts (length texts)) (empty_outputs (length texts)) → Seen old_watch (Err (stream.Write target))
       unfolding over_headers
-      seen_headers target can between = (over_headers target can between, refl)
+      seen_headers target can between = (over_headers target can between, sees_none)
 
       pub seen_firsts : (fault : StreamFault) (turns : List Turn) (ports : List Stream) (underlay : Stream) → BeginsIn {T = Unit {0}} (texts_octets texts) text turns ports underlay (Err fault) → CanBeOpened texts text → StandAt start new (empty_outputs (length texts))
           → Seen old_watch (Err fault)
       unfolding over_firsts stands_behind
-      seen_firsts (stream.Run (faults.Record place n f)) turns ports underlay h can at = (over_firsts (stream.Run (faults.Record place n f)) turns ports underlay h can at, refl)
+      seen_firsts (stream.Run (faults.Record place n f)) turns ports underlay h can at = (over_firsts (stream.Run (faults.Record place n f)) turns ports underlay h can at, sees_none)
       seen_firsts (stream.Run (faults.Settings f)) turns ports underlay h can at = absurd h
       seen_firsts (stream.Run (faults.Changes f)) turns ports underlay h can at = absurd h
       seen_firsts (stream.Run faults.PortCount) turns ports underlay h can at = absurd h
       seen_firsts (stream.Run (faults.Capture place f)) turns ports underlay h can at = absurd h
       seen_firsts (stream.Run faults.OutOfMemory) turns ports underlay h can at = absurd h
-      seen_firsts (stream.Read place) turns ports underlay h can at = (over_firsts (stream.Read place) turns ports underlay h can at, refl)
+      seen_firsts (stream.Read place) turns ports underlay h can at = (over_firsts (stream.Read place) turns ports underlay h can at, sees_none)
       seen_firsts (stream.Write target) turns ports underlay h can at = absurd h
 
       -- the first events were, and where a write failed one more
       pub seen_events : (fault : StreamFault) (run : Run) (es more rest : List Event) (new_watch : T) → whole.events ≡ es ++ (more ++ rest) → EndsIn {T = Unit {0}} (texts_octets texts) text es rest run (Err fault)
-          → IsPart {T = Unit {0}} more (Err fault) → LeadsBehind {T = Unit {0}} segments changes (opened (settings_told s)) start new (empty_outputs (length texts)) es more (Err fault) → Ordered es more (Err fault) → StopInFront (texts_octets texts) text (es ++ more) → EndsNumbered {T = Unit {0}} es (Err fault) → CanBeOpened texts text → Sees (es ++ more) new_watch → Seen new_watch (Err fault)
+          → IsPart {T = Unit {0}} more (Err fault) → LeadsBehind {T = Unit {0}} taken segments changes (opened (settings_told s)) start new (empty_outputs (length texts)) es more (Err fault) → Ordered es more (Err fault) → StopInFront (texts_octets texts) text (es ++ more) → EndsNumbered {T = Unit {0}} es (Err fault) → CanBeOpened texts text → Sees (es ++ more) new_watch → Seen new_watch (Err fault)
       unfolding over_events stands_behind
       seen_events (stream.Run (faults.Record place n f)) run es more rest new_watch is h part at ordered in_front numbered can seen = (
         over_events (stream.Run (faults.Record place n f)) run es more rest is h part at ordered in_front numbered can,
@@ -432,17 +438,17 @@ module _ (segments : Segments) where
       )
 
       -- all events were, and then the end
-      pub seen_all : (es : List Event) (last new_watch : T) → whole.events ≡ es → Sees es last → ends last (state_behind segments changes (opened (settings_told s)) es) new_watch → Seen new_watch (Ok tt)
+      pub seen_all : (es : List Event) (last new_watch : T) → whole.events ≡ es → Sees es last → ends last (state_behind segments changes (opened (settings_told s)) (taken es)) new_watch → Seen new_watch (Ok tt)
       seen_all es last new_watch is seen ended = (
         last,
         subst (λ l. Sees l last) (sym is) seen,
-        subst (λ l. ends last (state_behind segments changes (opened (settings_told s)) l) new_watch) (sym is) ended,
+        subst (λ l. ends last (state_behind segments changes (opened (settings_told s)) (taken l)) new_watch) (sym is) ended,
       )
 
   module _ (texts : List (Vec ℕ Global)) (text : List ℕ) (start : Drains) where
     -- the texts, or the number of captures, are refused, or memory was
     pub over_refusal : (s : Meaning Settings) (c : Meaning (List TimedChange)) (fault : RunFault) → IsRefusal fault → Gives (Err fault) (run s c texts text) → StandAt start start (no_texts (length texts))
-        → IsRunOverAmong segments s c texts text start start (Err (stream.Run fault))
+        → IsRunOverSieved taken segments s c texts text start start (Err (stream.Run fault))
     over_refusal (Ok s) (Ok changes) (faults.Settings f) refusal gives at = (gives, at)
     over_refusal (Ok s) (Err fault) (faults.Settings f) refusal gives at = (gives, at)
     over_refusal (Err fault) c (faults.Settings f) refusal gives at = (gives, at)
@@ -462,7 +468,7 @@ module _ (segments : Segments) where
 
     -- and nothing was seen
     pub seen_refusal : {T : Type 0} (sees : T → Sight → T → Type 0) (ends : T → State → T → Type 0) (watch : T) (s : Meaning Settings) (c : Meaning (List TimedChange)) (fault : RunFault) → IsRefusal fault → StandAt start start (no_texts (length texts))
-        → IsWatchedOverAmong segments sees ends s c texts text start start watch watch (Err (stream.Run fault))
+        → IsWatchedOverSieved taken segments sees ends s c texts text start start watch watch (Err (stream.Run fault))
     seen_refusal sees ends watch (Ok s) (Ok changes) (faults.Settings f) refusal at = refl
     seen_refusal sees ends watch (Ok s) (Ok changes) (faults.Changes f) refusal at = refl
     seen_refusal sees ends watch (Ok s) (Ok changes) faults.PortCount refusal at = refl
@@ -474,7 +480,7 @@ module _ (segments : Segments) where
 
     -- and so nothing is said of how far the captures are read
     pub reach_refusal : (s : Meaning Settings) (c : Meaning (List TimedChange)) (ports : List Stream) (underlay : Stream) (fault : RunFault) → IsRefusal fault → StandAt start start (no_texts (length texts))
-        → IsReachedOverAmong segments s c texts text start start ports underlay (Err (stream.Run fault))
+        → IsReachedOverSieved taken segments s c texts text start start ports underlay (Err (stream.Run fault))
     reach_refusal (Ok s) (Ok changes) ports underlay (faults.Settings f) refusal at = tt
     reach_refusal (Ok s) (Ok changes) ports underlay (faults.Changes f) refusal at = tt
     reach_refusal (Ok s) (Ok changes) ports underlay faults.PortCount refusal at = tt

@@ -28,11 +28,11 @@ use Rattle.stream_run.proofs.Telling.{are_ahead, greatest_more, lent_next, next_
 
 -- ---- the event
 
-pub takes_first : (changes : List TimedChange) (texts : List (List ℕ)) (text : List ℕ) (ports : List Stream) (underlay : Stream) (turns : List Turn) (state : State) (number : ℕ) (before : Drains) (first : First)
-    (e : Event) (t turn : Turn) → AreReady changes (run_at ports underlay turns state number before) → AreRead texts text turns ports underlay → IsFirst turns (length turns) first
+pub takes_first : (changes : List TimedChange) (count : ℕ) (texts : List (List ℕ)) (text : List ℕ) (ports : List Stream) (underlay : Stream) (turns : List Turn) (state : State) (number : ℕ) (before : Drains) (first : First)
+    (e : Event) (t turn : Turn) → AreReady changes count (run_at ports underlay turns state number before) → AreRead texts text turns ports underlay → IsFirst turns (length turns) first
     → IsNextEvent ports underlay first.index (slice_index_or turns first.index t).done first.moment e → e.moment ≡ first.moment → turn.done ≡ (slice_index_or turns first.index t).done + 1
     → coming changes texts text turns ≡ e ∷ coming changes texts text (slice_set turns first.index turn)
-takes_first changes texts text ports underlay turns state number before first e t turn ready read is_first next moment one =
+takes_first changes count texts text ports underlay turns state number before first e t turn ready read is_first next moment one =
     let sources = source_events changes texts text in
     let here = next_left changes texts text turns ports underlay ready.size ready.timely ready.change read first.index first.moment e t (is_first.next t) next in
     comes_first turns sources first.index e turn t (are_ahead changes texts text turns ports underlay ready.size ready.timely ready.change read) is_first.there

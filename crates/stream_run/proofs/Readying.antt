@@ -18,10 +18,11 @@ use Rattle.stream_run.specs.Fetched.{IsFetch, IsMoment, IsOpen}
 use Rattle.capture_run.specs.Outputs.{Outputs}
 use Rattle.stream_run.specs.Read.{AreQuiet, GivesUpAt, ReadsWith, failures_of}
 use Rattle.stream_run.specs.Stage.{Drains, StandAt}
-use Rattle.stream_run.specs.Steps.{AreReady, AreTimely, FetchesAt, IsAt, IsChangedAt, IsNextEvent, LendsWhere, StepsTo, moment_at, run_at, source_at}
+use Rattle.stream_run.specs.Steps.{AreBehind, AreReady, AreTimely, FetchesAt, IsAt, IsChangedAt, IsNextEvent, LendsWhere, StepsTo, moment_at, run_at, source_at}
 use Rattle.stream_run.specs.Turns.{IsFirst, IsNoSooner}
 use Rattle.stream_run.specs.declared.fault.StreamFault.{StreamFault}
 use Rattle.stream_run.specs.declared.fault.StreamFault.TheVariants as stream
+use Rattle.stream_run.specs.declared.fault.Target.{Target}
 use Rattle.stream_run.specs.declared.turn.First.{First}
 use Rattle.stream_run.specs.declared.turn.Turn.{Turn}
 
@@ -155,12 +156,12 @@ asked changes index done latest ports underlay new new_underlay turn timely le t
     })
 asked changes index done latest ports underlay new new_underlay turn timely le this (inr h) = asked_capture changes index (done + 1) latest ports underlay new new_underlay turn le h
 
-pub ready_again : (changes : List TimedChange) (ports : List Stream) (underlay : Stream) (turns : List Turn) (state : State) (number : ℕ) (drains : Drains) (new : List Stream) (new_underlay : Stream) (new_state : State) (new_drains : Drains)
-    (first : First) (turn : Turn) (done : ℕ) → AreReady changes (run_at ports underlay turns state number drains) → IsFirst turns (length turns) first → done ≤ number
-    → new_state.moment ≡ first.moment → length new_state.bridges.settings.ports.ports ≡ length state.bridges.settings.ports.ports
+pub ready_again : (changes : List TimedChange) (count : ℕ) (ports : List Stream) (underlay : Stream) (turns : List Turn) (state : State) (number : ℕ) (drains : Drains) (new : List Stream) (new_underlay : Stream) (new_state : State) (new_number : ℕ) (new_drains : Drains)
+    (first : First) (turn : Turn) (done : ℕ) → AreReady changes count (run_at ports underlay turns state number drains) → IsFirst turns (length turns) first → done ≤ count
+    → new_state.moment ≤ first.moment → length new_state.bridges.settings.ports.ports ≡ length state.bridges.settings.ports.ports
     → IsAsked changes first.index (done + 1) first.moment ports underlay new new_underlay turn
-    → AreReady changes (run_at new new_underlay (slice_set turns first.index turn) new_state (number + 1) new_drains)
-ready_again changes ports underlay turns state number drains new new_underlay new_state new_drains first turn done ready is_first few at known asked = record {
+    → AreReady changes (count + 1) (run_at new new_underlay (slice_set turns first.index turn) new_state new_number new_drains)
+ready_again changes count ports underlay turns state number drains new new_underlay new_state new_number new_drains first turn done ready is_first few at known asked = record {
   timely = ready.timely;
   size = length-set turns first.index turn ∙ ready.size ∙ ap (λ n. n + 2) (sym asked.many);
   few = omega (arith, asked.many, ready.few);
@@ -168,7 +169,7 @@ ready_again changes ports underlay turns state number drains new new_underlay ne
   behind = set_each (λ k (t : Turn). IsNoSooner new_state.moment t.next) turns first.index turn is_first.there
       (λ d k lt apart. later_still new_state.moment first.moment (slice_index_or turns k d).next (omega (arith, at)) (is_first.no_sooner d k lt)) (later_still new_state.moment first.moment turn.next (omega (arith, at)) asked.soon);
   moments = set_each (λ k (t : Turn). IsMoment t.next) turns first.index turn is_first.there (λ d k lt apart. ready.moments d k lt) asked.moment;
-  done = set_each (λ k (t : Turn). t.done ≤ number + 1) turns first.index turn is_first.there (λ d k lt apart. omega (arith, ready.done d k lt)) (omega (arith, asked.count, few));
+  done = set_each (λ k (t : Turn). t.done ≤ count + 1) turns first.index turn is_first.there (λ d k lt apart. omega (arith, ready.done d k lt)) (omega (arith, asked.count, few));
   change = λ t. set_each (λ k (t : Turn). k ≡ 0 → t.next ≡ moment_at changes t.done) turns first.index turn is_first.there
       (λ d k lt apart zero. subst (λ k. (slice_index_or turns k d).next ≡ moment_at changes (slice_index_or turns k d).done) (sym zero) (ready.change d))
       (λ zero. asked.change zero ∙ ap (moment_at changes) (sym asked.count)) t 0 (omega (arith, ready.size, length-set turns first.index turn)) refl;
@@ -180,6 +181,12 @@ ready_again changes ports underlay turns state number drains new new_underlay ne
     within : (place : Tap) (index : ℕ) → IsAt (length new) index place → index < length (slice_set turns first.index turn)
     within (Port p) index is_at = omega (arith, is_at.0, is_at.2, asked.many, ready.size, length-set turns first.index turn)
     within Underlay index is_at = omega (arith, is_at, asked.many, ready.size, length-set turns first.index turn)
+
+-- no source comes before the event that came first
+pub later_again : (turns : List Turn) (first : First) (turn : Turn) (m : ℕ) → IsFirst turns (length turns) first → m ≡ first.moment → IsNoSooner first.moment turn.next → AreBehind m (slice_set turns first.index turn)
+later_again turns first turn m is_first at soon =
+    set_each (λ k (t : Turn). IsNoSooner m t.next) turns first.index turn is_first.there
+    (λ d k lt apart. later_still m first.moment (slice_index_or turns k d).next (omega (arith, at)) (is_first.no_sooner d k lt)) (later_still m first.moment turn.next (omega (arith, at)) soon)
 
 -- ---- what an event asks for
 
@@ -193,19 +200,19 @@ lends_open (Open style last) is = tt
 lends_open (Ended is_cut) is = absurd cc
 lends_open (Failed fault) is = absurd cc
 
-pub record IsNextUp (changes : List TimedChange) (ports : List Stream) (underlay : Stream) (state : State) (first : First) (done number : ℕ) : Type 0 where
+pub record IsNextUp (changes : List TimedChange) (ports : List Stream) (underlay : Stream) (state : State) (first : First) (done most : ℕ) : Type 0 where
   pub time : state.moment ≤ first.moment
   pub moment : first.moment ≤ last_moment
-  pub count : done ≤ number
+  pub count : done ≤ most
   pub index : first.index ≤ length ports + 1
   pub change : first.index ≡ 0 → moment_at changes done ≡ Some first.moment
   pub lends : (place : Tap) → IsAt (length ports) first.index place → IsSome (lent (source_at ports underlay place).standing)
   pub open_ : (place : Tap) → IsAt (length ports) first.index place → IsOpen (source_at ports underlay place).standing
 
-pub next_up : (changes : List TimedChange) (ports : List Stream) (underlay : Stream) (turns : List Turn) (state : State) (number : ℕ) (drains : Drains) (first : First) (t : Turn)
-    → AreReady changes (run_at ports underlay turns state number drains) → IsFirst turns (length turns) first
-    → IsNextUp changes ports underlay state first (slice_index_or turns first.index t).done number
-next_up changes ports underlay turns state number drains first t ready is_first = record {
+pub next_up : (changes : List TimedChange) (count : ℕ) (ports : List Stream) (underlay : Stream) (turns : List Turn) (state : State) (number : ℕ) (drains : Drains) (first : First) (t : Turn)
+    → AreReady changes count (run_at ports underlay turns state number drains) → IsFirst turns (length turns) first
+    → IsNextUp changes ports underlay state first (slice_index_or turns first.index t).done count
+next_up changes count ports underlay turns state number drains first t ready is_first = record {
   time = subst (IsNoSooner state.moment) next (ready.behind t first.index is_first.there);
   moment = subst IsMoment next (ready.moments t first.index is_first.there);
   count = ready.done t first.index is_first.there;
@@ -257,6 +264,11 @@ reads_turn changes index done latest ports underlay new new_underlay turn (inl h
 reads_turn changes index done latest ports underlay new new_underlay turn (inr h) = quiet_at h.0 index ports new underlay new_underlay h.1 h.2 h.3 h.4.reads
 
 -- a fetch writes nothing
+pub no_write_fetched : (changes : List TimedChange) (index done latest : ℕ) (ports : List Stream) (underlay : Stream) (new : List Stream) (new_underlay : Stream) (target : Target)
+    → FetchesAt changes index done latest ports underlay new new_underlay (Err (stream.Write target)) → ⊥
+no_write_fetched changes index done latest ports underlay new new_underlay target (inl h) = let never = h.3 in absurd cc
+no_write_fetched changes index done latest ports underlay new new_underlay target (inr h) = absurd h.4.reads
+
 pub no_write_fails : (changes : List TimedChange) (index done latest : ℕ) (ports : List Stream) (underlay : Stream) (new : List Stream) (new_underlay : Stream) (fault : StreamFault) (cs : List Change) (start now : Drains) (number : ℕ) (s : State)
     (o : Outputs) (e : Event) → FetchesAt changes index done latest ports underlay new new_underlay (Err fault) → StepsInOrder {T = Unit {0}} cs start now number s o e (Err fault)
 no_write_fails changes index done latest ports underlay new new_underlay fault cs start now number s o e (inl h) = let never = h.3 in absurd cc

@@ -2,33 +2,35 @@
 -- the parts of the run.
 --     IsDone      whatever its captures tell
 --     IsDoneOver      by their octets
-use Rattle.std.specs.Prelude.{ℕ, List, Vec, Result}
+use Rattle.std.specs.Prelude.{ℕ, List, Vec, Result, Ok}
 use Rattle.std.specs.declared.alloc.Global.{Global}
 use Rattle.pcap_stream.specs.Source.{Stream}
 use Rattle.overlay_config.specs.Settings.{Settings}
 use Rattle.overlay_settings.specs.declared.change.TimedChange.{TimedChange}
+use Rattle.timeline.specs.declared.event.Event.{Event}
 use Rattle.endpoint_core.specs.Step.{State}
 use Rattle.segment_set.specs.Segments.{Segments}
 use Rattle.stream_run.specs.Left.{Leaves, ends as both}
-use Rattle.stream_run.specs.Over.{LeavesOver, Tells}
+use Rattle.stream_run.specs.Over.{LeavesSieved, Tells}
 use Rattle.stream_run.specs.Reached.{ReachesOver}
 use Rattle.stream_run.specs.Sights.{Sight}
 use Rattle.stream_run.specs.Stage.{Drains}
-use Rattle.stream_run.specs.Watched.{SeesOver, Shows}
+use Rattle.stream_run.specs.Watched.{GoesOver, SeesOver, Shows}
 use Rattle.stream_run.specs.declared.fault.StreamFault.{StreamFault}
 
-module _ (segments : Segments) {T : Type 0} (sees : T → Sight → T → Type 0) (ends : T → State → T → Type 0) where
+module _ (segments : Segments) {S T : Type 0} (taken : S → List Event → List Event) (goes : S → Event → S → Type 0) (sees : T → Sight → T → Type 0) (ends : T → State → T → Type 0) where
   -- what its outputs hold, how far its captures are read, and what was seen, by the octets of the captures
-  pub record IsDoneOver (s : Settings) (changes : List TimedChange) (texts : List (Vec ℕ Global)) (text : List ℕ) (old new : Drains) (ports : List Stream) (underlay : Stream) (old_watch new_watch : T)
+  pub record IsDoneOver (s : Settings) (changes : List TimedChange) (texts : List (Vec ℕ Global)) (text : List ℕ) (old new : Drains) (ports : List Stream) (underlay : Stream) (old_sieve new_sieve : S) (old_watch new_watch : T)
       (result : Result (Unit {0}) StreamFault) : Type 0 where
-    pub left : LeavesOver segments s changes texts text old new result
-    pub reached : ReachesOver segments s changes texts text old new ports underlay result
-    pub seen : SeesOver segments sees ends s changes texts text old new old_watch new_watch result
+    pub left : LeavesSieved (taken old_sieve) segments s changes texts text old new result
+    pub reached : ReachesOver (taken old_sieve) segments s changes texts text old new ports underlay result
+    pub seen : SeesOver (taken old_sieve) segments sees ends s changes texts text old new old_watch new_watch result
+    pub went : GoesOver goes (Ok changes) texts text old_sieve new_sieve result
 
   -- what its outputs hold, what was shown, and both by the octets of the captures, where they tell them
-  pub record IsDone (s : Settings) (changes : List TimedChange) (ports : List Stream) (underlay : Stream) (new_ports : List Stream) (new_underlay : Stream) (old new : Drains) (old_watch new_watch : T)
+  pub record IsDone (s : Settings) (changes : List TimedChange) (ports : List Stream) (underlay : Stream) (new_ports : List Stream) (new_underlay : Stream) (old new : Drains) (old_sieve new_sieve : S) (old_watch new_watch : T)
       (result : Result (Unit {0}) StreamFault) : Type 0 where
-    pub left : Leaves segments s changes (both ports underlay old) (both new_ports new_underlay new) result
-    pub shown : Shows segments sees ends s changes old new old_watch new_watch result
+    pub left : Leaves (taken old_sieve) segments s changes (both ports underlay old) (both new_ports new_underlay new) result
+    pub shown : Shows (taken old_sieve) segments sees ends s changes old new old_watch new_watch result
     pub over : (texts : List (Vec ℕ Global)) (text : List ℕ) → Tells ports underlay texts text
-        → IsDoneOver s changes texts text old new new_ports new_underlay old_watch new_watch result
+        → IsDoneOver s changes texts text old new new_ports new_underlay old_sieve new_sieve old_watch new_watch result

@@ -1,5 +1,6 @@
 pub mod Words
 pub mod Sights
+pub mod Sieved
 pub mod Lines
 pub mod Stage
 pub mod Amidst

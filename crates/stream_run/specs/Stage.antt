@@ -1,7 +1,7 @@
 -- How far the outputs of a run have come. It states no standard.
 --     Stage      nothing, the headers and the first events, or everything
 --     ComesNext      the stage behind one: the headers, one event more, the lines of the cut captures
---     stage_texts      the texts of a stage
+--     stage_texts      the texts of a stage, of what is taken in of its events
 --     StandBetween      what the outputs hold more than before: at least the one texts, and at most the others
 --     LinesComeLast      no line stands there before all that leaves does
 use Rattle.std.specs.Prelude.{◌≡◌, ◌⊎◌, ◌<◌, ◌≤◌, ℕ, ◌+◌, ◌-◌, ⊤, Bool, false, List, [], length, replicate, take, slice_index_or, map, Option, Result, Ok, Err}
@@ -54,11 +54,11 @@ ComesNext t stage next = ⊥
 abbrev pub no_texts : ℕ → Outputs
 no_texts ports = record { ports = replicate ports []; underlay = []; decisions = [] }
 
--- those of a stage, of what is told to these segments
-abbrev pub stage_texts : Segments → Settings → List Change → ℕ → Timeline → Stage → Outputs
-stage_texts segments S changes ports t Nothing = no_texts ports
-stage_texts segments S changes ports t (Events k) = outputs_among segments S changes ports (record { events = take k t.events; cuts = [] })
-stage_texts segments S changes ports t Everything = outputs_among segments S changes ports t
+-- those of a stage, of what is taken in and told to these segments
+abbrev pub stage_texts : (List Event → List Event) → Segments → Settings → List Change → ℕ → Timeline → Stage → Outputs
+stage_texts taken segments S changes ports t Nothing = no_texts ports
+stage_texts taken segments S changes ports t (Events k) = outputs_among segments S changes ports (record { events = taken (take k t.events); cuts = [] })
+stage_texts taken segments S changes ports t Everything = outputs_among segments S changes ports (record { events = taken t.events; cuts = t.cuts })
 
 -- ---- the outputs
 

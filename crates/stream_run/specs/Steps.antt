@@ -4,7 +4,7 @@
 --     AreRead      the same, by the octets of the captures
 --     IsStep      one event, and the fetch behind it
 --     IsRunOn      many of them: by the octets, the first of those that were to come
-use Rattle.std.specs.Prelude.{◌≡◌, ◌≢◌, if◌then◌else◌, ◌<◌, ◌≤◌, ⊤, ℕ, ◌+◌, List, [], ◌∷◌, ◌++◌, length, map, slice_index_or, slice_get, Option, Some, None, option_map, Result, Ok, Err, OnOk, IsSome, slice_set, ◌-◌, ◌^◌, ◌⊎◌}
+use Rattle.std.specs.Prelude.{◌≡◌, ◌≢◌, Bool, true, if◌then◌else◌, ◌<◌, ◌≤◌, ⊤, ℕ, ◌+◌, List, [], ◌∷◌, ◌++◌, length, map, slice_index_or, slice_get, Option, Some, None, option_map, Result, Ok, Err, OnOk, IsSome, slice_set, ◌-◌, ◌^◌, ◌⊎◌}
 use Rattle.pcap_io.specs.Record.{Record, last_moment}
 use Rattle.pcap_io.specs.declared.record.RecordFault.{RecordFault}
 use Rattle.pcap_stream.specs.Source.{Stream, lent}
@@ -28,6 +28,7 @@ use Rattle.stream_run.specs.Fault.{fault_of}
 use Rattle.stream_run.specs.Fetched.{IsFetch, IsMoment}
 use Rattle.capture_run.specs.Writing.{with_input}
 use Rattle.stream_run.specs.Sights.{Sight, answered, due, state_among, untold}
+use Rattle.stream_run.specs.Sieved.{kept}
 use Rattle.stream_run.specs.Read.{IsFaulty, IsRead, ReadsWith}
 use Rattle.stream_run.specs.Stage.{Drains, FailedAt, Lead, StandAt, StandBetween}
 use Rattle.stream_run.specs.Turns.{IsNoSooner}
@@ -51,7 +52,7 @@ pub record Run : Type 0 where
   -- of the changes, of the ports and of the underlay
   pub turns : List Turn
   pub state : State
-  -- how many events came
+  -- how many events were taken in
   pub number : ℕ
   pub drains : Drains
 
@@ -83,15 +84,19 @@ abbrev pub LendsWhere : Option ℕ → Stream → Type 0
 LendsWhere None s = ⊤
 LendsWhere (Some moment) s = IsSome (lent s.standing)
 
--- the turns tell the next events, none of which is before the last one
-pub record AreReady (changes : List TimedChange) (r : Run) : Type 0 where
+-- no next event of a source is before this moment
+abbrev pub AreBehind : ℕ → List Turn → Type 0
+AreBehind m turns = (t : Turn) (k : ℕ) → k < length turns → IsNoSooner m (slice_index_or turns k t).next
+
+-- the turns tell the next events, none of which is before the last one that was taken in; of no source came more than so many
+pub record AreReady (changes : List TimedChange) (count : ℕ) (r : Run) : Type 0 where
   pub timely : AreTimely changes
   pub size : length r.turns ≡ length r.ports + 2
   pub few : length r.ports ≤ 16
   pub known : length r.ports ≡ length r.state.bridges.settings.ports.ports
-  pub behind : (t : Turn) (k : ℕ) → k < length r.turns → IsNoSooner r.state.moment (slice_index_or r.turns k t).next
+  pub behind : AreBehind r.state.moment r.turns
   pub moments : (t : Turn) (k : ℕ) → k < length r.turns → IsMoment (slice_index_or r.turns k t).next
-  pub done : (t : Turn) (k : ℕ) → k < length r.turns → (slice_index_or r.turns k t).done ≤ r.number
+  pub done : (t : Turn) (k : ℕ) → k < length r.turns → (slice_index_or r.turns k t).done ≤ count
   pub change : (t : Turn) → (slice_index_or r.turns 0 t).next ≡ moment_at changes (slice_index_or r.turns 0 t).done
   pub heads : (place : Tap) (index : ℕ) (t : Turn) → IsAt (length r.ports) index place → LendsWhere (slice_index_or r.turns index t).next (source_at r.ports r.underlay place)
 
@@ -223,6 +228,12 @@ module _ {T : Type 0} where
   StayBut index old new (Err (stream.Run fault)) =
       (place : Tap) × (s : Stream) × IsAt (length old.ports) index place × IsChangedAt place old.ports old.underlay new.ports new.underlay s
 
+module _ {T : Type 0} where
+  -- a write fails only at an event that is taken in
+  abbrev pub FailsWhere : Bool → Result T StreamFault → Type 0
+  FailsWhere takes (Err (stream.Write target)) = takes ≡ true
+  FailsWhere takes result = ⊤
+
 -- of the source with this index one event more came
 pub record CountsOne (index : ℕ) (old new : List Turn) : Type 0 where
   pub there : index < length old
@@ -230,20 +241,24 @@ pub record CountsOne (index : ℕ) (old new : List Turn) : Type 0 where
   pub changed : new ≡ slice_set old index turn
   pub count : (t : Turn) → turn.done ≡ (slice_index_or old index t).done + 1
 
--- an event came, and the next one of its source was asked for
+-- an event came and was taken in, or left out, and the next one of its source was asked for
 pub record IsStep (segments : Segments) (changes : List TimedChange) (old new : Run) (first : First) (result : Result (Unit {0}) StreamFault) : Type 0 where
   pub e : Event
+  -- whether it is taken in
+  pub takes : Bool
   pub moment : e.moment ≡ first.moment
-  pub time : old.state.moment ≤ e.moment
+  pub time : (m : ℕ) → AreBehind m old.turns → m ≤ e.moment
   pub next : (t : Turn) → IsNextEvent old.ports old.underlay first.index (slice_index_or old.turns first.index t).done first.moment e
-  pub state : new.state ≡ after_among segments old.state (event_of (changes_of changes) e)
-  pub number : new.number ≡ old.number + 1
+  pub state : new.state ≡ state_among segments (changes_of changes) old.state (kept takes e)
+  pub number : new.number ≡ old.number + length (kept takes e)
+  pub failed : FailsWhere takes result
   pub turns : OnOk result (CountsOne first.index old.turns new.turns)
   pub stay : StayBut first.index old new result
   pub outputs : (start : Drains) (o : Outputs) → StandAt start old.drains o
-      → StepsTo start new.drains o (with_event_among segments (changes_of changes) (old.number + 1) old.state o e) result
+      → StepsTo start new.drains o (with_events_among segments (changes_of changes) old.number old.state o (kept takes e)) result
   pub order : (start : Drains) (o : Outputs) → StandAt start old.drains o → StepsInOrder (changes_of changes) start new.drains (old.number + 1) old.state o e result
-  pub ready : OnOk result (AreReady changes new)
+  pub ready : (count : ℕ) → AreReady changes count old → OnOk result (AreReady changes (count + 1) new)
+  pub later : OnOk result (AreBehind e.moment new.turns)
   pub reads : ReadsWith old.ports old.underlay new.ports new.underlay result
   pub told : (texts : List (List ℕ)) (text : List ℕ) → AreRead texts text old.turns old.ports old.underlay → ComesFirst changes texts text old new e result
 
@@ -254,19 +269,19 @@ abbrev pub texts_behind : Segments → List TimedChange → State → Outputs �
 texts_behind segments changes s o es = with_events_among segments (changes_of changes) 0 s o es
 
 module _ {T : Type 0} where
-  -- the outputs hold the texts of these events, and where a write failed a part of those of one event more, and the other
+  -- the outputs hold the texts of what is taken in of these events, and where a write failed a part of those of one event more, and the other
   -- outputs a part of them too
-  abbrev pub LeadsBehind : Segments → List TimedChange → State → Drains → Drains → Outputs → List Event → List Event → Result T StreamFault → Type 0
-  LeadsBehind segments changes s start new o es more (Err (stream.Write target)) =
-      StandBetween start new (texts_behind segments changes s o es) (texts_behind segments changes s o (es ++ more)) × FailedAt target start new
-  LeadsBehind segments changes s start new o es more result = StandAt start new (texts_behind segments changes s o es)
+  abbrev pub LeadsBehind : (List Event → List Event) → Segments → List TimedChange → State → Drains → Drains → Outputs → List Event → List Event → Result T StreamFault → Type 0
+  LeadsBehind taken segments changes s start new o es more (Err (stream.Write target)) =
+      StandBetween start new (texts_behind segments changes s o (taken es)) (texts_behind segments changes s o (taken (es ++ more))) × FailedAt target start new
+  LeadsBehind taken segments changes s start new o es more result = StandAt start new (texts_behind segments changes s o (taken es))
 
   -- of the event of which a part was written, its texts stand in order
-  abbrev pub EndsInOrder : Segments → List TimedChange → State → Drains → Drains → Outputs → List Event → List Event → Result T StreamFault → Type 0
-  EndsInOrder segments changes s start new o es more (Err (stream.Write target)) =
+  abbrev pub EndsInOrder : (List Event → List Event) → Segments → List TimedChange → State → Drains → Drains → Outputs → List Event → List Event → Result T StreamFault → Type 0
+  EndsInOrder taken segments changes s start new o es more (Err (stream.Write target)) =
       (e : Event) → more ≡ e ∷ []
-      → StandsInEvent (changes_of changes) start new (length es + 1) (state_among segments (changes_of changes) s es) (texts_behind segments changes s o es) e
-  EndsInOrder segments changes s start new o es more result = ⊤
+      → StandsInEvent (changes_of changes) start new (length (taken es) + 1) (state_among segments (changes_of changes) s (taken es)) (texts_behind segments changes s o (taken es)) e
+  EndsInOrder taken segments changes s start new o es more result = ⊤
 
   -- a run that ends for want of memory is one for want of numbers: just as many events came as can be numbered
   abbrev pub EndsNumbered : List Event → Result T StreamFault → Type 0
@@ -296,17 +311,17 @@ pub record AreFirst (changes : List TimedChange) (texts : List (List ℕ)) (text
   pub read_on : AreReadBehind texts text es new.ports new.underlay result
   pub ends : EndsIn texts text es rest new result
 
--- some events came, one after another
-pub record IsRunOn (segments : Segments) (changes : List TimedChange) (old new : Run) (result : Result (Unit {0}) StreamFault) : Type 0 where
+-- some events came, one after another, and were taken in or left out
+pub record IsRunOn (taken : List Event → List Event) (segments : Segments) (changes : List TimedChange) (old new : Run) (result : Result (Unit {0}) StreamFault) : Type 0 where
   pub es : List Event
   pub more : List Event
   pub part : IsPart more result
   pub numbered : EndsNumbered es result
   pub rising : IsRising old.state.moment (es ++ more)
-  pub outputs : (start : Drains) (o : Outputs) → StandAt start old.drains o → LeadsBehind segments changes old.state start new.drains o es more result
-  pub order : (start : Drains) (o : Outputs) → StandAt start old.drains o → EndsInOrder segments changes old.state start new.drains o es more result
+  pub outputs : (start : Drains) (o : Outputs) → StandAt start old.drains o → LeadsBehind taken segments changes old.state start new.drains o es more result
+  pub order : (start : Drains) (o : Outputs) → StandAt start old.drains o → EndsInOrder taken segments changes old.state start new.drains o es more result
   pub reads : ReadsWith old.ports old.underlay new.ports new.underlay result
   -- and none is left
   pub over : OnOk result ((t : Turn) (k : ℕ) → k < length new.turns → (slice_index_or new.turns k t).next ≡ None)
-  pub ready : OnOk result (AreReady changes new)
+  pub ready : OnOk result (AreReady changes (length es) new)
   pub told : (texts : List (List ℕ)) (text : List ℕ) → AreRead texts text old.turns old.ports old.underlay → AreFirst changes texts text old new es more result

@@ -87,8 +87,8 @@ pub fn fetch_all<R: Input>(
     requires few { length captures.old.ports.items ≤ 16 }
     requires size { length turns.old ≡ length captures.old.ports.items + 2 }
     requires open { (place : ATap) (index : ℕ) → IsAt (length captures.old.ports.items) index place → IsOpen (source_at captures.old.ports.items captures.old.underlay place).standing }
-    ensures ready { (state : State) (d : Drains) → state.moment ≡ 0 → AreReady changes.now (run_at captures.old.ports.items captures.old.underlay turns.old state 0 d)
-        → OnOk result (AreReady changes.now (run_at captures.new.ports.items captures.new.underlay turns.new state 0 d)) }
+    ensures ready { (state : State) (d : Drains) → state.moment ≡ 0 → AreReady changes.now 0 (run_at captures.old.ports.items captures.old.underlay turns.old state 0 d)
+        → OnOk result (AreReady changes.now 0 (run_at captures.new.ports.items captures.new.underlay turns.new state 0 d)) }
     ensures told { (texts : List (List ℕ)) (text : List ℕ) → AreAtFirst texts text captures.old.ports.items captures.old.underlay → BeginsIn texts text turns.new captures.new.ports.items captures.new.underlay result }
     ensures many { length captures.new.ports.items ≡ length captures.old.ports.items }
     ensures reads { ReadsWith captures.old.ports.items captures.old.underlay captures.new.ports.items captures.new.underlay result }

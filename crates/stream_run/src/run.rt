@@ -8,12 +8,12 @@ ghost use Rattle.overlay_settings.specs.Settings.{Settings};
 ghost use Rattle.endpoint_core.specs.Kept.{state_of};
 ghost use Rattle.stream_run.specs.Begun.{IsUnread, first_turns};
 ghost use Rattle.stream_run.specs.Done.{IsDone};
-ghost use Rattle.stream_run.specs.Left.{Answers, AnswersAmong, CanBegin, IsOpenedWith, WritesWith, ends};
-ghost use Rattle.stream_run.specs.Over.{IsRunOver, IsRunOverAmong, IsWholeRun, Tells};
-ghost use Rattle.stream_run.specs.Reached.{IsReachedOver, IsReachedOverAmong};
+ghost use Rattle.stream_run.specs.Left.{Answers, AnswersAmong, AnswersSieved, CanBegin, IsOpenedWith, WritesWith, ends};
+ghost use Rattle.stream_run.specs.Over.{IsRunOver, IsRunOverAmong, IsRunOverSieved, IsWholeRun, Tells};
+ghost use Rattle.stream_run.specs.Reached.{IsReachedOver, IsReachedOverAmong, IsReachedOverSieved};
 ghost use Rattle.stream_run.specs.Read.{ReadsWith};
 ghost use Rattle.stream_run.specs.Steps.{AreTimely};
-ghost use Rattle.stream_run.specs.Watched.{IsShown, IsShownAmong, IsWatchedOver, IsWatchedOverAmong};
+ghost use Rattle.stream_run.specs.Watched.{GoesOver, IsShown, IsShownAmong, IsShownSieved, IsWatchedOver, IsWatchedOverAmong, IsWatchedOverSieved};
 
 use crate::begin::{begin_all, fetch_all, first_turns};
 use crate::captures::Captures;
@@ -22,6 +22,7 @@ use crate::fault::StreamFault;
 use crate::opening::open_all;
 use crate::outputs::Outputs;
 use crate::part::{Part, Taker};
+use crate::sieve::{Sieve, TakesAll};
 use crate::step::put_events;
 use crate::turn::Turn;
 use crate::watch::Watch;
@@ -172,6 +173,52 @@ pub fn run_read<R: Input, W: Output, T: Watch>(
     ensures reads { ReadsWith captures.old.ports.items captures.old.underlay captures.new.ports.items captures.new.underlay result }
     ensures writes { WritesWith outputs.old outputs.new result }
 {
+    run_sieved(
+        alloc,
+        read,
+        captures,
+        outputs,
+        segments,
+        &mut TakesAll,
+        watch,
+    )
+}
+
+/// Runs what [`run_read`] runs, of what a sieve takes in. It's asked about each event in order of moment. What it leaves out is
+/// read as ever, and counts in the numbers of its own capture, but it's not numbered in the run, shown, put to the endpoint or
+/// written. So a fault is answered as if nothing were left out, and behind it stand the texts of what was taken in of the events
+/// in front. `OutOfMemory` comes behind event 2^64 - 3, taken in or not.
+pub fn run_sieved<R: Input, W: Output, S: Sieve, T: Watch>(
+    alloc: Global,
+    read: ReadTexts,
+    captures: &mut Captures<R>,
+    outputs: &mut Outputs<W>,
+    segments: &SegmentSet,
+    sieve: &mut S,
+    watch: &mut T,
+) -> Result<(), StreamFault>
+    requires read { settings_in read.settings_text.now ≡ Ok read.settings }
+    requires told { changes_in read.changes_text.now ≡ Ok read.changes.now }
+    requires rising { EachBehind IsRising [] read.changes.now }
+    requires sinks { length outputs.old.ports ≡ length captures.old.ports.items }
+    requires new_ports { All IsUnread captures.old.ports.items }
+    requires new_underlay { IsUnread captures.old.underlay }
+    ensures run { AnswersSieved (S.taken sieve.old) segments.now (settings_in read.entry.settings_text.now) (changes_in read.entry.changes_text.now)
+        (ends captures.old.ports.items captures.old.underlay outputs.old)
+        (ends captures.new.ports.items captures.new.underlay outputs.new) result }
+    ensures over { (texts : List (AVec ℕ AGlobal)) (text : List ℕ) → Tells captures.old.ports.items captures.old.underlay texts text
+        → IsRunOverSieved (S.taken sieve.old) segments.now (settings_in read.entry.settings_text.now) (changes_in read.entry.changes_text.now) texts text outputs.old outputs.new result }
+    ensures reached { (texts : List (AVec ℕ AGlobal)) (text : List ℕ) → Tells captures.old.ports.items captures.old.underlay texts text
+        → IsReachedOverSieved (S.taken sieve.old) segments.now (settings_in read.entry.settings_text.now) (changes_in read.entry.changes_text.now) texts text outputs.old outputs.new captures.new.ports.items captures.new.underlay result }
+    ensures shown { IsShownSieved (S.taken sieve.old) segments.now T.sees T.ends (settings_in read.entry.settings_text.now) (changes_in read.entry.changes_text.now) captures.old.ports.items outputs.old outputs.new watch.old watch.new result }
+    ensures watched { (texts : List (AVec ℕ AGlobal)) (text : List ℕ) → Tells captures.old.ports.items captures.old.underlay texts text
+        → IsWatchedOverSieved (S.taken sieve.old) segments.now T.sees T.ends (settings_in read.entry.settings_text.now) (changes_in read.entry.changes_text.now) texts text outputs.old outputs.new watch.old watch.new result }
+    ensures sieved { (texts : List (AVec ℕ AGlobal)) (text : List ℕ) → Tells captures.old.ports.items captures.old.underlay texts text
+        → GoesOver S.goes (changes_in read.entry.changes_text.now) texts text sieve.old sieve.new result }
+    ensures many { length captures.new.ports.items ≡ length captures.old.ports.items }
+    ensures reads { ReadsWith captures.old.ports.items captures.old.underlay captures.new.ports.items captures.new.underlay result }
+    ensures writes { WritesWith outputs.old outputs.new result }
+{
     let ReadTexts {
         settings,
         changes,
@@ -181,16 +228,17 @@ pub fn run_read<R: Input, W: Output, T: Watch>(
         return Err(StreamFault::Run(RunFault::PortCount));
     }
     let part = Part { changes, segments };
-    run_with(alloc, settings, &part, captures, outputs, watch)
+    run_with(alloc, settings, &part, captures, outputs, sieve, watch)
 }
 
 /// The run with these settings, on as many captures as there are ports.
-fn run_with<R: Input, W: Output, T: Watch>(
+fn run_with<R: Input, W: Output, S: Sieve, T: Watch>(
     alloc: Global,
     settings: Settings,
     part: &Part,
     captures: &mut Captures<R>,
     outputs: &mut Outputs<W>,
+    sieve: &mut S,
     watch: &mut T,
 ) -> Result<(), StreamFault>
     requires few { length captures.old.ports.items ≤ 16 }
@@ -199,7 +247,7 @@ fn run_with<R: Input, W: Output, T: Watch>(
     requires timely { AreTimely part.now.changes.now }
     requires new_ports { All IsUnread captures.old.ports.items }
     requires new_underlay { IsUnread captures.old.underlay }
-    ensures done { IsDone part.now.segments.now T.sees T.ends settings part.now.changes.now captures.old.ports.items captures.old.underlay captures.new.ports.items captures.new.underlay outputs.old outputs.new watch.old watch.new result }
+    ensures done { IsDone part.now.segments.now S.taken S.goes T.sees T.ends settings part.now.changes.now captures.old.ports.items captures.old.underlay captures.new.ports.items captures.new.underlay outputs.old outputs.new sieve.old sieve.new watch.old watch.new result }
     ensures many { length captures.new.ports.items ≡ length captures.old.ports.items }
     ensures reads { ReadsWith captures.old.ports.items captures.old.underlay captures.new.ports.items captures.new.underlay result }
 {
@@ -219,17 +267,19 @@ fn run_with<R: Input, W: Output, T: Watch>(
         turns.as_mut_slice(),
         &mut taker,
         outputs,
+        sieve,
         watch,
     )
 }
 
 /// The run with an endpoint that was opened just now, whose steps are lent what they need.
-fn run_on<R: Input, W: Output, T: Watch>(
+fn run_on<R: Input, W: Output, S: Sieve, T: Watch>(
     part: &Part,
     captures: &mut Captures<R>,
     turns: &mut [Turn],
     taker: &mut Taker,
     outputs: &mut Outputs<W>,
+    sieve: &mut S,
     watch: &mut T,
 ) -> Result<(), StreamFault>
     requires few { length captures.old.ports.items ≤ 16 }
@@ -241,7 +291,7 @@ fn run_on<R: Input, W: Output, T: Watch>(
     requires new_ports { All IsUnread captures.old.ports.items }
     requires new_underlay { IsUnread captures.old.underlay }
     ensures done { (settings : Settings) → IsOpenedWith settings captures.old.ports.items (state_of taker.old.endpoint)
-        → IsDone part.now.segments.now T.sees T.ends settings part.now.changes.now captures.old.ports.items captures.old.underlay captures.new.ports.items captures.new.underlay outputs.old outputs.new watch.old watch.new result }
+        → IsDone part.now.segments.now S.taken S.goes T.sees T.ends settings part.now.changes.now captures.old.ports.items captures.old.underlay captures.new.ports.items captures.new.underlay outputs.old outputs.new sieve.old sieve.new watch.old watch.new result }
     ensures many { length captures.new.ports.items ≡ length captures.old.ports.items }
     ensures reads { ReadsWith captures.old.ports.items captures.old.underlay captures.new.ports.items captures.new.underlay result }
 {
@@ -254,7 +304,7 @@ fn run_on<R: Input, W: Output, T: Watch>(
     if let Err(fault) = fetch_all(part.changes, captures, turns) {
         return Err(fault);
     }
-    if let Err(fault) = put_events(part, captures, turns, taker, outputs, watch) {
+    if let Err(fault) = put_events(part, captures, turns, taker, outputs, sieve, watch) {
         return Err(fault);
     }
     let line = &mut taker.desk.line;

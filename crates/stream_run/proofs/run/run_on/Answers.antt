@@ -11,7 +11,7 @@ use Rattle.stream_run.specs.Left.{IsOpenedWith, ends}
 use Rattle.stream_run.specs.Over.{Tells, texts_octets}
 use Rattle.stream_run.specs.Stage.{FailedAt, StandAt, StandBetween, no_texts}
 use Rattle.stream_run.specs.Steps.{AreRead, AreReady, run_at, texts_behind}
-use Rattle.stream_run.proofs.Closing.{opened_read, over_lines, over_opening, over_run, over_whole, reach_lines, reach_opening, reach_run, reach_whole, seen_lines, seen_opening, seen_run, seen_whole}
+use Rattle.stream_run.proofs.Closing.{opened_read, over_lines, over_opening, over_run, over_whole, reach_lines, reach_opening, reach_run, reach_whole, seen_lines, seen_opening, seen_run, seen_whole, went_whole}
 use Rattle.stream_run.proofs.Framing.{leaves_all, leaves_begun, leaves_cuts, leaves_events, leaves_headers, leaves_nothing, none_at, opened_all, opens_only_reads, ready_begun}
 use Rattle.stream_run.proofs.Opened.{reads_behind}
 use Rattle.stream_run.proofs.Overall.{all_first, over_firsts, over_headers, reach_firsts, reach_headers, seen_firsts, seen_headers, tells_texts}
@@ -55,12 +55,12 @@ at_first g c texts text tells = opened_read c.args.captures.now.ports.items c.op
 
 -- the first records were fetched
 ready : (g : Over) (c : In_default-fetch_all g) (settings : Settings) → IsOpenedWith settings c.args.captures.now.ports.items (state_of c.args.taker.now.endpoint)
-    → AreReady c.args.part.now.changes.now (run_at c.fetch_all.new.captures.ports.items c.fetch_all.new.captures.underlay c.fetch_all.new.turns (state_of c.args.taker.now.endpoint) 0 c.begin_all.new.outputs)
+    → AreReady c.args.part.now.changes.now 0 (run_at c.fetch_all.new.captures.ports.items c.fetch_all.new.captures.underlay c.fetch_all.new.turns (state_of c.args.taker.now.endpoint) 0 c.begin_all.new.outputs)
 ready g c settings is =
     let begun = c.begin_all.new.outputs in
     let many : length c.open_all.new.captures.ports.items ≡ length c.args.captures.now.ports.items = omega (arith, c.in_default.ensures.many) in
     let turns : c.args.turns.now ≡ _ = c.requires.turns ∙ ap (λ n. first_turns c.args.part.now.changes.now (n + 1)) (sym many) in
-    subst (λ ts. AreReady c.args.part.now.changes.now (run_at c.fetch_all.new.captures.ports.items c.fetch_all.new.captures.underlay ts (state_of c.args.taker.now.endpoint) 0 begun)) refl
+    subst (λ ts. AreReady c.args.part.now.changes.now 0 (run_at c.fetch_all.new.captures.ports.items c.fetch_all.new.captures.underlay ts (state_of c.args.taker.now.endpoint) 0 begun)) refl
     (c.in_default-fetch_all.ensures.ready (state_of c.args.taker.now.endpoint) begun (ap (λ (s : State). s.moment) is.state_is)
     (ready_begun c.args.part.now.changes.now c.open_all.new.captures.ports.items c.open_all.new.captures.underlay settings (state_of c.args.taker.now.endpoint) begun _ c.requires.timely (omega (arith, many, c.requires.few)) (many ∙ is.many) is.state_is turns))
 
@@ -70,19 +70,19 @@ read g c texts text at = subst (λ ts. AreRead (texts_octets texts) text ts c.fe
 
 -- behind the events
 abbrev texts_put : (g : Over) → After-put_cuts_among g → ℕ → Outputs
-texts_put g c n = texts_behind c.args.part.now.segments.now c.args.part.now.changes.now (state_of c.args.taker.now.endpoint) (empty_outputs n) c.in_default-put_events.ensures.run.run.es
+texts_put g c n = texts_behind c.args.part.now.segments.now c.args.part.now.changes.now (state_of c.args.taker.now.endpoint) (empty_outputs n) (g.S.Sieve.taken c.args.sieve.now c.in_default-put_events.ensures.run.watched.run.es)
 
 events_written : (g : Over) (c : After-put_cuts_among g) (n : ℕ) → let start = c.args.outputs.now in let begun = c.begin_all.new.outputs in StandAt start begun (empty_outputs n)
     → StandAt start c.put_events.new.outputs (texts_put g c n)
-events_written g c n at = c.in_default-put_events.ensures.run.run.outputs c.args.outputs.now (empty_outputs n) at
+events_written g c n at = c.in_default-put_events.ensures.run.watched.run.outputs c.args.outputs.now (empty_outputs n) at
 
 -- where a line of a cut capture failed, they hold a part of those lines
 lines_failed : (g : Over) (c : In-Err-put_cuts_among g) (n : ℕ)
-    → let start = c.args.outputs.now in let o = texts_behind c.args.part.now.segments.now c.args.part.now.changes.now (state_of c.args.taker.now.endpoint) (empty_outputs n) c.in_default-put_events.ensures.run.run.es in StandAt start c.put_events.new.outputs o
+    → let start = c.args.outputs.now in let o = texts_behind c.args.part.now.segments.now c.args.part.now.changes.now (state_of c.args.taker.now.endpoint) (empty_outputs n) (g.S.Sieve.taken c.args.sieve.now c.in_default-put_events.ensures.run.watched.run.es) in StandAt start c.put_events.new.outputs o
     → let cut = c.put_cuts_among.new.outputs in StandBetween start cut o (with_cuts o (cuts_among c.args.part.now.segments.now (cuts_at c.put_events.new.captures.ports.items c.put_events.new.captures.underlay c.put_events.new.turns))) × FailedAt c.in-Err-put_cuts_among.target start cut
 lines_failed g c n put =
     let start = c.args.outputs.now in
-    let o = texts_behind c.args.part.now.segments.now c.args.part.now.changes.now (state_of c.args.taker.now.endpoint) (empty_outputs n) c.in_default-put_events.ensures.run.run.es in
+    let o = texts_behind c.args.part.now.segments.now c.args.part.now.changes.now (state_of c.args.taker.now.endpoint) (empty_outputs n) (g.S.Sieve.taken c.args.sieve.now c.in_default-put_events.ensures.run.watched.run.es) in
     let cut = c.put_cuts_among.new.outputs in
     subst (λ ts. StandBetween start cut o (with_cuts o (cuts_among c.args.part.now.segments.now (cuts_at c.put_events.new.captures.ports.items c.put_events.new.captures.underlay ts))) × FailedAt c.in-Err-put_cuts_among.target start cut) refl
     (c.in-Err-put_cuts_among.ensures start o put)
@@ -96,14 +96,15 @@ returns-in-Err-clause-done g c settings is =
     let none = none_written g w.After-open_all in
     let only_reads = opens_only_reads c.args.captures.now.ports.items c.args.captures.now.underlay c.open_all.new.captures.ports.items c.open_all.new.captures.underlay c.in-Err.fault c.in-Err.ensures.opened in
     record {
-      left = leaves_nothing c.args.part.now.segments.now settings c.args.part.now.changes.now (ends c.args.captures.now.ports.items c.args.captures.now.underlay start) (ends c.open_all.new.captures.ports.items c.open_all.new.captures.underlay start) c.in-Err.fault only_reads (none (length settings.ports) is.many);
-      shown = shows_nothing c.args.part.now.segments.now settings c.args.part.now.changes.now start start g.T.Watch.sees g.T.Watch.ends c.args.watch.now c.in-Err.fault only_reads (none (length settings.ports) is.many);
+      left = leaves_nothing (g.S.Sieve.taken c.args.sieve.now) (g.S.Sieve.none c.args.sieve.now) c.args.part.now.segments.now settings c.args.part.now.changes.now (ends c.args.captures.now.ports.items c.args.captures.now.underlay start) (ends c.open_all.new.captures.ports.items c.open_all.new.captures.underlay start) c.in-Err.fault only_reads (none (length settings.ports) is.many);
+      shown = shows_nothing (g.S.Sieve.taken c.args.sieve.now) (g.S.Sieve.none c.args.sieve.now) c.args.part.now.segments.now settings c.args.part.now.changes.now start start g.T.Watch.sees g.T.Watch.ends c.args.watch.now c.in-Err.fault only_reads (none (length settings.ports) is.many);
       over = λ texts text tells.
           let many = tells_texts c.args.captures.now.ports.items c.args.captures.now.underlay texts text tells in
           record {
-            left = over_opening c.args.part.now.segments.now settings c.args.part.now.changes.now texts text start start c.args.captures.now.ports.items c.open_all.new.captures.ports.items c.args.captures.now.underlay c.open_all.new.captures.underlay c.in-Err.fault tells c.in-Err.ensures.opened (sym many ∙ is.many) (none (length texts) many);
-            reached = reach_opening c.args.part.now.segments.now settings c.args.part.now.changes.now texts text start start c.args.captures.now.ports.items c.open_all.new.captures.ports.items c.args.captures.now.underlay c.open_all.new.captures.underlay c.in-Err.fault c.in-Err.ensures.opened (none (length texts) many);
-            seen = seen_opening c.args.part.now.segments.now settings c.args.part.now.changes.now texts text start g.T.Watch.sees g.T.Watch.ends c.args.watch.now start c.args.captures.now.ports.items c.open_all.new.captures.ports.items c.args.captures.now.underlay c.open_all.new.captures.underlay c.in-Err.fault c.in-Err.ensures.opened (none (length texts) many);
+            left = over_opening (g.S.Sieve.taken c.args.sieve.now) (g.S.Sieve.none c.args.sieve.now) c.args.part.now.segments.now settings c.args.part.now.changes.now texts text start start c.args.captures.now.ports.items c.open_all.new.captures.ports.items c.args.captures.now.underlay c.open_all.new.captures.underlay c.in-Err.fault tells c.in-Err.ensures.opened (sym many ∙ is.many) (none (length texts) many);
+            reached = reach_opening (g.S.Sieve.taken c.args.sieve.now) (g.S.Sieve.none c.args.sieve.now) c.args.part.now.segments.now settings c.args.part.now.changes.now texts text start start c.args.captures.now.ports.items c.open_all.new.captures.ports.items c.args.captures.now.underlay c.open_all.new.captures.underlay c.in-Err.fault c.in-Err.ensures.opened (none (length texts) many);
+            seen = seen_opening (g.S.Sieve.taken c.args.sieve.now) (g.S.Sieve.none c.args.sieve.now) c.args.part.now.segments.now settings c.args.part.now.changes.now texts text start g.T.Watch.sees g.T.Watch.ends c.args.watch.now start c.args.captures.now.ports.items c.open_all.new.captures.ports.items c.args.captures.now.underlay c.open_all.new.captures.underlay c.in-Err.fault c.in-Err.ensures.opened (none (length texts) many);
+            went = tt;
           };
     }
 
@@ -116,16 +117,17 @@ returns-in-Err-begin_all-clause-done g c settings is =
     let begun = c.begin_all.new.outputs in
     let failed = header_failed g w.In-Err-begin_all in
     record {
-      left = leaves_begun c.args.part.now.segments.now settings c.args.part.now.changes.now (ends c.args.captures.now.ports.items c.args.captures.now.underlay start) (ends c.open_all.new.captures.ports.items c.open_all.new.captures.underlay begun) c.in-Err-begin_all.target (failed (length settings.ports) is.many);
-      shown = shows_begun c.args.part.now.segments.now settings c.args.part.now.changes.now start begun g.T.Watch.sees g.T.Watch.ends c.args.watch.now c.in-Err-begin_all.target (failed (length settings.ports) is.many).0;
+      left = leaves_begun (g.S.Sieve.taken c.args.sieve.now) (g.S.Sieve.none c.args.sieve.now) c.args.part.now.segments.now settings c.args.part.now.changes.now (ends c.args.captures.now.ports.items c.args.captures.now.underlay start) (ends c.open_all.new.captures.ports.items c.open_all.new.captures.underlay begun) c.in-Err-begin_all.target (failed (length settings.ports) is.many);
+      shown = shows_begun (g.S.Sieve.taken c.args.sieve.now) (g.S.Sieve.none c.args.sieve.now) c.args.part.now.segments.now settings c.args.part.now.changes.now start begun g.T.Watch.sees g.T.Watch.ends c.args.watch.now c.in-Err-begin_all.target (failed (length settings.ports) is.many).0;
       over = λ texts text tells.
           let many = tells_texts c.args.captures.now.ports.items c.args.captures.now.underlay texts text tells in
           let half = (failed (length texts) many).0 in
           let can = all_first texts text c.open_all.new.captures.ports.items c.open_all.new.captures.underlay (opened_read c.args.captures.now.ports.items c.open_all.new.captures.ports.items c.args.captures.now.underlay c.open_all.new.captures.underlay texts text tells (omega (arith, c.in_default.ensures.many)) c.in_default.ensures.opened) in
           record {
-            left = over_headers c.args.part.now.segments.now settings c.args.part.now.changes.now texts text start begun c.in-Err-begin_all.target can half;
-            reached = reach_headers c.args.part.now.segments.now settings c.args.part.now.changes.now texts text start begun c.open_all.new.captures.ports.items c.open_all.new.captures.underlay c.in-Err-begin_all.target can half;
-            seen = seen_headers c.args.part.now.segments.now settings c.args.part.now.changes.now texts text start begun g.T.Watch.sees g.T.Watch.ends c.args.watch.now c.in-Err-begin_all.target can half;
+            left = over_headers (g.S.Sieve.taken c.args.sieve.now) (g.S.Sieve.none c.args.sieve.now) c.args.part.now.segments.now settings c.args.part.now.changes.now texts text start begun c.in-Err-begin_all.target can half;
+            reached = reach_headers (g.S.Sieve.taken c.args.sieve.now) (g.S.Sieve.none c.args.sieve.now) c.args.part.now.segments.now settings c.args.part.now.changes.now texts text start begun c.open_all.new.captures.ports.items c.open_all.new.captures.underlay c.in-Err-begin_all.target can half;
+            seen = seen_headers (g.S.Sieve.taken c.args.sieve.now) (g.S.Sieve.none c.args.sieve.now) c.args.part.now.segments.now settings c.args.part.now.changes.now texts text start begun g.T.Watch.sees g.T.Watch.ends c.args.watch.now c.in-Err-begin_all.target can half;
+            went = tt;
           };
     }
 
@@ -141,8 +143,8 @@ returns-in-Err-fetch_all-clause-done g c settings is =
     let begun = c.begin_all.new.outputs in
     let headers = headers_written g w.After-fetch_all in
     record {
-      left = leaves_headers c.args.part.now.segments.now settings c.args.part.now.changes.now (ends c.args.captures.now.ports.items c.args.captures.now.underlay start) (ends c.fetch_all.new.captures.ports.items c.fetch_all.new.captures.underlay begun) c.in-Err-fetch_all.fault c.in-Err-fetch_all.ensures.only_reads (headers (length settings.ports) is.many);
-      shown = shows_headers c.args.part.now.segments.now settings c.args.part.now.changes.now start begun g.T.Watch.sees g.T.Watch.ends c.args.watch.now c.in-Err-fetch_all.fault c.in-Err-fetch_all.ensures.only_reads (headers (length settings.ports) is.many);
+      left = leaves_headers (g.S.Sieve.taken c.args.sieve.now) (g.S.Sieve.none c.args.sieve.now) c.args.part.now.segments.now settings c.args.part.now.changes.now (ends c.args.captures.now.ports.items c.args.captures.now.underlay start) (ends c.fetch_all.new.captures.ports.items c.fetch_all.new.captures.underlay begun) c.in-Err-fetch_all.fault c.in-Err-fetch_all.ensures.only_reads (headers (length settings.ports) is.many);
+      shown = shows_headers (g.S.Sieve.taken c.args.sieve.now) (g.S.Sieve.none c.args.sieve.now) c.args.part.now.segments.now settings c.args.part.now.changes.now start begun g.T.Watch.sees g.T.Watch.ends c.args.watch.now c.in-Err-fetch_all.fault c.in-Err-fetch_all.ensures.only_reads (headers (length settings.ports) is.many);
       over = λ texts text tells.
           let many = tells_texts c.args.captures.now.ports.items c.args.captures.now.underlay texts text tells in
           let at = headers (length texts) many in
@@ -150,9 +152,10 @@ returns-in-Err-fetch_all-clause-done g c settings is =
           let can = all_first texts text c.open_all.new.captures.ports.items c.open_all.new.captures.underlay first in
           let told = c.in-Err-fetch_all.ensures.told (texts_octets texts) text first in
           record {
-            left = over_firsts c.args.part.now.segments.now settings c.args.part.now.changes.now texts text start begun c.in-Err-fetch_all.fault c.fetch_all.new.turns c.fetch_all.new.captures.ports.items c.fetch_all.new.captures.underlay told can at;
-            reached = reach_firsts c.args.part.now.segments.now settings c.args.part.now.changes.now texts text start begun c.in-Err-fetch_all.fault c.fetch_all.new.turns c.fetch_all.new.captures.ports.items c.fetch_all.new.captures.underlay told can at;
-            seen = seen_firsts c.args.part.now.segments.now settings c.args.part.now.changes.now texts text start begun g.T.Watch.sees g.T.Watch.ends c.args.watch.now c.in-Err-fetch_all.fault c.fetch_all.new.turns c.fetch_all.new.captures.ports.items c.fetch_all.new.captures.underlay told can at;
+            left = over_firsts (g.S.Sieve.taken c.args.sieve.now) (g.S.Sieve.none c.args.sieve.now) c.args.part.now.segments.now settings c.args.part.now.changes.now texts text start begun c.in-Err-fetch_all.fault c.fetch_all.new.turns c.fetch_all.new.captures.ports.items c.fetch_all.new.captures.underlay told can at;
+            reached = reach_firsts (g.S.Sieve.taken c.args.sieve.now) (g.S.Sieve.none c.args.sieve.now) c.args.part.now.segments.now settings c.args.part.now.changes.now texts text start begun c.in-Err-fetch_all.fault c.fetch_all.new.turns c.fetch_all.new.captures.ports.items c.fetch_all.new.captures.underlay told can at;
+            seen = seen_firsts (g.S.Sieve.taken c.args.sieve.now) (g.S.Sieve.none c.args.sieve.now) c.args.part.now.segments.now settings c.args.part.now.changes.now texts text start begun g.T.Watch.sees g.T.Watch.ends c.args.watch.now c.in-Err-fetch_all.fault c.fetch_all.new.turns c.fetch_all.new.captures.ports.items c.fetch_all.new.captures.underlay told can at;
+            went = tt;
           };
     }
 
@@ -172,22 +175,23 @@ returns-in-Err-put_events-clause-done g c settings is =
     let begun = c.begin_all.new.outputs in
     let headers = headers_written g w.After-fetch_all in
     let all_ready = ready g w.In_default-fetch_all settings is in
-    let run = c.in-Err-put_events.ensures.run.run in
+    let run = c.in-Err-put_events.ensures.run.watched.run in
     let n = length settings.ports in
     record {
-      left = leaves_events c.args.part.now.segments.now settings c.args.part.now.changes.now (ends c.args.captures.now.ports.items c.args.captures.now.underlay start) (ends c.put_events.new.captures.ports.items c.put_events.new.captures.underlay c.put_events.new.outputs) (state_of c.args.taker.now.endpoint) run.es run.more c.in-Err-put_events.fault is.state_is run.part run.numbered
+      left = leaves_events (g.S.Sieve.taken c.args.sieve.now) (g.S.Sieve.none c.args.sieve.now) c.args.part.now.segments.now settings c.args.part.now.changes.now (ends c.args.captures.now.ports.items c.args.captures.now.underlay start) (ends c.put_events.new.captures.ports.items c.put_events.new.captures.underlay c.put_events.new.outputs) (state_of c.args.taker.now.endpoint) run.es run.more c.in-Err-put_events.fault is.state_is run.part run.numbered
           (run.outputs start (empty_outputs n) (headers n is.many)) (run.order start (empty_outputs n) (headers n is.many));
-      shown = shows_events c.args.part.now.segments.now settings c.args.part.now.changes.now start begun g.T.Watch.sees g.T.Watch.ends c.args.watch.now
-          (run_at c.fetch_all.new.captures.ports.items c.fetch_all.new.captures.underlay c.fetch_all.new.turns (state_of c.args.taker.now.endpoint) 0 begun) _ is.state_is (headers n is.many) c.put_events.new.watch c.in-Err-put_events.fault c.in-Err-put_events.ensures.run;
+      shown = shows_events (g.S.Sieve.taken c.args.sieve.now) (g.S.Sieve.none c.args.sieve.now) c.args.part.now.segments.now settings c.args.part.now.changes.now start begun g.T.Watch.sees g.T.Watch.ends c.args.watch.now
+          (run_at c.fetch_all.new.captures.ports.items c.fetch_all.new.captures.underlay c.fetch_all.new.turns (state_of c.args.taker.now.endpoint) 0 begun) _ is.state_is (headers n is.many) c.put_events.new.watch c.in-Err-put_events.fault c.in-Err-put_events.ensures.run.watched;
       over = λ texts text tells.
           let many = tells_texts c.args.captures.now.ports.items c.args.captures.now.underlay texts text tells in
           let at = headers (length texts) many in
           let first = read g w.In_default-fetch_all texts text (at_first g w.After-fetch_all texts text tells) in
           record {
-            left = over_run c.args.part.now.segments.now settings c.args.part.now.changes.now texts text start c.fetch_all.new.captures.ports.items c.fetch_all.new.captures.underlay c.fetch_all.new.turns (state_of c.args.taker.now.endpoint) begun _ all_ready first at is.state_is c.in-Err-put_events.fault run;
-            reached = reach_run c.args.part.now.segments.now settings c.args.part.now.changes.now texts text start c.fetch_all.new.captures.ports.items c.fetch_all.new.captures.underlay c.fetch_all.new.turns (state_of c.args.taker.now.endpoint) begun _ all_ready first at is.state_is c.in-Err-put_events.fault run;
-            seen = seen_run c.args.part.now.segments.now settings c.args.part.now.changes.now texts text start c.fetch_all.new.captures.ports.items c.fetch_all.new.captures.underlay c.fetch_all.new.turns (state_of c.args.taker.now.endpoint) begun _ all_ready first at is.state_is
-                g.T.Watch.sees g.T.Watch.ends c.args.watch.now c.in-Err-put_events.fault c.put_events.new.watch c.in-Err-put_events.ensures.run;
+            left = over_run (g.S.Sieve.taken c.args.sieve.now) (g.S.Sieve.none c.args.sieve.now) c.args.part.now.segments.now settings c.args.part.now.changes.now texts text start c.fetch_all.new.captures.ports.items c.fetch_all.new.captures.underlay c.fetch_all.new.turns (state_of c.args.taker.now.endpoint) begun _ all_ready first at is.state_is c.in-Err-put_events.fault run;
+            reached = reach_run (g.S.Sieve.taken c.args.sieve.now) (g.S.Sieve.none c.args.sieve.now) c.args.part.now.segments.now settings c.args.part.now.changes.now texts text start c.fetch_all.new.captures.ports.items c.fetch_all.new.captures.underlay c.fetch_all.new.turns (state_of c.args.taker.now.endpoint) begun _ all_ready first at is.state_is c.in-Err-put_events.fault run;
+            seen = seen_run (g.S.Sieve.taken c.args.sieve.now) (g.S.Sieve.none c.args.sieve.now) c.args.part.now.segments.now settings c.args.part.now.changes.now texts text start c.fetch_all.new.captures.ports.items c.fetch_all.new.captures.underlay c.fetch_all.new.turns (state_of c.args.taker.now.endpoint) begun _ all_ready first at is.state_is
+                g.T.Watch.sees g.T.Watch.ends c.args.watch.now c.in-Err-put_events.fault c.put_events.new.watch c.in-Err-put_events.ensures.run.watched;
+            went = tt;
           };
     }
 
@@ -195,7 +199,7 @@ pub returns-in-Err-put_events-clause-reads : goal.returns-in-Err-put_events-clau
 returns-in-Err-put_events-clause-reads g c =
     reads_behind {T = Unit {0}} c.args.captures.now.ports.items c.fetch_all.new.captures.ports.items c.put_events.new.captures.ports.items c.args.captures.now.underlay c.fetch_all.new.captures.underlay c.put_events.new.captures.underlay (Err c.in-Err-put_events.fault)
     (quiet_on c.args.captures.now.ports.items c.open_all.new.captures.ports.items c.fetch_all.new.captures.ports.items c.args.captures.now.underlay c.open_all.new.captures.underlay c.fetch_all.new.captures.underlay c.in_default.ensures.reads c.in_default-fetch_all.ensures.reads)
-    c.in-Err-put_events.ensures.run.run.reads
+    c.in-Err-put_events.ensures.run.watched.run.reads
 
 -- ---- behind the last event
 
@@ -207,24 +211,26 @@ returns-in-Ok-clause-done g c settings is =
     let headers = headers_written g w.After-fetch_all in
     let all_ready = ready g w.In_default-fetch_all settings is in
     let cut = c.put_cuts_among.new.outputs in
-    let run = c.in_default-put_events.ensures.run.run in
+    let run = c.in_default-put_events.ensures.run.watched.run in
     let put = events_written g w.After-put_cuts_among in
     let n = length settings.ports in
     let lines = c.in-Ok.ensures start (texts_put g w.After-put_cuts_among n) (put n (headers n is.many)) in
     record {
-      left = leaves_all c.args.part.now.segments.now settings c.args.part.now.changes.now (ends c.args.captures.now.ports.items c.args.captures.now.underlay start) (ends c.put_events.new.captures.ports.items c.put_events.new.captures.underlay cut) (state_of c.args.taker.now.endpoint) run.es (cuts_among c.args.part.now.segments.now (cuts_at c.put_events.new.captures.ports.items c.put_events.new.captures.underlay c.put_events.new.turns)) is.state_is lines;
-      shown = shows_all c.args.part.now.segments.now settings c.args.part.now.changes.now start cut g.T.Watch.sees g.T.Watch.ends c.args.watch.now
-          (run_at c.fetch_all.new.captures.ports.items c.fetch_all.new.captures.underlay c.fetch_all.new.turns (state_of c.args.taker.now.endpoint) 0 begun) _ is.state_is (headers n is.many) c.put_events.new.watch (cuts_among c.args.part.now.segments.now (cuts_at c.put_events.new.captures.ports.items c.put_events.new.captures.underlay c.put_events.new.turns)) c.end.new.self c.in_default-put_events.ensures.run lines c.end.ensures;
+      left = leaves_all (g.S.Sieve.taken c.args.sieve.now) (g.S.Sieve.none c.args.sieve.now) c.args.part.now.segments.now settings c.args.part.now.changes.now (ends c.args.captures.now.ports.items c.args.captures.now.underlay start) (ends c.put_events.new.captures.ports.items c.put_events.new.captures.underlay cut) (state_of c.args.taker.now.endpoint) run.es (cuts_among c.args.part.now.segments.now (cuts_at c.put_events.new.captures.ports.items c.put_events.new.captures.underlay c.put_events.new.turns)) is.state_is lines;
+      shown = shows_all (g.S.Sieve.taken c.args.sieve.now) (g.S.Sieve.none c.args.sieve.now) c.args.part.now.segments.now settings c.args.part.now.changes.now start cut g.T.Watch.sees g.T.Watch.ends c.args.watch.now
+          (run_at c.fetch_all.new.captures.ports.items c.fetch_all.new.captures.underlay c.fetch_all.new.turns (state_of c.args.taker.now.endpoint) 0 begun) _ is.state_is (headers n is.many) c.put_events.new.watch (cuts_among c.args.part.now.segments.now (cuts_at c.put_events.new.captures.ports.items c.put_events.new.captures.underlay c.put_events.new.turns)) c.end.new.self c.in_default-put_events.ensures.run.watched lines c.end.ensures;
       over = λ texts text tells.
           let many = tells_texts c.args.captures.now.ports.items c.args.captures.now.underlay texts text tells in
           let at = headers (length texts) many in
           let first = read g w.In_default-fetch_all texts text (at_first g w.After-fetch_all texts text tells) in
           record {
-            left = over_whole c.args.part.now.segments.now settings c.args.part.now.changes.now texts text start c.fetch_all.new.captures.ports.items c.fetch_all.new.captures.underlay c.fetch_all.new.turns (state_of c.args.taker.now.endpoint) begun _ all_ready first at is.state_is cut run (sym many ∙ is.many)
+            left = over_whole (g.S.Sieve.taken c.args.sieve.now) (g.S.Sieve.none c.args.sieve.now) c.args.part.now.segments.now settings c.args.part.now.changes.now texts text start c.fetch_all.new.captures.ports.items c.fetch_all.new.captures.underlay c.fetch_all.new.turns (state_of c.args.taker.now.endpoint) begun _ all_ready first at is.state_is cut run (sym many ∙ is.many)
                 (subst (λ ts. StandAt start cut (with_cuts (texts_put g w.After-put_cuts_among (length texts)) (cuts_among c.args.part.now.segments.now (cuts_at c.put_events.new.captures.ports.items c.put_events.new.captures.underlay ts)))) refl (c.in-Ok.ensures start (texts_put g w.After-put_cuts_among (length texts)) (put (length texts) at)));
-            reached = reach_whole c.args.part.now.segments.now settings c.args.part.now.changes.now texts text start c.fetch_all.new.captures.ports.items c.fetch_all.new.captures.underlay c.fetch_all.new.turns (state_of c.args.taker.now.endpoint) begun _ all_ready first at is.state_is cut run;
-            seen = seen_whole c.args.part.now.segments.now settings c.args.part.now.changes.now texts text start c.fetch_all.new.captures.ports.items c.fetch_all.new.captures.underlay c.fetch_all.new.turns (state_of c.args.taker.now.endpoint) begun _ all_ready first at is.state_is
-                g.T.Watch.sees g.T.Watch.ends c.args.watch.now cut c.put_events.new.watch c.end.new.self c.in_default-put_events.ensures.run c.end.ensures;
+            reached = reach_whole (g.S.Sieve.taken c.args.sieve.now) (g.S.Sieve.none c.args.sieve.now) c.args.part.now.segments.now settings c.args.part.now.changes.now texts text start c.fetch_all.new.captures.ports.items c.fetch_all.new.captures.underlay c.fetch_all.new.turns (state_of c.args.taker.now.endpoint) begun _ all_ready first at is.state_is cut run;
+            seen = seen_whole (g.S.Sieve.taken c.args.sieve.now) (g.S.Sieve.none c.args.sieve.now) c.args.part.now.segments.now settings c.args.part.now.changes.now texts text start c.fetch_all.new.captures.ports.items c.fetch_all.new.captures.underlay c.fetch_all.new.turns (state_of c.args.taker.now.endpoint) begun _ all_ready first at is.state_is
+                g.T.Watch.sees g.T.Watch.ends c.args.watch.now cut c.put_events.new.watch c.end.new.self c.in_default-put_events.ensures.run.watched c.end.ensures;
+            went = went_whole (g.S.Sieve.taken c.args.sieve.now) (g.S.Sieve.none c.args.sieve.now) c.args.part.now.segments.now settings c.args.part.now.changes.now texts text start c.fetch_all.new.captures.ports.items c.fetch_all.new.captures.underlay c.fetch_all.new.turns (state_of c.args.taker.now.endpoint) begun _ all_ready first at is.state_is
+                g.S.Sieve.goes c.args.sieve.now c.put_events.new.sieve run c.in_default-put_events.ensures.run.went;
           };
     }
 
@@ -238,23 +244,24 @@ returns-in-Err-put_cuts_among-clause-done g c settings is =
     let headers = headers_written g w.After-fetch_all in
     let all_ready = ready g w.In_default-fetch_all settings is in
     let cut = c.put_cuts_among.new.outputs in
-    let run = c.in_default-put_events.ensures.run.run in
+    let run = c.in_default-put_events.ensures.run.watched.run in
     let put = events_written g w.After-put_cuts_among in
     let n = length settings.ports in
     let failed = lines_failed g w.In-Err-put_cuts_among n (put n (headers n is.many)) in
     record {
-      left = leaves_cuts c.args.part.now.segments.now settings c.args.part.now.changes.now (ends c.args.captures.now.ports.items c.args.captures.now.underlay start) (ends c.put_events.new.captures.ports.items c.put_events.new.captures.underlay cut) (state_of c.args.taker.now.endpoint) run.es (cuts_among c.args.part.now.segments.now (cuts_at c.put_events.new.captures.ports.items c.put_events.new.captures.underlay c.put_events.new.turns)) c.in-Err-put_cuts_among.target is.state_is failed;
-      shown = shows_cuts c.args.part.now.segments.now settings c.args.part.now.changes.now start cut g.T.Watch.sees g.T.Watch.ends c.args.watch.now
-          (run_at c.fetch_all.new.captures.ports.items c.fetch_all.new.captures.underlay c.fetch_all.new.turns (state_of c.args.taker.now.endpoint) 0 begun) _ is.state_is (headers n is.many) c.put_events.new.watch (cuts_among c.args.part.now.segments.now (cuts_at c.put_events.new.captures.ports.items c.put_events.new.captures.underlay c.put_events.new.turns)) c.in-Err-put_cuts_among.target c.in_default-put_events.ensures.run failed.0;
+      left = leaves_cuts (g.S.Sieve.taken c.args.sieve.now) (g.S.Sieve.none c.args.sieve.now) c.args.part.now.segments.now settings c.args.part.now.changes.now (ends c.args.captures.now.ports.items c.args.captures.now.underlay start) (ends c.put_events.new.captures.ports.items c.put_events.new.captures.underlay cut) (state_of c.args.taker.now.endpoint) run.es (cuts_among c.args.part.now.segments.now (cuts_at c.put_events.new.captures.ports.items c.put_events.new.captures.underlay c.put_events.new.turns)) c.in-Err-put_cuts_among.target is.state_is failed;
+      shown = shows_cuts (g.S.Sieve.taken c.args.sieve.now) (g.S.Sieve.none c.args.sieve.now) c.args.part.now.segments.now settings c.args.part.now.changes.now start cut g.T.Watch.sees g.T.Watch.ends c.args.watch.now
+          (run_at c.fetch_all.new.captures.ports.items c.fetch_all.new.captures.underlay c.fetch_all.new.turns (state_of c.args.taker.now.endpoint) 0 begun) _ is.state_is (headers n is.many) c.put_events.new.watch (cuts_among c.args.part.now.segments.now (cuts_at c.put_events.new.captures.ports.items c.put_events.new.captures.underlay c.put_events.new.turns)) c.in-Err-put_cuts_among.target c.in_default-put_events.ensures.run.watched failed.0;
       over = λ texts text tells.
           let many = tells_texts c.args.captures.now.ports.items c.args.captures.now.underlay texts text tells in
           let at = headers (length texts) many in
           let first = read g w.In_default-fetch_all texts text (at_first g w.After-fetch_all texts text tells) in
           let lines = lines_failed g w.In-Err-put_cuts_among (length texts) (put (length texts) at) in
           record {
-            left = over_lines c.args.part.now.segments.now settings c.args.part.now.changes.now texts text start c.fetch_all.new.captures.ports.items c.fetch_all.new.captures.underlay c.fetch_all.new.turns (state_of c.args.taker.now.endpoint) begun _ all_ready first at is.state_is cut c.in-Err-put_cuts_among.target run lines;
-            reached = reach_lines c.args.part.now.segments.now settings c.args.part.now.changes.now texts text start c.fetch_all.new.captures.ports.items c.fetch_all.new.captures.underlay c.fetch_all.new.turns (state_of c.args.taker.now.endpoint) begun _ all_ready first at is.state_is cut c.in-Err-put_cuts_among.target run lines;
-            seen = seen_lines c.args.part.now.segments.now settings c.args.part.now.changes.now texts text start c.fetch_all.new.captures.ports.items c.fetch_all.new.captures.underlay c.fetch_all.new.turns (state_of c.args.taker.now.endpoint) begun _ all_ready first at is.state_is
-                g.T.Watch.sees g.T.Watch.ends c.args.watch.now cut c.in-Err-put_cuts_among.target c.put_events.new.watch c.in_default-put_events.ensures.run lines;
+            left = over_lines (g.S.Sieve.taken c.args.sieve.now) (g.S.Sieve.none c.args.sieve.now) c.args.part.now.segments.now settings c.args.part.now.changes.now texts text start c.fetch_all.new.captures.ports.items c.fetch_all.new.captures.underlay c.fetch_all.new.turns (state_of c.args.taker.now.endpoint) begun _ all_ready first at is.state_is cut c.in-Err-put_cuts_among.target run lines;
+            reached = reach_lines (g.S.Sieve.taken c.args.sieve.now) (g.S.Sieve.none c.args.sieve.now) c.args.part.now.segments.now settings c.args.part.now.changes.now texts text start c.fetch_all.new.captures.ports.items c.fetch_all.new.captures.underlay c.fetch_all.new.turns (state_of c.args.taker.now.endpoint) begun _ all_ready first at is.state_is cut c.in-Err-put_cuts_among.target run lines;
+            seen = seen_lines (g.S.Sieve.taken c.args.sieve.now) (g.S.Sieve.none c.args.sieve.now) c.args.part.now.segments.now settings c.args.part.now.changes.now texts text start c.fetch_all.new.captures.ports.items c.fetch_all.new.captures.underlay c.fetch_all.new.turns (state_of c.args.taker.now.endpoint) begun _ all_ready first at is.state_is
+                g.T.Watch.sees g.T.Watch.ends c.args.watch.now cut c.in-Err-put_cuts_among.target c.put_events.new.watch c.in_default-put_events.ensures.run.watched lines;
+            went = tt;
           };
     }

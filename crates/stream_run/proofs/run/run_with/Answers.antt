@@ -1,4 +1,5 @@
-use Rattle.std.proofs.Common.{◌≡◌, ◌∙◌, ◌+◌, ap, length, refl, inl, List, Err}
+use Rattle.std.proofs.Common.{◌≡◌, ◌∙◌, ◌+◌, ap, length, refl, inl, List, [], Err}
+use Rattle.timeline.specs.declared.event.Event.{Event}
 use Rattle.pcap_stream.specs.Source.{Stream}
 use Rattle.overlay_settings.specs.Settings.{Settings}
 use Rattle.overlay_settings.specs.declared.change.TimedChange.{TimedChange}
@@ -15,25 +16,26 @@ use Rattle.stream_run.proofs.Overall.{over_wanting, reach_wanting, seen_wanting,
 use Rattle.stream_run.proofs.run.run_with.Goals as goal
 
 -- nothing was opened, for want of memory
-unopened : (segments : Segments) {T : Type 0} (sees : T → Sight → T → Type 0) (ends : T → State → T → Type 0) (s : Settings) (changes : List TimedChange) (ports : List Stream) (underlay : Stream) (start : Drains) (watch : T)
-    → length start.ports ≡ length ports → length ports ≡ length s.ports → IsDone segments sees ends s changes ports underlay ports underlay start start watch watch (Err (stream.Run faults.OutOfMemory))
-unopened segments sees ends s changes ports underlay start watch sinks many = record {
+unopened : (segments : Segments) {S T : Type 0} (taken : S → List Event → List Event) (nothing : (s : S) → taken s [] ≡ []) (goes : S → Event → S → Type 0) (sees : T → Sight → T → Type 0) (ends : T → State → T → Type 0) (s : Settings) (changes : List TimedChange) (ports : List Stream) (underlay : Stream) (start : Drains) (sieve : S) (watch : T)
+    → length start.ports ≡ length ports → length ports ≡ length s.ports → IsDone segments taken goes sees ends s changes ports underlay ports underlay start start sieve sieve watch watch (Err (stream.Run faults.OutOfMemory))
+unopened segments taken nothing goes sees ends s changes ports underlay start sieve watch sinks many = record {
   left = inl refl;
   shown = inl (none_at start (length s.ports) (sinks ∙ many), refl);
   over = λ texts text tells.
       let none = none_at start (length texts) (sinks ∙ tells_texts ports underlay texts text tells) in
       record {
-        left = over_wanting segments s changes texts text start start refl none;
-        reached = reach_wanting segments s changes texts text start start ports underlay refl none;
-        seen = seen_wanting segments s changes texts text start start sees ends watch refl none;
+        left = over_wanting (taken sieve) (nothing sieve) segments s changes texts text start start refl none;
+        reached = reach_wanting (taken sieve) (nothing sieve) segments s changes texts text start start ports underlay refl none;
+        seen = seen_wanting (taken sieve) (nothing sieve) segments s changes texts text start start sees ends watch refl none;
+        went = tt;
       };
 }
 
 pub returns-in_default-clause-done : goal.returns-in_default-clause-done
-returns-in_default-clause-done g c = unopened c.args.part.now.segments.now g.T.Watch.sees g.T.Watch.ends c.args.settings c.args.part.now.changes.now c.args.captures.now.ports.items c.args.captures.now.underlay _ c.args.watch.now c.requires.sinks c.requires.ports
+returns-in_default-clause-done g c = unopened c.args.part.now.segments.now g.S.Sieve.taken g.S.Sieve.none g.S.Sieve.goes g.T.Watch.sees g.T.Watch.ends c.args.settings c.args.part.now.changes.now c.args.captures.now.ports.items c.args.captures.now.underlay _ c.args.sieve.now c.args.watch.now c.requires.sinks c.requires.ports
 
 pub returns-in_default-open-clause-done : goal.returns-in_default-open-clause-done
-returns-in_default-open-clause-done g c = unopened c.args.part.now.segments.now g.T.Watch.sees g.T.Watch.ends c.args.settings c.args.part.now.changes.now c.args.captures.now.ports.items c.args.captures.now.underlay _ c.args.watch.now c.requires.sinks c.requires.ports
+returns-in_default-open-clause-done g c = unopened c.args.part.now.segments.now g.S.Sieve.taken g.S.Sieve.none g.S.Sieve.goes g.T.Watch.sees g.T.Watch.ends c.args.settings c.args.part.now.changes.now c.args.captures.now.ports.items c.args.captures.now.underlay _ c.args.sieve.now c.args.watch.now c.requires.sinks c.requires.ports
 
 pub returns-clause-done : goal.returns-clause-done
 returns-clause-done g c = c.run_on.ensures.done c.args.settings (record { state_is = c.in-Ok-open.ensures; many = c.requires.ports })

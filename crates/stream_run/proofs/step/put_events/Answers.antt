@@ -1,43 +1,45 @@
-use Rattle.std.proofs.Common.{◌≡◌, ◌+◌, ◌-◌, ◌∙◌, List, ℕ, ap, arith, length, refl, slice_index_or, subst}
+use Rattle.std.proofs.Common.{◌≡◌, ◌+◌, ◌-◌, ◌^◌, ◌∙◌, List, ℕ, ap, arith, length, refl, slice_index_or, subst}
 use Rattle.stream_run.specs.Fault.{stopped}
 use Rattle.stream_run.specs.Steps.{IsAt}
 use Rattle.stream_run.specs.declared.turn.Turn.{Turn}
-use Rattle.stream_run.proofs.Running.{shown_begins, shown_breaks, shown_ends, shown_halts, shown_steps}
+use Rattle.stream_run.proofs.Running.{ready_more, shown_begins, shown_breaks, shown_ends, shown_halts, shown_steps}
 use Rattle.stream_run.proofs.step.put_events.Goals as goal
 
 pub loop-count-init : goal.loop-count-init
-loop-count-init g c = record { count = c.requires.none; run = rw c.requires.none (shown_begins c.args.part.now.segments.now g.T.Watch.sees c.args.part.now.changes.now _ c.args.watch.now refl c.requires.ready); many = refl }
+loop-count-init g c = record { run = rw c.requires.none (shown_begins c.args.part.now.segments.now g.S.Sieve.taken g.S.Sieve.goes g.T.Watch.sees g.S.Sieve.none c.args.part.now.changes.now _ c.args.sieve.now c.args.watch.now refl c.requires.ready); many = refl }
 
 pub put_first-requires-clause-few : goal.put_first-requires-clause-few
-put_first-requires-clause-few g c = omega (arith, c.loop-count.invariant.count, c.loop-count-test.true)
+put_first-requires-clause-few g c =
+    let has = c.loop-count.invariant.run.has in
+    omega (arith, has.number, has.few, c.loop-count.invariant.run.many, c.loop-count-test.true)
 
 pub put_first-requires-clause-ready : goal.put_first-requires-clause-ready
-put_first-requires-clause-ready g c = c.loop-count.invariant.run.has.ready
+put_first-requires-clause-ready g c =
+    let run = c.loop-count.invariant.run in
+    ready_more c.args.part.now.changes.now _ (2 ^ 64 - 3) _ (omega (arith, run.many, c.loop-count-test.true)) run.has.ready
 
 pub find_first-requires : goal.find_first-requires
 find_first-requires g c = c.loop-count.invariant.run.has.ready.moments
 
 pub loop-count-preserved : goal.loop-count-preserved
 loop-count-preserved g c =
-    let step = c.in_default-put_first.ensures.step in
     record {
-      count = step.step.number ∙ ap (λ n. n + 1) c.loop-count.invariant.count;
-      run = shown_steps c.args.part.now.segments.now g.T.Watch.sees c.args.part.now.changes.now _ c.args.watch.now _ _ c.in-Some.first _ _ c.loop-count.invariant.run step;
+      run = shown_steps c.args.part.now.segments.now g.S.Sieve.taken g.S.Sieve.goes g.T.Watch.sees g.S.Sieve.none c.args.part.now.changes.now _ c.args.sieve.now c.args.watch.now _ _ c.loop-count._count c.in-Some.first _ _ _ _ c.loop-count.invariant.run c.in_default-put_first.ensures.step;
       many = c.in_default-put_first.ensures.many ∙ c.loop-count.invariant.many;
     }
 
 pub returns-in_default-clause-run : goal.returns-in_default-clause-run
-returns-in_default-clause-run g c = shown_ends c.args.part.now.segments.now g.T.Watch.sees c.args.part.now.changes.now _ c.args.watch.now _ _ c.loop-count.invariant.run c.in_default.ensures
+returns-in_default-clause-run g c = shown_ends c.args.part.now.segments.now g.S.Sieve.taken g.S.Sieve.goes g.T.Watch.sees g.S.Sieve.none c.args.part.now.changes.now _ c.args.sieve.now c.args.watch.now _ c.loop-count._count _ _ c.loop-count.invariant.run c.in_default.ensures
 
 pub returns-in-Err-clause-run : goal.returns-in-Err-clause-run
 returns-in-Err-clause-run g c =
     let t = c.index-turns-first.result in
     let many : length c.put_first.new.turns - 2 ≡ length c.loop-count.captures.ports.items = omega (arith, ap length c.in-Err.ensures.turns, c.loop-count.invariant.run.has.ready.size) in
-    shown_halts c.args.part.now.segments.now g.T.Watch.sees c.args.part.now.changes.now _ c.args.watch.now _ _ _ _ _ c.in-Err.halt c.stopped_at.result c.tap_at-tap.result t c.loop-count.invariant.run c.in-Err.ensures.step
+    shown_halts c.args.part.now.segments.now g.S.Sieve.taken g.S.Sieve.goes g.T.Watch.sees g.S.Sieve.none c.args.part.now.changes.now _ c.args.sieve.now c.args.watch.now _ _ c.loop-count._count _ _ _ _ _ c.in-Err.halt c.stopped_at.result c.tap_at-tap.result t c.loop-count.invariant.run c.in-Err.ensures.step
     (λ there. subst (λ (n : ℕ). IsAt n c.in-Some.first.index c.tap_at-tap.result) many (c.tap_at-tap.ensures there))
     (c.stopped_at.ensures ∙ ap (λ (turns : List Turn). stopped c.tap_at-tap.result ((slice_index_or turns c.in-Some.first.index t).done + 1 + 1) c.in-Err.halt) c.in-Err.ensures.turns)
 
 pub returns-clause-run : goal.returns-clause-run
 returns-clause-run g c =
-    shown_breaks c.args.part.now.segments.now g.T.Watch.sees c.args.part.now.changes.now _ c.args.watch.now _ _ c.loop-count.invariant.run
-    (omega (arith, c.loop-count.invariant.count, c.loop-count-test.false, c.loop-count.auto._count-end))
+    shown_breaks c.args.part.now.segments.now g.S.Sieve.taken g.S.Sieve.goes g.T.Watch.sees g.S.Sieve.none c.args.part.now.changes.now _ c.args.sieve.now c.args.watch.now _ c.loop-count._count _ _ c.loop-count.invariant.run
+    (omega (arith, c.loop-count-test.false, c.loop-count.auto._count-end))

@@ -6,10 +6,9 @@ use Rattle.stream_run.proofs.step.put_events.Given as goal
 
 abbrev pub invariant-loop-count : goal.invariant-loop-count
 invariant-loop-count g l = record {
-  count : l.taker.desk.number ≡ l._count;
-  run : HasShown l.part.segments.now g.T.Watch.sees l.part.changes.now
+  run : HasShown l.part.segments.now g.S.Sieve.taken g.S.Sieve.goes g.T.Watch.sees l.part.changes.now
       (run_at l.initial.captures.ports.items l.initial.captures.underlay l.initial.turns (state_of l.initial.taker.endpoint) 0 l.initial.outputs)
       (run_at l.captures.ports.items l.captures.underlay l.turns (state_of l.taker.endpoint) l.taker.desk.number l.outputs)
-      l.initial.watch l.watch;
+      l._count l.initial.sieve l.sieve l.initial.watch l.watch;
   many : length l.captures.ports.items ≡ length l.initial.captures.ports.items;
 }

@@ -1,0 +1,118 @@
+//! The next event, as a sieve takes it in or leaves it out.
+ghost use Rattle.std.specs.Prelude.{◌≡◌, ◌≤◌, ◌<◌, ◌+◌, ◌^◌, IsSome, Some, length};
+ghost use Rattle.pcap_io.specs.Record.{Record as ARecord, last_moment};
+ghost use Rattle.pcap_stream.specs.Source.{lent};
+ghost use Rattle.timeline.specs.declared.source.Tap.{Tap as ATap};
+ghost use Rattle.timeline.specs.declared.source.Tap.TheVariants.{Port as AtPort, Underlay as AtUnderlay};
+ghost use Rattle.endpoint_core.specs.Kept.{state_of};
+ghost use Rattle.stream_run.specs.Steps.{IsAt, IsNextEvent, moment_at, record_event, source_at};
+ghost use Rattle.stream_run.specs.Watched.{IsSieved};
+
+use crate::captures::Captures;
+use crate::fault::Target;
+use crate::hand_on::take_and_hand_on;
+use crate::outputs::Outputs;
+use crate::part::{Next, Part, Taker};
+use crate::sieve::Sieve;
+use crate::watch::Watch;
+use pcap_stream::{Input, Output, Source};
+use timeline::{Captured, Event, Happening, Tap};
+
+/// The event of the record that a port's source lends.
+#[inline(always)]
+fn frame_event<R: Input>(source: &Source<R>, port: u8, next: Next) -> Event<'_>
+    requires count { next.done + 1 < 2 ^ 64 }
+    requires lent { IsSome (lent source.now.standing) }
+    ensures { (r : ARecord) → lent source.now.standing ≡ Some r → result ≡ record_event (AtPort port) next.done next.moment r }
+{
+    let record = source.head().unwrap();
+    Event {
+        moment: next.moment,
+        number: next.done + 1,
+        happening: Happening::Record(
+            Tap::Port(port),
+            Captured {
+                original: record.original,
+                octets: record.octets,
+            },
+        ),
+    }
+}
+
+/// The event of the record that the underlay's source lends.
+#[inline(always)]
+fn packet_event<R: Input>(source: &Source<R>, next: Next) -> Event<'_>
+    requires count { next.done + 1 < 2 ^ 64 }
+    requires lent { IsSome (lent source.now.standing) }
+    ensures { (r : ARecord) → lent source.now.standing ≡ Some r → result ≡ record_event AtUnderlay next.done next.moment r }
+{
+    let record = source.head().unwrap();
+    Event {
+        moment: next.moment,
+        number: next.done + 1,
+        happening: Happening::Record(
+            Tap::Underlay,
+            Captured {
+                original: record.original,
+                octets: record.octets,
+            },
+        ),
+    }
+}
+
+/// The next event of a source, as [`take_and_hand_on`] takes it: the changes, the ports, the underlay.
+#[inline(always)]
+fn next_event<R: Input>(captures: &Captures<R>, next: Next) -> Event<'_>
+    requires count { next.done + 1 < 2 ^ 64 }
+    requires index { next.index ≤ length captures.now.ports.items + 1 }
+    requires few { length captures.now.ports.items ≤ 16 }
+    requires lent { (place : ATap) → IsAt (length captures.now.ports.items) next.index place → IsSome (lent (source_at captures.now.ports.items captures.now.underlay place).standing) }
+    ensures { IsNextEvent captures.now.ports.items captures.now.underlay next.index next.done next.moment result }
+{
+    if next.index == 0 {
+        return Event {
+            moment: next.moment,
+            number: next.done + 1,
+            happening: Happening::Change(next.done as usize),
+        };
+    }
+    if next.index <= captures.ports.len() {
+        return frame_event(
+            &captures.ports[next.index - 1],
+            next.index as u8,
+            next,
+        );
+    }
+    packet_event(&captures.underlay, next)
+}
+
+/// Asks the sieve about the next event. Where it takes it in, the event is numbered and taken as [`take_and_hand_on`] does it;
+/// else nothing is done.
+pub fn let_in<R: Input, W: Output, S: Sieve, T: Watch>(
+    part: &Part,
+    captures: &Captures<R>,
+    outputs: &mut Outputs<W>,
+    taker: &mut Taker,
+    next: Next,
+    sieve: &mut S,
+    watch: &mut T,
+) -> Result<(), Target>
+    requires time { (state_of taker.old.endpoint).moment ≤ next.moment }
+    requires moment { next.moment ≤ last_moment }
+    requires count { next.done + 1 < 2 ^ 64 }
+    requires numbers { taker.old.desk.number + 1 < 2 ^ 64 }
+    requires index { next.index ≤ length captures.now.ports.items + 1 }
+    requires few { length captures.now.ports.items ≤ 16 }
+    requires known { length captures.now.ports.items ≡ length (state_of taker.old.endpoint).bridges.settings.ports.ports }
+    requires change { next.index ≡ 0 → moment_at part.now.changes.now next.done ≡ Some next.moment }
+    requires lent { (place : ATap) → IsAt (length captures.now.ports.items) next.index place → IsSome (lent (source_at captures.now.ports.items captures.now.underlay place).standing) }
+    ensures { IsSieved part.now.segments.now S.taken S.goes T.sees part.now.changes.now captures.now.ports.items captures.now.underlay next.index next.done next.moment taker.old.desk.number taker.new.desk.number
+        (state_of taker.old.endpoint) (state_of taker.new.endpoint) outputs.old outputs.new sieve.old sieve.new watch.old watch.new result }
+{
+    let event = next_event(captures, next);
+    if !sieve.takes(&event) {
+        return Ok(());
+    }
+    taker.desk.number.add_one();
+    take_and_hand_on(part, captures, outputs, taker, next, watch)
+}

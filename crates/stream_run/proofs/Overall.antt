@@ -291,13 +291,12 @@ module _ (taken : List Event → List Event) (nothing : taken [] ≡ []) (segmen
     -- nowhere
     pub over_all : (es : List Event) (turns : List Turn) (ports : List Stream) (underlay : Stream) → length texts ≡ length s.ports → whole.events ≡ es → AllStandAtEnd texts text turns ports underlay
         → StandAt start new (with_cuts (behind es) (cuts_among segments (cuts_at ports underlay turns))) → LeavesSieved taken segments s changes texts text start new (Ok tt)
-    over_all es turns ports underlay many is ends at =
-        (
-          ports_counted_among segments s changes texts text (eq-eqb _ _ many)
-              ∙ ap (by_timeline_among segments s changes (length texts)) (told_whole changes texts text (no_faults texts text (whole_at_end texts text turns ports underlay ends))),
-          subst (StandAt start new)
-              (ap (λ l. with_cuts (behind l) (cuts_among segments (cuts_at ports underlay turns))) (sym is) ∙ ap (λ l. with_cuts (behind whole.events) (cuts_among segments l)) (sym (cuts_at_end texts text turns ports underlay ends))) at,
-        )
+    over_all es turns ports underlay many is ends at = (
+      ports_counted_among segments s changes texts text (eq-eqb _ _ many)
+          ∙ ap (by_timeline_among segments s changes (length texts)) (told_whole changes texts text (no_faults texts text (whole_at_end texts text turns ports underlay ends))),
+      subst (StandAt start new)
+          (ap (λ l. with_cuts (behind l) (cuts_among segments (cuts_at ports underlay turns))) (sym is) ∙ ap (λ l. with_cuts (behind whole.events) (cuts_among segments l)) (sym (cuts_at_end texts text turns ports underlay ends))) at,
+    )
 
     -- ---- how far the captures are read
 

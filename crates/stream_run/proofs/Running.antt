@@ -398,7 +398,6 @@ module _ (taken : List Event → List Event) (segments : Segments) where
     ready = tt;
     told = λ texts text read. goes_no_further changes old now has texts text read (Err (stream.Run faults.OutOfMemory)) tt;
   }
-
   -- ---- with what is seen
 
 module _ (segments : Segments) {S T : Type 0} (taken : S → List Event → List Event) (goes : S → Event → S → Type 0) (sees : T → Sight → T → Type 0) where

@@ -129,7 +129,7 @@ module _ (segments : Segments) {S T : Type 0} (taken : S → List Event → List
         let this = λ (zero : first.index ≡ 0). ap (moment_at changes) (same d) ∙ up.change zero in
         let asks = asked changes first.index done first.moment ports underlay new new_underlay turn ready.timely up.moment this fetched in
         let moment : new_state.moment ≤ first.moment =
-            omega (arith, event, ap (λ (s : State). s.moment) sieved.state, moment_kept segments (changes_of changes) sieved.takes state sieved.e (omega (arith, up.time, event))) in
+        omega (arith, event, ap (λ (s : State). s.moment) sieved.state, moment_kept segments (changes_of changes) sieved.takes state sieved.e (omega (arith, up.time, event))) in
         record {
           e = sieved.e;
           takes = sieved.takes;

@@ -77,11 +77,7 @@ fn next_event<R: Input>(captures: &Captures<R>, next: Next) -> Event<'_>
         };
     }
     if next.index <= captures.ports.len() {
-        return frame_event(
-            &captures.ports[next.index - 1],
-            next.index as u8,
-            next,
-        );
+        return frame_event(&captures.ports[next.index - 1], next.index as u8, next);
     }
     packet_event(&captures.underlay, next)
 }

@@ -1,4 +1,5 @@
 //! What the steps of a run are lent.
+use crate::turn::First;
 use decision_lines::Desk;
 use endpoint_core::Endpoint;
 use overlay_config::TimedChange;
@@ -9,6 +10,13 @@ use segment_set::SegmentSet;
 pub struct Part<'a> {
     pub changes: &'a [TimedChange],
     pub segments: &'a SegmentSet,
+}
+
+/// The event that comes first, in a part of a run.
+#[derive(Clone, Copy)]
+pub struct Coming<'a> {
+    pub part: &'a Part<'a>,
+    pub first: First,
 }
 
 /// The next event of a run.

@@ -14,9 +14,9 @@ use crate::fetch::{fetch_at, tap_at};
 use crate::letting::let_in;
 use crate::order::find_first;
 use crate::outputs::Outputs;
-use crate::part::{Next, Part, Taker};
+use crate::part::{Coming, Next, Part, Taker};
 use crate::sieve::Sieve;
-use crate::turn::{First, Turn, Upcoming};
+use crate::turn::{Turn, Upcoming};
 use crate::watch::Watch;
 use capture_run::RunFault;
 use pcap_stream::{Input, Output};
@@ -24,24 +24,24 @@ use pcap_stream::{Input, Output};
 /// Puts the event that comes first through the endpoint, where the sieve takes it in, and shows it before, as passed over where
 /// it isn't told to the part's segments; and fetches the next one of its source.
 fn put_first<R: Input, W: Output, S: Sieve, T: Watch>(
-    part: &Part,
+    coming: Coming,
     captures: &mut Captures<R>,
     turns: &mut [Turn],
     taker: &mut Taker,
     outputs: &mut Outputs<W>,
-    first: First,
     sieve: &mut S,
     watch: &mut T,
 ) -> Result<(), Halt>
     requires few { taker.old.desk.number + 2 < 2 ^ 64 }
-    requires first { IsFirst turns.old (length turns.old) first }
-    requires ready { AreReady part.now.changes.now (2 ^ 64 - 3) (run_at captures.old.ports.items captures.old.underlay turns.old (state_of taker.old.endpoint) taker.old.desk.number outputs.old) }
-    ensures step { IsPut part.now.segments.now S.taken S.goes T.sees part.now.changes.now
+    requires first { IsFirst turns.old (length turns.old) coming.first }
+    requires ready { AreReady coming.part.now.changes.now (2 ^ 64 - 3) (run_at captures.old.ports.items captures.old.underlay turns.old (state_of taker.old.endpoint) taker.old.desk.number outputs.old) }
+    ensures step { IsPut coming.entry.part.now.segments.now S.taken S.goes T.sees coming.entry.part.now.changes.now
         (run_at captures.old.ports.items captures.old.underlay turns.old (state_of taker.old.endpoint) taker.old.desk.number outputs.old)
-        (run_at captures.new.ports.items captures.new.underlay turns.new (state_of taker.new.endpoint) taker.new.desk.number outputs.new) first sieve.old sieve.new watch.old watch.new result }
+        (run_at captures.new.ports.items captures.new.underlay turns.new (state_of taker.new.endpoint) taker.new.desk.number outputs.new) coming.entry.first sieve.old sieve.new watch.old watch.new result }
     ensures many { length captures.new.ports.items ≡ length captures.old.ports.items }
     ensures turns { OnErr result (turns.new ≡ turns.old) }
 {
+    let Coming { part, first } = coming;
     let Turn { done, .. } = turns[first.index];
     let event = Next {
         index: first.index,
@@ -94,7 +94,11 @@ pub fn put_events<R: Input, W: Output, S: Sieve, T: Watch>(
         let Some(first) = find_first(turns) else {
             return Ok(());
         };
-        if let Err(halt) = put_first(part, captures, turns, taker, outputs, first, sieve, watch) {
+        let coming = Coming {
+            part: &*part,
+            first,
+        };
+        if let Err(halt) = put_first(coming, captures, turns, taker, outputs, sieve, watch) {
             let tap = tap_at(turns.len() - 2, first.index);
             let done = turns[first.index].done + 1;
             return Err(stopped_at(tap, done + 1, halt));

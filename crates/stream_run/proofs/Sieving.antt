@@ -1,7 +1,6 @@
 -- The next event, as a sieve takes it in or leaves it out.
 use Rattle.std.proofs.Common.{◌≡◌, ◌∙◌, refl, sym, ap, subst, ℕ, ◌+◌, Bool, true, false, if◌then◌else◌, List, ◌∷◌, length, arith, Some, Result, Ok, Err, inl, inr}
 use Rattle.std.specs.Prelude.{OnErr}
-use Rattle.pcap_io.specs.Record.{Record}
 use Rattle.pcap_stream.specs.Source.{Stream, lent}
 use Rattle.overlay_settings.specs.declared.change.TimedChange.{TimedChange}
 use Rattle.timeline.specs.declared.event.Event.{Event}

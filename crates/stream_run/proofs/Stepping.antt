@@ -5,7 +5,7 @@ use Rattle.overlay_settings.specs.declared.change.Change.{Change}
 use Rattle.overlay_settings.specs.declared.change.TimedChange.{TimedChange}
 use Rattle.timeline.specs.declared.event.Event.{Event}
 use Rattle.endpoint_core.specs.Step.{State}
-use Rattle.capture_run.specs.Outputs.{Outputs, event_of}
+use Rattle.capture_run.specs.Outputs.{event_of}
 use Rattle.capture_run.proofs.Among.{moment_among, ports_stay_among}
 use Rattle.stream_run.specs.Coming.{coming}
 use Rattle.stream_run.specs.Sieved.{kept}

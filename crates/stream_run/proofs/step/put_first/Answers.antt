@@ -1,4 +1,4 @@
-use Rattle.std.proofs.Common.{◌≡◌, ◌+◌, ◌-◌, ◌^◌, ◌<◌, ℕ, ap, arith, length, refl, slice_index_or, subst, sym, None, Some}
+use Rattle.std.proofs.Common.{◌≡◌, ◌+◌, ◌-◌, ◌^◌, ℕ, ap, length, refl, slice_index_or, subst, sym, None, Some}
 use Rattle.std.proofs.lemmas.List.{get_or_default}
 use Rattle.endpoint_core.specs.Kept.{state_of}
 use Rattle.stream_run.specs.Fault.{fault_of}

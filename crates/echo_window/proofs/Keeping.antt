@@ -1,0 +1,44 @@
+-- What is kept of the frames that came in.
+use Rattle.std.proofs.Common.{◌≡◌, ℕ, ◌+◌, ◌<◌, ◌≤◌, Bool, true, false, nat_eq, nat_lt, nat_le, not, ◌&&◌, List, [], ◌∷◌, ◌++◌, length, refl, ap, sym, ◌∙◌, arith, length-append}
+use borrow.Author.Tests.{leb-true, ltb-true}
+use Rattle.std.proofs.lemmas.List.Concat.{flat_map-append}
+use Rattle.echo_window.specs.Echo.{Came, Record, fits, is_awaited, is_echo_of, is_elsewhere, is_soon, newest, octets_of}
+use Rattle.std.specs.List.{list_any}
+use Rattle.header_sums.specs.Octets.{is_same}
+
+-- frames that fit stay
+pub newest-fits : (cs : List Came) → fits cs ≡ true → newest cs ≡ cs
+newest-fits [] h = refl
+newest-fits (c ∷ cs) h = rw h
+
+-- the earliest goes where they don't
+pub newest-less : (c : Came) (cs : List Came) → fits (c ∷ cs) ≡ false → newest (c ∷ cs) ≡ newest cs
+newest-less c cs h = rw h
+
+-- one more behind them
+pub octets-put : (cs : List Came) (c : Came) → octets_of (cs ++ c ∷ []) ≡ octets_of cs + length c.frame
+octets-put [] c = omega (arith, length-append {A = ℕ})
+octets-put (x ∷ cs) c = omega (arith, octets-put cs c, length-append {A = ℕ})
+
+pub fits-put : (cs : List Came) (c : Came) → fits (cs ++ c ∷ []) ≡ (nat_le (length cs + 1) 4096 && nat_le (octets_of cs + length c.frame) 4194304)
+fits-put cs c =
+    let n : length (cs ++ c ∷ []) ≡ length cs + 1 = length-append cs (c ∷ []) in
+    ap (λ k. nat_le k 4096 && nat_le (octets_of (cs ++ c ∷ [])) 4194304) n ∙ ap (λ k. nat_le (length cs + 1) 4096 && nat_le k 4194304) (octets-put cs c)
+
+both_true : (a b : Bool) → (a && b) ≡ true → (a ≡ true) × (b ≡ true)
+both_true true b h = (refl, h)
+both_true false b h = absurd cc
+
+pub fits-told : (cs : List Came) (c : Came) → fits (cs ++ c ∷ []) ≡ true → (length cs + 1 ≤ 4096) × (octets_of cs + length c.frame ≤ 4194304)
+fits-told cs c h =
+    let e = both_true (nat_le (length cs + 1) 4096) (nat_le (octets_of cs + length c.frame) 4194304) (sym (fits-put cs c) ∙ h) in
+    (leb-true (length cs + 1) 4096 e.0, leb-true (octets_of cs + length c.frame) 4194304 e.1)
+
+-- a frame that a record is an echo of was met again at few places
+pub awaited-few : (within : ℕ) (r : Record) (c : Came) → is_echo_of within r c ≡ true → length c.echoed < 32
+awaited-few within r c h =
+    let outer = both_true (is_elsewhere r c && (is_soon within r c && is_awaited r c)) (is_same c.frame r.frame) h in
+    let inner = both_true (is_elsewhere r c) (is_soon within r c && is_awaited r c) outer.0 in
+    let last = both_true (is_soon within r c) (is_awaited r c) inner.1 in
+    let few = both_true (nat_lt (length c.echoed) 32) (not (list_any (λ place. nat_eq place r.place) c.echoed)) last.1 in
+    ltb-true (length c.echoed) 32 few.0

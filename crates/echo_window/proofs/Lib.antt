@@ -1,0 +1,5 @@
+mod Firsts
+mod Keeping
+mod Laying
+mod Showing
+mod Texts

@@ -1,0 +1,23 @@
+-- Texts that are two others, one behind the other.
+use Rattle.std.proofs.Common.{◌≡◌, ℕ, ◌<◌, ◌≤◌, Bool, true, false, ◌&&◌, List, [], ◌∷◌, ◌++◌, length, take, drop, refl, ap, ◌∙◌, arith, nat_eq}
+use Rattle.std.proofs.lemmas.Grind.{common_steps}
+use lib.Pointwise.{pointwise}
+
+both : (a b c : Bool) → (a && (b && c)) ≡ ((a && b) && c)
+both true b c = refl
+both false b c = refl
+
+neither : (a : Bool) → (a && false) ≡ false
+neither true = refl
+neither false = refl
+
+pub same_parts : (text front rest : List ℕ) → length front ≤ length text → pointwise nat_eq text (front ++ rest) ≡ (pointwise nat_eq (take (length front) text) front && pointwise nat_eq (drop (length front) text) rest)
+same_parts [] [] rest h = refl
+same_parts (x ∷ text) [] rest h = refl
+same_parts [] (y ∷ front) rest h = absurd (omega (arith, h))
+same_parts (x ∷ text) (y ∷ front) rest h = ap (λ q. nat_eq x y && q) (same_parts text front rest (omega (arith, h))) ∙ both (nat_eq x y) _ _
+
+pub too_short : (text front rest : List ℕ) → length text < length front → pointwise nat_eq text (front ++ rest) ≡ false
+too_short text [] rest h = absurd (omega (arith, h))
+too_short [] (y ∷ front) rest h = refl
+too_short (x ∷ text) (y ∷ front) rest h = ap (λ q. nat_eq x y && q) (too_short text front rest (omega (arith, h))) ∙ neither (nat_eq x y)

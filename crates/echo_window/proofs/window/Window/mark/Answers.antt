@@ -1,0 +1,46 @@
+use Rattle.std.proofs.Common.{◌≡◌, ◌<◌, length, get_or, refl, sym, ap, ◌∙◌, arith, length-set, rules}
+use Rattle.echo_window.specs.Echo.{Came, first_met, met_again}
+use Rattle.echo_window.specs.Laid.{told}
+use Rattle.echo_window.specs.declared.kept.Kept.{Kept}
+use Rattle.echo_window.proofs.Laying.{laid-met, lengths-set}
+use Rattle.echo_window.proofs.Showing.{as-window, came-is, count-is, one-is}
+use Rattle.echo_window.proofs.window.Window.mark.Goals as goal
+
+pub index_mut-kept-requires : goal.index_mut-kept-requires
+index_mut-kept-requires c =
+    let n = count-is _ _ _ (came-is c.self.view_is) in
+    omega (arith, n, c.self.inside.frames.ok.0)
+
+pub push-requires : goal.push-requires
+push-requires c =
+    let v = came-is c.self.view_is in
+    let h : c.args.i < length c.self.inside.frames.items = omega (arith, count-is _ _ _ v) in
+    let one = one-is _ _ _ c.args.i c.index_mut-kept.result.now (first_met (told c.args.met.now)) v h c.index_mut-kept.ensures.value in
+    (omega arith, omega (arith, ap (λ (x : Came). length x.echoed) one, c.requires.room))
+
+pub invariant_of-self : goal.invariant_of-self
+invariant_of-self c =
+    let h : c.args.i < length c.self.inside.frames.items = omega (arith, count-is _ _ _ (came-is c.self.view_is)) in
+    let more : Kept = record { place = c.index_mut-kept.result.now.place; moment = c.index_mut-kept.result.now.moment; length = c.index_mut-kept.result.now.length; echoed = c.push.new.self } in
+    record {
+      whole = lengths-set c.self.inside.frames.items c.args.i more c.index_mut-kept.result.now h (ap (λ (x : Kept). x.length) c.index_mut-kept.ensures.value) ∙ c.self.invariant.whole;
+      few = omega (arith, length-set c.self.inside.frames.items c.args.i more, c.self.invariant.few);
+      small = c.self.invariant.small;
+      reserved = c.self.invariant.reserved;
+    }
+
+pub returns-clause-place : goal.returns-clause-place
+returns-clause-place c =
+    let v = came-is c.self.view_is in
+    let h : c.args.i < length c.self.inside.frames.items = omega (arith, count-is _ _ _ v) in
+    let one = one-is _ _ _ c.args.i c.index_mut-kept.result.now (first_met (told c.args.met.now)) v h c.index_mut-kept.ensures.value in
+    sym (ap (λ (x : Came). x.place) one)
+
+pub returns-clause-came : goal.returns-clause-came
+returns-clause-came c =
+    let v = came-is c.self.view_is in
+    let h : c.args.i < length c.self.inside.frames.items = omega (arith, count-is _ _ _ v) in
+    let more : Kept = record { place = c.index_mut-kept.result.now.place; moment = c.index_mut-kept.result.now.moment; length = c.index_mut-kept.result.now.length; echoed = c.push.new.self } in
+    as-window _ _ c.args.self.now _ _ c.self.view_is
+    (laid-met c.self.inside.frames.items c.self.inside.row c.args.i c.index_mut-kept.result.now more (told c.args.met.now) h c.index_mut-kept.ensures.value refl refl refl c.push.ensures.items
+    ∙ ap (λ cs. met_again (told c.args.met.now) cs c.args.i) v)

@@ -1,0 +1,82 @@
+-- Which records of captures are what the switch itself sent, where captures hold what came in and what was sent out. It states
+-- no standard. A frame that came in at one place and was sent out at others is met again there, soon after and unchanged.
+--     is_echo_of   a record is an echo of a frame that came in
+--     newest       what is kept of the frames that came in
+--     echo_of      where the frame came in that a record is an echo of
+--     after        the frames that came in, once a record was met
+--     echoes       the same for records in a row
+use Rattle.std.specs.Prelude.{ℕ, ◌+◌, nat_eq, nat_lt, nat_le, ◌&&◌, not, if◌then◌else◌, Bool, List, [], ◌∷◌, ◌++◌, length, Option, Some, None, option_map, set, slice_index_or}
+use Rattle.std.specs.List.{find, flat_map, list_any, position}
+use Rattle.header_sums.specs.Octets.{is_same}
+
+-- a record of a capture: the place where it was captured, its moment in nanoseconds, and the octets of its frame without tag
+pub record Record : Type 0 where
+  pub place : ℕ
+  pub moment : ℕ
+  pub frame : List ℕ
+
+-- a frame that came in, which is a record that is no echo; and the places where it was met again
+pub record Came : Type 0 where
+  pub place : ℕ
+  pub moment : ℕ
+  pub frame : List ℕ
+  pub echoed : List ℕ
+
+-- a record is of another place than a frame that came in
+abbrev pub is_elsewhere : Record → Came → Bool
+is_elsewhere r c = not (nat_eq c.place r.place)
+
+-- it is no earlier, and at most so many nanoseconds later
+abbrev pub is_soon : ℕ → Record → Came → Bool
+is_soon within r c = nat_le c.moment r.moment && nat_le r.moment (c.moment + within)
+
+-- the frame wasn't met again at that place yet, and at fewer than 32
+abbrev pub is_awaited : Record → Came → Bool
+is_awaited r c = nat_lt (length c.echoed) 32 && not (list_any (λ place. nat_eq place r.place) c.echoed)
+
+-- a record is an echo of a frame that came in: at another place, soon after, for the first time there, and octet for octet
+abbrev pub is_echo_of : ℕ → Record → Came → Bool
+is_echo_of within r c = (is_elsewhere r c && (is_soon within r c && is_awaited r c)) && is_same c.frame r.frame
+
+-- how many octets frames have together
+abbrev pub octets_of : List Came → ℕ
+octets_of came = length (flat_map (λ c. c.frame) came)
+
+-- at most 4,096 frames, of at most 4 MiB together
+abbrev pub fits : List Came → Bool
+fits came = nat_le (length came) 4096 && nat_le (octets_of came) 4194304
+
+-- the most of the latest frames that fit
+abbrev pub newest : List Came → List Came
+newest [] = []
+newest (c ∷ came) = if fits (c ∷ came) then c ∷ came else newest came
+
+-- a record that is no echo is a frame that came in, met nowhere else yet
+abbrev pub first_met : Record → Came
+first_met r = record { place = r.place; moment = r.moment; frame = r.frame; echoed = [] }
+
+-- a frame, met again at a place
+abbrev pub met_at : ℕ → Came → Came
+met_at place c = record { place = c.place; moment = c.moment; frame = c.frame; echoed = c.echoed ++ place ∷ [] }
+
+-- frames, of which the one at an index was met again at the place of a record
+abbrev pub met_again : Record → List Came → ℕ → List Came
+met_again r came i = set came i (met_at r.place (slice_index_or came i (first_met r)))
+
+-- where the frame came in that a record is an echo of, the earliest of several; None: the record is no echo
+abbrev pub echo_of : ℕ → List Came → Record → Option ℕ
+echo_of within came r = option_map (λ c. c.place) (find (is_echo_of within r) came)
+
+-- what is kept once a record was met: an echo's place with its frame; what is no echo as the latest frame
+abbrev pub after : ℕ → List Came → Record → List Came
+after within came r = elim (position (is_echo_of within r) came) [ Some i ↦ met_again r came i | None ↦ newest (came ++ first_met r ∷ []) ]
+
+-- for each of some records in a row, where the frame came in that it is an echo of
+abbrev pub echoes : ℕ → List Came → List Record → List (Option ℕ)
+echoes within came [] = []
+echoes within came (r ∷ rs) = echo_of within came r ∷ echoes within (after within came r) rs
+
+-- what a window knows: how many nanoseconds later an echo may be, and the frames that came in, the earliest first
+pub record Window : Type 0 where
+  pub within : ℕ
+  pub came : List Came

@@ -1,0 +1,30 @@
+-- How a window keeps frames: their octets one behind the other in one row. It serves proofs.
+use Rattle.std.specs.Prelude.{◌≡◌, ◌≤◌, ℕ, ◌+◌, List, [], ◌∷◌, ◌++◌, drop, length, take}
+use Rattle.echo_window.specs.Echo.{Came, Record}
+use Rattle.echo_window.specs.declared.kept.Kept.{Kept}
+use Rattle.echo_window.specs.declared.record.Record.{Record as Told}
+
+-- what a record tells
+abbrev pub told : Told → Record
+told r = record { place = r.place; moment = r.moment; frame = r.addresses.now ++ r.rest.now }
+
+-- a frame with its octets
+abbrev pub came_of : Kept → List ℕ → Came
+came_of k frame = record { place = k.place; moment = k.moment; frame = frame; echoed = k.echoed.items }
+
+-- how many octets frames have together
+abbrev pub lengths : List Kept → ℕ
+lengths [] = 0
+lengths (k ∷ ks) = k.length + lengths ks
+
+-- frames with their octets, which stand in one row
+abbrev pub laid : List Kept → List ℕ → List Came
+laid [] row = []
+laid (k ∷ ks) row = came_of k (take k.length row) ∷ laid ks (drop k.length row)
+
+-- the row has the octets of the frames and no others; there is room for all that may be kept
+pub record IsLaid (ks : List Kept) (row : List ℕ) (capacity : ℕ) : Type 0 where
+  pub whole : lengths ks ≡ length row
+  pub few : length ks ≤ 4096
+  pub small : length row ≤ 4194304
+  pub reserved : 4096 ≤ capacity

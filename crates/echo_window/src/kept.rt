@@ -1,0 +1,67 @@
+//! A frame that came in, but for its octets.
+ghost use Rattle.std.specs.Prelude.{◌≡◌, ◌&&◌, [], ◌++◌};
+ghost use Rattle.header_sums.specs.Octets.{is_same};
+ghost use Rattle.echo_window.specs.Echo.{is_awaited, is_echo_of, is_elsewhere, is_soon};
+ghost use Rattle.echo_window.specs.Laid.{came_of, told};
+
+use crate::record::Record;
+use arrayvec::ArrayVec;
+
+/// At how many places a frame is met again at most: as many as it is sent to at most.
+const MOST_ECHOES: usize = 32;
+
+/// A frame that came in, but for its octets, which stand elsewhere.
+#[derive(Drop)]
+pub(crate) struct Kept {
+    /// Where it came in.
+    pub(crate) place: u16,
+    /// Nanoseconds.
+    pub(crate) moment: u64,
+    /// How many octets it has.
+    pub(crate) length: usize,
+    /// Where it was met again.
+    pub(crate) echoed: ArrayVec<u16, MOST_ECHOES>,
+}
+
+impl Kept {
+    /// Whether a record is an echo of the frame, whose octets these are.
+    pub(crate) fn is_met_by(&self, octets: &[u8], within: u64, met: &Record) -> bool
+        ensures { result ≡ is_echo_of within (told met.now) (came_of self.now octets.now) }
+    {
+        self.awaits(within, met) && is_same(octets, met.addresses, met.rest)
+    }
+
+    /// Whether a record's place and moment are those of an echo.
+    fn awaits(&self, within: u64, met: &Record) -> bool
+        ensures { let r = told met.now in let c = came_of self.now [] in
+            result ≡ (is_elsewhere r c && (is_soon within r c && is_awaited r c)) }
+    {
+        self.place != met.place && self.is_soon(within, met) && self.is_awaited(met)
+    }
+
+    /// Whether a record is no earlier, and at most so many nanoseconds later.
+    fn is_soon(&self, within: u64, met: &Record) -> bool
+        ensures { result ≡ is_soon within (told met.now) (came_of self.now []) }
+    {
+        self.moment <= met.moment && met.moment - self.moment <= within
+    }
+
+    /// Whether the frame wasn't met again at a record's place yet, and may be.
+    fn is_awaited(&self, met: &Record) -> bool
+        ensures { result ≡ is_awaited (told met.now) (came_of self.now []) }
+    {
+        !self.echoed.is_full() && !self.echoed.as_slice().contains(&met.place)
+    }
+}
+
+/// Whether a text is two others, one behind the other.
+#[tactic(auto, using(crate::proofs::Texts::same_parts, crate::proofs::Texts::too_short))]
+fn is_same(text: &[u8], front: &[u8], rest: &[u8]) -> bool
+    ensures { result ≡ is_same text.now (front.now ++ rest.now) }
+{
+    if text.len() < front.len() {
+        return false;
+    }
+    let (begin, end) = text.split_at(front.len());
+    begin == front && end == rest
+}

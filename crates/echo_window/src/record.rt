@@ -1,0 +1,14 @@
+//! Records of captures.
+
+/// What a record of a capture tells of a frame.
+#[derive(Clone, Copy, Debug)]
+pub struct Record<'a> {
+    /// Where it was captured: 0 for the underlay, and the number of a local port.
+    pub place: u16,
+    /// Nanoseconds.
+    pub moment: u64,
+    /// The frame's octets before its VLAN tag. Where it has none: any of its first octets, or none.
+    pub addresses: &'a [u8],
+    /// The frame's octets behind that.
+    pub rest: &'a [u8],
+}

@@ -1,0 +1,173 @@
+//! The latest frames that came in.
+ghost use Rattle.std.specs.Prelude.{◌≡◌, ◌≤◌, ◌<◌, ◌+◌, ◌&&◌, [], ◌∷◌, ◌++◌, IfOk, drop, length, nat_eq, nat_le, slice_index_or, true};
+ghost use Rattle.std.specs.List.{position};
+ghost use Rattle.echo_window.specs.Echo.{after, echo_of, first_met, fits, is_echo_of, met_again, newest};
+ghost use Rattle.echo_window.specs.Laid.{laid, lengths, told};
+
+use crate::kept::Kept;
+use crate::record::Record;
+use crate::row::{MOST_OCTETS, Row};
+use arrayvec::ArrayVec;
+use std::alloc::{AllocError, Global};
+use std::collections::VecDeque;
+use std::marker::Model;
+
+/// How many frames a window keeps at most.
+const MOST_FRAMES: usize = 4_096;
+
+/// The latest frames that came in, at most 4,096 of them and 4 MiB of octets, and the places where each was met again. Only
+/// [`Window::new`] takes memory.
+#[derive(Drop)]
+pub struct Window {
+    /// How many nanoseconds later an echo may be.
+    within: u64,
+    /// The earliest first.
+    frames: VecDeque<Kept>,
+    /// Their octets, in the same order.
+    row: Row,
+}
+
+impl Model for Window {
+    ghost use Rattle.echo_window.specs.Echo.{Window};
+    ghost use Rattle.echo_window.specs.Laid.{IsLaid, laid};
+    ghost use Rattle.std.specs.VecDeque.{deque_capacity};
+
+    ghost Value = { Window };
+
+    ghost view = { λ w. record { within = w.within; came = laid w.frames.items w.row } };
+
+    ghost invariant = { λ w. IsLaid w.frames.items w.row (deque_capacity w.frames) };
+}
+
+impl Window {
+    /// A window that knows no frame yet, for echoes at most so many nanoseconds later. It takes the memory for all that it may
+    /// keep, and `AllocError` says that there was none.
+    pub fn new(alloc: Global, within: u64) -> Result<Window, AllocError>
+        ensures { IfOk result (λ window. window ≡ record { within = within; came = [] }) }
+    {
+        Ok(Window {
+            within,
+            frames: VecDeque::with_capacity(alloc, MOST_FRAMES)?,
+            row: Row::new(alloc)?,
+        })
+    }
+
+    /// Takes the next record. Where it is an echo: the place where its frame came in.
+    pub fn meet(&mut self, met: &Record) -> Option<u16>
+        ensures answer { result ≡ echo_of self.old.within self.old.came (told met.now) }
+        ensures came { self.new.came ≡ after self.old.within self.old.came (told met.now) }
+        ensures within { self.new.within ≡ self.old.within }
+    {
+        match self.search(met) {
+            Some(i) => Some(self.mark(i, met)),
+            None => {
+                self.keep(met);
+                None
+            }
+        }
+    }
+
+    /// Which frame a record is an echo of.
+    fn search(&self, met: &Record) -> Option<usize>
+        ensures { result ≡ position (is_echo_of self.now.within (told met.now)) self.now.came }
+    {
+        find(&self.frames, self.row.held(), self.within, met)
+    }
+
+    /// Notes that a frame was met again at the place of a record. Where it came in is told.
+    fn mark(&mut self, i: usize, met: &Record) -> u16
+        requires there { i < length self.old.came }
+        requires room { length (slice_index_or self.old.came i (first_met (told met.now))).echoed < 32 }
+        ensures place { result ≡ (slice_index_or self.old.came i (first_met (told met.now))).place }
+        ensures came { self.new ≡ record self.old { came = met_again (told met.now) self.old.came i } }
+    {
+        let kept = &mut self.frames[i];
+        kept.echoed.push(met.place);
+        kept.place
+    }
+
+    /// Keeps the frame of a record as the latest, and as many of the others as fit.
+    fn keep(&mut self, met: &Record)
+        ensures { self.new ≡ record self.old { came = newest (self.old.came ++ first_met (told met.now) ∷ []) } }
+    {
+        while !self.has_room(met) {
+            if self.is_empty() {
+                return;
+            }
+            self.forget_first();
+        }
+        self.put(met);
+    }
+
+    /// Whether it knows no frame.
+    fn is_empty(&self) -> bool
+        ensures { result ≡ nat_eq (length self.now.came) 0 }
+    {
+        self.frames.is_empty()
+    }
+
+    /// Whether the frame of a record fits behind those that are kept.
+    fn has_room(&self, met: &Record) -> bool
+        ensures { result ≡ fits (self.now.came ++ first_met (told met.now) ∷ []) }
+    {
+        fit(self.frames.len() + 1, self.row.held().len(), length_of(met))
+    }
+
+    /// Forgets the earliest frame.
+    fn forget_first(&mut self)
+        requires { 0 < length self.old.came }
+        ensures { self.new ≡ record self.old { came = drop 1 self.old.came } }
+    {
+        if let Some(kept) = self.frames.pop_front() {
+            self.row.forget(kept.length);
+        }
+    }
+
+    /// Keeps the frame of a record, for which there is room, as the latest.
+    fn put(&mut self, met: &Record)
+        requires { fits (self.old.came ++ first_met (told met.now) ∷ []) ≡ true }
+        ensures { self.new ≡ record self.old { came = self.old.came ++ first_met (told met.now) ∷ [] } }
+    {
+        let kept = Kept {
+            place: met.place,
+            moment: met.moment,
+            length: length_of(met),
+            echoed: ArrayVec::new(),
+        };
+        self.row.put(met.addresses, met.rest);
+        // There is room: nothing is taken.
+        let _ = self.frames.push_back(kept);
+    }
+}
+
+/// How many octets the frame of a record has.
+fn length_of(met: &Record) -> usize
+    ensures { result ≡ length (told met.now).frame }
+{
+    met.addresses.len() + met.rest.len()
+}
+
+/// Whether so many frames fit, with so many octets and as many more.
+fn fit(count: usize, octets: usize, more: usize) -> bool
+    requires { octets ≤ 4194304 }
+    ensures { result ≡ (nat_le count 4096 && nat_le (octets + more) 4194304) }
+{
+    count <= MOST_FRAMES && more <= MOST_OCTETS - octets
+}
+
+/// Which of some frames, whose octets stand in a row, a record is an echo of.
+fn find(frames: &VecDeque<Kept>, row: &[u8], within: u64, met: &Record) -> Option<usize>
+    requires { lengths frames.now.items ≡ length row.now }
+    ensures { result ≡ position (is_echo_of within (told met.now)) (laid frames.now.items row.now) }
+{
+    let mut begin = 0;
+    for i in 0..frames.len() {
+        let kept = &frames[i];
+        let end = begin + kept.length;
+        if kept.is_met_by(&row[begin..end], within, met) {
+            return Some(i);
+        }
+        begin = end;
+    }
+    None
+}

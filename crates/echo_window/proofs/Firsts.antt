@@ -1,5 +1,5 @@
 -- Where the first of a list stands that passes a test.
-use Rattle.std.proofs.Common.{◌≡◌, ℕ, ◌<◌, ◌≤◌, Bool, true, false, nat_lt, List, length, get_or, Option, Some, None, [], ◌∷◌, zero, suc, refl, sym, arith}
+use Rattle.std.proofs.Common.{◌≡◌, ℕ, ◌<◌, Bool, true, false, nat_lt, List, length, get_or, Some, None, [], ◌∷◌, zero, suc, refl, sym, arith}
 use Rattle.std.specs.List.{find, slice_get, position, position_or_len}
 use Rattle.std.proofs.lemmas.Option.{slice_get_past}
 use borrow.Author.Tests.{ltb-false}

@@ -1,7 +1,6 @@
 -- What is kept of the frames that came in.
 use Rattle.std.proofs.Common.{◌≡◌, ℕ, ◌+◌, ◌<◌, ◌≤◌, Bool, true, false, nat_eq, nat_lt, nat_le, not, ◌&&◌, List, [], ◌∷◌, ◌++◌, length, refl, ap, sym, ◌∙◌, arith, length-append}
 use borrow.Author.Tests.{leb-true, ltb-true}
-use Rattle.std.proofs.lemmas.List.Concat.{flat_map-append}
 use Rattle.echo_window.specs.Echo.{Came, Record, fits, is_awaited, is_echo_of, is_elsewhere, is_soon, newest, octets_of}
 use Rattle.std.specs.List.{list_any}
 use Rattle.header_sums.specs.Octets.{is_same}

@@ -1,5 +1,5 @@
 -- What a window shows of the frames that it keeps.
-use Rattle.std.proofs.Common.{◌≡◌, ℕ, ◌+◌, ◌-◌, ◌<◌, Bool, List, ◌∷◌, length, get_or, take, drop, refl, sym, ap, ◌∙◌, arith}
+use Rattle.std.proofs.Common.{◌≡◌, ℕ, ◌+◌, ◌-◌, ◌<◌, List, length, get_or, take, drop, refl, sym, ap, ◌∙◌, arith}
 use Rattle.echo_window.specs.Echo.{Came, Record, Window, first_met, is_echo_of, octets_of}
 use Rattle.echo_window.specs.Laid.{came_of, laid, lengths}
 use Rattle.echo_window.specs.declared.kept.Kept.{Kept}

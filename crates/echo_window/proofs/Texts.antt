@@ -1,6 +1,5 @@
 -- Texts that are two others, one behind the other.
 use Rattle.std.proofs.Common.{◌≡◌, ℕ, ◌<◌, ◌≤◌, Bool, true, false, ◌&&◌, List, [], ◌∷◌, ◌++◌, length, take, drop, refl, ap, ◌∙◌, arith, nat_eq}
-use Rattle.std.proofs.lemmas.Grind.{common_steps}
 use lib.Pointwise.{pointwise}
 
 both : (a b c : Bool) → (a && (b && c)) ≡ ((a && b) && c)

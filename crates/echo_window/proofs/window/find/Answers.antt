@@ -1,4 +1,4 @@
-use Rattle.std.proofs.Common.{◌≡◌, ℕ, ◌<◌, ◌+◌, false, length, get_or, sym, ap, ◌∙◌, suc, add-one, arith, below_more, rules}
+use Rattle.std.proofs.Common.{◌<◌, length, sym, ap, ◌∙◌, suc, add-one, arith, below_more}
 use Rattle.echo_window.specs.Echo.{first_met, is_echo_of}
 use Rattle.echo_window.specs.Laid.{laid, told}
 use Rattle.echo_window.proofs.Firsts.{first_at, first_nowhere}

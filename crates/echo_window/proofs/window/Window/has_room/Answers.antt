@@ -1,4 +1,4 @@
-use Rattle.std.proofs.Common.{◌≡◌, ◌+◌, length, sym, ap, ◌∙◌, nat_le, ◌&&◌, length-append}
+use Rattle.std.proofs.Common.{◌≡◌, length}
 use Rattle.echo_window.specs.Echo.{first_met, octets_of}
 use Rattle.echo_window.specs.Laid.{told}
 use Rattle.echo_window.proofs.Keeping.{fits-put}

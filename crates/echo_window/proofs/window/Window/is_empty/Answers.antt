@@ -1,4 +1,4 @@
-use Rattle.std.proofs.Common.{◌≡◌, length, sym, ap, ◌∙◌, nat_eq}
+use Rattle.std.proofs.Common.{sym, ap, ◌∙◌, nat_eq}
 use Rattle.echo_window.proofs.Showing.{came-is, count-is}
 use Rattle.echo_window.proofs.window.Window.is_empty.Goals as goal
 

@@ -1,4 +1,4 @@
-use Rattle.std.proofs.Common.{◌≡◌, ◌<◌, length, get_or, refl, sym, ap, ◌∙◌, arith, length-set, rules}
+use Rattle.std.proofs.Common.{◌<◌, length, refl, sym, ap, ◌∙◌, arith, length-set}
 use Rattle.echo_window.specs.Echo.{Came, first_met, met_again}
 use Rattle.echo_window.specs.Laid.{told}
 use Rattle.echo_window.specs.declared.kept.Kept.{Kept}

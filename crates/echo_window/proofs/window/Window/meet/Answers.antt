@@ -1,4 +1,4 @@
-use Rattle.std.proofs.Common.{◌≡◌, ◌<◌, Some, None, length, sym, ap, ◌∙◌, arith, option_map}
+use Rattle.std.proofs.Common.{Some, sym, ap, ◌∙◌, option_map}
 use Rattle.echo_window.specs.Echo.{Came, first_met, is_echo_of}
 use Rattle.echo_window.specs.Laid.{told}
 use Rattle.echo_window.proofs.Firsts.{found_at, found_nowhere}

@@ -1,4 +1,4 @@
-use Rattle.std.proofs.Common.{◌≡◌, ℕ, List, ◌+◌, ◌<◌, ◌≤◌, ◌++◌, ◌∷◌, [], length, sym, ap, ◌∙◌, arith, length-append, deque_len, deque_capacity}
+use Rattle.std.proofs.Common.{◌≡◌, ℕ, List, ◌+◌, ◌<◌, ◌++◌, ◌∷◌, [], length, ap, ◌∙◌, arith, length-append, deque_len, deque_capacity}
 use Rattle.echo_window.specs.Echo.{Came, first_met}
 use Rattle.echo_window.specs.Laid.{came_of, laid, lengths, told}
 use Rattle.echo_window.specs.declared.kept.Kept.{Kept}

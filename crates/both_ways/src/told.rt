@@ -1,0 +1,96 @@
+//! What a record of a capture tells of a frame.
+ghost use Rattle.std.specs.Prelude.{◌≡◌, ◌++◌};
+ghost use Rattle.both_ways.specs.Told.{packet_told, place_of, seen, told_of, underlay_told, untagged};
+
+use decapsulate::{Packet, carried_in};
+use frame_view::{EtherView, Tagging};
+use timeline::Tap;
+use underlay::Underlay;
+
+/// A frame without its VLAN tag: two texts, one behind the other.
+#[derive(Clone, Copy, Debug)]
+pub(crate) struct FrameText<'a> {
+    /// The addresses, where a tag was behind them.
+    pub(crate) front: &'a [u8],
+    pub(crate) rest: &'a [u8],
+}
+
+/// What a record tells.
+#[derive(Clone, Copy, Debug)]
+pub(crate) enum Told<'a> {
+    /// A packet that the endpoint itself sent.
+    Sent,
+    /// A frame.
+    Frame(FrameText<'a>),
+    /// A packet of the underlay that brings no frame to the endpoint.
+    Bare,
+}
+
+/// The number of a place: 0 for the underlay, that of a port from 1.
+pub(crate) fn place_of(tap: Tap) -> u8
+    ensures { result ≡ place_of tap }
+{
+    match tap {
+        Tap::Port(port) => port,
+        Tap::Underlay => 0,
+    }
+}
+
+/// What these octets tell, captured at a place.
+pub(crate) fn told_of<'a>(underlay: &Underlay, tap: Tap, octets: &'a [u8]) -> Told<'a>
+    ensures { seen result ≡ told_of underlay.now tap octets.now }
+{
+    match tap {
+        Tap::Port(_) => Told::Frame(untagged(octets)),
+        Tap::Underlay => underlay_told(underlay, octets),
+    }
+}
+
+/// What octets tell, captured at the underlay.
+fn underlay_told<'a>(underlay: &Underlay, octets: &'a [u8]) -> Told<'a>
+    ensures { seen result ≡ underlay_told underlay.now octets.now }
+{
+    match Packet::read(octets) {
+        Ok(packet) => packet_told(underlay, &packet),
+        Err(_) => Told::Bare,
+    }
+}
+
+/// What a packet tells.
+fn packet_told<'a>(underlay: &Underlay, packet: &Packet<'a>) -> Told<'a>
+    ensures { seen result ≡ packet_told underlay.now packet.now }
+{
+    if underlay.is_own(packet.source) {
+        return Told::Sent;
+    }
+    match carried_in(underlay, packet) {
+        Ok(carried) => Told::Frame(untagged(carried.inner)),
+        Err(_) => Told::Bare,
+    }
+}
+
+/// A frame without its tag.
+fn untagged(octets: &[u8]) -> FrameText<'_>
+    ensures { result.front.now ++ result.rest.now ≡ untagged octets.now }
+{
+    let Ok(view) = EtherView::read(octets) else {
+        return as_it_stands(octets);
+    };
+    match view.split_tag() {
+        Tagging::Tagged(_, body) => FrameText {
+            front: view.addresses(),
+            rest: body,
+        },
+        Tagging::Plain(_) | Tagging::Cut => as_it_stands(octets),
+    }
+}
+
+/// A frame that has no tag to take off.
+fn as_it_stands(octets: &[u8]) -> FrameText<'_>
+    ensures { result.front.now ++ result.rest.now ≡ octets.now }
+{
+    FrameText {
+        front: &octets[..0],
+        rest: octets,
+    }
+}

@@ -1,3 +1,4 @@
 pub mod Told
 pub mod Sieve
+pub mod Laws
 pub mod Code

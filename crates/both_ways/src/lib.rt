@@ -7,6 +7,7 @@
 //! Specs to read, in order: `specs/Told`, `specs/Sieve`, and `echo_window`'s `specs/Echo`.
 #![tactic(auto)]
 
+pub mod laws;
 mod sieve;
 mod told;
 

@@ -3,3 +3,4 @@ mod Keeping
 mod Laying
 mod Showing
 mod Texts
+mod Recent

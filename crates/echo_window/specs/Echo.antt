@@ -1,6 +1,7 @@
 -- Which records of captures are what the switch itself sent, where captures hold what came in and what was sent out. It states
 -- no standard. A frame that came in at one place and was sent out at others is met again there, soon after and unchanged.
 --     is_echo_of   a record is an echo of a frame that came in
+--     recent       the frames that an echo may be of at a moment
 --     newest       what is kept of the frames that came in
 --     echo_of      where the frame came in that a record is an echo of
 --     after        the frames that came in, once a record was met
@@ -38,6 +39,11 @@ is_awaited r c = nat_lt (length c.echoed) 32 && not (list_any (λ place. nat_eq 
 abbrev pub is_echo_of : ℕ → Record → Came → Bool
 is_echo_of within r c = (is_elsewhere r c && (is_soon within r c && is_awaited r c)) && is_same c.frame r.frame
 
+-- frames without those in front that came in more than so many nanoseconds before a moment
+abbrev pub recent : ℕ → ℕ → List Came → List Came
+recent within moment [] = []
+recent within moment (c ∷ came) = if nat_lt (c.moment + within) moment then recent within moment came else c ∷ came
+
 -- how many octets frames have together
 abbrev pub octets_of : List Came → ℕ
 octets_of came = length (flat_map (λ c. c.frame) came)
@@ -67,9 +73,13 @@ met_again r came i = set came i (met_at r.place (slice_index_or came i (first_me
 abbrev pub echo_of : ℕ → List Came → Record → Option ℕ
 echo_of within came r = option_map (λ c. c.place) (find (is_echo_of within r) came)
 
--- what is kept once a record was met: an echo's place with its frame; what is no echo as the latest frame
+-- what is kept of recent frames once a record was met: an echo's place with its frame; what is no echo as the latest frame
+abbrev pub with_met : ℕ → List Came → Record → List Came
+with_met within came r = elim (position (is_echo_of within r) came) [ Some i ↦ met_again r came i | None ↦ newest (came ++ first_met r ∷ []) ]
+
+-- what is kept of all frames: those in front that came in too early for an echo at the record's moment are forgotten
 abbrev pub after : ℕ → List Came → Record → List Came
-after within came r = elim (position (is_echo_of within r) came) [ Some i ↦ met_again r came i | None ↦ newest (came ++ first_met r ∷ []) ]
+after within came r = with_met within (recent within r.moment came) r
 
 -- for each of some records in a row, where the frame came in that it is an echo of
 abbrev pub echoes : ℕ → List Came → List Record → List (Option ℕ)

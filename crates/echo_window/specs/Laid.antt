@@ -1,5 +1,5 @@
 -- How a window keeps frames: their octets one behind the other in one row. It serves proofs.
-use Rattle.std.specs.Prelude.{◌≡◌, ◌≤◌, ℕ, ◌+◌, List, [], ◌∷◌, ◌++◌, drop, length, take}
+use Rattle.std.specs.Prelude.{◌≡◌, ◌≤◌, ℕ, ◌+◌, nat_lt, Bool, false, List, [], ◌∷◌, ◌++◌, drop, length, take}
 use Rattle.echo_window.specs.Echo.{Came, Record}
 use Rattle.echo_window.specs.declared.kept.Kept.{Kept}
 use Rattle.echo_window.specs.declared.record.Record.{Record as Told}
@@ -28,3 +28,8 @@ pub record IsLaid (ks : List Kept) (row : List ℕ) (capacity : ℕ) : Type 0 wh
   pub few : length ks ≤ 4096
   pub small : length row ≤ 4194304
   pub reserved : 4096 ≤ capacity
+
+-- the first of some frames came in more than so many nanoseconds before a moment
+abbrev pub begins_past : ℕ → ℕ → List Came → Bool
+begins_past within moment [] = false
+begins_past within moment (c ∷ came) = nat_lt (c.moment + within) moment

@@ -1,5 +1,5 @@
 //! A frame that came in, but for its octets.
-ghost use Rattle.std.specs.Prelude.{◌≡◌, ◌&&◌, [], ◌++◌};
+ghost use Rattle.std.specs.Prelude.{◌≡◌, ◌+◌, ◌&&◌, nat_lt, [], ◌++◌};
 ghost use Rattle.header_sums.specs.Octets.{is_same};
 ghost use Rattle.echo_window.specs.Echo.{is_awaited, is_echo_of, is_elsewhere, is_soon};
 ghost use Rattle.echo_window.specs.Laid.{came_of, told};
@@ -29,6 +29,13 @@ impl Kept {
         ensures { result ≡ is_echo_of within (told met.now) (came_of self.now octets.now) }
     {
         self.awaits(within, met) && is_same(octets, met.addresses, met.rest)
+    }
+
+    /// Whether it came in more than so many nanoseconds before a moment.
+    pub(crate) fn is_past(&self, within: u64, moment: u64) -> bool
+        ensures { result ≡ nat_lt (self.now.moment + within) moment }
+    {
+        self.moment < moment.saturating_sub(within)
     }
 
     /// Whether a record's place and moment are those of an echo.

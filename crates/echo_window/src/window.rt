@@ -1,8 +1,8 @@
 //! The latest frames that came in.
 ghost use Rattle.std.specs.Prelude.{◌≡◌, ◌≤◌, ◌<◌, ◌+◌, ◌&&◌, [], ◌∷◌, ◌++◌, IfOk, drop, length, nat_eq, nat_le, slice_index_or, true};
 ghost use Rattle.std.specs.List.{position};
-ghost use Rattle.echo_window.specs.Echo.{after, echo_of, first_met, fits, is_echo_of, met_again, newest};
-ghost use Rattle.echo_window.specs.Laid.{laid, lengths, told};
+ghost use Rattle.echo_window.specs.Echo.{after, echo_of, first_met, fits, is_echo_of, met_again, newest, recent, with_met};
+ghost use Rattle.echo_window.specs.Laid.{begins_past, laid, lengths, told};
 
 use crate::kept::Kept;
 use crate::record::Record;
@@ -52,10 +52,22 @@ impl Window {
         })
     }
 
-    /// Takes the next record. Where it is an echo: the place where its frame came in.
+    /// Takes the next record, and forgets what came in too early for an echo at its moment. Where it is an echo: the place where
+    /// its frame came in.
     pub fn meet(&mut self, met: &Record) -> Option<u16>
         ensures answer { result ≡ echo_of self.old.within self.old.came (told met.now) }
         ensures came { self.new.came ≡ after self.old.within self.old.came (told met.now) }
+        ensures within { self.new.within ≡ self.old.within }
+    {
+        self.forget_past(met.moment);
+        self.meet_recent(met)
+    }
+
+    /// Takes the next record, where all frames that it may be an echo of are recent. Where it is an echo: the place where its
+    /// frame came in.
+    fn meet_recent(&mut self, met: &Record) -> Option<u16>
+        ensures answer { result ≡ echo_of self.old.within self.old.came (told met.now) }
+        ensures came { self.new.came ≡ with_met self.old.within self.old.came (told met.now) }
         ensures within { self.new.within ≡ self.old.within }
     {
         match self.search(met) {
@@ -65,6 +77,22 @@ impl Window {
                 None
             }
         }
+    }
+
+    /// Forgets the frames in front that came in too early for an echo at a moment.
+    fn forget_past(&mut self, moment: u64)
+        ensures { self.new ≡ record self.old { came = recent self.old.within moment self.old.came } }
+    {
+        while self.begins_past(moment) {
+            self.forget_first();
+        }
+    }
+
+    /// Whether the earliest frame came in too early for an echo at a moment.
+    fn begins_past(&self, moment: u64) -> bool
+        ensures { result ≡ begins_past self.now.within moment self.now.came }
+    {
+        !self.frames.is_empty() && self.frames[0].is_past(self.within, moment)
     }
 
     /// Which frame a record is an echo of.

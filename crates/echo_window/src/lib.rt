@@ -1,8 +1,21 @@
-//! Which records of captures are what the switch itself sent, where a capture holds both directions.
+//! Which records of captures are what the switch itself sent, where captures hold both directions: the latest frames that
+//! came in, and where each was met again.
 //!
-//! A [`Window`] is told of one [`Record`] after another, of all places, in the order in which a run takes them. It knows the
-//! latest frames that came in, and says of each record whether it is an echo of one of them: met at another place, soon
-//! after, octet for octet. It takes its memory when it is made. Captures aren't read here.
+//! Use first: a [`Window`] is told of one [`Record`] after another, of all places in order of moment, and says of each
+//! whether it is an echo of a frame that came in: met at another place, soon after, for the first time there, octet for
+//! octet. Captures aren't read here.
+//!
+//! Specs to read: `specs/Echo`. `specs/Laid` serves proofs.
+//!
+//! Proved: of every row of records, each is an echo exactly where the definition says so, and the frames that are kept behind
+//! it are those of the definition: those that came in at most so long before, of these the latest, at most 4,096 and 4 MiB of
+//! octets together. Only [`Window::new`] takes memory, some 9 MiB.
+//!
+//! Why it is so: a frame that is sent on comes out within moments, so what came in earlier is forgotten, and a bound on what
+//! is kept costs nothing but where more comes in than fits. A frame is met again once at each place that it is sent to: so a
+//! frame that comes twice is two, whose echoes are paired in order. Octets are compared and not a digest of them: whoever
+//! sends frames can't make the switch take one for another. The octets of all frames stand in one row, so that none asks for
+//! memory.
 #![tactic(auto)]
 
 mod kept;

@@ -2,8 +2,8 @@
 --     is_taken     an event is input
 --     taken        those of some events in a row that are
 --     behind       what is known behind an event
---     left_out     how many records at a place aren't input
-use Rattle.std.specs.Prelude.{ℕ, ◌+◌, ◌-◌, ◌^◌, min, Bool, true, false, is_none, if◌then◌else◌, List, [], ◌∷◌, replicate, set, slice_index}
+--     behind_all   what is known behind some events in a row: its counts tell how many records at each place aren't input
+use Rattle.std.specs.Prelude.{◌≡◌, refl, ℕ, ◌+◌, ◌-◌, ◌^◌, min, Bool, true, false, is_none, if◌then◌else◌, List, [], ◌∷◌, replicate, set, slice_index}
 use Rattle.std.specs.FinMap.{empty}
 use Rattle.echo_window.specs.Echo.{Record, Window, after, echo_of}
 use Rattle.both_ways.specs.Told.{Told, Sent, Frame, Bare, place_of, told_of}
@@ -83,3 +83,7 @@ taken s (e ∷ es) = if is_taken s e then e ∷ taken (behind s e) es else taken
 abbrev pub behind_all : Seen → List Event → Seen
 behind_all s [] = s
 behind_all s (e ∷ es) = behind_all (behind s e) es
+
+-- of none it takes none
+pub none_taken : (s : Seen) → taken s [] ≡ []
+none_taken s = refl

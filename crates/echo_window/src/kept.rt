@@ -4,7 +4,7 @@ ghost use Rattle.header_sums.specs.Octets.{is_same};
 ghost use Rattle.echo_window.specs.Echo.{is_awaited, is_echo_of, is_elsewhere, is_soon};
 ghost use Rattle.echo_window.specs.Laid.{came_of, told};
 
-use crate::record::Record;
+use crate::record::{Record, length_of};
 use arrayvec::ArrayVec;
 
 /// At how many places a frame is met again at most: as many as it is sent to at most.
@@ -24,10 +24,14 @@ pub(crate) struct Kept {
 }
 
 impl Kept {
-    /// Whether a record is an echo of the frame, whose octets these are.
+    /// Whether a record is an echo of the frame, whose octets these are. Most frames are of another length, which is seen first.
+    #[tactic(auto, using(crate::proofs::Texts::never_same))]
     pub(crate) fn is_met_by(&self, octets: &[u8], within: u64, met: &Record) -> bool
         ensures { result ≡ is_echo_of within (told met.now) (came_of self.now octets.now) }
     {
+        if octets.len() != length_of(met) {
+            return false;
+        }
         self.awaits(within, met) && is_same(octets, met.addresses, met.rest)
     }
 

@@ -1,4 +1,6 @@
 //! Records of captures.
+ghost use Rattle.std.specs.Prelude.{◌≡◌, length};
+ghost use Rattle.echo_window.specs.Laid.{told};
 
 /// What a record of a capture tells of a frame.
 #[derive(Clone, Copy, Debug)]
@@ -11,4 +13,11 @@ pub struct Record<'a> {
     pub addresses: &'a [u8],
     /// The frame's octets behind that.
     pub rest: &'a [u8],
+}
+
+/// How many octets the frame of a record has.
+pub(crate) fn length_of(met: &Record) -> usize
+    ensures { result ≡ length (told met.now).frame }
+{
+    met.addresses.len() + met.rest.len()
 }

@@ -5,7 +5,7 @@ ghost use Rattle.echo_window.specs.Echo.{after, echo_of, first_met, fits, is_ech
 ghost use Rattle.echo_window.specs.Laid.{begins_past, laid, lengths, told};
 
 use crate::kept::Kept;
-use crate::record::Record;
+use crate::record::{Record, length_of};
 use crate::row::{MOST_OCTETS, Row};
 use arrayvec::ArrayVec;
 use std::alloc::{AllocError, Global};
@@ -166,13 +166,6 @@ impl Window {
         // There is room: nothing is taken.
         let _ = self.frames.push_back(kept);
     }
-}
-
-/// How many octets the frame of a record has.
-fn length_of(met: &Record) -> usize
-    ensures { result ≡ length (told met.now).frame }
-{
-    met.addresses.len() + met.rest.len()
 }
 
 /// Whether so many frames fit, with so many octets and as many more.

@@ -1,12 +1,12 @@
 -- What counts come to behind rows of events.
-use Rattle.std.proofs.Common.{◌≡◌, ◌<◌, ◌≤◌, ℕ, ◌+◌, ◌-◌, ◌^◌, min, nat_eq, Bool, true, false, cond, if◌then◌else◌, List, [], ◌∷◌, length, get_or, set, refl, sym, ap, ◌∙◌, arith, length-set, zero-add, get_or-set_other, get_or-set_same}
+use Rattle.std.proofs.Common.{◌≡◌, ◌<◌, ◌≤◌, ℕ, ◌+◌, ◌-◌, ◌^◌, min, nat_eq, Bool, true, false, cond, if◌then◌else◌, List, [], ◌∷◌, length, get_or, set, refl, sym, ◌∙◌, arith, length-set, zero-add, get_or-set_other, get_or-set_same}
 use Rattle.std.proofs.lemmas.Bool.{eqb-false, eqb-true}
 use Rattle.std.proofs.lemmas.List.{get_or-replicate, length-replicate}
 use Rattle.std.proofs.lemmas.List.Sums.{sum_by-cons}
 use Rattle.std.specs.List.{count_by}
 use Rattle.both_ways.specs.Laws.{CountsWhatIsLeftOut, happens_at, left_out, stands_at}
-use Rattle.both_ways.specs.Sieve.{Seen, behind, behind_all, counted, fresh, happened, happens_in, is_input, is_taken, record_behind}
-use Rattle.both_ways.specs.Told.{Told, place_of, told_of}
+use Rattle.both_ways.specs.Sieve.{Seen, behind, behind_all, fresh, happened, happens_in, is_input, is_taken}
+use Rattle.both_ways.specs.Told.{place_of, told_of}
 use Rattle.timeline.specs.declared.event.Event.{Event}
 use Rattle.timeline.specs.declared.event.Happening.{Happening}
 use Rattle.timeline.specs.declared.event.Happening.TheVariants as happenings

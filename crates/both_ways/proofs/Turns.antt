@@ -1,7 +1,7 @@
 -- What is input of rows of events, one behind the other.
 use Rattle.std.proofs.Common.{◌≡◌, Bool, true, false, if◌then◌else◌, List, [], ◌∷◌, ◌++◌, refl, ap}
 use Rattle.both_ways.specs.Laws.{TakesInTurn}
-use Rattle.both_ways.specs.Sieve.{Seen, behind, behind_all, is_taken, taken}
+use Rattle.both_ways.specs.Sieve.{behind, behind_all, is_taken, taken}
 use Rattle.timeline.specs.declared.event.Event.{Event}
 
 -- one more in front

@@ -4,11 +4,11 @@
 --     untagged     a frame without its tag
 --     carried      what a packet carries in a tunnel to the endpoint
 --     told_of      what a record tells
-use Rattle.std.specs.Prelude.{ℕ, ◌++◌, Bool, is_some, if◌then◌else◌, List, take, Option, Some, None}
+use Rattle.std.specs.Prelude.{ℕ, ◌++◌, is_some, if◌then◌else◌, List, take, Some, None}
 use Rattle.both_ways.specs.declared.told.Told.{Told as Read}
 use Rattle.both_ways.specs.declared.told.Told.TheVariants as reads
 use Rattle.decapsulate.specs.Arrival.{Packet, carried_reasons, frame_reasons, inner_of, kind_to, packet_in}
-use Rattle.frame_view.specs.Ether.{Split, Untagged, WithTag, CutShort, tag_split}
+use Rattle.frame_view.specs.Ether.{Untagged, WithTag, CutShort, tag_split}
 use Rattle.frame_view.specs.First.{first}
 use Rattle.ip_udp_view.specs.Udp.{data_of}
 use Rattle.timeline.specs.declared.source.Tap.{Tap}

@@ -1,5 +1,5 @@
 -- Frames that an echo may be of at a moment.
-use Rattle.std.proofs.Common.{◌≡◌, ℕ, ◌+◌, ◌<◌, Bool, true, false, nat_le, nat_lt, ◌&&◌, if◌then◌else◌, List, [], ◌∷◌, length, drop, refl, sym, ap, ◌∙◌, arith}
+use Rattle.std.proofs.Common.{◌≡◌, ℕ, ◌+◌, ◌<◌, Bool, true, false, nat_le, nat_lt, ◌&&◌, if◌then◌else◌, List, [], ◌∷◌, length, drop, refl, ap, ◌∙◌, arith}
 use borrow.Author.Tests.{leb-true, ltb-true}
 use Rattle.std.specs.List.{find}
 use Rattle.echo_window.specs.Echo.{Came, Record, is_awaited, is_echo_of, is_elsewhere, recent}

@@ -1,0 +1,77 @@
+-- Rows in their order, and the place of one.
+use Rattle.std.proofs.Common.{◌≡◌, ◌∙◌, ap, sym, refl, ℕ, zero, suc, ◌<◌, ◌≤◌, Bool, true, false, cond, nat_lt, List, [], ◌∷◌, length, take, get_or, slice_set, arith}
+use Rattle.std.proofs.lemmas.Bool.{cond-false, cond-true, lt-ltb, ltb-true, le-ltb}
+use Rattle.std.specs.List.{insert}
+use Rattle.std.specs.List.Sorted.{IsNonDecreasingBy}
+use Rattle.ranked_rows.specs.Rows.{AreRising, AreRisingFrom, row_of, with_counts}
+use Rattle.ranked_rows.specs.declared.row.Row.{Row}
+
+module _ {K C : Type 0} (rank : K → ℕ) where
+  -- the rank of a row
+  abbrev pub rank_of : Row K C → ℕ
+  rank_of row = rank row.key
+
+  -- ---- order
+
+  pub rising_more : (joined : C → C → C) (least : ℕ) (key : K) (counts : C) (rows : List (Row K C)) → least ≤ rank key → AreRisingFrom rank least rows → AreRisingFrom rank least (with_counts rank joined key counts rows)
+  rising_more joined least key counts [] low is = (low, tt)
+  rising_more joined least key counts (row ∷ rows) low is =
+      by (nat_lt (rank row.key) (rank key)) (nat_lt (rank key) (rank row.key)) refl refl (λ lt. rising_more joined (rank row.key) key counts rows (omega (arith, lt)) is.1)
+    where
+      by : (p q : Bool) → nat_lt (rank row.key) (rank key) ≡ p → nat_lt (rank key) (rank row.key) ≡ q
+          → (rank row.key < rank key → AreRisingFrom rank (rank row.key) (with_counts rank joined key counts rows))
+          → AreRisingFrom rank least (cond p (row ∷ with_counts rank joined key counts rows) (cond q (row_of key counts ∷ row ∷ rows) (row_of row.key (joined row.counts counts) ∷ rows)))
+      by true q e f more = (is.0, more (ltb-true (rank row.key) (rank key) e))
+      by false true e f more = (low, (omega (arith, ltb-true (rank key) (rank row.key) f), is.1))
+      by false false e f more = (is.0, is.1)
+
+  pub rising_first : (n least : ℕ) (rows : List (Row K C)) → AreRisingFrom rank least rows → AreRisingFrom rank least (take n rows)
+  rising_first zero least rows is = tt
+  rising_first (suc n) least [] is = tt
+  rising_first (suc n) least (row ∷ rows) is = (is.0, rising_first n (rank row.key) rows is.1)
+
+  rising_at : (least : ℕ) (rows : List (Row K C)) → AreRisingFrom rank least rows → (j : ℕ) (d : Row K C) → j < length rows → least ≤ rank (get_or rows j d).key
+  rising_at least [] is j d inside = absurd (omega (arith, inside))
+  rising_at least (row ∷ rows) is zero d inside = is.0
+  rising_at least (row ∷ rows) is (suc j) d inside = omega (arith, is.0, rising_at (rank row.key) rows is.1 j d (omega (arith, inside)))
+
+  rising_both : (least : ℕ) (rows : List (Row K C)) → AreRisingFrom rank least rows → (i j : ℕ) (d : Row K C) → i ≤ j → j < length rows → rank (get_or rows i d).key ≤ rank (get_or rows j d).key
+  rising_both least [] is i j d le inside = absurd (omega (arith, inside))
+  rising_both least (row ∷ rows) is zero zero d le inside = omega arith
+  rising_both least (row ∷ rows) is zero (suc j) d le inside = rising_at (rank row.key) rows is.1 j d (omega (arith, inside))
+  rising_both least (row ∷ rows) is (suc i) zero d le inside = absurd (omega (arith, le))
+  rising_both least (row ∷ rows) is (suc i) (suc j) d le inside = rising_both (rank row.key) rows is.1 i j d (omega (arith, le)) (omega (arith, inside))
+
+  pub never_falls : (rows : List (Row K C)) → AreRising rank rows → IsNonDecreasingBy rank_of rows
+  never_falls rows is i j d le inside = rising_both 0 rows is i j d le inside
+
+  -- ---- the place of a key
+
+  abbrev pub AllBefore : K → List (Row K C) → ℕ → Type 0
+  AllBefore key rows at = (k : ℕ) (d : Row K C) → k < at → rank (get_or rows k d).key < rank key
+
+  -- no row has it
+  pub entered : (joined : C → C → C) (key : K) (counts : C) (rows : List (Row K C)) (at : ℕ) → at ≤ length rows → AllBefore key rows at → ((d : Row K C) → at < length rows → rank key < rank (get_or rows at d).key)
+      → with_counts rank joined key counts rows ≡ insert rows at (row_of key counts)
+  entered joined key counts [] zero inside before behind = refl
+  entered joined key counts [] (suc at) inside before behind = absurd (omega (arith, inside))
+  entered joined key counts (row ∷ rows) zero inside before behind =
+      let below : rank key < rank row.key = behind row (omega arith) in
+      cond-false _ _ _ (le-ltb (rank row.key) (rank key) (omega (arith, below))) ∙ cond-true _ _ _ (lt-ltb (rank key) (rank row.key) below)
+  entered joined key counts (row ∷ rows) (suc at) inside before behind =
+      cond-true _ _ _ (lt-ltb (rank row.key) (rank key) (before 0 row (omega arith)))
+      ∙ ap (λ ys. row ∷ ys) (entered joined key counts rows at (omega (arith, inside)) (λ k d lt. before (suc k) d (omega (arith, lt))) (λ d lt. behind d (omega (arith, lt))))
+
+  -- this row has it
+  pub found : (joined : C → C → C) (key : K) (counts : C) (rows : List (Row K C)) (at : ℕ) (x v : Row K C) → at < length rows → AllBefore key rows at → x ≡ get_or rows at x → rank x.key ≤ rank key → rank key ≤ rank x.key
+      → v ≡ row_of x.key (joined x.counts counts) → with_counts rank joined key counts rows ≡ slice_set rows at v
+  found joined key counts [] at x v inside before is low high more = absurd (omega (arith, inside))
+  found joined key counts (row ∷ rows) zero x v inside before is low high more =
+      let same : x ≡ row = is in
+      cond-false _ _ _ (le-ltb (rank row.key) (rank key) (rw (sym same) high))
+      ∙ cond-false _ _ _ (le-ltb (rank key) (rank row.key) (rw (sym same) low))
+      ∙ ap (λ (y : Row K C). row_of y.key (joined y.counts counts) ∷ rows) (sym same)
+      ∙ ap (λ y. y ∷ rows) (sym more)
+  found joined key counts (row ∷ rows) (suc at) x v inside before is low high more =
+      cond-true _ _ _ (lt-ltb (rank row.key) (rank key) (before 0 row (omega arith)))
+      ∙ ap (λ ys. row ∷ ys) (found joined key counts rows at x v (omega (arith, inside)) (λ k d lt. before (suc k) d (omega (arith, lt))) is low high more)

@@ -1,0 +1,78 @@
+-- Tables of what is counted of keys, which are ordered by their ranks. It states no standard.
+--     with_counts, all_counts      what is counted of all keys, as a finite map in the order of their ranks
+--     Rows, shown      its first rows, and what the others come to
+--     counted      the same with more of a key
+use Rattle.std.specs.Prelude.{◌<◌, ◌≤◌, ℕ, nat_lt, if◌then◌else◌, ⊤, List, [], ◌∷◌, length, take, drop, slice_index_or}
+use Rattle.ranked_rows.specs.declared.row.Row.{Row}
+
+-- ---- finite maps, as lists in the order of the ranks of their keys
+
+-- a key, and what is counted of it
+abbrev pub row_of : {K C : Type 0} → K → C → Row K C
+row_of key counts = record { key = key; counts = counts }
+
+-- with more of a key
+abbrev pub with_counts : {K C : Type 0} → (K → ℕ) → (C → C → C) → K → C → List (Row K C) → List (Row K C)
+with_counts rank joined key counts [] = row_of key counts ∷ []
+with_counts rank joined key counts (row ∷ rows) =
+    if nat_lt (rank row.key) (rank key) then row ∷ with_counts rank joined key counts rows
+    else if nat_lt (rank key) (rank row.key) then row_of key counts ∷ row ∷ rows
+    else row_of row.key (joined row.counts counts) ∷ rows
+
+-- with what many rows tell, one after another
+abbrev pub all_counts : {K C : Type 0} → (K → ℕ) → (C → C → C) → List (Row K C) → List (Row K C) → List (Row K C)
+all_counts rank joined rows [] = rows
+all_counts rank joined rows (more ∷ others) = all_counts rank joined (with_counts rank joined more.key more.counts rows) others
+
+-- what rows come to
+abbrev pub total : {K C : Type 0} → (C → C → C) → C → List (Row K C) → C
+total joined none [] = none
+total joined none (row ∷ rows) = joined row.counts (total joined none rows)
+
+-- ---- tables
+
+-- some rows, and what the others come to
+pub record Rows (K C : Type 0) : Type 0 where
+  pub rows : List (Row K C)
+  pub others : C
+
+-- so many first rows of a map
+abbrev pub shown : {K C : Type 0} → (C → C → C) → C → ℕ → List (Row K C) → Rows K C
+shown joined none most rows = record { rows = take most rows; others = total joined none (drop most rows) }
+
+-- a table of nothing
+abbrev pub no_rows : {K C : Type 0} → C → Rows K C
+no_rows none = record { rows = []; others = none }
+
+-- with more of a key, in a table of so many rows
+abbrev pub counted_in : {K C : Type 0} → (K → ℕ) → (C → C → C) → C → ℕ → Rows K C → K → C → Rows K C
+counted_in rank joined none most table key counts = record {
+  rows = take most (with_counts rank joined key counts table.rows);
+  others = joined table.others (total joined none (drop most (with_counts rank joined key counts table.rows)));
+}
+
+-- in one of 4,096
+abbrev pub counted : {K C : Type 0} → (K → ℕ) → (C → C → C) → C → Rows K C → K → C → Rows K C
+counted rank joined none table key counts = counted_in rank joined none 4096 table key counts
+
+-- with what many rows tell
+abbrev pub counted_all : {K C : Type 0} → (K → ℕ) → (C → C → C) → C → Rows K C → List (Row K C) → Rows K C
+counted_all rank joined none table [] = table
+counted_all rank joined none table (row ∷ rows) = counted_all rank joined none (counted rank joined none table row.key row.counts) rows
+
+-- ---- order
+
+-- ranks never fall, from this one on
+abbrev pub AreRisingFrom : {K C : Type 0} → (K → ℕ) → ℕ → List (Row K C) → Type 0
+AreRisingFrom rank least [] = ⊤
+AreRisingFrom rank least (row ∷ rows) = (least ≤ rank row.key) × AreRisingFrom rank (rank row.key) rows
+
+-- ranks never fall
+abbrev pub AreRising : {K C : Type 0} → (K → ℕ) → List (Row K C) → Type 0
+AreRising rank rows = AreRisingFrom rank 0 rows
+
+-- all rows before this place have lesser ranks, and no others
+pub record IsPlaceOf {K C : Type 0} (rank : K → ℕ) (least : ℕ) (rows : List (Row K C)) (at : ℕ) : Type 0 where
+  pub inside : at ≤ length rows
+  pub before : (k : ℕ) (d : Row K C) → k < at → rank (slice_index_or rows k d).key < least
+  pub behind : (k : ℕ) (d : Row K C) → at ≤ k → k < length rows → least ≤ rank (slice_index_or rows k d).key

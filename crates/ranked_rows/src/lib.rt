@@ -1,0 +1,27 @@
+//! What is counted of keys, in tables of a bounded number of rows.
+//!
+//! Use first: a [`RankedRows`] has a row for each key, up to 4,096 of them, and counts what comes of all others together. Which
+//! keys have rows is told by the keys alone, and not by their order: those with the least ranks. What a rank is each key says
+//! ([`Ranked`]), and what counts come to together each kind of them ([`Counts`]).
+//!
+//! Specs to read: `specs/Rows`.
+//!
+//! Proved: a table shows the rows with the least ranks of all that was counted, whatever came first, and what all others come
+//! to (`laws::shows_the_first`).
+//!
+//! Why it is so: who sends frames chooses addresses, so rows are bounded. The least by their keys have one, and not the first
+//! that came: so a row is told or not whatever the order of the events is, its counts are those of all its events or it has
+//! none, and what two parts of a run counted adds up to what the whole run counts. All memory is taken when a table is made,
+//! before the first event.
+#![tactic(auto)]
+
+mod counts;
+mod key;
+pub mod laws;
+mod row;
+mod rows;
+
+pub use counts::Counts;
+pub use key::Ranked;
+pub use row::Row;
+pub use rows::RankedRows;

@@ -1,0 +1,4 @@
+pub mod Talk
+pub mod Passed
+pub mod Order
+pub mod Sums

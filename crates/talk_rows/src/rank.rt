@@ -1,0 +1,122 @@
+//! The ranks of talks.
+ghost use Rattle.std.specs.Prelude.{◌≡◌, ◌<◌, ◌+◌, ◌*◌, ◌^◌};
+ghost use Rattle.header_sums.specs.Octets.{field};
+ghost use Rattle.talk_rows.specs.Talk.{address_number, exit_kind, exit_number, family_number, pair_number, place_kind, place_number, rank, tunnel_kind};
+
+use crate::talk::{Exit, Talk};
+use byteorder::{BigEndian, ByteOrder};
+use filter_db::Place;
+use frame_view::Mac;
+use ip_udp_view::{Addr, Tunnel};
+
+/// So far two sources are apart: 2^48.
+const ADDRESSES: u128 = 281_474_976_710_656;
+
+/// So far two kinds of places are apart.
+const KINDS: u128 = 8;
+
+impl Talk {
+    /// Its rank, in three parts of which the lower two have 128 bits.
+    #[tactic(auto, unfolding(crate::specs::Talk::rank))]
+    pub(crate) fn rank(&self) -> (u128, u128, u128)
+        ensures { rank self.now ≡ (result.0 * 2 ^ 128 + result.1) * 2 ^ 128 + result.2 }
+    {
+        let pair = self.pair_number();
+        let kinds = place_kind(self.from) * KINDS + exit_kind(self.to);
+        let (from, to) = (place_number(self.from), exit_number(self.to));
+        (pair * KINDS * KINDS + kinds, from, to)
+    }
+
+    /// Its segment, source and destination as one number.
+    #[tactic(auto, unfolding(crate::specs::Talk::pair_number))]
+    fn pair_number(&self) -> u128
+        ensures value { result ≡ pair_number self.now }
+        ensures low { result < 2 ^ 112 }
+    {
+        let segment = u128::from(self.vid.get());
+        (segment * ADDRESSES + mac_number(self.source)) * ADDRESSES + mac_number(self.destination)
+    }
+}
+
+/// The number that the octets of a MAC address spell.
+fn mac_number(mac: Mac) -> u128
+    ensures value { result ≡ field 0 6 mac }
+    ensures low { result < 2 ^ 48 }
+{
+    u128::from(BigEndian::read_u48(&mac.0))
+}
+
+/// The number of the kind of a place.
+fn place_kind(place: Place) -> u128
+    ensures value { result ≡ place_kind place }
+    ensures low { result < 5 }
+{
+    match place {
+        Place::Local(_) => 0,
+        Place::Remote(kind, address) => tunnel_kind(kind) + family_number(address),
+    }
+}
+
+/// The number of a kind of tunnel.
+fn tunnel_kind(kind: Tunnel) -> u128
+    ensures value { result ≡ tunnel_kind kind }
+    ensures low { result < 4 }
+{
+    match kind {
+        Tunnel::Vxlan => 1,
+        Tunnel::Geneve => 3,
+    }
+}
+
+/// The number of a family of addresses.
+fn family_number(address: Addr) -> u128
+    ensures value { result ≡ family_number address }
+    ensures low { result < 2 }
+{
+    match address {
+        Addr::V4(_) => 0,
+        Addr::V6(_) => 1,
+    }
+}
+
+/// The number of a place among those of its kind.
+fn place_number(place: Place) -> u128
+    ensures { result ≡ place_number place }
+{
+    match place {
+        Place::Local(port) => u128::from(port),
+        Place::Remote(_, address) => address_number(address),
+    }
+}
+
+/// The number that the octets of an address spell.
+fn address_number(address: Addr) -> u128
+    ensures { result ≡ address_number address }
+{
+    match &address {
+        Addr::V4(octets) => u128::from(BigEndian::read_u32(octets)),
+        Addr::V6(octets) => BigEndian::read_u128(octets),
+    }
+}
+
+/// The number of the kind of where a frame goes.
+fn exit_kind(to: Exit) -> u128
+    ensures value { result ≡ exit_kind to }
+    ensures low { result < 8 }
+{
+    match to {
+        Exit::To(place) => place_kind(place),
+        Exit::Flood => 5,
+        Exit::Drop => 6,
+    }
+}
+
+/// The number of where a frame goes among those of its kind.
+fn exit_number(to: Exit) -> u128
+    ensures { result ≡ exit_number to }
+{
+    match to {
+        Exit::To(place) => place_number(place),
+        Exit::Flood | Exit::Drop => 0,
+    }
+}

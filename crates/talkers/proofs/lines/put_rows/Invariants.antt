@@ -1,0 +1,9 @@
+use Rattle.std.proofs.Common.{◌≡◌, ◌++◌, take}
+use Rattle.std.specs.List.{flat_map}
+use Rattle.std.specs.String.{string_bytes}
+use Rattle.talkers.specs.Lines.{talk_line}
+use Rattle.talkers.proofs.lines.put_rows.Given as goal
+
+-- the lines of the rows so far
+abbrev pub invariant-loop-row : goal.invariant-loop-row
+invariant-loop-row l = string_bytes l.text ≡ string_bytes l.fn.text ++ flat_map talk_line (take l.row-index l.rows)

@@ -1,0 +1,3 @@
+pub mod Talkers
+pub mod Lines
+pub mod Run

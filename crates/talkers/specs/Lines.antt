@@ -1,0 +1,42 @@
+-- The lines of who talks to whom: one talk a line, its words with one space between them, as
+-- `talk 10 02:00:00:00:00:01 p1 > 02:00:00:00:00:02 vxlan:192.0.2.2 frames 12 octets 5120 first 1000000000 last 9000000000`. It
+-- states no standard.
+use Rattle.std.specs.Prelude.{ℕ, ◌==◌, if◌then◌else◌, List, [], ◌∷◌, ◌++◌, codes, decimal}
+use Rattle.std.specs.List.{flat_map}
+use Rattle.story_words.specs.Words.{mac_text, place_text}
+use Rattle.ranked_rows.specs.Rows.{Rows}
+use Rattle.ranked_rows.specs.declared.row.Row.{Row}
+use Rattle.talk_rows.specs.Order.{largest_first}
+use Rattle.talk_rows.specs.declared.passed.Passed.{Passed}
+use Rattle.talk_rows.specs.declared.talk.Exit.{Exit}
+use Rattle.talk_rows.specs.declared.talk.Exit.TheVariants.{To, Flood, Drop}
+use Rattle.talk_rows.specs.declared.talk.Talk.{Talk}
+
+-- where frames went
+abbrev pub exit_text : Exit → List ℕ
+exit_text (To place) = place_text place
+exit_text Flood = codes "flood"
+exit_text Drop = codes "drop"
+
+-- who sent to whom
+abbrev pub talk_text : Talk → List ℕ
+talk_text t =
+    decimal t.vid ++ codes " " ++ mac_text t.source ++ codes " " ++ place_text t.from ++ codes " > " ++ mac_text t.destination ++ codes " " ++ exit_text t.to
+
+-- how much, from when to when
+abbrev pub passed_text : Passed → List ℕ
+passed_text p =
+    codes " frames " ++ decimal p.frames ++ codes " octets " ++ decimal p.octets ++ codes " first " ++ decimal p.first ++ codes " last " ++ decimal p.last ++ 10 ∷ []
+
+-- of one row
+unfoldable pub talk_line : Row Talk Passed → List ℕ
+talk_line row = codes "talk " ++ talk_text row.key ++ passed_text row.counts
+
+-- of the others; nothing where nothing passed
+unfoldable pub others_line : Passed → List ℕ
+others_line p = if p.frames == 0 then [] else codes "talk others" ++ passed_text p
+
+-- ---- all of it
+
+abbrev pub talks_text : Rows Talk Passed → List ℕ
+talks_text t = flat_map talk_line (largest_first t.rows) ++ others_line t.others

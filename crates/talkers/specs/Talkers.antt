@@ -1,0 +1,127 @@
+-- Who talks to whom in the segments of an endpoint. It states no standard.
+--     Coming, coming_of      the frame that an event brings to a segment
+--     exit_of      where it goes
+--     talk_rows      what it counts as
+--     Talkers      what was counted, and the frame that is awaited
+--     Expects, Hears, Sees      an event more, an answer more, both
+use Rattle.std.specs.Prelude.{◌≡◌, ℕ, Bool, if◌then◌else◌, List, [], ◌∷◌, length, map, Option, Some, None, Result, Ok, Err}
+use Rattle.frame_view.specs.Frame.{size}
+use Rattle.frame_view.specs.declared.reason.Reason.{Reason}
+use Rattle.frame_view.specs.declared.reason.Refused.{Refused}
+use Rattle.filter_db.specs.declared.place.Place.{Place}
+use Rattle.vlan_ports.specs.Ports.{is_port}
+use Rattle.timeline.specs.Captured.{Captured}
+use Rattle.timeline.specs.declared.event.Happening.{Happening}
+use Rattle.timeline.specs.declared.event.Happening.TheVariants as happenings
+use Rattle.timeline.specs.declared.source.Tap.{Tap}
+use Rattle.timeline.specs.declared.source.Tap.TheVariants.{Port, Underlay}
+use Rattle.endpoint_state.specs.Settings.{Settings}
+use Rattle.endpoint_core.specs.Arrival.{came_at, came_by}
+use Rattle.endpoint_core.specs.Came.{Came}
+use Rattle.endpoint_core.specs.Decision.{Decision}
+use Rattle.endpoint_core.specs.Step.{Answer, Decided, Replied}
+use Rattle.stream_run.specs.Sights.{Due, Sight}
+use Rattle.ranked_rows.specs.Rows.{Rows, counted_all, no_rows, row_of}
+use Rattle.ranked_rows.specs.declared.row.Row.{Row}
+use Rattle.talk_rows.specs.Passed.{nothing, one_frame, passed_with}
+use Rattle.talk_rows.specs.Talk.{rank}
+use Rattle.talk_rows.specs.declared.passed.Passed.{Passed}
+use Rattle.talk_rows.specs.declared.talk.Exit.{Exit}
+use Rattle.talk_rows.specs.declared.talk.Exit.TheVariants.{To, Flood, Drop}
+use Rattle.talk_rows.specs.declared.talk.Talk.{Talk}
+use Rattle.talkers.specs.declared.coming.Coming.{Coming}
+
+-- ---- what comes
+
+-- a frame that comes to a segment at a moment
+abbrev pub coming_by : ℕ → Result Came Refused → Option Coming
+coming_by moment (Ok x) = Some (record { vid = x.vid; source = x.frame.src; from = x.from; destination = x.frame.dst; octets = size x.frame; moment = moment })
+coming_by moment (Err refused) = None
+
+-- octets at a place; nothing at a port that isn't there
+abbrev pub coming_at : Settings → ℕ → Tap → Captured → Option Coming
+coming_at S moment (Port port) captured = if is_port (length S.ports.ports) port then coming_by moment (came_at S.ports port captured.original captured.octets) else None
+coming_at S moment Underlay captured = coming_by moment (came_by S.overlay captured.original captured.octets)
+
+-- the frame that what happens brings to a segment, where it brings one
+abbrev pub coming_of : Settings → ℕ → Happening → Option Coming
+coming_of S moment (happenings.Change index) = None
+coming_of S moment (happenings.Record tap captured) = coming_at S moment tap captured
+
+-- ---- where it goes
+
+-- to these places
+abbrev pub exit_to : List Place → Exit
+exit_to [] = Drop
+exit_to (place ∷ []) = To place
+exit_to (place ∷ other ∷ places) = Flood
+
+-- nowhere, where it is dropped
+abbrev pub exit_where : Option Reason → List Place → Exit
+exit_where (Some reason) places = Drop
+exit_where None places = exit_to places
+
+-- where the bridge of its segment sends a frame, whether it fits there or not
+abbrev pub exit_of : Decision → Exit
+exit_of d = exit_where d.dropped (map (λ o. o.place) d.outcomes)
+
+-- ---- rows
+
+-- who talks to whom by a frame
+abbrev pub talk_of : Coming → Exit → Talk
+talk_of c to = record { vid = c.vid; source = c.source; from = c.from; destination = c.destination; to = to }
+
+-- what a frame counts as, where there is one
+abbrev pub talk_rows : Option Coming → Exit → List (Row Talk Passed)
+talk_rows None to = []
+talk_rows (Some c) to = row_of (talk_of c to) (one_frame c.octets c.moment) ∷ []
+
+-- the same where it is decided
+abbrev pub answer_rows : Option Coming → Answer → List (Row Talk Passed)
+answer_rows coming (Decided decision) = talk_rows coming (exit_of decision)
+answer_rows coming (Replied fault) = []
+
+-- ---- what was counted
+
+-- rows with more of them
+abbrev pub rows_told : Rows Talk Passed → List (Row Talk Passed) → Rows Talk Passed
+rows_told table rows = counted_all rank passed_with nothing table rows
+
+-- what was counted, and the frame that the event seen last brings
+pub record Talkers : Type 0 where
+  pub rows : Rows Talk Passed
+  pub coming : Option Coming
+
+-- nobody talked
+abbrev pub no_talkers : Talkers
+no_talkers = record { rows = no_rows nothing; coming = None }
+
+-- an event comes
+abbrev pub expecting : Talkers → Settings → ℕ → Happening → Talkers
+expecting t S moment happening = record { rows = t.rows; coming = coming_of S moment happening }
+
+-- an answer is told
+abbrev pub answer_told : Talkers → Answer → Talkers
+answer_told t a = record { rows = rows_told t.rows (answer_rows t.coming a); coming = t.coming }
+
+-- ---- steps
+
+-- an event more came
+abbrev pub Expects : Talkers → Due → Talkers → Type 0
+Expects old d new = new ≡ expecting old d.state.bridges.settings d.event.moment d.event.happening
+
+-- an event more came and was answered; one that isn't told counts for nothing
+abbrev pub SeesReply : Talkers → Due → Option Answer → Talkers → Type 0
+SeesReply old d (Some a) new = new ≡ answer_told (expecting old d.state.bridges.settings d.event.moment d.event.happening) a
+SeesReply old d None new = new ≡ old
+
+-- the same of what was seen
+abbrev pub Sees : Talkers → Sight → Talkers → Type 0
+Sees old s new = SeesReply old (record { state = s.state; number = s.number; event = s.event }) s.reply new
+
+-- where someone counts, this leaves what was counted, and nobody begins to
+abbrev pub Counting : (Talkers → Talkers → Type 0) → Option Talkers → Option Talkers → Type 0
+Counting step (Some old) (Some new) = step old new
+Counting step (Some old) None = ⊥
+Counting step None (Some new) = ⊥
+Counting step None None = Unit {0}

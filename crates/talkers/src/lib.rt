@@ -1,0 +1,23 @@
+//! Who talks to whom in the segments of an endpoint, counted as a run goes, as text for whom asks: for each segment who sent to
+//! whom, by addresses and places, how much, and from when to when.
+//!
+//! Use first: [`Talkers`] looks on while `stream_run` runs, and makes the text behind it; [`Beside`] puts it beside whoever else
+//! looks on.
+//!
+//! Specs to read, in order: `specs/Run`, `specs/Talkers`, `specs/Lines`.
+//!
+//! Proved: behind a run of any events, or of a part of it, the table shows what those events and the answers of their segments'
+//! bridges come to (`laws::runs`), and the text is exactly the lines of these. Whoever else looks on sees what it would alone.
+//!
+//! Why it is so: a dropped frame's addresses stand in no decision, so what comes is kept from the sight of an event to its
+//! answer. The table is made before the run, so no event asks for memory.
+#![tactic(auto)]
+
+mod beside;
+mod coming;
+pub mod laws;
+mod lines;
+mod talkers;
+
+pub use beside::Beside;
+pub use talkers::Talkers;

@@ -1,0 +1,129 @@
+//! Who talks to whom.
+ghost use Rattle.std.specs.Prelude.{◌≡◌, IfOk};
+ghost use Rattle.endpoint_core.specs.Course.{CanLeave, IsThere, decision_of};
+ghost use Rattle.endpoint_core.specs.Kept.{state_of};
+ghost use Rattle.endpoint_core.specs.Step.{Decided};
+ghost use Rattle.talkers.specs.Lines.{talks_text};
+ghost use Rattle.talkers.specs.Talkers.{answer_told, exit_of, exit_to, expecting, no_talkers, rows_told, talk_rows};
+
+use crate::coming::{Coming, coming_of};
+use crate::lines::put_talks;
+use endpoint_core::{ChangeFault, Course, Endpoint};
+use filter_db::Place;
+use ranked_rows::RankedRows;
+use std::alloc::{AllocError, Global};
+use std::marker::Model;
+use stream_run::Watch;
+use talk_rows::{Exit, Passed, Talk, largest_first};
+use timeline::Event;
+
+/// Who talks to whom in the segments of an endpoint. It looks on while a run goes. Only [`Talkers::open`] and
+/// [`Talkers::text`] take memory; the table takes 0.5 MiB.
+#[derive(Drop)]
+pub struct Talkers {
+    rows: RankedRows<Talk, Passed>,
+    /// The frame that the event seen last brings to a segment.
+    coming: Option<Coming>,
+}
+
+impl Model for Talkers {
+    ghost use Rattle.talkers.specs.Talkers.{Talkers};
+
+    ghost Value = { Talkers };
+
+    ghost view = { λ t. record { rows = t.rows; coming = t.coming } };
+}
+
+impl Talkers {
+    /// Nobody talked yet. `AllocError`: memory was refused.
+    pub fn open(alloc: Global) -> Result<Talkers, AllocError>
+        ensures { IfOk result (λ talkers. talkers ≡ no_talkers) }
+    {
+        Ok(Talkers {
+            rows: RankedRows::open(alloc)?,
+            coming: None,
+        })
+    }
+
+    /// Who talked so far, as text, the largest of each segment first. `AllocError`: memory was refused.
+    pub fn text(&self, alloc: Global) -> Result<Vec<u8>, AllocError>
+        ensures { IfOk result (λ text. text.items ≡ talks_text self.now.rows) }
+    {
+        let sorted = largest_first(alloc, self.rows.rows())?;
+        let mut text = String::new(alloc);
+        put_talks(&mut text, sorted.as_slice(), self.rows.others())?;
+        Ok(text.into_bytes())
+    }
+}
+
+impl Watch for Talkers {
+    ghost use Rattle.std.specs.Prelude.{◌≡◌};
+    ghost use Rattle.talkers.specs.Talkers.{Expects, Sees};
+
+    ghost sees = { Sees };
+
+    ghost expects = { Expects };
+
+    ghost ends = { λ old state new. new ≡ old };
+
+    fn see(&mut self, endpoint: &Endpoint, _number: u64, event: &Event) {
+        self.expect(endpoint, event);
+    }
+
+    fn hear_decision(&mut self, endpoint: &Endpoint, course: &Course, places: &[Place]) {
+        self.count_decision(endpoint, course, places);
+    }
+
+    fn hear_reply(&mut self, _reply: Result<(), ChangeFault>) {}
+
+    fn pass_over(&mut self, _endpoint: &Endpoint, _number: u64, _event: &Event) {}
+
+    fn end(&mut self, _endpoint: &Endpoint) {}
+}
+
+impl Talkers {
+    /// Keeps the frame that an event brings.
+    fn expect(&mut self, endpoint: &Endpoint, event: &Event)
+        ensures { self.new ≡ expecting self.old (state_of endpoint.now).bridges.settings event.now.moment event.now.happening }
+    {
+        self.coming = coming_of(endpoint, event.moment, &event.happening);
+    }
+
+    /// Counts the frame that is kept, where it goes.
+    fn count_decision(&mut self, endpoint: &Endpoint, course: &Course, places: &[Place])
+        ensures { self.new ≡ answer_told self.old (Decided (decision_of (state_of endpoint.now).bridges.settings course.now places.now)) }
+    {
+        let to = exit_of(endpoint, course, places);
+        count(&mut self.rows, self.coming, to);
+    }
+}
+
+/// Counts a frame, where there is one.
+fn count(rows: &mut RankedRows<Talk, Passed>, coming: Option<Coming>, to: Exit)
+    ensures { rows.new ≡ rows_told rows.old (talk_rows coming to) }
+{
+    if let Some(coming) = coming {
+        rows.add(coming.talk(to), coming.passed());
+    }
+}
+
+/// Where a frame goes.
+fn exit_of(endpoint: &Endpoint, course: &Course, places: &[Place]) -> Exit
+    ensures { result ≡ exit_of (decision_of (state_of endpoint.now).bridges.settings course.now places.now) }
+{
+    match course {
+        Ok(_) => exit_to(places),
+        Err(_) => Exit::Drop,
+    }
+}
+
+/// Where a frame goes that goes to these places.
+fn exit_to(places: &[Place]) -> Exit
+    ensures { result ≡ exit_to places.now }
+{
+    match places {
+        [] => Exit::Drop,
+        [place] => Exit::To(*place),
+        _ => Exit::Flood,
+    }
+}

@@ -205,6 +205,22 @@ def more_tunnels_than_rows():
     expect_lines("more networks than rows", "\n".join(summary), [*wanted, "unknown others 5"])
 
 
+def more_talkers_than_rows():
+    """Frames of 4,100 stations, their addresses falling: the 4,096 least have lines, and the others one, though larger."""
+    captures = runs.Captures()
+    for n, station in enumerate(range(4100, 0, -1), 1):
+        length = 46 if station <= 4096 else 146
+        captures.of["p1"] += runs.record(n * 10**9, runs.octets(f"ALL 02000001{station:04X} 0806 00*{length}"))
+    told = runs.Run(runs.ENDPOINT, "", captures, words=["run", "--talkers"])
+    talks = [line for line in told.stdout.splitlines() if line.startswith("talk")]
+    wanted = []
+    for station in range(1, 4097):
+        moment = (4101 - station) * 10**9
+        address = f"02:00:00:01:{station // 256:02x}:{station % 256:02x}"
+        wanted.append(f"talk 10 {address} p1 > ff:ff:ff:ff:ff:ff flood 1 60 first {moment} last {moment}")
+    expect_lines("more talkers than rows", "\n".join(talks), [*wanted, "talk others 4 640 first 1000000000 last 4000000000"])
+
+
 def main():
     a_packet_is_cut_at_every_length()
     a_datagram_has_every_length()
@@ -214,6 +230,7 @@ def main():
     ten_thousand_changes_are_made()
     all_limits_hold_at_once()
     more_tunnels_than_rows()
+    more_talkers_than_rows()
     for fault in FAULTS:
         print(f"tests/lengths.py: {fault}")
     return 1 if FAULTS else 0

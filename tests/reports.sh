@@ -186,6 +186,19 @@ remote geneve:192.0.2.2 in 0 0 out 1 110
 T
 tells 0 "" --summary <"$folder/counts"
 tells 0 "" --summary --tables --why 8 < <(cat "$folder/eighth" "$folder/last" "$folder/counts")
+
+# Who sent to whom: events 1 and 8 are one talk, and event 9 came to no segment.
+cat >"$folder/talks" <<'T'
+talk 10 02:00:00:00:00:01 p1 > ff:ff:ff:ff:ff:ff flood 2 120 first 1000000000 last 8000000000
+talk 10 02:00:00:00:00:01 p1 > 02:00:00:00:00:05 vxlan:192.0.2.2 1 60 first 6000000000 last 6000000000
+talk 10 02:00:00:00:00:02 p2 > 02:00:00:00:00:01 p1 1 60 first 3000000000 last 3000000000
+talk 10 02:00:00:00:00:05 vxlan:192.0.2.2 > ff:ff:ff:ff:ff:ff flood 1 60 first 5000000000 last 5000000000
+talk 20 02:00:00:00:00:01 p3 > ff:ff:ff:ff:ff:ff flood 1 60 first 2000000000 last 2000000000
+talk 20 02:00:00:00:00:02 p2 > 02:00:00:00:00:01 p3 1 60 first 4000000000 last 4000000000
+T
+tells 0 "" --talkers <"$folder/talks"
+tells 0 "" --summary --talkers < <(cat "$folder/counts" "$folder/talks")
+unwritten "$folder/talks" --talkers
 unwritten "$folder/last" --tables
 unwritten "$folder/last" --tables-at 18446744073709551615
 unwritten "$folder/counts" --summary

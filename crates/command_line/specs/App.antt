@@ -46,6 +46,7 @@ rule_for arguments.Tables = flag_rule (codes "tables")
 rule_for arguments.TablesAt = record (option_rule (codes "tables-at")) { parser = Some (parser.Unsigned 0 (2 ^ 64 - 1)) }
 rule_for arguments.Why = record (option_rule (codes "why")) { action = Some Append }
 rule_for arguments.Summary = flag_rule (codes "summary")
+rule_for arguments.Talkers = flag_rule (codes "talkers")
 rule_for arguments.Segments = option_rule (codes "segments")
 rule_for arguments.Digests = option_rule (codes "digests")
 rule_for arguments.Shards = record (listed_rule (codes "shards")) { required = true }
@@ -79,11 +80,11 @@ abbrev pub arguments_of : Subcommand → List Argument
 arguments_of subcommands.Run =
     arguments.Settings ∷ arguments.Changes ∷ arguments.Underlay
     ∷ arguments.RunOut ∷ arguments.Ports ∷ arguments.Tables ∷ arguments.TablesAt
-    ∷ arguments.Why ∷ arguments.Summary ∷ arguments.Segments ∷ arguments.Digests ∷ []
+    ∷ arguments.Why ∷ arguments.Summary ∷ arguments.Talkers ∷ arguments.Segments ∷ arguments.Digests ∷ []
 arguments_of subcommands.TellingRun =
     arguments.Settings ∷ arguments.Changes ∷ arguments.Underlay
     ∷ arguments.OptionalOut ∷ arguments.Ports ∷ arguments.Tables ∷ arguments.TablesAt
-    ∷ arguments.Why ∷ arguments.Summary ∷ arguments.Segments ∷ arguments.Digests ∷ []
+    ∷ arguments.Why ∷ arguments.Summary ∷ arguments.Talkers ∷ arguments.Segments ∷ arguments.Digests ∷ []
 arguments_of subcommands.Check = arguments.Settings ∷ arguments.Changes ∷ arguments.SeenUnderlay ∷ arguments.SeenPorts ∷ []
 arguments_of subcommands.Explain = arguments.Settings ∷ arguments.Depth ∷ arguments.Values ∷ arguments.Capture ∷ []
 arguments_of subcommands.Migrate = arguments.Settings ∷ []

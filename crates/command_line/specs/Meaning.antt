@@ -24,7 +24,7 @@ use Rattle.command_line.specs.declared.line.LineFault.TheVariants as fault
 pub data Meaning : Type 0 where
   sample : Meaning
   run : Text → Option Text → Text → Option Text → List Text → Bool
-      → Option ℕ → List Text → Bool → Option Text → Option Text → Meaning
+      → Option ℕ → List Text → Bool → Bool → Option Text → Option Text → Meaning
   check : Text → Option Text → Option Text → List Text → Meaning
   explain : Text → ℕ → Bool → Text → Meaning
   migrate : Text → Meaning
@@ -34,9 +34,9 @@ pub data Meaning : Type 0 where
 -- what a command line is as such a meaning
 abbrev pub meaning_of : Line → Meaning
 meaning_of line.Sample = sample
-meaning_of (line.Run settings changes underlay out ports tables tables_at why summary segments digests) =
+meaning_of (line.Run settings changes underlay out ports tables tables_at why summary talkers segments digests) =
     run settings.now (option_map (λ t. t.now) changes) underlay.now (option_map (λ t. t.now) out) (texts ports.items) tables tables_at
-    (texts why.items) summary (option_map (λ t. t.now) segments) (option_map (λ t. t.now) digests)
+    (texts why.items) summary talkers (option_map (λ t. t.now) segments) (option_map (λ t. t.now) digests)
 meaning_of (line.Check settings changes underlay ports) =
     check settings.now (option_map (λ t. t.now) changes) (option_map (λ t. t.now) underlay) (texts ports.items)
 meaning_of (line.Explain settings depth values capture) = explain settings.now depth values capture.now
@@ -47,7 +47,7 @@ meaning_of (line.Merge out shards tables summary) = merge out.now (texts shards.
 -- a depth is 1 to 4
 abbrev pub HasDepth : Line → Type 0
 HasDepth line.Sample = ⊤
-HasDepth (line.Run settings changes underlay out ports tables tables_at why summary segments digests) = ⊤
+HasDepth (line.Run settings changes underlay out ports tables tables_at why summary talkers segments digests) = ⊤
 HasDepth (line.Check settings changes underlay ports) = ⊤
 HasDepth (line.Explain settings depth values capture) = (1 ≤ depth) × (depth ≤ 4)
 HasDepth (line.Migrate settings) = ⊤
@@ -105,7 +105,7 @@ why_in rows = unwrap_or (all_of (codes "why") rows) []
 abbrev pub run_meant : List Row → Option Meaning
 run_meant rows = option_and_then (λ s. option_and_then (λ u.
     option_map (λ ps. run s (changes_in rows) u (first_of (codes "out") rows) ps (is_set (codes "tables") rows) (moment_in rows)
-    (why_in rows) (is_set (codes "summary") rows) (first_of (codes "segments") rows)
+    (why_in rows) (is_set (codes "summary") rows) (is_set (codes "talkers") rows) (first_of (codes "segments") rows)
     (first_of (codes "digests") rows)) (all_of (codes "ports") rows))
     (first_of (codes "underlay") rows)) (settings_in rows)
 
@@ -165,8 +165,8 @@ has_any (t ∷ ts) = true
 
 -- something is told of a run besides its outputs
 abbrev pub is_telling : Meaning → Bool
-is_telling (run settings changes underlay out ports tables tables_at why summary segments digests) =
-    tables || (is_some tables_at || (has_any why || summary))
+is_telling (run settings changes underlay out ports tables tables_at why summary talkers segments digests) =
+    tables || (is_some tables_at || (has_any why || (summary || talkers)))
 is_telling _ = false
 
 -- the same, where it is so
@@ -194,7 +194,7 @@ inputs_among names = count_by (λ name. bytes_eq (file_of name) (codes "-")) nam
 -- how many captures are standard input; texts are files, whatever their names
 abbrev pub input_uses : Meaning → ℕ
 input_uses sample = 0
-input_uses (run settings changes underlay out ports tables tables_at why summary segments digests) = inputs_among (underlay ∷ ports)
+input_uses (run settings changes underlay out ports tables tables_at why summary talkers segments digests) = inputs_among (underlay ∷ ports)
 input_uses (check settings changes None ports) = inputs_among ports
 input_uses (check settings changes (Some underlay) ports) = inputs_among (underlay ∷ ports)
 input_uses (explain settings depth values capture) = inputs_among (capture ∷ [])
@@ -210,7 +210,7 @@ ReadsInputOnce meaning = input_uses meaning ≤ 1
 
 -- digests are lent to a run that is no part
 abbrev pub lends_to_a_whole : Meaning → Bool
-lends_to_a_whole (run settings changes underlay out ports tables tables_at why summary segments digests) =
+lends_to_a_whole (run settings changes underlay out ports tables tables_at why summary talkers segments digests) =
     is_some digests && not (is_some segments)
 lends_to_a_whole _ = false
 

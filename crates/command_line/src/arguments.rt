@@ -42,6 +42,8 @@ pub enum Argument {
     Why,
     /// Whether the counts are told.
     Summary,
+    /// Whether it is told who sent to whom.
+    Talkers,
     /// The segments that a part of a run takes.
     Segments,
     /// The digests that are lent to a part of a run.
@@ -134,6 +136,11 @@ impl Argument {
                 alloc,
                 "summary",
                 "Prints what was sent and dropped, by segment, place and reason",
+            ),
+            Argument::Talkers => flag(
+                alloc,
+                "talkers",
+                "Prints who sent to whom in each segment, by address and place",
             ),
             Argument::Segments => option(
                 alloc,

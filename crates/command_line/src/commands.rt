@@ -69,7 +69,7 @@ const SUBCOMMANDS: [Subcommand; 6] = [
 ];
 
 /// What `run` takes.
-const RUN: [Argument; 11] = [
+const RUN: [Argument; 12] = [
     Argument::Settings,
     Argument::Changes,
     Argument::Underlay,
@@ -79,12 +79,13 @@ const RUN: [Argument; 11] = [
     Argument::TablesAt,
     Argument::Why,
     Argument::Summary,
+    Argument::Talkers,
     Argument::Segments,
     Argument::Digests,
 ];
 
 /// What `run` takes where its folder may be left out.
-const TELLING_RUN: [Argument; 11] = [
+const TELLING_RUN: [Argument; 12] = [
     Argument::Settings,
     Argument::Changes,
     Argument::Underlay,
@@ -94,6 +95,7 @@ const TELLING_RUN: [Argument; 11] = [
     Argument::TablesAt,
     Argument::Why,
     Argument::Summary,
+    Argument::Talkers,
     Argument::Segments,
     Argument::Digests,
 ];

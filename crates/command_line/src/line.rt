@@ -34,6 +34,8 @@ pub enum Line<'a> {
         why: Vec<&'a str>,
         /// Whether the counts are told.
         summary: bool,
+        /// Whether it is told who sent to whom.
+        talkers: bool,
         /// The segments that are run, where they are a part of the run.
         segments: Option<&'a str>,
         /// The file of the digests that are lent to the part, where they are; there are segments then.

@@ -110,6 +110,7 @@ fn run_from<'a>(alloc: Global, inner: &ArgMatches<'a>) -> Result<Line<'a>, LineF
         tables_at: moment(inner),
         why,
         summary: is_set(inner, "summary"),
+        talkers: is_set(inner, "talkers"),
         segments: text(inner, "segments"),
         digests: text(inner, "digests"),
     })

@@ -97,8 +97,9 @@ fn is_telling(line: &Line<'_>) -> bool
             tables_at,
             why,
             summary,
+            talkers,
             ..
-        } => *tables || tables_at.is_some() || !why.is_empty() || *summary,
+        } => *tables || tables_at.is_some() || !why.is_empty() || *summary || *talkers,
         _ => false,
     }
 }

@@ -171,6 +171,7 @@ fn perform<'a, R: Files + Input + AllocGlobal + Print + Eprint>(
             tables_at,
             why,
             summary,
+            talkers,
             segments,
             digests,
         } => {
@@ -186,6 +187,7 @@ fn perform<'a, R: Files + Input + AllocGlobal + Print + Eprint>(
                 tables_at: *tables_at,
                 tables: *tables,
                 summary: *summary,
+                talkers: *talkers,
                 segments: *segments,
             };
             run_and_tell(rt, names, *out, asked, failed)

@@ -15,6 +15,7 @@ use std::alloc::{AllocError, Global};
 use std::io::Input;
 use std::rt::Files;
 use stream_run::{Unwatched, Watch};
+use talkers::{Beside as BesideTalkers, Talkers};
 use timeline::Tap;
 use tunnel_traffic::{Beside, TunnelTraffic};
 
@@ -29,6 +30,8 @@ pub struct Asked<'n, 'a> {
     pub tables: bool,
     /// What was counted.
     pub summary: bool,
+    /// Who sent to whom.
+    pub talkers: bool,
     /// The list of a part's segments.
     pub segments: Option<&'a str>,
 }
@@ -36,7 +39,11 @@ pub struct Asked<'n, 'a> {
 impl Asked<'_, '_> {
     /// Whether nothing is told besides the outputs.
     fn is_nothing(self) -> bool {
-        self.why.is_empty() && self.tables_at.is_none() && !self.tables && !self.summary
+        self.why.is_empty()
+            && self.tables_at.is_none()
+            && !self.tables
+            && !self.summary
+            && !self.talkers
     }
 }
 
@@ -72,9 +79,12 @@ pub fn run_and_tell<'a, R: Files + Input + AllocGlobal + Print + Eprint>(
         Some(changes) => Some(changes.as_slice()),
         None => None,
     };
-    let mut beside = Beside {
-        watch: onlooker_of(rt.alloc(), asked, told.unwrap_or(&[]), &segments)?,
-        tunnels: tunnels_of(rt.alloc(), asked)?,
+    let mut beside = BesideTalkers {
+        watch: Beside {
+            watch: onlooker_of(rt.alloc(), asked, told.unwrap_or(&[]), &segments)?,
+            tunnels: tunnels_of(rt.alloc(), asked)?,
+        },
+        talkers: talkers_of(rt.alloc(), asked)?,
     };
     let run = run_asked(
         rt,
@@ -87,12 +97,18 @@ pub fn run_and_tell<'a, R: Files + Input + AllocGlobal + Print + Eprint>(
         &mut beside,
         failed,
     );
-    let Beside { watch, tunnels } = beside;
+    let BesideTalkers { watch, talkers } = beside;
+    let Beside { watch, tunnels } = watch;
     let Onlooker { reports, counts } = watch;
+    let counted = Counted {
+        counts,
+        tunnels,
+        talkers,
+    };
     match run {
         Ok(ran) => {
             let found = tell_missing(rt, asked.why, &reports);
-            tell_all(rt, folder, asked, reports, counts, tunnels, ran).and(found)
+            tell_all(rt, folder, asked, reports, counted, ran).and(found)
         }
         Err(failure) => {
             // What was told stands, wherever the run stopped.
@@ -130,6 +146,16 @@ fn tunnels_of(alloc: Global, asked: Asked<'_, '_>) -> Result<Option<TunnelTraffi
     if asked.summary {
         let tunnels = TunnelTraffic::open(alloc)?;
         Ok(Some(tunnels))
+    } else {
+        Ok(None)
+    }
+}
+
+/// Whoever counts who talks to whom, where that is asked for.
+fn talkers_of(alloc: Global, asked: Asked<'_, '_>) -> Result<Option<Talkers>, AllocError> {
+    if asked.talkers {
+        let talkers = Talkers::open(alloc)?;
+        Ok(Some(talkers))
     } else {
         Ok(None)
     }
@@ -183,6 +209,14 @@ fn tell_missing<'a>(
     missing
 }
 
+/// Whoever counted while a run went, as far as that is asked for.
+#[derive(Drop)]
+struct Counted {
+    counts: Option<RunCounts>,
+    tunnels: Option<TunnelTraffic>,
+    talkers: Option<Talkers>,
+}
+
 /// Prints what a run told and counted. A part leaves its tables at the end and its counts in its folder before, and last what
 /// it was made from.
 fn tell_all<R: Files + AllocGlobal + Print>(
@@ -190,14 +224,19 @@ fn tell_all<R: Files + AllocGlobal + Print>(
     folder: Option<&str>,
     asked: Asked<'_, '_>,
     reports: Reports<'_, '_>,
-    counts: Option<RunCounts>,
-    tunnels: Option<TunnelTraffic>,
+    counted: Counted,
     ran: Ran<R::File>,
 ) -> Result<(), Failure<'static>> {
     let Ok((told, tables)) = reports.into_texts() else {
         return Err(Failure::from(AllocError));
     };
+    let Counted {
+        counts,
+        tunnels,
+        talkers,
+    } = counted;
     let summary = summary_of(rt.alloc(), counts, tunnels, ran.cut.as_slice())?;
+    let talks = talks_text(rt.alloc(), talkers)?;
     let left = match leave_texts(rt, folder, asked, tables.as_slice(), summary.as_slice()) {
         Ok(()) => ran.finish(),
         Err(failure) => Err(failure),
@@ -205,6 +244,15 @@ fn tell_all<R: Files + AllocGlobal + Print>(
     left.and(print_text(rt, told.as_slice()))
         .and(print_text(rt, tables.as_slice()))
         .and(print_text(rt, summary.as_slice()))
+        .and(print_text(rt, talks.as_slice()))
+}
+
+/// Who talked to whom, where that is asked for.
+fn talks_text(alloc: Global, talkers: Option<Talkers>) -> Result<Vec<u8>, AllocError> {
+    match talkers {
+        Some(talkers) => talkers.text(alloc),
+        None => Ok(Vec::new(alloc)),
+    }
 }
 
 /// Writes the tables and the counts of a part into its folder, where it has one, as far as they are asked for.

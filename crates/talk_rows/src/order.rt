@@ -12,7 +12,10 @@ const SIZES: u128 = 18_446_744_073_709_551_616;
 
 /// The rows in the order in which they are told: segments rise, and in each the row with the most octets stands first; those of
 /// one size stay in their order. `AllocError`: memory was refused.
-pub fn largest_first(alloc: Global, rows: &[Row<Talk, Passed>]) -> Result<Vec<Row<Talk, Passed>>, AllocError>
+pub fn largest_first(
+    alloc: Global,
+    rows: &[Row<Talk, Passed>],
+) -> Result<Vec<Row<Talk, Passed>>, AllocError>
     ensures { IfOk result (λ sorted. sorted.items ≡ largest_first rows.now) }
 {
     let mut sorted = rows.to_vec(alloc)?;

@@ -40,7 +40,6 @@ impl Ranked for Talk {
         let (pair, from, to) = self.rank();
         let (other_pair, other_from, other_to) = other.rank();
         pair < other_pair
-            || (pair == other_pair
-                && (from < other_from || (from == other_from && to < other_to)))
+            || (pair == other_pair && (from < other_from || (from == other_from && to < other_to)))
     }
 }

@@ -1,6 +1,6 @@
 -- The lines of who talks to whom: one talk a line, its words with one space between them, as
--- `talk 10 02:00:00:00:00:01 p1 > 02:00:00:00:00:02 vxlan:192.0.2.2 frames 12 octets 5120 first 1000000000 last 9000000000`. It
--- states no standard.
+-- `talk 10 02:00:00:00:00:01 p1 > 02:00:00:00:00:02 vxlan:192.0.2.2 12 5120 first 1000000000 last 9000000000`. It states no
+-- standard.
 use Rattle.std.specs.Prelude.{ℕ, ◌==◌, if◌then◌else◌, List, [], ◌∷◌, ◌++◌, codes, decimal}
 use Rattle.std.specs.List.{flat_map}
 use Rattle.story_words.specs.Words.{mac_text, place_text}
@@ -26,7 +26,7 @@ talk_text t =
 -- how much, from when to when
 abbrev pub passed_text : Passed → List ℕ
 passed_text p =
-    codes " frames " ++ decimal p.frames ++ codes " octets " ++ decimal p.octets ++ codes " first " ++ decimal p.first ++ codes " last " ++ decimal p.last ++ 10 ∷ []
+    codes " " ++ decimal p.frames ++ codes " " ++ decimal p.octets ++ codes " first " ++ decimal p.first ++ codes " last " ++ decimal p.last ++ 10 ∷ []
 
 -- of one row
 unfoldable pub talk_line : Row Talk Passed → List ℕ

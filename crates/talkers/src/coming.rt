@@ -70,9 +70,15 @@ fn coming_at(endpoint: &Endpoint, moment: u64, tap: Tap, captured: &Captured) ->
             if !is_port(endpoint, port) {
                 return None;
             }
-            coming_by(moment, &endpoint.frame_from(port, captured.original, captured.octets))
+            coming_by(
+                moment,
+                &endpoint.frame_from(port, captured.original, captured.octets),
+            )
         }
-        Tap::Underlay => coming_by(moment, &endpoint.frame_in(captured.original, captured.octets)),
+        Tap::Underlay => coming_by(
+            moment,
+            &endpoint.frame_in(captured.original, captured.octets),
+        ),
     }
 }
 

@@ -11,7 +11,11 @@ use story_words::put_mac;
 use talk_rows::{Exit, Passed, Talk};
 
 /// Puts the lines of these rows, and of what all others come to.
-pub fn put_talks(text: &mut String, rows: &[Row<Talk, Passed>], others: Passed) -> Result<(), AllocError>
+pub fn put_talks(
+    text: &mut String,
+    rows: &[Row<Talk, Passed>],
+    others: Passed,
+) -> Result<(), AllocError>
     ensures { OnOk result (string_bytes text.new ≡ string_bytes text.old ++ flat_map talk_line rows.now ++ others_line others) }
 {
     put_rows(text, rows)?;
@@ -76,7 +80,7 @@ fn put_others(text: &mut String, others: Passed) -> Result<(), AllocError>
     put_passed(text, others)
 }
 
-/// Puts how much passed, from when to when, and the end of the line.
+/// Puts how many frames and octets passed, from when to when, and the end of the line.
 fn put_passed(text: &mut String, passed: Passed) -> Result<(), AllocError>
     ensures { OnOk result (string_bytes text.new ≡ string_bytes text.old ++ passed_text passed) }
 {
@@ -86,5 +90,5 @@ fn put_passed(text: &mut String, passed: Passed) -> Result<(), AllocError>
         first,
         last,
     } = passed;
-    writeln!(text, " frames {frames} octets {octets} first {first} last {last}")
+    writeln!(text, " {frames} {octets} first {first} last {last}")
 }

@@ -19,7 +19,7 @@ exit_text Flood = codes "flood"
 exit_text Drop = codes "drop"
 
 -- who sent to whom
-abbrev pub talk_text : Talk → List ℕ
+unfoldable pub talk_text : Talk → List ℕ
 talk_text t =
     decimal t.vid ++ codes " " ++ mac_text t.source ++ codes " " ++ place_text t.from ++ codes " > " ++ mac_text t.destination ++ codes " " ++ exit_text t.to
 

@@ -43,6 +43,7 @@ fn put_row(text: &mut String, row: &Row<Talk, Passed>) -> Result<(), AllocError>
 }
 
 /// Puts who sent to whom.
+#[tactic(auto, unfolding(crate::specs::Lines::talk_text))]
 fn put_talk(text: &mut String, talk: &Talk) -> Result<(), AllocError>
     ensures { OnOk result (string_bytes text.new ≡ string_bytes text.old ++ talk_text talk.now) }
 {

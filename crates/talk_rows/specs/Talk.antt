@@ -56,6 +56,10 @@ exit_number Drop = 0
 unfoldable pub pair_number : Talk → ℕ
 pair_number t = (t.vid * 2 ^ 48 + field 0 6 t.source) * 2 ^ 48 + field 0 6 t.destination
 
--- then by the kinds of both places, and by the places
-unfoldable pub rank : Talk → ℕ
-rank t = (((pair_number t * 8 + place_kind t.from) * 8 + exit_kind t.to) * 2 ^ 128 + place_number t.from) * 2 ^ 128 + exit_number t.to
+-- by the kinds of both places, and by the places
+unfoldable pub places_number : Talk → ℕ
+places_number t = ((place_kind t.from * 8 + exit_kind t.to) * 2 ^ 128 + place_number t.from) * 2 ^ 128 + exit_number t.to
+
+-- by the former, and then by the latter
+abbrev pub rank : Talk → ℕ
+rank t = pair_number t * 2 ^ 262 + places_number t

@@ -1,7 +1,7 @@
 //! The ranks of talks.
 ghost use Rattle.std.specs.Prelude.{◌≡◌, ◌<◌, ◌+◌, ◌*◌, ◌^◌};
 ghost use Rattle.header_sums.specs.Octets.{field};
-ghost use Rattle.talk_rows.specs.Talk.{address_number, exit_kind, exit_number, family_number, pair_number, place_kind, place_number, rank, tunnel_kind};
+ghost use Rattle.talk_rows.specs.Talk.{address_number, exit_kind, exit_number, family_number, pair_number, place_kind, place_number, places_number, tunnel_kind};
 
 use crate::talk::{Exit, Talk};
 use byteorder::{BigEndian, ByteOrder};
@@ -13,28 +13,26 @@ use ip_udp_view::{Addr, Tunnel};
 const ADDRESSES: u128 = 281_474_976_710_656;
 
 /// So far two kinds of places are apart.
-const KINDS: u128 = 8;
+const KINDS: u8 = 8;
 
 impl Talk {
-    /// Its rank, in three parts of which the lower two have 128 bits.
-    #[tactic(auto, unfolding(crate::specs::Talk::rank))]
-    pub(crate) fn rank(&self) -> (u128, u128, u128)
-        ensures { rank self.now ≡ (result.0 * 2 ^ 128 + result.1) * 2 ^ 128 + result.2 }
-    {
-        let pair = self.pair_number();
-        let kinds = place_kind(self.from) * KINDS + exit_kind(self.to);
-        let (from, to) = (place_number(self.from), exit_number(self.to));
-        (pair * KINDS * KINDS + kinds, from, to)
-    }
-
     /// Its segment, source and destination as one number.
     #[tactic(auto, unfolding(crate::specs::Talk::pair_number))]
-    fn pair_number(&self) -> u128
+    pub(crate) fn pair_number(&self) -> u128
         ensures value { result ≡ pair_number self.now }
-        ensures low { result < 2 ^ 112 }
     {
         let segment = u128::from(self.vid.get());
         (segment * ADDRESSES + mac_number(self.source)) * ADDRESSES + mac_number(self.destination)
+    }
+
+    /// Its places as one number, in three parts of which the lower two have 128 bits.
+    #[tactic(auto, unfolding(crate::specs::Talk::places_number))]
+    pub(crate) fn places_number(&self) -> (u8, u128, u128)
+        ensures value { places_number self.now ≡ (result.0 * 2 ^ 128 + result.1) * 2 ^ 128 + result.2 }
+        ensures low { result.0 < 64 }
+    {
+        let kinds = place_kind(self.from) * KINDS + exit_kind(self.to);
+        (kinds, place_number(self.from), exit_number(self.to))
     }
 }
 
@@ -47,7 +45,7 @@ fn mac_number(mac: Mac) -> u128
 }
 
 /// The number of the kind of a place.
-fn place_kind(place: Place) -> u128
+fn place_kind(place: Place) -> u8
     ensures value { result ≡ place_kind place }
     ensures low { result < 5 }
 {
@@ -58,7 +56,7 @@ fn place_kind(place: Place) -> u128
 }
 
 /// The number of a kind of tunnel.
-fn tunnel_kind(kind: Tunnel) -> u128
+fn tunnel_kind(kind: Tunnel) -> u8
     ensures value { result ≡ tunnel_kind kind }
     ensures low { result < 4 }
 {
@@ -69,7 +67,7 @@ fn tunnel_kind(kind: Tunnel) -> u128
 }
 
 /// The number of a family of addresses.
-fn family_number(address: Addr) -> u128
+fn family_number(address: Addr) -> u8
     ensures value { result ≡ family_number address }
     ensures low { result < 2 }
 {
@@ -100,7 +98,7 @@ fn address_number(address: Addr) -> u128
 }
 
 /// The number of the kind of where a frame goes.
-fn exit_kind(to: Exit) -> u128
+fn exit_kind(to: Exit) -> u8
     ensures value { result ≡ exit_kind to }
     ensures low { result < 8 }
 {

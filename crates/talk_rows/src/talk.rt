@@ -1,6 +1,6 @@
 //! Who talks to whom.
-ghost use Rattle.std.specs.Prelude.{nat_lt};
-ghost use Rattle.talk_rows.specs.Talk.{rank};
+ghost use Rattle.std.specs.Prelude.{◌≡◌, ◌<◌, ◌^◌, nat_lt};
+ghost use Rattle.talk_rows.specs.Talk.{places_number, rank};
 
 use filter_db::Place;
 use frame_view::{Mac, Vid};
@@ -37,9 +37,34 @@ impl Ranked for Talk {
     ghost rank = { rank };
 
     fn is_below(&self, other: &Talk) -> bool {
-        let (pair, from, to) = self.rank();
-        let (other_pair, other_from, other_to) = other.rank();
+        let (pair, other_pair) = (self.pair_number(), other.pair_number());
+        if pair == other_pair {
+            return self.is_below_by_places(other);
+        }
+        // No places come to a pair more.
+        self.places_are_few();
+        other.places_are_few();
         pair < other_pair
-            || (pair == other_pair && (from < other_from || (from == other_from && to < other_to)))
+    }
+}
+
+impl Talk {
+    /// Whether it stands before another of its segment, source and destination.
+    fn is_below_by_places(&self, other: &Talk) -> bool
+        ensures { result ≡ nat_lt (places_number self.now) (places_number other.now) }
+    {
+        let (kinds, from, to) = self.places_number();
+        let (other_kinds, other_from, other_to) = other.places_number();
+        kinds < other_kinds
+            || (kinds == other_kinds
+                && (from < other_from || (from == other_from && to < other_to)))
+    }
+
+    /// That the number of its places ends below 2^262. It does nothing.
+    #[inline(always)]
+    fn places_are_few(&self)
+        ensures { places_number self.now < 2 ^ 262 }
+    {
+        let _ = self.places_number();
     }
 }

@@ -1,9 +1,9 @@
 -- Rows in their order, and the place of one.
 use Rattle.std.proofs.Common.{◌≡◌, ◌∙◌, ap, sym, refl, ℕ, zero, suc, ◌<◌, ◌≤◌, Bool, true, false, cond, nat_lt, List, [], ◌∷◌, length, take, get_or, slice_set, arith}
-use Rattle.std.proofs.lemmas.Bool.{cond-false, cond-true, lt-ltb, ltb-true, le-ltb}
+use Rattle.std.proofs.lemmas.Bool.{cond-false, cond-true, lt-ltb, ltb-true, ltb-false, le-ltb}
 use Rattle.std.specs.List.{insert}
 use Rattle.std.specs.List.Sorted.{IsNonDecreasingBy}
-use Rattle.ranked_rows.specs.Rows.{AreRising, AreRisingFrom, row_of, with_counts}
+use Rattle.ranked_rows.specs.Rows.{AreRising, AreRisingFrom, IsPlaceOf, row_of, with_counts}
 use Rattle.ranked_rows.specs.declared.row.Row.{Row}
 
 module _ {K C : Type 0} (rank : K → ℕ) where
@@ -16,10 +16,10 @@ module _ {K C : Type 0} (rank : K → ℕ) where
   pub rising_more : (joined : C → C → C) (least : ℕ) (key : K) (counts : C) (rows : List (Row K C)) → least ≤ rank key → AreRisingFrom rank least rows → AreRisingFrom rank least (with_counts rank joined key counts rows)
   rising_more joined least key counts [] low is = (low, tt)
   rising_more joined least key counts (row ∷ rows) low is =
-      by (nat_lt (rank row.key) (rank key)) (nat_lt (rank key) (rank row.key)) refl refl (λ lt. rising_more joined (rank row.key) key counts rows (omega (arith, lt)) is.1)
+      by (nat_lt (rank row.key) (rank key)) (nat_lt (rank key) (rank row.key)) refl refl (λ lt. rising_more joined (suc (rank row.key)) key counts rows (omega (arith, lt)) is.1)
     where
       by : (p q : Bool) → nat_lt (rank row.key) (rank key) ≡ p → nat_lt (rank key) (rank row.key) ≡ q
-          → (rank row.key < rank key → AreRisingFrom rank (rank row.key) (with_counts rank joined key counts rows))
+          → (rank row.key < rank key → AreRisingFrom rank (suc (rank row.key)) (with_counts rank joined key counts rows))
           → AreRisingFrom rank least (cond p (row ∷ with_counts rank joined key counts rows) (cond q (row_of key counts ∷ row ∷ rows) (row_of row.key (joined row.counts counts) ∷ rows)))
       by true q e f more = (is.0, more (ltb-true (rank row.key) (rank key) e))
       by false true e f more = (low, (omega (arith, ltb-true (rank key) (rank row.key) f), is.1))
@@ -28,22 +28,38 @@ module _ {K C : Type 0} (rank : K → ℕ) where
   pub rising_first : (n least : ℕ) (rows : List (Row K C)) → AreRisingFrom rank least rows → AreRisingFrom rank least (take n rows)
   rising_first zero least rows is = tt
   rising_first (suc n) least [] is = tt
-  rising_first (suc n) least (row ∷ rows) is = (is.0, rising_first n (rank row.key) rows is.1)
+  rising_first (suc n) least (row ∷ rows) is = (is.0, rising_first n (suc (rank row.key)) rows is.1)
 
   rising_at : (least : ℕ) (rows : List (Row K C)) → AreRisingFrom rank least rows → (j : ℕ) (d : Row K C) → j < length rows → least ≤ rank (get_or rows j d).key
   rising_at least [] is j d inside = absurd (omega (arith, inside))
   rising_at least (row ∷ rows) is zero d inside = is.0
-  rising_at least (row ∷ rows) is (suc j) d inside = omega (arith, is.0, rising_at (rank row.key) rows is.1 j d (omega (arith, inside)))
+  rising_at least (row ∷ rows) is (suc j) d inside = omega (arith, is.0, rising_at (suc (rank row.key)) rows is.1 j d (omega (arith, inside)))
 
-  rising_both : (least : ℕ) (rows : List (Row K C)) → AreRisingFrom rank least rows → (i j : ℕ) (d : Row K C) → i ≤ j → j < length rows → rank (get_or rows i d).key ≤ rank (get_or rows j d).key
-  rising_both least [] is i j d le inside = absurd (omega (arith, inside))
-  rising_both least (row ∷ rows) is zero zero d le inside = omega arith
-  rising_both least (row ∷ rows) is zero (suc j) d le inside = rising_at (rank row.key) rows is.1 j d (omega (arith, inside))
-  rising_both least (row ∷ rows) is (suc i) zero d le inside = absurd (omega (arith, le))
-  rising_both least (row ∷ rows) is (suc i) (suc j) d le inside = rising_both (rank row.key) rows is.1 i j d (omega (arith, le)) (omega (arith, inside))
+  rising_both : (least : ℕ) (rows : List (Row K C)) → AreRisingFrom rank least rows → (i j : ℕ) (d : Row K C) → i < j → j < length rows → rank (get_or rows i d).key < rank (get_or rows j d).key
+  rising_both least [] is i j d lt inside = absurd (omega (arith, inside))
+  rising_both least (row ∷ rows) is i zero d lt inside = absurd (omega (arith, lt))
+  rising_both least (row ∷ rows) is zero (suc j) d lt inside = rising_at (suc (rank row.key)) rows is.1 j d (omega (arith, inside))
+  rising_both least (row ∷ rows) is (suc i) (suc j) d lt inside = rising_both (suc (rank row.key)) rows is.1 i j d (omega (arith, lt)) (omega (arith, inside))
+
+  pub rises : (rows : List (Row K C)) → AreRising rank rows → (i j : ℕ) (d : Row K C) → i < j → j < length rows → rank (get_or rows i d).key < rank (get_or rows j d).key
+  rises rows is i j d lt inside = rising_both 0 rows is i j d lt inside
 
   pub never_falls : (rows : List (Row K C)) → AreRising rank rows → IsNonDecreasingBy rank_of rows
-  never_falls rows is i j d le inside = rising_both 0 rows is i j d le inside
+  never_falls rows is i j d le inside = by (nat_lt i j) refl
+    where
+      by : (b : Bool) → nat_lt i j ≡ b → rank (get_or rows i d).key ≤ rank (get_or rows j d).key
+      by true e = omega (arith, rising_both 0 rows is i j d (ltb-true i j e) inside)
+      by false e =
+          let same : i ≡ j = omega (arith, le, ltb-false i j e) in
+          omega (arith, ap (λ k. rank (get_or rows k d).key) same)
+
+  -- a row of this rank stands there
+  pub place_at : (rows : List (Row K C)) (least at : ℕ) → AreRising rank rows → at < length rows → ((d : Row K C) → least ≡ rank (get_or rows at d).key) → IsPlaceOf rank least rows at
+  place_at rows least at is inside same = record {
+    inside = omega (arith, inside);
+    before = λ k d lt. omega (arith, rises rows is k at d lt inside, same d);
+    behind = λ k d le lt. omega (arith, never_falls rows is at k d le lt, same d);
+  }
 
   -- ---- the place of a key
 

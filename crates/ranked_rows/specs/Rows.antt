@@ -2,7 +2,7 @@
 --     with_counts, all_counts      what is counted of all keys, as a finite map in the order of their ranks
 --     Rows, shown      its first rows, and what the others come to
 --     counted      the same with more of a key
-use Rattle.std.specs.Prelude.{◌<◌, ◌≤◌, ℕ, nat_lt, if◌then◌else◌, ⊤, List, [], ◌∷◌, length, take, drop, slice_index_or}
+use Rattle.std.specs.Prelude.{◌<◌, ◌≤◌, ℕ, suc, nat_lt, if◌then◌else◌, ⊤, List, [], ◌∷◌, length, take, drop, slice_index_or}
 use Rattle.ranked_rows.specs.declared.row.Row.{Row}
 
 -- ---- finite maps, as lists in the order of the ranks of their keys
@@ -62,12 +62,12 @@ counted_all rank joined none table (row ∷ rows) = counted_all rank joined none
 
 -- ---- order
 
--- ranks never fall, from this one on
+-- ranks rise, from this one on
 abbrev pub AreRisingFrom : {K C : Type 0} → (K → ℕ) → ℕ → List (Row K C) → Type 0
 AreRisingFrom rank least [] = ⊤
-AreRisingFrom rank least (row ∷ rows) = (least ≤ rank row.key) × AreRisingFrom rank (rank row.key) rows
+AreRisingFrom rank least (row ∷ rows) = (least ≤ rank row.key) × AreRisingFrom rank (suc (rank row.key)) rows
 
--- ranks never fall
+-- ranks rise: no two rows have the same
 abbrev pub AreRising : {K C : Type 0} → (K → ℕ) → List (Row K C) → Type 0
 AreRising rank rows = AreRisingFrom rank 0 rows
 

@@ -13,12 +13,17 @@ use std::marker::Model;
 /// The most rows of a table.
 const MOST: usize = 4096;
 
+/// So many places are remembered.
+const PLACES: usize = 4096;
+
 /// What is counted of keys: rows in the order of their ranks, at most 4,096, and what all other keys come to; seen by contracts
 /// as these two. Only [`RankedRows::open`] takes memory.
 #[derive(Drop)]
 pub struct RankedRows<K: Ranked + Copy, C: Counts + Copy> {
     rows: Vec<Row<K, C>>,
     others: C,
+    /// By what a key's mix leaves, where a key stood when it was counted last. Rows move, so it is a place to look at first.
+    stood: Vec<u16>,
 }
 
 impl<K: Ranked + Copy, C: Counts + Copy> Model for RankedRows<K, C> {
@@ -40,6 +45,7 @@ impl<K: Ranked + Copy, C: Counts + Copy> RankedRows<K, C> {
         Ok(RankedRows {
             rows: Vec::with_capacity(alloc, MOST)?,
             others: C::none(),
+            stood: vec![in alloc; 0; PLACES]?,
         })
     }
 
@@ -61,21 +67,26 @@ impl<K: Ranked + Copy, C: Counts + Copy> RankedRows<K, C> {
     pub fn add(&mut self, key: K, counts: C)
         ensures { self.new ≡ counted K.rank C.joined C.none self.old key counts }
     {
-        let rest = put(&mut self.rows, key, counts);
+        let at = place_by(self.rows.as_slice(), self.stood.as_mut_slice(), &key);
+        let rest = put(&mut self.rows, at, key, counts);
         self.others = self.others.with(rest);
     }
 }
 
-/// Counts more of a key in rows, and answers what has no place there.
-fn put<K: Ranked + Copy, C: Counts + Copy>(rows: &mut Vec<Row<K, C>>, key: K, counts: C) -> C
-    requires rising { AreRising K.rank rows.old.items }
+/// Counts more of a key in rows, at its place, and answers what has no place there.
+fn put<K: Ranked + Copy, C: Counts + Copy>(
+    rows: &mut Vec<Row<K, C>>,
+    at: usize,
+    key: K,
+    counts: C,
+) -> C
+    requires place { IsPlaceOf K.rank (K.rank key) rows.old.items at }
     requires few { length rows.old.items ≤ 4096 }
     requires room { 4096 ≤ vec_capacity rows.old }
     ensures rows { rows.new.items ≡ take 4096 (with_counts K.rank C.joined key counts rows.old.items) }
     ensures rest { result ≡ total C.joined C.none (drop 4096 (with_counts K.rank C.joined key counts rows.old.items)) }
     ensures room { 4096 ≤ vec_capacity rows.new }
 {
-    let at = place_of(rows.as_slice(), &key);
     if has_row(rows.as_slice(), at, &key) {
         rows[at].counts = rows[at].counts.with(counts);
         return C::none();
@@ -88,7 +99,7 @@ fn has_row<K: Ranked, C>(rows: &[Row<K, C>], at: usize, key: &K) -> bool
     ensures there { result ≡ true → (at < length rows.now) × ((d : ARow K C) → K.rank (slice_index_or rows.now at d).key ≤ K.rank key.now) }
     ensures behind { result ≡ false → (d : ARow K C) → at < length rows.now → K.rank key.now < K.rank (slice_index_or rows.now at d).key }
 {
-    at < rows.len() && !key.is_below(&rows[at].key)
+    at < rows.len() && (key.is_same(&rows[at].key) || !key.is_below(&rows[at].key))
 }
 
 /// Enters a row at its place, and answers what then has no place.
@@ -130,6 +141,30 @@ fn total_of_one<K: Copy, C: Counts + Copy>(row: Row<K, C>) -> C
     ensures { result ≡ C.joined row.counts C.none }
 {
     row.counts.with(C::none())
+}
+
+/// The place of the first row that doesn't stand before that of a key, and it is remembered.
+fn place_by<K: Ranked, C>(rows: &[Row<K, C>], stood: &mut [u16], key: &K) -> usize
+    requires { AreRising K.rank rows.now }
+    ensures { IsPlaceOf K.rank (K.rank key.now) rows.now result }
+{
+    let Some(last) = stood.get_mut(usize::from(key.mix()) % PLACES) else {
+        return place_of(rows, key);
+    };
+    let at = usize::from(*last);
+    if is_at(rows, at, key) {
+        return at;
+    }
+    let at = place_of(rows, key);
+    *last = u16::try_from(at).unwrap_or(0);
+    at
+}
+
+/// Whether a key stands at this place, as far as that is seen at once.
+fn is_at<K: Ranked, C>(rows: &[Row<K, C>], at: usize, key: &K) -> bool
+    ensures { result ≡ true → (at < length rows.now) × ((d : ARow K C) → K.rank key.now ≡ K.rank (slice_index_or rows.now at d).key) }
+{
+    at < rows.len() && key.is_same(&rows[at].key)
 }
 
 /// The place of the first row that doesn't stand before that of a key.

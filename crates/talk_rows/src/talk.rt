@@ -1,10 +1,14 @@
 //! Who talks to whom.
-ghost use Rattle.std.specs.Prelude.{◌≡◌, ◌<◌, ◌^◌, nat_lt};
+ghost use Rattle.std.specs.Prelude.{◌≡◌, ◌<◌, ◌^◌, nat_lt, true};
 ghost use Rattle.talk_rows.specs.Talk.{places_number, rank};
 
+use byteorder::{BigEndian, ByteOrder};
 use filter_db::Place;
 use frame_view::{Mac, Vid};
 use ranked_rows::Ranked;
+
+/// What numbers are multiplied with so that their bits come into the highest ones: 2^64 over the golden ratio.
+const MIXER: u64 = 0x9E37_79B9_7F4A_7C15;
 
 /// Where a frame goes from the bridge of its segment.
 #[derive(Clone, Copy, Debug)]
@@ -46,9 +50,26 @@ impl Ranked for Talk {
         other.places_are_few();
         pair < other_pair
     }
+
+    fn is_same(&self, other: &Talk) -> bool {
+        self.pair_number() == other.pair_number() && self.has_places_of(other)
+    }
+
+    fn mix(&self) -> u16 {
+        let [high, low, ..] = self.mixed_addresses().to_be_bytes();
+        u16::from_be_bytes([high, low])
+    }
 }
 
 impl Talk {
+    /// A number whose highest bits depend on all those of both addresses and the segment.
+    fn mixed_addresses(&self) -> u64 {
+        let source = BigEndian::read_u48(&self.source.0);
+        let destination = BigEndian::read_u48(&self.destination.0).rotate_left(24);
+        let segment = u64::from(self.vid.get()).rotate_left(48);
+        (source ^ destination ^ segment).wrapping_mul(MIXER)
+    }
+
     /// Whether it stands before another of its segment, source and destination.
     fn is_below_by_places(&self, other: &Talk) -> bool
         ensures { result ≡ nat_lt (places_number self.now) (places_number other.now) }
@@ -58,6 +79,15 @@ impl Talk {
         kinds < other_kinds
             || (kinds == other_kinds
                 && (from < other_from || (from == other_from && to < other_to)))
+    }
+
+    /// Whether it has the places of another.
+    fn has_places_of(&self, other: &Talk) -> bool
+        ensures { result ≡ true → places_number self.now ≡ places_number other.now }
+    {
+        let (kinds, from, to) = self.places_number();
+        let (other_kinds, other_from, other_to) = other.places_number();
+        kinds == other_kinds && from == other_from && to == other_to
     }
 
     /// That the number of its places ends below 2^262. It does nothing.

@@ -10,9 +10,9 @@ returns-then-has_row-clause-rows g c =
     let rank = g.K.Ranked.rank in
     let joined = g.C.Counts.joined in
     let rows = c.args.rows.now.items in
-    let at = c.place_of-at.result in
-    let place = rw c.as_slice.ensures.value at c.place_of-at.ensures in
-    let there = rw c.as_slice-2.ensures.value at (c.if-has_row.ensures.there refl) in
+    let at = c.args.at in
+    let place = c.requires.place in
+    let there = rw c.as_slice.ensures.value at (c.if-has_row.ensures.there refl) in
     let x = c.index_mut.result.now in
     let same : x ≡ get_or rows at x = c.index_mut.ensures.value in
     let v : Row g.row.K.Denot g.row.C.Denot = record { key = x.key; counts = c.with.result } in
@@ -26,9 +26,9 @@ returns-then-has_row-clause-rest g c =
     let rank = g.K.Ranked.rank in
     let joined = g.C.Counts.joined in
     let rows = c.args.rows.now.items in
-    let at = c.place_of-at.result in
-    let place = rw c.as_slice.ensures.value at c.place_of-at.ensures in
-    let there = rw c.as_slice-2.ensures.value at (c.if-has_row.ensures.there refl) in
+    let at = c.args.at in
+    let place = c.requires.place in
+    let there = rw c.as_slice.ensures.value at (c.if-has_row.ensures.there refl) in
     let x = c.index_mut.result.now in
     let same : x ≡ get_or rows at x = c.index_mut.ensures.value in
     let v : Row g.row.K.Denot g.row.C.Denot = record { key = x.key; counts = c.with.result } in
@@ -39,12 +39,12 @@ returns-then-has_row-clause-rest g c =
 
 pub returns-clause-rows : goal.returns-clause-rows
 returns-clause-rows g c =
-    let place = rw c.as_slice.ensures.value at c.place_of-at.ensures in
-    let behind = rw c.as_slice-2.ensures.value at (c.if-has_row.ensures.behind refl) in
-    c.enter.ensures.rows ∙ ap (take 4096) (sym (entered g.K.Ranked.rank g.C.Counts.joined c.args.key c.args.counts c.args.rows.now.items c.place_of-at.result place.inside place.before behind))
+    let place = c.requires.place in
+    let behind = rw c.as_slice.ensures.value at (c.if-has_row.ensures.behind refl) in
+    c.enter.ensures.rows ∙ ap (take 4096) (sym (entered g.K.Ranked.rank g.C.Counts.joined c.args.key c.args.counts c.args.rows.now.items c.args.at place.inside place.before behind))
 
 pub returns-clause-rest : goal.returns-clause-rest
 returns-clause-rest g c =
-    let place = rw c.as_slice.ensures.value at c.place_of-at.ensures in
-    let behind = rw c.as_slice-2.ensures.value at (c.if-has_row.ensures.behind refl) in
-    c.enter.ensures.rest ∙ ap (λ rows. total g.C.Counts.joined g.C.Counts.none (drop 4096 rows)) (sym (entered g.K.Ranked.rank g.C.Counts.joined c.args.key c.args.counts c.args.rows.now.items c.place_of-at.result place.inside place.before behind))
+    let place = c.requires.place in
+    let behind = rw c.as_slice.ensures.value at (c.if-has_row.ensures.behind refl) in
+    c.enter.ensures.rest ∙ ap (λ rows. total g.C.Counts.joined g.C.Counts.none (drop 4096 rows)) (sym (entered g.K.Ranked.rank g.C.Counts.joined c.args.key c.args.counts c.args.rows.now.items c.args.at place.inside place.before behind))

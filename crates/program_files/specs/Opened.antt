@@ -1,6 +1,11 @@
 -- Captures that were opened, and of which nothing is read yet. It states no standard.
+--     IsOpened      one: what is told of it
+--     AreOpened      some, one behind another
 use Rattle.std.specs.Prelude.{◌≡◌, ℕ, List, Option, option_map}
+use Rattle.std.specs.List.{AllZip}
+use Rattle.std.specs.Borrow.{Bor}
 use Rattle.command_line.specs.Capture.{interface_of}
+use Rattle.pcap_stream.specs.Source.{Stream}
 use Rattle.pcapng_input.specs.Adapted.{told_text}
 use Rattle.pcapng_input.specs.declared.interface.Selection.{Selection}
 use Rattle.program_files.specs.Asked.{IsAsked}
@@ -20,6 +25,6 @@ module _ {F I : Type 0} (files : F → Option (List ℕ)) (input : I → Option 
     pub asked : IsAsked (interface_of name) selection
     pub told_is : told ≡ told_of selection (left_in files input device)
 
-  -- the same of a capture of some name
-  abbrev pub IsSomeOpened : Option (List ℕ) → Type 0
-  IsSomeOpened told = (name : List ℕ) × IsOpened name told
+  -- there is one of each of these names
+  abbrev pub AreOpened : List (Bor (List ℕ)) → List Stream → Type 0
+  AreOpened names captures = AllZip (λ (name : Bor (List ℕ)) (capture : Stream). IsOpened name.now capture.supply.rest) names captures

@@ -2,8 +2,12 @@
 //!
 //! The captures' blocks go on first, each of them also behind one that failed, and that of the decision lines only where all
 //! captures have theirs: so no line stands in its file without the records of its event.
-ghost use Rattle.std.specs.Prelude.{◌≡◌, [], All, IfOk, IfSome, length, true};
-ghost use Rattle.pcap_stream.specs.Block.{Block};
+ghost use Rattle.std.specs.Prelude.{◌≡◌, [], All, IfOk, IfSome, length, map, true};
+ghost use Rattle.std.specs.Io.KnownBytes.{Keeps};
+ghost use Rattle.std.specs.List.{AllZip};
+ghost use Rattle.pcap_stream.specs.Block.{Block, told};
+ghost use Rattle.pcap_stream.specs.Sink.{Drain};
+ghost use Rattle.program_files.specs.Held.{AreHandedOn, AreHeld, IsHeld, handed_on, written};
 
 use crate::failed_outputs::{FailedOutput, FailedOutputs};
 use crate::outputs::{OutputSums, Outputs, ShardFile, Written};
@@ -64,6 +68,9 @@ impl<F: Write + Drop> Outputs<F> {
         ensures ports { IfOk result (λ files. All (λ (b : Block). b.held ≡ []) files.ports.items) }
         ensures underlay { IfOk result (λ files. files.underlay.held ≡ []) }
         ensures decisions { IfOk result (λ files. files.decisions.held ≡ []) }
+        ensures kept { IfOk result (λ files. AreHandedOn (written self.ports.items self.underlay self.decisions)
+            (handed_on files.ports.items files.underlay files.decisions)) }
+        ensures in_files { IfOk result (λ files. AreHeld F.contents (handed_on files.ports.items files.underlay files.decisions)) }
     {
         match self.hand_on_all(alloc, failed) {
             Some(files) => Ok(files),
@@ -96,6 +103,9 @@ impl<F: Write + Drop> Outputs<F> {
         ensures ports { IfSome result (λ files. All (λ (b : Block). b.held ≡ []) files.ports.items) }
         ensures underlay { IfSome result (λ files. files.underlay.held ≡ []) }
         ensures decisions { IfSome result (λ files. files.decisions.held ≡ []) }
+        ensures kept { IfSome result (λ files. AreHandedOn (written self.ports.items self.underlay self.decisions)
+            (handed_on files.ports.items files.underlay files.decisions)) }
+        ensures in_files { IfSome result (λ files. AreHeld F.contents (handed_on files.ports.items files.underlay files.decisions)) }
     {
         let Outputs {
             ports,
@@ -140,6 +150,8 @@ fn hand_on_ports<F: Write + Drop>(
 ) -> Option<Vec<Written<F>>>
     ensures count { IfSome result (λ files. length files.items ≡ length ports.items) }
     ensures all { IfSome result (λ files. All (λ (b : Block). b.held ≡ []) files.items) }
+    ensures kept { IfSome result (λ files. AllZip Keeps (map (λ (d : Drain). d.written) ports.items) (map (λ (b : Block). b.written) files.items)) }
+    ensures in_files { IfSome result (λ files. All (IsHeld F.contents) (map (λ (b : Block). b.written) files.items)) }
 {
     let count = ports.len();
     let mut files = Vec::new(alloc);
@@ -159,7 +171,9 @@ fn hand_on_ports<F: Write + Drop>(
 
 /// Hands on what the block of the decision lines holds, where no capture is noted, and says whether their file has all of them.
 fn hand_on_lines<F: Write + Drop>(decisions: &mut Written<F>, failed: &mut FailedOutputs) -> bool
-    ensures { result ≡ true → decisions.new.held ≡ [] }
+    ensures all { result ≡ true → decisions.new.held ≡ [] }
+    ensures kept { result ≡ true → Keeps (told decisions.old) decisions.new.written }
+    ensures in_file { IsHeld F.contents decisions.new.written }
 {
     if failed.is_empty() {
         return hand_on(OutputFile::Decisions, decisions, failed);
@@ -177,7 +191,9 @@ fn hand_on<F: Write + Drop>(
     written: &mut Written<F>,
     failed: &mut FailedOutputs,
 ) -> bool
-    ensures { result ≡ true → written.new.held ≡ [] }
+    ensures all { result ≡ true → written.new.held ≡ [] }
+    ensures kept { result ≡ true → Keeps (told written.old) written.new.written }
+    ensures in_file { IsHeld F.contents written.new.written }
 {
     let is_handed_on = written.finish().is_ok();
     let fault = written.output().output().writer().fault();

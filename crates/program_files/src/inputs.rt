@@ -3,13 +3,13 @@
 //! Below a source stands std's buffered reader of 32 KiB, for the first octets, which tell the format: behind them more is
 //! asked for at once, and goes past it. An interface's name of digits is a number, as in Wireshark's tools: so an interface
 //! whose name is digits is taken by its number.
-ghost use Rattle.std.specs.Prelude.{◌≡◌, ◌<◌, ◌^◌, All, IfOk, IfSome, length, option_map};
+ghost use Rattle.std.specs.Prelude.{◌≡◌, ◌<◌, ◌^◌, [], None, All, IfOk, IfSome, length, option_map};
 ghost use Rattle.std.specs.Io.Buffered.{reader_remaining};
 ghost use Rattle.pcap_stream.specs.Source.{New, Stream, most_left};
 ghost use Rattle.pcapng_input.specs.Adapter.{told_octets};
 ghost use Rattle.program_files.specs.Asked.{IsAsked};
 ghost use Rattle.program_files.specs.Device.{left_in};
-ghost use Rattle.program_files.specs.Opened.{IsOpened, IsSomeOpened};
+ghost use Rattle.program_files.specs.Opened.{AreOpened, IsOpened};
 ghost use Rattle.program_files.specs.declared.inputs.Device.{Device as AnyDevice};
 
 use command_line::{STANDARD_INPUT, capture_name};
@@ -199,6 +199,7 @@ pub fn read_if_given<'a, R: Files + AllocGlobal>(
 ) -> Result<Vec<u8>, Failure<'a>>
     ensures told { IfOk result (λ text. IfSome name.entry (λ _. (file : R.File)
         × IfSome (R.File.remaining file) (λ octets. text.items ≡ octets))) }
+    ensures unnamed { IfOk result (λ text. name.entry ≡ None → text.items ≡ []) }
 {
     match name {
         Some(name) => read_file(rt, name),
@@ -249,8 +250,7 @@ pub fn open_captures<'a, R: Files + Input + AllocGlobal>(
 ) -> Result<Vec<Capture<'a, R::File, R::Reader>>, Failure<'a>>
     ensures count { IfOk result (λ captures. length captures.items ≡ length names.now) }
     ensures fresh { IfOk result (λ captures. All (λ (capture : Stream). capture.standing ≡ New) captures.items) }
-    ensures told { IfOk result (λ captures. All (λ (capture : Stream).
-        IsSomeOpened R.File.remaining R.Reader.remaining capture.supply.rest) captures.items) }
+    ensures told { IfOk result (λ captures. AreOpened R.File.remaining R.Reader.remaining names.now captures.items) }
 {
     let mut captures = Vec::new(rt.alloc());
     for name in names {

@@ -4,15 +4,16 @@
 //! Use first: [`open_captures`] opens the captures that [`Names`] have, and [`open_outputs`] a run's files in a folder, which
 //! are emptied by [`Opened::emptied`] and end as [`HandedOn`]. [`read_file`] reads a text, and [`print_text`] prints one.
 //!
-//! It has no specs of its own: its contracts count captures and outputs.
+//! Specs to read: `specs/Opened.antt` for captures that were opened, and `specs/Held.antt` for what files hold.
 //!
-//! Proved: each function is safe and ends. A capture that was opened is unread, and as many are opened as have names; as many
-//! outputs are opened, and emptied, as there are ports. Outputs are finished only where as many as there were hold nothing
-//! back. What a file, a pipe or a terminal holds isn't proved.
+//! Proved: each function is safe and ends. Captures that were opened are unread, one of each name, and tell what some file or
+//! standard input has left, as classic pcap. As many outputs are opened, and emptied, as there are ports. Outputs are finished
+//! only where as many as there were hold nothing back, and then their files hold all that was written to them. What is said of
+//! octets is said wherever files tell theirs; what a file of the system, a pipe or a terminal holds isn't proved.
 //!
 //! Why it is so: the program's work on files stands here, in `runs_on_files`, `merge_on_files` and `tep_program`, and
-//! `dissector` knows octets alone. What a file holds no contract can say, so these four say how many captures and outputs there
-//! are, what statuses come, and that each call is safe and ends.
+//! `dissector` knows octets alone. The system's files tell a contract nothing of what they hold, so what is said of octets is
+//! said of all files that do: the code is one for both.
 #![tactic(auto)]
 
 mod failed_outputs;

@@ -1,4 +1,6 @@
 //! A file that is written, and why a write into it failed.
+ghost use Rattle.std.specs.Prelude.{◌≡◌};
+
 use program_faults::SystemFault;
 use std::io::{self, ErrorKind, Write};
 
@@ -11,7 +13,9 @@ pub struct OutputDevice<F: Write + Drop> {
 
 impl<F: Write + Drop> OutputDevice<F> {
     /// A file of which no write has failed.
-    pub fn new(file: F) -> OutputDevice<F> {
+    pub fn new(file: F) -> OutputDevice<F>
+        ensures { result.file ≡ file }
+    {
         OutputDevice { file, fault: None }
     }
 

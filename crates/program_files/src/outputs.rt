@@ -3,6 +3,8 @@
 //! All are opened before the first is emptied. Where the folder doesn't exist the first of them can't be written: status 3, and
 //! nothing else stands on disk.
 ghost use Rattle.std.specs.Prelude.{◌≡◌, IfOk, length};
+ghost use Rattle.pcap_stream.specs.Block.{told};
+ghost use Rattle.program_files.specs.Held.{AreHeld, written};
 
 use crate::names::Names;
 use crate::output_device::OutputDevice;
@@ -155,7 +157,8 @@ impl<F: Write + OpenFile + Drop> Opened<F> {
     /// Empties the files. They are written in blocks of so many octets; where it is 0, each record and each line goes out at
     /// once.
     pub fn emptied(self, alloc: Global, block: usize) -> Result<Outputs<F>, Failure<'static>>
-        ensures { IfOk result (λ outputs. length outputs.ports.items ≡ length self.ports.items) }
+        ensures count { IfOk result (λ outputs. length outputs.ports.items ≡ length self.ports.items) }
+        ensures in_files { IfOk result (λ outputs. AreHeld F.contents (written outputs.ports.items outputs.underlay outputs.decisions)) }
     {
         let Opened {
             ports: files,
@@ -204,7 +207,9 @@ fn empty<F: Write + OpenFile + Drop>(
     output: OutputFile,
     block: usize,
     is_part: bool,
-) -> Result<Written<F>, Failure<'static>> {
+) -> Result<Written<F>, Failure<'static>>
+    ensures { IfOk result (λ written. told written ≡ F.contents file) }
+{
     if let Err(error) = cut(&file) {
         return Err(Failure::writing(output, &error));
     }

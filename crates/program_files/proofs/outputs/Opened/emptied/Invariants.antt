@@ -1,5 +1,7 @@
-use Rattle.std.proofs.Common.{◌≡◌, ◌++◌, length}
+use Rattle.std.proofs.Common.{◌≡◌, ◌++◌, All, length, map}
 use Rattle.std.specs.Vec.Iter.{into_iter_items}
+use Rattle.pcap_stream.specs.Sink.{Drain}
+use Rattle.program_files.specs.Held.{IsHeld}
 use Rattle.program_files.proofs.outputs.Opened.emptied.Given as goal
 
 -- a file that is written stands for each that was taken
@@ -7,4 +9,5 @@ abbrev pub invariant-loop-file : goal.invariant-loop-file
 invariant-loop-file g l = record {
   count : length l.ports.items ≡ length l.yielded;
   all : l.yielded ++ into_iter_items l.file-iterator ≡ l.fn.self.ports.items;
+  held : All (IsHeld g.F.Write.contents) (map (λ (d : Drain). d.written) l.ports.items);
 }

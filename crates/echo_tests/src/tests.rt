@@ -1,1 +1,2 @@
 mod sieve_tests;
+mod window_tests;

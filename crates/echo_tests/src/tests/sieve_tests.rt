@@ -117,9 +117,8 @@ fn are_counted(both: &BothWays) -> bool {
 fn what_the_switch_sent_is_no_input(rt: HostRuntime) -> Result<(), Fail> {
     let underlay = underlay();
     let mut both = BothWays::new(rt.alloc(), WITHIN, &underlay)?;
-    if let Some(name) = wrong_row(rt.alloc(), &mut both, rows())? {
-        assert!(rt; false, "{name}");
-    }
+    let wrong = wrong_row(rt.alloc(), &mut both, rows())?.unwrap_or("none");
+    assert_eq!(rt; wrong, "none");
     assert!(rt; are_counted(&both));
     Ok(())
 }

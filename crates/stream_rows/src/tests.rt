@@ -2,3 +2,4 @@ mod failing;
 mod rows;
 mod run;
 mod same;
+mod sieved;

@@ -18,6 +18,8 @@ pub(crate) struct Row {
     pub(crate) settings: String,
     pub(crate) changes: String,
     pub(crate) captures: Captures,
+    /// A sieve leaves out what comes in at port 2.
+    pub(crate) is_sieved: bool,
 }
 
 impl Row {
@@ -31,6 +33,7 @@ impl Row {
             settings: String::from_str(alloc, settings)?,
             changes: String::new(alloc),
             captures,
+            is_sieved: false,
         })
     }
 

@@ -3,6 +3,7 @@ ghost use Rattle.std.specs.Prelude.{◌≡◌, All, IfOk, length};
 ghost use Rattle.pcap_stream.specs.Source.{New, Stream};
 
 use crate::tests::rows::Row;
+use crate::tests::sieved::run_elsewhere;
 use capture_run::Outputs;
 use pcap_stream::{Sink, Source};
 use std::alloc::{AllocError, Global};
@@ -105,14 +106,18 @@ impl Manner {
             underlay: Sink::new(self.output(alloc, count)),
             decisions: self.output(alloc, count.saturating_add(1)),
         };
-        let end = run_streams(
-            alloc,
-            row.settings.as_bytes(),
-            row.changes.as_bytes(),
-            &mut captures,
-            &mut written,
-            &mut Unwatched,
-        );
+        let end = if row.is_sieved {
+            run_elsewhere(alloc, row, &mut captures, &mut written)
+        } else {
+            run_streams(
+                alloc,
+                row.settings.as_bytes(),
+                row.changes.as_bytes(),
+                &mut captures,
+                &mut written,
+                &mut Unwatched,
+            )
+        };
         let mut ports = Vec::new(alloc);
         for sink in written.ports {
             ports.push(sink.into_inner().octets)?;

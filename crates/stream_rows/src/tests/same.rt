@@ -8,7 +8,10 @@ use std::test::Fail;
 use test_inputs::settings::ENDPOINT;
 
 /// The words for a fault, or `done`.
-fn words_of<E: Display + Drop>(alloc: Global, end: Result<(), E>) -> Result<String, Fail> {
+pub(crate) fn words_of<E: Display + Drop>(
+    alloc: Global,
+    end: Result<(), E>,
+) -> Result<String, Fail> {
     match end {
         Ok(()) => Ok(String::from_str(alloc, "done")?),
         Err(fault) => Ok(format!(in alloc; "{fault}")?),

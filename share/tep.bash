@@ -37,8 +37,8 @@ _tep() {
             case $before,$cur in
                 -s,* | --settings,* | -c,* | --changes,* | -u,* | --underlay,* | --digests,*) _tep_offers files ;;
                 -o,* | --out,*) _tep_offers folders ;;
-                --tables-at,* | --why,* | --segments,*) _tep_offers words "" ;;
-                *,-*) _tep_offers words "--settings --changes --underlay --out --tables --tables-at --why --summary --segments --digests --help --version" ;;
+                --within,* | --tables-at,* | --why,* | --segments,*) _tep_offers words "" ;;
+                *,-*) _tep_offers words "--settings --changes --underlay --out --both --within --tables --tables-at --why --summary --talkers --segments --digests --help --version" ;;
                 *) _tep_offers files ;;
             esac
             ;;

@@ -1,5 +1,5 @@
 """The definitions that two contracts are made of, and how many lines they have: `capture_run::run_bytes`, and
-`stream_run::run_read`, which the program calls.
+`stream_run::run_sieved`, which the program calls.
 
 Prints two tables for docs/HEADLINE.md: every definition that the words of the first reach through `use` lines, by crate and
 file, with the words that it takes from `std` and `toml`, which stand outside this repository; then those that the words of the
@@ -155,8 +155,8 @@ def main():
     print_table(here)
     print_words(outside)
     print(f"\nTypes of the code whose values the definitions are about: {len(types)}.")
-    more, more_types, _ = reach(roots("stream_run/src/run.rt", "run_read"))
-    print("\nBeside these, in the clauses of `stream_run::run_read`, which the program calls:\n")
+    more, more_types, _ = reach(roots("stream_run/src/run.rt", "run_sieved"))
+    print("\nBeside these, in the clauses of `stream_run::run_sieved`, which the program calls:\n")
     print_table(more - here)
     print(f"\nTypes of the code beside those: {len(more_types - types)}.")
 

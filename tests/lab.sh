@@ -37,6 +37,43 @@ done
 mv "$folder/out/both/settings.toml" "$folder/out/both/apart"
 decides decisions.txt settings.toml both 'all.pcapng#underlay' 'all.pcapng#swp1' 'all.pcapng#swp2'
 diff -r "$folder/out/both/apart" "$folder/out/both/settings.toml" || complain "dumpcap and tcpdump tell different things"
+# With --both a run on both directions decides what it decides on what came in, by the numbers of these records.
+mkdir "$folder/both"
+./tep run --both --settings "$lab/settings.toml" --out "$folder/both" --underlay "$captures/both/underlay.pcap" \
+    "$captures/both/port1.pcap" "$captures/both/port2.pcap" 2>"$folder/left_out" || complain "the run with --both ends with $?"
+diff <(sed -E 's/ *#.*//' "$lab/both/decisions_both.txt") <(cut -d ' ' -f 3- "$folder/both/decisions.txt") ||
+    complain "other decisions with --both"
+diff - "$folder/left_out" <<'LEFT' || complain "other records are left out with --both"
+  p1: left out 5 records that the switch sent
+  p2: left out 4 records that the switch sent
+  u: left out 7 records that the switch sent
+LEFT
+# Parts of it are put together to the same.
+for part in 1 2-4094,none; do
+    mkdir "$folder/part $part"
+    ./tep run --both --segments "$part" --settings "$lab/settings.toml" --out "$folder/part $part" \
+        --underlay "$captures/both/underlay.pcap" "$captures/both/port1.pcap" "$captures/both/port2.pcap" 2>"$folder/left_out_part" ||
+        complain "the part $part with --both ends with $?"
+    diff "$folder/left_out" "$folder/left_out_part" || complain "the part $part leaves out other records"
+done
+mkdir "$folder/merged"
+./tep merge --out "$folder/merged" "$folder/part 1" "$folder/part 2-4094,none" || complain "the merge with --both ends with $?"
+diff -r "$folder/both" "$folder/merged" || complain "parts with --both aren't the whole"
+# both WORDS..: what standard error says of a run on both directions with these words; its status behind it
+both() {
+    ./tep run "$@" --settings "$lab/settings.toml" --summary --underlay "$captures/both/underlay.pcap" \
+        "$captures/both/port1.pcap" "$captures/both/port2.pcap" 2>&1 >"$folder/summary"
+    echo "status $?"
+}
+# No frame is met again in the same nanosecond: our own packets alone are left out. Up to 584 years behind everything is.
+[ "$(both --within 0ns)" = '  u: left out 7 records that the switch sent
+status 0' ] || complain "--within 0ns"
+[ "$(both --within 18446744073709551615ns)" = "$(cat "$folder/left_out")
+status 0" ] || complain "the longest time"
+for time in 10 10m 1h 010ms ' 10ms' 10MS +1s 1.5s ms 18446744073709551616ns 18446744074s; do
+    [ "$(both --within "$time")" = "within: $time is no time, as 500us, 10ms or 1s are
+status 1" ] || complain "--within '$time'"
+done
 decides decisions_partial.txt partial.toml offloads underlay.pcap port1.pcap port2.pcap
 # Two of the three packets that the peer sent have the sum of the pseudo header; with come_in's all are whole.
 ./tep check --settings "$lab/settings.toml" --underlay "$captures/offloads/underlay.pcap" |

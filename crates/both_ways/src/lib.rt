@@ -1,8 +1,8 @@
 //! Which events of a run are input, where the captures hold both directions: what came in at each place, and what the switch
 //! itself sent there.
 //!
-//! Use first: [`BothWays`] is shown one event after another, of all places in order of moment, and says of each whether it is
-//! input; what isn't, it counts by places. It takes its memory when it is made.
+//! Use first: [`BothWays`], a sieve of `stream_run`'s runs, is shown one event after another, of all places in order of moment,
+//! and says of each whether it is input; what isn't, it counts by places. It takes its memory when it is made.
 //!
 //! Specs to read, in order: `specs/Told`, `specs/Sieve`, `specs/Laws`, and `echo_window`'s `specs/Echo`.
 //!

@@ -1,5 +1,5 @@
 //! The sieve.
-ghost use Rattle.std.specs.Prelude.{◌≡◌, ◌∷◌, ◌++◌, List, IfOk, if◌then◌else◌, is_none, slice_index};
+ghost use Rattle.std.specs.Prelude.{◌≡◌, ◌∷◌, ◌++◌, List, IfOk, if◌then◌else◌, is_none, refl, slice_index};
 ghost use Rattle.std.specs.FinMap.{empty};
 ghost use Rattle.echo_window.specs.Echo.{after, echo_of};
 ghost use Rattle.timeline.specs.declared.event.Event.{Event as AnEvent};
@@ -10,6 +10,7 @@ use crate::told::{FrameText, Told, place_of, told_of};
 use echo_window::{Record, Window};
 use std::alloc::{AllocError, Global};
 use std::marker::Model;
+use stream_run::Sieve;
 use timeline::{Event, Happening, Tap};
 use underlay::{Hops, Underlay};
 
@@ -51,7 +52,7 @@ impl BothWays {
     }
 
     /// Whether the next event is input. Where it isn't, it is counted at its place.
-    pub fn takes(&mut self, event: &Event) -> bool
+    pub fn is_input(&mut self, event: &Event) -> bool
         ensures answer { result ≡ is_taken self.old event.now }
         ensures behind { self.new ≡ behind self.old event.now }
         ensures taken { (es : List AnEvent) → taken self.old (event.now ∷ es) ≡ (if result then event.now ∷ taken self.new es else taken self.new es) }
@@ -83,6 +84,18 @@ impl BothWays {
             count(&mut self.left_out, place);
         }
         is_input
+    }
+}
+
+impl Sieve for BothWays {
+    ghost taken = { taken };
+
+    ghost none = { λ s. refl };
+
+    ghost goes = { λ old e new. new ≡ behind old e };
+
+    fn takes(&mut self, event: &Event) -> bool {
+        self.is_input(event)
     }
 }
 

@@ -49,6 +49,8 @@ rule_for arguments.Summary = flag_rule (codes "summary")
 rule_for arguments.Talkers = flag_rule (codes "talkers")
 rule_for arguments.Segments = option_rule (codes "segments")
 rule_for arguments.Digests = option_rule (codes "digests")
+rule_for arguments.Both = flag_rule (codes "both")
+rule_for arguments.Within = option_rule (codes "within")
 rule_for arguments.Shards = record (listed_rule (codes "shards")) { required = true }
 rule_for arguments.Depth = record (option_rule (codes "depth")) {
   short = Some 100;
@@ -79,11 +81,11 @@ name_of subcommands.Merge = codes "merge"
 abbrev pub arguments_of : Subcommand → List Argument
 arguments_of subcommands.Run =
     arguments.Settings ∷ arguments.Changes ∷ arguments.Underlay
-    ∷ arguments.RunOut ∷ arguments.Ports ∷ arguments.Tables ∷ arguments.TablesAt
+    ∷ arguments.RunOut ∷ arguments.Ports ∷ arguments.Both ∷ arguments.Within ∷ arguments.Tables ∷ arguments.TablesAt
     ∷ arguments.Why ∷ arguments.Summary ∷ arguments.Talkers ∷ arguments.Segments ∷ arguments.Digests ∷ []
 arguments_of subcommands.TellingRun =
     arguments.Settings ∷ arguments.Changes ∷ arguments.Underlay
-    ∷ arguments.OptionalOut ∷ arguments.Ports ∷ arguments.Tables ∷ arguments.TablesAt
+    ∷ arguments.OptionalOut ∷ arguments.Ports ∷ arguments.Both ∷ arguments.Within ∷ arguments.Tables ∷ arguments.TablesAt
     ∷ arguments.Why ∷ arguments.Summary ∷ arguments.Talkers ∷ arguments.Segments ∷ arguments.Digests ∷ []
 arguments_of subcommands.Check = arguments.Settings ∷ arguments.Changes ∷ arguments.SeenUnderlay ∷ arguments.SeenPorts ∷ []
 arguments_of subcommands.Explain = arguments.Settings ∷ arguments.Depth ∷ arguments.Values ∷ arguments.Capture ∷ []

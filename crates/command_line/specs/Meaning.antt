@@ -17,14 +17,14 @@ use Rattle.command_line.specs.declared.line.LineFault.TheVariants as fault
 
 -- a command with its values: of `run` the settings, the changes, the underlay, the folder if there is one, the ports, whether
 -- the tables are told, the moment at which they are, the events that are told in full, whether the counts are told, the
--- segments that a part takes, and the file of the digests that are lent to it; of `check` the settings, the changes, the
--- underlay and the ports;
+-- segments that a part takes, the file of the digests that are lent to it, whether what the switch itself sent is left out, and
+-- how long behind its frame that may come; of `check` the settings, the changes, the underlay and the ports;
 -- of `explain` the settings, the depth, whether values are told, and the capture; of `migrate` the settings; of `digest` the
 -- underlay and the ports; of `merge` the folder, those of the parts, whether the tables are told, and whether the counts are
 pub data Meaning : Type 0 where
   sample : Meaning
   run : Text → Option Text → Text → Option Text → List Text → Bool
-      → Option ℕ → List Text → Bool → Bool → Option Text → Option Text → Meaning
+      → Option ℕ → List Text → Bool → Bool → Option Text → Option Text → Bool → Option Text → Meaning
   check : Text → Option Text → Option Text → List Text → Meaning
   explain : Text → ℕ → Bool → Text → Meaning
   migrate : Text → Meaning
@@ -34,9 +34,10 @@ pub data Meaning : Type 0 where
 -- what a command line is as such a meaning
 abbrev pub meaning_of : Line → Meaning
 meaning_of line.Sample = sample
-meaning_of (line.Run settings changes underlay out ports tables tables_at why summary talkers segments digests) =
+meaning_of (line.Run settings changes underlay out ports tables tables_at why summary talkers segments digests both within) =
     run settings.now (option_map (λ t. t.now) changes) underlay.now (option_map (λ t. t.now) out) (texts ports.items) tables tables_at
     (texts why.items) summary talkers (option_map (λ t. t.now) segments) (option_map (λ t. t.now) digests)
+    both (option_map (λ t. t.now) within)
 meaning_of (line.Check settings changes underlay ports) =
     check settings.now (option_map (λ t. t.now) changes) (option_map (λ t. t.now) underlay) (texts ports.items)
 meaning_of (line.Explain settings depth values capture) = explain settings.now depth values capture.now
@@ -47,7 +48,7 @@ meaning_of (line.Merge out shards tables summary) = merge out.now (texts shards.
 -- a depth is 1 to 4
 abbrev pub HasDepth : Line → Type 0
 HasDepth line.Sample = ⊤
-HasDepth (line.Run settings changes underlay out ports tables tables_at why summary talkers segments digests) = ⊤
+HasDepth (line.Run settings changes underlay out ports tables tables_at why summary talkers segments digests both within) = ⊤
 HasDepth (line.Check settings changes underlay ports) = ⊤
 HasDepth (line.Explain settings depth values capture) = (1 ≤ depth) × (depth ≤ 4)
 HasDepth (line.Migrate settings) = ⊤
@@ -106,7 +107,7 @@ abbrev pub run_meant : List Row → Option Meaning
 run_meant rows = option_and_then (λ s. option_and_then (λ u.
     option_map (λ ps. run s (changes_in rows) u (first_of (codes "out") rows) ps (is_set (codes "tables") rows) (moment_in rows)
     (why_in rows) (is_set (codes "summary") rows) (is_set (codes "talkers") rows) (first_of (codes "segments") rows)
-    (first_of (codes "digests") rows)) (all_of (codes "ports") rows))
+    (first_of (codes "digests") rows) (is_set (codes "both") rows) (first_of (codes "within") rows)) (all_of (codes "ports") rows))
     (first_of (codes "underlay") rows)) (settings_in rows)
 
 -- what `check` is asked to do
@@ -165,7 +166,7 @@ has_any (t ∷ ts) = true
 
 -- something is told of a run besides its outputs
 abbrev pub is_telling : Meaning → Bool
-is_telling (run settings changes underlay out ports tables tables_at why summary talkers segments digests) =
+is_telling (run settings changes underlay out ports tables tables_at why summary talkers segments digests both within) =
     tables || (is_some tables_at || (has_any why || (summary || talkers)))
 is_telling _ = false
 
@@ -194,7 +195,7 @@ inputs_among names = count_by (λ name. bytes_eq (file_of name) (codes "-")) nam
 -- how many captures are standard input; texts are files, whatever their names
 abbrev pub input_uses : Meaning → ℕ
 input_uses sample = 0
-input_uses (run settings changes underlay out ports tables tables_at why summary talkers segments digests) = inputs_among (underlay ∷ ports)
+input_uses (run settings changes underlay out ports tables tables_at why summary talkers segments digests both within) = inputs_among (underlay ∷ ports)
 input_uses (check settings changes None ports) = inputs_among ports
 input_uses (check settings changes (Some underlay) ports) = inputs_among (underlay ∷ ports)
 input_uses (explain settings depth values capture) = inputs_among (capture ∷ [])
@@ -210,7 +211,7 @@ ReadsInputOnce meaning = input_uses meaning ≤ 1
 
 -- digests are lent to a run that is no part
 abbrev pub lends_to_a_whole : Meaning → Bool
-lends_to_a_whole (run settings changes underlay out ports tables tables_at why summary talkers segments digests) =
+lends_to_a_whole (run settings changes underlay out ports tables tables_at why summary talkers segments digests both within) =
     is_some digests && not (is_some segments)
 lends_to_a_whole _ = false
 

@@ -48,6 +48,10 @@ pub enum Argument {
     Segments,
     /// The digests that are lent to a part of a run.
     Digests,
+    /// Whether what the switch itself sent is left out of the captures.
+    Both,
+    /// How long behind its frame that may come.
+    Within,
     /// The folders of the parts: one or more.
     Shards,
     /// How many tunnels are looked into: 1 to 4.
@@ -153,6 +157,17 @@ impl Argument {
                 "digests",
                 FILE,
                 "The digests of the captures, as 'tep digest' prints them, for a part of a run",
+            ),
+            Argument::Both => flag(
+                alloc,
+                "both",
+                "Leaves out what the switch itself sent, where captures have both directions",
+            ),
+            Argument::Within => option(
+                alloc,
+                "within",
+                "TIME",
+                "How long behind its frame that may come, with --both: 500us, 2ms, 1s; 10ms without it",
             ),
             Argument::Shards => listed(
                 alloc,

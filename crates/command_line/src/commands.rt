@@ -69,12 +69,14 @@ const SUBCOMMANDS: [Subcommand; 6] = [
 ];
 
 /// What `run` takes.
-const RUN: [Argument; 12] = [
+const RUN: [Argument; 14] = [
     Argument::Settings,
     Argument::Changes,
     Argument::Underlay,
     Argument::RunOut,
     Argument::Ports,
+    Argument::Both,
+    Argument::Within,
     Argument::Tables,
     Argument::TablesAt,
     Argument::Why,
@@ -85,12 +87,14 @@ const RUN: [Argument; 12] = [
 ];
 
 /// What `run` takes where its folder may be left out.
-const TELLING_RUN: [Argument; 12] = [
+const TELLING_RUN: [Argument; 14] = [
     Argument::Settings,
     Argument::Changes,
     Argument::Underlay,
     Argument::OptionalOut,
     Argument::Ports,
+    Argument::Both,
+    Argument::Within,
     Argument::Tables,
     Argument::TablesAt,
     Argument::Why,

@@ -1,15 +1,16 @@
 //! The program's command line, read with `clap`: what it asks for, and the values that stand in it.
 //!
 //! Use first: [`line_of`] reads all words as a [`Line`], or answers a [`LineFault`]. [`capture_name`] tells the file and the
-//! interface that a capture's name asks for.
+//! interface that a capture's name asks for, and [`time_of`] the nanoseconds of a time (`10ms`).
 //!
-//! Specs to read, in order: `specs/Meaning`, `specs/Capture`, `specs/App`.
+//! Specs to read, in order: `specs/Meaning`, `specs/Capture`, `specs/Time`, `specs/App`.
 //!
 //! Proved: where `line_of` answers a line, its command and values are those that `clap`'s own definition of simple commands
 //! gives for the words, or where it doesn't take them, those that it gives of a run which may leave its folder out and of which
 //! something is told. Refused, NoValue, InputTwice and NoSegments come only where that definition says so of the words. A line
 //! has no empty name, at most one capture that is standard input, digests for a part alone, and a depth of 1 to 4. A capture's
-//! name is parted at its last `#`.
+//! name is parted at its last `#`. A text is a time exactly where it is a number without leading zeros, below 2^64, and one of
+//! four units, of less than 2^64 nanoseconds.
 //!
 //! Why it is so: the words are read in a crate of their own over `clap`, whose own definition says what they mean. Standard
 //! input is a capture by the name `-`, from where it stands, and not `/dev/stdin` opened anew. The texts of settings and
@@ -22,7 +23,9 @@ mod capture;
 mod commands;
 mod line;
 mod matches;
+mod time;
 mod words;
 
 pub use capture::{CaptureName, STANDARD_INPUT, capture_name};
 pub use line::{Line, LineFault, line_of};
+pub use time::time_of;

@@ -40,6 +40,10 @@ pub enum Line<'a> {
         segments: Option<&'a str>,
         /// The file of the digests that are lent to the part, where they are; there are segments then.
         digests: Option<&'a str>,
+        /// Whether what the switch itself sent is left out of the captures.
+        both: bool,
+        /// How long behind its frame that may come, as it was given.
+        within: Option<&'a str>,
     },
     /// A look at the texts, and at the captures that are named.
     Check {

@@ -113,6 +113,8 @@ fn run_from<'a>(alloc: Global, inner: &ArgMatches<'a>) -> Result<Line<'a>, LineF
         talkers: is_set(inner, "talkers"),
         segments: text(inner, "segments"),
         digests: text(inner, "digests"),
+        both: is_set(inner, "both"),
+        within: text(inner, "within"),
     })
 }
 

@@ -24,6 +24,7 @@ failure_status_of (failures.Write output) = 3
 failure_status_of (failures.WriteFailed output fault) = 3
 failure_status_of (failures.NoEvent name) = 1
 failure_status_of (failures.Segments fault) = 1
+failure_status_of (failures.Within text) = 1
 failure_status_of (failures.ReadOnce name) = 1
 failure_status_of (failures.Digests name fault) = 1
 failure_status_of (failures.Shard folder fault) = 1

@@ -44,6 +44,9 @@ pub enum Failure<'a> {
     /// The list of the segments of a part is refused.
     #[error("segments: {0}")]
     Segments(ListFault),
+    /// This text is no time.
+    #[error("within: {name} is no time, as 500us, 10ms or 1s are", name = OneLine(*.0))]
+    Within(&'a str),
     /// The capture of this name is standard input or no regular file, and a part that no digests are lent to reads its captures
     /// twice.
     #[error("{name} can be read only once, and without --digests a part reads its captures twice", name = OneLine(*.0))]
@@ -189,6 +192,7 @@ impl<'a> Failure<'a> {
             Failure::Pcapng(..)
             | Failure::NoEvent(_)
             | Failure::Segments(_)
+            | Failure::Within(_)
             | Failure::ReadOnce(_)
             | Failure::Digests(..)
             | Failure::Shard(..)

@@ -1,4 +1,7 @@
 //! Digests of captures: taken, printed, and lent to the parts of a run.
+ghost use Rattle.std.specs.Prelude.{IfOk};
+ghost use Rattle.runs_on_files.specs.Digests.{AreDigestsOf, IsDigestOf};
+
 use arrayvec::ArrayVec;
 use capture_run::RunFault;
 use dissector::tap_of;
@@ -31,21 +34,29 @@ pub fn take_digests<'a, R: Files + Input + AllocGlobal>(
     rt: &R,
     underlay: &'a str,
     ports: &[&'a str],
-) -> Result<CaptureDigests, Failure<'a>> {
+) -> Result<CaptureDigests, Failure<'a>>
+    ensures ports { IfOk result (λ digests. AreDigestsOf R.File.remaining R.Reader.remaining ports.now digests.ports.items) }
+    ensures underlay { IfOk result (λ digests. IsDigestOf R.File.remaining R.Reader.remaining underlay.now digests.underlay) }
+{
     let mut digests = ArrayVec::<CaptureDigest, MOST_PORTS>::new();
     if ports.len() > MOST_PORTS {
         return Err(Failure::Run(RunFault::PortCount));
     }
-    for (index, name) in ports.iter().enumerate() {
-        let digest = take_digest(rt, tap_of(index), *name)?;
+    for name in ports {
+        let digest = match take_digest(rt, tap_of(digests.len()), *name) {
+            Ok(digest) => digest,
+            Err(failure) => return Err(failure),
+        };
         // There is room for as many as there are ports.
         let _ = digests.try_push(digest);
     }
-    let underlay = take_digest(rt, Tap::Underlay, underlay)?;
-    Ok(CaptureDigests {
-        ports: digests,
-        underlay,
-    })
+    match take_digest(rt, Tap::Underlay, underlay) {
+        Ok(underlay) => Ok(CaptureDigests {
+            ports: digests,
+            underlay,
+        }),
+        Err(failure) => Err(failure),
+    }
 }
 
 /// Reads a capture for the digest of what it tells as classic pcap.
@@ -53,7 +64,9 @@ fn take_digest<'a, R: Files + Input + AllocGlobal>(
     rt: &R,
     tap: Tap,
     name: &'a str,
-) -> Result<CaptureDigest, Failure<'a>> {
+) -> Result<CaptureDigest, Failure<'a>>
+    ensures { IfOk result (λ digest. IsDigestOf R.File.remaining R.Reader.remaining name.now digest) }
+{
     let input = match open_named(rt, name) {
         Ok(input) => input,
         Err(failure) => return Err(failure),

@@ -1,11 +1,14 @@
 //! Parts of a run: some of its segments, and what they were made from.
 ghost use Rattle.std.specs.Prelude.{◌≡◌, [], Ok, IfOk, IfSome};
 ghost use Rattle.overlay_config.specs.Change.{IsRising, changes_in};
+ghost use Rattle.overlay_config.specs.Settings.{settings_in};
 ghost use Rattle.overlay_settings.specs.Rules.{EachBehind};
+ghost use Rattle.runs_on_files.specs.Files.{IsRunOnFiles};
 ghost use Rattle.shard_record.specs.Lent.{HaveOctets};
 
 use crate::digests::{lent_digests, take_digests};
-use crate::runs::{Done, Scope, Texts, run_on_files_with};
+use crate::runs::{Done, Scope, run_on_files};
+use crate::texts::Texts;
 use arrayvec::ArrayVec;
 use capture_run::RunFault;
 use dissector::tap_of;
@@ -21,7 +24,7 @@ use shard_record::{
 use std::alloc::Global;
 use std::io::{Input, Write};
 use std::rt::Files;
-use stream_run::Watch;
+use stream_run::{Sieve, Watch};
 use timeline::Tap;
 
 /// A run whose outputs are written.
@@ -61,24 +64,10 @@ impl<F: Write + Drop> Ran<F> {
 /// Where no digests of the captures are lent, these are read a second time for them, so that none of them may be one that can
 /// be read only once. Each way the captures have to have as many octets as the digests tell, so that a part of a capture that
 /// grew or was cut in the meantime is refused.
-pub fn run_part<'a, R: Files + Input + AllocGlobal, T: Watch>(
-    rt: &R,
-    names: Names<'_, 'a>,
-    texts: &Texts,
-    folder: &str,
-    list: &'a str,
-    segments: &SegmentSet,
-    watch: &mut T,
-    failed: &mut FailedOutputs,
-) -> Result<Ran<R::File>, Failure<'a>> {
-    run_part_with(
-        rt, names, texts, None, folder, list, segments, watch, failed,
-    )
-}
-
-/// Runs these segments as [`run_part`] does, where the text of the changes may have been read before: `told` are then the
-/// changes that it means, as [`Texts::changes_read`] answers them, and it isn't read again.
-pub fn run_part_with<'a, R: Files + Input + AllocGlobal, T: Watch>(
+///
+/// `told` are the changes that their text means, where it was read before, as [`Texts::changes_read`] answers them: then it
+/// isn't read again.
+pub fn run_part<'a, R: Files + Input + AllocGlobal, S: Sieve, T: Watch>(
     rt: &R,
     names: Names<'_, 'a>,
     texts: &Texts,
@@ -86,11 +75,15 @@ pub fn run_part_with<'a, R: Files + Input + AllocGlobal, T: Watch>(
     folder: &str,
     list: &'a str,
     segments: &SegmentSet,
+    sieve: &mut S,
     watch: &mut T,
     failed: &mut FailedOutputs,
 ) -> Result<Ran<R::File>, Failure<'a>>
     requires told { IfSome told (λ t. changes_in texts.now.changes.items ≡ Ok t.now) }
     requires rising { IfSome told (λ t. EachBehind IsRising [] t.now) }
+    ensures run { IfOk result (λ _. IsRunOnFiles R.File.remaining R.Reader.remaining R.File.contents (S.taken sieve.old) segments.now
+        (settings_in texts.now.settings.items) (changes_in texts.now.changes.items)
+        names.entry.ports.now names.entry.underlay.now) }
 {
     let lent = match lent_to(rt, names) {
         Ok(lent) => lent,
@@ -101,13 +94,14 @@ pub fn run_part_with<'a, R: Files + Input + AllocGlobal, T: Watch>(
         ports,
         underlay,
         shard,
-    } = match run_on_files_with(
+    } = match run_on_files(
         rt,
         names,
         texts,
         told,
         Some(folder),
         Scope::Part(segments),
+        sieve,
         watch,
         failed,
     ) {
@@ -167,27 +161,29 @@ fn outputs_told(lines: &PartLines, sums: &OutputSums) -> ToldOutputs {
     outputs
 }
 
-/// Runs the segments of a list, or all, on captures as [`run_part_with`] does and as a whole run does, and writes nothing: what
+/// Runs the segments of a list, or all, on captures as [`run_part`] does and as a whole run does, and writes nothing: what
 /// looks on sees the same run. Captures are read once, and no digests of them.
-pub fn run_unwritten_with<'a, R: Files + Input + AllocGlobal, T: Watch>(
+pub fn run_unwritten<'a, R: Files + Input + AllocGlobal, S: Sieve, T: Watch>(
     rt: &R,
     names: Names<'_, 'a>,
     texts: &Texts,
     told: Option<&[TimedChange]>,
     segments: &SegmentSet,
+    sieve: &mut S,
     watch: &mut T,
 ) -> Result<Ran<R::File>, Failure<'a>>
     requires told { IfSome told (λ t. changes_in texts.now.changes.items ≡ Ok t.now) }
     requires rising { IfSome told (λ t. EachBehind IsRising [] t.now) }
 {
     let mut none = FailedOutputs::new();
-    match run_on_files_with(
+    match run_on_files(
         rt,
         names,
         texts,
         told,
         None,
         Scope::Part(segments),
+        sieve,
         watch,
         &mut none,
     ) {

@@ -5,23 +5,24 @@ ghost use Rattle.overlay_config.specs.Settings.{settings_in};
 ghost use Rattle.overlay_settings.specs.Rules.{EachBehind};
 ghost use Rattle.stream_run.specs.Begun.{IsUnread};
 
-use crate::runs::RunCaptures;
+use crate::run_captures::RunCaptures;
 use capture_run::RunFault;
 use pcap_stream::{Sink, StdOutput};
 use segment_set::SegmentSet;
 use std::alloc::{AllocError, Global};
 use std::io::{self, Read};
-use stream_run::{Outputs, ReadTexts, StreamFault, Watch, run_read};
+use stream_run::{Outputs, ReadTexts, Sieve, StreamFault, Watch, run_sieved};
 
 /// An output that takes everything and keeps nothing.
 type Unwritten = StdOutput<io::Sink>;
 
 /// Runs on captures of which nothing is read yet, with the settings and the changes that the texts mean. Someone looks on.
-pub(crate) fn run_unwritten<'a, F: Read + Drop, I: Read + Drop, T: Watch>(
+pub(crate) fn run_into_nothing<'a, F: Read + Drop, I: Read + Drop, S: Sieve, T: Watch>(
     alloc: Global,
     read: ReadTexts<'_>,
     captures: &mut RunCaptures<'a, F, I>,
     segments: &SegmentSet,
+    sieve: &mut S,
     watch: &mut T,
 ) -> Result<(), StreamFault>
     requires settings { settings_in read.settings_text.now ≡ Ok read.settings }
@@ -38,7 +39,7 @@ pub(crate) fn run_unwritten<'a, F: Read + Drop, I: Read + Drop, T: Watch>(
         underlay: Sink::new(unwritten()),
         decisions: unwritten(),
     };
-    run_read(alloc, read, captures, &mut outputs, segments, watch)
+    run_sieved(alloc, read, captures, &mut outputs, segments, sieve, watch)
 }
 
 /// An output that keeps nothing.

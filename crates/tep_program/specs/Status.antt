@@ -12,7 +12,7 @@ first_no_event names = find (λ name. not (is_event_name name)) names
 
 -- that of the names whose stories are asked for
 abbrev pub no_event_in : Meaning → Option Text
-no_event_in (run settings changes underlay out ports tables tables_at why summary talkers segments digests) = first_no_event why
+no_event_in (run settings changes underlay out ports tables tables_at why summary talkers segments digests both within) = first_no_event why
 no_event_in _ = None
 
 -- each name can be an event's

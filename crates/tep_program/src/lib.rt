@@ -17,6 +17,7 @@
 
 mod causes;
 mod checks;
+mod directions;
 mod interfaces;
 mod link;
 mod named;

@@ -7,6 +7,7 @@ ghost use Rattle.tep_program.specs.Status.{IsDoneStatus, IsStatusOf, first_no_ev
 
 use crate::causes::{tell_causes, tell_failed_besides};
 use crate::checks::check;
+use crate::directions::within_of;
 use crate::notes::tell_notes;
 use crate::told_runs::{Asked, run_and_tell};
 use capture_run::{RunFault, of_settings};
@@ -174,6 +175,8 @@ fn perform<'a, R: Files + Input + AllocGlobal + Print + Eprint>(
             talkers,
             segments,
             digests,
+            both,
+            within,
         } => {
             let names = Names {
                 settings: *settings,
@@ -189,6 +192,7 @@ fn perform<'a, R: Files + Input + AllocGlobal + Print + Eprint>(
                 summary: *summary,
                 talkers: *talkers,
                 segments: *segments,
+                within: within_of(*both, *within)?,
             };
             run_and_tell(rt, names, *out, asked, failed)
         }

@@ -3,18 +3,19 @@ ghost use Rattle.std.specs.Prelude.{◌≡◌, [], Ok, IfSome};
 ghost use Rattle.overlay_config.specs.Change.{IsRising, changes_in};
 ghost use Rattle.overlay_settings.specs.Rules.{EachBehind};
 
+use crate::directions::{sieve_of, tell_left_out};
 use dissector::segments_of;
 use overlay_config::TimedChange;
 use program_faults::{Failure, OutputFile};
 use program_files::{FailedOutputs, Names, leave_text, print_text};
 use run_counts::RunCounts;
 use run_reports::{Onlooker, Reports};
-use runs_on_files::{Ran, Scope, Texts, run_on_files_with, run_part_with, run_unwritten_with};
+use runs_on_files::{Ran, Scope, Texts, run_on_files, run_part, run_unwritten};
 use segment_set::SegmentSet;
 use std::alloc::{AllocError, Global};
 use std::io::Input;
 use std::rt::Files;
-use stream_run::{Unwatched, Watch};
+use stream_run::{Sieve, TakesAll, Unwatched, Watch};
 use talkers::{Beside as BesideTalkers, Talkers};
 use timeline::Tap;
 use tunnel_traffic::{Beside, TunnelTraffic};
@@ -34,6 +35,8 @@ pub struct Asked<'n, 'a> {
     pub talkers: bool,
     /// The list of a part's segments.
     pub segments: Option<&'a str>,
+    /// How long behind its frame what the switch sent may come, in nanoseconds, where that is to be left out.
+    pub within: Option<u64>,
 }
 
 impl Asked<'_, '_> {
@@ -57,23 +60,68 @@ pub fn run_and_tell<'a, R: Files + Input + AllocGlobal + Print + Eprint>(
 ) -> Result<(), Failure<'a>> {
     let texts = Texts::read(rt, names)?;
     let segments = segments_of(asked.segments)?;
-    // Who asks for nothing pays nothing for it.
-    if asked.is_nothing() {
-        return match run_asked(
+    let Some(sieve) = sieve_of(rt.alloc(), texts.settings.as_slice(), asked.within)? else {
+        return run_on_all(rt, names, &texts, folder, asked, &segments, failed);
+    };
+    let mut sieve = sieve;
+    let done = run_watched(
+        rt, names, &texts, folder, asked, &segments, &mut sieve, failed,
+    );
+    tell_left_out(rt, &sieve, names.ports.len());
+    done
+}
+
+/// Runs on all records of captures, and prints what is asked for besides. Who asks for nothing pays nothing for it.
+fn run_on_all<'a, R: Files + Input + AllocGlobal + Print + Eprint>(
+    rt: &R,
+    names: Names<'_, 'a>,
+    texts: &Texts,
+    folder: Option<&str>,
+    asked: Asked<'_, 'a>,
+    segments: &SegmentSet,
+    failed: &mut FailedOutputs,
+) -> Result<(), Failure<'a>> {
+    if !asked.is_nothing() {
+        return run_watched(
             rt,
             names,
-            &texts,
-            None,
+            texts,
             folder,
             asked,
-            &segments,
-            &mut Unwatched,
+            segments,
+            &mut TakesAll,
             failed,
-        ) {
-            Ok(ran) => ran.finish(),
-            Err(failure) => Err(failure),
-        };
+        );
     }
+    match run_asked(
+        rt,
+        names,
+        texts,
+        None,
+        folder,
+        asked,
+        segments,
+        &mut TakesAll,
+        &mut Unwatched,
+        failed,
+    ) {
+        Ok(ran) => ran.finish(),
+        Err(failure) => Err(failure),
+    }
+}
+
+/// Runs on what a sieve takes in of captures, and prints what is asked for besides. Someone looks on, whatever is asked for: so
+/// the plain run has its steps for itself.
+fn run_watched<'a, R: Files + Input + AllocGlobal + Print + Eprint, S: Sieve>(
+    rt: &R,
+    names: Names<'_, 'a>,
+    texts: &Texts,
+    folder: Option<&str>,
+    asked: Asked<'_, 'a>,
+    segments: &SegmentSet,
+    sieve: &mut S,
+    failed: &mut FailedOutputs,
+) -> Result<(), Failure<'a>> {
     let changes = texts.changes_read(rt.alloc())?;
     let told = match &changes {
         Some(changes) => Some(changes.as_slice()),
@@ -81,7 +129,7 @@ pub fn run_and_tell<'a, R: Files + Input + AllocGlobal + Print + Eprint>(
     };
     let mut beside = BesideTalkers {
         watch: Beside {
-            watch: onlooker_of(rt.alloc(), asked, told.unwrap_or(&[]), &segments)?,
+            watch: onlooker_of(rt.alloc(), asked, told.unwrap_or(&[]), segments)?,
             tunnels: tunnels_of(rt.alloc(), asked)?,
         },
         talkers: talkers_of(rt.alloc(), asked)?,
@@ -89,11 +137,12 @@ pub fn run_and_tell<'a, R: Files + Input + AllocGlobal + Print + Eprint>(
     let run = run_asked(
         rt,
         names,
-        &texts,
+        texts,
         told,
         folder,
         asked,
-        &segments,
+        segments,
+        sieve,
         &mut beside,
         failed,
     );
@@ -163,7 +212,7 @@ fn talkers_of(alloc: Global, asked: Asked<'_, '_>) -> Result<Option<Talkers>, Al
 
 /// Runs on captures, all segments, or those of a list as a part, and writes nothing where no folder is named. `told` are the
 /// changes, where their text was read before.
-fn run_asked<'a, R: Files + Input + AllocGlobal, T: Watch>(
+fn run_asked<'a, R: Files + Input + AllocGlobal, S: Sieve, T: Watch>(
     rt: &R,
     names: Names<'_, 'a>,
     texts: &Texts,
@@ -171,6 +220,7 @@ fn run_asked<'a, R: Files + Input + AllocGlobal, T: Watch>(
     folder: Option<&str>,
     asked: Asked<'_, 'a>,
     segments: &SegmentSet,
+    sieve: &mut S,
     watch: &mut T,
     failed: &mut FailedOutputs,
 ) -> Result<Ran<R::File>, Failure<'a>>
@@ -178,12 +228,22 @@ fn run_asked<'a, R: Files + Input + AllocGlobal, T: Watch>(
     requires rising { IfSome told (λ t. EachBehind IsRising [] t.now) }
 {
     match (folder, asked.segments) {
-        (None, _) => run_unwritten_with(rt, names, texts, told, segments, watch),
-        (Some(folder), Some(list)) => run_part_with(
-            rt, names, texts, told, folder, list, segments, watch, failed,
+        (None, _) => run_unwritten(rt, names, texts, told, segments, sieve, watch),
+        (Some(folder), Some(list)) => run_part(
+            rt, names, texts, told, folder, list, segments, sieve, watch, failed,
         ),
         (Some(_), None) => {
-            match run_on_files_with(rt, names, texts, told, folder, Scope::Whole, watch, failed) {
+            match run_on_files(
+                rt,
+                names,
+                texts,
+                told,
+                folder,
+                Scope::Whole,
+                sieve,
+                watch,
+                failed,
+            ) {
                 Ok(done) => Ok(Ran::whole(rt.alloc(), done.cut)),
                 Err(failure) => Err(failure),
             }

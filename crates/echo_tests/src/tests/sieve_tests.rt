@@ -85,7 +85,7 @@ fn is_taken_so(alloc: Global, both: &mut BothWays, tap: Tap, rest: &str) -> Resu
             },
         ),
     };
-    Ok(both.takes(&event) == (wanted == "in"))
+    Ok(both.is_input(&event) == (wanted == "in"))
 }
 
 /// The first row that is taken otherwise than it says.
@@ -132,6 +132,6 @@ fn a_change_is_always_input(rt: HostRuntime) -> Result<(), Fail> {
         number: 1,
         happening: Happening::Change(0),
     };
-    assert!(rt; both.takes(&event) && both.takes(&event));
+    assert!(rt; both.is_input(&event) && both.is_input(&event));
     Ok(())
 }

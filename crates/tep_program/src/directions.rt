@@ -1,0 +1,65 @@
+//! Captures that have both directions: what the switch itself sent is left out of them.
+use both_ways::BothWays;
+use command_line::time_of;
+use dissector::tap_of;
+use overlay_config::settings_of;
+use program_faults::Failure;
+use std::alloc::{AllocError, Global};
+use timeline::Tap;
+
+/// How long behind its frame what the switch sent may come, in nanoseconds, where no other time is asked for.
+const WITHIN: u64 = 10_000_000;
+
+/// How long behind its frame what the switch sent may come, in nanoseconds. None: the captures have what came in alone. Who
+/// names a time asks for it.
+pub fn within_of<'a>(both: bool, within: Option<&'a str>) -> Result<Option<u64>, Failure<'a>> {
+    match within {
+        Some(text) => match time_of(text) {
+            Some(time) => Ok(Some(time)),
+            None => Err(Failure::Within(text)),
+        },
+        None if both => Ok(Some(WITHIN)),
+        None => Ok(None),
+    }
+}
+
+/// What leaves that out of a run with this settings text. None: nothing is to be left out, or the text is refused, which the run
+/// tells.
+pub fn sieve_of(
+    alloc: Global,
+    settings: &[u8],
+    within: Option<u64>,
+) -> Result<Option<BothWays>, AllocError> {
+    let Some(within) = within else {
+        return Ok(None);
+    };
+    match settings_of(alloc, settings) {
+        Ok(settings) => {
+            let parts = settings.into_parts();
+            let sieve = BothWays::new(alloc, within, &parts.underlay)?;
+            Ok(Some(sieve))
+        }
+        Err(_) => Ok(None),
+    }
+}
+
+/// Tells of the captures of so many ports and of the underlay how many records were left out.
+pub fn tell_left_out(rt: &impl Eprint, sieve: &BothWays, ports: usize) {
+    for index in 0..ports {
+        tell_left_out_at(rt, sieve, tap_of(index));
+    }
+    tell_left_out_at(rt, sieve, Tap::Underlay);
+}
+
+/// Tells how many records of a capture were left out, if any.
+fn tell_left_out_at(rt: &impl Eprint, sieve: &BothWays, tap: Tap) {
+    match sieve.left_out(tap) {
+        0 => {}
+        1 => {
+            let _ = eprintln!(rt; "  {tap}: left out 1 record that the switch sent");
+        }
+        count => {
+            let _ = eprintln!(rt; "  {tap}: left out {count} records that the switch sent");
+        }
+    }
+}

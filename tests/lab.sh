@@ -70,6 +70,16 @@ both() {
 status 0' ] || complain "--within 0ns"
 [ "$(both --within 18446744073709551615ns)" = "$(cat "$folder/left_out")
 status 0" ] || complain "the longest time"
+# A run that stops at a fault says that alone, as without it.
+cp "$captures/both/underlay.pcap" "$folder/faulty.pcap"
+printf '\377%.0s' {1..16} >>"$folder/faulty.pcap"
+faulty() {
+    ./tep run "$@" --settings "$lab/settings.toml" --summary --underlay "$folder/faulty.pcap" \
+        "$captures/both/port1.pcap" "$captures/both/port2.pcap" 2>&1 >"$folder/summary"
+    echo "status $?"
+}
+faulty | grep -qx 'status 1' || complain "the faulty capture is no fault"
+diff <(faulty) <(faulty --both) || complain "a fault with --both is told otherwise"
 for time in 10 10m 1h 010ms ' 10ms' 10MS +1s 1.5s ms 18446744073709551616ns 18446744074s; do
     [ "$(both --within "$time")" = "within: $time is no time, as 500us, 10ms or 1s are
 status 1" ] || complain "--within '$time'"

@@ -67,7 +67,10 @@ pub fn run_and_tell<'a, R: Files + Input + AllocGlobal + Print + Eprint>(
     let done = run_watched(
         rt, names, &texts, folder, asked, &segments, &mut sieve, failed,
     );
-    tell_left_out(rt, &sieve, names.ports.len());
+    // A fault stands on the first line of standard error.
+    if done.is_ok() {
+        tell_left_out(rt, &sieve, names.ports.len());
+    }
     done
 }
 

@@ -12,6 +12,7 @@ use underlay::Underlay;
 use vxlan_head::{Vni, VxView};
 
 /// The kind of the tunnel that a packet came through, and the data of the datagram in it.
+#[inline(always)]
 pub(crate) fn datagram_of<'a>(
     packet: &Packet<'a>,
     underlay: &Underlay,

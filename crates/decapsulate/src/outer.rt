@@ -62,6 +62,7 @@ pub fn unwrap<'a>(under: &Under, octets: &'a [u8]) -> Result<Arrived<'a>, Refuse
 
 /// Takes off the headers of a packet, up to the tunnel header: what it carries, or the first reason, of 15 to 29, why it
 /// carries nothing to this endpoint.
+#[inline(always)]
 pub fn carried_in<'a>(underlay: &Underlay, packet: &Packet<'a>) -> Result<Carried<'a>, Reason>
     ensures fault { fault_of result ≡ first (carried_reasons underlay.now packet.now) }
     ensures kind { IfOk result (λ carried. kind_to underlay.now packet.now ≡ Some carried.kind) }

@@ -74,6 +74,7 @@ impl<'a> Packet<'a> {
     }
 
     /// Whether it is a whole packet from another endpoint to this one, or to a group, that carries UDP.
+    #[inline(always)]
     pub(crate) fn check(&self, underlay: &Underlay) -> Result<(), Reason>
         ensures { fault_of result ≡ first (packet_reasons underlay.now self.now) }
     {

@@ -1,2 +1,4 @@
+pub mod Bucket
 pub mod Echo
+pub mod Index
 pub mod Laid

@@ -17,8 +17,12 @@ pub(crate) struct Kept {
     pub(crate) place: u16,
     /// Nanoseconds.
     pub(crate) moment: u64,
+    /// How many octets came before its own.
+    pub(crate) at: u64,
     /// How many octets it has.
     pub(crate) length: usize,
+    /// The number of the frame before it in its bucket. It is kept where it is more than went.
+    pub(crate) before: u64,
     /// Where it was met again.
     pub(crate) echoed: ArrayVec<u16, MOST_ECHOES>,
 }

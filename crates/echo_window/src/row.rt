@@ -91,11 +91,15 @@ fn shift(octets: &mut [u8], count: usize, held: usize)
 }
 
 /// Puts octets behind others where there is room for them.
+#[inline(always)]
 fn append(octets: &mut Vec<u8>, text: &[u8])
     requires { length octets.old.items + length text.now ≤ vec_capacity octets.old }
     ensures items { octets.new.items ≡ octets.old.items ++ text.now }
     ensures capacity { vec_capacity octets.old ≤ vec_capacity octets.new }
 {
+    if text.is_empty() {
+        return;
+    }
     // There is room: nothing is taken.
     let _ = octets.extend_from_slice(text);
 }

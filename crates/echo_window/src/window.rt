@@ -2,11 +2,15 @@
 ghost use Rattle.std.specs.Prelude.{◌≡◌, ◌≤◌, ◌<◌, ◌+◌, ◌&&◌, [], ◌∷◌, ◌++◌, IfOk, drop, length, nat_eq, nat_le, slice_index_or, true};
 ghost use Rattle.std.specs.List.{position};
 ghost use Rattle.echo_window.specs.Echo.{after, echo_of, first_met, fits, is_echo_of, met_again, newest, recent, with_met};
-ghost use Rattle.echo_window.specs.Laid.{begins_past, laid, lengths, told};
+ghost use Rattle.echo_window.specs.Bucket.{bucket_of};
+ghost use Rattle.echo_window.specs.Laid.{begins_past, told};
 
+use crate::bucket::bucket_of;
+use crate::index::Index;
 use crate::kept::Kept;
 use crate::record::{Record, length_of};
 use crate::row::{MOST_OCTETS, Row};
+use crate::search::{find, find_linked};
 use arrayvec::ArrayVec;
 use std::alloc::{AllocError, Global};
 use std::collections::VecDeque;
@@ -25,18 +29,20 @@ pub struct Window {
     frames: VecDeque<Kept>,
     /// Their octets, in the same order.
     row: Row,
+    index: Index,
 }
 
 impl Model for Window {
     ghost use Rattle.echo_window.specs.Echo.{Window};
-    ghost use Rattle.echo_window.specs.Laid.{IsLaid, laid};
+    ghost use Rattle.echo_window.specs.Index.{IsKept};
+    ghost use Rattle.echo_window.specs.Laid.{laid};
     ghost use Rattle.std.specs.VecDeque.{deque_capacity};
 
     ghost Value = { Window };
 
     ghost view = { λ w. record { within = w.within; came = laid w.frames.items w.row } };
 
-    ghost invariant = { λ w. IsLaid w.frames.items w.row (deque_capacity w.frames) };
+    ghost invariant = { λ w. IsKept w.frames.items w.row (deque_capacity w.frames) w.index.gone w.index.passed w.index.latest.items };
 }
 
 impl Window {
@@ -49,6 +55,7 @@ impl Window {
             within,
             frames: VecDeque::with_capacity(alloc, MOST_FRAMES)?,
             row: Row::new(alloc)?,
+            index: Index::new(alloc)?,
         })
     }
 
@@ -70,10 +77,11 @@ impl Window {
         ensures came { self.new.came ≡ with_met self.old.within self.old.came (told met.now) }
         ensures within { self.new.within ≡ self.old.within }
     {
-        match self.search(met) {
+        let bucket = bucket_of(met);
+        match self.search(met, bucket) {
             Some(i) => Some(self.mark(i, met)),
             None => {
-                self.keep(met);
+                self.keep(met, bucket);
                 None
             }
         }
@@ -95,11 +103,17 @@ impl Window {
         !self.frames.is_empty() && self.frames[0].is_past(self.within, moment)
     }
 
-    /// Which frame a record is an echo of.
-    fn search(&self, met: &Record) -> Option<usize>
+    /// Which frame a record is an echo of, whose frame has this bucket.
+    fn search(&self, met: &Record, bucket: usize) -> Option<usize>
+        requires bucket { bucket ≡ bucket_of (told met.now).frame }
+        requires known { bucket < 16384 }
         ensures { result ≡ position (is_echo_of self.now.within (told met.now)) self.now.came }
     {
-        find(&self.frames, self.row.held(), self.within, met)
+        let row = self.row.held();
+        if self.index.tells_places() {
+            return find_linked(&self.frames, row, &self.index, bucket, self.within, met);
+        }
+        find(&self.frames, row, self.within, met)
     }
 
     /// Notes that a frame was met again at the place of a record. Where it came in is told.
@@ -114,8 +128,10 @@ impl Window {
         kept.place
     }
 
-    /// Keeps the frame of a record as the latest, and as many of the others as fit.
-    fn keep(&mut self, met: &Record)
+    /// Keeps the frame of a record, which has this bucket, as the latest, and as many of the others as fit.
+    fn keep(&mut self, met: &Record, bucket: usize)
+        requires bucket { bucket ≡ bucket_of (told met.now).frame }
+        requires known { bucket < 16384 }
         ensures { self.new ≡ record self.old { came = newest (self.old.came ++ first_met (told met.now) ∷ []) } }
     {
         while !self.has_room(met) {
@@ -124,7 +140,7 @@ impl Window {
             }
             self.forget_first();
         }
-        self.put(met);
+        self.put(met, bucket);
     }
 
     /// Whether it knows no frame.
@@ -148,18 +164,23 @@ impl Window {
     {
         if let Some(kept) = self.frames.pop_front() {
             self.row.forget(kept.length);
+            self.index.pass(kept.length);
         }
     }
 
-    /// Keeps the frame of a record, for which there is room, as the latest.
-    fn put(&mut self, met: &Record)
-        requires { fits (self.old.came ++ first_met (told met.now) ∷ []) ≡ true }
+    /// Keeps the frame of a record, which has this bucket and for which there is room, as the latest.
+    fn put(&mut self, met: &Record, bucket: usize)
+        requires bucket { bucket ≡ bucket_of (told met.now).frame }
+        requires known { bucket < 16384 }
+        requires room { fits (self.old.came ++ first_met (told met.now) ∷ []) ≡ true }
         ensures { self.new ≡ record self.old { came = self.old.came ++ first_met (told met.now) ∷ [] } }
     {
         let kept = Kept {
             place: met.place,
             moment: met.moment,
+            at: self.index.octets_before(self.row.held().len()),
             length: length_of(met),
+            before: self.index.enter(bucket, self.frames.len()),
             echoed: ArrayVec::new(),
         };
         self.row.put(met.addresses, met.rest);
@@ -174,21 +195,4 @@ fn fit(count: usize, octets: usize, more: usize) -> bool
     ensures { result ≡ (nat_le count 4096 && nat_le (octets + more) 4194304) }
 {
     count <= MOST_FRAMES && more <= MOST_OCTETS - octets
-}
-
-/// Which of some frames, whose octets stand in a row, a record is an echo of.
-fn find(frames: &VecDeque<Kept>, row: &[u8], within: u64, met: &Record) -> Option<usize>
-    requires { lengths frames.now.items ≡ length row.now }
-    ensures { result ≡ position (is_echo_of within (told met.now)) (laid frames.now.items row.now) }
-{
-    let mut begin = 0;
-    for i in 0..frames.len() {
-        let kept = &frames[i];
-        let end = begin + kept.length;
-        if kept.is_met_by(&row[begin..end], within, met) {
-            return Some(i);
-        }
-        begin = end;
-    }
-    None
 }

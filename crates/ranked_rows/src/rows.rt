@@ -67,27 +67,30 @@ impl<K: Ranked + Copy, C: Counts + Copy> RankedRows<K, C> {
     pub fn add(&mut self, key: K, counts: C)
         ensures { self.new ≡ counted K.rank C.joined C.none self.old key counts }
     {
-        let at = place_by(self.rows.as_slice(), self.stood.as_mut_slice(), &key);
-        let rest = put(&mut self.rows, at, key, counts);
+        let (at, has_row) = place_by(self.rows.as_slice(), self.stood.as_mut_slice(), &key);
+        let rest = put(&mut self.rows, at, has_row, key, counts);
         self.others = self.others.with(rest);
     }
 }
 
-/// Counts more of a key in rows, at its place, and answers what has no place there.
+/// Counts more of a key in rows, at its place, where its row stands if it has one, and answers what has no place there.
 fn put<K: Ranked + Copy, C: Counts + Copy>(
     rows: &mut Vec<Row<K, C>>,
     at: usize,
+    has_row: bool,
     key: K,
     counts: C,
 ) -> C
     requires place { IsPlaceOf K.rank (K.rank key) rows.old.items at }
+    requires there { has_row ≡ true → (at < length rows.old.items) × ((d : ARow K C) → K.rank (slice_index_or rows.old.items at d).key ≤ K.rank key) }
+    requires behind { has_row ≡ false → (d : ARow K C) → at < length rows.old.items → K.rank key < K.rank (slice_index_or rows.old.items at d).key }
     requires few { length rows.old.items ≤ 4096 }
     requires room { 4096 ≤ vec_capacity rows.old }
     ensures rows { rows.new.items ≡ take 4096 (with_counts K.rank C.joined key counts rows.old.items) }
     ensures rest { result ≡ total C.joined C.none (drop 4096 (with_counts K.rank C.joined key counts rows.old.items)) }
     ensures room { 4096 ≤ vec_capacity rows.new }
 {
-    if has_row(rows.as_slice(), at, &key) {
+    if has_row {
         rows[at].counts = rows[at].counts.with(counts);
         return C::none();
     }
@@ -143,21 +146,23 @@ fn total_of_one<K: Copy, C: Counts + Copy>(row: Row<K, C>) -> C
     row.counts.with(C::none())
 }
 
-/// The place of the first row that doesn't stand before that of a key, and it is remembered.
-fn place_by<K: Ranked, C>(rows: &[Row<K, C>], stood: &mut [u16], key: &K) -> usize
+/// The place of the first row that doesn't stand before that of a key, which is remembered, and whether that row is the key's.
+fn place_by<K: Ranked, C>(rows: &[Row<K, C>], stood: &mut [u16], key: &K) -> (usize, bool)
     requires { AreRising K.rank rows.now }
-    ensures { IsPlaceOf K.rank (K.rank key.now) rows.now result }
+    ensures place { IsPlaceOf K.rank (K.rank key.now) rows.now result.0 }
+    ensures there { result.1 ≡ true → (result.0 < length rows.now) × ((d : ARow K C) → K.rank (slice_index_or rows.now result.0 d).key ≤ K.rank key.now) }
+    ensures behind { result.1 ≡ false → (d : ARow K C) → result.0 < length rows.now → K.rank key.now < K.rank (slice_index_or rows.now result.0 d).key }
 {
     let Some(last) = stood.get_mut(usize::from(key.mix()) % PLACES) else {
-        return place_of(rows, key);
+        return looked_up(rows, key);
     };
     let at = usize::from(*last);
     if is_at(rows, at, key) {
-        return at;
+        return (at, true);
     }
-    let at = place_of(rows, key);
+    let (at, has_row) = looked_up(rows, key);
     *last = u16::try_from(at).unwrap_or(0);
-    at
+    (at, has_row)
 }
 
 /// Whether a key stands at this place, as far as that is seen at once.
@@ -165,6 +170,17 @@ fn is_at<K: Ranked, C>(rows: &[Row<K, C>], at: usize, key: &K) -> bool
     ensures { result ≡ true → (at < length rows.now) × ((d : ARow K C) → K.rank key.now ≡ K.rank (slice_index_or rows.now at d).key) }
 {
     at < rows.len() && key.is_same(&rows[at].key)
+}
+
+/// The place of the first row that doesn't stand before that of a key, and whether that row is the key's.
+fn looked_up<K: Ranked, C>(rows: &[Row<K, C>], key: &K) -> (usize, bool)
+    requires { AreRising K.rank rows.now }
+    ensures place { IsPlaceOf K.rank (K.rank key.now) rows.now result.0 }
+    ensures there { result.1 ≡ true → (result.0 < length rows.now) × ((d : ARow K C) → K.rank (slice_index_or rows.now result.0 d).key ≤ K.rank key.now) }
+    ensures behind { result.1 ≡ false → (d : ARow K C) → result.0 < length rows.now → K.rank key.now < K.rank (slice_index_or rows.now result.0 d).key }
+{
+    let at = place_of(rows, key);
+    (at, has_row(rows, at, key))
 }
 
 /// The place of the first row that doesn't stand before that of a key.

@@ -37,7 +37,7 @@ impl Talk {
 }
 
 /// The number that the octets of a MAC address spell.
-fn mac_number(mac: Mac) -> u128
+pub(crate) fn mac_number(mac: Mac) -> u128
     ensures value { result ≡ field 0 6 mac }
     ensures low { result < 2 ^ 48 }
 {

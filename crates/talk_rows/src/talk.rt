@@ -1,7 +1,8 @@
 //! Who talks to whom.
 ghost use Rattle.std.specs.Prelude.{◌≡◌, ◌<◌, ◌^◌, nat_lt, true};
-ghost use Rattle.talk_rows.specs.Talk.{places_number, rank};
+ghost use Rattle.talk_rows.specs.Talk.{pair_number, places_number, rank};
 
+use crate::rank::mac_number;
 use byteorder::{BigEndian, ByteOrder};
 use filter_db::Place;
 use frame_view::{Mac, Vid};
@@ -19,6 +20,19 @@ pub enum Exit {
     Flood,
     /// Nowhere.
     Drop,
+}
+
+impl Exit {
+    /// Whether it is the other.
+    fn is_same(&self, other: &Exit) -> bool
+        ensures { result ≡ true → self.now ≡ other.now }
+    {
+        match (self, other) {
+            (Exit::To(place), Exit::To(another)) => place == another,
+            (Exit::Flood, Exit::Flood) | (Exit::Drop, Exit::Drop) => true,
+            _ => false,
+        }
+    }
 }
 
 /// Who sends to whom in a segment, and from where to where. Talks are in the order of their VIDs, then of the sources, of the
@@ -52,7 +66,7 @@ impl Ranked for Talk {
     }
 
     fn is_same(&self, other: &Talk) -> bool {
-        self.pair_number() == other.pair_number() && self.has_places_of(other)
+        self.has_addresses_of(other) && self.has_places_of(other)
     }
 
     fn mix(&self) -> u16 {
@@ -81,13 +95,22 @@ impl Talk {
                 && (from < other_from || (from == other_from && to < other_to)))
     }
 
+    /// Whether it has the segment, source and destination of another.
+    #[tactic(auto, unfolding(crate::specs::Talk::pair_number))]
+    fn has_addresses_of(&self, other: &Talk) -> bool
+        ensures { result ≡ true → pair_number self.now ≡ pair_number other.now }
+    {
+        self.vid == other.vid
+            && mac_number(self.source) == mac_number(other.source)
+            && mac_number(self.destination) == mac_number(other.destination)
+    }
+
     /// Whether it has the places of another.
+    #[tactic(auto, unfolding(crate::specs::Talk::places_number))]
     fn has_places_of(&self, other: &Talk) -> bool
         ensures { result ≡ true → places_number self.now ≡ places_number other.now }
     {
-        let (kinds, from, to) = self.places_number();
-        let (other_kinds, other_from, other_to) = other.places_number();
-        kinds == other_kinds && from == other_from && to == other_to
+        self.from == other.from && self.to.is_same(&other.to)
     }
 
     /// That the number of its places ends below 2^262. It does nothing.

@@ -1,4 +1,4 @@
-use Rattle.std.proofs.Common.{◌≡◌, ◌∙◌, ap, sym, refl, drop, get_or, take, slice_set, arith}
+use Rattle.std.proofs.Common.{◌≡◌, ◌∙◌, ap, sym, drop, get_or, take, slice_set, arith}
 use Rattle.ranked_rows.specs.Rows.{row_of, total}
 use Rattle.ranked_rows.specs.declared.row.Row.{Row}
 use Rattle.ranked_rows.proofs.Lists.{drop_whole, length_set, same_at, take_whole}
@@ -12,7 +12,7 @@ returns-then-has_row-clause-rows g c =
     let rows = c.args.rows.now.items in
     let at = c.args.at in
     let place = c.requires.place in
-    let there = rw c.as_slice.ensures.value at (c.if-has_row.ensures.there refl) in
+    let there = c.requires.there c.if-has_row.true in
     let x = c.index_mut.result.now in
     let same : x ≡ get_or rows at x = c.index_mut.ensures.value in
     let v : Row g.row.K.Denot g.row.C.Denot = record { key = x.key; counts = c.with.result } in
@@ -28,7 +28,7 @@ returns-then-has_row-clause-rest g c =
     let rows = c.args.rows.now.items in
     let at = c.args.at in
     let place = c.requires.place in
-    let there = rw c.as_slice.ensures.value at (c.if-has_row.ensures.there refl) in
+    let there = c.requires.there c.if-has_row.true in
     let x = c.index_mut.result.now in
     let same : x ≡ get_or rows at x = c.index_mut.ensures.value in
     let v : Row g.row.K.Denot g.row.C.Denot = record { key = x.key; counts = c.with.result } in
@@ -40,11 +40,11 @@ returns-then-has_row-clause-rest g c =
 pub returns-clause-rows : goal.returns-clause-rows
 returns-clause-rows g c =
     let place = c.requires.place in
-    let behind = rw c.as_slice.ensures.value at (c.if-has_row.ensures.behind refl) in
+    let behind = c.requires.behind c.if-has_row.false in
     c.enter.ensures.rows ∙ ap (take 4096) (sym (entered g.K.Ranked.rank g.C.Counts.joined c.args.key c.args.counts c.args.rows.now.items c.args.at place.inside place.before behind))
 
 pub returns-clause-rest : goal.returns-clause-rest
 returns-clause-rest g c =
     let place = c.requires.place in
-    let behind = rw c.as_slice.ensures.value at (c.if-has_row.ensures.behind refl) in
+    let behind = c.requires.behind c.if-has_row.false in
     c.enter.ensures.rest ∙ ap (λ rows. total g.C.Counts.joined g.C.Counts.none (drop 4096 rows)) (sym (entered g.K.Ranked.rank g.C.Counts.joined c.args.key c.args.counts c.args.rows.now.items c.args.at place.inside place.before behind))

@@ -10,6 +10,6 @@ returns c =
     let came = c.args.self.now.came in
     let v = came-is c.self.view_is in
     let n : length came ≡ length c.self.inside.frames.items = count-is _ _ _ v in
-    let o : octets_of came ≡ length c.self.inside.row = octets-are _ _ _ v c.self.invariant.whole in
+    let o : octets_of came ≡ length c.self.inside.row = octets-are _ _ _ v c.self.invariant.stands.whole in
     let ok = c.self.inside.frames.ok.0 in
     rw (fits-put came (first_met (told c.args.met.now)), n, o) cc

@@ -1,0 +1,84 @@
+//! Which of the frames that are kept a record is an echo of.
+ghost use Rattle.std.specs.Prelude.{◌≡◌, ◌<◌, Some, if◌then◌else◌, length, slice_index_or};
+ghost use Rattle.std.specs.List.{position};
+ghost use Rattle.echo_window.specs.Bucket.{bucket_of};
+ghost use Rattle.echo_window.specs.Echo.{first_met, is_echo_of};
+ghost use Rattle.echo_window.specs.Index.{IsIndexed};
+ghost use Rattle.echo_window.specs.Laid.{laid, lengths, told};
+
+use crate::index::Index;
+use crate::kept::Kept;
+use crate::record::Record;
+use std::collections::VecDeque;
+
+/// Which of some frames, whose octets stand in a row, a record is an echo of: of those with the bucket of its frame, from the
+/// latest to the earliest.
+pub(crate) fn find_linked(
+    frames: &VecDeque<Kept>,
+    row: &[u8],
+    index: &Index,
+    bucket: usize,
+    within: u64,
+    met: &Record,
+) -> Option<usize>
+    requires whole { lengths frames.now.items ≡ length row.now }
+    requires indexed { IsIndexed index.now.gone index.now.passed frames.now.items row.now index.now.latest.items }
+    requires bucket { bucket ≡ bucket_of (told met.now).frame }
+    requires known { bucket < length index.now.latest.items }
+    ensures { result ≡ position (is_echo_of within (told met.now)) (laid frames.now.items row.now) }
+{
+    let mut found = None;
+    let mut number = index.latest[bucket];
+    while number > index.gone {
+        let i = (number - index.gone - 1) as usize;
+        let is_echo = is_echo_at(frames, row, index, i, within, met);
+        found = if_echo(is_echo, i, found);
+        let kept = &frames[i];
+        number = kept.before;
+    }
+    found
+}
+
+/// The index, where a record is an echo of the frame at it; else what was found behind it.
+fn if_echo(is_echo: bool, i: usize, found: Option<usize>) -> Option<usize>
+    ensures { result ≡ (if is_echo then Some i else found) }
+{
+    if is_echo { Some(i) } else { found }
+}
+
+/// Whether a record is an echo of the frame at an index.
+fn is_echo_at(
+    frames: &VecDeque<Kept>,
+    row: &[u8],
+    index: &Index,
+    i: usize,
+    within: u64,
+    met: &Record,
+) -> bool
+    requires whole { lengths frames.now.items ≡ length row.now }
+    requires indexed { IsIndexed index.now.gone index.now.passed frames.now.items row.now index.now.latest.items }
+    requires inside { i < length frames.now.items }
+    ensures { result ≡ is_echo_of within (told met.now) (slice_index_or (laid frames.now.items row.now) i (first_met (told met.now))) }
+{
+    let kept = &frames[i];
+    let begin = (kept.at - index.passed) as usize;
+    let end = begin + kept.length;
+    kept.is_met_by(&row[begin..end], within, met)
+}
+
+/// The same, of all frames from the earliest on.
+pub(crate) fn find(frames: &VecDeque<Kept>, row: &[u8], within: u64, met: &Record) -> Option<usize>
+    requires { lengths frames.now.items ≡ length row.now }
+    ensures { result ≡ position (is_echo_of within (told met.now)) (laid frames.now.items row.now) }
+{
+    let mut begin = 0;
+    for i in 0..frames.len() {
+        let kept = &frames[i];
+        let end = begin + kept.length;
+        if kept.is_met_by(&row[begin..end], within, met) {
+            return Some(i);
+        }
+        begin = end;
+    }
+    None
+}

@@ -29,7 +29,7 @@ _tep() {
     fi
     COMPREPLY=()
     if [ "$COMP_CWORD" -eq 1 ]; then
-        _tep_offers words "run check explain migrate digest merge help --help --version"
+        _tep_offers words "run check explain migrate digest merge split compare help --help --version"
         return
     fi
     case ${COMP_WORDS[1]} in
@@ -78,7 +78,21 @@ _tep() {
                 *) _tep_offers folders ;;
             esac
             ;;
-        help) [ "$COMP_CWORD" -gt 2 ] || _tep_offers words "run check explain migrate digest merge help" ;;
+        split)
+            case $before,$cur in
+                -o,* | --out,*) _tep_offers folders ;;
+                *,-*) _tep_offers words "--out --help --version" ;;
+                *) _tep_offers files ;;
+            esac
+            ;;
+        compare)
+            case $before,$cur in
+                --within,* | --shift,*) _tep_offers words "" ;;
+                *,-*) _tep_offers words "--within --shift --help --version" ;;
+                *) _tep_offers files ;;
+            esac
+            ;;
+        help) [ "$COMP_CWORD" -gt 2 ] || _tep_offers words "run check explain migrate digest merge split compare help" ;;
     esac
 }
 

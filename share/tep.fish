@@ -16,6 +16,8 @@ complete -c tep -n '__tep_first' -f -a explain -d 'Takes the packets of a captur
 complete -c tep -n '__tep_first' -f -a migrate -d 'Prints a settings text as one of version 2'
 complete -c tep -n '__tep_first' -f -a digest -d 'Prints the digests of captures, to lend them to the parts of a run'
 complete -c tep -n '__tep_first' -f -a merge -d 'Makes of the parts of a run the whole run'
+complete -c tep -n '__tep_first' -f -a split -d 'Makes of a pcapng capture one capture for each of its interfaces'
+complete -c tep -n '__tep_first' -f -a compare -d 'Tells which records that were sent were received'
 complete -c tep -n '__tep_first' -f -a help -d 'Print this message or the help of the given subcommand(s)'
 complete -c tep -n '__tep_first' -s h -l help -d 'Print help'
 complete -c tep -n '__tep_first' -s V -l version -d 'Print version'
@@ -64,4 +66,13 @@ complete -c tep -n '__tep_command merge' -s h -l help -d 'Print help'
 complete -c tep -n '__tep_command merge' -s V -l version -d 'Print version'
 complete -c tep -n '__tep_command merge' -f -a '(__fish_complete_directories)'
 
-complete -c tep -n '__tep_command help' -f -a 'run check explain migrate digest merge help'
+complete -c tep -n '__tep_command split' -s o -l out -x -a '(__fish_complete_directories)' -d 'The folder that outputs are written into, which must exist'
+complete -c tep -n '__tep_command split' -s h -l help -d 'Print help'
+complete -c tep -n '__tep_command split' -s V -l version -d 'Print version'
+
+complete -c tep -n '__tep_command compare' -l within -x -d 'How much later a record may be received: 500us, 10ms, 2s; 1s without it'
+complete -c tep -n '__tep_command compare' -l shift -x -d 'How far RECEIVED\'s clock is ahead, or behind as in --shift=-2ms; records may then be early, too'
+complete -c tep -n '__tep_command compare' -s h -l help -d 'Print help'
+complete -c tep -n '__tep_command compare' -s V -l version -d 'Print version'
+
+complete -c tep -n '__tep_command help' -f -a 'run check explain migrate digest merge split compare help'

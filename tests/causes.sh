@@ -110,6 +110,7 @@ fi
 ends 3 run -s two.toml -u u.pcap -o none 1.pcap 2.pcap <<'T'
 write port1.pcap
   none/port1.pcap: no such folder
+  mkdir none
 T
 ends 3 run -s two.toml -u u.pcap -o two.toml 1.pcap 2.pcap <<'T'
 write port1.pcap
@@ -125,19 +126,23 @@ cp "$folder/1.pcap" "$folder/out/port1.pcap"
 runs 3 out/port1.pcap 2.pcap <<'T'
 write port1.pcap
   out/port1.pcap is the capture of port 1 itself
+  give the outputs a folder of their own
 T
 runs 3 1.pcap out/port1.pcap <<'T'
 write port1.pcap
   out/port1.pcap is the capture of port 2 itself
+  give the outputs a folder of their own
 T
 ends 3 run -s two.toml -u out/port1.pcap -o out 1.pcap 2.pcap <<'T'
 write port1.pcap
   out/port1.pcap is the capture of the underlay itself
+  give the outputs a folder of their own
 T
 cp "$folder/two.toml" "$folder/out/decisions.txt"
 ends 3 run -s out/decisions.txt -u u.pcap -o out 1.pcap 2.pcap <<'T'
 write decisions.txt
   out/decisions.txt is the settings itself
+  give the outputs a folder of their own
 T
 rm "$folder"/out/*
 
@@ -211,12 +216,12 @@ p2: NotPcap
 T
 runs 1 1.pcap two.toml <<'T'
 p2: NotPcap
-  two.toml: it is a text
+  two.toml: it is a text, as -s and -c take
 T
 : >"$folder/empty"
 runs 1 1.pcap empty <<'T'
 p2: NotPcap
-  empty: the file is empty
+  empty: the file is empty: a capture without records is a header, head -c 24 OTHER.pcap
 T
 { head -c 20 "$folder/1.pcap" && printf '\161\0\0\0'; } >"$folder/any.pcap"
 runs 1 any.pcap 2.pcap <<'T'
@@ -302,24 +307,29 @@ mkdir "$folder/bare"
 ends 3 merge -o whole bare <<'T'
 read bare
   bare/shard.txt: no such file
+  a part has one: tep run --segments makes parts
 T
 ends 3 merge -o out out <<'T'
 write decisions.txt
   out/decisions.txt is out/decisions.txt itself
+  give the outputs a folder of their own
 T
 ends 3 merge -o none out <<'T'
 write port1.pcap
   none/port1.pcap: no such folder
+  mkdir none
 T
 gzip -nc "$folder/out/port2.pcap" >"$folder/port2.gz"
 cp "$folder/port2.gz" "$folder/out/port2.pcap"
 ends 1 merge -o whole out <<'T'
 part out: port2.pcap has another number of octets than shard.txt says
+  run the part again
 T
 tests/shard_outputs.py "$folder/out"
 ends 1 merge -o whole out <<'T'
 part out: p2 NotPcap
   out/port2.pcap: it is compressed with gzip: editcap -F nsecpcap IN OUT converts it, or <(zcat IN) in its place
+  run the part again
 T
 rm "$folder/out/port2.pcap"
 ends 3 merge -o whole out <<'T'

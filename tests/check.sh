@@ -109,7 +109,9 @@ checks 1 "p1: NotPcap" -s smallest.toml a.toml <<'T'
 ok: 1 ports, 1 segments, 0 changes
 p1: it is a text
 T
-checks 1 "captures: PortCount" -s a.toml cut.pcap <<'T'
+checks 1 "captures: PortCount
+  captures of ports: 1; one for each port of the settings is wanted, and of one without traffic a header will do: head -c 24 CAPTURE" \
+    -s a.toml cut.pcap <<'T'
 ok: 3 ports, 2 segments, 0 changes
 p1: pcap little-endian microseconds ethernet, 1 record, first 1.000000000, last 1.000000000
 p1: ends in the middle of a record

@@ -208,7 +208,22 @@ while IFS=$'\t' read -r file is_taken what; do
     if [ "$is_taken" = taken ]; then prints "$folder/explained" && told=""; else prints /dev/null && told="u: left out $packets outbound packets"; fi
     ends 0 "" check -s $a -u "$folder/directions/$file"
     [ "$(grep "outbound" "$folder/stdout")" = "$told" ] || complain "a check of $what: $(cat "$folder/stdout")"
+    # A run that is done says the same behind it.
+    ends 0 "${told:+  $told}" run -s $a --tables -u "$folder/directions/$file" "${ports[@]}"
 done <"$folder/rows"
+# At each capture that has some, ports first, in front of what --both leaves out; behind a run that stops at a fault nothing.
+file=$(awk -F '\t' '$2 == "left" { print $1; exit }' "$folder/rows")
+for words in --both "--segments 10"; do
+    # shellcheck disable=SC2086
+    ./tep run -s $a $words -o "$folder/out" -u "$folder/directions/$file" "${ports[0]}" "$folder/directions/$file" "${ports[2]}" \
+        2>"$folder/stderr" || complain "a run $words ends with $?"
+    [ "$(cat "$folder/stderr")" = "  p2: left out $packets outbound packets
+  u: left out $packets outbound packets" ] || complain "outbound packets, $words: $(cat "$folder/stderr")"
+done
+{ cat "$folder/directions/$file" && printf '\0\0\0\6\0\0\0\10\0\0\0\10'; } >"$folder/bad.pcapng"
+./tep run -s $a --tables -u "$folder/bad.pcapng" "${ports[@]}" >"$folder/stdout" 2>"$folder/stderr"
+[ $? -eq 1 ] && ! grep -q outbound "$folder/stderr" || complain "a fault and outbound packets: $(cat "$folder/stderr")"
+rm -f "$folder"/out/*
 # A name of more than digits is one, whatever number it could be.
 tests/pcapng.py "$folder/signed.pcapng" eth0="${ports[0]}" +0=$underlay
 ends 0 "" explain -s $a "$folder/signed.pcapng#+0"

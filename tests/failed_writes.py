@@ -190,6 +190,7 @@ def behind_a_fault():
         for names in (["port2.pcap"], ["port3.pcap", "underlay.pcap"], ["decisions.txt"]):
             status, said, held = case.made(case.run, dict.fromkeys(names, "/dev/full"))
             wanted = ["p1: TooLarge 21"] + [f"  out/{name}: no space left" for name in names]
+            wanted += ["  1.pcap: record 21 is damaged: editcap -F nsecpcap -r 1.pcap OUT 1-20 keeps those before"]
             asks((status, said) == (1, wanted), f"{names} behind a fault: {status}, {said}")
             case.stands(held, f"{names} behind a fault")
             if names != ["decisions.txt"]:

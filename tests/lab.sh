@@ -70,6 +70,33 @@ both() {
 status 0' ] || complain "--within 0ns"
 [ "$(both --within 18446744073709551615ns)" = "$(cat "$folder/left_out")
 status 0" ] || complain "the longest time"
+# A check of both directions tells of what --both leaves out, worked out of decisions_both.txt: of 11 records at port 1 2, 4, 6,
+# 8 and 9 left, of 8 at port 2 1, 3, 5 and 7, and of 10 at the underlay all but 3, 5 and 7. Of what came in it tells nothing.
+# echoes FOLDER UNDERLAY PORT1 PORT2: what a check of captures of a folder says of what came in elsewhere; its status behind it
+echoes() {
+    local got
+    ./tep check --settings "$lab/settings.toml" --underlay "$captures/$1/$2" "$captures/$1/$3" "$captures/$1/$4" \
+        >"$folder/checked" 2>&1
+    got=$?
+    grep elsewhere "$folder/checked"
+    echo "status $got"
+}
+question='does this capture have what left, too? run --both, or tcpdump -Q in'
+told="p1: 5 of 11 records came in elsewhere within 10 ms before: $question
+p2: 4 of 8 records came in elsewhere within 10 ms before: $question
+u: 7 of 10 packets left us or came in elsewhere within 10 ms before: $question
+status 0"
+[ "$(echoes both underlay.pcap port1.pcap port2.pcap)" = "$told" ] || complain "a check of both directions"
+[ "$(echoes both 'all.pcapng#underlay' 'all.pcapng#swp1' 'all.pcapng#swp2')" = "$told" ] ||
+    complain "a check of both directions in one file"
+for case in come_in offloads other_vni port_8472; do
+    [ "$(echoes "$case" underlay.pcap port1.pcap port2.pcap)" = "status 0" ] || complain "a check of $case"
+done
+# Nor where a capture isn't named, or can be read only once.
+[ "$(./tep check --settings "$lab/settings.toml" "$captures/both/port1.pcap" "$captures/both/port2.pcap" |
+    grep -c elsewhere)" = 0 ] || complain "a check without the underlay"
+[ "$(./tep check --settings "$lab/settings.toml" --underlay "$captures/both/underlay.pcap" "$captures/both/port1.pcap" \
+    <(cat "$captures/both/port2.pcap") | grep -c elsewhere)" = 0 ] || complain "a check of a pipe"
 # A run that stops at a fault says that alone, as without it.
 cp "$captures/both/underlay.pcap" "$folder/faulty.pcap"
 printf '\377%.0s' {1..16} >>"$folder/faulty.pcap"

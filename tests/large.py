@@ -47,10 +47,28 @@ class Folder:
     def __exit__(self, *_):
         shutil.rmtree(self.path)
 
-    def start(self, first, **how):
-        """A run whose first port's capture is this file."""
+    def start(self, first, second=None, **how):
+        """A run whose first port's capture is this file, and whose second's that, where there is one."""
         words = [TEP, "run", "--settings", SETTINGS, "--underlay", self.empty, "--out", self.out]
-        return subprocess.Popen([*words, first, self.empty, self.empty], stderr=subprocess.PIPE, **how)
+        return subprocess.Popen([*words, first, second or self.empty, self.empty], stderr=subprocess.PIPE, **how)
+
+    def pipe(self, name):
+        """A named pipe, and an end to write into it, which waits for no reader."""
+        path = self.path / name
+        os.mkfifo(path)
+        return path, os.fdopen(os.open(path, os.O_RDWR), "wb", 0)
+
+    def holds(self, lines, counts, what):
+        """Until these lines stand in the outputs, ten seconds at most; and beside them so many records."""
+        for _ in range(2000):
+            if (self.out / "decisions.txt").exists() and self.lines() == lines:
+                break
+            time.sleep(0.005)
+        asks(self.lines() == lines, f"{what}: {self.lines()} in place of {lines}")
+        # its line comes last
+        for name, size in (("port1", 60), ("port2", 60), ("port3", 64), ("underlay", 110)):
+            size = 24 + counts[name] * (16 + size)
+            asks((self.out / f"{name}.pcap").stat().st_size == size, f"{what}: {name}")
 
     def lines(self):
         return (self.out / "decisions.txt").read_text().splitlines()
@@ -95,30 +113,146 @@ def large():
     print(f"{octets // MIB} MiB through a pipe: {great} KiB at most, and {small} KiB for a tenth of them")
 
 
-def held():
-    """What comes of an event is out while its pipe is still open, though what stands behind it isn't."""
+def block(kind, body):
+    """A block of a pcapng file."""
+    body += bytes(-len(body) % 4)
+    size = struct.pack("<I", len(body) + 12)
+    return struct.pack("<I", kind) + size + body + size
+
+
+# A section with an interface of link type Ethernet.
+SECTION = block(0x0A0D0D0A, struct.pack("<IHHq", 0x1A2B3C4D, 1, 0, -1)) + block(1, struct.pack("<HHI", 1, 0, 0))
+
+
+def packet(second, octets):
+    """A record of a pcapng file, in microseconds."""
+    moment = second * 1000000
+    head = struct.pack("<IIIII", 0, moment >> 32, moment & 0xFFFFFFFF, len(octets), len(octets))
+    return block(6, head + octets)
+
+
+def waits_for(folder, count):
+    """Until what comes of so many records stands in the outputs, ten seconds at most."""
+    wanted = [f"{n} {n}000000000" + SENT.format(n) for n in range(1, count + 1)]
+    sizes = {name: 24 + count * (16 + size) for name, size in (("port1", -16), ("port2", 60), ("port3", 64), ("underlay", 110))}
+    for _ in range(2000):
+        if (folder.out / "decisions.txt").exists() and folder.lines() == wanted:
+            break
+        time.sleep(0.005)
+    asks(folder.lines() == wanted, f"of {count} records a held pipe gave {folder.lines()}")
+    # its line comes last
+    for name, size in sizes.items():
+        asks((folder.out / f"{name}.pcap").stat().st_size == size, f"{name} of a held pipe behind {count} records")
+
+
+def held(begin, record_of):
+    """What comes of the events so far is out while a read of their pipe waits, though what stands behind them isn't: after
+    each of many writes, of one record and of several."""
     read, write = os.pipe()
     with Folder() as folder:
         run = folder.start("/dev/stdin", stdin=read)
         os.close(read)
         with os.fdopen(write, "wb", 0) as pipe:
-            pipe.write(HEADER)
-            for second in (1, 2):
-                # with a part of the next record's header behind it
-                octets = record(second, FRAME) + record(second + 1, FRAME)[:9]
-                pipe.write(octets if second == 1 else octets[9:])
-                wanted = [f"{n} {n}000000000" + SENT.format(n) for n in range(1, second + 1)]
-                for _ in range(500):
-                    if (folder.out / "decisions.txt").exists() and folder.lines() == wanted:
-                        break
-                    time.sleep(0.02)
-                asks(folder.lines() == wanted, f"of {second} records a held pipe gave {folder.lines()}")
-                for name, size in (("port2", 60), ("port3", 64), ("underlay", 110)):
-                    size = 24 + second * (16 + size)
-                    asks((folder.out / f"{name}.pcap").stat().st_size == size, f"{name} of a held pipe")
+            count = 0
+            left = begin
+            for turn in range(200):
+                more = turn % 3 * 4 + 1
+                octets = left + b"".join(record_of(second, FRAME) for second in range(count + 1, count + more + 1))
+                count += more
+                # with a part of the next record's header behind it, or without
+                part = turn % 2 * 9
+                pipe.write(octets + record_of(count + 1, FRAME)[:part])
+                waits_for(folder, count)
                 asks(run.poll() is None, "a run ended while its pipe was open")
+                left = b""
+                if part > 0:
+                    left = record_of(count + 1, FRAME)[part:]
+                    count += 1
+            # the last record isn't whole
+            count -= 1
         asks(ended(run) == (0, ""), "a held pipe")
-        asks(folder.lines()[2:] == ["cut p1 2"], f"a pipe that ends in mid-record: {folder.lines()}")
+        lines = folder.lines()[count:]
+        asks(lines == [f"cut p1 {count}"], f"a pipe that ends in mid-record: {lines}")
+
+
+def held_pcap():
+    held(HEADER, record)
+
+
+def held_pcapng():
+    held(SECTION, packet)
+
+
+def line_of(number):
+    """The line of event `number` where frames to everybody come by turns at ports 1 and 2, one a second."""
+    if number % 2:
+        return f"{number} {number}000000000" + SENT.format(number // 2 + 1)
+    return f"{number} {number}000000000 p2 {number // 2} 10 p1=60 p3=64 192.0.2.2=110"
+
+
+def counts_of(events):
+    return {"port1": events // 2, "port2": events - events // 2, "port3": events, "underlay": events}
+
+
+def by_turns():
+    """Two pipes that are written by turns: behind each write all is out that is decided by then, which is all but its record."""
+    with Folder() as folder:
+        pipes = [folder.pipe("first"), folder.pipe("second")]
+        run = folder.start(*(path for path, _ in pipes))
+        for _, pipe in pipes:
+            pipe.write(HEADER)
+        for number in range(1, 101):
+            pipes[(number + 1) % 2][1].write(record(number, FRAME))
+            decided = [line_of(n) for n in range(1, number)]
+            if decided:
+                folder.holds(decided, counts_of(number - 1), f"two pipes by turns, behind record {number}")
+            asks(run.poll() is None, "a run ended while its pipes were open")
+        for _, pipe in pipes:
+            pipe.close()
+        asks(ended(run) == (0, ""), "two pipes by turns")
+        folder.holds([line_of(n) for n in range(1, 101)], counts_of(100), "two pipes by turns, at their end")
+
+
+def silent():
+    """A pipe from which nothing comes any more: what was decided stands, also where the run is ended from outside."""
+    with Folder() as folder:
+        pipes = [folder.pipe("first"), folder.pipe("second")]
+        run = folder.start(*(path for path, _ in pipes))
+        pipes[0][1].write(HEADER + b"".join(record(second, FRAME) for second in (1, 3, 5, 7)))
+        pipes[1][1].write(HEADER + record(2, FRAME))
+        folder.holds([line_of(1), line_of(2)], counts_of(2), "a silent pipe")
+        time.sleep(0.2)
+        asks(run.poll() is None, "a run ended while a pipe was silent")
+        run.terminate()
+        run.wait()
+        folder.holds([line_of(1), line_of(2)], counts_of(2), "a run that was ended at a silent pipe")
+        for _, pipe in pipes:
+            pipe.close()
+
+
+def left_by_its_reader():
+    """An output whose reader goes away while an input is a pipe."""
+    with Folder() as folder:
+        path, pipe = folder.pipe("first")
+        os.mkfifo(folder.out / "port3.pcap")
+        reader = os.open(folder.out / "port3.pcap", os.O_RDONLY | os.O_NONBLOCK)
+        run = folder.start(path)
+        pipe.write(HEADER)
+        begun = b""
+        for _ in range(2000):
+            try:
+                begun += os.read(reader, 24 - len(begun))
+            except BlockingIOError:
+                pass
+            if len(begun) == 24:
+                break
+            time.sleep(0.005)
+        asks(begun[:4] == HEADER[:4], f"an output begins with {begun}")
+        os.close(reader)
+        pipe.write(record(1, FRAME))
+        asks(ended(run) == (3, "write port3.pcap"), "an output whose reader went away")
+        asks(folder.lines() == [], f"an event of which a record wasn't written has {folder.lines()}")
+        pipe.close()
 
 
 def same_as_file():
@@ -160,26 +294,34 @@ def full():
         asks(len(folder.lines()) < 3000, "a run that goes on behind a full device")
 
 
+def calls_of(folder, name, **how):
+    """The reads and the writes of a run on 20,000 events of a capture, as strace counts them."""
+    counted = folder.path / "counted"
+    words = ["strace", "-f", "-c", "-o", counted, TEP, "run", "--settings", SETTINGS, "--underlay", folder.empty]
+    run = subprocess.run([*words, "--out", folder.out, name, folder.empty, folder.empty], **how)
+    asks(run.returncode == 0 and len(folder.lines()) == 20000, "a run under strace")
+    moved = {row.split()[-1]: int(row.split()[3]) for row in counted.read_text().splitlines() if row[:1] == " " and row.split()[0] != "100.00"}
+    return moved.get("read", 0) + moved.get("write", 0)
+
+
 def calls():
-    """System calls an event, where strace counts them."""
+    """System calls an event, where strace counts them: of a file, and of a pipe whose writer doesn't wait."""
     if not shutil.which("strace"):
         return print("there is no strace: no system calls are counted")
-    events = 20000
     with Folder() as folder:
-        file, counted = folder.path / "many.pcap", folder.path / "counted"
-        file.write_bytes(HEADER + record(1, FRAME) * events)
-        words = ["strace", "-f", "-c", "-o", counted, TEP, "run", "--settings", SETTINGS, "--underlay", folder.empty]
-        run = subprocess.run([*words, "--out", folder.out, file, folder.empty, folder.empty])
-        asks(run.returncode == 0 and len(folder.lines()) == events, "a run under strace")
-        moved = {row.split()[-1]: int(row.split()[3]) for row in counted.read_text().splitlines() if row[:1] == " " and row.split()[0] != "100.00"}
-        count = moved.get("read", 0) + moved.get("write", 0)
-        asks(count <= events // 5, f"{count} reads and writes for {events} events")
-        print(f"{count} reads and writes for {events} events with 3 emissions each")
+        file = folder.path / "many.pcap"
+        file.write_bytes(HEADER + record(1, FRAME) * 20000)
+        of_file = calls_of(folder, file)
+        with subprocess.Popen(["cat", file], stdout=subprocess.PIPE) as cat:
+            of_pipe = calls_of(folder, "/dev/stdin", stdin=cat.stdout)
+        for count, what in ((of_file, "a file"), (of_pipe, "a pipe")):
+            asks(count <= 4000, f"{count} reads and writes for 20000 events of {what}")
+            print(f"{count} reads and writes for 20000 events of {what} with 3 emissions each")
 
 
 def main():
     subprocess.run([TEP, "--version"], check=True, stdout=subprocess.DEVNULL)
-    for test in (held, same_as_file, faulty, full, calls, large):
+    for test in (held_pcap, held_pcapng, by_turns, silent, left_by_its_reader, same_as_file, faulty, full, calls, large):
         test()
 
 

@@ -259,7 +259,8 @@ done
 ./tep run -s examples/smallest.toml -u examples/underlay.pcap -o "$folder/out" --tables-at 0 --why 1 "$folder/fault.pcap" \
     >"$folder/stdout" 2>"$folder/stderr"
 [ $? -eq 1 ] || complain "a run that stops: another status"
-[ "$(cat "$folder/stderr")" = "p1: BadFraction 2" ] || complain "a run that stops: $(cat "$folder/stderr")"
+[ "$(cat "$folder/stderr")" = "p1: BadFraction 2
+  $folder/fault.pcap: record 2 is damaged: editcap -F nsecpcap -r $folder/fault.pcap OUT 1-1 keeps those before" ] || complain "a run that stops: $(cat "$folder/stderr")"
 [ "$(tail -n 1 "$folder/stdout")" = "1 1000000000 p1 1 10 192.0.2.2=110" ] || complain "a run that stops tells: $(cat "$folder/stdout")"
 
 # The values of each header; without the option none.

@@ -441,17 +441,22 @@ is_whole first second
 runs lent 1-15 --digests "$folder/interfaces" "${with_changes[@]}" -u "$all#eth0" "${interfaces[@]}"
 diff -r "$folder/first" "$folder/lent" || complain "a part of interfaces by lent digests"
 
-# lends TEXT FAULT WORDS..: a part to which this text is lent is refused for this, and its shard.txt tells nothing
+# lends TEXT FAULT NEXT WORDS..: a part to which this text is lent is refused for this, with what to do next below it, and its
+# shard.txt tells nothing
 lends() {
-    local text=$1 fault=$2 got
-    shift 2
+    local text=$1 fault=$2 next=$3 got
+    shift 3
     rm -rf "$folder/lent"
     cp -r "$folder/other" "$folder/lent"
     (cd "$folder" && "$tep" run --out lent --segments 16-4094,none --digests "$text" "$@") >"$folder/stdout" 2>"$folder/stderr"
     got=$?
     [ "$got" -eq 1 ] || complain "$text is lent: status $got"
-    [ "$(cat "$folder/stderr")" = "$text: $fault" ] || complain "$text is lent: '$(cat "$folder/stderr")'"
+    [ "$(cat "$folder/stderr")" = "$text: $fault
+  $next" ] || complain "$text is lent: '$(cat "$folder/stderr")'"
 }
+
+made="tep digest makes such a text"
+anew="take the digests of these captures anew with tep digest, and run each part again with them"
 
 # Words with whole paths, since a part that is refused runs in another folder.
 here=(--settings "$PWD/examples/a.toml" --changes "$PWD/examples/changes.toml")
@@ -463,17 +468,17 @@ untouched() {
 }
 
 sed 1d "$folder/digests" >"$folder/headless"
-lends headless "the first line is not 'tep digests 1'" "${here[@]}" "${captures[@]}"
+lends headless "the first line is not 'tep digests 1'" "$made" "${here[@]}" "${captures[@]}"
 untouched "a text without its first line"
 sed 's/^capture p2 [0-9]* /capture p2 /' "$folder/digests" >"$folder/unnumbered"
-lends unnumbered "the line of a capture is missing, out of place or has no number and digest" "${here[@]}" "${captures[@]}"
+lends unnumbered "the line of a capture is missing, out of place or has no number and digest" "$made" "${here[@]}" "${captures[@]}"
 untouched "a text without a number"
 { cat "$folder/digests" && echo; } >"$folder/longer"
-lends longer "something stands behind the line of 'capture u'" "${here[@]}" "${captures[@]}"
+lends longer "something stands behind the line of 'capture u'" "$made" "${here[@]}" "${captures[@]}"
 printf '\377' >"$folder/nothing"
-lends nothing "the first line is not 'tep digests 1'" "${here[@]}" "${captures[@]}"
+lends nothing "the first line is not 'tep digests 1'" "$made" "${here[@]}" "${captures[@]}"
 sed '/^capture p3/d' "$folder/digests" >"$folder/fewer"
-lends fewer "it has the digests of more or fewer ports" "${here[@]}" "${captures[@]}"
+lends fewer "it has the digests of more or fewer ports" "$anew" "${here[@]}" "${captures[@]}"
 untouched "digests of two ports"
 refused 3 "read nowhere" run --out out --segments 16-4094,none --digests nowhere "${here[@]}" "${captures[@]}"
 refused 2 "error: --digests lends digests to a part of a run, and there is no --segments" run --out out --digests digests "${here[@]}" "${captures[@]}"
@@ -482,7 +487,7 @@ refused 2 "error: --digests lends digests to a part of a run, and there is no --
 { cat examples/port2.pcap && printf x; } >"$folder/more.pcap"
 longer=("${captures[@]}")
 longer[3]=$folder/more.pcap
-lends digests "it tells another number of octets of capture p2" "${here[@]}" "${longer[@]}"
+lends digests "it tells another number of octets of capture p2" "$anew" "${here[@]}" "${longer[@]}"
 [ -e "$folder/lent/shard.txt" ] && [ ! -s "$folder/lent/shard.txt" ] || complain "the shard.txt of a part that was refused tells $(cat "$folder/lent/shard.txt")"
 rm -rf "$folder/lent"
 
@@ -512,7 +517,8 @@ timeout 60 sh -c '{ head -c 1000 && tail -c 76 examples/port1.pcap >>"$1" && cat
     sh "$folder/short.pcap" "$folder/growing/port2.pcap" || complain "nothing came out of the run of a growing capture"
 wait $!
 [ $? -eq 1 ] || complain "a part is made of a capture that grew"
-[ "$(cat "$folder/stderr")" = "$folder/short.pcap: it had another number of octets when it was read again for its digest" ] ||
+[ "$(cat "$folder/stderr")" = "$folder/short.pcap: it had another number of octets when it was read again for its digest
+  wait until the capture is written, and run the part again" ] ||
     complain "a part of a capture that grew: '$(cat "$folder/stderr")'"
 [ -e "$folder/growing/shard.txt" ] && [ ! -s "$folder/growing/shard.txt" ] || complain "the shard.txt of a part whose capture grew tells something"
 runs grown 1-15 "${growing[@]}"
@@ -594,11 +600,14 @@ for list in "1,,2|an item of the list is empty" "0|an item of the list is no VID
     ) || complain "segments ${list%|*}: '$(cat "$folder/stderr")'"
 done
 mkfifo "$folder/pipe"
+digests_step="  tep digest, over the same captures as files, makes the digests: tep digest -u U P1 P2 .. >digests.txt"
 ./tep run --out "$folder/out" --segments 10 "${a[@]}" "$folder/pipe" examples/port2.pcap examples/port3.pcap 2>"$folder/stderr"
 [ $? -eq 1 ] || complain "a part is made of a pipe"
-[ "$(cat "$folder/stderr")" = "$folder/pipe can be read only once, and without --digests a part reads its captures twice" ] || complain "$(cat "$folder/stderr")"
+[ "$(cat "$folder/stderr")" = "$folder/pipe can be read only once, and without --digests a part reads its captures twice
+$digests_step" ] || complain "$(cat "$folder/stderr")"
 ./tep run --out "$folder/out" --segments 10 --settings examples/a.toml --underlay - "${ports[@]}" <examples/underlay.pcap 2>"$folder/stderr"
 [ $? -eq 1 ] || complain "a part without digests is made of standard input"
-[ "$(cat "$folder/stderr")" = "- can be read only once, and without --digests a part reads its captures twice" ] || complain "$(cat "$folder/stderr")"
+[ "$(cat "$folder/stderr")" = "- can be read only once, and without --digests a part reads its captures twice
+$digests_step" ] || complain "$(cat "$folder/stderr")"
 
 [ "$failures" -eq 0 ]

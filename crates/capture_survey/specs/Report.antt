@@ -1,5 +1,5 @@
 -- The lines that tell what is in a capture. It states no standard.
-use Rattle.std.specs.Prelude.{ℕ, ◌==◌, ◌^◌, ◌-◌, ◌/◌, ◌%◌, if◌then◌else◌, Bool, true, false, List, [], ◌++◌, codes, decimal, Option, Some, None}
+use Rattle.std.specs.Prelude.{ℕ, ◌==◌, ◌^◌, ◌*◌, ◌-◌, ◌/◌, ◌%◌, if◌then◌else◌, nat_le, nat_lt, ◌&&◌, Bool, true, false, List, [], ◌++◌, codes, decimal, Option, Some, None}
 use Rattle.std.specs.Fmt.{format_spec, padded_integral}
 use Rattle.pcap_io.specs.Style.{second}
 use Rattle.pcap_io.specs.declared.style.Order.{Order}
@@ -10,6 +10,7 @@ use Rattle.pcap_io.specs.declared.style.Style.{Style}
 use Rattle.timeline.specs.Words.{tap_word}
 use Rattle.timeline.specs.declared.source.Tap.{Tap}
 use Rattle.timeline.specs.declared.source.Tap.TheVariants.{Port, Underlay}
+use Rattle.capture_survey.specs.declared.echoes.Echoes.{Echoes}
 use Rattle.capture_survey.specs.declared.report.Note.{Note}
 use Rattle.capture_survey.specs.declared.report.Note.TheVariants as notes
 use Rattle.capture_survey.specs.declared.report.Report.{Report}
@@ -96,3 +97,20 @@ notes_text r =
 -- all lines
 abbrev pub report_text : Report → List ℕ
 report_text r = heading_text r ++ notes_text r
+
+-- at least one record in ten came in elsewhere before
+abbrev pub are_many : ℕ → ℕ → Bool
+are_many echoes records = nat_lt 0 echoes && nat_le records (echoes * 10)
+
+-- what is said of such records at a tap
+abbrev pub echo_words : Tap → List ℕ
+echo_words (Port port) = codes "records came in elsewhere"
+echo_words Underlay = codes "packets left us or came in elsewhere"
+
+-- its line, where they are many
+unfoldable pub echoes_text : Echoes → List ℕ
+echoes_text e =
+    if are_many e.echoes e.records
+    then tap_word e.tap ++ codes ": " ++ decimal e.echoes ++ codes " of " ++ decimal e.records ++ codes " " ++ echo_words e.tap
+    ++ codes " within 10 ms before: does this capture have what left, too? run --both, or tcpdump -Q in\n"
+    else []

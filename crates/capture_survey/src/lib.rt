@@ -3,7 +3,7 @@
 //!
 //! Use first: [`survey_capture`] reads the records of a capture one after another (classic pcap, by `pcap_stream`) in the
 //! memory of one record, and answers a [`Survey`], or the [`SurveyFault`] that a run would stop at. A [`Report`] prints what
-//! was found.
+//! was found. [`Echoes`] prints what is found of several captures together, and [`LeftOut`] one line of a report by itself.
 //!
 //! Specs to read, in order: `specs/Tally`, `specs/Survey`, `specs/Report`.
 //!
@@ -13,13 +13,17 @@
 //! failed or one more was needed than the source has. What is printed is exactly the stated lines.
 #![tactic(auto)]
 
+mod echoes;
 mod fault;
+mod left_out;
 mod read;
 mod report;
 mod survey;
 mod tally;
 
+pub use echoes::Echoes;
 pub use fault::SurveyFault;
+pub use left_out::LeftOut;
 pub use report::{Moment, Report};
 pub use survey::{Survey, survey_capture};
 pub use tally::{Span, Tally};

@@ -79,7 +79,7 @@ impl fmt::Display for Summary {
 
 /// What may be unmeant about a capture.
 #[derive(Clone, Copy)]
-enum Note {
+pub(crate) enum Note {
     /// So many packets are outbound, and no records.
     LeftOut(u64),
     /// So many records are earlier than one before them.
@@ -145,9 +145,9 @@ impl fmt::Display for Note {
 
 /// The line of a note of a capture. It prints as nothing where it isn't so.
 #[derive(Clone, Copy)]
-struct Line {
-    tap: Tap,
-    note: Note,
+pub(crate) struct Line {
+    pub(crate) tap: Tap,
+    pub(crate) note: Note,
 }
 
 impl fmt::Display for Line {

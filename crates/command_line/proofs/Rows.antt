@@ -3,7 +3,7 @@ use Rattle.std.proofs.Common.{◌≡◌, refl, codes, [], ◌∷◌, Some, None,
 use Rattle.clap.specs.Words.{takes}
 use Rattle.clap.proofs.OnLiterals.{clap_on_literals}
 use Rattle.command_line.specs.App.{tep_app}
-use Rattle.command_line.specs.Meaning.{sample, check, run, explain, migrate, digest, merge, words_meant}
+use Rattle.command_line.specs.Meaning.{check, compare, digest, explain, merge, migrate, run, sample, split, words_meant}
 
 no_words : words_meant (codes "tep" ∷ []) ≡ Some sample
 unfolding clap_on_literals
@@ -93,3 +93,24 @@ a_merge_that_counts = refl
 a_merge_that_tells_tables : words_meant (codes "tep" ∷ codes "merge" ∷ codes "--tables" ∷ codes "-od" ∷ codes "s1" ∷ []) ≡ Some (merge (codes "d") (codes "s1" ∷ []) true false)
 unfolding clap_on_literals
 a_merge_that_tells_tables = refl
+
+a_split : words_meant (codes "tep" ∷ codes "split" ∷ codes "-o" ∷ codes "d" ∷ codes "c" ∷ []) ≡ Some (split (codes "d") (codes "c"))
+unfolding clap_on_literals
+a_split = refl
+
+a_split_of_two_is_refused : takes tep_app (codes "tep" ∷ codes "split" ∷ codes "-o" ∷ codes "d" ∷ codes "c1" ∷ codes "c2" ∷ []) ≡ false
+unfolding clap_on_literals
+a_split_of_two_is_refused = refl
+
+a_comparison : words_meant (codes "tep" ∷ codes "compare" ∷ codes "a" ∷ codes "b" ∷ []) ≡ Some (compare (codes "a") (codes "b") None None)
+unfolding clap_on_literals
+a_comparison = refl
+
+a_comparison_of_two_clocks : words_meant (codes "tep" ∷ codes "compare" ∷ codes "--within" ∷ codes "5ms" ∷ codes "a" ∷ codes "--shift=-2us" ∷ codes "b" ∷ [])
+    ≡ Some (compare (codes "a") (codes "b") (Some (codes "5ms")) (Some (codes "-2us")))
+unfolding clap_on_literals
+a_comparison_of_two_clocks = refl
+
+a_comparison_of_one_is_refused : takes tep_app (codes "tep" ∷ codes "compare" ∷ codes "a" ∷ []) ≡ false
+unfolding clap_on_literals
+a_comparison_of_one_is_refused = refl

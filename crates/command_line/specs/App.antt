@@ -59,6 +59,11 @@ rule_for arguments.Depth = record (option_rule (codes "depth")) {
 }
 rule_for arguments.Values = flag_rule (codes "values")
 rule_for arguments.Capture = record (placed_rule (codes "capture")) { required = true }
+rule_for arguments.SplitCapture = record (placed_rule (codes "capture")) { required = true }
+rule_for arguments.Sent = record (placed_rule (codes "sent")) { required = true }
+rule_for arguments.Received = record (placed_rule (codes "received")) { required = true }
+rule_for arguments.Later = option_rule (codes "within")
+rule_for arguments.Shift = option_rule (codes "shift")
 
 -- an app with these arguments behind its own
 abbrev pub with_arguments : App → List Argument → App
@@ -76,6 +81,8 @@ name_of subcommands.Explain = codes "explain"
 name_of subcommands.Migrate = codes "migrate"
 name_of subcommands.Digest = codes "digest"
 name_of subcommands.Merge = codes "merge"
+name_of subcommands.Split = codes "split"
+name_of subcommands.Compare = codes "compare"
 
 -- what it takes
 abbrev pub arguments_of : Subcommand → List Argument
@@ -92,6 +99,8 @@ arguments_of subcommands.Explain = arguments.Settings ∷ arguments.Depth ∷ ar
 arguments_of subcommands.Migrate = arguments.Settings ∷ []
 arguments_of subcommands.Digest = arguments.Underlay ∷ arguments.Ports ∷ []
 arguments_of subcommands.Merge = arguments.Out ∷ arguments.Shards ∷ arguments.Tables ∷ arguments.Summary ∷ []
+arguments_of subcommands.Split = arguments.Out ∷ arguments.SplitCapture ∷ []
+arguments_of subcommands.Compare = arguments.Sent ∷ arguments.Received ∷ arguments.Later ∷ arguments.Shift ∷ []
 
 -- what `clap` keeps of it
 abbrev pub shape_for : Subcommand → Shape
@@ -113,7 +122,7 @@ abbrev pub tep_app : App
 tep_app =
     with_commands versioned_app
     (subcommands.Run ∷ subcommands.Check ∷ subcommands.Explain
-    ∷ subcommands.Migrate ∷ subcommands.Digest ∷ subcommands.Merge ∷ [])
+    ∷ subcommands.Migrate ∷ subcommands.Digest ∷ subcommands.Merge ∷ subcommands.Split ∷ subcommands.Compare ∷ [])
 
 -- the program with the run alone that may leave its folder out
 abbrev pub telling_app : App

@@ -20,7 +20,9 @@ use Rattle.command_line.specs.declared.line.LineFault.TheVariants as fault
 -- segments that a part takes, the file of the digests that are lent to it, whether what the switch itself sent is left out, and
 -- how long behind its frame that may come; of `check` the settings, the changes, the underlay and the ports;
 -- of `explain` the settings, the depth, whether values are told, and the capture; of `migrate` the settings; of `digest` the
--- underlay and the ports; of `merge` the folder, those of the parts, whether the tables are told, and whether the counts are
+-- underlay and the ports; of `merge` the folder, those of the parts, whether the tables are told, and whether the counts are; of
+-- `split` the folder and the capture; of `compare` what was sent, what was received, how much later a record may be, and how far
+-- the clock of what was received is ahead
 pub data Meaning : Type 0 where
   sample : Meaning
   run : Text → Option Text → Text → Option Text → List Text → Bool
@@ -30,6 +32,8 @@ pub data Meaning : Type 0 where
   migrate : Text → Meaning
   digest : Text → List Text → Meaning
   merge : Text → List Text → Bool → Bool → Meaning
+  split : Text → Text → Meaning
+  compare : Text → Text → Option Text → Option Text → Meaning
 
 -- what a command line is as such a meaning
 abbrev pub meaning_of : Line → Meaning
@@ -44,6 +48,9 @@ meaning_of (line.Explain settings depth values capture) = explain settings.now d
 meaning_of (line.Migrate settings) = migrate settings.now
 meaning_of (line.Digest underlay ports) = digest underlay.now (texts ports.items)
 meaning_of (line.Merge out shards tables summary) = merge out.now (texts shards.items) tables summary
+meaning_of (line.Split out capture) = split out.now capture.now
+meaning_of (line.Compare sent received within shift) =
+    compare sent.now received.now (option_map (λ t. t.now) within) (option_map (λ t. t.now) shift)
 
 -- a depth is 1 to 4
 abbrev pub HasDepth : Line → Type 0
@@ -54,6 +61,8 @@ HasDepth (line.Explain settings depth values capture) = (1 ≤ depth) × (depth 
 HasDepth (line.Migrate settings) = ⊤
 HasDepth (line.Digest underlay ports) = ⊤
 HasDepth (line.Merge out shards tables summary) = ⊤
+HasDepth (line.Split out capture) = ⊤
+HasDepth (line.Compare sent received within shift) = ⊤
 
 -- ---- what matches mean: nothing, where a required value is missing
 
@@ -133,6 +142,17 @@ merge_meant rows =
     option_and_then (λ o. option_map (λ ps. merge o ps (is_set (codes "tables") rows) (is_set (codes "summary") rows))
     (all_of (codes "shards") rows)) (first_of (codes "out") rows)
 
+-- what `split` is asked to do
+abbrev pub split_meant : List Row → Option Meaning
+split_meant rows =
+    option_and_then (λ o. option_map (λ c. split o c) (first_of (codes "capture") rows)) (first_of (codes "out") rows)
+
+-- what `compare` is asked to do
+abbrev pub compare_meant : List Row → Option Meaning
+compare_meant rows =
+    option_and_then (λ s. option_map (λ r. compare s r (first_of (codes "within") rows) (first_of (codes "shift") rows))
+    (first_of (codes "received") rows)) (first_of (codes "sent") rows)
+
 -- what a subcommand of this name is asked to do
 abbrev pub command_meant : Text → List Row → Option Meaning
 command_meant name rows =
@@ -141,7 +161,9 @@ command_meant name rows =
     else (if bytes_eq name (codes "explain") then explain_meant rows
     else (if bytes_eq name (codes "migrate") then migrate_meant rows
     else (if bytes_eq name (codes "digest") then digest_meant rows
-    else (if bytes_eq name (codes "merge") then merge_meant rows else None)))))
+    else (if bytes_eq name (codes "merge") then merge_meant rows
+    else (if bytes_eq name (codes "split") then split_meant rows
+    else (if bytes_eq name (codes "compare") then compare_meant rows else None)))))))
 
 -- what a parse means that met this subcommand with these matches, or none
 abbrev pub line_meant : Option (Text × List Row) → Option Meaning
@@ -202,6 +224,8 @@ input_uses (explain settings depth values capture) = inputs_among (capture ∷ [
 input_uses (migrate settings) = 0
 input_uses (digest underlay ports) = inputs_among (underlay ∷ ports)
 input_uses (merge out shards tables summary) = 0
+input_uses (split out capture) = inputs_among (capture ∷ [])
+input_uses (compare sent received within shift) = inputs_among (sent ∷ received ∷ [])
 
 -- it is read once at most
 abbrev pub ReadsInputOnce : Meaning → Type 0

@@ -60,6 +60,16 @@ pub enum Argument {
     Values,
     /// The capture that is explained.
     Capture,
+    /// The capture that is split.
+    SplitCapture,
+    /// The capture of what was sent, which is compared.
+    Sent,
+    /// The capture of what was received.
+    Received,
+    /// How much later a record may be received.
+    Later,
+    /// How far the clock of what was received is ahead.
+    Shift,
 }
 
 impl Argument {
@@ -193,6 +203,39 @@ impl Argument {
                 "A capture of the underlay; '-' is standard input",
             )
             .required(true),
+            Argument::SplitCapture => placed(
+                alloc,
+                "capture",
+                FILE,
+                "A pcapng capture of several interfaces; '-' is standard input",
+            )
+            .required(true),
+            Argument::Sent => placed(
+                alloc,
+                "sent",
+                "SENT",
+                "The capture of what was sent; '-' is standard input",
+            )
+            .required(true),
+            Argument::Received => placed(
+                alloc,
+                "received",
+                "RECEIVED",
+                "The capture of what was received; '-' is standard input",
+            )
+            .required(true),
+            Argument::Later => option(
+                alloc,
+                "within",
+                "TIME",
+                "How much later a record may be received: 500us, 10ms, 2s; 1s without it",
+            ),
+            Argument::Shift => option(
+                alloc,
+                "shift",
+                "TIME",
+                "How far RECEIVED's clock is ahead, or behind as in --shift=-2ms; records may then be early, too",
+            ),
         }
     }
 }

@@ -39,6 +39,22 @@ const DIGEST_EXAMPLE: &str =
 const MERGE_EXAMPLE: &str =
     "The parts are those of one run, and all of it. The folder is left what the whole run writes.\nTables and counts are printed as the whole run prints them, where each part was run with the same word.\n\nExamples:\n  tep merge -o whole part1 part2 part3\n  tep merge -o whole --summary part1 part2 part3";
 
+/// What stands below the help of `split`.
+const SPLIT_EXAMPLE: &str =
+    "The file is read once. Each interface's packets, those that FILE#NUMBER takes, are written into ifNUMBER_NAME.pcap,\nand a list is printed: the interface's number, the file, and the interface's name.\n\nExample:\n  tep split -o ports all.pcapng\n  tep run -s settings.toml -u ports/if0_eth0.pcap -o out ports/if1_swp1.pcap ports/if2_swp2.pcap";
+
+/// What stands below the help of `compare`.
+const COMPARE_EXAMPLE: &str =
+    "Captures are pcap or pcapng. FILE#INTERFACE takes one interface of a pcapng capture, by number or name.\nThe exit status is 0 where all is the same, and 1 where it isn't.\n\nExamples:\n  tep compare sent.pcap received.pcap\n  tep compare --within 5ms --shift=-1200ns out/port2.pcap switch.pcapng#eth2";
+
+/// What `compare` takes.
+const COMPARE: [Argument; 4] = [
+    Argument::Sent,
+    Argument::Received,
+    Argument::Later,
+    Argument::Shift,
+];
+
 /// A command of the program.
 #[derive(Clone, Copy)]
 pub enum Subcommand {
@@ -56,16 +72,22 @@ pub enum Subcommand {
     Digest,
     /// Makes the parts of a run the whole run.
     Merge,
+    /// Makes a pcapng capture one capture for each of its interfaces.
+    Split,
+    /// Compares what was sent with what was received.
+    Compare,
 }
 
 /// All of them, in the order of the program's help.
-const SUBCOMMANDS: [Subcommand; 6] = [
+const SUBCOMMANDS: [Subcommand; 8] = [
     Subcommand::Run,
     Subcommand::Check,
     Subcommand::Explain,
     Subcommand::Migrate,
     Subcommand::Digest,
     Subcommand::Merge,
+    Subcommand::Split,
+    Subcommand::Compare,
 ];
 
 /// What `run` takes.
@@ -140,6 +162,8 @@ impl Subcommand {
             Subcommand::Migrate => "migrate",
             Subcommand::Digest => "digest",
             Subcommand::Merge => "merge",
+            Subcommand::Split => "split",
+            Subcommand::Compare => "compare",
         }
     }
 
@@ -163,6 +187,14 @@ impl Subcommand {
                 DIGEST_EXAMPLE,
             ),
             Subcommand::Merge => ("Makes of the parts of a run the whole run", MERGE_EXAMPLE),
+            Subcommand::Split => (
+                "Makes of a pcapng capture one capture for each of its interfaces",
+                SPLIT_EXAMPLE,
+            ),
+            Subcommand::Compare => (
+                "Tells which records that were sent were received",
+                COMPARE_EXAMPLE,
+            ),
         }
     }
 
@@ -178,6 +210,8 @@ impl Subcommand {
             Subcommand::Migrate => &[Argument::Settings],
             Subcommand::Digest => &[Argument::Underlay, Argument::Ports],
             Subcommand::Merge => &MERGE,
+            Subcommand::Split => &[Argument::Out, Argument::SplitCapture],
+            Subcommand::Compare => &COMPARE,
         }
     }
 

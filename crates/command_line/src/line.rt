@@ -90,6 +90,24 @@ pub enum Line<'a> {
         /// Whether the counts are told.
         summary: bool,
     },
+    /// A pcapng capture made one capture for each of its interfaces.
+    Split {
+        /// The folder that outputs are written into.
+        out: &'a str,
+        /// The capture.
+        capture: &'a str,
+    },
+    /// What was sent compared with what was received.
+    Compare {
+        /// The capture of what was sent.
+        sent: &'a str,
+        /// The capture of what was received.
+        received: &'a str,
+        /// How much later a record may be received.
+        within: Option<&'a str>,
+        /// How far the clock of what was received is ahead.
+        shift: Option<&'a str>,
+    },
 }
 
 /// Why there is no line.
@@ -153,7 +171,8 @@ fn input_uses(line: &Line<'_>) -> usize
             ..
         } => inputs_among(&[*underlay]) + inputs_among(ports.as_slice()),
         Line::Check { ports, .. } => inputs_among(ports.as_slice()),
-        Line::Explain { capture, .. } => inputs_among(&[*capture]),
+        Line::Explain { capture, .. } | Line::Split { capture, .. } => inputs_among(&[*capture]),
+        Line::Compare { sent, received, .. } => inputs_among(&[*sent, *received]),
         Line::Sample | Line::Migrate { .. } | Line::Merge { .. } => 0,
     }
 }

@@ -2,7 +2,7 @@
 ghost use Rattle.std.specs.Prelude.{◌≡◌, ◌≤◌, IfOk, IfErr, IfSome, Some, option_and_then, option_map};
 ghost use Rattle.clap.specs.Words.{all_of, first_of, found_of, rows_of, subcommand_rows_of};
 ghost use Rattle.clap.specs.Walk.{texts};
-ghost use Rattle.command_line.specs.Meaning.{HasDepth, LacksValue, check_meant, depth_in, digest_meant, explain_meant, is_set, line_meant, meaning_of, merge_meant, migrate_meant, moment_in, run_meant, small_depth};
+ghost use Rattle.command_line.specs.Meaning.{HasDepth, LacksValue, check_meant, compare_meant, depth_in, digest_meant, explain_meant, is_set, line_meant, meaning_of, merge_meant, migrate_meant, moment_in, run_meant, small_depth, split_meant};
 ghost use Rattle.command_line.specs.declared.line.LineFault.TheVariants.{OutOfMemory};
 
 use crate::line::{Line, LineFault};
@@ -25,6 +25,8 @@ pub(crate) fn line_from<'a>(alloc: Global, matches: &ArgMatches<'a>) -> Result<L
         "migrate" => migrate_from(inner),
         "digest" => digest_from(alloc, inner),
         "merge" => merge_from(alloc, inner),
+        "split" => split_from(inner),
+        "compare" => compare_from(inner),
         _ => Err(LineFault::NoValue),
     }
 }
@@ -192,5 +194,32 @@ fn merge_from<'a>(alloc: Global, inner: &ArgMatches<'a>) -> Result<Line<'a>, Lin
         shards,
         tables,
         summary,
+    })
+}
+
+/// The line that asks for a capture of each interface.
+fn split_from<'a>(inner: &ArgMatches<'a>) -> Result<Line<'a>, LineFault>
+    ensures ok { IfOk result (λ line. split_meant (rows_of (found_of inner.now)) ≡ Some (meaning_of line)) }
+    ensures depth { IfOk result HasDepth }
+    ensures fault { IfErr result (LacksValue (split_meant (rows_of (found_of inner.now)))) }
+{
+    let out = text(inner, "out").ok_or(LineFault::NoValue)?;
+    let capture = text(inner, "capture").ok_or(LineFault::NoValue)?;
+    Ok(Line::Split { out, capture })
+}
+
+/// The line that asks for what was sent to be compared with what was received.
+fn compare_from<'a>(inner: &ArgMatches<'a>) -> Result<Line<'a>, LineFault>
+    ensures ok { IfOk result (λ line. compare_meant (rows_of (found_of inner.now)) ≡ Some (meaning_of line)) }
+    ensures depth { IfOk result HasDepth }
+    ensures fault { IfErr result (LacksValue (compare_meant (rows_of (found_of inner.now)))) }
+{
+    let sent = text(inner, "sent").ok_or(LineFault::NoValue)?;
+    let received = text(inner, "received").ok_or(LineFault::NoValue)?;
+    Ok(Line::Compare {
+        sent,
+        received,
+        within: text(inner, "within"),
+        shift: text(inner, "shift"),
     })
 }

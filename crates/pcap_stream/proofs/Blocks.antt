@@ -1,12 +1,12 @@
 -- A block whose first octets are handed on.
-use Rattle.std.proofs.Common.{◌≡◌, ◌∙◌, sym, ap, ℕ, ◌+◌, ◌-◌, ◌<◌, ◌≤◌, List, [], ◌++◌, take, drop, length, append_assoc, append-nil, arith, length-drop, Option, None, Some, OnErr, Result, Ok, Err, Bool, false}
+use Rattle.std.proofs.Common.{◌≡◌, ◌∙◌, refl, sym, ap, ℕ, ◌+◌, ◌-◌, ◌<◌, ◌≤◌, List, [], ◌++◌, take, drop, length, append_assoc, append-nil, arith, length-drop, Option, None, Some, OnErr, Result, Ok, Err, Bool, false}
 use lib.Seq.{paste}
 use Rattle.std.proofs.Math.Seq.{drop-length}
 use Rattle.std.proofs.lemmas.List.{drop-take, take-append-drop}
 use Rattle.std.proofs.lemmas.List.Edits.{take-paste}
 use Rattle.std.specs.List.{copy_within}
 use Rattle.std.specs.Io.KnownBytes.{Appends, Keeps, append_known}
-use Rattle.pcap_stream.specs.Block.{IsRest}
+use Rattle.pcap_stream.specs.Block.{Block, IsRest, told}
 use Rattle.pcap_stream.specs.Sink.{AppendsPart}
 
 -- what is kept of a block, moved to its front
@@ -46,3 +46,12 @@ pub none_is_rest : {T E : Type 0} (result : Result T E) (may_hold : Bool) (old n
     → OnErr result ((may_hold ≡ false) × IsRest old new)
 none_is_rest (Ok x) may_hold old new full none = tt
 none_is_rest (Err e) may_hold old new full none = (full, (length old, none ∙ sym (drop-length old)))
+
+-- ---- a block that holds nothing
+
+pub told_alone : (b : Block) → b.held ≡ [] → told b ≡ b.written
+told_alone b none = ap (append_known b.written) none ∙ alone b.written
+  where
+    alone : (w : Option (List ℕ)) → append_known w [] ≡ w
+    alone None = refl
+    alone (Some x) = ap Some (append-nil x)

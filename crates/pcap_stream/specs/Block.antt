@@ -4,6 +4,7 @@
 --     must_hand_on      whether something has to go on before so many octets more are written
 --     HoldsBack      what a write leaves in the block, and what went on
 --     HoldsRest      what it leaves there after a fault
+--     StandsOutside      where the block holds nothing, what was written is what the output has
 use Rattle.std.specs.Prelude.{◌≡◌, ◌+◌, ℕ, nat_le, nat_lt, Bool, false, not, ◌&&◌, MatchBool, List, [], ◌++◌, drop, length, Option}
 use Rattle.std.specs.Io.KnownBytes.{Appends, append_known}
 
@@ -43,3 +44,7 @@ IsRest old new = (n : ℕ) × (new ≡ drop n old)
 -- the write had a fault: the block could not hold so many more, and holds a rest of what it held
 abbrev pub HoldsRest : ℕ → Block → Block → Type 0
 HoldsRest more old new = (may_hold old more ≡ false) × IsRest old.held new.held
+
+-- a law: where the block holds nothing, all that was written stands in the output behind it, as if there were no block
+abbrev pub StandsOutside : Type 0
+StandsOutside = (b : Block) → b.held ≡ [] → told b ≡ b.written

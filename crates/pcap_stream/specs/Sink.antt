@@ -1,5 +1,5 @@
 -- A sink of octets, and what its calls make of it. It states no standard.
-use Rattle.std.specs.Prelude.{◌≡◌, ◌<◌, ℕ, Bool, true, false, List, length, take, Option, Result, Ok, Err, IsErr, MatchBool, flat_map}
+use Rattle.std.specs.Prelude.{◌≡◌, ◌<◌, ℕ, Bool, true, false, List, [], length, take, Option, Result, Ok, Err, IsErr, MatchBool, flat_map}
 use Rattle.std.specs.Borrow.{Bor}
 use Rattle.std.specs.Io.KnownBytes.{Appends, Keeps}
 use Rattle.pcap_stream.specs.Counts.{GoesOnBy}
@@ -12,11 +12,13 @@ joined = flat_map (λ part. part.now)
 abbrev pub AppendsPart : Option (List ℕ) → Option (List ℕ) → List ℕ → Type 0
 AppendsPart old new text = (n : ℕ) × (n < length text) × Appends old new (take n text)
 
--- what the output holds, where it tells that, how often it failed or took nothing, and whether the sink gave up
+-- what was written to the output, where it tells that, how often it failed or took nothing, whether the sink gave up, and which of
+-- the octets that were written are held back
 pub record Drain : Type 0 where
   pub written : Option (List ℕ)
   pub failures : ℕ
   pub is_failed : Bool
+  pub held : List ℕ
 
 module _ {T E : Type 0} where
   -- the text was written, or a part of it where the output failed once
@@ -25,9 +27,9 @@ module _ {T E : Type 0} where
   Writes old new text (Err e) =
       (new.is_failed ≡ true) × GoesOnBy 1 old.failures new.failures × AppendsPart old.written new.written text
 
-  -- nothing more was written; where the output failed once, the sink gave up
+  -- nothing more was written, and nothing is held back; where the output failed once, the sink gave up
   abbrev pub HandsOn : Drain → Drain → Result T E → Type 0
-  HandsOn old new (Ok x) = (new.is_failed ≡ false) × (new.failures ≡ old.failures) × Keeps old.written new.written
+  HandsOn old new (Ok x) = (new.is_failed ≡ false) × (new.failures ≡ old.failures) × Keeps old.written new.written × (new.held ≡ [])
   HandsOn old new (Err e) = (new.is_failed ≡ true) × GoesOnBy 1 old.failures new.failures × Keeps old.written new.written
 
   -- and after a fault nothing is handed on any more

@@ -165,3 +165,21 @@ module _ {T : Type 0} where
 
   abbrev pub FillsToTheBound : Stream → Stream → Result T SourceFault → Type 0
   FillsToTheBound old new result = FillsToTheBoundFrom old.standing old new result
+
+-- ---- read ahead
+
+-- another record comes, without a fault
+abbrev pub is_another : Next → Bool
+is_another (Another r rest) = true
+is_another (Ends end) = false
+
+-- whether octets hold what an open source lends next
+abbrev pub holds_from : Standing → List ℕ → Bool
+holds_from New octets = false
+holds_from (Open style last) octets = is_another (next_of style octets)
+holds_from (Ended is_cut) octets = false
+holds_from (Failed fault) octets = false
+
+-- whether those that were read ahead do, so that the next record takes no read
+abbrev pub holds_next : Stream → Bool
+holds_next s = holds_from s.standing s.ahead

@@ -89,6 +89,13 @@ impl<R: Input> ReadAhead<R> {
         &self.room[self.start..self.from]
     }
 
+    /// The octets that are ahead.
+    pub fn ahead(&self) -> &[u8]
+        ensures { result.now ≡ self.now.ahead }
+    {
+        &self.room[self.from..self.to]
+    }
+
     /// How many octets are ahead.
     fn held(&self) -> usize
         ensures { result ≡ length self.now.ahead }
@@ -151,6 +158,8 @@ impl<R: Input> ReadAhead<R> {
         ensures whole { IfOk result (λ n. wanted ≤ n → self.old.input.reads ≤ self.new.input.reads + n) }
         ensures lacks { IfOk result (λ n. wanted ≤ n
             → self.old.input.reads + length self.old.ahead ≤ self.new.input.reads + max wanted (length self.old.ahead)) }
+        ensures there { wanted ≤ length self.old.ahead
+            → (self.new.input ≡ self.old.input) × (self.new.taken ≡ take wanted self.old.ahead) × (self.new.ahead ≡ drop wanted self.old.ahead) }
         ensures behind { wanted ≤ length self.old.ahead → length self.new.ahead + wanted ≡ length self.old.ahead }
         ensures brings { IfOk result (λ n. n + most_in self.new ≤ most_in self.old) }
         ensures most { most_in self.new ≤ most_in self.old }

@@ -188,6 +188,8 @@ impl<W: Output> Output for BlockOutput<W> {
 
     ghost failures = { λ b. b.failures };
 
+    ghost held = { λ b. b.held };
+
     #[inline(always)]
     fn must_hand_on(&self, more: usize) -> bool
         ensures { result ≡ must_hand_on self.now more }

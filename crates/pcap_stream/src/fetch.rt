@@ -1,7 +1,8 @@
 //! The global header and the records of a capture, from an input.
-ghost use Rattle.std.specs.Prelude.{◌≡◌, ◌≤◌, ◌+◌, ℕ, List, IfOk, IsSome, OnErr, length};
+ghost use Rattle.std.specs.Prelude.{◌≡◌, ◌≤◌, ◌+◌, ℕ, List, IfOk, IsSome, OnErr, length, true};
+ghost use Rattle.pcap_io.specs.Next.{next_of};
 ghost use Rattle.pcap_stream.specs.Ahead.{left_of, most_in};
-ghost use Rattle.pcap_stream.specs.Source.{IsShortHeader, IsShortRecord, ReadsHeader, ReadsNext, ReadsWhatLacks, lent};
+ghost use Rattle.pcap_stream.specs.Source.{IsShortHeader, IsShortRecord, ReadsHeader, ReadsNext, ReadsWhatLacks, is_another, lent};
 ghost use Rattle.pcap_stream.specs.State.{IsSound, standing_of};
 ghost use Rattle.pcap_stream.specs.Supply.{GivesUp, IsThrifty, Spends, StopsShort};
 
@@ -50,6 +51,7 @@ pub fn fetch_header<R: Input>(ahead: &mut ReadAhead<R>) -> Result<State, DeviceF
 pub fn fetch<R: Input>(style: Style, ahead: &mut ReadAhead<R>) -> Result<State, DeviceFault>
     ensures next { IfOk result (λ state. ReadsNext style (left_of ahead.old) (left_of ahead.new) (standing_of state ahead.new.taken)) }
     ensures sound { IfOk result (λ state. IsSound state ahead.new.taken) }
+    ensures held { is_another (next_of style ahead.old.ahead) ≡ true → ahead.new.input ≡ ahead.old.input }
     ensures spent { Spends (left_of ahead.old) (left_of ahead.new) }
     ensures thrift { IsThrifty (left_of ahead.old) (left_of ahead.new) }
     ensures below { IsThrifty ahead.old.input ahead.new.input }

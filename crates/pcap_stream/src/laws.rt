@@ -1,4 +1,5 @@
 //! Laws over whole runs.
+ghost use Rattle.pcap_stream.specs.Block.{StandsOutside};
 ghost use Rattle.pcap_stream.specs.InTurn.{LendsAllThatIsThere, LendsWhatIsThere, SpendsTogether, WritesWhatWasPut};
 
 /// The records that a source lends one after another are, in turn, those of its input's octets. Where it lends no more,
@@ -16,4 +17,9 @@ pub fn all_reads_count()
 /// What a sink wrote is the texts that were put, side by side, and after a fault a part of them.
 pub fn all_that_was_put()
     ensures { WritesWhatWasPut }
+{}
+
+/// Where a block holds nothing, all that was written stands in the output behind it, as if there were no block.
+pub fn nothing_held_back()
+    ensures { StandsOutside }
 {}

@@ -2,7 +2,7 @@
 //!
 //! An [`Output`] counts a write that takes none of some octets as a failure, so that a [`WriteFault`] always shows in that
 //! count.
-ghost use Rattle.std.specs.Prelude.{◌≡◌, ◌≤◌, ◌<◌, ◌+◌, ◌++◌, ℕ, List, Option, length, take, IfOk, OnErr, OnOk};
+ghost use Rattle.std.specs.Prelude.{◌≡◌, ◌≤◌, ◌<◌, ◌+◌, [], ◌++◌, ℕ, List, Option, length, take, IfOk, OnErr, OnOk};
 ghost use Rattle.std.specs.Io.{WritesAtMost};
 ghost use Rattle.std.specs.Io.KnownBytes.{Appends, Keeps, WriteAppends};
 ghost use Rattle.pcap_stream.specs.Counts.{CountsRefusals, GoesOnBy};
@@ -20,6 +20,9 @@ pub trait Output {
 
     /// How many writes failed, or took none of some octets: a count that goes round at 2^64.
     ghost failures: { Self → ℕ };
+
+    /// Those of the octets written that are held back: none, where an output doesn't say so.
+    ghost held: { Self → List ℕ } = { λ _. [] };
 
     /// Appends exactly the first n of `octets` at `Ok(n)`. A fault appends none.
     fn write(&mut self, octets: &[u8]) -> Result<usize, DeviceFault>
@@ -59,11 +62,9 @@ pub trait Output {
     /// held back then.
     fn hand_on_held(&mut self) -> Result<(), WriteFault>
         ensures kept { Keeps (written self.old) (written self.new) }
+        ensures all { OnOk result (held self.new ≡ []) }
         ensures quiet { OnOk result (failures self.new ≡ failures self.old) }
-        ensures cause { OnErr result (GoesOnBy 1 (failures self.old) (failures self.new)) }
-    {
-        Ok(())
-    }
+        ensures cause { OnErr result (GoesOnBy 1 (failures self.old) (failures self.new)) };
 
     /// Appends all of `octets`, in as many writes as it takes. A fault comes where a write fails or takes none of some
     /// octets: then a part of them was appended, and not all.
@@ -145,6 +146,11 @@ impl<W: Write> Output for StdOutput<W> {
     ghost written = { λ s. W.contents s.writer };
 
     ghost failures = { λ s. s.failures };
+
+    #[inline]
+    fn hand_on_held(&mut self) -> Result<(), WriteFault> {
+        Ok(())
+    }
 
     fn write(&mut self, octets: &[u8]) -> Result<usize, DeviceFault> {
         match write_again(&mut self.writer, octets) {

@@ -15,7 +15,7 @@ use std::marker::Model;
 /// A capture that is written to an output: little-endian, in nanoseconds, link type Ethernet.
 ///
 /// Once a write has failed, or took none of some octets, each call answers [`WriteFault`] and writes nothing. Contracts
-/// see the octets that the output holds, its count of failures, and whether the sink has given up.
+/// see the octets that were written, its count of failures, whether the sink has given up, and what the output holds back.
 #[derive(Drop)]
 pub struct Sink<W: Output> {
     output: W,
@@ -31,6 +31,7 @@ impl<W: Output> Model for Sink<W> {
       written = W.written s.output;
       failures = W.failures s.output;
       is_failed = s.is_failed;
+      held = W.held s.output;
     } };
 }
 
@@ -41,6 +42,7 @@ impl<W: Output> Sink<W> {
           written = W.written output;
           failures = W.failures output;
           is_failed = false;
+          held = W.held output;
         } }
     {
         Sink {
@@ -94,7 +96,7 @@ impl<W: Output> Sink<W> {
         self.note(written)
     }
 
-    /// Hands on what the output holds back. Nothing more is written.
+    /// Hands on what the output holds back. Nothing more is written, and where it succeeds nothing is held back.
     pub fn hand_on_held(&mut self) -> Result<(), WriteFault>
         ensures { IsHandedOn self.old self.new result }
     {

@@ -1,8 +1,9 @@
 //! The records of a capture, one after another.
-ghost use Rattle.std.specs.Prelude.{◌≡◌, ◌≢◌, ◌≤◌, ◌+◌, ℕ, List, [], IfOk, IfSome, IsSome};
+ghost use Rattle.std.specs.Prelude.{◌≡◌, ◌≢◌, ◌≤◌, ◌+◌, ℕ, List, [], IfOk, IfSome, IsSome, true};
 ghost use Rattle.std.specs.Io.KnownBytes.{prepend_known};
+ghost use Rattle.pcap_io.specs.Next.{next_of};
 ghost use Rattle.pcap_io.specs.Record.{IsWithinLimits};
-ghost use Rattle.pcap_stream.specs.Source.{FillsToTheBound, IsFilled, IsOpened, New, OpensToTheBound, ReadsWhatLacks, answer, below, ends_cut, lent, most_left, style_at};
+ghost use Rattle.pcap_stream.specs.Source.{FillsToTheBound, IsFilled, IsOpened, New, OpensToTheBound, ReadsWhatLacks, answer, below, ends_cut, holds_next, is_another, lent, most_left, style_at};
 ghost use Rattle.pcap_stream.specs.State.{standing_of};
 ghost use Rattle.pcap_stream.specs.Supply.{IsThrifty, Spends, untouched};
 
@@ -10,7 +11,7 @@ use crate::ahead::ReadAhead;
 use crate::fault::SourceFault;
 use crate::fetch::{State, fetch, fetch_header};
 use crate::input::Input;
-use pcap_io::{Record, Style};
+use pcap_io::{RECORD_HEADER_LENGTH, Record, Style, open_record};
 use std::alloc::{AllocError, Global};
 use std::marker::Model;
 
@@ -99,6 +100,7 @@ impl<R: Input> Source<R> {
         ensures below { IsThrifty (below self.old) (below self.new) }
         ensures lacks { ReadsWhatLacks self.old.ahead self.old.supply self.new.supply self.new.standing }
         ensures lends { IsSome (lent self.new.standing) → 16 + most_left self.new ≤ most_left self.old }
+        ensures held { holds_next self.old ≡ true → self.new.supply.calls ≡ self.old.supply.calls }
     {
         let style = match self.state {
             State::Open(style, _) => style,
@@ -130,6 +132,17 @@ impl<R: Input> Source<R> {
                 octets: self.ahead.taken(),
             }),
             _ => None,
+        }
+    }
+
+    /// Whether the next record was read ahead whole: then the next `fill` fetches it and makes no read. Where that would answer
+    /// a fault, it wasn't.
+    pub fn holds_next(&self) -> bool
+        ensures { result ≡ holds_next self.now }
+    {
+        match self.state {
+            State::Open(style, _) => is_another(style, self.ahead.ahead()),
+            _ => false,
         }
     }
 
@@ -170,5 +183,18 @@ fn answer_of(state: State) -> Result<(), SourceFault>
     match state {
         State::Failed(fault) => Err(fault),
         _ => Ok(()),
+    }
+}
+
+/// Whether a whole record without a fault stands in front of a text.
+fn is_another(style: Style, text: &[u8]) -> bool
+    ensures { result ≡ is_another (next_of style text.now) }
+{
+    if text.len() < RECORD_HEADER_LENGTH {
+        return false;
+    }
+    match open_record(style, text) {
+        Ok(header) => header.captured as usize <= text.len() - RECORD_HEADER_LENGTH,
+        Err(_) => false,
     }
 }

@@ -1,3 +1,4 @@
+pub mod Advance
 pub mod BlockTexts
 pub mod Fronts
 pub mod Giving

@@ -18,7 +18,7 @@ use Rattle.pcapng_input.specs.declared.interface.Selection.{Selection}
 use Rattle.pcapng_input.specs.declared.meaning.BlockMeaning.{BlockMeaning}
 use Rattle.pcapng_input.specs.declared.meaning.BlockMeaning.TheVariants.{Nothing}
 
-and_no : (a b : Bool) → (a && b) ≡ false → b ≡ true → a ≡ false
+pub and_no : (a b : Bool) → (a && b) ≡ false → b ≡ true → a ≡ false
 and_no true true is t = absurd cc
 and_no true false is t = absurd cc
 and_no false b is t = refl
@@ -29,7 +29,7 @@ by_kinds s i p n false true c is = absurd cc
 by_kinds s i p n false false true is = absurd cc
 by_kinds s i p n false false false is = refl
 
-other_meaning : (selection : Selection) (interfaces : List Interface) (last : ℕ) (block : Block) → is_read block.kind ≡ false
+pub other_meaning : (selection : Selection) (interfaces : List Interface) (last : ℕ) (block : Block) → is_read block.kind ≡ false
     → block_meaning selection interfaces last block ≡ Ok Nothing
 unfolding block_meaning
 other_meaning selection interfaces last block is =

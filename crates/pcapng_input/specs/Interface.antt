@@ -55,3 +55,7 @@ described_by selection number order body list =
 unfoldable pub described : Selection → ℕ → Order → List ℕ → Result Interface BlockFault
 described selection number order body =
     if nat_lt (length body) 8 then Err ShortBlock else described_by selection number order body (block_options order (drop 8 body))
+
+-- the name that the body of a description tells, in its option `if_name`
+unfoldable pub name_told : Order → List ℕ → Option (List ℕ)
+name_told order body = if nat_lt (length body) 8 then None else option_value 2 (block_options order (drop 8 body)).options

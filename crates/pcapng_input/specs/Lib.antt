@@ -4,6 +4,7 @@ pub mod Block
 pub mod BlockText
 pub mod Classic
 pub mod Context
+pub mod Filled
 pub mod Front
 pub mod Interface
 pub mod Meaning

@@ -48,6 +48,13 @@ head_in block =
     else if block.kind == obsolete_packet then obsolete_head block.order block.body
     else enhanced_head block.order block.body
 
+-- the number of the interface that a packet block names, where it has one
+unfoldable pub interface_named : Block → Option ℕ
+interface_named block =
+    if not (is_of_packet block.kind) then None
+    else if nat_lt (length block.body) (head_size block.kind) then None
+    else Some (head_in block).interface
+
 -- the text behind so many octets of a packet, padded to 32 bits: the block's options
 abbrev pub behind_octets : ℕ → Block → List ℕ
 behind_octets size block = drop (head_size block.kind + padded size) block.body

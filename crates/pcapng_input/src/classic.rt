@@ -29,7 +29,7 @@ pub fn record_head(moment: u64, captured: u32, original: u32) -> [u8; RECORD_HEA
 }
 
 /// Adds a record.
-fn put_packet(out: &mut Vec<u8>, packet: &Record<'_>) -> Result<(), AllocError>
+pub fn put_packet(out: &mut Vec<u8>, packet: &Record<'_>) -> Result<(), AllocError>
     requires { IsWithinLimits packet.now }
     ensures { OnOk result (out.new.items ≡ out.old.items ++ written_record packet.now) }
 {

@@ -5,7 +5,7 @@
 //! `if_tsoffset` that is shorter than its field is ShortBlock, where Wireshark takes the default: moments would be wrong by a
 //! power of ten without a word. Of several options with one code the first counts.
 ghost use Rattle.std.specs.Prelude.{◌≡◌, option_map};
-ghost use Rattle.pcapng_input.specs.Interface.{described, resolution_of, offset_of, selects};
+ghost use Rattle.pcapng_input.specs.Interface.{described, name_told, resolution_of, offset_of, selects};
 
 use crate::fault::BlockFault;
 use crate::number::{number2, number4, number8};
@@ -116,4 +116,15 @@ pub fn described(
         resolution,
         offset,
     })
+}
+
+/// The name that the body of an interface's description tells in its option `if_name`, where it has one.
+#[tactic(auto, unfolding(crate::specs::Interface::name_told))]
+pub fn name_told<'a>(order: Order, body: &'a [u8]) -> Option<&'a [u8]>
+    ensures { option_map (λ name. name.now) result ≡ name_told order body.now }
+{
+    if body.len() < 8 {
+        return None;
+    }
+    value_of(order, &body[8..], NAME)
 }

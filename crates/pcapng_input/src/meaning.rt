@@ -5,7 +5,7 @@
 //! one that is taken, in any section.
 ghost use Rattle.std.specs.Prelude.{◌≡◌, ◌≤◌, length, drop, IfOk, IfSome};
 ghost use Rattle.pcap_io.specs.Record.{IsWithinLimits, last_moment, longest};
-ghost use Rattle.pcapng_input.specs.Meaning.{IsMeantWithinLimits, behind_octets, block_meaning, head_in, head_size, interface_in, is_outbound, packet_in, packet_meaning, record_meaning, section_in};
+ghost use Rattle.pcapng_input.specs.Meaning.{IsMeantWithinLimits, behind_octets, block_meaning, head_in, head_size, interface_in, interface_named, is_outbound, packet_in, packet_meaning, record_meaning, section_in};
 
 use crate::block::{
     Block, INTERFACE_DESCRIPTION, OBSOLETE_PACKET, SECTION_HEADER, SIMPLE_PACKET, is_of_packet,
@@ -169,6 +169,20 @@ fn head_in(block: &Block<'_>) -> PacketHead
         OBSOLETE_PACKET => obsolete_head(block.order, block.body),
         _ => enhanced_head(block.order, block.body),
     }
+}
+
+/// The number of the interface that a packet block names. None: the block holds no packet, or ends before that number.
+#[tactic(auto, unfolding(crate::specs::Meaning::interface_named))]
+pub fn interface_named(block: &Block<'_>) -> Option<u32>
+    ensures { result ≡ interface_named block.now }
+{
+    if !is_of_packet(block.kind) {
+        return None;
+    }
+    if block.body.len() < head_size(block.kind) {
+        return None;
+    }
+    Some(head_in(block).interface)
 }
 
 /// The meaning of a packet block; `last` is the moment of the packet before it.

@@ -14,8 +14,8 @@ status_of (faults.Capture tap fault) = 1
 status_of (faults.Record tap number fault) = 1
 status_of faults.OutOfMemory = 3
 
--- of what the program gives up for: 1 for a text, a capture, a part or digests that are refused or an event that isn't there,
--- 3 for want of memory, a failed read or a failed write
+-- of what the program gives up for: 1 for a text, a capture, a part or digests that are refused, an event that isn't there or
+-- captures that differ, 3 for want of memory, a failed read or a failed write
 abbrev pub failure_status_of : Failure → ℕ
 failure_status_of (failures.Run fault) = status_of fault
 failure_status_of (failures.Pcapng tap fault) = 1
@@ -25,8 +25,14 @@ failure_status_of (failures.WriteFailed output fault) = 3
 failure_status_of (failures.NoEvent name) = 1
 failure_status_of (failures.Segments fault) = 1
 failure_status_of (failures.Within text) = 1
+failure_status_of (failures.Shift text) = 1
 failure_status_of (failures.ReadOnce name) = 1
 failure_status_of (failures.Digests name fault) = 1
 failure_status_of (failures.Shard folder fault) = 1
 failure_status_of (failures.Parting fault) = 1
+failure_status_of (failures.Compared fault) = 1
+failure_status_of (failures.ComparedPcapng side fault) = 1
+failure_status_of failures.Differs = 1
 failure_status_of (failures.Missing number) = 1
+failure_status_of (failures.Split name fault) = 1
+failure_status_of (failures.Unwritten file) = 3

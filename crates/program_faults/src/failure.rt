@@ -7,9 +7,11 @@ ghost use Rattle.program_faults.specs.declared.failure.ShardFailure.TheVariants 
 ghost use Rattle.program_faults.specs.declared.text.TextFault.TheVariants.{OutOfMemory, Read};
 
 use crate::one_line::OneLine;
+use crate::split_failure::{SplitFailure, UnwrittenFile};
 use crate::status::exit_code;
 use crate::system_fault::SystemFault;
 use crate::text::TextFault;
+use capture_compare::{CompareFault, Side};
 use capture_run::RunFault;
 use pcapng_input::PcapngFault;
 use segment_set::ListFault;
@@ -47,6 +49,9 @@ pub enum Failure<'a> {
     /// This text is no time.
     #[error("within: {name} is no time, as 500us, 10ms or 1s are", name = OneLine(*.0))]
     Within(&'a str),
+    /// This text is no time by which a clock is ahead or behind.
+    #[error("shift: {name} is no time, as 500us, 10ms or -1s are", name = OneLine(*.0))]
+    Shift(&'a str),
     /// The capture of this name is standard input or no regular file, and a part that no digests are lent to reads its captures
     /// twice.
     #[error("{name} can be read only once, and without --digests a part reads its captures twice", name = OneLine(*.0))]
@@ -60,9 +65,24 @@ pub enum Failure<'a> {
     /// Parts aren't a whole run.
     #[error("{0}")]
     Parting(PartingFault),
+    /// Two captures couldn't be compared to their ends.
+    #[error("{0}")]
+    Compared(CompareFault),
+    /// A pcapng capture that is compared is refused.
+    #[error("{0}: {1}")]
+    ComparedPcapng(Side, PcapngFault),
+    /// What was received isn't what was sent.
+    #[error("what was received isn't what was sent")]
+    Differs,
     /// Where the event of this number was to come, no part has it, and one has an event of a greater one.
     #[error("missing {0}")]
     Missing(u64),
+    /// The capture of this name isn't split, or not whole.
+    #[error("{name}: {1}", name = OneLine(*.0))]
+    Split(&'a str, SplitFailure),
+    /// A file that a capture is split into couldn't be written.
+    #[error("write {0}")]
+    Unwritten(UnwrittenFile),
 }
 
 /// Why a part has no digests of what it read.
@@ -182,8 +202,8 @@ impl<'a> Failure<'a> {
         Failure::Shard(folder, ShardFailure::Part(fault))
     }
 
-    /// The exit status: 1 for a text, a capture, a part or digests that are refused or an event that isn't there, 3 for want of
-    /// memory, a failed read or a failed write.
+    /// The exit status: 1 for a text, a capture, a part or digests that are refused, an event that isn't there or captures that
+    /// differ, 3 for want of memory, a failed read or a failed write.
     pub fn status(&self) -> u8
         ensures { result ≡ failure_status_of self.now }
     {
@@ -193,12 +213,18 @@ impl<'a> Failure<'a> {
             | Failure::NoEvent(_)
             | Failure::Segments(_)
             | Failure::Within(_)
+            | Failure::Shift(_)
             | Failure::ReadOnce(_)
             | Failure::Digests(..)
             | Failure::Shard(..)
             | Failure::Parting(_)
-            | Failure::Missing(_) => 1,
+            | Failure::Compared(_)
+            | Failure::ComparedPcapng(..)
+            | Failure::Differs
+            | Failure::Missing(_)
+            | Failure::Split(..) => 1,
             Failure::Read(_) | Failure::Write(_) | Failure::WriteFailed(..) => 3,
+            Failure::Unwritten(_) => 3,
         }
     }
 }

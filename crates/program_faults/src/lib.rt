@@ -18,6 +18,7 @@
 mod failure;
 mod one_line;
 mod printed;
+mod split_failure;
 mod status;
 mod system_fault;
 mod text;
@@ -25,6 +26,7 @@ mod text;
 pub use failure::{DigestsFailure, Failure, OutputFile, ShardFailure};
 pub use one_line::OneLine;
 pub use printed::is_lost;
+pub use split_failure::{SplitFailure, UnwrittenFile};
 pub use status::exit_code;
 pub use system_fault::SystemFault;
 pub use text::{TextFault, read_text};

@@ -82,7 +82,7 @@ pub fn selection_of(interface: Option<&str>) -> Selection<'_>
 }
 
 /// Opens the file of a capture of this name, or standard input. Nothing of it is read yet.
-fn open_blocks<'a, R: Files + Input + AllocGlobal>(
+pub fn open_blocks<'a, R: Files + Input + AllocGlobal>(
     rt: &R,
     name: &'a str,
     file: &str,

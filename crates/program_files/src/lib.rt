@@ -32,8 +32,9 @@ pub use failed_outputs::{FailedOutput, FailedOutputs};
 pub use file_causes::{head_of_file, read_fault};
 pub use handed_on::HandedOn;
 pub use inputs::{
-    Blocks, CAPTURE_READS, Capture, ClassicInput, Device, SeenCapture, open_capture, open_captures,
-    open_front, open_named, open_seen, read_file, read_if_given, read_underlay, selection_of,
+    Blocks, CAPTURE_READS, Capture, ClassicInput, Device, SeenCapture, open_blocks, open_capture,
+    open_captures, open_front, open_named, open_seen, read_file, read_if_given, read_underlay,
+    selection_of,
 };
 pub use interface_list::{Described, MOST_INTERFACES, Reach, interfaces_of_file};
 pub use names::{Names, RunInput, file_of, is_read_once, is_regular_file, is_same};

@@ -8,7 +8,7 @@ use crate::inputs;
 use crate::texts::printed;
 use capture_run::{RunFault, run_bytes};
 use dissector::{Values, explain_bytes, sample};
-use pcap_stream::{DeviceFault, Output, Sink, Source, StdInput};
+use pcap_stream::{DeviceFault, Output, Sink, Source, StdInput, WriteFault};
 use std::alloc::{AllocError, Global};
 use std::test::Fail;
 use stream_run::{Captures, Outputs, StreamFault, Unwatched, run_streams};
@@ -60,6 +60,10 @@ impl Output for Counted {
     ghost written = { λ _. None };
 
     ghost failures = { λ _. 0 };
+
+    fn hand_on_held(&mut self) -> Result<(), WriteFault> {
+        Ok(())
+    }
 
     fn write(&mut self, octets: &[u8]) -> Result<usize, DeviceFault> {
         self.octets = self.octets.saturating_add(octets.len());
@@ -137,6 +141,7 @@ pub(crate) fn streamed(alloc: Global, count: u16) -> Result<Answer, Fail> {
     let captures = Captures {
         ports: one(alloc, source(alloc, inputs::capture())?)?,
         underlay: source(alloc, inputs::cut())?,
+        may_wait: false,
     };
     let outputs = Outputs {
         ports: one(alloc, sink())?,

@@ -40,7 +40,7 @@ appended : (old new : Drain) (text : List ℕ) → StandsBetween old new text te
 appended old new text h = subst (λ t. Appends old.written new.written t) (take_all h.size text h.no_less) h.text
 
 no_drain : Drain
-no_drain = record { written = None; failures = 0; is_failed = false }
+no_drain = record { written = None; failures = 0; is_failed = false; held = [] }
 
 pub held_more : (old new : Drains) (held : Held) (texts : Outputs) → StandAt old new texts → AreHandedOn (held_in new) held → HoldMore (held_in old) held texts
 held_more old new held texts h kept =

@@ -78,12 +78,6 @@ fn prepare_outputs<'a, R: Files + Input + AllocGlobal>(
     ensures in_files { IfOk result (λ outputs. AreHeld R.File.contents (written outputs.ports.items outputs.underlay outputs.decisions)) }
 {
     spare_inputs(rt, folder, names)?;
-    // A read of a pipe may wait for whoever writes into it, and what came of an event has to be out by then.
-    let block = if names.are_regular_files(rt) {
-        BLOCK
-    } else {
-        0
-    };
     let opened = open_outputs(rt, folder, is_part, count)?;
     see_headers(rt, names)?;
     // What says of outputs that they are a part's goes before they change.
@@ -92,6 +86,6 @@ fn prepare_outputs<'a, R: Files + Input + AllocGlobal>(
     } else {
         drop_part(rt, folder)?;
     }
-    let outputs = opened.emptied(rt.alloc(), block)?;
+    let outputs = opened.emptied(rt.alloc(), BLOCK)?;
     Ok(outputs)
 }

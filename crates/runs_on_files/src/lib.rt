@@ -22,6 +22,7 @@ mod digests;
 mod headers;
 mod in_folder;
 mod into_outputs;
+mod outbound;
 mod parts;
 mod run_captures;
 mod runs;
@@ -29,6 +30,7 @@ mod texts;
 mod unwritten;
 
 pub use digests::print_digests;
+pub use outbound::Outbound;
 pub use parts::{Ran, run_part, run_unwritten};
 pub use runs::{Done, Scope, run_on_files};
 pub use texts::Texts;

@@ -7,6 +7,7 @@ ghost use Rattle.runs_on_files.specs.Files.{IsRunOnFiles};
 ghost use Rattle.shard_record.specs.Lent.{HaveOctets};
 
 use crate::digests::{lent_digests, take_digests};
+use crate::outbound::Outbound;
 use crate::runs::{Done, Scope, run_on_files};
 use crate::texts::Texts;
 use arrayvec::ArrayVec;
@@ -32,6 +33,8 @@ use timeline::Tap;
 pub struct Ran<F: Drop> {
     /// The captures of which the rest is cut and is told. Of a part they stand in the one that has what comes to no segment.
     pub cut: Vec<Tap>,
+    /// What the captures tell as outbound, which was left out.
+    pub outbound: Vec<Outbound>,
     /// The empty file in which a part is to say what it was made from.
     shard: Option<F>,
     /// What it was made from.
@@ -40,19 +43,19 @@ pub struct Ran<F: Drop> {
 
 impl<F: Write + Drop> Ran<F> {
     /// A whole run.
-    pub fn whole(alloc: Global, cut: Vec<Tap>) -> Ran<F> {
+    pub fn whole(alloc: Global, cut: Vec<Tap>, outbound: Vec<Outbound>) -> Ran<F> {
         Ran {
             cut,
+            outbound,
             shard: None,
             record: Vec::new(alloc),
         }
     }
 
-    /// Writes what a part was made from. No merge takes a part before.
-    pub fn finish(self) -> Result<(), Failure<'static>> {
-        let Ran { shard, record, .. } = self;
-        match shard {
-            Some(file) => write_shard(file, record.as_slice()),
+    /// Writes what a part was made from, once. No merge takes a part before.
+    pub fn finish(&mut self) -> Result<(), Failure<'static>> {
+        match self.shard.take() {
+            Some(file) => write_shard(file, self.record.as_slice()),
             None => Ok(()),
         }
     }
@@ -91,6 +94,7 @@ pub fn run_part<'a, R: Files + Input + AllocGlobal, S: Sieve, T: Watch>(
     };
     let Done {
         cut,
+        outbound,
         ports,
         underlay,
         shard,
@@ -125,7 +129,12 @@ pub fn run_part<'a, R: Files + Input + AllocGlobal, S: Sieve, T: Watch>(
         None => (None, Vec::new(rt.alloc())),
     };
     let cut = cut_told(rt.alloc(), cut, segments);
-    Ok(Ran { cut, shard, record })
+    Ok(Ran {
+        cut,
+        outbound,
+        shard,
+        record,
+    })
 }
 
 /// What the decision lines tell together that a part wrote into this folder.
@@ -135,8 +144,15 @@ fn lines_written<R: Files + AllocGlobal>(
 ) -> Result<PartLines, Failure<'static>> {
     match count_lines(rt, folder) {
         Ok(lines) => Ok(lines),
-        Err(Failure::Run(fault)) => Err(Failure::Run(fault)),
-        Err(_) => Err(Failure::Write(OutputFile::Decisions)),
+        Err(failure) => Err(lines_unread(&failure)),
+    }
+}
+
+/// The fault of a part whose own lines can't be read for this: memory was refused, or else they weren't written.
+fn lines_unread(failure: &Failure<'_>) -> Failure<'static> {
+    match failure {
+        Failure::Run(RunFault::OutOfMemory) => Failure::Run(RunFault::OutOfMemory),
+        _ => Failure::Write(OutputFile::Decisions),
     }
 }
 
@@ -187,7 +203,10 @@ pub fn run_unwritten<'a, R: Files + Input + AllocGlobal, S: Sieve, T: Watch>(
         watch,
         &mut none,
     ) {
-        Ok(done) => Ok(Ran::whole(rt.alloc(), cut_told(rt.alloc(), done.cut, segments))),
+        Ok(done) => {
+            let cut = cut_told(rt.alloc(), done.cut, segments);
+            Ok(Ran::whole(rt.alloc(), cut, done.outbound))
+        }
         Err(failure) => Err(failure),
     }
 }

@@ -9,6 +9,7 @@ ghost use Rattle.runs_on_files.specs.declared.runs.Scope.TheVariants.{Whole};
 ghost use Rattle.stream_run.specs.Begun.{IsUnread};
 
 use crate::in_folder::run_in_folder;
+use crate::outbound::{Outbound, outbound_of};
 use crate::run_captures::{RunCaptures, cut_taps, failure_of, octets_read};
 use crate::texts::Texts;
 use crate::unwritten::run_into_nothing;
@@ -47,6 +48,8 @@ impl Scope<'_> {
 pub struct Done<F: Drop> {
     /// The captures of which the rest is cut, ports rising and the underlay last.
     pub cut: Vec<Tap>,
+    /// What they tell as outbound, which was left out.
+    pub outbound: Vec<Outbound>,
     /// How many octets the captures of the ports had, as classic pcap.
     pub ports: Vec<u64>,
     /// And how many that of the underlay.
@@ -89,7 +92,12 @@ pub fn run_on_files<'a, R: Files + Input + AllocGlobal, S: Sieve, T: Watch>(
         Ok(ports) => ports,
         Err(failure) => return Err(failure),
     };
-    let captures = Captures { ports, underlay };
+    // A read of a pipe may wait for whoever writes into it, and what came of the events so far has to be out by then.
+    let captures = Captures {
+        ports,
+        underlay,
+        may_wait: !names.are_regular_files(rt),
+    };
     run_on_opened(
         rt, names, texts, told, folder, scope, captures, sieve, watch, failed,
     )
@@ -262,9 +270,11 @@ fn done_on<F: Read + Drop, I: Read + Drop>(
     shard: Option<ShardFile<F>>,
 ) -> Result<Done<F>, AllocError> {
     let cut = cut_taps(alloc, captures)?;
+    let outbound = outbound_of(alloc, captures)?;
     let counts = octets_read(alloc, captures.ports.as_slice())?;
     Ok(Done {
         cut,
+        outbound,
         ports: counts,
         underlay: captures.underlay.input().octets(),
         shard,

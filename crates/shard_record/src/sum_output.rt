@@ -9,7 +9,7 @@ ghost use Rattle.octet_sum.specs.Sums.{IsSumOf};
 ghost use Rattle.shard_record.specs.Sum.{taken};
 
 use octet_sum::OctetSum;
-use pcap_stream::{DeviceFault, Output};
+use pcap_stream::{DeviceFault, Output, WriteFault};
 
 /// An output that hands octets on to another, and may sum those that the other took.
 #[derive(Drop)]
@@ -60,6 +60,12 @@ impl<W: Output> Output for SumOutput<W> {
     ghost written = { λ s. W.written s.output };
 
     ghost failures = { λ s. W.failures s.output };
+
+    ghost held = { λ s. W.held s.output };
+
+    fn hand_on_held(&mut self) -> Result<(), WriteFault> {
+        self.output.hand_on_held()
+    }
 
     fn write(&mut self, octets: &[u8]) -> Result<usize, DeviceFault>
         ensures bound { WritesAtMost result octets.now }

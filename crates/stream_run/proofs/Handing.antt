@@ -88,8 +88,8 @@ module _ {T E : Type 0} where
 -- ---- the outputs of a run
 
 module _ (T E : Type 0) (start : Drains) (o : Outputs) where
-  module _ (sinks : List Drain) (underlay : Drain) (written : Option (List ℕ)) (failures : ℕ) (i : ℕ) (d new : Drain) (there : i < length sinks) (at : StandAt start (drains sinks underlay written failures) o) where
-    pub port_handed : (x : T) → IsHandedOn {T = T} {E = E} (slice_index_or sinks i d) new (Ok x) → StandAt start (drains (slice_set sinks i new) underlay written failures) o
+  module _ (sinks : List Drain) (underlay : Drain) (written : Option (List ℕ)) (failures : ℕ) (held : List ℕ) (i : ℕ) (d new : Drain) (there : i < length sinks) (at : StandAt start (drains sinks underlay written failures held) o) where
+    pub port_handed : (x : T) → IsHandedOn {T = T} {E = E} (slice_index_or sinks i d) new (Ok x) → StandAt start (drains (slice_set sinks i new) underlay written failures held) o
     port_handed x handed =
         let put = ports_handed {T = T} {E = E} start.ports sinks i d new o.ports (Ok x) there handed at.between.ports at.well.ports in
         record {
@@ -98,7 +98,7 @@ module _ (T E : Type 0) (start : Drains) (o : Outputs) where
         }
 
     pub port_held : (e : E) → IsHandedOn {T = T} {E = E} (slice_index_or sinks i d) new (Err e)
-        → StandBetween start (drains (slice_set sinks i new) underlay written failures) o o × FailedAt (targets.Port (i + 1)) start (drains (slice_set sinks i new) underlay written failures)
+        → StandBetween start (drains (slice_set sinks i new) underlay written failures held) o o × FailedAt (targets.Port (i + 1)) start (drains (slice_set sinks i new) underlay written failures held)
     port_held e handed =
         let put = ports_handed {T = T} {E = E} start.ports sinks i d new o.ports (Err e) there handed at.between.ports at.well.ports in
         let index : i + 1 - 1 ≡ i = omega arith in (
@@ -106,8 +106,8 @@ module _ (T E : Type 0) (start : Drains) (o : Outputs) where
           λ d. (omega arith, omega (arith, there, at.between.ports.many), rw index (put.1 d)),
         )
 
-  module _ (ports : List Drain) (underlay new : Drain) (written : Option (List ℕ)) (failures : ℕ) (at : StandAt start (drains ports underlay written failures) o) where
-    pub underlay_handed : (x : T) → IsHandedOn {T = T} {E = E} underlay new (Ok x) → StandAt start (drains ports new written failures) o
+  module _ (ports : List Drain) (underlay new : Drain) (written : Option (List ℕ)) (failures : ℕ) (held : List ℕ) (at : StandAt start (drains ports underlay written failures held) o) where
+    pub underlay_handed : (x : T) → IsHandedOn {T = T} {E = E} underlay new (Ok x) → StandAt start (drains ports new written failures held) o
     underlay_handed x handed =
         let put = sink_handed {T = T} {E = E} start.underlay underlay new o.underlay (Ok x) at.between.underlay at.well.underlay handed in
         record {
@@ -115,20 +115,20 @@ module _ (T E : Type 0) (start : Drains) (o : Outputs) where
           well = record { ports = at.well.ports; underlay = put.1; decisions = at.well.decisions };
         }
 
-    pub underlay_held : (e : E) → IsHandedOn {T = T} {E = E} underlay new (Err e) → StandBetween start (drains ports new written failures) o o × FailedAt targets.Underlay start (drains ports new written failures)
+    pub underlay_held : (e : E) → IsHandedOn {T = T} {E = E} underlay new (Err e) → StandBetween start (drains ports new written failures held) o o × FailedAt targets.Underlay start (drains ports new written failures held)
     underlay_held e handed =
         let put = sink_handed {T = T} {E = E} start.underlay underlay new o.underlay (Err e) at.between.underlay at.well.underlay handed in
         (record { ports = at.between.ports; underlay = put.0; decisions = at.between.decisions; order = inl at.between.decisions }, put.1)
 
 module _ (start : Drains) (o : Outputs) where
-  module _ (ports : List Drain) (underlay : Drain) (written now : Option (List ℕ)) (failures count : ℕ) (at : StandAt start (drains ports underlay written failures) o) (kept : Keeps written now) where
+  module _ (ports : List Drain) (underlay : Drain) (written now : Option (List ℕ)) (failures count : ℕ) (held held_now : List ℕ) (at : StandAt start (drains ports underlay written failures held) o) (kept : Keeps written now) where
     abbrev lines_before : Drain
-    lines_before = record { written = written; failures = failures; is_failed = false }
+    lines_before = record { written = written; failures = failures; is_failed = false; held = held }
 
     abbrev lines_behind : Drain
-    lines_behind = record { written = now; failures = count; is_failed = false }
+    lines_behind = record { written = now; failures = count; is_failed = false; held = held_now }
 
-    pub lines_handed : count ≡ failures → StandAt start (drains ports underlay now count) o
+    pub lines_handed : count ≡ failures → StandAt start (drains ports underlay now count held_now) o
     lines_handed quiet =
         let stands = stands_kept start.decisions lines_before lines_behind o.decisions at.between.decisions kept in
         record {
@@ -136,7 +136,7 @@ module _ (start : Drains) (o : Outputs) where
           well = record { ports = at.well.ports; underlay = at.well.underlay; decisions = ap (λ (n : ℕ). (n, false)) quiet ∙ at.well.decisions };
         }
 
-    pub lines_held : GoesOnBy 1 failures count → StandBetween start (drains ports underlay now count) o o × FailedAt targets.Decisions start (drains ports underlay now count)
+    pub lines_held : GoesOnBy 1 failures count → StandBetween start (drains ports underlay now count held_now) o o × FailedAt targets.Decisions start (drains ports underlay now count held_now)
     lines_held cause =
         let stands = stands_kept start.decisions lines_before lines_behind o.decisions at.between.decisions kept in
         (record { ports = at.between.ports; underlay = at.between.underlay; decisions = stands; order = inl stands }, fails_on start.decisions lines_before lines_behind at.well.decisions cause)

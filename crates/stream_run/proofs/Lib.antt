@@ -24,3 +24,4 @@ mod Framing
 mod Refusing
 mod Showing
 mod Taking
+mod Waiting

@@ -18,3 +18,4 @@ pub mod Reached
 pub mod Watched
 pub mod Done
 pub mod Upcoming
+pub mod Waiting

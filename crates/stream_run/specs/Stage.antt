@@ -69,11 +69,11 @@ pub record Drains : Type 0 where
   pub decisions : Drain
 
 -- the output of the lines is no sink, so it gives up at no time
-abbrev pub drains : List Drain → Drain → Option (List ℕ) → ℕ → Drains
-drains ports underlay written failures = record {
+abbrev pub drains : List Drain → Drain → Option (List ℕ) → ℕ → List ℕ → Drains
+drains ports underlay written failures held = record {
   ports = ports;
   underlay = underlay;
-  decisions = record { written = written; failures = failures; is_failed = false };
+  decisions = record { written = written; failures = failures; is_failed = false; held = held };
 }
 
 -- an output holds more than before the front of a text, which is no shorter than another

@@ -1,5 +1,5 @@
 //! How a run over streams begins: with the headers of its outputs, and the first record of each capture.
-ghost use Rattle.std.specs.Prelude.{◌≡◌, ◌≤◌, ◌<◌, ◌+◌, ◌++◌, ◌^◌, ℕ, List, [], length, slice_index_or, slice_set, IfOk, OnOk};
+ghost use Rattle.std.specs.Prelude.{◌≡◌, ◌≤◌, ◌<◌, ◌+◌, ◌++◌, ◌^◌, ℕ, List, [], length, slice_index_or, slice_set, true, IfOk, OnOk};
 ghost use Rattle.timeline.specs.declared.source.Tap.{Tap as ATap};
 ghost use Rattle.endpoint_core.specs.Step.{State};
 ghost use Rattle.pcap_io.specs.Written.{written_header};
@@ -11,10 +11,12 @@ ghost use Rattle.stream_run.specs.Over.{BeginsIn};
 ghost use Rattle.stream_run.specs.Read.{ReadsWith};
 ghost use Rattle.stream_run.specs.Stage.{Drains, Lead, StandAt, no_texts};
 ghost use Rattle.stream_run.specs.Steps.{AreReady, AreTimely, IsAt, run_at, source_at};
+ghost use Rattle.stream_run.specs.Waiting.{AllOut};
 
 use crate::captures::Captures;
 use crate::fault::{StreamFault, Target, fault_at};
 use crate::fetch::{fetch_at, moment_of, tap_at};
+use crate::hand_on::hand_on_all;
 use crate::outputs::Outputs;
 use crate::turn::{Turn, Upcoming};
 use overlay_config::TimedChange;
@@ -46,7 +48,7 @@ fn begin_underlay<W: Output>(outputs: &mut Outputs<W>) -> Result<(), Target>
 }
 
 /// Writes the headers of the ports' captures, rising, and then that of the underlay's.
-pub fn begin_all<W: Output>(outputs: &mut Outputs<W>) -> Result<(), Target>
+fn put_headers<W: Output>(outputs: &mut Outputs<W>) -> Result<(), Target>
     requires { length outputs.old.ports ≤ 16 }
     ensures { (start : Drains) → StandAt start outputs.old (no_texts (length outputs.old.ports))
         → Lead start outputs.new (no_texts (length outputs.old.ports)) (empty_outputs (length outputs.old.ports)) result }
@@ -57,6 +59,22 @@ pub fn begin_all<W: Output>(outputs: &mut Outputs<W>) -> Result<(), Target>
         }
     }
     begin_underlay(outputs)
+}
+
+/// The same, and hands them on where the reads behind may wait.
+pub fn begin_all<W: Output>(outputs: &mut Outputs<W>, may_wait: bool) -> Result<(), Target>
+    requires { length outputs.old.ports ≤ 16 }
+    ensures begun { (start : Drains) → StandAt start outputs.old (no_texts (length outputs.old.ports))
+        → Lead start outputs.new (no_texts (length outputs.old.ports)) (empty_outputs (length outputs.old.ports)) result }
+    ensures out { OnOk result (may_wait ≡ true → AllOut outputs.new) }
+{
+    if let Err(target) = put_headers(outputs) {
+        return Err(target);
+    }
+    if may_wait {
+        return hand_on_all(outputs);
+    }
+    Ok(())
 }
 
 /// Where the changes and so many captures stand before the first fetch.
@@ -79,14 +97,17 @@ pub fn first_turns(
 }
 
 /// Fetches the first record of each port's capture, rising, and then of the underlay's.
-pub fn fetch_all<R: Input>(
+pub fn fetch_all<R: Input, W: Output>(
     changes: &[TimedChange],
     captures: &mut Captures<R>,
+    outputs: &Outputs<W>,
     turns: &mut [Turn],
 ) -> Result<(), StreamFault>
     requires few { length captures.old.ports.items ≤ 16 }
     requires size { length turns.old ≡ length captures.old.ports.items + 2 }
     requires open { (place : ATap) (index : ℕ) → IsAt (length captures.old.ports.items) index place → IsOpen (source_at captures.old.ports.items captures.old.underlay place).standing }
+    requires out { captures.old.may_wait ≡ true → AllOut outputs.now }
+    ensures may_wait { captures.new.may_wait ≡ captures.old.may_wait }
     ensures ready { (state : State) (d : Drains) → state.moment ≡ 0 → AreReady changes.now 0 (run_at captures.old.ports.items captures.old.underlay turns.old state 0 d)
         → OnOk result (AreReady changes.now 0 (run_at captures.new.ports.items captures.new.underlay turns.new state 0 d)) }
     ensures told { (texts : List (List ℕ)) (text : List ℕ) → AreAtFirst texts text captures.old.ports.items captures.old.underlay → BeginsIn texts text turns.new captures.new.ports.items captures.new.underlay result }
@@ -96,7 +117,7 @@ pub fn fetch_all<R: Input>(
 {
     for index in 1..turns.len() {
         let mut next = None;
-        if let Err(fault) = fetch_at(changes, captures, index, 0, 0, &mut next) {
+        if let Err(fault) = fetch_at(changes, captures, outputs, index, 0, 0, &mut next) {
             return Err(fault_at(tap_at(turns.len() - 2, index), 1, fault));
         }
         turns[index] = Turn {

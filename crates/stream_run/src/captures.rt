@@ -6,4 +6,7 @@ use pcap_stream::{Input, Source};
 pub struct Captures<R: Input> {
     pub ports: Vec<Source<R>>,
     pub underlay: Source<R>,
+    /// Whether a read may wait: of regular files none does. Then all that was written goes out before a record is read that
+    /// wasn't read ahead.
+    pub may_wait: bool,
 }

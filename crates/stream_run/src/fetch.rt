@@ -1,12 +1,15 @@
 //! The next record of a source.
-ghost use Rattle.std.specs.Prelude.{◌≡◌, ◌≢◌, ◌≤◌, ◌+◌, ℕ, length};
+ghost use Rattle.std.specs.Prelude.{◌≡◌, ◌≢◌, ◌≤◌, ◌+◌, ℕ, false, length, not};
+ghost use Rattle.pcap_stream.specs.Source.{holds_next};
 ghost use Rattle.timeline.specs.declared.source.Tap.{Tap as ATap};
 ghost use Rattle.stream_run.specs.Fetched.{IsFetch, IsOpen, fetched};
 ghost use Rattle.stream_run.specs.Steps.{FetchesFrom, IsAt, moment_at, source_at};
+ghost use Rattle.stream_run.specs.Waiting.{IsOutBefore};
 
 use crate::captures::Captures;
+use crate::outputs::Outputs;
 use overlay_config::TimedChange;
-use pcap_stream::{Input, Source, SourceFault};
+use pcap_stream::{Input, Output, Source, SourceFault};
 use timeline::Tap;
 
 /// Fetches the next record of a capture, the latest of those that came at this moment, and sets when it comes, if there is one.
@@ -41,10 +44,12 @@ pub fn moment_of(changes: &[TimedChange], index: u64) -> Option<u64>
 }
 
 /// Asks the source with this index, of which so many events came, for what comes next, and sets when, if there is more: the
-/// changes, the ports, the underlay. The changes never fail.
-pub fn fetch_at<R: Input>(
+/// changes, the ports, the underlay. The changes never fail. Where that takes a read which may wait, the outputs hold nothing
+/// back.
+pub fn fetch_at<R: Input, W: Output>(
     changes: &[TimedChange],
     captures: &mut Captures<R>,
+    _outputs: &Outputs<W>,
     index: usize,
     done: u64,
     latest: u64,
@@ -53,8 +58,10 @@ pub fn fetch_at<R: Input>(
     requires index { index ≤ length captures.old.ports.items + 1 }
     requires few { length captures.old.ports.items ≤ 16 }
     requires open { (place : ATap) → IsAt (length captures.old.ports.items) index place → IsOpen (source_at captures.old.ports.items captures.old.underlay place).standing }
+    requires out { IsOutBefore captures.old.may_wait captures.old.ports.items captures.old.underlay index _outputs.now }
     ensures fetched { FetchesFrom changes.now index done latest captures.old.ports.items captures.old.underlay captures.new.ports.items captures.new.underlay next.new result }
     ensures many { length captures.new.ports.items ≡ length captures.old.ports.items }
+    ensures may_wait { captures.new.may_wait ≡ captures.old.may_wait }
 {
     if index == 0 {
         *next = moment_of(changes, done);
@@ -64,6 +71,23 @@ pub fn fetch_at<R: Input>(
         return fetch(&mut captures.ports[index - 1], latest, next);
     }
     fetch(&mut captures.underlay, latest, next)
+}
+
+/// Whether the source with this index has to make a read for what comes next: a capture whose next record wasn't read ahead.
+#[cold]
+#[inline(never)]
+pub fn takes_read<R: Input>(captures: &Captures<R>, index: usize) -> bool
+    requires index { index ≤ length captures.now.ports.items + 1 }
+    ensures change { index ≡ 0 → result ≡ false }
+    ensures capture { (place : ATap) → IsAt (length captures.now.ports.items) index place → result ≡ not (holds_next (source_at captures.now.ports.items captures.now.underlay place)) }
+{
+    if index == 0 {
+        return false;
+    }
+    if index <= captures.ports.len() {
+        return !captures.ports[index - 1].holds_next();
+    }
+    !captures.underlay.holds_next()
 }
 
 /// Where the source with this index stands, behind the changes: one of so many ports, or the underlay.

@@ -5,18 +5,26 @@
 //! are handed on, the captures' first, behind the event that was taken. So a run that is killed, or a full disk, leaves no line
 //! without its records. It costs one comparison an event. A capture whose own block is full goes on alone, since records
 //! without their line harm nobody.
-ghost use Rattle.std.specs.Prelude.{◌≡◌, ◌≤◌, ◌<◌, ◌+◌, ◌^◌, IsSome, Some, length};
+//!
+//! Where a read may wait, all blocks go on before each: behind an event whose source's next record wasn't read ahead whole. So
+//! whenever a run waits, everything that was decided stands outside, and a pipe that runs full costs this once for each 64 KiB.
+//! Where events may be left out, all goes on behind each that is taken in, since behind one that is left out a write that fails
+//! could not be told as its own.
+ghost use Rattle.std.specs.Prelude.{◌≡◌, ◌≢◌, ◌≤◌, ◌<◌, ◌+◌, ◌^◌, ℕ, [], false, IsSome, OnOk, Some, length, slice_index_or};
 ghost use Rattle.pcap_io.specs.Record.{last_moment};
+ghost use Rattle.pcap_stream.specs.Sink.{Drain};
 ghost use Rattle.pcap_stream.specs.Source.{lent};
 ghost use Rattle.timeline.specs.declared.source.Tap.{Tap as ATap};
 ghost use Rattle.endpoint_core.specs.Kept.{state_of};
 ghost use Rattle.capture_run.specs.Outputs.{Outputs as Texts};
 ghost use Rattle.stream_run.specs.Stage.{Drains, Lead, StandAt};
 ghost use Rattle.stream_run.specs.Steps.{IsAt, moment_at, source_at};
+ghost use Rattle.stream_run.specs.Waiting.{AllOut, IsOutBefore, IsOutOrAll, PortsOut};
 ghost use Rattle.stream_run.specs.Watched.{IsWatchedTake};
 
 use crate::captures::Captures;
 use crate::fault::Target;
+use crate::fetch::takes_read;
 use crate::outputs::Outputs;
 use crate::part::{Next, Part, Taker};
 use crate::take::take_at;
@@ -35,6 +43,8 @@ fn hand_on_port<W: Output>(outputs: &mut Outputs<W>, index: usize) -> Result<(),
     requires few { index < 16 }
     ensures handed { (start : Drains) (o : Texts) → StandAt start outputs.old o → Lead start outputs.new o o result }
     ensures many { length outputs.new.ports ≡ length outputs.old.ports }
+    ensures out { OnOk result ((x : Drain) → (slice_index_or outputs.new.ports index x).held ≡ []) }
+    ensures others { (x : Drain) (k : ℕ) → k ≢ index → slice_index_or outputs.new.ports k x ≡ slice_index_or outputs.old.ports k x }
 {
     if let Err(_) = outputs.ports[index].hand_on_held() {
         return Err(Target::Port(index as u8 + 1));
@@ -44,7 +54,8 @@ fn hand_on_port<W: Output>(outputs: &mut Outputs<W>, index: usize) -> Result<(),
 
 /// Hands on what the captures of the ports hold back.
 fn hand_on_ports<W: Output>(outputs: &mut Outputs<W>) -> Result<(), Target>
-    ensures { (start : Drains) (o : Texts) → StandAt start outputs.old o → Lead start outputs.new o o result }
+    ensures out { OnOk result (PortsOut outputs.new.ports) }
+    ensures handed { (start : Drains) (o : Texts) → StandAt start outputs.old o → Lead start outputs.new o o result }
 {
     for index in 0..outputs.ports.len().min(MOST_PORTS) {
         if let Err(target) = hand_on_port(outputs, index) {
@@ -56,7 +67,9 @@ fn hand_on_ports<W: Output>(outputs: &mut Outputs<W>) -> Result<(), Target>
 
 /// Hands on what the capture of the underlay holds back.
 fn hand_on_underlay<W: Output>(outputs: &mut Outputs<W>) -> Result<(), Target>
-    ensures { (start : Drains) (o : Texts) → StandAt start outputs.old o → Lead start outputs.new o o result }
+    ensures out { OnOk result (outputs.new.underlay.held ≡ []) }
+    ensures ports { outputs.new.ports ≡ outputs.old.ports }
+    ensures handed { (start : Drains) (o : Texts) → StandAt start outputs.old o → Lead start outputs.new o o result }
 {
     if let Err(_) = outputs.underlay.hand_on_held() {
         return Err(Target::Underlay);
@@ -64,9 +77,14 @@ fn hand_on_underlay<W: Output>(outputs: &mut Outputs<W>) -> Result<(), Target>
     Ok(())
 }
 
-/// Hands on the lines that are held back.
+/// Hands on the lines that are held back, where the captures hold nothing back.
 fn hand_on_lines<W: Output>(outputs: &mut Outputs<W>) -> Result<(), Target>
-    ensures { (start : Drains) (o : Texts) → StandAt start outputs.old o → Lead start outputs.new o o result }
+    requires ports { PortsOut outputs.old.ports }
+    requires underlay { outputs.old.underlay.held ≡ [] }
+    ensures out { OnOk result (outputs.new.decisions.held ≡ []) }
+    ensures ports { outputs.new.ports ≡ outputs.old.ports }
+    ensures underlay { outputs.new.underlay ≡ outputs.old.underlay }
+    ensures handed { (start : Drains) (o : Texts) → StandAt start outputs.old o → Lead start outputs.new o o result }
 {
     if let Err(_) = outputs.decisions.hand_on_held() {
         return Err(Target::Decisions);
@@ -75,8 +93,9 @@ fn hand_on_lines<W: Output>(outputs: &mut Outputs<W>) -> Result<(), Target>
 }
 
 /// Hands on what the outputs hold back: the captures of the ports, rising, that of the underlay, and then the lines.
-fn hand_on_all<W: Output>(outputs: &mut Outputs<W>) -> Result<(), Target>
-    ensures { (start : Drains) (o : Texts) → StandAt start outputs.old o → Lead start outputs.new o o result }
+pub fn hand_on_all<W: Output>(outputs: &mut Outputs<W>) -> Result<(), Target>
+    ensures out { OnOk result (AllOut outputs.new) }
+    ensures handed { (start : Drains) (o : Texts) → StandAt start outputs.old o → Lead start outputs.new o o result }
 {
     if let Err(target) = hand_on_ports(outputs) {
         return Err(target);
@@ -87,14 +106,40 @@ fn hand_on_all<W: Output>(outputs: &mut Outputs<W>) -> Result<(), Target>
     hand_on_lines(outputs)
 }
 
-/// Takes the next event as [`take_at`] does. Where the next line might find no room beside those that are held back, all that is
-/// held back is handed on.
+/// Whether all that is held back goes on behind an event of the source with this index: where the next line might find no room
+/// beside those that are held back, or where a read may wait, as far as the next record takes one or events may be left out.
+#[inline(always)]
+fn has_to_hand_on<R: Input, W: Output>(
+    captures: &Captures<R>,
+    outputs: &Outputs<W>,
+    index: usize,
+    takes_all: bool,
+) -> bool
+    requires index { index ≤ length captures.now.ports.items + 1 }
+    ensures before { result ≡ false → IsOutBefore captures.now.may_wait captures.now.ports.items captures.now.underlay index outputs.now }
+    ensures behind { result ≡ false → IsOutOrAll takes_all captures.now.may_wait outputs.now }
+{
+    if outputs.decisions.must_hand_on(MOST_OF_A_LINE) {
+        return true;
+    }
+    if !captures.may_wait {
+        return false;
+    }
+    if !takes_all {
+        return true;
+    }
+    takes_read(captures, index)
+}
+
+/// Takes the next event as [`take_at`] does, and hands on what is held back where it has to go on.
+#[inline(always)]
 pub fn take_and_hand_on<R: Input, W: Output, T: Watch>(
     part: &Part,
     captures: &Captures<R>,
     outputs: &mut Outputs<W>,
     taker: &mut Taker,
     next: Next,
+    takes_all: bool,
     watch: &mut T,
 ) -> Result<(), Target>
     requires time { (state_of taker.old.endpoint).moment ≤ next.moment }
@@ -108,11 +153,13 @@ pub fn take_and_hand_on<R: Input, W: Output, T: Watch>(
     ensures taken { IsWatchedTake part.now.segments.now T.sees part.now.changes.now captures.now.ports.items captures.now.underlay next.index next.done next.moment taker.old.desk.number (state_of taker.old.endpoint) (state_of taker.new.endpoint)
         outputs.old outputs.new watch.old watch.new result }
     ensures number { taker.new.desk.number ≡ taker.old.desk.number }
+    ensures before { OnOk result (IsOutBefore captures.now.may_wait captures.now.ports.items captures.now.underlay next.index outputs.new) }
+    ensures behind { OnOk result (IsOutOrAll takes_all captures.now.may_wait outputs.new) }
 {
     if let Err(target) = take_at(part, captures, outputs, taker, next, watch) {
         return Err(target);
     }
-    if outputs.decisions.must_hand_on(MOST_OF_A_LINE) {
+    if has_to_hand_on(captures, outputs, next.index, takes_all) {
         return hand_on_all(outputs);
     }
     Ok(())

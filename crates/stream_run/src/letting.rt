@@ -1,11 +1,12 @@
 //! The next event, as a sieve takes it in or leaves it out.
-ghost use Rattle.std.specs.Prelude.{◌≡◌, ◌≤◌, ◌<◌, ◌+◌, ◌^◌, IsSome, Some, length};
+ghost use Rattle.std.specs.Prelude.{◌≡◌, ◌≤◌, ◌<◌, ◌+◌, ◌^◌, IsSome, OnOk, Some, length};
 ghost use Rattle.pcap_io.specs.Record.{Record as ARecord, last_moment};
 ghost use Rattle.pcap_stream.specs.Source.{lent};
 ghost use Rattle.timeline.specs.declared.source.Tap.{Tap as ATap};
 ghost use Rattle.timeline.specs.declared.source.Tap.TheVariants.{Port as AtPort, Underlay as AtUnderlay};
 ghost use Rattle.endpoint_core.specs.Kept.{state_of};
 ghost use Rattle.stream_run.specs.Steps.{IsAt, IsNextEvent, moment_at, record_event, source_at};
+ghost use Rattle.stream_run.specs.Waiting.{IsOutBefore, IsOutOrAll};
 ghost use Rattle.stream_run.specs.Watched.{IsSieved};
 
 use crate::captures::Captures;
@@ -102,7 +103,10 @@ pub fn let_in<R: Input, W: Output, S: Sieve, T: Watch>(
     requires known { length captures.now.ports.items ≡ length (state_of taker.old.endpoint).bridges.settings.ports.ports }
     requires change { next.index ≡ 0 → moment_at part.now.changes.now next.done ≡ Some next.moment }
     requires lent { (place : ATap) → IsAt (length captures.now.ports.items) next.index place → IsSome (lent (source_at captures.now.ports.items captures.now.underlay place).standing) }
-    ensures { IsSieved part.now.segments.now S.taken S.goes T.sees part.now.changes.now captures.now.ports.items captures.now.underlay next.index next.done next.moment taker.old.desk.number taker.new.desk.number
+    requires out { IsOutOrAll (S.all sieve.old) captures.now.may_wait outputs.old }
+    ensures before { OnOk result (IsOutBefore captures.now.may_wait captures.now.ports.items captures.now.underlay next.index outputs.new) }
+    ensures behind { OnOk result (IsOutOrAll (S.all sieve.new) captures.now.may_wait outputs.new) }
+    ensures sieved { IsSieved part.now.segments.now S.taken S.goes T.sees part.now.changes.now captures.now.ports.items captures.now.underlay next.index next.done next.moment taker.old.desk.number taker.new.desk.number
         (state_of taker.old.endpoint) (state_of taker.new.endpoint) outputs.old outputs.new sieve.old sieve.new watch.old watch.new result }
 {
     let event = next_event(captures, next);
@@ -110,5 +114,6 @@ pub fn let_in<R: Input, W: Output, S: Sieve, T: Watch>(
         return Ok(());
     }
     taker.desk.number.add_one();
-    take_and_hand_on(part, captures, outputs, taker, next, watch)
+    let takes_all = sieve.takes_all();
+    take_and_hand_on(part, captures, outputs, taker, next, takes_all, watch)
 }

@@ -11,14 +11,15 @@
 //! tells them.
 //!
 //! Specs to read, in order: `specs/Over` (by the octets of the captures), `specs/Left` (by one list of events), `specs/Stage`,
-//! `specs/Amidst`, `specs/Reached`, `specs/Watched`; the others serve the contracts of its parts.
+//! `specs/Amidst`, `specs/Reached`, `specs/Watched`, `specs/Waiting`; the others serve the contracts of its parts.
 //!
 //! Proved: wherever the inputs tell their octets, Ok comes only where `capture_run`'s `run` tells outputs, and the sinks got
 //! those; a fault of the settings, the changes, the number of captures or a header is `run`'s, and nothing was written; memory
 //! is refused before anything is, or behind the last event that can be numbered; after any other fault all outputs stand at one
 //! number of events, behind a failed write with at most a part of what comes next, of an event its line last. A part answers
 //! the same of what is told of its segments, and a run with a sieve of what is taken in, where faults and reads are those of all
-//! events. Whoever looks on is shown the events in order, each as the endpoint finds it.
+//! events. Whoever looks on is shown the events in order, each as the endpoint finds it. Where reads may wait, no output holds
+//! anything back when a record is asked for that wasn't read ahead ([`fetch_at`]).
 //!
 //! Why it is so: settings, changes and the number of captures are looked at before anything is read or written; then all
 //! captures are opened, all headers written, and only then records fetched. So a capture that can't be opened leaves no header

@@ -298,10 +298,10 @@ fn run_on<R: Input, W: Output, S: Sieve, T: Watch>(
     if let Err(fault) = open_all(captures) {
         return Err(fault);
     }
-    if let Err(target) = begin_all(outputs) {
+    if let Err(target) = begin_all(outputs, captures.may_wait) {
         return Err(StreamFault::Write(target));
     }
-    if let Err(fault) = fetch_all(part.changes, captures, turns) {
+    if let Err(fault) = fetch_all(part.changes, captures, outputs, turns) {
         return Err(fault);
     }
     if let Err(fault) = put_events(part, captures, turns, taker, outputs, sieve, watch) {

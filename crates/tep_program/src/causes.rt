@@ -4,7 +4,7 @@ use crate::notes::tell_notes;
 use crate::refusals::{tell_part_capture, tell_pcapng, tell_refused};
 use command_line::{STANDARD_INPUT, capture_name};
 use dissector::Line;
-use program_faults::{Failure, OneLine, OutputFile, ShardFailure, SystemFault};
+use program_faults::{Failure, OneLine, OutputFile, ShardFailure, SplitFailure, SystemFault};
 use program_files::{FailedOutput, file_of, is_same, path_of, read_fault};
 use shard_merge::PartFault;
 use std::alloc::AllocError;
@@ -46,6 +46,8 @@ fn tell<R: Files + AllocGlobal + Eprint>(
             Some(name) => tell_pcapng(rt, name, *fault),
             None => Ok(()),
         },
+        Failure::Split(name, SplitFailure::Capture(fault)) => tell_pcapng(rt, *name, *fault),
+        Failure::Split(name, SplitFailure::Interface(_, fault)) => tell_pcapng(rt, *name, *fault),
         // An event may be missing since its capture has no such interface.
         Failure::NoEvent(_) => {
             tell_notes(rt, line);
@@ -138,6 +140,9 @@ fn tell_unread_file<R: Files + AllocGlobal + Eprint>(
     match read_fault(rt, name) {
         Some(fault) => {
             tell_fault(rt, name, fault);
+            if output == OutputFile::Shard && fault.is_not_there() {
+                let _ = eprintln!(rt; "  a part has one: tep run --segments makes parts");
+            }
             Ok(true)
         }
         None => Ok(false),

@@ -2,6 +2,7 @@
 //!
 //! Each capture is looked at to its end before a fault of the next is told, so that one call tells of all; it ends with the
 //! first fault in the order of its lines.
+use crate::echoes::{RecordCounts, print_echoes};
 use crate::interfaces::missing_interface;
 use crate::swapped::swapped_lines;
 use capture_run::RunFault;
@@ -13,7 +14,8 @@ use foreseen_changes::foresee;
 use overlay_config::{Settings, TimedChange};
 use pcap_io::CaptureFault;
 use program_faults::{Failure, OneLine};
-use program_files::{SeenCapture, open_seen, print_text, read_file, read_if_given};
+use program_files::{Names, SeenCapture, open_seen, print_text, read_file, read_if_given};
+use runs_on_files::Texts;
 use std::fmt::Write;
 use std::io::{Input, Read};
 use std::rt::Files;
@@ -56,18 +58,52 @@ pub fn check<'a, R: Files + Input + AllocGlobal + Print>(
     underlay: Option<&'a str>,
     ports: &[&'a str],
 ) -> Result<(), Failure<'a>> {
-    let settings_text = read_file(rt, settings)?;
-    let changes_text = read_if_given(rt, changes)?;
+    let texts = Texts {
+        settings: read_file(rt, settings)?,
+        changes: read_if_given(rt, changes)?,
+    };
+    let mut counts = RecordCounts::new();
+    let seen_texts = look_at_texts(rt, settings, changes, &texts, ports.len())?;
+    let seen = seen_texts.and(look_at_captures(rt, underlay, ports, &mut counts));
+    let Some(underlay) = underlay else {
+        return seen.found.and(seen.told);
+    };
+    let echoes = match seen.found {
+        Ok(()) => {
+            let names = Names {
+                settings,
+                changes,
+                underlay,
+                ports,
+                digests: None,
+            };
+            print_echoes(rt, names, &texts, &counts)
+        }
+        Err(_) => Ok(()),
+    };
+    let swapped = print_swapped(rt, texts.settings.as_slice(), underlay, ports);
+    seen.found.and(seen.told).and(echoes).and(swapped)
+}
+
+/// Prints what is in the texts of these names, where so many ports' captures are named. It answers the fault of a text that is
+/// refused.
+fn look_at_texts<R: AllocGlobal + Print>(
+    rt: &R,
+    settings: &str,
+    changes: Option<&str>,
+    texts: &Texts,
+    captures: usize,
+) -> Result<Seen<'static>, Failure<'static>> {
     let settings = Named {
         name: settings,
-        text: settings_text.as_slice(),
+        text: texts.settings.as_slice(),
     };
     let changes = Named {
         name: changes.unwrap_or(""),
-        text: changes_text.as_slice(),
+        text: texts.changes.as_slice(),
     };
     let (read, told) = match read_texts(rt.alloc(), settings.text, changes.text) {
-        Ok(texts) => texts,
+        Ok(read) => read,
         Err(fault) => {
             // Where it can't be printed, the fault still tells that and why the text is refused.
             let _ = print_refused(rt, settings, changes, &fault);
@@ -75,13 +111,10 @@ pub fn check<'a, R: Files + Input + AllocGlobal + Print>(
         }
     };
     let counted = print_counts(rt, &read, told.as_slice());
-    let texts = Seen {
-        found: see_count(read.ports().len(), ports.len()),
+    Ok(Seen {
+        found: see_count(read.ports().len(), captures),
         told: counted.and(print_foreseen(rt, read, told)),
-    };
-    let seen = texts.and(look_at_captures(rt, underlay, ports));
-    let swapped = print_swapped(rt, settings.text, underlay, ports);
-    seen.found.and(seen.told).and(swapped)
+    })
 }
 
 /// Sees that so many ports have as many captures, unless no port's capture is named.
@@ -156,16 +189,17 @@ fn look_at_captures<'a, R: Files + Input + AllocGlobal + Print>(
     rt: &R,
     underlay: Option<&'a str>,
     ports: &[&'a str],
+    counts: &mut RecordCounts,
 ) -> Seen<'a> {
     let mut seen = Seen {
         found: Ok(()),
         told: Ok(()),
     };
     for (index, name) in ports.iter().enumerate() {
-        seen = seen.and(look_at_capture(rt, tap_of(index), *name));
+        seen = seen.and(look_at_capture(rt, tap_of(index), *name, counts));
     }
     match underlay {
-        Some(name) => seen.and(look_at_capture(rt, Tap::Underlay, name)),
+        Some(name) => seen.and(look_at_capture(rt, Tap::Underlay, name, counts)),
         None => seen,
     }
 }
@@ -174,23 +208,19 @@ fn look_at_captures<'a, R: Files + Input + AllocGlobal + Print>(
 fn print_swapped<R: Files + Input + AllocGlobal + Print>(
     rt: &R,
     settings: &[u8],
-    underlay: Option<&str>,
+    underlay: &str,
     ports: &[&str],
 ) -> Result<(), Failure<'static>> {
-    match underlay {
-        Some(underlay) => {
-            let lines = swapped_lines(rt, settings, underlay, ports)?;
-            print_text(rt, lines.as_bytes())
-        }
-        None => Ok(()),
-    }
+    let lines = swapped_lines(rt, settings, underlay, ports)?;
+    print_text(rt, lines.as_bytes())
 }
 
-/// Prints what is in a capture.
+/// Prints what is in a capture, and counts its records.
 fn look_at_capture<'a, R: Files + Input + AllocGlobal + Print>(
     rt: &R,
     tap: Tap,
     name: &'a str,
+    counts: &mut RecordCounts,
 ) -> Seen<'a> {
     let (kind, mut capture) = match open_seen(rt, name) {
         Ok(seen) => seen,
@@ -203,6 +233,7 @@ fn look_at_capture<'a, R: Files + Input + AllocGlobal + Print>(
     };
     match survey_capture(&mut capture, tap) {
         Ok(survey) => {
+            counts.put(tap, survey.tally.records);
             let report = Report {
                 tap,
                 is_pcapng: kind == FileKind::Pcapng,

@@ -8,7 +8,7 @@ use std::alloc::{AllocError, Global};
 use timeline::Tap;
 
 /// How long behind its frame what the switch sent may come, in nanoseconds, where no other time is asked for.
-const WITHIN: u64 = 10_000_000;
+pub const WITHIN: u64 = 10_000_000;
 
 /// How long behind its frame what the switch sent may come, in nanoseconds. None: the captures have what came in alone. Who
 /// names a time asks for it.

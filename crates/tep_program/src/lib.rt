@@ -17,11 +17,16 @@
 
 mod causes;
 mod checks;
+mod compared;
 mod directions;
+mod echoes;
 mod interfaces;
 mod link;
 mod named;
+mod next_steps;
+mod nobody;
 mod notes;
+mod outbound;
 mod program;
 mod refusals;
 mod swapped;

@@ -7,7 +7,9 @@ ghost use Rattle.tep_program.specs.Status.{IsDoneStatus, IsStatusOf, first_no_ev
 
 use crate::causes::{tell_causes, tell_failed_besides};
 use crate::checks::check;
+use crate::compared::{Compared, compare};
 use crate::directions::within_of;
+use crate::next_steps::tell_next_step;
 use crate::notes::tell_notes;
 use crate::told_runs::{Asked, run_and_tell};
 use capture_run::{RunFault, of_settings};
@@ -19,6 +21,7 @@ use program_faults::{Failure, OutputFile, is_lost};
 use program_files::{FailedOutputs, Names, print_text, read_file, read_underlay};
 use run_reports::is_event_name;
 use runs_on_files::print_digests;
+use split_on_files::split;
 use std::alloc::{AllocError, Global};
 use std::env;
 use std::io::{ErrorKind, Input};
@@ -125,6 +128,7 @@ fn performed<'a, R: Files + Input + AllocGlobal + Print + Eprint>(rt: &R, line: 
             let status = stopped(rt, &failure);
             tell_causes(rt, line, &failure);
             tell_failed_besides(rt, line, &failure, failed.as_slice());
+            tell_next_step(rt, line, &failure);
             status
         }
     }
@@ -215,6 +219,21 @@ fn perform<'a, R: Files + Input + AllocGlobal + Print + Eprint>(
                 summary: *summary,
             };
             merge_and_tell(rt, *out, shards.as_slice(), asked, failed)
+        }
+        Line::Split { out, capture } => split(rt, *out, *capture),
+        Line::Compare {
+            sent,
+            received,
+            within,
+            shift,
+        } => {
+            let asked = Compared {
+                sent: *sent,
+                received: *received,
+                within: *within,
+                shift: *shift,
+            };
+            compare(rt, asked)
         }
     }
 }

@@ -101,6 +101,10 @@ fn tell_capture<R: Files + Eprint>(rt: &R, path: &str, fault: CaptureFault) {
                 FileKind::Zstd => {
                     eprintln!(rt; "  {shown}: {kind}, or <(zstdcat IN) in its place")
                 }
+                FileKind::Empty => eprintln!(rt;
+                    "  {shown}: {kind}: a capture without records is a header, head -c 24 OTHER.pcap"
+                ),
+                FileKind::Text => { eprintln!(rt; "  {shown}: {kind}, as -s and -c take") }
                 _ => eprintln!(rt; "  {shown}: {kind}"),
             };
         }
@@ -161,12 +165,19 @@ fn tell_no_section<R: Files + Eprint>(rt: &R, name: &str) {
     };
     let shown = OneLine(path);
     match FileKind::of(head.octets()) {
-        FileKind::Pcap => {
-            let interface = OneLine(capture_name(name).interface.unwrap_or(""));
-            let _ = eprintln!(rt;
-                "  {shown}: classic pcap tells no interface: leave #{interface} out"
-            );
-        }
+        FileKind::Pcap => match capture_name(name).interface {
+            Some(interface) => {
+                let interface = OneLine(interface);
+                let _ = eprintln!(rt;
+                    "  {shown}: classic pcap tells no interface: leave #{interface} out"
+                );
+            }
+            None => {
+                let _ = eprintln!(rt;
+                    "  {shown}: classic pcap tells no interface: it is one capture"
+                );
+            }
+        },
         _ => tell_capture(rt, path, CaptureFault::NotPcap),
     }
 }

@@ -4,6 +4,8 @@ ghost use Rattle.overlay_config.specs.Change.{IsRising, changes_in};
 ghost use Rattle.overlay_settings.specs.Rules.{EachBehind};
 
 use crate::directions::{sieve_of, tell_left_out};
+use crate::nobody::Nobody;
+use crate::outbound::tell_outbound;
 use dissector::segments_of;
 use overlay_config::TimedChange;
 use program_faults::{Failure, OutputFile};
@@ -60,61 +62,71 @@ pub fn run_and_tell<'a, R: Files + Input + AllocGlobal + Print + Eprint>(
 ) -> Result<(), Failure<'a>> {
     let texts = Texts::read(rt, names)?;
     let segments = segments_of(asked.segments)?;
+    // A fault stands on the first line of standard error, so that what was left out is told behind a run that is done alone.
     let Some(sieve) = sieve_of(rt.alloc(), texts.settings.as_slice(), asked.within)? else {
-        return run_on_all(rt, names, &texts, folder, asked, &segments, failed);
+        let ran = run_taken(
+            rt,
+            names,
+            &texts,
+            folder,
+            asked,
+            &segments,
+            &mut TakesAll,
+            &mut Unwatched,
+            failed,
+        )?;
+        tell_outbound(rt, ran.outbound.as_slice());
+        return Ok(());
     };
     let mut sieve = sieve;
-    let done = run_watched(
-        rt, names, &texts, folder, asked, &segments, &mut sieve, failed,
-    );
-    // A fault stands on the first line of standard error.
-    if done.is_ok() {
-        tell_left_out(rt, &sieve, names.ports.len());
-    }
-    done
+    let ran = run_taken(
+        rt,
+        names,
+        &texts,
+        folder,
+        asked,
+        &segments,
+        &mut sieve,
+        &mut Nobody,
+        failed,
+    )?;
+    tell_outbound(rt, ran.outbound.as_slice());
+    tell_left_out(rt, &sieve, names.ports.len());
+    Ok(())
 }
 
-/// Runs on all records of captures, and prints what is asked for besides. Who asks for nothing pays nothing for it.
-fn run_on_all<'a, R: Files + Input + AllocGlobal + Print + Eprint>(
+/// Runs on what a sieve takes in of captures, and prints what is asked for besides. Who asks for nothing pays nothing for it: then
+/// nobody looks on.
+fn run_taken<'a, R: Files + Input + AllocGlobal + Print + Eprint, S: Sieve, T: Watch>(
     rt: &R,
     names: Names<'_, 'a>,
     texts: &Texts,
     folder: Option<&str>,
     asked: Asked<'_, 'a>,
     segments: &SegmentSet,
+    sieve: &mut S,
+    nobody: &mut T,
     failed: &mut FailedOutputs,
-) -> Result<(), Failure<'a>> {
+) -> Result<Ran<R::File>, Failure<'a>> {
     if !asked.is_nothing() {
-        return run_watched(
-            rt,
-            names,
-            texts,
-            folder,
-            asked,
-            segments,
-            &mut TakesAll,
-            failed,
-        );
+        return run_watched(rt, names, texts, folder, asked, segments, sieve, failed);
     }
     match run_asked(
-        rt,
-        names,
-        texts,
-        None,
-        folder,
-        asked,
-        segments,
-        &mut TakesAll,
-        &mut Unwatched,
-        failed,
+        rt, names, texts, None, folder, asked, segments, sieve, nobody, failed,
     ) {
-        Ok(ran) => ran.finish(),
+        Ok(ran) => {
+            let mut ran = ran;
+            match ran.finish() {
+                Ok(()) => Ok(ran),
+                Err(failure) => Err(failure),
+            }
+        }
         Err(failure) => Err(failure),
     }
 }
 
-/// Runs on what a sieve takes in of captures, and prints what is asked for besides. Someone looks on, whatever is asked for: so
-/// the plain run has its steps for itself.
+/// The same where something is asked for: someone looks on, whatever it is, so that runs which nobody looks on at have their
+/// steps for themselves.
 fn run_watched<'a, R: Files + Input + AllocGlobal + Print + Eprint, S: Sieve>(
     rt: &R,
     names: Names<'_, 'a>,
@@ -124,7 +136,7 @@ fn run_watched<'a, R: Files + Input + AllocGlobal + Print + Eprint, S: Sieve>(
     segments: &SegmentSet,
     sieve: &mut S,
     failed: &mut FailedOutputs,
-) -> Result<(), Failure<'a>> {
+) -> Result<Ran<R::File>, Failure<'a>> {
     let changes = texts.changes_read(rt.alloc())?;
     let told = match &changes {
         Some(changes) => Some(changes.as_slice()),
@@ -159,8 +171,12 @@ fn run_watched<'a, R: Files + Input + AllocGlobal + Print + Eprint, S: Sieve>(
     };
     match run {
         Ok(ran) => {
+            let mut ran = ran;
             let found = tell_missing(rt, asked.why, &reports);
-            tell_all(rt, folder, asked, reports, counted, ran).and(found)
+            match tell_all(rt, folder, asked, reports, counted, &mut ran).and(found) {
+                Ok(()) => Ok(ran),
+                Err(failure) => Err(failure),
+            }
         }
         Err(failure) => {
             // What was told stands, wherever the run stopped.
@@ -247,7 +263,7 @@ fn run_asked<'a, R: Files + Input + AllocGlobal, S: Sieve, T: Watch>(
                 watch,
                 failed,
             ) {
-                Ok(done) => Ok(Ran::whole(rt.alloc(), done.cut)),
+                Ok(done) => Ok(Ran::whole(rt.alloc(), done.cut, done.outbound)),
                 Err(failure) => Err(failure),
             }
         }
@@ -288,7 +304,7 @@ fn tell_all<R: Files + AllocGlobal + Print>(
     asked: Asked<'_, '_>,
     reports: Reports<'_, '_>,
     counted: Counted,
-    ran: Ran<R::File>,
+    ran: &mut Ran<R::File>,
 ) -> Result<(), Failure<'static>> {
     let Ok((told, tables)) = reports.into_texts() else {
         return Err(Failure::from(AllocError));

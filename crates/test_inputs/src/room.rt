@@ -1,7 +1,7 @@
 //! An output over memory that takes little, and stops once.
 ghost use Rattle.std.specs.Prelude.{None};
 
-use pcap_stream::{DeviceFault, Output};
+use pcap_stream::{DeviceFault, Output, WriteFault};
 use std::alloc::Global;
 
 /// Room that takes at most so many octets a call. One call fails, or takes none.
@@ -34,6 +34,10 @@ impl Output for Room {
     ghost written = { λ _. None };
 
     ghost failures = { λ s. s.failures };
+
+    fn hand_on_held(&mut self) -> Result<(), WriteFault> {
+        Ok(())
+    }
 
     fn write(&mut self, octets: &[u8]) -> Result<usize, DeviceFault> {
         if octets.is_empty() {

@@ -110,7 +110,11 @@ pub fn run<'a, T: Watch>(
         underlay: Sink::new(BlockOutput::new(alloc, DigestOutput::new(), BLOCK)?),
         decisions: BlockOutput::new(alloc, DigestOutput::new(), BLOCK)?,
     };
-    let mut captures = RunCaptures { ports, underlay };
+    let mut captures = RunCaptures {
+        ports,
+        underlay,
+        may_wait: false,
+    };
     let end = run_segments(
         alloc,
         settings,

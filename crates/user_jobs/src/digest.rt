@@ -2,7 +2,7 @@
 ghost use Rattle.std.specs.Prelude.{◌≤◌, None, length};
 
 use byteorder::{ByteOrder, LittleEndian};
-use pcap_stream::{DeviceFault, Output};
+use pcap_stream::{DeviceFault, Output, WriteFault};
 
 /// How many octets are added at once.
 const BLOCK: usize = 32;
@@ -121,6 +121,10 @@ impl Output for DigestOutput {
     ghost written = { λ _. None };
 
     ghost failures = { λ _. 0 };
+
+    fn hand_on_held(&mut self) -> Result<(), WriteFault> {
+        Ok(())
+    }
 
     fn write(&mut self, octets: &[u8]) -> Result<usize, DeviceFault> {
         self.digest.add(octets);

@@ -131,6 +131,7 @@ fn run_part(
     let mut read = RunCaptures {
         ports: open_all(alloc, captures, PORTS)?,
         underlay: open(alloc, captures.underlay(), Selection::All)?,
+        may_wait: false,
     };
     let mut outputs = Outputs {
         ports: kept_sinks(alloc, read.ports.len())?,

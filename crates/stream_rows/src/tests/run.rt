@@ -100,7 +100,11 @@ impl Manner {
             self.input(count, row.captures.underlay.as_slice()),
             self.reads,
         )?;
-        let mut captures = Captures { ports, underlay };
+        let mut captures = Captures {
+            ports,
+            underlay,
+            may_wait: true,
+        };
         let mut written = RunOutputs {
             ports: self.sinks(alloc, count)?,
             underlay: Sink::new(self.output(alloc, count)),

@@ -1,9 +1,10 @@
-use Rattle.std.proofs.Common.{◌∙◌, refl, rules, ap, length, Err, Ok, OnErr, Result}
+use Rattle.std.proofs.Common.{◌∙◌, ◌≤◌, ℕ, List, refl, rules, ap, sym, subst, length, Err, Ok, OnErr, Result}
 use Rattle.pcap_stream.specs.Ahead.{left_of}
 use Rattle.pcap_stream.specs.Source.{Failed}
 use Rattle.pcap_stream.proofs.Aheads.{read_by_part}
 use Rattle.pcap_stream.proofs.Bounds.{short_header, short_octets}
 use Rattle.pcap_stream.proofs.Fetching.{reads_cut, reads_fault, reads_record, reads_short}
+use Rattle.pcap_stream.proofs.HeldNext.{another_long, another_whole}
 use Rattle.pcap_stream.proofs.fetch.fetch.Goals as goal
 
 pub returns-then-got-lt-RECORD_HEADER_LENGTH-clause-next : goal.returns-then-got-lt-RECORD_HEADER_LENGTH-clause-next
@@ -46,3 +47,32 @@ returns-in_err-got-2-clause-short g c =
     on_err _ c.from_residual-in_err-got-2.result
     (short_octets c.args.style (length c.args.ahead.now.ahead) (length c.pass.new.self.ahead) (left_of c.args.ahead.now) (left_of c.pass.new.self) (left_of c.pass-2.new.self) c.pass.new.self.taken c.in-Ok.header (search rules)
     read.taken (read_by_part _ _ 16 _ _ (read.lacks (search rules)) c.pass.ensures.behind) read.quiet (read.no_end (search rules)) (search rules) c.in_err-got-2.ensures.short)
+
+-- ---- a record that was read ahead
+
+pub returns-in_err-got-clause-held : goal.returns-in_err-got-clause-held
+returns-in_err-got-clause-held g c is = (c.in_err-got.ensures.there (another_long c.args.style c.args.ahead.now.ahead is)).0
+
+pub returns-then-got-lt-RECORD_HEADER_LENGTH-clause-held : goal.returns-then-got-lt-RECORD_HEADER_LENGTH-clause-held
+returns-then-got-lt-RECORD_HEADER_LENGTH-clause-held g c is = (c.in_ok-got.ensures.there (another_long c.args.style c.args.ahead.now.ahead is)).0
+
+pub returns-in-Err-clause-held : goal.returns-in-Err-clause-held
+returns-in-Err-clause-held g c is = (c.in_ok-got.ensures.there (another_long c.args.style c.args.ahead.now.ahead is)).0
+
+pub returns-in_err-got-2-clause-held : goal.returns-in_err-got-2-clause-held
+returns-in_err-got-2-clause-held g c is =
+    let read = c.in_ok-got.ensures.there (another_long c.args.style c.args.ahead.now.ahead is) in
+    let whole = another_whole c.args.style c.args.ahead.now.ahead c.pass.new.self.taken c.in-Ok.header is read.1 (search rules) in
+    (c.in_err-got-2.ensures.there (subst (λ (l : List ℕ). c.in-Ok.header.captured ≤ length l) (sym read.2) whole)).0 ∙ read.0
+
+pub returns-then-got-captured-clause-held : goal.returns-then-got-captured-clause-held
+returns-then-got-captured-clause-held g c is =
+    let read = c.in_ok-got.ensures.there (another_long c.args.style c.args.ahead.now.ahead is) in
+    let whole = another_whole c.args.style c.args.ahead.now.ahead c.pass.new.self.taken c.in-Ok.header is read.1 (search rules) in
+    (c.in_ok-got-2.ensures.there (subst (λ (l : List ℕ). c.in-Ok.header.captured ≤ length l) (sym read.2) whole)).0 ∙ read.0
+
+pub returns-clause-held : goal.returns-clause-held
+returns-clause-held g c is =
+    let read = c.in_ok-got.ensures.there (another_long c.args.style c.args.ahead.now.ahead is) in
+    let whole = another_whole c.args.style c.args.ahead.now.ahead c.pass.new.self.taken c.in-Ok.header is read.1 (search rules) in
+    (c.in_ok-got-2.ensures.there (subst (λ (l : List ℕ). c.in-Ok.header.captured ≤ length l) (sym read.2) whole)).0 ∙ read.0

@@ -15,7 +15,7 @@ returns-in-Ok-finish-clause-run g c =
     let held = handed_on files.ports.items files.underlay files.decisions in
     let before = c.args.captures.now in
     let after = c.run_sieved-run.new in
-    let old = drains outputs.ports.items outputs.underlay (told outputs.decisions) outputs.decisions.failures in
+    let old = drains outputs.ports.items outputs.underlay (told outputs.decisions) outputs.decisions.failures outputs.decisions.held in
     run_into (g.S.Sieve.taken c.args.sieve.now) c.args.segments.now (settings_in read.settings_text.now) (changes_in read.changes_text.now) read.settings read.changes.now c.requires.settings c.requires.told
     before.ports.items before.underlay after.captures.ports.items after.captures.underlay old after.outputs held
     c.in-Ok.ensures.run c.in-Ok.ensures.over c.in-Ok.ensures.reached

@@ -11,7 +11,7 @@ use Rattle.shard_merge.proofs.merge.finish_all.Goals as goal
 
 -- no output
 nowhere : Drain
-nowhere = record { written = None; failures = 0; is_failed = false }
+nowhere = record { written = None; failures = 0; is_failed = false; held = [] }
 
 pub loop-index-init : goal.loop-index-init
 loop-index-init g c = record { others = λ s k le. refl; same = refl; added = λ cuts only. no_cuts cuts (g.W.Output.written c.args.decisions.now); put = none_cut (g.W.Output.written c.args.decisions.now); over = λ none s k lt. absurd (omega (arith, lt)); reads = refl; writes = refl }

@@ -35,7 +35,7 @@ header_failed g c n many =
     let start = c.args.outputs.now in
     let begun = c.begin_all.new.outputs in
     subst (λ n. StandBetween start begun (no_texts n) (empty_outputs n) × FailedAt c.in-Err-begin_all.target start begun) (c.requires.sinks ∙ many)
-    (c.in-Err-begin_all.ensures start (none_at start (length c.args.outputs.now.ports) refl))
+    (c.in-Err-begin_all.ensures.begun start (none_at start (length c.args.outputs.now.ports) refl))
 
 -- behind the headers
 headers_written : (g : Over) (c : After-fetch_all g) (n : ℕ) → length c.args.captures.now.ports.items ≡ n
@@ -43,7 +43,7 @@ headers_written : (g : Over) (c : After-fetch_all g) (n : ℕ) → length c.args
 headers_written g c n many =
     let start = c.args.outputs.now in
     let begun = c.begin_all.new.outputs in
-    subst (λ n. StandAt start begun (empty_outputs n)) (c.requires.sinks ∙ many) (c.in_default-begin_all.ensures start (none_at start (length c.args.outputs.now.ports) refl))
+    subst (λ n. StandAt start begun (empty_outputs n)) (c.requires.sinks ∙ many) (c.in_default-begin_all.ensures.begun start (none_at start (length c.args.outputs.now.ports) refl))
 
 -- the captures are as many as before, and where they tell their octets, they stand at their first records
 as_many : (g : Over) (c : After-fetch_all g) → length c.open_all.new.captures.ports.items ≡ length c.args.captures.now.ports.items
@@ -265,3 +265,11 @@ returns-in-Err-put_cuts_among-clause-done g c settings is =
             went = tt;
           };
     }
+
+-- ---- what is out
+
+pub fetch_all-requires-clause-out : goal.fetch_all-requires-clause-out
+fetch_all-requires-clause-out g c = c.in_default-begin_all.ensures.out
+
+pub put_events-requires-clause-out : goal.put_events-requires-clause-out
+put_events-requires-clause-out g c some_left waits = c.in_default-begin_all.ensures.out (sym c.in_default-fetch_all.ensures.may_wait ∙ waits)

@@ -6,7 +6,7 @@ use Rattle.stream_run.proofs.Running.{ready_more, shown_begins, shown_breaks, sh
 use Rattle.stream_run.proofs.step.put_events.Goals as goal
 
 pub loop-count-init : goal.loop-count-init
-loop-count-init g c = record { run = rw c.requires.none (shown_begins c.args.part.now.segments.now g.S.Sieve.taken g.S.Sieve.goes g.T.Watch.sees g.S.Sieve.none c.args.part.now.changes.now _ c.args.sieve.now c.args.watch.now refl c.requires.ready); many = refl }
+loop-count-init g c = record { run = rw c.requires.none (shown_begins c.args.part.now.segments.now g.S.Sieve.taken g.S.Sieve.goes g.T.Watch.sees g.S.Sieve.none c.args.part.now.changes.now _ c.args.sieve.now c.args.watch.now refl c.requires.ready); out = c.requires.out; many = refl }
 
 pub put_first-requires-clause-few : goal.put_first-requires-clause-few
 put_first-requires-clause-few g c =
@@ -25,6 +25,7 @@ pub loop-count-preserved : goal.loop-count-preserved
 loop-count-preserved g c =
     record {
       run = shown_steps c.args.part.now.segments.now g.S.Sieve.taken g.S.Sieve.goes g.T.Watch.sees g.S.Sieve.none c.args.part.now.changes.now _ c.args.sieve.now c.args.watch.now _ _ c.loop-count._count c.in-Some.first _ _ _ _ c.loop-count.invariant.run c.in_default-put_first.ensures.step;
+      out = c.in_default-put_first.ensures.out;
       many = c.in_default-put_first.ensures.many ∙ c.loop-count.invariant.many;
     }
 

@@ -1,6 +1,7 @@
 use Rattle.std.proofs.Common.{◌≡◌, length}
 use Rattle.endpoint_core.specs.Kept.{state_of}
 use Rattle.stream_run.specs.Steps.{run_at}
+use Rattle.stream_run.specs.Waiting.{IsOutOrAll}
 use Rattle.stream_run.proofs.Running.{HasShown}
 use Rattle.stream_run.proofs.step.put_events.Given as goal
 
@@ -10,5 +11,6 @@ invariant-loop-count g l = record {
       (run_at l.initial.captures.ports.items l.initial.captures.underlay l.initial.turns (state_of l.initial.taker.endpoint) 0 l.initial.outputs)
       (run_at l.captures.ports.items l.captures.underlay l.turns (state_of l.taker.endpoint) l.taker.desk.number l.outputs)
       l._count l.initial.sieve l.sieve l.initial.watch l.watch;
+  out : IsOutOrAll (g.S.Sieve.all l.sieve) l.captures.may_wait l.outputs;
   many : length l.captures.ports.items ≡ length l.initial.captures.ports.items;
 }

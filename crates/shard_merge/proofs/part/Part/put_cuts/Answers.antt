@@ -12,7 +12,7 @@ use Rattle.shard_merge.proofs.part.Part.put_cuts.Goals as goal
 
 -- no output
 nowhere : Drain
-nowhere = record { written = None; failures = 0; is_failed = false }
+nowhere = record { written = None; failures = 0; is_failed = false; held = [] }
 
 pub loop-count-init : goal.loop-count-init
 loop-count-init g c = record { ports = refl; cuts = λ count cuts holds. none_put count cuts c.args.self.now (g.W.Output.written c.args.decisions.now) holds; put = none_cut (g.W.Output.written c.args.decisions.now); over = λ none. none; reads = refl; writes = refl }

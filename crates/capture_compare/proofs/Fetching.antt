@@ -1,0 +1,195 @@
+-- The records of one capture, fetched one after another.
+use Rattle.std.proofs.Common.{◌≡◌, ◌≢◌, ◌∙◌, refl, sym, ap, subst, ℕ, ◌+◌, ◌*◌, ◌≤◌, max, List, [], ◌∷◌, ◌++◌, drop, length, length-append, arith, Option, Some, None, IfSome, Result, Ok, Err}
+use Rattle.pcap_io.specs.Capture.{opened, opened_by}
+use Rattle.pcap_io.specs.Header.{style_of}
+use Rattle.pcap_io.specs.Next.{End, Whole, Cut, Faulty}
+use Rattle.pcap_io.specs.Reading.{Reading, records}
+use Rattle.pcap_io.specs.Record.{Record}
+use Rattle.pcap_io.specs.declared.header.CaptureFault.{CaptureFault}
+use Rattle.pcap_io.specs.declared.header.CaptureFault.TheVariants as capture
+use Rattle.pcap_io.specs.declared.record.RecordFault.{RecordFault}
+use Rattle.pcap_io.specs.declared.record.RecordFault.TheVariants as record_
+use Rattle.pcap_io.specs.declared.style.Style.{Style}
+use Rattle.pcap_stream.specs.Fault.{capture_fault, record_fault}
+use Rattle.pcap_stream.specs.InTurn.{IsReading, IsWhole}
+use Rattle.pcap_stream.specs.Source.{Standing, Stream, New, Open, Ended, Failed, IsFilled, IsOpened, ReadsHeader, after_end, after_header, answer, lent, most_left}
+use Rattle.pcap_stream.specs.declared.fault.SourceFault.{SourceFault}
+use Rattle.pcap_stream.specs.declared.fault.SourceFault.TheVariants as source
+use Rattle.pcap_stream.proofs.Runs.{begins, ends, one_more}
+use Rattle.capture_compare.specs.Clocked.{latest, on_clock}
+use Rattle.capture_compare.specs.Compared.{fault_behind, fault_in, fault_of, records_in, records_of}
+use Rattle.capture_compare.specs.Turns.{HasLent, IsDone, IsInFront, IsItsFault, StopsBehind, Waits, source_fault}
+use Rattle.capture_compare.specs.declared.fault.CompareFault.{CompareFault}
+use Rattle.capture_compare.specs.declared.fault.CompareFault.TheVariants as faults
+use Rattle.capture_compare.specs.declared.fault.Side.{Side}
+
+-- ---- the opening
+
+pub has_begun : (old new : Stream) (count : ℕ) → count ≡ 0 → IsOpened {T = Unit {0}} old new (Ok tt) → Ok tt ≡ answer new.standing → new.standing ≢ New → most_left new ≤ most_left old → HasLent old new [] count
+has_begun old new count none opened told begun less = record {
+  reading = λ text e. begins old new text e opened (sym told);
+  count_is = none;
+  spent = omega (arith, less);
+  begun = begun;
+}
+
+no_answer : (fault : SourceFault) → ◌≡◌ {A = Result (Unit {0}) SourceFault} (Ok tt) (Err fault) → ⊥
+no_answer fault e = cc
+
+-- what one read that was refused
+record IsRefused (fault : SourceFault) (header : Result Style CaptureFault) : Type 0 where
+  pub own : CaptureFault
+  pub header_is : header ≡ Err own
+  pub fault_is : fault ≡ capture_fault own
+
+is_refused : (fault : SourceFault) (standing : Standing) (header : Result Style CaptureFault) → standing ≡ after_header header → Err fault ≡ answer standing → IsRefused fault header
+is_refused fault standing (Ok style) e told = absurd (no_answer fault (sym (told ∙ ap answer e)))
+is_refused fault standing (Err own) e told = record { own = own; header_is = refl; fault_is = same (told ∙ ap answer e) }
+  where
+    same : ◌≡◌ {A = Result (Unit {0}) SourceFault} (Err fault) (Err (capture_fault own)) → fault ≡ capture_fault own
+    same e = cc
+
+told_style : (a b : Option (List ℕ)) (text : List ℕ) (header : Result Style CaptureFault) → a ≡ Some text
+    → IfSome a (λ text. (header ≡ style_of text) × (b ≡ Some (drop 24 text))) → header ≡ style_of text
+told_style None b text header is h = absurd cc
+told_style (Some t) b text header is h = let same : t ≡ text = cc in h.0 ∙ ap style_of same
+
+not_opened : (side : Side) (text : List ℕ) (own : CaptureFault) → style_of text ≡ Err own → (records_in text ≡ []) × (fault_in side text ≡ Some (faults.Header side own))
+not_opened side text own e =
+    let is : opened text ≡ Err own = ap (λ (s : Result Style CaptureFault). opened_by s text) e in
+    (ap (λ (r : Result Reading CaptureFault). records_of r) is, ap (λ (r : Result Reading CaptureFault). fault_of side r) is)
+
+by_own : (side : Side) (start : Stream) (own : CaptureFault) → ((text : List ℕ) → start.supply.rest ≡ Some text → style_of text ≡ Err own) → StopsBehind side start [] (source_fault side 1 (capture_fault own))
+by_own side start capture.NotPcap h = (refl, record { all = λ text e. not_opened side text capture.NotPcap (h text e) })
+by_own side start capture.BadLink h = (refl, record { all = λ text e. not_opened side text capture.BadLink (h text e) })
+
+refused_by : (side : Side) (old new : Stream) (fault : SourceFault) → ReadsHeader old.supply new.supply new.standing → Err fault ≡ answer new.standing → StopsBehind side old [] (source_fault side 1 fault)
+refused_by side old new fault read told =
+    let is = is_refused fault new.standing read.header read.standing_is told in
+    subst (λ f. StopsBehind side old [] (source_fault side 1 f)) (sym is.fault_is)
+    (by_own side old is.own (λ text e. sym (told_style _ _ text read.header e read.octets) ∙ is.header_is))
+
+pub is_not_opened : (side : Side) (old new : Stream) (fault : SourceFault) → IsOpened {T = Unit {0}} old new (Err fault) → Err fault ≡ answer new.standing → StopsBehind side old [] (source_fault side 1 fault)
+is_not_opened side old new source.Read opened told = (refl, record { all = λ text e. (records_in text, refl) })
+is_not_opened side old new source.NotPcap opened told = refused_by side old new source.NotPcap opened told
+is_not_opened side old new source.BadLink opened told = refused_by side old new source.BadLink opened told
+is_not_opened side old new source.TooLarge opened told = refused_by side old new source.TooLarge opened told
+is_not_opened side old new source.BadFraction opened told = refused_by side old new source.BadFraction opened told
+
+-- ---- one more
+
+pub has_more : (delay : ℕ) (start old new : Stream) (rs : List Record) (count latest_moment : ℕ) (r : Record) → HasLent start old rs count → IsFilled {T = Unit {0}} old new (Ok tt) → lent new.standing ≡ Some r
+    → new.standing ≢ New → 16 + most_left new ≤ most_left old → latest_moment ≡ latest (on_clock delay rs) → Waits delay start new rs (count + 1) (max (r.moment + delay) latest_moment)
+has_more delay start old new rs count latest_moment r so_far filled lends begun less is = record {
+  next = r;
+  lends = lends;
+  taken = record {
+    reading = λ text e. one_more text rs r old new (so_far.reading text e) filled lends;
+    count_is = let count = so_far.count_is in omega (arith, count, length-append rs (r ∷ []));
+    spent = let spent = so_far.spent in omega (arith, spent, less, length-append rs (r ∷ []));
+    begun = begun;
+  };
+  moment_is = ap (λ (n : ℕ). max (r.moment + delay) n) is;
+}
+
+-- ---- the end
+
+no_fault : (side : Side) (count : ℕ) (end : End) → Ok tt ≡ answer (after_end end) → fault_behind side count end ≡ None
+no_fault side count Whole is = refl
+no_fault side count Cut is = refl
+no_fault side count (Faulty fault) is = absurd (no_answer (record_fault fault) is)
+
+pub has_all : (side : Side) (start old new : Stream) (rs : List Record) (count : ℕ) → HasLent start old rs count → IsFilled {T = Unit {0}} old new (Ok tt) → Ok tt ≡ answer new.standing → lent new.standing ≡ None
+    → IsDone side start new rs
+has_all side start old new rs count so_far filled told none = record { all = λ text e. by (ends text rs old new (Ok tt) (so_far.reading text e) (record { filled = filled; answered = told; lends_none = none; no_failure = λ e. absurd cc })) }
+  where
+    by : {text : List ℕ} → IsWhole text rs new → (records_in text ≡ rs) × (fault_in side text ≡ None)
+    by whole = (
+      ap (λ (r : Result Reading CaptureFault). records_of r) whole.records,
+      ap (λ (r : Result Reading CaptureFault). fault_of side r) whole.records ∙ no_fault side (length rs) whole.end (told ∙ ap answer whole.stands),
+    )
+
+-- ---- a fault
+
+lends_none : (s : Standing) (fault : SourceFault) → Err fault ≡ answer s → lent s ≡ None
+lends_none New fault is = absurd cc
+lends_none (Open style last) fault is = absurd cc
+lends_none (Ended is_cut) fault is = refl
+lends_none (Failed other) fault is = refl
+
+-- an end with a fault is that of a record
+record Ends (end : End) (fault : SourceFault) : Type 0 where
+  pub own : RecordFault
+  pub end_is : end ≡ Faulty own
+  pub fault_is : fault ≡ record_fault own
+
+faulty_end : (end : End) (fault : SourceFault) → Err fault ≡ answer (after_end end) → Ends end fault
+faulty_end Whole fault is = absurd cc
+faulty_end Cut fault is = absurd cc
+faulty_end (Faulty own) fault is = record { own = own; end_is = refl; fault_is = cc }
+
+-- a record that isn't read, behind some
+faulty : (side : Side) (text : List ℕ) (rs : List Record) (own : RecordFault) (n : ℕ) → n ≡ length rs + 1 → opened text ≡ Ok (record { records = rs; end = Faulty own })
+    → (records_in text ≡ rs) × (fault_in side text ≡ Some (faults.Record side n own))
+faulty side text rs own n number is = (
+  ap (λ (r : Result Reading CaptureFault). records_of r) is,
+  ap (λ (r : Result Reading CaptureFault). fault_of side r) is ∙ ap (λ (n : ℕ). some (faults.Record side n own)) (sym number),
+)
+  where
+    some : CompareFault → Option CompareFault
+    some f = Some f
+
+-- what is known of a text that ends so
+record EndsSo (text : List ℕ) (rs : List Record) (fault : SourceFault) : Type 0 where
+  pub own : RecordFault
+  pub fault_is : fault ≡ record_fault own
+  pub is : opened text ≡ Ok (record { records = rs; end = Faulty own })
+
+ends_so : (text : List ℕ) (rs : List Record) (old new : Stream) (fault : SourceFault) → fault ≢ source.Read → IsReading text rs old → IsFilled {T = Unit {0}} old new (Err fault)
+    → Err fault ≡ answer new.standing → EndsSo text rs fault
+ends_so text rs old new fault other reading filled told =
+    let whole = ends text rs old new (Err fault) reading (record { filled = filled; answered = told; lends_none = lends_none new.standing fault told; no_failure = λ e. other (by_err e) }) in
+    let end = faulty_end whole.end fault (told ∙ ap answer whole.stands) in
+    record { own = end.own; fault_is = end.fault_is; is = whole.records ∙ ap (λ e. Ok (record { records = rs; end = e })) end.end_is }
+  where
+    by_err : ◌≡◌ {A = Result (Unit {0}) SourceFault} (Err fault) (Err source.Read) → fault ≡ source.Read
+    by_err e = cc
+
+own_large : (own : RecordFault) → source.TooLarge ≡ record_fault own → own ≡ record_.TooLarge
+own_large record_.TooLarge e = refl
+own_large record_.BadFraction e = absurd cc
+
+own_fraction : (own : RecordFault) → source.BadFraction ≡ record_fault own → own ≡ record_.BadFraction
+own_fraction record_.TooLarge e = absurd cc
+own_fraction record_.BadFraction e = refl
+
+not_header : (own : RecordFault) (fault : CaptureFault) → capture_fault fault ≡ record_fault own → ⊥
+not_header record_.TooLarge capture.NotPcap e = cc
+not_header record_.TooLarge capture.BadLink e = cc
+not_header record_.BadFraction capture.NotPcap e = cc
+not_header record_.BadFraction capture.BadLink e = cc
+
+pub has_failed : (side : Side) (start old new : Stream) (rs : List Record) (count : ℕ) (fault : SourceFault) → HasLent start old rs count → IsFilled {T = Unit {0}} old new (Err fault) → Err fault ≡ answer new.standing
+    → StopsBehind side start rs (source_fault side (count + 1) fault)
+has_failed side start old new rs count source.Read so_far filled told =
+    (refl, record { all = λ text e. let reading = so_far.reading text e in ((records reading.style reading.rest).records, ap (λ (r : Result Reading CaptureFault). records_of r) reading.records) })
+has_failed side start old new rs count source.NotPcap so_far filled told =
+    (refl, record { all = λ text e. let so = ends_so text rs old new source.NotPcap (λ e. absurd cc) (so_far.reading text e) filled told in absurd (not_header so.own capture.NotPcap so.fault_is) })
+has_failed side start old new rs count source.BadLink so_far filled told =
+    (refl, record { all = λ text e. let so = ends_so text rs old new source.BadLink (λ e. absurd cc) (so_far.reading text e) filled told in absurd (not_header so.own capture.BadLink so.fault_is) })
+has_failed side start old new rs count source.TooLarge so_far filled told = (
+  refl,
+  record {
+    all = λ text e.
+        let so = ends_so text rs old new source.TooLarge (λ e. absurd cc) (so_far.reading text e) filled told in
+        faulty side text rs record_.TooLarge (count + 1) (ap (λ (n : ℕ). n + 1) so_far.count_is) (so.is ∙ ap (λ (f : RecordFault). Ok (record { records = rs; end = Faulty f })) (own_large so.own so.fault_is));
+  },
+)
+has_failed side start old new rs count source.BadFraction so_far filled told = (
+  refl,
+  record {
+    all = λ text e.
+        let so = ends_so text rs old new source.BadFraction (λ e. absurd cc) (so_far.reading text e) filled told in
+        faulty side text rs record_.BadFraction (count + 1) (ap (λ (n : ℕ). n + 1) so_far.count_is) (so.is ∙ ap (λ (f : RecordFault). Ok (record { records = rs; end = Faulty f })) (own_fraction so.own so.fault_is));
+  },
+)

@@ -1,0 +1,191 @@
+-- The beginning and the end of a comparison, and its steps by what their calls tell.
+use Rattle.std.proofs.Common.{◌≡◌, ◌≢◌, ◌∙◌, refl, sym, ap, subst, ℕ, ◌+◌, ◌-◌, ◌^◌, ◌≤◌, ◌<◌, Bool, true, false, if◌then◌else◌, List, [], ◌∷◌, ◌++◌, length, length-append, arith, Option, Some, None, IfSome, Result, Ok, Err}
+use Rattle.std.specs.Prelude.{IsSome}
+use Rattle.pcap_io.specs.Record.{Record}
+use Rattle.pcap_stream.specs.Source.{Standing, Stream, New, Open, Ended, Failed, lent, most_left}
+use Rattle.record_match.specs.Compared.{AreBefore, Comparison, IsCompared}
+use Rattle.record_match.specs.Match.{Record as Seen, Sent, matched, received_count}
+use Rattle.record_match.specs.Window.{at_moment, has_room}
+use Rattle.record_match.specs.declared.clock.Clock.{Clock}
+use Rattle.record_match.proofs.Meeting.{each_is_told}
+use Rattle.capture_compare.specs.Clocked.{AreUpTo, latest, on_clock, seen_at}
+use Rattle.capture_compare.specs.Compared.{AllHadRoom, AreCounts, records_in}
+use Rattle.capture_compare.specs.Turns.{Amidst, Fetches, HasLent, IsDone, Stands, StandsBy, Steps, Stopped, StopsBehind, turn_of, unless_full, weight}
+use Rattle.capture_compare.specs.declared.coming.Coming.{Coming}
+use Rattle.capture_compare.specs.declared.turn.Turn.TheVariants as turns
+use Rattle.capture_compare.specs.declared.fault.CompareFault.{CompareFault}
+use Rattle.capture_compare.specs.declared.fault.CompareFault.TheVariants as faults
+use Rattle.capture_compare.specs.declared.fault.Side.{Side}
+use Rattle.capture_compare.specs.declared.fault.Side.TheVariants as sides
+use Rattle.capture_compare.proofs.Clocking.{before-zero, latest-one, timed-length}
+use Rattle.capture_compare.proofs.Standing.{turn-done, splits, none-waits, counts-of}
+use Rattle.capture_compare.proofs.Telling.{sent-stops, received-stops}
+use Rattle.capture_compare.proofs.Sending.{sends-next, step-full, sent-now, if-some, step-sent}
+use Rattle.capture_compare.proofs.Receiving.{receives-next, received-now, step-received}
+
+-- ---- the beginning and the end
+
+pub not-begun : (clock : Clock) (s0 r0 : Stream) (c : Comparison) (fault : CompareFault) → IsCompared c [] [] 0 → c.window.within ≡ clock.within → StopsBehind sides.Sent s0 [] fault → Stopped clock s0 r0 c (Err fault)
+not-begun clock s0 r0 c fault h is stops = λ sent received e f.
+    let R = on_clock clock.received_delay (records_in received) in
+    sent-stops clock sent received c [] R s0 fault e stops (record {
+      counts = subst (λ (l : List Seen). AreCounts clock.within [] l c) (sym (before-zero R)) (counts-of clock.within 0 c [] [] h is);
+      room = tt;
+      first = λ some _. absurd (some refl);
+    })
+
+pub not-begun-behind : (clock : Clock) (s0 r0 s : Stream) (sending : Coming) (c : Comparison) (fault : CompareFault) → IsCompared c [] [] 0 → c.window.within ≡ clock.within
+    → Stands sides.Sent clock.sent_delay s0 s [] sending → StopsBehind sides.Received r0 [] fault → Stopped clock s0 r0 c (Err fault)
+not-begun-behind clock s0 r0 s sending c fault h is stands stops = λ sent received e f.
+    let theirs = splits sides.Sent clock.sent_delay s0 s [] sending stands sent e in
+    received-stops clock sent received c [] (on_clock clock.sent_delay (records_in sent)) r0 fault f stops (record {
+      counts = counts-of clock.within 0 c [] [] h is;
+      room = λ ys _. tt;
+      first = λ g. theirs.no_fault (none-waits sending.next [] theirs.behind theirs.starts (g ∙ theirs.parts));
+    })
+
+pub both-begun : (clock : Clock) (s0 r0 s r : Stream) (sending receiving : Coming) (c : Comparison) → IsCompared c [] [] 0 → c.window.within ≡ clock.within
+    → Stands sides.Sent clock.sent_delay s0 s [] sending → Stands sides.Received clock.received_delay r0 r [] receiving → Amidst clock s0 r0 s r sending receiving c
+both-begun clock s0 r0 s r sending receiving c h is sent received = record {
+  sent = [];
+  received = [];
+  now = 0;
+  sent_stands = sent;
+  received_stands = received;
+  within_is = is;
+  compared = h;
+  room = tt;
+  sent_later = if-some (λ k. (0 ≤ k) × AreBefore k []) sending.next (λ k e. (omega arith, tt));
+  received_later = if-some (λ k. (0 ≤ k) × AreUpTo k []) receiving.next (λ k e. (omega arith, tt));
+}
+
+pub all-compared : (clock : Clock) (s0 r0 s r : Stream) (sending receiving : Coming) (c : Comparison) → Amidst clock s0 r0 s r sending receiving c → turn_of sending.next receiving.next ≡ turns.Done → Stopped clock s0 r0 c (Ok tt)
+all-compared clock s0 r0 s r sending receiving c h turn = λ sent received e f.
+    let none = turn-done sending.next receiving.next turn in
+    let mine_done : IsDone sides.Sent s0 s h.sent = subst (λ (o : Option ℕ). StandsBy sides.Sent clock.sent_delay s0 s h.sent sending.fetched o) none.0 h.sent_stands.next in
+    let mine = mine_done.all sent e in
+    let theirs_done : IsDone sides.Received r0 r h.received = subst (λ (o : Option ℕ). StandsBy sides.Received clock.received_delay r0 r h.received receiving.fetched o) none.1 h.received_stands.next in
+    let theirs = theirs_done.all received f in
+    let S = ap (λ (l : List Record). on_clock clock.sent_delay l) (sym mine.0) in
+    let R = ap (λ (l : List Record). on_clock clock.received_delay l) (sym theirs.0) in
+    record {
+      no_sent_fault = mine.1;
+      no_received_fault = theirs.1;
+      counts = subst (λ (l : List Seen). AreCounts clock.within l (on_clock clock.received_delay (records_in received)) c) S
+          (subst (λ (l : List Seen). AreCounts clock.within (on_clock clock.sent_delay h.sent) l c) R
+          (counts-of clock.within h.now c (on_clock clock.sent_delay h.sent) (on_clock clock.received_delay h.received) h.compared h.within_is));
+      room = subst (λ (l : List Seen). AllHadRoom clock.within (on_clock clock.received_delay (records_in received)) [] l) S
+          (subst (λ (l : List Seen). AllHadRoom clock.within l [] (on_clock clock.sent_delay h.sent)) R h.room);
+    }
+
+-- ---- counts fit
+
+pub sent-fits : (clock : Clock) (s0 r0 s r : Stream) (sending receiving : Coming) (c : Comparison) (m : ℕ) → Amidst clock s0 r0 s r sending receiving c → turn_of sending.next receiving.next ≡ turns.Sent m → most_left s0 < 2 ^ 64
+    → IsSome (lent s.standing) × (sending.fetched + 1 < 2 ^ 64) × (c.sent + 1 < 2 ^ 64) × (clock.sent_delay ≤ m)
+sent-fits clock s0 r0 s r sending receiving c m h turn few =
+    let known = (sends-next clock s0 r0 s r sending receiving c h m turn).0 in
+    let taken = known.waits.taken in
+    let spent = taken.spent in
+    let count = taken.count_is in
+    let longer = length-append h.sent (known.waits.next ∷ []) in
+    let sent = h.compared.sent_is in
+    let many = timed-length clock.sent_delay 0 h.sent in
+    let moment = known.waits.moment_is in
+    (subst (λ (o : Option Record). IsSome o) (sym known.waits.lends) refl, omega (arith, spent, count, longer, few), omega (arith, spent, longer, few, sent, many), omega (arith, moment))
+
+pub fewer-both : (within : ℕ) (S R : List Seen) → received_count (matched within S R) ≤ length R
+fewer-both within S R = let all = each_is_told within S R in omega (arith, all)
+
+pub received-fits : (clock : Clock) (s0 r0 s r : Stream) (sending receiving : Coming) (c : Comparison) (m : ℕ) → Amidst clock s0 r0 s r sending receiving c → turn_of sending.next receiving.next ≡ turns.Received m → most_left r0 < 2 ^ 64
+    → IsSome (lent r.standing) × (receiving.fetched + 1 < 2 ^ 64) × (c.received + 1 < 2 ^ 64) × (c.both + 1 < 2 ^ 64)
+received-fits clock s0 r0 s r sending receiving c m h turn few =
+    let known = (receives-next clock s0 r0 s r sending receiving c h m turn).0 in
+    let taken = known.waits.taken in
+    let spent = taken.spent in
+    let count = taken.count_is in
+    let longer = length-append h.received (known.waits.next ∷ []) in
+    let received = h.compared.received_is in
+    let both = h.compared.both_is in
+    let fewer = fewer-both c.window.within (on_clock clock.sent_delay h.sent) (on_clock clock.received_delay h.received) in
+    let many = timed-length clock.received_delay 0 h.received in
+    (subst (λ (o : Option Record). IsSome o) (sym known.waits.lends) refl, omega (arith, spent, count, longer, few), omega (arith, spent, longer, few, received, many), omega (arith, spent, longer, few, received, many, both, fewer))
+
+pub room-by : (q : Bool) (m : ℕ) → ◌≡◌ {A = Result (Unit {0}) CompareFault} (Ok tt) (unless_full q m) → q ≡ true
+room-by true m e = refl
+room-by false m e = absurd cc
+
+pub full-by : (q : Bool) (m : ℕ) (fault : CompareFault) → ◌≡◌ {A = Result (Unit {0}) CompareFault} (Err fault) (unless_full q m) → (q ≡ false) × (fault ≡ faults.Full m)
+full-by true m fault e = absurd cc
+full-by false m fault e = (refl, cc)
+
+-- a step that stops at a record that was sent, by what taking it tells
+pub step-full-by : (clock : Clock) (s0 r0 s r : Stream) (sending receiving : Coming) (c d : Comparison) (m delay : ℕ) (fault : CompareFault) → Amidst clock s0 r0 s r sending receiving c → turn_of sending.next receiving.next ≡ turns.Sent m
+    → delay ≡ sending.delay → delay ≤ m
+    → ((x : Record) → lent s.standing ≡ Some x → ◌≡◌ {A = Result (Unit {0}) CompareFault} (Err fault) (unless_full (has_room (at_moment m c.window) (length x.octets)) (m - delay)))
+    → ((S R : List Seen) (now : ℕ) → IsCompared c S R now → now ≤ m → IsCompared d S R m) → d.window.within ≡ c.window.within
+    → Stopped clock s0 r0 d (Err fault)
+step-full-by clock s0 r0 s r sending receiving c d m delay fault h turn is late answer compared same =
+    let known = (sends-next clock s0 r0 s r sending receiving c h m turn).0 in
+    let x = known.waits.next in
+    let told = full-by (has_room (at_moment m c.window) (length x.octets)) (m - delay) fault (answer x known.waits.lends) in
+    let own : delay ≡ clock.sent_delay = is ∙ h.sent_stands.delay_is in
+    let there : clock.sent_delay ≤ m = subst (λ (n : ℕ). n ≤ m) own late in
+    subst (λ (f : CompareFault). Stopped clock s0 r0 d (Err f)) (sym (told.1 ∙ ap (λ (n : ℕ). faults.Full (m - n)) own))
+    (step-full clock s0 r0 s r sending receiving c d m x h turn known.waits.lends there told.0 compared same)
+
+-- a step over a record that was sent, by what taking it and fetching the next one tell
+pub step-sent-by : (clock : Clock) (s0 r0 s t r : Stream) (sending after receiving : Coming) (c d : Comparison) (m n : ℕ) (result : Result (Unit {0}) CompareFault) → Amidst clock s0 r0 s r sending receiving c
+    → turn_of sending.next receiving.next ≡ turns.Sent m
+    → ((x : Record) → lent s.standing ≡ Some x → ◌≡◌ {A = Result (Unit {0}) CompareFault} (Ok tt) (unless_full (has_room (at_moment m c.window) (length x.octets)) n))
+    → ((x : Record) (S R : List Seen) (now : ℕ) → lent s.standing ≡ Some x → IsCompared c S R now → now ≤ m → AreBefore m R → IsCompared d (S ++ seen_at m x ∷ []) R m) → d.window.within ≡ c.window.within
+    → ((start : Stream) (rs : List Record) → HasLent start s rs sending.fetched → m ≡ latest (on_clock sending.delay rs) → Fetches sending.side sending.delay start t rs after result)
+    → Steps clock s0 r0 t r after receiving d result
+step-sent-by clock s0 r0 s t r sending after receiving c d m n result h turn answer compared same fetched =
+    let now = sent-now clock s0 r0 s r sending receiving c d m h turn (λ x e. room-by (has_room (at_moment m c.window) (length x.octets)) n (answer x e)) compared same in
+    let rs = h.sent ++ now.0 ∷ [] in
+    let late : m ≡ latest (on_clock sending.delay rs) = sym now.3.latest_is ∙ ap (λ (k : ℕ). latest (on_clock k rs)) (sym h.sent_stands.delay_is) in
+    step-sent clock s0 r0 t r after receiving d rs h.received m result now.3
+    (subst (λ (k : ℕ). Fetches sides.Sent k s0 t rs after result) h.sent_stands.delay_is
+    (subst (λ (of : Side). Fetches of sending.delay s0 t rs after result) h.sent_stands.side_is (fetched s0 rs now.2 late)))
+
+-- the same of a record that was received
+pub step-received-by : (clock : Clock) (s0 r0 s r t : Stream) (sending receiving after : Coming) (c d : Comparison) (m : ℕ) (result : Result (Unit {0}) CompareFault) → Amidst clock s0 r0 s r sending receiving c
+    → turn_of sending.next receiving.next ≡ turns.Received m
+    → ((x : Record) (S R : List Seen) (now : ℕ) → lent r.standing ≡ Some x → IsCompared c S R now → now ≤ m → IsCompared d S (R ++ seen_at m x ∷ []) m) → d.window.within ≡ c.window.within
+    → ((start : Stream) (rs : List Record) → HasLent start r rs receiving.fetched → m ≡ latest (on_clock receiving.delay rs) → Fetches receiving.side receiving.delay start t rs after result)
+    → Steps clock s0 r0 s t sending after d result
+step-received-by clock s0 r0 s r t sending receiving after c d m result h turn compared same fetched =
+    let now = received-now clock s0 r0 s r sending receiving c d m h turn compared same in
+    let rs = h.received ++ now.0 ∷ [] in
+    let known = now.2 in
+    let is : latest (on_clock clock.received_delay rs) ≡ m = ap (λ (l : List Seen). latest l) known.last_is ∙ latest-one known.front known.last ∙ known.moment_is in
+    let late : m ≡ latest (on_clock receiving.delay rs) = sym is ∙ ap (λ (k : ℕ). latest (on_clock k rs)) (sym h.received_stands.delay_is) in
+    step-received clock s0 r0 s t sending after d h.sent rs m result known
+    (subst (λ (k : ℕ). Fetches sides.Received k r0 t rs after result) h.received_stands.delay_is
+    (subst (λ (of : Side). Fetches of receiving.delay r0 t rs after result) h.received_stands.side_is (fetched r0 rs now.1 late)))
+
+-- ---- the loop
+
+-- a source that lends a record was begun
+pub lends-begun : (s : Standing) → IsSome (lent s) → s ≢ New
+lends-begun New h e = absurd cc
+lends-begun (Open style last) h e = absurd cc
+lends-begun (Ended is_cut) h e = absurd cc
+lends-begun (Failed fault) h e = absurd cc
+
+-- less may come behind a record
+pub weighs-less : (old new : Option ℕ) (s t : Stream) (m : ℕ) → old ≡ Some m → IfSome new (λ _. 16 + most_left t ≤ most_left s) → weight new t < weight old s
+weighs-less None new s t m e h = absurd cc
+weighs-less (Some k) None s t m e h = omega arith
+weighs-less (Some k) (Some n) s t m e h = omega (arith, h)
+
+-- ---- what the first calls tell
+
+pub stops-as : (c : Coming) (side : Side) (delay : ℕ) (start : Stream) (rs : List Record) (fault : CompareFault) → c ≡ record { side = side; delay = delay; fetched = 0; next = None } → StopsBehind c.side start rs fault
+    → StopsBehind side start rs fault
+stops-as c side delay start rs fault is h = subst (λ (of : Side). StopsBehind of start rs fault) (ap (λ (c : Coming). c.side) is) h
+
+pub stands-as : (c d : Coming) (side : Side) (delay : ℕ) (start now : Stream) (rs : List Record) → c ≡ record { side = side; delay = delay; fetched = 0; next = None } → Stands c.side c.delay start now rs d
+    → Stands side delay start now rs d
+stands-as c d side delay start now rs is h =
+    subst (λ (n : ℕ). Stands side n start now rs d) (ap (λ (c : Coming). c.delay) is) (subst (λ (of : Side). Stands of c.delay start now rs d) (ap (λ (c : Coming). c.side) is) h)

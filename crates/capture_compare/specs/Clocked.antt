@@ -1,0 +1,54 @@
+-- The records of two captures on one clock. It states no standard.
+--     on_clock     the records of a capture, at moments that never fall
+--     before       those that come before a moment
+--     up_to        those that come before it or at it
+use Rattle.std.specs.Prelude.{◌≤◌, ⊤, ℕ, ◌+◌, max, nat_le, nat_lt, if◌then◌else◌, List, [], ◌∷◌}
+use Rattle.pcap_io.specs.Record.{Record}
+use Rattle.record_match.specs.Match.{Record as Seen}
+
+-- a record at a moment
+abbrev pub seen_at : ℕ → Record → Seen
+seen_at moment r = record { moment = moment; octets = r.octets }
+
+-- records behind one of this moment, with so many nanoseconds more: each at the greatest moment up to it
+abbrev pub timed : ℕ → ℕ → List Record → List Seen
+timed delay latest [] = []
+timed delay latest (r ∷ rs) = seen_at (max (r.moment + delay) latest) r ∷ timed delay (max (r.moment + delay) latest) rs
+
+-- the records of a capture on one clock
+abbrev pub on_clock : ℕ → List Record → List Seen
+on_clock delay rs = timed delay 0 rs
+
+-- the moment of the last of some, behind one of this moment
+abbrev pub latest_behind : ℕ → List Seen → ℕ
+latest_behind latest [] = latest
+latest_behind latest (r ∷ rs) = latest_behind r.moment rs
+
+-- the moment of the last of some, 0 where there are none
+abbrev pub latest : List Seen → ℕ
+latest rs = latest_behind 0 rs
+
+-- those in front that are earlier than a moment
+abbrev pub before : ℕ → List Seen → List Seen
+before moment [] = []
+before moment (r ∷ rs) = if nat_lt r.moment moment then r ∷ before moment rs else []
+
+-- those in front that are no later than a moment
+abbrev pub up_to : ℕ → List Seen → List Seen
+up_to moment [] = []
+up_to moment (r ∷ rs) = if nat_le r.moment moment then r ∷ up_to moment rs else []
+
+-- of what was sent, that which comes before the last of some that were received: of several at one moment those that were sent
+-- come first
+abbrev pub sent_by : List Seen → List Seen → List Seen
+sent_by [] sent = []
+sent_by (r ∷ received) sent = up_to (latest_behind r.moment received) sent
+
+-- of what was received, that which comes before the last of some that were sent
+abbrev pub received_by : List Seen → List Seen → List Seen
+received_by sent received = before (latest sent) received
+
+-- all of some are no later than a moment
+abbrev pub AreUpTo : ℕ → List Seen → Type 0
+AreUpTo moment [] = ⊤
+AreUpTo moment (r ∷ rs) = (r.moment ≤ moment) × AreUpTo moment rs

@@ -1,0 +1,4 @@
+pub mod Clocked
+pub mod Compared
+pub mod Laws
+pub mod Turns

@@ -1,0 +1,108 @@
+//! The records of two captures in the order of their moments.
+ghost use Rattle.std.specs.Prelude.{◌≡◌, ◌≤◌, ◌<◌, ◌+◌, ◌^◌, ℕ, List, [], Some, IfSome, IsSome, OnOk};
+ghost use Rattle.pcap_stream.specs.Source.{New, Stream, lent, most_left};
+ghost use Rattle.record_match.specs.Compared.{IsCompared};
+ghost use Rattle.record_match.specs.declared.clock.Clock.{Clock as AClock};
+ghost use Rattle.capture_compare.specs.Compared.{Tells};
+ghost use Rattle.capture_compare.specs.Turns.{Amidst, Steps, turn_of};
+ghost use Rattle.capture_compare.specs.declared.coming.Coming.{Coming as AComing};
+ghost use Rattle.capture_compare.specs.declared.turn.Turn.TheVariants as turns;
+
+use crate::coming::Coming;
+use crate::fault::{CompareFault, Side};
+use crate::take::{take_received, take_sent};
+use crate::turn::{Turn, turn_of};
+use pcap_stream::{Input, Source};
+use record_match::{Clock, Comparison};
+
+/// Compares two captures, those that were sent and those that were received, to their ends. Of several records at one moment
+/// those that were sent come first.
+///
+/// At most 2^64 - 1 octets of each may come, counted as 262,144 by each read that the source may make: so all counts fit. The
+/// comparison is one of no records, for those that are received so much later as the clock tells.
+///
+/// The faults are those of the captures, in the order in which their records come; or `Full` with the moment, where the window
+/// has no room. The comparison has then what was compared before.
+pub fn compare_captures<R: Input>(
+    sent: &mut Source<R>,
+    received: &mut Source<R>,
+    clock: Clock,
+    comparison: &mut Comparison,
+) -> Result<(), CompareFault>
+    requires new_sent { sent.old.standing ≡ New }
+    requires new_received { received.old.standing ≡ New }
+    requires most_sent { most_left sent.old < 2 ^ 64 }
+    requires most_received { most_left received.old < 2 ^ 64 }
+    requires sent_delay { clock.sent_delay ≤ 2000000000000000000 }
+    requires received_delay { clock.received_delay ≤ 2000000000000000000 }
+    requires none { IsCompared comparison.old [] [] 0 }
+    requires within { comparison.old.window.within ≡ clock.within }
+    ensures told { (sent_text received_text : List ℕ) → sent.old.supply.rest ≡ Some sent_text → received.old.supply.rest ≡ Some received_text
+        → Tells clock sent_text received_text comparison.new result }
+{
+    let mut sending = Coming::new(Side::Sent, clock.sent_delay);
+    if let Err(fault) = sending.open(sent) {
+        return Err(fault);
+    }
+    let mut receiving = Coming::new(Side::Received, clock.received_delay);
+    if let Err(fault) = receiving.open(received) {
+        return Err(fault);
+    }
+    'turns: loop {
+        match turn_of(sending.next, receiving.next) {
+            Turn::Done => return Ok(()),
+            Turn::Sent(moment) => {
+                if let Err(fault) = send_next(sent, &mut sending, moment, comparison) {
+                    return Err(fault);
+                }
+            }
+            Turn::Received(moment) => {
+                if let Err(fault) = receive_next(received, &mut receiving, moment, comparison) {
+                    return Err(fault);
+                }
+            }
+        }
+    }
+}
+
+/// Takes the next record that was sent, and fetches the one behind it.
+fn send_next<R: Input>(
+    source: &mut Source<R>,
+    sending: &mut Coming,
+    moment: u64,
+    comparison: &mut Comparison,
+) -> Result<(), CompareFault>
+    requires lent { IsSome (lent source.old.standing) }
+    requires count { sending.old.fetched + 1 < 2 ^ 64 }
+    requires sent { comparison.old.sent + 1 < 2 ^ 64 }
+    requires delay { sending.old.delay ≤ 2000000000000000000 }
+    requires moment { sending.old.delay ≤ moment }
+    ensures told { (clock : AClock) (s0 r0 r : Stream) (receiving : AComing) → Amidst clock s0 r0 source.old r sending.old receiving comparison.old
+        → turn_of sending.old.next receiving.next ≡ turns.Sent moment → Steps clock s0 r0 source.new r sending.new receiving comparison.new result }
+    ensures less { OnOk result (IfSome sending.new.next (λ _. 16 + most_left source.new ≤ most_left source.old)) }
+{
+    if let Err(fault) = take_sent(source, sending.delay(), moment, comparison) {
+        return Err(fault);
+    }
+    sending.fetch(source, moment)
+}
+
+/// Takes the next record that was received, and fetches the one behind it.
+fn receive_next<R: Input>(
+    source: &mut Source<R>,
+    receiving: &mut Coming,
+    moment: u64,
+    comparison: &mut Comparison,
+) -> Result<(), CompareFault>
+    requires lent { IsSome (lent source.old.standing) }
+    requires count { receiving.old.fetched + 1 < 2 ^ 64 }
+    requires received { comparison.old.received + 1 < 2 ^ 64 }
+    requires both { comparison.old.both + 1 < 2 ^ 64 }
+    requires delay { receiving.old.delay ≤ 2000000000000000000 }
+    ensures told { (clock : AClock) (s0 r0 s : Stream) (sending : AComing) → Amidst clock s0 r0 s source.old sending receiving.old comparison.old
+        → turn_of sending.next receiving.old.next ≡ turns.Received moment → Steps clock s0 r0 s source.new sending receiving.new comparison.new result }
+    ensures less { OnOk result (IfSome receiving.new.next (λ _. 16 + most_left source.new ≤ most_left source.old)) }
+{
+    take_received(source, moment, comparison);
+    receiving.fetch(source, moment)
+}

@@ -1,0 +1,5 @@
+pub mod AsAsked
+pub mod Chosen
+pub mod Meant
+pub mod Passing
+pub mod Told

@@ -1,0 +1,4 @@
+pub mod Lanes
+pub mod Meanings
+pub mod Pass
+pub mod Steps

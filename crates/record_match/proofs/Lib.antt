@@ -1,0 +1,6 @@
+pub mod Laying
+pub mod Indexing
+pub mod Sound
+pub mod Showing
+pub mod Meeting
+pub mod Comparing

@@ -1,0 +1,273 @@
+//! The records that were sent and may still be received.
+ghost use Rattle.std.specs.Prelude.{◌≡◌, ◌≤◌, ◌<◌, ◌+◌, ◌&&◌, [], ◌∷◌, ◌++◌, ◌==◌, IfOk, drop, length, if◌then◌else◌, slice_index_or, replicate, true};
+ghost use Rattle.std.specs.VecDeque.{deque_capacity};
+ghost use Rattle.record_match.specs.Kept.{behind, linked, told};
+ghost use Rattle.record_match.specs.Match.{as_sent, is_known, is_met_by};
+ghost use Rattle.record_match.specs.Window.{FindsFirst, at_moment, has_room, has_space, is_counted, is_first_over, sent_to, taken_at, with_received, with_sent};
+
+use crate::bucket::{BUCKETS, bucket_of};
+use crate::kept::{Ends, Kept, behind};
+use crate::row::{MOST_OCTETS, Row};
+use crate::seen::Seen;
+use std::alloc::{AllocError, Global};
+use std::collections::VecDeque;
+use std::marker::Model;
+
+/// How many records a window holds at most.
+const MOST_RECORDS: usize = 1_048_576;
+
+/// How many records, and how many octets, may be sent in all: so their numbers fit.
+const MOST_IN_ALL: u64 = 4_611_686_018_427_387_904;
+
+/// The latest records that were sent, at most 1,048,576 of them and 268,435,456 octets, and which of them were received. Only
+/// [`Window::new`] takes memory.
+#[derive(Drop)]
+pub struct Window {
+    /// How many nanoseconds later a record may be received.
+    within: u64,
+    /// How many records went before those that are kept, and how many octets.
+    gone: u64,
+    passed: u64,
+    /// The earliest first.
+    kept: VecDeque<Kept>,
+    /// Their octets, in the same order.
+    row: Row,
+    /// The first and the last record of each bucket.
+    ends: Vec<Ends>,
+}
+
+impl Model for Window {
+    ghost use Rattle.std.specs.Prelude.{◌+◌, length};
+    ghost use Rattle.std.specs.VecDeque.{deque_capacity};
+    ghost use Rattle.record_match.specs.Kept.{IsSound, laid};
+    ghost use Rattle.record_match.specs.Window.{Window};
+
+    ghost Value = { Window };
+
+    ghost view = { λ w. record {
+      within = w.within;
+      records = w.gone + length w.kept.items;
+      octets = w.passed + length w.row;
+      held = laid w.kept.items w.row;
+    } };
+
+    ghost invariant = { λ w. IsSound w.gone w.passed w.kept.items w.row w.ends.items (deque_capacity w.kept) };
+}
+
+impl Window {
+    /// A window that holds no record yet, for records that are received at most so many nanoseconds later. It takes the memory for
+    /// all that it may hold, and `AllocError` says that there was none.
+    pub fn new(alloc: Global, within: u64) -> Result<Window, AllocError>
+        ensures { IfOk result (λ window. window ≡ record { within = within; records = 0; octets = 0; held = [] }) }
+    {
+        Ok(Window {
+            within,
+            gone: 0,
+            passed: 0,
+            kept: VecDeque::with_capacity(alloc, MOST_RECORDS)?,
+            row: Row::new(alloc)?,
+            ends: no_ends(alloc, bucket_count())?,
+        })
+    }
+
+    /// Takes the next record that was sent; those that are over at its moment go before. Says whether there was room for it:
+    /// where there is none, it isn't held.
+    pub fn send(&mut self, sent: &Seen) -> bool
+        ensures answer { result ≡ has_room (at_moment sent.now.moment self.old) (length sent.now.octets.now) }
+        ensures window { self.new ≡ sent_to (told sent.now) (at_moment sent.now.moment self.old) }
+    {
+        self.pass(sent.moment);
+        if !self.has_room(sent.octets.len()) {
+            return false;
+        }
+        self.put(sent);
+        true
+    }
+
+    /// Takes the next record that was received; those that are over at its moment go before. Says whether it is one that was sent.
+    pub fn receive(&mut self, received: &Seen) -> bool
+        ensures answer { result ≡ is_known self.old.within (told received.now) (at_moment received.now.moment self.old).held }
+        ensures window { self.new ≡ with_received (told received.now) (at_moment received.now.moment self.old) }
+    {
+        self.pass(received.moment);
+        match self.search(received) {
+            Some(i) => {
+                self.take(i, received);
+                true
+            }
+            None => false,
+        }
+    }
+
+    /// Lets those go that are over at a moment, up to the first that isn't.
+    fn pass(&mut self, now: u64)
+        ensures { self.new ≡ at_moment now self.old }
+    {
+        while self.is_first_over(now) {
+            self.forget_first();
+        }
+    }
+
+    /// Whether the first record is over.
+    fn is_first_over(&self, now: u64) -> bool
+        ensures { result ≡ is_first_over self.now.within now self.now.held }
+    {
+        match self.kept.front() {
+            Some(kept) => kept.is_over(self.within, now),
+            None => false,
+        }
+    }
+
+    /// Lets the first record go.
+    fn forget_first(&mut self)
+        requires { 0 < length self.old.held }
+        ensures { self.new ≡ record self.old { held = drop 1 self.old.held } }
+    {
+        let Some(kept) = self.kept.pop_front() else {
+            return;
+        };
+        let ends = &mut self.ends[kept.bucket as usize];
+        *ends = ends.without(self.gone, self.gone + 1, kept.next);
+        self.row.forget(kept.length);
+        self.gone += 1;
+        self.passed += kept.length as u64;
+    }
+
+    /// Whether there is room for a record of so many octets.
+    fn has_room(&self, more: usize) -> bool
+        ensures { result ≡ has_room self.now more }
+    {
+        let records = self.kept.len();
+        let octets = self.row.held().len();
+        if has_space(records, octets, more) {
+            return is_counted(
+                self.gone + records as u64,
+                self.passed + octets as u64,
+                more,
+            );
+        }
+        false
+    }
+
+    /// Holds a record for which there is room.
+    fn put(&mut self, sent: &Seen)
+        requires { has_room self.old (length sent.now.octets.now) ≡ true }
+        ensures { self.new ≡ with_sent (told sent.now) self.old }
+    {
+        let bucket = bucket_of(sent.octets);
+        let number = self.gone + self.kept.len() as u64 + 1;
+        let ends = self.ends[bucket as usize];
+        link(&mut self.kept, self.gone, ends.last, bucket, number);
+        self.ends[bucket as usize] = ends.with(self.gone, number);
+        let kept = Kept {
+            moment: sent.moment,
+            at: self.passed + self.row.held().len() as u64,
+            next: 0,
+            length: sent.octets.len(),
+            bucket,
+            is_taken: false,
+        };
+        self.row.put(sent.octets);
+        // There is room: nothing is taken.
+        let _ = self.kept.push_back(kept);
+    }
+
+    /// Which of the records that are held is one that is received.
+    fn search(&self, received: &Seen) -> Option<usize>
+        ensures { FindsFirst self.now.within (told received.now) self.now.held result }
+    {
+        let bucket = bucket_of(received.octets);
+        let ends = self.ends[bucket as usize];
+        let last = ends.last.min(self.gone + self.kept.len() as u64);
+        let mut number = ends.first.max(self.gone + 1);
+        while number <= last {
+            let i = (number - self.gone - 1) as usize;
+            if self.is_met(i, received) {
+                return Some(i);
+            }
+            number = behind_in(&self.kept[i], number, bucket);
+        }
+        None
+    }
+
+    /// Whether a record that is held is one that is received.
+    fn is_met(&self, i: usize, received: &Seen) -> bool
+        requires { i < length self.now.held }
+        ensures { result ≡ is_met_by self.now.within (told received.now) (slice_index_or self.now.held i (as_sent (told received.now))) }
+    {
+        let kept = &self.kept[i];
+        let begin = (kept.at - self.passed) as usize;
+        let end = begin + kept.length;
+        kept.is_met_by(&self.row.held()[begin..end], self.within, received)
+    }
+
+    /// Notes that a record was received.
+    fn take(&mut self, i: usize, received: &Seen)
+        requires { i < length self.old.held }
+        ensures { self.new ≡ record self.old { held = taken_at (told received.now) self.old.held i } }
+    {
+        let kept = &mut self.kept[i];
+        kept.is_taken = true;
+        let number = self.gone + i as u64 + 1;
+        let (next, bucket) = (kept.next, kept.bucket);
+        let ends = &mut self.ends[bucket as usize];
+        *ends = ends.without(self.gone, number, next);
+    }
+}
+
+/// The number behind that of a record, of those in a bucket.
+fn behind_in(kept: &Kept, number: u64, bucket: u32) -> u64
+    requires { number ≤ 4611686018427387904 }
+    ensures { result ≡ behind number (if kept.now.bucket == bucket then kept.now.next else 0) }
+{
+    if kept.bucket == bucket {
+        behind(number, kept.next)
+    } else {
+        behind(number, 0)
+    }
+}
+
+/// Notes at the last record of a bucket, where it is kept, that the one with this number comes next.
+fn link(kept: &mut VecDeque<Kept>, gone: u64, last: u64, bucket: u32, number: u64)
+    requires few { length kept.old.items ≤ 1048576 }
+    ensures items { kept.new.items ≡ linked gone last bucket number kept.old.items }
+    ensures capacity { deque_capacity kept.new ≡ deque_capacity kept.old }
+{
+    if last <= gone || last - gone > kept.len() as u64 {
+        return;
+    }
+    let i = (last - gone - 1) as usize;
+    if kept[i].bucket == bucket {
+        kept[i].next = number;
+    }
+}
+
+/// How many buckets there are.
+fn bucket_count() -> usize
+    ensures { result ≡ 262144 }
+{
+    BUCKETS
+}
+
+/// The ends of so many buckets, of no records.
+fn no_ends(alloc: Global, count: usize) -> Result<Vec<Ends>, AllocError>
+    ensures { IfOk result (λ ends. ends.items ≡ replicate count (record { first = 0; last = 0 })) }
+{
+    vec![in alloc; Ends { first: 0, last: 0 }; count]
+}
+
+/// Whether so many records of so many octets may be held, and one more.
+fn has_space(records: usize, octets: usize, more: usize) -> bool
+    requires { octets ≤ 268435456 }
+    ensures { result ≡ has_space records octets more }
+{
+    records < MOST_RECORDS && more <= MOST_OCTETS - octets
+}
+
+/// Whether so many records of so many octets may be sent in all, and one more.
+fn is_counted(records: u64, octets: u64, more: usize) -> bool
+    requires { octets ≤ 4611686018427387904 }
+    ensures { result ≡ is_counted records octets more }
+{
+    records < MOST_IN_ALL && more as u64 <= MOST_IN_ALL - octets
+}

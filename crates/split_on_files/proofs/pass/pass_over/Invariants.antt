@@ -1,0 +1,5 @@
+use Rattle.capture_split.specs.Pass.{IsPlaced}
+use Rattle.split_on_files.proofs.pass.pass_over.Given as goal
+
+abbrev pub invariant-loop-taken : goal.invariant-loop-taken
+invariant-loop-taken g l = IsPlaced l.lanes l.gathered

@@ -1,0 +1,149 @@
+//! What was sent, compared with what was received.
+ghost use Rattle.std.specs.Prelude.{◌≤◌, IfOk, IfSome};
+
+use capture_compare::{CompareFault, Side, compare_captures};
+use command_line::time_of;
+use program_faults::Failure;
+use program_files::{SeenCapture, open_seen, print_text};
+use record_match::{Clock, Comparison};
+use std::fmt::Write;
+use std::io::{Input, Read};
+use std::rt::Files;
+
+/// How much later a record may be received, in nanoseconds, where no other time is asked for.
+const WITHIN: u64 = 1_000_000_000;
+
+/// The longest of these times, in nanoseconds: 31 years.
+const LONGEST: u64 = 1_000_000_000_000_000_000;
+
+/// What is compared, by the words.
+#[derive(Clone, Copy)]
+pub struct Compared<'a> {
+    /// The capture of what was sent.
+    pub sent: &'a str,
+    /// The capture of what was received.
+    pub received: &'a str,
+    /// How much later a record may be received.
+    pub within: Option<&'a str>,
+    /// How far the clock of what was received is ahead.
+    pub shift: Option<&'a str>,
+}
+
+/// Compares two captures, and prints how many records were sent, were received, are both, and are of one alone. What was
+/// compared before a fault is printed, too. Where both are the same it is done; else they differ.
+pub fn compare<'a, R: Files + Input + AllocGlobal + Print>(
+    rt: &R,
+    asked: Compared<'a>,
+) -> Result<(), Failure<'a>> {
+    let clock = clock_of(asked.within, asked.shift)?;
+    let (_, mut sent) = open_seen(rt, asked.sent)?;
+    let (_, mut received) = open_seen(rt, asked.received)?;
+    let mut comparison = Comparison::new(rt.alloc(), clock.within)?;
+    let compared = compare_captures(&mut sent, &mut received, clock, &mut comparison);
+    let told = print_counts(rt, &comparison);
+    if let Err(fault) = compared {
+        return Err(match fault {
+            CompareFault::Read(Side::Sent) => failure_of(Side::Sent, asked.sent, &sent),
+            CompareFault::Read(Side::Received) => {
+                failure_of(Side::Received, asked.received, &received)
+            }
+            _ => Failure::Compared(fault),
+        });
+    }
+    told?;
+    if is_same(&comparison) {
+        Ok(())
+    } else {
+        Err(Failure::Differs)
+    }
+}
+
+/// The clock that the words ask for.
+fn clock_of<'a>(within: Option<&'a str>, shift: Option<&'a str>) -> Result<Clock, Failure<'a>>
+    ensures sent { IfOk result (λ clock. clock.sent_delay ≤ 2000000000000000000) }
+    ensures received { IfOk result (λ clock. clock.received_delay ≤ 2000000000000000000) }
+{
+    let time = match within {
+        Some(text) => match bounded(text) {
+            Some(time) => time,
+            None => return Err(Failure::Within(text)),
+        },
+        None => WITHIN,
+    };
+    match shift {
+        Some(text) => match shifted(text, time) {
+            Some(clock) => Ok(clock),
+            None => Err(Failure::Shift(text)),
+        },
+        None => Ok(Clock::same(time)),
+    }
+}
+
+/// The clock where what was received is ahead by this time, or behind where it begins with `-`.
+fn shifted(text: &str, within: u64) -> Option<Clock>
+    requires { within ≤ 1000000000000000000 }
+    ensures sent { IfSome result (λ clock. clock.sent_delay ≤ 2000000000000000000) }
+    ensures received { IfSome result (λ clock. clock.received_delay ≤ 2000000000000000000) }
+{
+    match text.strip_prefix('-') {
+        Some(time) => clock_by(bounded(time), within, true),
+        None => clock_by(bounded(text), within, false),
+    }
+}
+
+/// The clock that is so much ahead, or behind.
+fn clock_by(shift: Option<u64>, within: u64, is_behind: bool) -> Option<Clock>
+    requires within { within ≤ 1000000000000000000 }
+    requires shift { IfSome shift (λ time. time ≤ 1000000000000000000) }
+    ensures sent { IfSome result (λ clock. clock.sent_delay ≤ 2000000000000000000) }
+    ensures received { IfSome result (λ clock. clock.received_delay ≤ 2000000000000000000) }
+{
+    match shift {
+        Some(shift) => Some(Clock::shifted(within, shift, is_behind)),
+        None => None,
+    }
+}
+
+/// The nanoseconds of a time, at most the longest.
+fn bounded(text: &str) -> Option<u64>
+    ensures { IfSome result (λ time. time ≤ 1000000000000000000) }
+{
+    match time_of(text) {
+        Some(time) if time <= LONGEST => Some(time),
+        _ => None,
+    }
+}
+
+/// Why a capture couldn't be read.
+fn failure_of<'a, F: Read + Drop, I: Read + Drop>(
+    side: Side,
+    name: &'a str,
+    capture: &SeenCapture<'_, F, I>,
+) -> Failure<'a> {
+    match capture.input().fault() {
+        Some(fault) => Failure::ComparedPcapng(side, fault),
+        None => Failure::Read(name),
+    }
+}
+
+/// Whether each record that was sent was received, and no other.
+fn is_same(comparison: &Comparison) -> bool {
+    comparison.sent() == comparison.both() && comparison.received() == comparison.both()
+}
+
+/// Prints the counts.
+fn print_counts<R: AllocGlobal + Print>(
+    rt: &R,
+    comparison: &Comparison,
+) -> Result<(), Failure<'static>> {
+    let (sent, received, both) = (comparison.sent(), comparison.received(), comparison.both());
+    let mut text = String::new(rt.alloc());
+    writeln!(text, "sent {sent}")?;
+    writeln!(text, "received {received}")?;
+    writeln!(text, "both {both}")?;
+    let sent_alone = sent.saturating_sub(both);
+    writeln!(text, "sent alone {sent_alone}")?;
+    let received_alone = received.saturating_sub(both);
+    writeln!(text, "received alone {received_alone}")?;
+    print_text(rt, text.as_bytes())
+}

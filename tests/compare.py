@@ -1,0 +1,138 @@
+#!/usr/bin/env python3
+"""Captures that are made with loss, doubling, delay, changed octets and faults, compared by ./tep and by a plain matcher here:
+for each content a queue of those that were sent. Usage: compare.py TEP FOLDER COUNT; prints what differs, and exits 1 where
+something does."""
+import collections
+import random
+import struct
+import subprocess
+import sys
+
+SECOND = 1_000_000_000
+
+
+def write(path, records, is_faulty):
+    """A classic capture of nanoseconds, with a record that is too large behind the others where it is to have a fault."""
+    with open(path, "wb") as out:
+        out.write(struct.pack("<IHHiIII", 0xA1B23C4D, 2, 4, 0, 0, 262144, 1))
+        for moment, octets in records:
+            out.write(struct.pack("<IIII", moment // SECOND, moment % SECOND, len(octets), len(octets)))
+            out.write(octets)
+        if is_faulty:
+            out.write(struct.pack("<IIII", 0, 0, 300_000, 300_000))
+
+
+def rising(records):
+    """The records, each at the greatest moment so far."""
+    latest = 0
+    for moment, octets in records:
+        latest = max(latest, moment)
+        yield latest, octets
+
+
+def counts(sent, received, within, shift):
+    """How many were sent, were received, and are both: each content alone, the first with the first that is not too late."""
+    least, most = (0, within) if shift is None else (shift - within, shift + within)
+    queues = collections.defaultdict(collections.deque)
+    for moment, octets in rising(sent):
+        queues[octets].append(moment)
+    both = 0
+    for moment, octets in rising(received):
+        queue = queues[octets]
+        while queue and queue[0] + most < moment:
+            queue.popleft()
+        if queue and queue[0] + least <= moment:
+            queue.popleft()
+            both += 1
+    return len(sent), len(received), both
+
+
+def up_to_fault(sent, received, within, shift, faulty):
+    """What is read of two captures up to the first of their faults, and what that says: each fault stands behind the last
+    record of its capture, and of records at one moment those that were sent come first."""
+    offset = 0 if shift is None else shift - within
+    coming = [(moment + offset, 0, number) for number, (moment, _) in enumerate(rising(sent))]
+    coming += [(moment, 1, number) for number, (moment, _) in enumerate(rising(received))]
+    read = [0, 0]
+    lengths = [len(sent), len(received)]
+    names = ["sent", "received"]
+    for side in (0, 1):
+        if faulty[side] and lengths[side] == 0:
+            return [], [], f"{names[side]}: TooLarge 1"
+    for _, side, _ in sorted(coming):
+        read[side] += 1
+        if faulty[side] and read[side] == lengths[side]:
+            return sent[: read[0]], received[: read[1]], f"{names[side]}: TooLarge {lengths[side] + 1}"
+    return sent, received, None
+
+
+def made(chance):
+    """Two captures, a window and a shift, and which of them have a fault."""
+    within = chance.choice([0, 5, 100, 1000, SECOND])
+    shift = chance.choice([None, None, 0, 3, -7, 50, 2000, -2000])
+    contents = [chance.randbytes(chance.choice([0, 1, 14, 60, 61, 300])) for _ in range(chance.choice([1, 2, 5, 40]))]
+    step = chance.choice([0, 1, 10, 200])
+    moment = 5 * SECOND
+    sent, received = [], []
+    for number in range(chance.randrange(60)):
+        moment += chance.randrange(step + 1)
+        octets = chance.choice(contents)
+        if chance.random() < 0.5:
+            octets += struct.pack("<I", number)
+        told = moment - chance.randrange(step + 1) if chance.random() < 0.05 else moment
+        sent.append((told, octets))
+        for _ in range(chance.choice([0, 1, 1, 1, 1, 1, 2])):
+            changed = bytearray(octets)
+            if changed and chance.random() < 0.05:
+                changed[chance.randrange(len(changed))] ^= 1
+            delay = chance.choice([0, 0, 1, within, within + 1, chance.randrange(2 * within + 1)])
+            received.append((max(0, told + delay + (shift or 0)), bytes(changed)))
+    if chance.random() < 0.8:
+        received.sort(key=lambda record: record[0])
+    return sent, received, within, shift, [chance.random() < 0.15, chance.random() < 0.15]
+
+
+def told(tep, folder, within, shift):
+    """What the program prints, and its status."""
+    words = [tep, "compare", f"{folder}/sent.pcap", f"{folder}/received.pcap", "--within", f"{within}ns"]
+    if shift is not None:
+        words += [f"--shift={shift}ns"]
+    done = subprocess.run(words, capture_output=True, text=True, check=False)
+    return done.stdout, done.returncode, done.stderr
+
+
+def fullest(tep, folder):
+    """Whether a window of as many records as it may hold is taken, and one more isn't."""
+    most = 1 << 20
+    write(f"{folder}/received.pcap", [], False)
+    for count in (most, most + 1):
+        write(f"{folder}/sent.pcap", [(5 * SECOND, b"")] * count, False)
+        wanted = f"sent {most}\nreceived 0\nboth 0\nsent alone {most}\nreceived alone 0\n"
+        said = "what was received isn't what was sent\n" if count == most else "at 5000000000: WindowFull\n"
+        if told(tep, folder, 0, None) != (wanted, 1, said):
+            print(f"{count} records at one moment are told otherwise")
+            return False
+    return True
+
+
+def main():
+    tep, folder, count = sys.argv[1], sys.argv[2], int(sys.argv[3])
+    wrong = 0 if fullest(tep, folder) else 1
+    for seed in range(count):
+        sent, received, within, shift, faulty = made(random.Random(seed))
+        write(f"{folder}/sent.pcap", sent, faulty[0])
+        write(f"{folder}/received.pcap", received, faulty[1])
+        sent, received, fault = up_to_fault(sent, received, within, shift, faulty)
+        a, b, both = counts(sent, received, within, shift)
+        wanted = f"sent {a}\nreceived {b}\nboth {both}\nsent alone {a - both}\nreceived alone {b - both}\n"
+        said = fault or (None if a == both == b else "what was received isn't what was sent")
+        printed, status, told_of = told(tep, folder, within, shift)
+        if (printed, status, told_of) != (wanted, 1 if said else 0, f"{said}\n" if said else ""):
+            wrong += 1
+            print(f"seed {seed}: status {status}, printed\n{printed}{told_of}wanted\n{wanted}{said}")
+            if wrong == 3:
+                break
+    sys.exit(1 if wrong else 0)
+
+
+main()

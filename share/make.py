@@ -19,7 +19,7 @@ TOP = HERE.parent
 COLUMNS = 78
 
 # What stands between the brackets of a value, and what a completion offers for it. Of another value it offers nothing.
-IS_FILE = {"FILE", "SENT", "RECEIVED"}
+IS_FILE = {"FILE"}
 IS_FOLDER = {"DIR", "SHARD"}
 RANGE = re.compile(r"(\d+)\.\.(\d+)")
 

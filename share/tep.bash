@@ -87,8 +87,10 @@ _tep() {
             ;;
         compare)
             case $before,$cur in
+                --worked,*) _tep_offers folders ;;
+                -u,* | --underlay,*) _tep_offers files ;;
                 --within,* | --shift,*) _tep_offers words "" ;;
-                *,-*) _tep_offers words "--within --shift --help --version" ;;
+                *,-*) _tep_offers words "--worked --underlay --within --shift --help --version" ;;
                 *) _tep_offers files ;;
             esac
             ;;

@@ -50,18 +50,21 @@ def check_sentence(sentences, path, value):
             complain(f"{path}: '{told}' has {sorted(in_told)}, and docs/FORMATS.md has {sorted(in_value)}")
 
 
-sentences = {path: text for path, fault, text in code_rows(ALLOWED, "SENTENCES") if not fault}
+rows = code_rows(ALLOWED, "SENTENCES")
+sentences = {path: text for path, variant, fault, text in rows if not fault and not variant}
+sentences_3 = sentences | {path: text for path, variant, fault, text in rows if not fault and variant == "3"}
 paths = {"limit"}
 first = table("## Settings", "Key")
 second = table("## Settings", "Key of version 2")
 third = table("## Settings", "Key of version 3")
-for keys, value, *_ in first + second + third:
-    for key in names(keys):
-        path = without_numbers(key)
-        paths.add(path)
-        if (path, keys) != ("segment.tunnel", "`segment.k.tunnel`") or '"' in value:
-            check_sentence(sentences, path, value)
-paths |= {"underlay", "underlay.hop.addr", "underlay.hop.mac"}
+for table_of, told in (first, sentences), (second, sentences), (third, sentences_3):
+    for keys, value, *_ in table_of:
+        for key in names(keys):
+            path = without_numbers(key)
+            paths.add(path)
+            if (path, keys) != ("segment.tunnel", "`segment.k.tunnel`") or '"' in value:
+                check_sentence(told, path, value)
+paths |= {"limits", "underlay", "underlay.hop.addr", "underlay.hop.mac"}
 settings = {}
 for path, variant, keys in code_rows(KNOWN, "SETTINGS_KEYS"):
     settings[path, variant] = keys
@@ -78,7 +81,9 @@ def keys_under(rows, front):
 
 tunnels = {"vni", "flood"}
 wanted = {
+    ("*", "3"): keys_under(first, "") | {"limits", "underlay"},
     ("*", ""): keys_under(first, "") | {"underlay"},
+    ("limits.*", ""): keys_under(third, "limits."),
     ("underlay.*", "3"): keys_under(first + third, "underlay."),
     ("underlay.*", ""): keys_under(first, "underlay."),
     ("underlay.hop.*", ""): {"addr", "mac"},

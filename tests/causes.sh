@@ -325,7 +325,7 @@ ends 1 merge -o whole out <<'T'
 part out: port2.pcap has another number of octets than shard.txt says
   run the part again
 T
-tests/shard_outputs.py "$folder/out"
+tests/part_outputs.py "$folder/out"
 ends 1 merge -o whole out <<'T'
 part out: p2 NotPcap
   out/port2.pcap: it is compressed with gzip: editcap -F nsecpcap IN OUT converts it, or <(zcat IN) in its place

@@ -1,5 +1,6 @@
 #!/usr/bin/env bash
-# tep compare tells of captures with loss, doubling, delay, changed octets and faults what a plain matcher tells of them.
+# tep compare tells of captures with loss, doubling, delay, changed octets and faults what a plain matcher tells of them, and of
+# what a run wrote beside what was captured of it what is worked out by hand.
 set -u
 cd "$(dirname "$0")/.." || exit 1
 folder=$(mktemp -d)
@@ -40,4 +41,23 @@ sent: NotPcap" "$folder/empty.pcap" "$capture"
 wants 1 "within: 5 is no time, as 500us, 10ms or 1s are" --within 5 "$capture" "$capture"
 wants 1 "shift: -x is no time, as 500us, 10ms or -1s are" --shift=-x "$capture" "$capture"
 wants 1 "within: 1000000001s is no time, as 500us, 10ms or 1s are" --within 1000000001s "$capture" "$capture"
+
+# What a run wrote, beside what was captured of what went out.
+python3 tests/compare_worked.py ./tep "$folder" || complain "what a run wrote is told otherwise"
+mkdir "$folder/out"
+./tep run -s examples/a.toml -c examples/changes.toml -u "$capture" -o "$folder/out" examples/port[123].pcap ||
+    complain "the example doesn't run"
+itself=$(./tep compare --worked "$folder/out" -u "$folder/out/underlay.pcap" "$folder"/out/port[123].pcap)
+[ "$?" = 0 ] || complain "what a run wrote isn't the same as itself"
+[ "$(grep -c 'sent alone 0, received alone 0$' <<<"$itself")" = 5 ] || complain "what a run wrote is alone beside itself: $itself"
+mkdir "$folder/linux"
+./tep run -s examples/linux/settings.toml -u examples/linux/underlay.pcap -o "$folder/linux" examples/linux/port[123].pcap ||
+    complain "the example of a Linux bridge doesn't run"
+seen=examples/linux/sent
+wants 0 "p1: sent 3, received 3, both 3, sent alone 0, received alone 0
+p2: sent 6, received 6, both 6, sent alone 0, received alone 0
+p3: sent 3, received 3, both 3, sent alone 0, received alone 0
+u: sent 4, received 4, both 4, sent alone 0, received alone 0
+all: sent 16, received 16, both 16, sent alone 0, received alone 0" \
+    --worked "$folder/linux" -u "${seen}_underlay.pcap" "${seen}_port1.pcap" "${seen}_port2.pcap" "${seen}_port3.pcap"
 exit $status

@@ -71,7 +71,7 @@ case $1 in
         echo "chatter" >&2
         ;;
     all)
-        for name in header_sums frame_view; do
+        for name in header_octets frame_view; do
             sleep "${SLOW:-0}"
             printf '== %s\nfn some: proved\ncrate %s: modules loaded=1 checked=1\nlogic=proved functions=1\n' $name $name
         done
@@ -105,7 +105,7 @@ told stderr "tep: first a look at the sample, not proved yet:
 four lines
 tep: now each crate is proved, and then the program is built. This takes about 40 minutes on four processors, once.
 tep: The log is $log. An interrupt loses nothing: the next ./tep goes on from there.
-[1/$of] header_sums 0:00
+[1/$of] header_octets 0:00
 [2/$of] frame_view 0:00
 tep: all is proved; now it is built
 tep: proved and built in 0:00"
@@ -123,7 +123,7 @@ proved: all that it stands on"
 touch "$clone/crates/wire_tests/src/lib.rt"
 ends 0
 called
-for source in crates.txt crates/tep/src/main.rt crates/header_sums/specs crates/endpoint_core/proofs; do
+for source in crates.txt crates/tep/src/main.rt crates/header_octets/specs crates/endpoint_core/proofs; do
     touch "$clone/$source"
     ends 0 four
     told stdout "words: four"
@@ -137,7 +137,7 @@ touch "$CALLS.fails" "$clone/crates/tep/src/main.rt"
 ends 3 five
 told stdout ""
 told stderr "tep: proving what isn't proved yet or has changed, and building; the log is $log
-[1/$of] header_sums 0:00
+[1/$of] header_octets 0:00
 [2/$of] frame_view 0:00
 [3/$of] vlan_ports 0:00
 tep: vlan_ports isn't proved
@@ -157,7 +157,7 @@ SLOW=10 setsid -w timeout -s INT 3 "$tep" six >"$folder/stdout" 2>"$folder/stder
 grep -q '^tep: interrupted; what is proved stays$' "$folder/stderr" || complain "an interrupt isn't told: $(cat "$folder/stderr")"
 told stdout ""
 SLOW=2 script -qec "$tep seven" /dev/null >"$folder/terminal" </dev/null
-for line in "\[0/$of\] reading the sources 0:0" "\[1/$of\] header_sums 0:0" "\[2/$of\] frame_view 0:0"; do
+for line in "\[0/$of\] reading the sources 0:0" "\[1/$of\] header_octets 0:0" "\[2/$of\] frame_view 0:0"; do
     tr '\r' '\n' <"$folder/terminal" | grep -q "$line" || complain "a terminal isn't told '$line': $(cat -v "$folder/terminal")"
 done
 tail -n 1 "$folder/terminal" | grep -q '^words: seven' || complain "the program's own line isn't the last"

@@ -159,7 +159,7 @@ DESTDIR=$folder/stage ends 0 "$clone/install"
 stands "$folder/stage/usr/local" "${files[@]}"
 
 # Sources that were changed since are told of, and what they were built from before isn't installed.
-echo "// more" >>"$clone/crates/header_sums/src/lib.rt"
+echo "// more" >>"$clone/crates/header_octets/src/lib.rt"
 ends 1 "$clone/install" "$prefix"
 ends 0 "$clone/tep" -V
 told stdout "$(sed -n '/^\$ tep -V$/ { n; p }' docs/HELP.txt)

@@ -151,12 +151,26 @@ unwritten() {
 unwritten "$folder/eighth" --why 8
 unwritten "$folder/seventh" --why c:1
 
-# The tables behind event 4, at 4 s, and behind the last one, at 9 s: what was learned at port 2 went when it went down.
+# The tables behind event 4, just before 5 s, and at the last one, at 9 s: what was learned at port 2 went when it went down. An
+# entry is live for less than 300 s.
 tells 0 "" --tables-at 4999999999 <<'T'
+segment 10 02:00:00:00:00:01 p1 seen 1000000000 age 3.999999999
+segment 10 02:00:00:00:00:02 p2 seen 3000000000 age 1.999999999
+segment 20 02:00:00:00:00:01 p3 seen 2000000000 age 2.999999999
+segment 20 02:00:00:00:00:02 p2 seen 4000000000 age 0.999999999
+T
+tells 0 "" --tables-at 4000000000 <<'T'
 segment 10 02:00:00:00:00:01 p1 seen 1000000000 age 3.000000000
 segment 10 02:00:00:00:00:02 p2 seen 3000000000 age 1.000000000
 segment 20 02:00:00:00:00:01 p3 seen 2000000000 age 2.000000000
 segment 20 02:00:00:00:00:02 p2 seen 4000000000 age 0.000000000
+T
+tells 0 "" --tables-at 304999999999 <<'T'
+segment 10 02:00:00:00:00:01 p1 seen 8000000000 age 296.999999999
+segment 10 02:00:00:00:00:05 192.0.2.2 seen 5000000000 age 299.999999999
+T
+tells 0 "" --tables-at 305000000000 <<'T'
+segment 10 02:00:00:00:00:01 p1 seen 8000000000 age 297.000000000
 T
 cat >"$folder/last" <<'T'
 segment 10 02:00:00:00:00:01 p1 seen 8000000000 age 1.000000000
@@ -164,7 +178,8 @@ segment 10 02:00:00:00:00:05 192.0.2.2 seen 5000000000 age 4.000000000
 segment 20 02:00:00:00:00:01 p3 seen 2000000000 age 7.000000000
 T
 tells 0 "" --tables <"$folder/last"
-tells 0 "" --tables-at 18446744073709551615 <"$folder/last"
+tells 0 "" --tables-at 9000000000 <"$folder/last"
+tells 0 "" --tables-at 18446744073709551615 </dev/null
 tells 0 "" --tables-at 0 </dev/null
 tells 0 "" --tables --why 8 < <(cat "$folder/eighth" "$folder/last")
 
@@ -200,7 +215,7 @@ tells 0 "" --talkers <"$folder/talks"
 tells 0 "" --summary --talkers < <(cat "$folder/counts" "$folder/talks")
 unwritten "$folder/talks" --talkers
 unwritten "$folder/last" --tables
-unwritten "$folder/last" --tables-at 18446744073709551615
+unwritten "$folder/last" --tables-at 9000000000
 unwritten "$folder/counts" --summary
 cmp "$folder/out/decisions.txt" "$folder/plain/decisions.txt" || complain "counting changed the decisions"
 cmp "$folder/out/underlay.pcap" "$folder/plain/underlay.pcap" || complain "counting changed a capture"

@@ -122,15 +122,27 @@ def beyond_256():
     return row
 
 
+def beyond_4000():
+    """3,998 segments of 1 entry come to two of 256, where 4,000 are asked for, in a pool that has no more room; and then none."""
+    row = Row("3998 more segments, and then none")
+    row.put("A2")
+    row.put("~ version = 2 => version = 3;pool = 4510;[limits];segments = 4000")
+    for number, vid in enumerate((vid for vid in range(1, 4095) if vid not in (10, 20)), 1):
+        if number < 4001:
+            row.put(f'c kind = "add_segment", at = 0, vid = {vid}, vni = {vid}, tunnel = "vxlan", limit = 1')
+            row.put(f"> {number} 0 c {number} {vid} " + ("done" if number < 3999 else "refused 13 SegmentsFull"))
+    return row
+
+
 def main():
     count = wrong = 0
-    for row in [*rows(), beyond_256()]:
+    for row in [*rows(), beyond_256(), beyond_4000()]:
         count += 1
         for fault in row.faults():
             print(f"tests/rows.py: {row.name}: {fault}")
             wrong += 1
     # Each row that there is has run: an empty folder would pass.
-    if count < 216:
+    if count < 219:
         print(f"tests/rows.py: {count} rows")
         wrong += 1
     return 1 if wrong else 0

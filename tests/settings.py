@@ -68,8 +68,6 @@ def second_version():
     """Settings of version 2, and those that are migrated to it."""
     for part, other, wanted in rows.PARTS_2:
         expect_settings(rows.FEWEST_2.replace(part, other), wanted)
-    for part, other, wanted in rows.PARTS_3:
-        expect_settings(rows.FEWEST_3.replace(part, other), wanted)
     for count, keys, wanted in rows.SECOND:
         flood = "flood = [" + "".join(f'"192.0.2.{k}", ' for k in range(2, count + 2)) + "]"
         text = rows.FEWEST_2.replace("# first", flood)
@@ -89,6 +87,21 @@ def second_version():
         migrated = expect_settings(text, "ok", ("migrate",)).decode()
         if migrated != wanted:
             complain("tep migrate", migrated, wanted)
+
+
+def third_version():
+    """Settings of version 3."""
+    for part, other, wanted in rows.PARTS_3:
+        expect_settings(rows.FEWEST_3.replace(part, other), wanted)
+    head = rows.FEWEST_3.split("[[segment]]")[0]
+    small = rows.TWO.replace("vid = #\n", "vid = #\nlimit = @\n")
+    for lines, limit, count, wanted in rows.MANY:
+        tables = "".join(small.replace("#", str(k)).replace("@", str(limit)) for k in range(1, count + 1))
+        expect_settings(head.replace("version = 3\n", "version = 3\n" + lines) + tables, wanted)
+    # The last of 4,094 segments has the longest paths.
+    text = head.replace("version = 3\n", "version = 3\n[limits]\nsegments = 4094\n")
+    text += "".join(small.replace("#", str(k)).replace("@", "1") for k in range(1, 4095))
+    expect_settings(text + "group = 256\n", "BadValue segment.4094.tunnel.2.group")
 
 
 def changes(settings):
@@ -165,6 +178,7 @@ def main():
         settings.write_text(runs.ENDPOINT, encoding="utf-8")
         first_version()
         second_version()
+        third_version()
         changes(settings)
         strange_settings()
         addresses(settings)

@@ -369,7 +369,7 @@ PARTS_2 = [
     ),
 ]
 
-# Settings of version 3: those of version 2, and `partial`.
+# Settings of version 3: those of version 2, `limits` and `partial`.
 FEWEST_3 = FEWEST_2.replace("version = 2", "version = 3")
 
 # A key of the underlay, behind which lines are put.
@@ -377,6 +377,29 @@ OWN = 'ip4 = "192.0.2.1"\n'
 
 PARTS_3 = [
     ("version = 3", "version = 3", "ok"),
+    ("version = 3", "version = 3\n[limits]", "ok"),
+    ("version = 3", "version = 3\n[limits]\nsegments = 1", "ok"),
+    ("version = 3", "version = 3\nlimits = { segments = 4094 }", "ok"),
+    ("version = 3", "version = 3\n[limits]\nsegments = 0", "BadValue limits.segments"),
+    ("version = 3", "version = 3\n[limits]\nsegments = 4095", "BadValue limits.segments"),
+    ("version = 3", "version = 3\n[limits]\nsegments = -1", "BadValue limits.segments"),
+    ("version = 3", "version = 3\n[limits]\nsegments = 256.0", "BadValue limits.segments"),
+    ("version = 3", 'version = 3\n[limits]\nsegments = "256"', "BadValue limits.segments"),
+    ("version = 3", "version = 3\n[limits]\nsegment = 256", "BadValue limits.*"),
+    ("version = 3", "version = 3\n[limits]\nsegments = 0\nports = 16", "BadValue limits.*"),
+    ("version = 3", "version = 3\nlimits = 256", "BadValue limits"),
+    ("version = 3", "version = 3\n[[limits]]\nsegments = 256", "BadValue limits"),
+    # They come behind `pool` and before `underlay`.
+    ("version = 3", "version = 3\npool = 0\nlimits = 1", "BadValue pool"),
+    ('version = 3\n[underlay]\nmac = "02', 'version = 3\n[limits]\nsegments = 0\n[underlay]\nmac = "03', "BadValue limits.segments"),
+    # Where the version isn't 3 there is no such key, and no other one is like it.
+    ("version = 3", "version = 2\n[limits]", "BadValue *"),
+    ("version = 3", "version = 1\nlimits = { segments = 256 }", "BadValue *"),
+    ("version = 3", "version = 4\n[limits]", "BadValue *"),
+    ("version = 3", "version = 3.0\n[limits]", "BadValue *"),
+    ("version = 3", 'version = "3"\n[limits]', "BadValue *"),
+    ("version = 3\n", "[limits]\n", "BadValue *"),
+    ("version = 3", "version = 3\nlimit = 1", "BadValue *"),
     (OWN, OWN + "partial = true\n", "ok"),
     (OWN, OWN + "partial = false\n", "ok"),
     (OWN, OWN + "partial = 1\n", "BadValue underlay.partial"),
@@ -393,6 +416,23 @@ PARTS_3 = [
     (TUNNEL, "", "Missing segment.1.tunnel"),
     (TUNNEL, 'tunnel = "vxlan"\n', "BadValue segment.1.tunnel"),
     ("# first", "group = 256\nflood = 1", "BadValue segment.1.tunnel.1.group"),
+]
+
+# Lines behind the version 3, the limit of each segment, how many there are, and the fault that it is.
+MANY = [
+    ("", 1, 256, "ok"),
+    ("", 1, 257, "OverLimit segment"),
+    ("[limits]\n", 1, 257, "OverLimit segment"),
+    ("[limits]\nsegments = 257\n", 1, 257, "ok"),
+    ("[limits]\nsegments = 257\n", 0, 258, "OverLimit segment"),
+    ("[limits]\nsegments = 2\n", 1, 2, "ok"),
+    ("[limits]\nsegments = 2\n", 0, 3, "OverLimit segment"),
+    ("[limits]\nsegments = 4094\n", 16, 4094, "ok"),
+    ("[limits]\nsegments = 4094\n", 17, 4094, "OverLimit limit"),
+    ("[limits]\nsegments = 4094\n", 0, 4095, "OverLimit segment"),
+    # All share the pool.
+    ("pool = 65503\n[limits]\nsegments = 4094\n", 16, 4094, "OverLimit pool"),
+    ("pool = 65504\n[limits]\nsegments = 4094\n", 16, 4094, "ok"),
 ]
 
 # Keys of a second table of tunnels, and the fault that they are. The first table floods to as many as are told.
@@ -833,6 +873,33 @@ TOLD_SETTINGS = [
         'version = 3\n[underlay]\nmac = "02:00:00:00:00:01"\nnext_hop = "02:00:00:00:00:fe"\nip4 = "192.0.2.1"\n'
         "partial = 1\n",
         "S:6:1: BadValue underlay.partial\n  found: 1\n  allowed: true or false\n",
+    ),
+    # The limits.
+    (
+        "version = 3\n[limit]\nsegments = 300\n",
+        "S:2:1: BadValue *\n  found: limit\n  did you mean: limits\n  keys: version pool limits underlay port segment\n",
+    ),
+    (
+        "version = 2\n[limits]\nsegments = 300\n",
+        "S:2:1: BadValue *\n  found: limits\n  keys: version pool underlay port segment\n",
+    ),
+    (
+        "version = 3\n[limits]\nsegment = 300\n",
+        "S:3:1: BadValue limits.*\n  found: segment\n  did you mean: segments\n  keys: segments\n",
+    ),
+    (
+        "version = 3\n[limits]\nsegments = 5000\n",
+        "S:3:1: BadValue limits.segments\n  found: 5000\n  allowed: a number, 1 to 4094\n",
+    ),
+    # A segment more than there may be.
+    (
+        FEWEST_2.split("[[segment]]")[0].replace("version = 2", "version = 3\n[limits]\nsegments = 2") + "[[segment]]\n" * 3,
+        "S:10:1: OverLimit segment\n  found: [[segment]]\n"
+        "  allowed: 1 to 256 tables, or to limits.segments where it is given, each headed [[segment]]\n",
+    ),
+    (
+        FEWEST_2.split("[[segment]]")[0] + "[[segment]]\n" * 257,
+        "S:8:1: OverLimit segment\n  found: [[segment]]\n  allowed: 1 to 256 tables, each headed [[segment]]\n",
     ),
     # A table misspelled.
     (

@@ -152,5 +152,6 @@ fn copied(underlay: &Underlay) -> Result<Underlay, AllocError>
         partial: underlay.partial,
         known: underlay.known.clone()?,
         hops: Hops::new(),
+        limits: underlay.limits,
     })
 }

@@ -1,12 +1,13 @@
 -- Records on one clock, in front and behind.
-use Rattle.std.proofs.Common.{◌≡◌, ℕ, ◌+◌, ◌<◌, ◌≤◌, max, Bool, true, false, nat_le, nat_lt, List, [], ◌∷◌, ◌++◌, length, if◌then◌else◌, refl, sym, ap, ◌∙◌, subst, arith, append_assoc, length-append}
+use Rattle.std.proofs.Common.{◌≡◌, ℕ, ◌+◌, ◌<◌, ◌≤◌, max, Bool, true, false, nat_le, nat_lt, List, [], ◌∷◌, ◌++◌, length, refl, sym, ap, ◌∙◌, subst, arith, append_assoc, length-append}
 use Rattle.std.proofs.lemmas.List.{append-nil}
 use Rattle.std.proofs.lemmas.Bool.{leb-false, leb-true, ltb-false, ltb-true}
 use Rattle.pcap_io.specs.Record.{Record}
 use Rattle.record_match.specs.Compared.{AreBefore}
 use Rattle.record_match.specs.Match.{Record as Seen}
-use Rattle.capture_compare.specs.Clocked.{AreUpTo, before, latest, latest_behind, on_clock, received_by, seen_at, sent_by, timed, up_to}
+use Rattle.capture_compare.specs.Clocked.{AreUpTo, before, latest, latest_behind, on_clock, seen_at, sent_by, timed, up_to}
 use Rattle.capture_compare.specs.Compared.{AllHadRoom, has_room_for}
+use Rattle.carried_key.specs.declared.key.Manner.{Manner}
 
 -- ---- tests
 
@@ -40,19 +41,19 @@ le-false m n l = on (nat_le m n) refl
 
 -- ---- a clock
 
-timed-append : (delay l : ℕ) (xs ys : List Record) → timed delay l (xs ++ ys) ≡ timed delay l xs ++ timed delay (latest_behind l (timed delay l xs)) ys
-timed-append delay l [] ys = refl
-timed-append delay l (x ∷ xs) ys = ap (λ (t : List Seen). seen_at (max (x.moment + delay) l) x ∷ t) (timed-append delay (max (x.moment + delay) l) xs ys)
+timed-append : (manner : Manner) (delay l : ℕ) (xs ys : List Record) → timed manner delay l (xs ++ ys) ≡ timed manner delay l xs ++ timed manner delay (latest_behind l (timed manner delay l xs)) ys
+timed-append manner delay l [] ys = refl
+timed-append manner delay l (x ∷ xs) ys = ap (λ (t : List Seen). seen_at manner (max (x.moment + delay) l) x ∷ t) (timed-append manner delay (max (x.moment + delay) l) xs ys)
 
-pub timed-length : (delay l : ℕ) (xs : List Record) → length (timed delay l xs) ≡ length xs
-timed-length delay l [] = refl
-timed-length delay l (x ∷ xs) = omega (arith, timed-length delay (max (x.moment + delay) l) xs)
+pub timed-length : (manner : Manner) (delay l : ℕ) (xs : List Record) → length (timed manner delay l xs) ≡ length xs
+timed-length manner delay l [] = refl
+timed-length manner delay l (x ∷ xs) = omega (arith, timed-length manner delay (max (x.moment + delay) l) xs)
 
-pub clock-append : (delay : ℕ) (xs ys : List Record) → on_clock delay (xs ++ ys) ≡ on_clock delay xs ++ timed delay (latest (on_clock delay xs)) ys
-clock-append delay xs ys = timed-append delay 0 xs ys
+pub clock-append : (manner : Manner) (delay : ℕ) (xs ys : List Record) → on_clock manner delay (xs ++ ys) ≡ on_clock manner delay xs ++ timed manner delay (latest (on_clock manner delay xs)) ys
+clock-append manner delay xs ys = timed-append manner delay 0 xs ys
 
-pub clock-one : (delay : ℕ) (xs : List Record) (r : Record) (m : ℕ) → m ≡ max (r.moment + delay) (latest (on_clock delay xs)) → on_clock delay (xs ++ r ∷ []) ≡ on_clock delay xs ++ seen_at m r ∷ []
-clock-one delay xs r m is = clock-append delay xs (r ∷ []) ∙ ap (λ (n : ℕ). on_clock delay xs ++ seen_at n r ∷ []) (sym is)
+pub clock-one : (manner : Manner) (delay : ℕ) (xs : List Record) (r : Record) (m : ℕ) → m ≡ max (r.moment + delay) (latest (on_clock manner delay xs)) → on_clock manner delay (xs ++ r ∷ []) ≡ on_clock manner delay xs ++ seen_at manner m r ∷ []
+clock-one manner delay xs r m is = clock-append manner delay xs (r ∷ []) ∙ ap (λ (n : ℕ). on_clock manner delay xs ++ seen_at manner n r ∷ []) (sym is)
 
 latest-behind-one : (l : ℕ) (xs : List Seen) (x : Seen) → latest_behind l (xs ++ x ∷ []) ≡ x.moment
 latest-behind-one l [] x = refl

@@ -1,5 +1,5 @@
 -- The records of one capture, fetched one after another.
-use Rattle.std.proofs.Common.{◌≡◌, ◌≢◌, ◌∙◌, refl, sym, ap, subst, ℕ, ◌+◌, ◌*◌, ◌≤◌, max, List, [], ◌∷◌, ◌++◌, drop, length, length-append, arith, Option, Some, None, IfSome, Result, Ok, Err}
+use Rattle.std.proofs.Common.{◌≡◌, ◌≢◌, ◌∙◌, refl, sym, ap, subst, ℕ, ◌+◌, ◌≤◌, max, List, [], ◌∷◌, drop, length, length-append, arith, Option, Some, None, IfSome, Result, Ok, Err}
 use Rattle.pcap_io.specs.Capture.{opened, opened_by}
 use Rattle.pcap_io.specs.Header.{style_of}
 use Rattle.pcap_io.specs.Next.{End, Whole, Cut, Faulty}
@@ -18,10 +18,11 @@ use Rattle.pcap_stream.specs.declared.fault.SourceFault.TheVariants as source
 use Rattle.pcap_stream.proofs.Runs.{begins, ends, one_more}
 use Rattle.capture_compare.specs.Clocked.{latest, on_clock}
 use Rattle.capture_compare.specs.Compared.{fault_behind, fault_in, fault_of, records_in, records_of}
-use Rattle.capture_compare.specs.Turns.{HasLent, IsDone, IsInFront, IsItsFault, StopsBehind, Waits, source_fault}
+use Rattle.capture_compare.specs.Turns.{HasLent, IsDone, StopsBehind, Waits, source_fault}
 use Rattle.capture_compare.specs.declared.fault.CompareFault.{CompareFault}
 use Rattle.capture_compare.specs.declared.fault.CompareFault.TheVariants as faults
 use Rattle.capture_compare.specs.declared.fault.Side.{Side}
+use Rattle.carried_key.specs.declared.key.Manner.{Manner}
 
 -- ---- the opening
 
@@ -78,9 +79,9 @@ is_not_opened side old new source.BadFraction opened told = refused_by side old 
 
 -- ---- one more
 
-pub has_more : (delay : ℕ) (start old new : Stream) (rs : List Record) (count latest_moment : ℕ) (r : Record) → HasLent start old rs count → IsFilled {T = Unit {0}} old new (Ok tt) → lent new.standing ≡ Some r
-    → new.standing ≢ New → 16 + most_left new ≤ most_left old → latest_moment ≡ latest (on_clock delay rs) → Waits delay start new rs (count + 1) (max (r.moment + delay) latest_moment)
-has_more delay start old new rs count latest_moment r so_far filled lends begun less is = record {
+pub has_more : (manner : Manner) (delay : ℕ) (start old new : Stream) (rs : List Record) (count latest_moment : ℕ) (r : Record) → HasLent start old rs count → IsFilled {T = Unit {0}} old new (Ok tt) → lent new.standing ≡ Some r
+    → new.standing ≢ New → 16 + most_left new ≤ most_left old → latest_moment ≡ latest (on_clock manner delay rs) → Waits manner delay start new rs (count + 1) (max (r.moment + delay) latest_moment)
+has_more manner delay start old new rs count latest_moment r so_far filled lends begun less is = record {
   next = r;
   lends = lends;
   taken = record {

@@ -1,5 +1,5 @@
 -- Where two captures stand: whose record comes next, what is behind those that were taken, and what is counted of them.
-use Rattle.std.proofs.Common.{◌≡◌, ◌∙◌, refl, sym, ap, subst, ℕ, ◌+◌, ◌-◌, ◌≤◌, ◌<◌, nat_le, Bool, true, false, List, [], ◌∷◌, ◌++◌, length, append_assoc, arith, Option, Some, None, IfSome, Result}
+use Rattle.std.proofs.Common.{◌≡◌, ◌∙◌, refl, sym, ap, subst, ℕ, ◌≤◌, ◌<◌, nat_le, Bool, true, false, List, [], ◌∷◌, ◌++◌, length, append_assoc, arith, Option, Some, None, IfSome, Result}
 use Rattle.std.proofs.lemmas.List.{append-nil}
 use Rattle.std.proofs.lemmas.Bool.{leb-false, leb-true}
 use Rattle.pcap_io.specs.Reading.{Reading, records}
@@ -17,6 +17,8 @@ use Rattle.capture_compare.specs.declared.coming.Coming.{Coming}
 use Rattle.capture_compare.specs.declared.turn.Turn.TheVariants as turns
 use Rattle.capture_compare.specs.declared.fault.Side.{Side}
 use Rattle.capture_compare.proofs.Clocking.{StartsAt, StartsBehind, clock-append, clock-one, not-longer, room-more}
+use Rattle.carried_key.specs.declared.key.Manner.{Manner}
+use Rattle.carried_key.specs.Key.{key_by}
 
 -- ---- whose turn
 
@@ -64,43 +66,43 @@ StartWith None ys = ys ≡ []
 StartWith (Some k) ys = (y : Seen) × (zs : List Seen) × (ys ≡ y ∷ zs) × (y.moment ≡ k)
 
 -- the records of a text on one clock are those that were taken, and these behind them
-pub record Splits (side : Side) (delay : ℕ) (text : List ℕ) (rs : List Record) (next : Option ℕ) : Type 0 where
+pub record Splits (manner : Manner) (side : Side) (delay : ℕ) (text : List ℕ) (rs : List Record) (next : Option ℕ) : Type 0 where
   pub behind : List Seen
-  pub parts : on_clock delay (records_in text) ≡ on_clock delay rs ++ behind
+  pub parts : on_clock manner delay (records_in text) ≡ on_clock manner delay rs ++ behind
   pub starts : StartWith next behind
   pub no_fault : next ≡ None → fault_in side text ≡ None
 
 -- and the first of these is the one that waits
-pub waits-parts : (delay : ℕ) (start now : Stream) (rs : List Record) (count m : ℕ) (w : Waits delay start now rs count m) (text : List ℕ) → start.supply.rest ≡ Some text
-    → (zs : List Seen) × (on_clock delay (records_in text) ≡ on_clock delay rs ++ seen_at m w.next ∷ zs)
-waits-parts delay start now rs count m w text e =
+pub waits-parts : (manner : Manner) (delay : ℕ) (start now : Stream) (rs : List Record) (count m : ℕ) (w : Waits manner delay start now rs count m) (text : List ℕ) → start.supply.rest ≡ Some text
+    → (zs : List Seen) × (on_clock manner delay (records_in text) ≡ on_clock manner delay rs ++ seen_at manner m w.next ∷ zs)
+waits-parts manner delay start now rs count m w text e =
     let reading = w.taken.reading text e in
     let rest = (records reading.style reading.rest).records in
     let front = rs ++ w.next ∷ [] in
     let all : records_in text ≡ front ++ rest = ap (λ (r : Result Reading CaptureFault). records_of r) reading.records in
-    let zs = timed delay (latest (on_clock delay front)) rest in (
+    let zs = timed manner delay (latest (on_clock manner delay front)) rest in (
       zs,
-      ap (λ (l : List Record). on_clock delay l) all ∙ clock-append delay front rest
-          ∙ ap (λ (l : List Seen). l ++ zs) (clock-one delay rs w.next m w.moment_is)
-          ∙ append_assoc (on_clock delay rs) (seen_at m w.next ∷ []) zs,
+      ap (λ (l : List Record). on_clock manner delay l) all ∙ clock-append manner delay front rest
+          ∙ ap (λ (l : List Seen). l ++ zs) (clock-one manner delay rs w.next m w.moment_is)
+          ∙ append_assoc (on_clock manner delay rs) (seen_at manner m w.next ∷ []) zs,
     )
 
-pub splits-by : (side : Side) (delay : ℕ) (start now : Stream) (rs : List Record) (count : ℕ) (next : Option ℕ) → StandsBy side delay start now rs count next → (text : List ℕ) → start.supply.rest ≡ Some text
-    → Splits side delay text rs next
-splits-by side delay start now rs count None h text e =
+pub splits-by : (manner : Manner) (side : Side) (delay : ℕ) (start now : Stream) (rs : List Record) (count : ℕ) (next : Option ℕ) → StandsBy manner side delay start now rs count next → (text : List ℕ) → start.supply.rest ≡ Some text
+    → Splits manner side delay text rs next
+splits-by manner side delay start now rs count None h text e =
     let all = h.all text e in
     record {
       behind = [];
-      parts = ap (λ (l : List Record). on_clock delay l) all.0 ∙ sym (append-nil (on_clock delay rs));
+      parts = ap (λ (l : List Record). on_clock manner delay l) all.0 ∙ sym (append-nil (on_clock manner delay rs));
       starts = refl;
       no_fault = λ _. all.1;
     }
-splits-by side delay start now rs count (Some m) h text e =
-    let parts = waits-parts delay start now rs count m h text e in
+splits-by manner side delay start now rs count (Some m) h text e =
+    let parts = waits-parts manner delay start now rs count m h text e in
     record {
-      behind = seen_at m h.next ∷ parts.0;
+      behind = seen_at manner m h.next ∷ parts.0;
       parts = parts.1;
-      starts = (seen_at m h.next, parts.0, refl, refl);
+      starts = (seen_at manner m h.next, parts.0, refl, refl);
       no_fault = λ none. absurd (no-moment m none);
     }
   where
@@ -110,8 +112,8 @@ splits-by side delay start now rs count (Some m) h text e =
 pub same-moment : (k : ℕ) → k ≤ k
 same-moment k = omega arith
 
-pub splits : (side : Side) (delay : ℕ) (start now : Stream) (rs : List Record) (c : Coming) → Stands side delay start now rs c → (text : List ℕ) → start.supply.rest ≡ Some text → Splits side delay text rs c.next
-splits side delay start now rs c h text e = splits-by side delay start now rs c.fetched c.next h.next text e
+pub splits : (manner : Manner) (side : Side) (delay : ℕ) (start now : Stream) (rs : List Record) (c : Coming) → Stands manner side delay start now rs c → (text : List ℕ) → start.supply.rest ≡ Some text → Splits manner side delay text rs c.next
+splits manner side delay start now rs c h text e = splits-by manner side delay start now rs c.fetched c.next h.next text e
 
 pub starts-at : (next : Option ℕ) (ys : List Seen) (m : ℕ) → StartWith next ys → IfSome next (λ k. m ≤ k) → StartsAt m ys
 starts-at None ys m h le = subst (λ (l : List Seen). StartsAt m l) (sym h) tt
@@ -149,6 +151,6 @@ window-is within now m c S R h le is =
         → ◌≡◌ {A = Window} (record { within = b; records = q; octets = p; held = x }) (record { within = a; records = r; octets = o; held = y })
     make a b r q o p e f g h = cc
 
-pub room-is : (within now m : ℕ) (c : Comparison) (S R : List Seen) (x : Record) (q : Bool) → IsCompared c S R now → now ≤ m → c.window.within ≡ within → has_room (at_moment m c.window) (length x.octets) ≡ q
-    → has_room_for within S R (seen_at m x) ≡ q
-room-is within now m c S R x q h le is e = ap (λ (w : Window). has_room w (length x.octets)) (sym (window-is within now m c S R h le is)) ∙ e
+pub room-is : (manner : Manner) (within now m : ℕ) (c : Comparison) (S R : List Seen) (x : Record) (q : Bool) → IsCompared c S R now → now ≤ m → c.window.within ≡ within → has_room (at_moment m c.window) (length (key_by manner x.octets)) ≡ q
+    → has_room_for within S R (seen_at manner m x) ≡ q
+room-is manner within now m c S R x q h le is e = ap (λ (w : Window). has_room w (length (key_by manner x.octets))) (sym (window-is within now m c S R h le is)) ∙ e

@@ -1,23 +1,26 @@
--- The records of two captures on one clock. It states no standard.
+-- The records of two captures on one clock, each as the key that decides what is the same. It states no standard.
 --     on_clock     the records of a capture, at moments that never fall
 --     before       those that come before a moment
 --     up_to        those that come before it or at it
 use Rattle.std.specs.Prelude.{◌≤◌, ⊤, ℕ, ◌+◌, max, nat_le, nat_lt, if◌then◌else◌, List, [], ◌∷◌}
 use Rattle.pcap_io.specs.Record.{Record}
 use Rattle.record_match.specs.Match.{Record as Seen}
+use Rattle.carried_key.specs.declared.key.Manner.{Manner}
+use Rattle.carried_key.specs.Key.{key_by}
 
--- a record at a moment
-abbrev pub seen_at : ℕ → Record → Seen
-seen_at moment r = record { moment = moment; octets = r.octets }
+-- a record at a moment, by its key
+abbrev pub seen_at : Manner → ℕ → Record → Seen
+seen_at manner moment r = record { moment = moment; octets = key_by manner r.octets }
 
 -- records behind one of this moment, with so many nanoseconds more: each at the greatest moment up to it
-abbrev pub timed : ℕ → ℕ → List Record → List Seen
-timed delay latest [] = []
-timed delay latest (r ∷ rs) = seen_at (max (r.moment + delay) latest) r ∷ timed delay (max (r.moment + delay) latest) rs
+abbrev pub timed : Manner → ℕ → ℕ → List Record → List Seen
+timed manner delay latest [] = []
+timed manner delay latest (r ∷ rs) =
+    seen_at manner (max (r.moment + delay) latest) r ∷ timed manner delay (max (r.moment + delay) latest) rs
 
 -- the records of a capture on one clock
-abbrev pub on_clock : ℕ → List Record → List Seen
-on_clock delay rs = timed delay 0 rs
+abbrev pub on_clock : Manner → ℕ → List Record → List Seen
+on_clock manner delay rs = timed manner delay 0 rs
 
 -- the moment of the last of some, behind one of this moment
 abbrev pub latest_behind : ℕ → List Seen → ℕ

@@ -9,7 +9,6 @@ use Rattle.pcap_io.specs.Next.{End, Whole, Cut, Faulty}
 use Rattle.pcap_io.specs.Reading.{Reading}
 use Rattle.pcap_io.specs.Record.{Record}
 use Rattle.pcap_io.specs.declared.header.CaptureFault.{CaptureFault}
-use Rattle.pcap_io.specs.declared.record.RecordFault.{RecordFault}
 use Rattle.record_match.specs.Compared.{Comparison, octets_in}
 use Rattle.record_match.specs.Match.{Record as Seen, matched, received_count}
 use Rattle.record_match.specs.Window.{Window, has_room, still_held}
@@ -19,6 +18,7 @@ use Rattle.capture_compare.specs.declared.fault.CompareFault.{CompareFault}
 use Rattle.capture_compare.specs.declared.fault.CompareFault.TheVariants as faults
 use Rattle.capture_compare.specs.declared.fault.Side.{Side}
 use Rattle.capture_compare.specs.declared.fault.Side.TheVariants as sides
+use Rattle.carried_key.specs.declared.key.Manner.{Manner}
 
 -- ---- a capture
 
@@ -79,11 +79,13 @@ AllHadRoom within received done (x ∷ xs) =
 -- ---- what is told
 
 -- both captures to their ends
-pub record AreWhole (clock : Clock) (sent received : List ℕ) (c : Comparison) : Type 0 where
+pub record AreWhole (manner : Manner) (clock : Clock) (sent received : List ℕ) (c : Comparison) : Type 0 where
   pub no_sent_fault : fault_in sides.Sent sent ≡ None
   pub no_received_fault : fault_in sides.Received received ≡ None
-  pub counts : AreCounts clock.within (on_clock clock.sent_delay (records_in sent)) (on_clock clock.received_delay (records_in received)) c
-  pub room : AllHadRoom clock.within (on_clock clock.received_delay (records_in received)) [] (on_clock clock.sent_delay (records_in sent))
+  pub counts : AreCounts clock.within (on_clock manner clock.sent_delay (records_in sent))
+      (on_clock manner clock.received_delay (records_in received)) c
+  pub room : AllHadRoom clock.within (on_clock manner clock.received_delay (records_in received)) []
+      (on_clock manner clock.sent_delay (records_in sent))
 
 -- what was sent, up to its fault, and what was received before its last record; the other capture had none before
 pub record IsSentFault (clock : Clock) (sent received : List ℕ) (c : Comparison) (S R : List Seen) (fault : CompareFault) : Type 0 where
@@ -137,8 +139,9 @@ Stops clock sent received c S R (faults.Record sides.Sent n fault) = IsSentFault
 Stops clock sent received c S R (faults.Record sides.Received n fault) = IsReceivedFault clock sent received c S R (faults.Record sides.Received n fault)
 Stops clock sent received c S R (faults.Full moment) = IsFull clock received c S R moment
 
--- what is told of two captures, by the answer
-abbrev pub Tells : Clock → List ℕ → List ℕ → Comparison → Result (Unit {0}) CompareFault → Type 0
-Tells clock sent received c (Ok x) = AreWhole clock sent received c
-Tells clock sent received c (Err fault) =
-    Stops clock sent received c (on_clock clock.sent_delay (records_in sent)) (on_clock clock.received_delay (records_in received)) fault
+-- what is told of two captures, by the manner of comparing and the answer
+abbrev pub Tells : Manner → Clock → List ℕ → List ℕ → Comparison → Result (Unit {0}) CompareFault → Type 0
+Tells manner clock sent received c (Ok x) = AreWhole manner clock sent received c
+Tells manner clock sent received c (Err fault) =
+    Stops clock sent received c (on_clock manner clock.sent_delay (records_in sent))
+    (on_clock manner clock.received_delay (records_in received)) fault

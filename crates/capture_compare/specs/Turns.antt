@@ -1,5 +1,5 @@
 -- Two captures amidst a comparison. It serves proofs.
-use Rattle.std.specs.Prelude.{◌≡◌, ◌≢◌, ◌≤◌, ◌<◌, ⊤, ℕ, ◌+◌, ◌*◌, ◌^◌, max, nat_le, if◌then◌else◌, Bool, true, false, List, [], ◌∷◌, ◌++◌, length, Option, Some, None, IfSome, Result, Ok, Err}
+use Rattle.std.specs.Prelude.{◌≡◌, ◌≢◌, ◌≤◌, ℕ, ◌+◌, ◌*◌, max, nat_le, if◌then◌else◌, Bool, true, false, List, [], ◌∷◌, ◌++◌, length, Option, Some, None, IfSome, Result, Ok, Err}
 use Rattle.pcap_io.specs.Record.{Record}
 use Rattle.pcap_io.specs.declared.header.CaptureFault.TheVariants as capture
 use Rattle.pcap_io.specs.declared.record.RecordFault.TheVariants as record_
@@ -18,6 +18,7 @@ use Rattle.capture_compare.specs.declared.fault.CompareFault.{CompareFault}
 use Rattle.capture_compare.specs.declared.fault.CompareFault.TheVariants as faults
 use Rattle.capture_compare.specs.declared.fault.Side.{Side}
 use Rattle.capture_compare.specs.declared.fault.Side.TheVariants as sides
+use Rattle.carried_key.specs.declared.key.Manner.{Manner}
 
 -- ---- one capture
 
@@ -29,26 +30,26 @@ pub record HasLent (start now : Stream) (rs : List Record) (count : ℕ) : Type 
   pub begun : now.standing ≢ New
 
 -- some records were taken of a capture, and the next one waits
-pub record Waits (delay : ℕ) (start now : Stream) (rs : List Record) (count moment : ℕ) : Type 0 where
+pub record Waits (manner : Manner) (delay : ℕ) (start now : Stream) (rs : List Record) (count moment : ℕ) : Type 0 where
   pub next : Record
   pub lends : lent now.standing ≡ Some next
   pub taken : HasLent start now (rs ++ next ∷ []) count
-  pub moment_is : moment ≡ max (next.moment + delay) (latest (on_clock delay rs))
+  pub moment_is : moment ≡ max (next.moment + delay) (latest (on_clock manner delay rs))
 
 -- all records of a capture were taken, and it has no fault
 pub record IsDone (side : Side) (start now : Stream) (rs : List Record) : Type 0 where
   pub all : (text : List ℕ) → start.supply.rest ≡ Some text → (records_in text ≡ rs) × (fault_in side text ≡ None)
 
 -- by the moment of the next one
-abbrev pub StandsBy : Side → ℕ → Stream → Stream → List Record → ℕ → Option ℕ → Type 0
-StandsBy side delay start now rs count None = IsDone side start now rs
-StandsBy side delay start now rs count (Some moment) = Waits delay start now rs count moment
+abbrev pub StandsBy : Manner → Side → ℕ → Stream → Stream → List Record → ℕ → Option ℕ → Type 0
+StandsBy manner side delay start now rs count None = IsDone side start now rs
+StandsBy manner side delay start now rs count (Some moment) = Waits manner delay start now rs count moment
 
 -- where a capture stands
-pub record Stands (side : Side) (delay : ℕ) (start now : Stream) (rs : List Record) (c : Coming) : Type 0 where
+pub record Stands (manner : Manner) (side : Side) (delay : ℕ) (start now : Stream) (rs : List Record) (c : Coming) : Type 0 where
   pub side_is : c.side ≡ side
   pub delay_is : c.delay ≡ delay
-  pub next : StandsBy side delay start now rs c.fetched c.next
+  pub next : StandsBy manner side delay start now rs c.fetched c.next
 
 -- a capture isn't read on behind some records: by a fault of its own, or where a read failed
 pub record IsItsFault (side : Side) (start : Stream) (rs : List Record) (fault : CompareFault) : Type 0 where
@@ -64,9 +65,9 @@ StopsBehind side start rs (faults.Record of n fault) = (of ≡ side) × IsItsFau
 StopsBehind side start rs (faults.Full moment) = ⊥
 
 -- the next record was fetched, or why it wasn't
-abbrev pub Fetches : Side → ℕ → Stream → Stream → List Record → Coming → Result (Unit {0}) CompareFault → Type 0
-Fetches side delay start now rs c (Ok x) = Stands side delay start now rs c
-Fetches side delay start now rs c (Err fault) = StopsBehind side start rs fault
+abbrev pub Fetches : Manner → Side → ℕ → Stream → Stream → List Record → Coming → Result (Unit {0}) CompareFault → Type 0
+Fetches manner side delay start now rs c (Ok x) = Stands manner side delay start now rs c
+Fetches manner side delay start now rs c (Err fault) = StopsBehind side start rs fault
 
 -- a source's fault as one of a capture, at its record of this number
 abbrev pub source_fault : Side → ℕ → SourceFault → CompareFault
@@ -91,26 +92,26 @@ unless_full true moment = Ok tt
 unless_full false moment = Err (faults.Full moment)
 
 -- the records that were taken of both, and what was compared of them up to a moment
-pub record Amidst (clock : Clock) (s0 r0 s r : Stream) (sending receiving : Coming) (c : Comparison) : Type 0 where
+pub record Amidst (manner : Manner) (clock : Clock) (s0 r0 s r : Stream) (sending receiving : Coming) (c : Comparison) : Type 0 where
   pub sent : List Record
   pub received : List Record
   pub now : ℕ
-  pub sent_stands : Stands sides.Sent clock.sent_delay s0 s sent sending
-  pub received_stands : Stands sides.Received clock.received_delay r0 r received receiving
+  pub sent_stands : Stands manner sides.Sent clock.sent_delay s0 s sent sending
+  pub received_stands : Stands manner sides.Received clock.received_delay r0 r received receiving
   pub within_is : c.window.within ≡ clock.within
-  pub compared : IsCompared c (on_clock clock.sent_delay sent) (on_clock clock.received_delay received) now
-  pub room : AllHadRoom clock.within (on_clock clock.received_delay received) [] (on_clock clock.sent_delay sent)
-  pub sent_later : IfSome sending.next (λ m. (now ≤ m) × AreBefore m (on_clock clock.received_delay received))
-  pub received_later : IfSome receiving.next (λ m. (now ≤ m) × AreUpTo m (on_clock clock.sent_delay sent))
+  pub compared : IsCompared c (on_clock manner clock.sent_delay sent) (on_clock manner clock.received_delay received) now
+  pub room : AllHadRoom clock.within (on_clock manner clock.received_delay received) [] (on_clock manner clock.sent_delay sent)
+  pub sent_later : IfSome sending.next (λ m. (now ≤ m) × AreBefore m (on_clock manner clock.received_delay received))
+  pub received_later : IfSome receiving.next (λ m. (now ≤ m) × AreUpTo m (on_clock manner clock.sent_delay sent))
 
 -- what two captures tell once they stopped
-abbrev pub Stopped : Clock → Stream → Stream → Comparison → Result (Unit {0}) CompareFault → Type 0
-Stopped clock s0 r0 c result = (sent received : List ℕ) → s0.supply.rest ≡ Some sent → r0.supply.rest ≡ Some received → Tells clock sent received c result
+abbrev pub Stopped : Manner → Clock → Stream → Stream → Comparison → Result (Unit {0}) CompareFault → Type 0
+Stopped manner clock s0 r0 c result = (sent received : List ℕ) → s0.supply.rest ≡ Some sent → r0.supply.rest ≡ Some received → Tells manner clock sent received c result
 
 -- behind a step
-abbrev pub Steps : Clock → Stream → Stream → Stream → Stream → Coming → Coming → Comparison → Result (Unit {0}) CompareFault → Type 0
-Steps clock s0 r0 s r sending receiving c (Ok x) = Amidst clock s0 r0 s r sending receiving c
-Steps clock s0 r0 s r sending receiving c (Err fault) = Stopped clock s0 r0 c (Err fault)
+abbrev pub Steps : Manner → Clock → Stream → Stream → Stream → Stream → Coming → Coming → Comparison → Result (Unit {0}) CompareFault → Type 0
+Steps manner clock s0 r0 s r sending receiving c (Ok x) = Amidst manner clock s0 r0 s r sending receiving c
+Steps manner clock s0 r0 s r sending receiving c (Err fault) = Stopped manner clock s0 r0 c (Err fault)
 
 -- ---- how much may come
 

@@ -2,6 +2,7 @@
 ghost use Rattle.std.specs.Prelude.{◌≡◌, ◌≢◌, ◌≤◌, ◌<◌, ◌+◌, ◌^◌, IfSome, List, None, []};
 ghost use Rattle.pcap_io.specs.Record.{Record as ARecord};
 ghost use Rattle.pcap_stream.specs.Source.{New, Stream, most_left};
+ghost use Rattle.carried_key.specs.declared.key.Manner.{Manner as AManner};
 ghost use Rattle.capture_compare.specs.Clocked.{latest, on_clock};
 ghost use Rattle.capture_compare.specs.Turns.{Fetches, HasLent};
 
@@ -38,7 +39,7 @@ impl Coming {
         requires new { source.old.standing ≡ New }
         requires none { self.old.fetched ≡ 0 }
         requires delay { self.old.delay ≤ 2000000000000000000 }
-        ensures fetched { Fetches self.old.side self.old.delay source.old source.new [] self.new result }
+        ensures fetched { (manner : AManner) → Fetches manner self.old.side self.old.delay source.old source.new [] self.new result }
     {
         if let Err(fault) = source.open() {
             return Err(source_fault(self.side, 1, fault));
@@ -55,8 +56,8 @@ impl Coming {
         requires begun { source.old.standing ≢ New }
         requires count { self.old.fetched + 1 < 2 ^ 64 }
         requires delay { self.old.delay ≤ 2000000000000000000 }
-        ensures fetched { (start : Stream) (rs : List ARecord) → HasLent start source.old rs self.old.fetched → moment ≡ latest (on_clock self.old.delay rs)
-            → Fetches self.old.side self.old.delay start source.new rs self.new result }
+        ensures fetched { (manner : AManner) (start : Stream) (rs : List ARecord) → HasLent start source.old rs self.old.fetched
+            → moment ≡ latest (on_clock manner self.old.delay rs) → Fetches manner self.old.side self.old.delay start source.new rs self.new result }
         ensures less { IfSome self.new.next (λ _. 16 + most_left source.new ≤ most_left source.old) }
     {
         self.next = None;

@@ -12,11 +12,12 @@ use crate::coming::Coming;
 use crate::fault::{CompareFault, Side};
 use crate::take::{take_received, take_sent};
 use crate::turn::{Turn, turn_of};
+use carried_key::{KeyRoom, Manner};
 use pcap_stream::{Input, Source};
 use record_match::{Clock, Comparison};
 
-/// Compares two captures, those that were sent and those that were received, to their ends. Of several records at one moment
-/// those that were sent come first.
+/// Compares two captures, those that were sent and those that were received, to their ends. Two records are the same where their
+/// keys by the manner are. Of several records at one moment those that were sent come first.
 ///
 /// At most 2^64 - 1 octets of each may come, counted as 262,144 by each read that the source may make: so all counts fit. The
 /// comparison is one of no records, for those that are received so much later as the clock tells.
@@ -27,6 +28,8 @@ pub fn compare_captures<R: Input>(
     sent: &mut Source<R>,
     received: &mut Source<R>,
     clock: Clock,
+    manner: Manner,
+    room: &mut KeyRoom,
     comparison: &mut Comparison,
 ) -> Result<(), CompareFault>
     requires new_sent { sent.old.standing ≡ New }
@@ -38,7 +41,7 @@ pub fn compare_captures<R: Input>(
     requires none { IsCompared comparison.old [] [] 0 }
     requires within { comparison.old.window.within ≡ clock.within }
     ensures told { (sent_text received_text : List ℕ) → sent.old.supply.rest ≡ Some sent_text → received.old.supply.rest ≡ Some received_text
-        → Tells clock sent_text received_text comparison.new result }
+        → Tells manner clock sent_text received_text comparison.new result }
 {
     let mut sending = Coming::new(Side::Sent, clock.sent_delay);
     if let Err(fault) = sending.open(sent) {
@@ -52,12 +55,26 @@ pub fn compare_captures<R: Input>(
         match turn_of(sending.next, receiving.next) {
             Turn::Done => return Ok(()),
             Turn::Sent(moment) => {
-                if let Err(fault) = send_next(sent, &mut sending, moment, comparison) {
+                if let Err(fault) = send_next(
+                    sent,
+                    &mut sending,
+                    moment,
+                    manner,
+                    room,
+                    comparison,
+                ) {
                     return Err(fault);
                 }
             }
             Turn::Received(moment) => {
-                if let Err(fault) = receive_next(received, &mut receiving, moment, comparison) {
+                if let Err(fault) = receive_next(
+                    received,
+                    &mut receiving,
+                    moment,
+                    manner,
+                    room,
+                    comparison,
+                ) {
                     return Err(fault);
                 }
             }
@@ -70,6 +87,8 @@ fn send_next<R: Input>(
     source: &mut Source<R>,
     sending: &mut Coming,
     moment: u64,
+    manner: Manner,
+    room: &mut KeyRoom,
     comparison: &mut Comparison,
 ) -> Result<(), CompareFault>
     requires lent { IsSome (lent source.old.standing) }
@@ -77,11 +96,11 @@ fn send_next<R: Input>(
     requires sent { comparison.old.sent + 1 < 2 ^ 64 }
     requires delay { sending.old.delay ≤ 2000000000000000000 }
     requires moment { sending.old.delay ≤ moment }
-    ensures told { (clock : AClock) (s0 r0 r : Stream) (receiving : AComing) → Amidst clock s0 r0 source.old r sending.old receiving comparison.old
-        → turn_of sending.old.next receiving.next ≡ turns.Sent moment → Steps clock s0 r0 source.new r sending.new receiving comparison.new result }
+    ensures told { (clock : AClock) (s0 r0 r : Stream) (receiving : AComing) → Amidst manner clock s0 r0 source.old r sending.old receiving comparison.old
+        → turn_of sending.old.next receiving.next ≡ turns.Sent moment → Steps manner clock s0 r0 source.new r sending.new receiving comparison.new result }
     ensures less { OnOk result (IfSome sending.new.next (λ _. 16 + most_left source.new ≤ most_left source.old)) }
 {
-    if let Err(fault) = take_sent(source, sending.delay(), moment, comparison) {
+    if let Err(fault) = take_sent(source, sending.delay(), moment, manner, room, comparison) {
         return Err(fault);
     }
     sending.fetch(source, moment)
@@ -92,6 +111,8 @@ fn receive_next<R: Input>(
     source: &mut Source<R>,
     receiving: &mut Coming,
     moment: u64,
+    manner: Manner,
+    room: &mut KeyRoom,
     comparison: &mut Comparison,
 ) -> Result<(), CompareFault>
     requires lent { IsSome (lent source.old.standing) }
@@ -99,10 +120,10 @@ fn receive_next<R: Input>(
     requires received { comparison.old.received + 1 < 2 ^ 64 }
     requires both { comparison.old.both + 1 < 2 ^ 64 }
     requires delay { receiving.old.delay ≤ 2000000000000000000 }
-    ensures told { (clock : AClock) (s0 r0 s : Stream) (sending : AComing) → Amidst clock s0 r0 s source.old sending receiving.old comparison.old
-        → turn_of sending.next receiving.old.next ≡ turns.Received moment → Steps clock s0 r0 s source.new sending receiving.new comparison.new result }
+    ensures told { (clock : AClock) (s0 r0 s : Stream) (sending : AComing) → Amidst manner clock s0 r0 s source.old sending receiving.old comparison.old
+        → turn_of sending.next receiving.old.next ≡ turns.Received moment → Steps manner clock s0 r0 s source.new sending receiving.new comparison.new result }
     ensures less { OnOk result (IfSome receiving.new.next (λ _. 16 + most_left source.new ≤ most_left source.old)) }
 {
-    take_received(source, moment, comparison);
+    take_received(source, moment, manner, room, comparison);
     receiving.fetch(source, moment)
 }

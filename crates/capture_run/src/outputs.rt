@@ -1,14 +1,13 @@
 //! What comes out of a run.
-ghost use Rattle.std.specs.Prelude.{◌≡◌, ◌≤◌, ◌++◌, length, map, IfOk, OnOk};
+ghost use Rattle.std.specs.Prelude.{◌≡◌, ◌≤◌, ◌++◌, [], length, map, unwrap_or, IfOk, OnOk};
 ghost use Rattle.pcap_io.specs.Record.{last_moment};
 ghost use Rattle.pcap_io.specs.Written.{whole_frame, written_record};
-ghost use Rattle.encapsulate.specs.Emission.{text};
-ghost use Rattle.encapsulate.specs.Remote.{texts};
-ghost use Rattle.capture_run.specs.Writing.{empty_outputs, put_at, seen, with_line, with_sent};
+ghost use Rattle.filter_db.specs.declared.place.Place.TheVariants.{Local};
+ghost use Rattle.encapsulate.specs.Emission.{around, text};
+ghost use Rattle.capture_run.specs.Writing.{empty_outputs, put_at, seen, with_line, with_record};
 
-use endpoint_core::Leaving;
-use filter_db::Place;
-use frame_view::Reason;
+use endpoint_core::Head;
+use frame_view::BridgeFrame;
 use pcap_io::{put_header, put_record};
 use std::alloc::{AllocError, Global};
 
@@ -48,24 +47,53 @@ impl Outputs {
         })
     }
 
-    /// Puts what came of an outlet: a record into the capture of its place, if something was sent.
-    pub(crate) fn put_sent(
+    /// Puts a record of a frame with a tag, or without one, into the capture of a port, where there is one of this number.
+    pub(crate) fn put_local(
         &mut self,
         moment: u64,
-        place: Place,
-        sent: &Result<Leaving, Reason>,
+        port: u8,
+        frame: &BridgeFrame,
+        tag: &Option<[u8; 4]>,
     ) -> Result<(), AllocError>
         requires moment { moment ≤ last_moment }
-        requires short { IfOk sent.now (λ e. length e.body ≤ 65549) }
-        ensures { OnOk result (seen self.new ≡ with_sent moment (seen self.old) (record { place = place; sent = texts sent.now })) }
+        requires short { length frame.now.body ≤ 65549 }
+        ensures { let f = frame.now in OnOk result (seen self.new ≡ with_record (seen self.old) (Local port)
+            (written_record (whole_frame moment ((f.dst ++ f.src) ++ (unwrap_or tag.now [] ++ f.body))))) }
     {
-        let Ok(leaving) = sent else {
-            return Ok(());
-        };
-        match place {
-            Place::Local(port) => put_at(&mut self.ports, port, moment, leaving),
-            Place::Remote(..) => put_leaving(&mut self.underlay, moment, leaving),
-        }
+        let tag = octets_of(tag);
+        put_at(
+            &mut self.ports,
+            port,
+            moment,
+            frame.addresses,
+            tag,
+            frame.body,
+        )
+    }
+
+    /// Puts a record of a frame behind the head of a packet into the capture of the underlay.
+    pub(crate) fn put_remote(
+        &mut self,
+        moment: u64,
+        head: &Head,
+        frame: &BridgeFrame,
+    ) -> Result<(), AllocError>
+        requires moment { moment ≤ last_moment }
+        requires short { length frame.now.body ≤ 65549 }
+        ensures { OnOk result (seen self.new ≡ record (seen self.old) {
+          underlay = (seen self.old).underlay
+              ++ written_record (whole_frame moment (text (around head.now.items [] frame.now)));
+        }) }
+    {
+        let head = head.as_slice();
+        put_record(
+            &mut self.underlay,
+            moment,
+            head,
+            frame.addresses,
+            &[],
+            frame.body,
+        )
     }
 
     /// Puts a decision line.
@@ -76,30 +104,44 @@ impl Outputs {
     }
 }
 
-/// Puts a record with what leaves into the capture of a port, where there is one of this number.
+/// The octets of a tag, if there is one.
+fn octets_of(tag: &Option<[u8; 4]>) -> &[u8]
+    ensures value { result.now ≡ unwrap_or tag.now [] }
+    ensures few { length result.now ≤ 4 }
+{
+    match tag {
+        Some(tag) => tag,
+        None => &[],
+    }
+}
+
+/// Puts a record with a frame's addresses, a tag and the frame's body into the capture of a port, where there is one of this
+/// number.
 fn put_at(
     captures: &mut Vec<Vec<u8>>,
     port: u8,
     moment: u64,
-    leaving: &Leaving,
+    addresses: &[u8],
+    tag: &[u8],
+    body: &[u8],
 ) -> Result<(), AllocError>
     requires moment { moment ≤ last_moment }
-    requires short { length leaving.now.body ≤ 65549 }
+    requires addresses { length addresses.now ≤ 12 }
+    requires tag { length tag.now ≤ 4 }
+    requires short { length body.now ≤ 65549 }
     ensures { OnOk result (map (λ v. v.items) captures.new.items
-        ≡ put_at port (written_record (whole_frame moment (text leaving.now))) (map (λ v. v.items) captures.old.items)) }
+        ≡ put_at port (written_record (whole_frame moment (addresses.now ++ (tag.now ++ body.now))))
+        (map (λ v. v.items) captures.old.items)) }
 {
     if port == 0 || usize::from(port) > captures.len() {
         return Ok(());
     }
-    put_leaving(&mut captures[usize::from(port) - 1], moment, leaving)
-}
-
-/// Puts a record with what leaves into a capture.
-fn put_leaving(capture: &mut Vec<u8>, moment: u64, leaving: &Leaving) -> Result<(), AllocError>
-    requires moment { moment ≤ last_moment }
-    requires short { length leaving.now.body ≤ 65549 }
-    ensures { OnOk result (capture.new.items ≡ capture.old.items ++ written_record (whole_frame moment (text leaving.now))) }
-{
-    let [head, addresses, tag, body] = leaving.parts();
-    put_record(capture, moment, head, addresses, tag, body)
+    put_record(
+        &mut captures[usize::from(port) - 1],
+        moment,
+        &[],
+        addresses,
+        tag,
+        body,
+    )
 }

@@ -2,6 +2,7 @@
 ghost use Rattle.std.specs.Prelude.{◌≡◌, ◌≤◌, ◌+◌, ◌++◌, None, Ok, IsSome, IsTrue, length, map, OnOk};
 ghost use Rattle.std.specs.List.{list_all};
 ghost use Rattle.timeline.specs.Events.{IsEventOf};
+ghost use Rattle.filter_db.specs.declared.place.Place.TheVariants.{Local, Remote};
 ghost use Rattle.endpoint_core.specs.Course.{CanLeave, IsShortFrame, IsThere, decision_of};
 ghost use Rattle.endpoint_core.specs.Event.{change_at, frame_at, packet_at};
 ghost use Rattle.endpoint_core.specs.Kept.{state_of};
@@ -13,15 +14,81 @@ ghost use Rattle.endpoint_state.specs.Step.{can_leave};
 ghost use Rattle.pcap_io.specs.Record.{last_moment};
 ghost use Rattle.decision_lines.specs.Lines.{answer_text, line};
 ghost use Rattle.capture_run.specs.Outputs.{event_of};
-ghost use Rattle.capture_run.specs.Writing.{seen, with_all_sent, with_event, with_input};
+ghost use Rattle.capture_run.specs.Writing.{seen, with_all_sent, with_event, with_input, with_sent};
 
 use crate::outputs::Outputs;
 use decision_lines::{Desk, Line};
 use endpoint_core::{Came, Course, Endpoint, Head};
 use filter_db::Place;
+use ip_udp_view::{Addr, Tunnel};
 use overlay_config::{Change, TimedChange};
 use std::alloc::AllocError;
 use timeline::{Captured, Event, Happening, Tap};
+
+/// Puts what leaves of a frame at a local port.
+fn put_local(
+    outputs: &mut Outputs,
+    endpoint: &Endpoint,
+    came: &Came,
+    port: u8,
+    moment: u64,
+) -> Result<(), AllocError>
+    requires moment { moment ≤ last_moment }
+    requires short { length came.now.frame.body ≤ 65549 }
+    requires leave { IsTrue (can_leave (state_of endpoint.now).bridges.settings came.now.vid (Local port)) }
+    ensures { let S = (state_of endpoint.now).bridges.settings in
+        OnOk result (seen outputs.new
+        ≡ with_sent moment (seen outputs.old) (sent_at S came.now.vid came.now.frame (Local port))) }
+{
+    let tag = endpoint.tag_at(came, port);
+    outputs.put_local(moment, port, came.frame(), &tag)
+}
+
+/// Puts what leaves of a frame for a remote endpoint, if something does.
+fn put_remote(
+    outputs: &mut Outputs,
+    head: &mut Head,
+    endpoint: &Endpoint,
+    came: &Came,
+    kind: Tunnel,
+    addr: Addr,
+    moment: u64,
+) -> Result<(), AllocError>
+    requires moment { moment ≤ last_moment }
+    requires short { length came.now.frame.body ≤ 65549 }
+    requires leave { IsTrue (can_leave (state_of endpoint.now).bridges.settings came.now.vid (Remote kind addr)) }
+    ensures { let S = (state_of endpoint.now).bridges.settings in
+        OnOk result (seen outputs.new
+        ≡ with_sent moment (seen outputs.old) (sent_at S came.now.vid came.now.frame (Remote kind addr))) }
+{
+    match endpoint.put_head(came, kind, addr, head) {
+        Ok(()) => outputs.put_remote(moment, head, came.frame()),
+        Err(_) => Ok(()),
+    }
+}
+
+/// Puts what leaves of a frame at a place, if something does.
+fn put_sent(
+    outputs: &mut Outputs,
+    head: &mut Head,
+    endpoint: &Endpoint,
+    came: &Came,
+    place: Place,
+    moment: u64,
+) -> Result<(), AllocError>
+    requires moment { moment ≤ last_moment }
+    requires short { length came.now.frame.body ≤ 65549 }
+    requires leave { IsTrue (can_leave (state_of endpoint.now).bridges.settings came.now.vid place) }
+    ensures { let S = (state_of endpoint.now).bridges.settings in
+        OnOk result (seen outputs.new ≡ with_sent moment (seen outputs.old) (sent_at S came.now.vid came.now.frame place)) }
+{
+    match place {
+        Place::Local(port) => put_local(outputs, endpoint, came, port, moment),
+        Place::Remote(kind, addr) => {
+            put_remote(outputs, head, endpoint, came, kind, addr, moment)
+        }
+    }
+}
 
 /// Puts what leaves of a frame at each place, and what came of it there to the line.
 fn put_outcomes(
@@ -50,9 +117,8 @@ fn put_outcomes(
     let two_tunnels = endpoint.has_two_tunnels(came);
     let mut is_first = true;
     for place in places {
-        let sent = endpoint.emit(came, *place, head);
-        line.put_outcome(is_first, two_tunnels, *place, &sent);
-        outputs.put_sent(moment, *place, &sent)?;
+        put_sent(outputs, head, endpoint, came, *place, moment)?;
+        line.put_sized(endpoint, came, is_first, two_tunnels, *place);
         is_first = false;
     }
     Ok(())

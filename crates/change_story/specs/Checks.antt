@@ -101,9 +101,9 @@ vid_check vid there = record { fault = SegmentThere; fails = there; saw = seen.S
 abbrev pub vnis_check : Bool → Check
 vnis_check free = record { fault = SegmentThere; fails = not free; saw = seen.Vnis free }
 
--- there are fewer than 256 segments
-abbrev pub count_check : ℕ → Check
-count_check segments = record { fault = SegmentsFull; fails = not (nat_lt segments 256); saw = seen.Segments segments }
+-- there are fewer segments than there may be
+abbrev pub count_check : ℕ → ℕ → Check
+count_check segments most = record { fault = SegmentsFull; fails = not (nat_lt segments most); saw = seen.Segments segments most }
 
 -- a limit is no more than what is left of the pool
 abbrev pub pool_check : Bool → ℕ → Check
@@ -153,7 +153,7 @@ new_checks S new =
     ∷ ageing_check new.ageing
     ∷ vid_check new.vid (is_some (segment_in S new.vid))
     ∷ vnis_check (are_free S.overlay new.tunnels)
-    ∷ count_check (segment_count (tables_asked S))
+    ∷ count_check (segment_count (tables_asked S)) S.overlay.underlay.limits.segments
     ∷ pool_check (is_too_much S new.limit) (room_in S)
     ∷ []
 

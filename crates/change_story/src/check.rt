@@ -244,14 +244,14 @@ pub(crate) fn vnis_check(free: bool) -> Check
     }
 }
 
-/// There are fewer than 256 segments.
-pub(crate) fn count_check(segments: u32) -> Check
-    ensures { result ≡ checks.count_check segments }
+/// There are fewer segments than there may be.
+pub(crate) fn count_check(segments: u32, most: u16) -> Check
+    ensures { result ≡ checks.count_check segments most }
 {
     Check {
         fault: ChangeFault::SegmentsFull,
-        fails: !(segments < 256),
-        saw: Seen::Segments { segments },
+        fails: !(segments < u32::from(most)),
+        saw: Seen::Segments { segments, most },
     }
 }
 

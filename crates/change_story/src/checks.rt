@@ -332,7 +332,10 @@ fn put_new(
             ageing_check(new.ageing),
             vid_check(new.vid, segment_in(state, new.vid).is_some()),
             vnis_check(state.under().are_free(&new.tunnels)),
-            count_check(state.segment_count()),
+            count_check(
+                state.segment_count(),
+                state.under().settings().limits.segments,
+            ),
             room_of(state, new.limit),
         ],
     )

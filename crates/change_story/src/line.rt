@@ -71,9 +71,7 @@ fn put_words(text: &mut String, seen: Seen) -> Result<(), AllocError>
         }
         Seen::Limit { limit } => put_number(text, "limit ", u64::from(limit), ", 1 to 8192"),
         Seen::Vnis { free } => text.push_str(either(free, "vnis free", "vnis taken")),
-        Seen::Segments { segments } => {
-            put_number(text, "segments ", u64::from(segments), ", at most 256")
-        }
+        Seen::Segments { segments, most } => put_segments(text, segments, most),
         Seen::Pool { room } => put_pool(text, room),
         Seen::AgeingBefore { span } => put_ageing(text, span),
         Seen::Learning { on } => {
@@ -97,6 +95,13 @@ fn put_port(text: &mut String, port: u8, ports: u8) -> Result<(), AllocError>
         ≡ string_bytes text.old ++ (codes "port p" ++ decimal port ++ codes " of " ++ decimal ports)) }
 {
     write!(text, "port p{port} of {ports}")
+}
+
+fn put_segments(text: &mut String, segments: u32, most: u16) -> Result<(), AllocError>
+    ensures { OnOk result (string_bytes text.new
+        ≡ string_bytes text.old ++ (codes "segments " ++ decimal segments ++ codes ", at most " ++ decimal most)) }
+{
+    write!(text, "segments {segments}, at most {most}")
 }
 
 fn put_pool(text: &mut String, room: u64) -> Result<(), AllocError>

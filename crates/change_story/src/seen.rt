@@ -71,9 +71,10 @@ pub enum Seen {
     Vnis {
         free: bool,
     },
-    /// How many segments there are.
+    /// How many segments there are, and how many there may be.
     Segments {
         segments: u32,
+        most: u16,
     },
     /// What is left of the pool for the new limit.
     Pool {

@@ -3,7 +3,7 @@ use Rattle.std.proofs.Common.{◌≡◌, refl, codes, [], ◌∷◌, Some, None,
 use Rattle.clap.specs.Words.{takes}
 use Rattle.clap.proofs.OnLiterals.{clap_on_literals}
 use Rattle.command_line.specs.App.{tep_app}
-use Rattle.command_line.specs.Meaning.{check, compare, digest, explain, merge, migrate, run, sample, split, words_meant}
+use Rattle.command_line.specs.Meaning.{check, compare, compare_worked, digest, explain, merge, migrate, run, sample, split, words_meant}
 
 no_words : words_meant (codes "tep" ∷ []) ≡ Some sample
 unfolding clap_on_literals
@@ -111,6 +111,27 @@ a_comparison_of_two_clocks : words_meant (codes "tep" ∷ codes "compare" ∷ co
 unfolding clap_on_literals
 a_comparison_of_two_clocks = refl
 
-a_comparison_of_one_is_refused : takes tep_app (codes "tep" ∷ codes "compare" ∷ codes "a" ∷ []) ≡ false
+a_comparison_of_one_is_none : words_meant (codes "tep" ∷ codes "compare" ∷ codes "a" ∷ []) ≡ None
 unfolding clap_on_literals
-a_comparison_of_one_is_refused = refl
+a_comparison_of_one_is_none = refl
+
+a_comparison_of_three_is_none : words_meant (codes "tep" ∷ codes "compare" ∷ codes "a" ∷ codes "b" ∷ codes "c" ∷ []) ≡ None
+unfolding clap_on_literals
+a_comparison_of_three_is_none = refl
+
+a_comparison_of_nothing_is_refused : takes tep_app (codes "tep" ∷ codes "compare" ∷ []) ≡ false
+unfolding clap_on_literals
+a_comparison_of_nothing_is_refused = refl
+
+what_a_run_wrote : words_meant (codes "tep" ∷ codes "compare" ∷ codes "--worked" ∷ codes "d" ∷ codes "-u" ∷ codes "u" ∷ codes "--within=1ms" ∷ codes "p1" ∷ codes "-" ∷ [])
+    ≡ Some (compare_worked (codes "d") (codes "u") (codes "p1" ∷ codes "-" ∷ []) (Some (codes "1ms")) None)
+unfolding clap_on_literals
+what_a_run_wrote = refl
+
+what_a_run_wrote_without_the_underlay_is_none : words_meant (codes "tep" ∷ codes "compare" ∷ codes "--worked=d" ∷ codes "p1" ∷ codes "p2" ∷ []) ≡ None
+unfolding clap_on_literals
+what_a_run_wrote_without_the_underlay_is_none = refl
+
+the_underlay_of_no_run_is_none : words_meant (codes "tep" ∷ codes "compare" ∷ codes "--underlay" ∷ codes "u" ∷ codes "p1" ∷ codes "p2" ∷ []) ≡ None
+unfolding clap_on_literals
+the_underlay_of_no_run_is_none = refl

@@ -51,7 +51,7 @@ rule_for arguments.Segments = option_rule (codes "segments")
 rule_for arguments.Digests = option_rule (codes "digests")
 rule_for arguments.Both = flag_rule (codes "both")
 rule_for arguments.Within = option_rule (codes "within")
-rule_for arguments.Shards = record (listed_rule (codes "shards")) { required = true }
+rule_for arguments.Parts = record (listed_rule (codes "parts")) { required = true }
 rule_for arguments.Depth = record (option_rule (codes "depth")) {
   short = Some 100;
   parser = Some (parser.Signed (pos 1) (pos 4));
@@ -60,8 +60,9 @@ rule_for arguments.Depth = record (option_rule (codes "depth")) {
 rule_for arguments.Values = flag_rule (codes "values")
 rule_for arguments.Capture = record (placed_rule (codes "capture")) { required = true }
 rule_for arguments.SplitCapture = record (placed_rule (codes "capture")) { required = true }
-rule_for arguments.Sent = record (placed_rule (codes "sent")) { required = true }
-rule_for arguments.Received = record (placed_rule (codes "received")) { required = true }
+rule_for arguments.Compared = record (listed_rule (codes "captures")) { required = true }
+rule_for arguments.Worked = option_rule (codes "worked")
+rule_for arguments.WorkedUnderlay = record (option_rule (codes "underlay")) { short = Some 117 }
 rule_for arguments.Later = option_rule (codes "within")
 rule_for arguments.Shift = option_rule (codes "shift")
 
@@ -98,9 +99,10 @@ arguments_of subcommands.Check = arguments.Settings ∷ arguments.Changes ∷ ar
 arguments_of subcommands.Explain = arguments.Settings ∷ arguments.Depth ∷ arguments.Values ∷ arguments.Capture ∷ []
 arguments_of subcommands.Migrate = arguments.Settings ∷ []
 arguments_of subcommands.Digest = arguments.Underlay ∷ arguments.Ports ∷ []
-arguments_of subcommands.Merge = arguments.Out ∷ arguments.Shards ∷ arguments.Tables ∷ arguments.Summary ∷ []
+arguments_of subcommands.Merge = arguments.Out ∷ arguments.Parts ∷ arguments.Tables ∷ arguments.Summary ∷ []
 arguments_of subcommands.Split = arguments.Out ∷ arguments.SplitCapture ∷ []
-arguments_of subcommands.Compare = arguments.Sent ∷ arguments.Received ∷ arguments.Later ∷ arguments.Shift ∷ []
+arguments_of subcommands.Compare =
+    arguments.Compared ∷ arguments.Worked ∷ arguments.WorkedUnderlay ∷ arguments.Later ∷ arguments.Shift ∷ []
 
 -- what `clap` keeps of it
 abbrev pub shape_for : Subcommand → Shape

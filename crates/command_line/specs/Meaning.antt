@@ -22,7 +22,8 @@ use Rattle.command_line.specs.declared.line.LineFault.TheVariants as fault
 -- of `explain` the settings, the depth, whether values are told, and the capture; of `migrate` the settings; of `digest` the
 -- underlay and the ports; of `merge` the folder, those of the parts, whether the tables are told, and whether the counts are; of
 -- `split` the folder and the capture; of `compare` what was sent, what was received, how much later a record may be, and how far
--- the clock of what was received is ahead
+-- the clock of what was received is ahead; of the other `compare` the folder that a run wrote into, what was captured at the
+-- underlay and at the ports, and the same two
 pub data Meaning : Type 0 where
   sample : Meaning
   run : Text → Option Text → Text → Option Text → List Text → Bool
@@ -34,6 +35,7 @@ pub data Meaning : Type 0 where
   merge : Text → List Text → Bool → Bool → Meaning
   split : Text → Text → Meaning
   compare : Text → Text → Option Text → Option Text → Meaning
+  compare_worked : Text → Text → List Text → Option Text → Option Text → Meaning
 
 -- what a command line is as such a meaning
 abbrev pub meaning_of : Line → Meaning
@@ -47,10 +49,12 @@ meaning_of (line.Check settings changes underlay ports) =
 meaning_of (line.Explain settings depth values capture) = explain settings.now depth values capture.now
 meaning_of (line.Migrate settings) = migrate settings.now
 meaning_of (line.Digest underlay ports) = digest underlay.now (texts ports.items)
-meaning_of (line.Merge out shards tables summary) = merge out.now (texts shards.items) tables summary
+meaning_of (line.Merge out parts tables summary) = merge out.now (texts parts.items) tables summary
 meaning_of (line.Split out capture) = split out.now capture.now
 meaning_of (line.Compare sent received within shift) =
     compare sent.now received.now (option_map (λ t. t.now) within) (option_map (λ t. t.now) shift)
+meaning_of (line.CompareWorked worked underlay ports within shift) =
+    compare_worked worked.now underlay.now (texts ports.items) (option_map (λ t. t.now) within) (option_map (λ t. t.now) shift)
 
 -- a depth is 1 to 4
 abbrev pub HasDepth : Line → Type 0
@@ -60,9 +64,10 @@ HasDepth (line.Check settings changes underlay ports) = ⊤
 HasDepth (line.Explain settings depth values capture) = (1 ≤ depth) × (depth ≤ 4)
 HasDepth (line.Migrate settings) = ⊤
 HasDepth (line.Digest underlay ports) = ⊤
-HasDepth (line.Merge out shards tables summary) = ⊤
+HasDepth (line.Merge out parts tables summary) = ⊤
 HasDepth (line.Split out capture) = ⊤
 HasDepth (line.Compare sent received within shift) = ⊤
+HasDepth (line.CompareWorked worked underlay ports within shift) = ⊤
 
 -- ---- what matches mean: nothing, where a required value is missing
 
@@ -140,18 +145,33 @@ digest_meant rows = option_and_then (λ u. option_map (λ ps. digest u ps) (all_
 abbrev pub merge_meant : List Row → Option Meaning
 merge_meant rows =
     option_and_then (λ o. option_map (λ ps. merge o ps (is_set (codes "tables") rows) (is_set (codes "summary") rows))
-    (all_of (codes "shards") rows)) (first_of (codes "out") rows)
+    (all_of (codes "parts") rows)) (first_of (codes "out") rows)
 
 -- what `split` is asked to do
 abbrev pub split_meant : List Row → Option Meaning
 split_meant rows =
     option_and_then (λ o. option_map (λ c. split o c) (first_of (codes "capture") rows)) (first_of (codes "out") rows)
 
+-- what `compare` is asked to do with two captures, and with no others
+abbrev pub pair_meant : List Text → Option Text → Option Text → Option Meaning
+pair_meant [] within shift = None
+pair_meant (sent ∷ []) within shift = None
+pair_meant (sent ∷ received ∷ []) within shift = Some (compare sent received within shift)
+pair_meant (sent ∷ received ∷ another ∷ more) within shift = None
+
+-- by the folder of a run and what was captured at the underlay: with both of them each capture is one of a port, with neither
+-- there are two
+abbrev pub captures_meant : Option Text → Option Text → List Text → Option Text → Option Text → Option Meaning
+captures_meant None None captures within shift = pair_meant captures within shift
+captures_meant None (Some underlay) captures within shift = None
+captures_meant (Some worked) None captures within shift = None
+captures_meant (Some worked) (Some underlay) captures within shift = Some (compare_worked worked underlay captures within shift)
+
 -- what `compare` is asked to do
 abbrev pub compare_meant : List Row → Option Meaning
 compare_meant rows =
-    option_and_then (λ s. option_map (λ r. compare s r (first_of (codes "within") rows) (first_of (codes "shift") rows))
-    (first_of (codes "received") rows)) (first_of (codes "sent") rows)
+    option_and_then (λ captures. captures_meant (first_of (codes "worked") rows) (first_of (codes "underlay") rows) captures
+    (first_of (codes "within") rows) (first_of (codes "shift") rows)) (all_of (codes "captures") rows)
 
 -- what a subcommand of this name is asked to do
 abbrev pub command_meant : Text → List Row → Option Meaning
@@ -214,7 +234,7 @@ AreTaken words = (fault_of tep_app words ≡ []) ⊎ IsSome (telling_meant words
 abbrev pub inputs_among : List Text → ℕ
 inputs_among names = count_by (λ name. bytes_eq (file_of name) (codes "-")) names
 
--- how many captures are standard input; texts are files, whatever their names
+-- how many captures are standard input; texts are files, whatever their names, and beside what a run wrote '-' is no capture
 abbrev pub input_uses : Meaning → ℕ
 input_uses sample = 0
 input_uses (run settings changes underlay out ports tables tables_at why summary talkers segments digests both within) = inputs_among (underlay ∷ ports)
@@ -223,9 +243,10 @@ input_uses (check settings changes (Some underlay) ports) = inputs_among (underl
 input_uses (explain settings depth values capture) = inputs_among (capture ∷ [])
 input_uses (migrate settings) = 0
 input_uses (digest underlay ports) = inputs_among (underlay ∷ ports)
-input_uses (merge out shards tables summary) = 0
+input_uses (merge out parts tables summary) = 0
 input_uses (split out capture) = inputs_among (capture ∷ [])
 input_uses (compare sent received within shift) = inputs_among (sent ∷ received ∷ [])
+input_uses (compare_worked worked underlay ports within shift) = 0
 
 -- it is read once at most
 abbrev pub ReadsInputOnce : Meaning → Type 0
@@ -250,14 +271,15 @@ abbrev pub RefusesAsWhole : List Text → Error → Type 0
 RefusesAsWhole words e = (kind_of e ≡ OutOfMemory) ⊎ ((takes tep_app words ≡ false) × IsAmong (kind_of e) (fault_of tep_app words))
 
 -- Refused where that definition takes the words neither as the program's nor as those of a run of which something is told, and
--- then as the program's are; NoValue where it takes them as the program's and its matches lack a required value; InputTwice where
--- it takes them and they ask for standard input more than once, NoSegments where it takes them and they lend digests to a run
--- that is no part
+-- then as the program's are; NoValue where it takes them as the program's and its matches lack a required value; Unpaired where
+-- its matches have one, but are of `compare` with captures as it doesn't take them; InputTwice where it takes them and they ask
+-- for standard input more than once, NoSegments where it takes them and they lend digests to a run that is no part
 abbrev pub Explains : List Text → LineFault → Type 0
 Explains words fault.OutOfMemory = ⊤
 Explains words (fault.Refused e) = (takes tep_app words ≡ false)
     × IsAmong (kind_of e) (fault_of tep_app words) × (telling_meant words ≡ None)
 Explains words fault.NoValue = (fault_of tep_app words ≡ []) × (words_meant words ≡ None)
+Explains words fault.Unpaired = (fault_of tep_app words ≡ []) × (words_meant words ≡ None)
 Explains words fault.InputTwice = AreTaken words × IsSomeAnd (words_meant words) (λ meaning. 2 ≤ input_uses meaning)
 Explains words fault.NoSegments = AreTaken words × IsSomeAnd (words_meant words) (λ meaning. lends_to_a_whole meaning ≡ true)
 
@@ -266,13 +288,15 @@ abbrev pub ExplainsWords : List Text → LineFault → Type 0
 ExplainsWords words fault.OutOfMemory = ⊤
 ExplainsWords words (fault.Refused e) = Explains words (fault.Refused e)
 ExplainsWords words fault.NoValue = Explains words fault.NoValue
+ExplainsWords words fault.Unpaired = Explains words fault.Unpaired
 ExplainsWords words fault.InputTwice = ⊥
 ExplainsWords words fault.NoSegments = ⊥
 
--- the same of the part behind the parse, which refuses nothing
+-- the same of the part behind the parse, which refuses nothing but captures that `compare` doesn't take
 abbrev pub LacksValue : Option Meaning → LineFault → Type 0
 LacksValue meant fault.OutOfMemory = ⊤
 LacksValue meant (fault.Refused e) = ⊥
 LacksValue meant fault.NoValue = meant ≡ None
+LacksValue meant fault.Unpaired = meant ≡ None
 LacksValue meant fault.InputTwice = ⊥
 LacksValue meant fault.NoSegments = ⊥

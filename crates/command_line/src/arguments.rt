@@ -53,7 +53,7 @@ pub enum Argument {
     /// How long behind its frame that may come.
     Within,
     /// The folders of the parts: one or more.
-    Shards,
+    Parts,
     /// How many tunnels are looked into: 1 to 4.
     Depth,
     /// Whether the values of each head are told.
@@ -62,10 +62,12 @@ pub enum Argument {
     Capture,
     /// The capture that is split.
     SplitCapture,
-    /// The capture of what was sent, which is compared.
-    Sent,
-    /// The capture of what was received.
-    Received,
+    /// The captures that are compared: two, or beside what a run wrote one of each port.
+    Compared,
+    /// The folder that a run wrote into, where that is compared.
+    Worked,
+    /// What was captured at the underlay, beside what a run wrote.
+    WorkedUnderlay,
     /// How much later a record may be received.
     Later,
     /// How far the clock of what was received is ahead.
@@ -130,13 +132,13 @@ impl Argument {
             Argument::Tables => flag(
                 alloc,
                 "tables",
-                "Prints the live entries of all tables behind the last event",
+                "Prints the live entries of all tables at the last event",
             ),
             Argument::TablesAt => option(
                 alloc,
                 "tables-at",
                 "MOMENT",
-                "Prints them behind the last event up to this moment, in nanoseconds",
+                "Prints those at this moment, in nanoseconds",
             )
             .value_parser(ValueParser::unsigned(0, u64::MAX)),
             Argument::Why => option(
@@ -179,9 +181,9 @@ impl Argument {
                 "TIME",
                 "How long behind its frame that may come, with --both: 500us, 2ms, 1s; 10ms without it",
             ),
-            Argument::Shards => listed(
+            Argument::Parts => listed(
                 alloc,
-                "shards",
+                "parts",
                 "SHARD",
                 "The folders of the parts, in any order",
             )
@@ -210,20 +212,26 @@ impl Argument {
                 "A pcapng capture of several interfaces; '-' is standard input",
             )
             .required(true),
-            Argument::Sent => placed(
+            Argument::Compared => listed(
                 alloc,
-                "sent",
-                "SENT",
-                "The capture of what was sent; '-' is standard input",
+                "captures",
+                FILE,
+                "SENT and RECEIVED, '-' is standard input; with --worked what was seen at each port, port 1 first, or '-'",
             )
             .required(true),
-            Argument::Received => placed(
+            Argument::Worked => option(
                 alloc,
-                "received",
-                "RECEIVED",
-                "The capture of what was received; '-' is standard input",
+                "worked",
+                DIR,
+                "The folder that 'tep run' wrote into, to compare each of its captures with what was seen there",
+            ),
+            Argument::WorkedUnderlay => option(
+                alloc,
+                "underlay",
+                FILE,
+                "With --worked what was seen at the underlay; '-' where there is no capture of it",
             )
-            .required(true),
+            .short('u'),
             Argument::Later => option(
                 alloc,
                 "within",

@@ -45,12 +45,13 @@ const SPLIT_EXAMPLE: &str =
 
 /// What stands below the help of `compare`.
 const COMPARE_EXAMPLE: &str =
-    "Captures are pcap or pcapng. FILE#INTERFACE takes one interface of a pcapng capture, by number or name.\nThe exit status is 0 where all is the same, and 1 where it isn't.\n\nExamples:\n  tep compare sent.pcap received.pcap\n  tep compare --within 5ms --shift=-1200ns out/port2.pcap switch.pcapng#eth2";
+    "Captures are pcap or pcapng. FILE#INTERFACE takes one interface of a pcapng capture, by number or name.\nWith --worked packets of tunnels are the same where what they carry and their addresses are.\nThe exit status is 0 where all is the same, and 1 where it isn't.\n\nExamples:\n  tep compare sent.pcap received.pcap\n  tep compare --within 5ms --shift=-1200ns out/port2.pcap switch.pcapng#eth2\n  tep compare --worked out -u seen_u.pcap seen_1.pcap -";
 
 /// What `compare` takes.
-const COMPARE: [Argument; 4] = [
-    Argument::Sent,
-    Argument::Received,
+const COMPARE: [Argument; 5] = [
+    Argument::Compared,
+    Argument::Worked,
+    Argument::WorkedUnderlay,
     Argument::Later,
     Argument::Shift,
 ];
@@ -145,7 +146,7 @@ const EXPLAIN: [Argument; 4] = [
 /// What `merge` takes.
 const MERGE: [Argument; 4] = [
     Argument::Out,
-    Argument::Shards,
+    Argument::Parts,
     Argument::Tables,
     Argument::Summary,
 ];

@@ -21,6 +21,7 @@
 mod arguments;
 mod capture;
 mod commands;
+mod comparing;
 mod line;
 mod matches;
 mod time;

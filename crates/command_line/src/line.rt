@@ -84,7 +84,7 @@ pub enum Line<'a> {
         /// The folder that outputs are written into.
         out: &'a str,
         /// The folders of the parts: one at least.
-        shards: Vec<&'a str>,
+        parts: Vec<&'a str>,
         /// Whether the tables are told as they are behind the last event.
         tables: bool,
         /// Whether the counts are told.
@@ -108,6 +108,19 @@ pub enum Line<'a> {
         /// How far the clock of what was received is ahead.
         shift: Option<&'a str>,
     },
+    /// What a run wrote compared with what was captured of what went out.
+    CompareWorked {
+        /// The folder that the run wrote into.
+        worked: &'a str,
+        /// What was captured at the underlay; `-` where nothing was.
+        underlay: &'a str,
+        /// What was captured at port 1, port 2 and so on: one at least; `-` where nothing was.
+        ports: Vec<&'a str>,
+        /// How much later a record may be captured.
+        within: Option<&'a str>,
+        /// How far the clock of what was captured is ahead.
+        shift: Option<&'a str>,
+    },
 }
 
 /// Why there is no line.
@@ -122,6 +135,9 @@ pub enum LineFault {
     /// `clap`'s matches lack a required value.
     #[error("words")]
     NoValue,
+    /// `compare` is given neither two captures, nor a folder of a run with what was captured at the underlay and at ports.
+    #[error("error: compare takes SENT and RECEIVED, or --worked DIR, --underlay FILE and a capture for each port")]
+    Unpaired,
     /// More captures than one are standard input.
     #[error("error: standard input '-' can be one capture only")]
     InputTwice,
@@ -173,7 +189,7 @@ fn input_uses(line: &Line<'_>) -> usize
         Line::Check { ports, .. } => inputs_among(ports.as_slice()),
         Line::Explain { capture, .. } | Line::Split { capture, .. } => inputs_among(&[*capture]),
         Line::Compare { sent, received, .. } => inputs_among(&[*sent, *received]),
-        Line::Sample | Line::Migrate { .. } | Line::Merge { .. } => 0,
+        Line::Sample | Line::Migrate { .. } | Line::Merge { .. } | Line::CompareWorked { .. } => 0,
     }
 }
 

@@ -5,6 +5,7 @@ ghost use Rattle.clap.specs.Walk.{texts};
 ghost use Rattle.command_line.specs.Meaning.{HasDepth, LacksValue, check_meant, compare_meant, depth_in, digest_meant, explain_meant, is_set, line_meant, meaning_of, merge_meant, migrate_meant, moment_in, run_meant, small_depth, split_meant};
 ghost use Rattle.command_line.specs.declared.line.LineFault.TheVariants.{OutOfMemory};
 
+use crate::comparing::{Comparing, comparison_line};
 use crate::line::{Line, LineFault};
 use clap::ArgMatches;
 use std::alloc::Global;
@@ -26,7 +27,7 @@ pub(crate) fn line_from<'a>(alloc: Global, matches: &ArgMatches<'a>) -> Result<L
         "digest" => digest_from(alloc, inner),
         "merge" => merge_from(alloc, inner),
         "split" => split_from(inner),
-        "compare" => compare_from(inner),
+        "compare" => compare_from(alloc, inner),
         _ => Err(LineFault::NoValue),
     }
 }
@@ -185,13 +186,13 @@ fn merge_from<'a>(alloc: Global, inner: &ArgMatches<'a>) -> Result<Line<'a>, Lin
     ensures fault { IfErr result (LacksValue (merge_meant (rows_of (found_of inner.now)))) }
 {
     let out = text(inner, "out").ok_or(LineFault::NoValue)?;
-    let given = values(inner, "shards").ok_or(LineFault::NoValue)?;
-    let shards = listed(alloc, given)?;
+    let given = values(inner, "parts").ok_or(LineFault::NoValue)?;
+    let parts = listed(alloc, given)?;
     let tables = is_set(inner, "tables");
     let summary = is_set(inner, "summary");
     Ok(Line::Merge {
         out,
-        shards,
+        parts,
         tables,
         summary,
     })
@@ -208,18 +209,18 @@ fn split_from<'a>(inner: &ArgMatches<'a>) -> Result<Line<'a>, LineFault>
     Ok(Line::Split { out, capture })
 }
 
-/// The line that asks for what was sent to be compared with what was received.
-fn compare_from<'a>(inner: &ArgMatches<'a>) -> Result<Line<'a>, LineFault>
+/// The line that asks for a comparison.
+fn compare_from<'a>(alloc: Global, inner: &ArgMatches<'a>) -> Result<Line<'a>, LineFault>
     ensures ok { IfOk result (λ line. compare_meant (rows_of (found_of inner.now)) ≡ Some (meaning_of line)) }
     ensures depth { IfOk result HasDepth }
     ensures fault { IfErr result (LacksValue (compare_meant (rows_of (found_of inner.now)))) }
 {
-    let sent = text(inner, "sent").ok_or(LineFault::NoValue)?;
-    let received = text(inner, "received").ok_or(LineFault::NoValue)?;
-    Ok(Line::Compare {
-        sent,
-        received,
+    let captures = values(inner, "captures").ok_or(LineFault::NoValue)?;
+    let asked = Comparing {
+        worked: text(inner, "worked"),
+        underlay: text(inner, "underlay"),
         within: text(inner, "within"),
         shift: text(inner, "shift"),
-    })
+    };
+    comparison_line(alloc, asked, captures)
 }

@@ -5,10 +5,10 @@ use arrayvec::ArrayString;
 use std::fmt;
 use std::marker::Model;
 
-/// The path of a key, as `segment.12.flood`, in at most 32 octets; seen by contracts as its text.
+/// The path of a key, as `segment.12.flood`, in at most 40 octets; seen by contracts as its text.
 #[derive(Debug, Drop)]
 pub struct Key {
-    text: ArrayString<32>,
+    text: ArrayString<40>,
 }
 
 impl Model for Key {
@@ -22,7 +22,7 @@ impl Model for Key {
 impl Key {
     /// One part of a path and the other behind it.
     pub fn of(first: &str, second: &str) -> Key
-        requires { length first.now + length second.now ≤ 32 }
+        requires { length first.now + length second.now ≤ 40 }
         ensures { result ≡ first.now ++ second.now }
     {
         let mut text = ArrayString::new();
@@ -33,7 +33,7 @@ impl Key {
 
     /// The name of a table in a list, as `port.2`.
     pub fn numbered(name: &str, number: u16) -> Key
-        requires { length name.now ≤ 26 }
+        requires { length name.now ≤ 34 }
         ensures value { result ≡ name.now ++ codes "." ++ decimal number }
         ensures short { length result ≤ length name.now + 6 }
     {
@@ -44,10 +44,10 @@ impl Key {
         Key { text }
     }
 
-    /// The path as text, of at most 32 octets.
+    /// The path as text, of at most 40 octets.
     pub fn as_str(&self) -> &str
         ensures value { result.now ≡ self.now }
-        ensures fits { length self.now ≤ 32 }
+        ensures fits { length self.now ≤ 40 }
     {
         self.text.as_str()
     }

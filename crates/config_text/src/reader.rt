@@ -1,7 +1,7 @@
 //! A table that is read key by key.
 //!
-//! The path of a table and its number take 19 octets at most, so that a key of 11 octets behind them fits the 32 of a fault's
-//! key.
+//! The path of a table and its number take 20 octets at most, as `segment.4094.tunnel.2`, so that a key of 11 octets behind
+//! them fits the 40 of a fault's key.
 ghost use Rattle.std.specs.Prelude.{◌≡◌, ◌≤◌, length, map, nat_eq};
 ghost use Rattle.std.specs.List.{list_any};
 ghost use Rattle.std.specs.Cmp.Lexicographic.{pointwise};
@@ -21,7 +21,7 @@ pub struct Reader<'a> {
     table: Option<&'a Table>,
     prefix: Key,
     // A key of at most 11 octets behind it is a `Key`.
-    ghost short: { length prefix ≤ 21 },
+    ghost short: { length prefix ≤ 22 },
 }
 
 impl<'a> Reader<'a> {
@@ -42,10 +42,10 @@ impl<'a> Reader<'a> {
         }
     }
 
-    /// At a table of a list, whose name and number have 19 octets at most. `BadValue` with the table's own path: the value
+    /// At a table of a list, whose name and number have 20 octets at most. `BadValue` with the table's own path: the value
     /// is no table.
     pub fn row(name: &str, number: u16, value: &'a Value) -> Result<Reader<'a>, SettingsFault>
-        requires { length name.now + length (decimal number) ≤ 19 }
+        requires { length name.now + length (decimal number) ≤ 20 }
         ensures { seen place_of result ≡ row_place name.now number (view value.now) }
     {
         let name = Key::numbered(name, number);
@@ -61,7 +61,7 @@ impl<'a> Reader<'a> {
     /// At the table under a key, where an absent one counts as empty. `BadValue`: the value is no table.
     pub fn subtable(&self, key: &str) -> Result<Reader<'a>, SettingsFault>
         requires few { length key.now ≤ 11 }
-        requires short { length (place_of self.now).prefix + length key.now ≤ 20 }
+        requires short { length (place_of self.now).prefix + length key.now ≤ 21 }
         ensures { seen place_of result ≡ subtable (place_of self.now) key.now }
     {
         let path = self.path(key);

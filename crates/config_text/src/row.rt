@@ -1,7 +1,7 @@
 //! Lists of tables.
 //!
 //! A row says how long the paths of its tables may be (`Row::longest`), so that a segment's have room for a list of tables
-//! below them and a path has still 32 octets at most.
+//! below them and a path has still 40 octets at most.
 ghost use Rattle.std.specs.Prelude.{◌≡◌, ◌+◌, ◌≤◌, ◌<◌, ℕ, List, [], length, map, vec_len, IfOk};
 ghost use Rattle.toml.specs.View.{view};
 ghost use Rattle.config_text.specs.Fault.{Meaning, GivesAs};
@@ -21,8 +21,8 @@ pub trait Row {
     /// What a table means.
     ghost means: { Self → List Self.Out → Place → Meaning Self.Out };
 
-    /// The most octets that stand before a key in its path; 21 leave room for a key of 11.
-    ghost longest: { Self → ℕ } = { λ _. 21 };
+    /// The most octets that stand before a key in its path; 22 leave room for a key of 11.
+    ghost longest: { Self → ℕ } = { λ _. 22 };
 
     fn read(&self, earlier: &[Self::Out], at: &Reader) -> Result<Self::Out, SettingsFault>
         requires few { length earlier.now < 10000 }
@@ -40,7 +40,7 @@ pub fn read_rows<R: Row>(
     items: &[Value],
 ) -> Result<Vec<R::Out>, SettingsFault>
     requires short { FitNumbers (R.longest row.now) name.now (length items.now) }
-    requires room { R.longest row.now ≤ 21 }
+    requires room { R.longest row.now ≤ 22 }
     requires few { length items.now ≤ 10000 }
     ensures value { GivesAs (λ v. v.items) result (each (R.means row.now) name.now [] (map view items.now)) }
     ensures len { IfOk result (λ v. vec_len v ≡ length items.now) }

@@ -3,9 +3,9 @@ use Rattle.std.proofs.Common.{◌≡◌, ◌≢◌, ℕ, ◌+◌, ◌<◌, Bool,
 use Rattle.std.specs.Prelude.{◌⊎◌, is_none}
 use Rattle.std.proofs.lemmas.Bool.{eq-eqb, ne_eqb, eqb-true, cases_Bool}
 use Rattle.std.proofs.lemmas.List.{length-append, take_at, drop_at, drop-drop}
-use Rattle.header_sums.specs.Octets.{part}
-use Rattle.header_sums.specs.Sum.{total, folded}
-use Rattle.header_sums.proofs.OctetsLemmas.{field-append}
+use Rattle.header_octets.specs.Octets.{part}
+use Rattle.header_octets.specs.Sum.{total, folded}
+use Rattle.header_octets.proofs.OctetsLemmas.{field-append}
 use Rattle.frame_view.specs.First.{first, unless}
 use Rattle.frame_view.specs.Frame.{Frame, IsFrame, plain, frame_of}
 use Rattle.frame_view.specs.Refusal.{as_refused}

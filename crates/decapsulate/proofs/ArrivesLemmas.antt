@@ -3,7 +3,7 @@ use Rattle.std.proofs.Common.{◌≡◌, ◌≢◌, ℕ, ◌+◌, ◌<◌, ◌�
 use Rattle.std.specs.Prelude.{◌⊎◌, is_none}
 use Rattle.std.proofs.lemmas.Bool.{ltb-false, le-ltb, eqb-true, eqb-false, not-false, not_from_true, and_cases, and_left, and_right}
 use Rattle.std.proofs.lemmas.List.{length-append, length-take, length-drop, take-append-drop, drop-drop}
-use Rattle.header_sums.specs.Octets.{IsText, part}
+use Rattle.header_octets.specs.Octets.{IsText, part}
 use Rattle.frame_view.specs.Address.{is_group as is_group_mac, is_reserved}
 use Rattle.frame_view.specs.First.{first}
 use Rattle.frame_view.proofs.RefusalLemmas.{refused-ok}

@@ -3,7 +3,7 @@ use Rattle.std.proofs.Common.{◌≡◌, ℕ, ◌+◌, ◌-◌, ◌≤◌, min, 
 use Rattle.std.proofs.lemmas.Bool.{ltb-false, ltb-true, cases_Bool}
 use Rattle.std.proofs.lemmas.List.{length-take, length-drop, take_min, take-take, drop-take, drop-drop, drop_at, take-append-drop}
 use Rattle.std.proofs.Math.Seq.{take-length}
-use Rattle.header_sums.specs.Octets.{part}
+use Rattle.header_octets.specs.Octets.{part}
 use Rattle.frame_view.specs.Frame.{Frame, plain, size, frame_of}
 use Rattle.frame_view.proofs.TagLemmas.{SkipsTags-without_tags}
 use Rattle.ip_udp_view.specs.declared.addr.Tunnel.{Tunnel}

@@ -3,8 +3,8 @@
 --     arrival      what arrives, or the first of the reasons
 --     Arrives      the same in whole texts
 use Rattle.std.specs.Prelude.{◌≡◌, ◌≢◌, ◌↔◌, ◌<◌, ◌⊎◌, ℕ, ◌+◌, ◌==◌, ◌&&◌, ◌||◌, nat_lt, Bool, true, false, not, IsTrue, if◌then◌else◌, List, [], ◌∷◌, ◌++◌, length, drop, map, Option, Some, None, is_none, Result, Ok, Err}
-use Rattle.header_sums.specs.Octets.{IsText}
-use Rattle.header_sums.specs.Sum.{total, folded}
+use Rattle.header_octets.specs.Octets.{IsText}
+use Rattle.header_octets.specs.Sum.{total, folded}
 use Rattle.frame_view.specs.Address.{is_group as is_group_mac, is_reserved}
 use Rattle.frame_view.specs.Ether.{has_tag}
 use Rattle.frame_view.specs.First.{first, unless}

@@ -3,4 +3,4 @@ pub mod Card
 -- the words of the crates below that the clauses here cite
 pub use Rattle.frame_view.specs.First
 pub use Rattle.frame_view.specs.Frame
-pub use Rattle.header_sums.specs.Octets
+pub use Rattle.header_octets.specs.Octets

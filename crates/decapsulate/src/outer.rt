@@ -3,7 +3,7 @@ ghost use Rattle.std.specs.Prelude.{◌≡◌, IfOk, Some};
 ghost use Rattle.decapsulate.specs.Arrival.{arrival, inner_place, carried_reasons, kind_to, vni_of, inner_of};
 ghost use Rattle.frame_view.specs.First.{first, fault_of};
 ghost use Rattle.frame_view.specs.Frame.{plain, size};
-ghost use Rattle.header_sums.specs.Octets.{part};
+ghost use Rattle.header_octets.specs.Octets.{part};
 ghost use Rattle.ip_udp_view.specs.Udp.{data_of};
 
 use crate::Arrived;

@@ -1,15 +1,14 @@
 //! The result in a decision line: outcomes, a drop, or the reply to a change.
 ghost use Rattle.std.specs.Prelude.{◌≡◌, ◌≤◌, ◌+◌, ◌++◌, length, codes, decimal};
-ghost use Rattle.encapsulate.specs.Remote.{texts};
 ghost use Rattle.frame_view.specs.First.{fault_of};
 ghost use Rattle.frame_view.specs.Reason.{name_of, number_of};
 ghost use Rattle.filter_db.specs.declared.place.Place.TheVariants.{Remote};
-ghost use Rattle.endpoint_core.specs.Text.{outcome_text, place_text, sent_text};
+ghost use Rattle.endpoint_core.specs.Text.{place_text};
 ghost use Rattle.decision_lines.specs.Lines.{reply_text};
 ghost use Rattle.decision_lines.specs.Outcomes.{count_text, gap};
 
 use crate::line::Line;
-use endpoint_core::{ChangeFault, Leaving};
+use endpoint_core::ChangeFault;
 use filter_db::Place;
 use frame_view::Reason;
 use ip_udp_view::{Addr, Tunnel};
@@ -17,23 +16,7 @@ use ip_udp_view::{Addr, Tunnel};
 impl Line {
     /// Puts what came of an outlet: its place, and the number of octets that left or the name of the reason why none did;
     /// behind a space where it isn't the first. The kind of a remote's tunnel is told where the segment has two.
-    pub fn put_outcome(
-        &mut self,
-        is_first: bool,
-        two_tunnels: bool,
-        place: Place,
-        sent: &Result<Leaving, Reason>,
-    )
-        requires room { length self.old + 77 ≤ 4096 }
-        ensures text { self.new ≡ self.old
-            ++ (gap is_first ++ outcome_text two_tunnels (record { place = place; sent = texts sent.now })) }
-        ensures len { length self.new ≤ length self.old + 77 }
-    {
-        self.put_counted(is_first, two_tunnels, place, count_of(sent));
-    }
-
-    /// The same of a place where so many octets left, or none did for a reason.
-    pub(crate) fn put_counted(
+    pub fn put_counted(
         &mut self,
         is_first: bool,
         two_tunnels: bool,
@@ -132,16 +115,5 @@ impl Line {
                 self.put_text(reason.name().as_bytes());
             }
         }
-    }
-}
-
-/// How many octets leave, or why none do.
-#[inline]
-fn count_of(sent: &Result<Leaving, Reason>) -> Result<usize, Reason>
-    ensures { count_text result ≡ sent_text (texts sent.now) }
-{
-    match sent {
-        Ok(leaving) => Ok(leaving.len()),
-        Err(reason) => Err(*reason),
     }
 }

@@ -57,7 +57,7 @@ impl Line {
     }
 
     /// Puts what comes of a place, behind a space where it isn't the first. What leaves there is only measured.
-    fn put_sized(
+    pub fn put_sized(
         &mut self,
         endpoint: &Endpoint,
         came: &Came,

@@ -3,7 +3,7 @@ use Rattle.std.proofs.Common.{◌≡◌, ℕ, ◌+◌, ◌<◌, ◌≤◌, Bool,
 use borrow.Author.Tests.{leb-true, ltb-true}
 use Rattle.echo_window.specs.Echo.{Came, Record, fits, is_awaited, is_echo_of, is_elsewhere, is_soon, newest, octets_of}
 use Rattle.std.specs.List.{list_any}
-use Rattle.header_sums.specs.Octets.{is_same}
+use Rattle.header_octets.specs.Octets.{is_same}
 
 -- frames that fit stay
 pub newest-fits : (cs : List Came) → fits cs ≡ true → newest cs ≡ cs

@@ -4,7 +4,7 @@ use borrow.Author.Tests.{leb-true, ltb-true}
 use Rattle.std.specs.List.{find}
 use Rattle.echo_window.specs.Echo.{Came, Record, is_awaited, is_echo_of, is_elsewhere, recent}
 use Rattle.echo_window.specs.Laid.{begins_past}
-use Rattle.header_sums.specs.Octets.{is_same}
+use Rattle.header_octets.specs.Octets.{is_same}
 
 -- where the first came in early enough, all stay
 pub recent-here : (w t : ℕ) (cs : List Came) → begins_past w t cs ≡ false → recent w t cs ≡ cs

@@ -3,8 +3,8 @@ use Rattle.std.proofs.Common.{◌≡◌, ◌≢◌, ℕ, ◌+◌, ◌-◌, ◌<�
 use borrow.Author.Tests.{ltb-false, ltb-true}
 use Rattle.std.proofs.lemmas.Bool.Decides.{eqb_tells}
 use Rattle.std.specs.List.{position}
-use Rattle.header_sums.specs.Octets.{is_same}
-use Rattle.header_sums.proofs.OctetsLemmas.{is_same-true}
+use Rattle.header_octets.specs.Octets.{is_same}
+use Rattle.header_octets.proofs.OctetsLemmas.{is_same-true}
 use Rattle.echo_window.specs.Bucket.{bucket_of}
 use Rattle.echo_window.specs.Echo.{Came, Record, first_met, is_awaited, is_echo_of, is_elsewhere, is_soon}
 use Rattle.echo_window.specs.Index.{FindsFrom, IsIndexed, IsLatest, befores, buckets}

@@ -8,7 +8,7 @@
 --     echoes       the same for records in a row
 use Rattle.std.specs.Prelude.{ℕ, ◌+◌, nat_eq, nat_lt, nat_le, ◌&&◌, not, if◌then◌else◌, Bool, List, [], ◌∷◌, ◌++◌, length, Option, Some, None, option_map, set, slice_index_or}
 use Rattle.std.specs.List.{find, flat_map, list_any, position}
-use Rattle.header_sums.specs.Octets.{is_same}
+use Rattle.header_octets.specs.Octets.{is_same}
 
 -- a record of a capture: the place where it was captured, its moment in nanoseconds, and the octets of its frame without tag
 pub record Record : Type 0 where

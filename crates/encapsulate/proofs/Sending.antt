@@ -4,9 +4,9 @@ use Rattle.std.specs.Prelude.{IfSome, unwrap_or}
 use Rattle.std.specs.FinMap.{get}
 use Rattle.std.proofs.lemmas.Bool.{ltb-false, cond_both}
 use Rattle.std.proofs.lemmas.List.{length-append, length-drop, take_at, drop_at, append-nil, take_all}
-use Rattle.header_sums.specs.Octets.{octets}
-use Rattle.header_sums.specs.Sum.{total, folded, sent}
-use Rattle.header_sums.proofs.SumLemmas.{check-completes, sent-completes_behind, sent-below}
+use Rattle.header_octets.specs.Octets.{octets}
+use Rattle.header_octets.specs.Sum.{total, folded, sent}
+use Rattle.header_octets.proofs.SumLemmas.{check-completes, sent-completes_behind, sent-below}
 use Rattle.frame_view.specs.Frame.{Frame, IsFrame, size}
 use Rattle.frame_view.proofs.FirstLemmas.{NothingHolds-from}
 use Rattle.ip_udp_view.specs.declared.addr.Addr.{Addr}

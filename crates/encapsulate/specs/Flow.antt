@@ -1,8 +1,8 @@
 -- The flow that a frame belongs to, and the UDP source port by it, so that routers spread flows over their ways (RFC 7348,
 -- 5; RFC 8926, 3.3).
 use Rattle.std.specs.Prelude.{ℕ, ◌+◌, ◌%◌, ◌==◌, ◌&&◌, ◌||◌, nat_le, Bool, not, if◌then◌else◌, List, length, take, drop}
-use Rattle.header_sums.specs.Octets.{part}
-use Rattle.header_sums.specs.Sum.{total, folded}
+use Rattle.header_octets.specs.Octets.{part}
+use Rattle.header_octets.specs.Sum.{total, folded}
 use Rattle.frame_view.specs.Frame.{Frame}
 use Rattle.ip_udp_view.specs.Addr.{address}
 use Rattle.ip_udp_view.specs.Datagram.{has_type}

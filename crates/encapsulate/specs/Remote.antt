@@ -18,10 +18,14 @@ use Rattle.encapsulate.specs.Emission.{Parts, text, around}
 use Rattle.encapsulate.specs.Flow.{source_port}
 use Rattle.encapsulate.specs.Packet.{tunnelled, packet}
 
--- the largest frame that is sent to an address: what the IP, UDP and tunnel headers leave of the MTU
+-- the octets of the outer IP, UDP and tunnel headers of a packet to an address (RFC 7348, 5; RFC 8926, 3)
+abbrev pub headers : Addr → ℕ
+headers (V4 dst) = 36
+headers (V6 dst) = 56
+
+-- the largest frame that is sent to an address: what these headers leave of the MTU
 abbrev pub largest : Underlay → Addr → ℕ
-largest U (V4 dst) = U.mtu - 36
-largest U (V6 dst) = U.mtu - 56
+largest U a = U.mtu - headers a
 
 -- the segment with this VID drops frames in tunnels that begin with a tag
 abbrev pub drops_tags_at : Overlay → ℕ → Bool

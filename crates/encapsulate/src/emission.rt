@@ -127,12 +127,7 @@ fn put(out: &mut Vec<u8>, octets: &[u8])
 }
 
 /// Four slices as one array, where each may live longer than the array.
-pub(crate) fn four<'b>(
-    first: &'b [u8],
-    second: &'b [u8],
-    third: &'b [u8],
-    fourth: &'b [u8],
-) -> [&'b [u8]; 4]
+fn four<'b>(first: &'b [u8], second: &'b [u8], third: &'b [u8], fourth: &'b [u8]) -> [&'b [u8]; 4]
     ensures { map (λ part. part.now) result ≡ first.now ∷ second.now ∷ third.now ∷ fourth.now ∷ [] }
 {
     [first, second, third, fourth]
@@ -144,8 +139,9 @@ pub fn local<'a>(vid: Vid, egress: Egress, frame: &BridgeFrame<'a>) -> Emission<
     ensures text { text result ≡ local_text vid egress frame.now }
     ensures parts { result ≡ local_parts vid egress frame.now }
 {
+    let head = Head::new();
     Emission {
-        head: Head::new(),
+        head,
         addresses: frame.addresses,
         tag: local_tag(vid, egress, frame),
         body: frame.body,

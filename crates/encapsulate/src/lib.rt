@@ -21,14 +21,12 @@
 mod emission;
 mod flow;
 pub mod laws;
-mod leaving;
 mod remote;
 mod sums;
 
 pub use emission::{Emission, local, local_size, local_tag};
-pub use leaving::{Leaving, local_in};
 pub use outer_head::Head;
-pub use remote::{packet_size, put_head, unsent, wrap, wrap_in};
+pub use remote::{headers, packet_size, put_head, unsent, wrap};
 pub use sums::FrameSums;
 pub use underlay::{
     Hops, PeerRule, Segment, SegmentTunnel, TagRule, TunnelRule, Tunnels, Under, Underlay,

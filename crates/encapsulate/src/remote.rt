@@ -10,12 +10,11 @@ ghost use Rattle.underlay.specs.Settings.{own};
 ghost use Rattle.encapsulate.specs.Emission.{around};
 ghost use Rattle.frame_view.specs.Frame.{Frame, plain};
 ghost use Rattle.ip_udp_view.specs.declared.addr.Tunnel.{Tunnel};
-ghost use Rattle.encapsulate.specs.Remote.{largest, drops_tags_at, remote_text, sending, text_behind, texts, sizes, admits, packet_from};
-ghost use Rattle.encapsulate.specs.Remote.{sending_parts};
+ghost use Rattle.encapsulate.specs.Remote.{admits, drops_tags_at, headers, largest, packet_from, remote_text};
+ghost use Rattle.encapsulate.specs.Remote.{sending, sending_parts, sizes, text_behind, texts};
 ghost use Rattle.encapsulate.specs.Sums.{AreSums};
 
 use crate::emission::Emission;
-use crate::leaving::Leaving;
 use crate::sums::FrameSums;
 use byteorder::{BigEndian, ByteOrder};
 use frame_view::{BridgeFrame, CUSTOMER_TAG, Mac, Reason, Vid};
@@ -60,27 +59,6 @@ pub fn wrap<'a>(
     let mut head = Head::new();
     put_head(under, vid, kind, addr, frame, sums, &mut head)?;
     Ok(Emission::behind(head, frame))
-}
-
-/// The packet that a frame of a segment is sent in to a remote endpoint, its head in a room.
-pub fn wrap_in<'h, 'a>(
-    under: &Under,
-    vid: Vid,
-    kind: Tunnel,
-    addr: Addr,
-    frame: &BridgeFrame<'a>,
-    sums: &FrameSums,
-    room: &'h mut Head,
-) -> Result<Leaving<'h, 'a>, Reason>
-    requires tunnel { IsTrue (is_some (tunnel_at under.now vid kind)) }
-    requires family { IsTrue (has_family (own under.now.underlay) addr) }
-    requires sums { AreSums frame.now sums.now }
-    ensures sent { texts result ≡ sending under.now vid kind addr frame.now }
-    ensures parts { IfOk result (λ e. e ≡ around e.head [] frame.now) }
-    ensures exact { result ≡ sending_parts under.now vid kind addr frame.now }
-{
-    put_head(under, vid, kind, addr, frame, sums, room)?;
-    Ok(Leaving::behind(room.as_slice(), frame))
 }
 
 /// Writes the headers of the packet in which a frame goes to the remote endpoint at an address, in its segment's tunnel of a
@@ -160,11 +138,11 @@ pub fn packet_size(
     if let Some(reason) = unsent(under, vid, addr, frame) {
         return Err(reason);
     }
-    Ok(headers(under.settings(), addr) + ADDRESSES + frame.body.len())
+    Ok(head_size(under.settings(), addr) + ADDRESSES + frame.body.len())
 }
 
 /// The octets of the headers in front of a frame that goes to an address: an Ethernet, an IP, a UDP and a tunnel header.
-fn headers(underlay: &Underlay, addr: Addr) -> usize
+fn head_size(underlay: &Underlay, addr: Addr) -> usize
     requires { IsTrue (has_family (own underlay.now) addr) }
     ensures few { result ≤ 70 }
     ensures whole { (src : List ℕ) (kind : Tunnel) (vni : ℕ) (f : Frame) → own_of (own underlay.now) addr ≡ Some src
@@ -205,11 +183,19 @@ fn largest(underlay: &Underlay, addr: Addr) -> usize
     ensures value { result ≡ largest underlay.now addr }
     ensures small { result ≤ 65499 }
 {
-    let headers = match addr {
+    usize::from(underlay.mtu.saturating_sub(headers(addr)))
+}
+
+/// The octets of the outer IP, UDP and tunnel headers of a packet to an address (RFC 7348, 5; RFC 8926, 3).
+#[inline(always)]
+pub fn headers(addr: Addr) -> u16
+    ensures value { result ≡ headers addr }
+    ensures few { result ≤ 56 }
+{
+    match addr {
         Addr::V4(_) => IP4_HEADERS,
         Addr::V6(_) => IP6_HEADERS,
-    };
-    usize::from(underlay.mtu.saturating_sub(headers))
+    }
 }
 
 /// Whether a body begins with the type of a tag.

@@ -3,7 +3,8 @@
 --     Mark, marks_of      what is counted of a decision
 --     counted      the counts after a decision
 --     tally      how often each came, of many decisions
-use Rattle.std.specs.Prelude.{ℕ, ◌+◌, ◌-◌, ◌^◌, ◌==◌, ◌&&◌, Bool, true, false, min, if◌then◌else◌, List, [], ◌∷◌, map, count_by, Option, Some, None, Result, Ok, Err}
+use Rattle.std.specs.Prelude.{ℕ, ◌+◌, ◌-◌, ◌^◌, ◌==◌, ◌&&◌, Bool, true, false, min, if◌then◌else◌, List, [], ◌∷◌, map, count_by}
+use Rattle.std.specs.Prelude.{Option, Some, None, Result, Ok, Err}
 use Rattle.std.specs.List.{flat_map}
 use Rattle.frame_view.specs.Reason.{number_of}
 use Rattle.frame_view.specs.declared.reason.Reason.{Reason}

@@ -1,8 +1,9 @@
 -- How a decision is printed in a decision line: `drop 35 SamePlace`, or the outcomes as `p2=60 192.0.2.2!TooBig`.
 -- It states no standard.
-use Rattle.std.specs.Prelude.{ℕ, ◌+◌, ◌/◌, ◌%◌, nat_lt, Bool, if◌then◌else◌, List, [], ◌∷◌, ◌++◌, length, drop, codes, Option, Some, None, Result, Ok, Err}
+use Rattle.std.specs.Prelude.{ℕ, ◌+◌, ◌/◌, ◌%◌, nat_lt, Bool, if◌then◌else◌, List, [], ◌∷◌, ◌++◌, length, drop, codes, Option}
+use Rattle.std.specs.Prelude.{Some, None, Result, Ok, Err}
 use Rattle.std.specs.Fmt.{decimal}
-use Rattle.header_sums.specs.Octets.{octet}
+use Rattle.header_octets.specs.Octets.{octet}
 use Rattle.frame_view.specs.Reason.{number_of, name_of}
 use Rattle.frame_view.specs.declared.reason.Reason.{Reason}
 use Rattle.ip_udp_view.specs.declared.addr.Addr.{Addr}

@@ -7,7 +7,6 @@ ghost use Rattle.filter_db.specs.declared.place.Place.TheVariants.{Local};
 ghost use Rattle.vlan_ports.specs.Ports.{has_segment as has_members};
 ghost use Rattle.underlay.specs.Overlay.{has_segment, flood_at};
 ghost use Rattle.endpoint_state.specs.Sound.{reaches, is_reached};
-ghost use Rattle.vlan_ports.specs.Ingress.{nowhere};
 ghost use Rattle.encapsulate.specs.Sums.{AreSums};
 ghost use Rattle.endpoint_core.specs.Among.{segment_of};
 ghost use Rattle.endpoint_core.specs.Arrival.{came_at, came_by};
@@ -163,11 +162,11 @@ pub(crate) fn come_at<'a>(
     ensures short { IfOk course.new (λ x. length x.frame.body ≤ 65535) }
 {
     if octets.len() > LONGEST_FRAME {
-        *course = Err(nowhere(Reason::TooLong));
+        *course = Err(Refused::nowhere(Reason::TooLong));
         return;
     }
     if octets.len() < original as usize {
-        *course = Err(nowhere(Reason::Sliced));
+        *course = Err(Refused::nowhere(Reason::Sliced));
         return;
     }
     match classify(ports, port, octets) {
@@ -190,11 +189,11 @@ pub(crate) fn come_by<'a>(under: &Under, original: u32, octets: &'a [u8], course
     ensures short { IfOk course.new (λ x. length x.frame.body ≤ 65549) }
 {
     if octets.len() > LONGEST_PACKET {
-        *course = Err(nowhere(Reason::TooLong));
+        *course = Err(Refused::nowhere(Reason::TooLong));
         return;
     }
     if octets.len() < original as usize {
-        *course = Err(nowhere(Reason::Sliced));
+        *course = Err(Refused::nowhere(Reason::Sliced));
         return;
     }
     match unwrap(under, octets) {
@@ -203,15 +202,5 @@ pub(crate) fn come_by<'a>(under: &Under, original: u32, octets: &'a [u8], course
             *course = Ok(Came::at(arrived.vid, Place::Remote(kind, addr), arrived.frame));
         }
         Err(refused) => *course = Err(refused),
-    }
-}
-
-/// A refusal before the segment is known.
-fn nowhere(reason: Reason) -> Refused
-    ensures { result ≡ nowhere reason }
-{
-    Refused {
-        segment: None,
-        reason,
     }
 }

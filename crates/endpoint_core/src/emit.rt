@@ -1,49 +1,21 @@
 //! What is sent of a frame at an outlet.
-ghost use Rattle.std.specs.Prelude.{◌≡◌, ◌≤◌, ◌++◌, [], Ok, Some, IfOk, IsSome, IsTrue, unwrap_or};
+ghost use Rattle.std.specs.Prelude.{◌≡◌, ◌≤◌, ◌++◌, [], Ok, Some, IsSome, IsTrue, unwrap_or};
 ghost use Rattle.vlan_ports.specs.Ports.{egress_at};
 ghost use Rattle.filter_db.specs.declared.place.Place.TheVariants.{Local, Remote};
-ghost use Rattle.encapsulate.specs.Remote.{sizes, text_behind, texts};
+ghost use Rattle.encapsulate.specs.Remote.{sizes, text_behind};
 ghost use Rattle.endpoint_state.specs.Held.{settings_of};
 ghost use Rattle.endpoint_state.specs.Settings.{segment_at};
 ghost use Rattle.endpoint_state.specs.Step.{can_leave};
 ghost use Rattle.endpoint_core.specs.Counts.{number_sent};
-ghost use Rattle.endpoint_core.specs.Step.{sent_at, outcome_at};
+ghost use Rattle.endpoint_core.specs.Step.{sent_at};
 
 use crate::arrival::Came;
-use encapsulate::{
-    Head, Leaving, local_in, local_size, local_tag, packet_size, put_head, unsent, wrap_in,
-};
+use encapsulate::{Head, local_size, local_tag, packet_size, put_head, unsent};
 use endpoint_state::EndpointState;
 use filter_db::Place;
 use frame_view::{BridgeFrame, Reason, Vid};
 use ip_udp_view::{Addr, Tunnel};
 use vlan_ports::Egress;
-
-/// What is sent of a frame of a segment at a place where it can leave, its head in a room, or why nothing is.
-#[tactic(auto, unfolding(crate::specs::Arrival::emitted, crate::specs::Arrival::emitted_parts))]
-pub(crate) fn emit_in<'h, 'a>(
-    state: &EndpointState,
-    came: &Came<'a>,
-    place: Place,
-    room: &'h mut Head,
-) -> Result<Leaving<'h, 'a>, Reason>
-    requires { IsTrue (can_leave (settings_of state.now) came.now.vid place) }
-    ensures value { texts result ≡ (sent_at (settings_of state.now) came.now.vid came.now.frame place).sent }
-    ensures body { IfOk result (λ e. e.body ≡ came.now.frame.body) }
-    ensures parts { result ≡ (outcome_at (settings_of state.now) came.now.vid came.now.frame place).sent }
-{
-    match place {
-        Place::Local(port) => {
-            let egress = egress_at(state, came.vid, port);
-            Ok(local_in(came.vid, egress, &came.frame))
-        }
-        Place::Remote(kind, addr) => {
-            let under = state.under();
-            let sums = came.sums();
-            wrap_in(under, came.vid, kind, addr, &came.frame, &sums, room)
-        }
-    }
-}
 
 /// How many octets are sent of a frame of a segment at a place where it can leave, or why nothing is. No head is made.
 #[tactic(auto, unfolding(crate::specs::Arrival::emitted))]

@@ -14,13 +14,14 @@
 //! answers are those of one learning bridge (IEEE 802.1Q) for each segment, asked by that segment's events alone, from its
 //! coming to its going (`laws::runs`); the counts are how often each thing was so decided.
 //!
-//! Why it is so: a step is cut in two. `take_frame` and `take_packet` decide (tables, and a list of places that is lent),
-//! then `emit` makes one outcome for one place, its head in room that is lent, so that a whole run hands each outcome on as
-//! it comes. A run over streams makes no outcome: at a local port it asks for the tag alone (`tag_at`), for a remote endpoint
-//! for the head (`put_head`), and puts both beside the frame's addresses and body. `frame` and `packet` are both halves in
-//! one call, for callers that want a value. The lent list is empty after every drop, and a clause says so. A segment that
-//! comes begins without entries, by definition (`specs/Run`), whatever one of its VID had; its counts go on, since they are
-//! the endpoint's, one for each VID.
+//! Why it is so: a step is cut in two. What comes is brought to its segment (`bring_frame`, `bring_packet`) and taken
+//! (`take`: tables, and a list of places that is lent), all in `src/endpoint/coming.rt`. Then what leaves is asked for
+//! place by place, so that a whole run hands each on as it comes: at a local port for the tag alone (`tag_at`), for a
+//! remote endpoint for the head (`put_head`), in room that is lent; both stand beside the frame's addresses and body
+//! (`src/endpoint/leaving.rt`). `frame` and `packet` are both halves in one call, for callers that want a value
+//! (`src/endpoint/decisions.rt`). The lent list is empty after every drop, and a clause says so. A segment that comes
+//! begins without entries, by definition (`specs/Run`), whatever one of its VID had; its counts go on, since they are the
+//! endpoint's, one for each VID.
 #![tactic(auto)]
 
 mod arrival;
@@ -36,7 +37,7 @@ mod text;
 pub use arrival::{Came, segment_of};
 pub use course::{Course, nothing_came};
 pub use decision::{Decision, Outcome};
-pub use encapsulate::{Head, Leaving};
+pub use encapsulate::Head;
 pub use endpoint::Endpoint;
 pub use endpoint_state::{Change, ChangeFault, Target};
 pub use text::{put_addr, put_hex, put_place, result_text};

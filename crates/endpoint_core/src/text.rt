@@ -1,7 +1,8 @@
 //! The texts of decisions.
 ghost use Rattle.std.specs.Prelude.{◌≡◌, ◌<◌, ◌++◌, ◌∷◌, [], map, IfOk, OnOk, string_bytes};
 ghost use Rattle.endpoint_core.specs.Decision.{octets_of, sent_of};
-ghost use Rattle.endpoint_core.specs.Text.{result_of, outcomes_text, outcome_text, place_text, kind_text, addr_text, sent_text, ip4_text, ip6_text, hex_digit, hex_octet};
+ghost use Rattle.endpoint_core.specs.Text.{result_of, outcomes_text, outcome_text, place_text, kind_text, addr_text, sent_text};
+ghost use Rattle.endpoint_core.specs.Text.{ip4_text, ip6_text, hex_digit, hex_octet};
 ghost use Rattle.encapsulate.specs.Remote.{texts};
 
 use crate::{Decision, Outcome};

@@ -119,7 +119,7 @@ refused S (AddSegment new) =
     first
     ((OutOfRange, not (is_limit new.limit && is_ageing new.ageing && are_vnis new.tunnels))
     ∷ (SegmentThere, is_taken S new)
-    ∷ (SegmentsFull, not (nat_lt (segment_count (tables_asked S)) 256))
+    ∷ (SegmentsFull, not (nat_lt (segment_count (tables_asked S)) S.overlay.underlay.limits.segments))
     ∷ (PoolFull, is_too_much S new.limit)
     ∷ [])
 refused S (RemoveSegment vid) = in_segment (segment_at S vid) (λ s. None)

@@ -33,7 +33,7 @@ pub enum ChangeFault {
     SegmentThere,
     /// The limits of all segments would come to more than the pool.
     PoolFull,
-    /// There are 256 segments.
+    /// There are as many segments as the limits in force say.
     SegmentsFull,
     /// The segment has no tunnel of this kind.
     NoTunnel,

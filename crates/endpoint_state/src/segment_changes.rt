@@ -28,9 +28,6 @@ use ip_udp_view::Tunnel;
 use overlay_settings::NewSegment;
 use underlay::{TunnelRule, Tunnels};
 
-/// The most segments that there may be.
-const MOST_SEGMENTS: u32 = 256;
-
 /// The most entries that a segment's table may have.
 const MOST_ENTRIES: u32 = 8192;
 
@@ -79,6 +76,13 @@ impl<T: PoolTables> Parts<T> {
         self.tables.segment_count()
     }
 
+    /// The most segments that there may be.
+    fn most_segments(&self) -> u32
+        ensures { result ≡ self.now.under.underlay.limits.segments }
+    {
+        u32::from(self.under.settings().limits.segments)
+    }
+
     /// What is left of the pool: the most that the limit of another segment may be.
     pub(crate) fn room(&self) -> u32
         ensures settings { result + sum_of_limits (tables_asked (settings_of T.segments T.pool self.now)) ≡ T.pool self.now.tables }
@@ -94,7 +98,7 @@ impl<T: PoolTables> Parts<T> {
         ensures vid { (1 ≤ new.now.vid) × (new.now.vid ≤ 4094) }
         ensures absent { IfOk result (λ done. T.segments self.now.tables new.now.vid ≡ None) }
         ensures free { IfOk result (λ done. IsTrue (are_free self.now.under new.now.tunnels)) }
-        ensures few { IfOk result (λ done. segment_count (T.segments self.now.tables) < 256) }
+        ensures few { IfOk result (λ done. segment_count (T.segments self.now.tables) < self.now.under.underlay.limits.segments) }
         ensures limit { IfOk result (λ done. (1 ≤ new.now.limit) × (new.now.limit ≤ 8192)) }
         ensures ageing { IfOk result (λ done. (10 ≤ new.now.ageing) × (new.now.ageing ≤ 1000000)) }
         ensures room { IfOk result (λ done. sum_of_limits (T.segments self.now.tables) + new.now.limit ≤ T.pool self.now.tables) }
@@ -107,7 +111,7 @@ impl<T: PoolTables> Parts<T> {
         if self.is_taken(new) {
             return Err(ChangeFault::SegmentThere);
         }
-        if self.segment_count() >= MOST_SEGMENTS {
+        if self.segment_count() >= self.most_segments() {
             return Err(ChangeFault::SegmentsFull);
         }
         if new.limit > self.room() {

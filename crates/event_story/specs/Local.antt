@@ -9,7 +9,8 @@ use Rattle.vlan_ports.specs.Ports.{Ports, port_at, is_up, egress_at}
 use Rattle.endpoint_core.specs.Arrival.{came_at}
 use Rattle.endpoint_core.specs.Came.{Came}
 use Rattle.event_story.specs.Ether.{header_fact, source_fact, destination_fact, tag_fact, vid_in, has_vid}
-use Rattle.event_story.specs.Tests.{refusal_of, segment_of, refuses, told}
+use Rattle.endpoint_core.specs.Among.{segment_of}
+use Rattle.event_story.specs.Tests.{refusal_of, refuses, told}
 use Rattle.event_story.specs.declared.fact.Fact.{Fact}
 use Rattle.event_story.specs.declared.fact.Fact.TheVariants as facts
 

@@ -11,16 +11,11 @@ use Rattle.vlan_ports.specs.Ports.{Ports, is_port, egress_at}
 use Rattle.underlay.specs.Overlay.{Overlay, tunnel_at}
 use Rattle.underlay.specs.Settings.{hop_to}
 use Rattle.underlay.specs.declared.tunnels.SegmentTunnel.{SegmentTunnel}
-use Rattle.encapsulate.specs.Remote.{admits}
+use Rattle.encapsulate.specs.Remote.{admits, headers}
 use Rattle.endpoint_state.specs.Settings.{Settings}
 use Rattle.endpoint_core.specs.Decision.{Sent}
 use Rattle.event_story.specs.declared.fact.Fact.{Fact}
 use Rattle.event_story.specs.declared.fact.Fact.TheVariants as facts
-
--- the octets of the outer IP, UDP and tunnel headers (RFC 7348, 5; RFC 8926, 3)
-abbrev pub headers : Addr → ℕ
-headers (V4 dst) = 36
-headers (V6 dst) = 56
 
 -- how a frame leaves in a tunnel of its segment
 abbrev pub tunnel_fact : Overlay → ℕ → Frame → Addr → SegmentTunnel → Fact

@@ -21,7 +21,8 @@ use Rattle.endpoint_core.specs.Arrival.{came_by}
 use Rattle.endpoint_core.specs.Came.{Came}
 use Rattle.event_story.specs.Carried.{Carried}
 use Rattle.event_story.specs.Ether.{header_fact, source_fact, destination_fact, tag_fact}
-use Rattle.event_story.specs.Tests.{refusal_of, segment_of, refuses, told}
+use Rattle.endpoint_core.specs.Among.{segment_of}
+use Rattle.event_story.specs.Tests.{refusal_of, refuses, told}
 use Rattle.event_story.specs.declared.fact.Fact.{Fact}
 use Rattle.event_story.specs.declared.fact.Fact.TheVariants as facts
 

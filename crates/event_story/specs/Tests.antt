@@ -12,11 +12,6 @@ abbrev pub refusal_of : Result Came Refused → Option Reason
 refusal_of (Ok x) = None
 refusal_of (Err refused) = Some refused.reason
 
--- the segment that it came to, as far as that is known
-abbrev pub segment_of : Result Came Refused → Option ℕ
-segment_of (Ok x) = Some x.vid
-segment_of (Err refused) = refused.segment
-
 -- a test is the one that refuses
 abbrev pub refuses : Option Reason → Reason → Bool
 refuses None test = false

@@ -1,15 +1,14 @@
 //! Where a flood doesn't go.
-ghost use Rattle.std.specs.Prelude.{◌≡◌, ◌≤◌, ◌++◌, length, map, IsTrue, OnOk};
+ghost use Rattle.std.specs.Prelude.{◌≡◌, ◌++◌, length, map, OnOk};
 ghost use Rattle.std.specs.List.{flat_map, range_with_len};
 ghost use Rattle.std.specs.Option.{option_to_list};
 ghost use Rattle.filter_db.specs.declared.place.Place.TheVariants.{Local};
-ghost use Rattle.tunnel_learning.specs.Bridge.{config_of, group_of, in_one_group, is_up_at, place_of};
+ghost use Rattle.tunnel_learning.specs.Bridge.{config_of, place_of};
 ghost use Rattle.event_story.specs.Bridge.{flooded_facts, left_facts, left_out, shut_fact};
 
 use crate::fact::Fact;
 use crate::refusal::put;
 use filter_db::{Entry, Place};
-use ip_udp_view::Tunnel;
 use std::alloc::AllocError;
 use tunnel_learning::Bridge;
 
@@ -70,32 +69,10 @@ fn left_out(bridge: &Bridge, from: Place, to: Place) -> Option<Fact>
     if to.is_same(from) {
         return Some(Fact::Same { place: to });
     }
-    if in_one_group(bridge, from, to) {
+    if bridge.in_one_group(&from, &to) {
         return Some(Fact::Horizon { place: to });
     }
     shut_fact(bridge, to)
-}
-
-/// Whether both places are remotes of one horizon group.
-fn in_one_group(bridge: &Bridge, from: Place, to: Place) -> bool
-    ensures { result ≡ in_one_group (config_of bridge.now) from to }
-{
-    match (from, to) {
-        (Place::Remote(one, _), Place::Remote(other, _)) => {
-            group_of(bridge, one) == group_of(bridge, other)
-        }
-        _ => false,
-    }
-}
-
-/// The horizon group of the segment's tunnel of a kind.
-fn group_of(bridge: &Bridge, kind: Tunnel) -> u8
-    ensures { result ≡ group_of (config_of bridge.now) kind }
-{
-    match kind {
-        Tunnel::Vxlan => bridge.groups[0],
-        Tunnel::Geneve => bridge.groups[1],
-    }
 }
 
 /// That a place is a port where no frame of the segment leaves.
@@ -112,22 +89,11 @@ fn shut_fact(bridge: &Bridge, to: Place) -> Option<Fact>
 fn shut_port(bridge: &Bridge, port: u8) -> Option<Fact>
     ensures { result ≡ shut_fact (config_of bridge.now) (Local port) }
 {
-    if !is_up(bridge, port) {
+    if !bridge.is_up(port) {
         return Some(Fact::Port { port, up: false });
     }
     match bridge.ports.egress(bridge.vid, port) {
         Some(_) => None,
         None => Some(Fact::Member { port, egress: None }),
     }
-}
-
-/// Whether there is a port of this number, and it is up.
-fn is_up(bridge: &Bridge, port: u8) -> bool
-    ensures value { result ≡ is_up_at (config_of bridge.now).up port }
-    ensures there { IsTrue result → (1 ≤ port) × (port ≤ length bridge.now.ports.now.ports) }
-{
-    if port == 0 || port > bridge.ports.ports() {
-        return false;
-    }
-    bridge.ports.is_up(port)
 }

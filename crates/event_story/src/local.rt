@@ -5,8 +5,8 @@ ghost use Rattle.event_story.specs.Tests.{refusal_of, told};
 
 use crate::ether::{destination_fact, has_vid, header_fact, source_fact, tag_fact, vid_in};
 use crate::fact::Fact;
-use crate::refusal::{put, refusal_of, refuses, segment_of};
-use endpoint_core::Came;
+use crate::refusal::{put, refusal_of, refuses};
+use endpoint_core::{Came, segment_of};
 use frame_view::{Reason, Refused, Vid};
 use std::alloc::AllocError;
 use vlan_ports::PortSet;

@@ -1,14 +1,14 @@
 //! How a frame leaves at each of its outlets.
-ghost use Rattle.std.specs.Prelude.{◌≡◌, ◌≤◌, ◌++◌, OnOk, map};
+ghost use Rattle.std.specs.Prelude.{◌≡◌, ◌++◌, OnOk, map};
 ghost use Rattle.std.specs.Option.{option_map};
 ghost use Rattle.underlay.specs.Overlay.{tunnel_at};
 ghost use Rattle.endpoint_state.specs.Held.{settings_of};
 ghost use Rattle.endpoint_core.specs.Step.{sent_at};
-ghost use Rattle.event_story.specs.Outlets.{headers, port_fact, tunnel_fact, outlet_fact, outlet_facts};
+ghost use Rattle.event_story.specs.Outlets.{port_fact, tunnel_fact, outlet_fact, outlet_facts};
 
 use crate::fact::Fact;
 use crate::refusal::put;
-use encapsulate::unsent;
+use encapsulate::{headers, unsent};
 use endpoint_state::EndpointState;
 use filter_db::Place;
 use frame_view::{BridgeFrame, Vid};
@@ -80,19 +80,8 @@ fn tunnel_fact(
         addr,
         vni: tunnel.vni.get(),
         hop: under.settings().hop_to(addr),
-        packet: ADDRESSES + frame.body.len() + headers(addr),
+        packet: ADDRESSES + frame.body.len() + usize::from(headers(addr)),
         mtu: under.settings().mtu,
         reason: unsent(under, vid, addr, frame),
     })
-}
-
-/// The octets of the outer IP, UDP and tunnel headers of a packet to an address.
-fn headers(addr: Addr) -> usize
-    ensures value { result ≡ headers addr }
-    ensures few { result ≤ 56 }
-{
-    match addr {
-        Addr::V4(_) => 36,
-        Addr::V6(_) => 56,
-    }
 }

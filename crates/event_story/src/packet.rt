@@ -4,14 +4,15 @@ ghost use Rattle.std.specs.Option.{option_map, option_and_then};
 ghost use Rattle.underlay.specs.Overlay.{segment_at};
 ghost use Rattle.event_story.specs.Ether as ether;
 ghost use Rattle.event_story.specs.Packet.{packet_tests, packet_if, datagram_in, carried_in, if_refuses, or_else, header_refused, vni_fact, ip_fact, receiver_fact, udp_fact, sum_fact, kind_of, peer_fact, group_fact, packet_fact, packet_facts_of};
-ghost use Rattle.event_story.specs.Tests.{refusal_of, segment_of, told};
+ghost use Rattle.endpoint_core.specs.Among.{segment_of};
+ghost use Rattle.event_story.specs.Tests.{refusal_of, told};
 ghost use Rattle.event_story.specs.declared.fact.Fact.TheVariants as facts;
 
 use crate::ether::{destination_fact, header_fact, source_fact, tag_fact};
 use crate::fact::Fact;
 use crate::reading::{carried_in, datagram_in, kind_in, packet_if};
-use crate::refusal::{put, refusal_of, refuses, segment_of};
-use endpoint_core::Came;
+use crate::refusal::{put, refusal_of, refuses};
+use endpoint_core::{Came, segment_of};
 use frame_view::{Reason, Refused, Vid};
 use std::alloc::AllocError;
 use underlay::{PeerRule, Under};

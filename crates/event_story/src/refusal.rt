@@ -1,11 +1,11 @@
 //! Which tests are told.
 ghost use Rattle.std.specs.Prelude.{◌≡◌, ◌∷◌, [], ◌++◌, OnOk};
 ghost use Rattle.std.specs.Option.{option_to_list};
-ghost use Rattle.event_story.specs.Tests.{refusal_of, segment_of, refuses};
+ghost use Rattle.event_story.specs.Tests.{refusal_of, refuses};
 
 use crate::fact::Fact;
 use endpoint_core::Came;
-use frame_view::{Reason, Refused, Vid};
+use frame_view::{Reason, Refused};
 use std::alloc::AllocError;
 
 /// Why a frame comes to no segment, if it doesn't.
@@ -15,16 +15,6 @@ pub(crate) fn refusal_of(came: &Result<Came, Refused>) -> Option<Reason>
     match came {
         Ok(_) => None,
         Err(refused) => Some(refused.reason),
-    }
-}
-
-/// The segment that it came to, as far as that is known.
-pub(crate) fn segment_of(came: &Result<Came, Refused>) -> Option<Vid>
-    ensures { result ≡ segment_of came.now }
-{
-    match came {
-        Ok(came) => Some(came.segment()),
-        Err(refused) => refused.segment,
     }
 }
 

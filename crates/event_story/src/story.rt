@@ -26,7 +26,7 @@ use overlay_settings::TimedChange;
 use std::alloc::{AllocError, Global};
 use story_words::put_line_front;
 use timeline::{Event, Happening, Tap};
-use tunnel_learning::Verdict;
+use tunnel_learning::Outlets;
 
 /// The room for facts that a story begins with. More is asked for where there are more.
 const FACTS: usize = 24;
@@ -183,9 +183,16 @@ fn bridge_story(
         IfOk result (λ text. text.items ≡ told number event.now (facts.items ++ came_facts t s.bridges B (Ok came.now) d) (Decided d)) }
 {
     let state = endpoint.state();
-    let verdict = state.foresee(event.moment, came.segment(), came.place(), came.frame());
-    match &verdict {
-        Verdict::Outlets(places) => {
+    let mut places = Outlets::new();
+    let sent = state.foresee(
+        event.moment,
+        came.segment(),
+        came.place(),
+        came.frame(),
+        &mut places,
+    );
+    match sent {
+        Ok(()) => {
             sent_story(
                 alloc,
                 endpoint,
@@ -196,9 +203,7 @@ fn bridge_story(
                 places.as_slice(),
             )
         }
-        Verdict::Dropped(reason) => {
-            dropped_story(alloc, endpoint, number, event, facts, came, *reason)
-        }
+        Err(reason) => dropped_story(alloc, endpoint, number, event, facts, came, reason),
     }
 }
 

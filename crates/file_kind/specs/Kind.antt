@@ -1,7 +1,7 @@
 -- What a file is, by its first octets. It states no standard.
 use Rattle.std.specs.Prelude.{ℕ, ◌+◌, ◌%◌, ◌==◌, ◌||◌, ◌&&◌, nat_le, if◌then◌else◌, Bool, List, [], ◌∷◌, ◌++◌, codes, length}
 use Rattle.std.specs.List.{list_all}
-use Rattle.header_sums.specs.Octets.{begins, field, octet}
+use Rattle.header_octets.specs.Octets.{begins, field, octet}
 use Rattle.file_kind.specs.declared.kind.FileKind.{FileKind}
 use Rattle.file_kind.specs.declared.kind.FileKind.TheVariants as kinds
 

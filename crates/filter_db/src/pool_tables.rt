@@ -1,5 +1,5 @@
 //! Tables whose segments come and go.
-ghost use Rattle.std.specs.Prelude.{◌≡◌, ◌+◌, ◌<◌, ◌≤◌, None, IsSome};
+ghost use Rattle.std.specs.Prelude.{◌≡◌, ◌+◌, ◌≤◌, None, IsSome};
 ghost use Rattle.filter_db.specs.Segment.{aged_all, segment_at, adjusted, IsRule};
 ghost use Rattle.filter_db.specs.Standing.{sum_of_limits, segment_count, added, removed, set_limit_in};
 
@@ -26,10 +26,9 @@ pub trait PoolTables: Tables {
         ensures { result ≡ (segment_at vid (Self.segments self.now)).limit };
 
     /// Adds a segment, without entries: whatever a segment of the same VID kept before is forgotten. There is none of
-    /// this VID now, fewer than 256 in all, and room for its limit of 1 to 8,192.
+    /// this VID now, and room for its limit of 1 to 8,192.
     fn add(&mut self, rule: TableRule, now: u64)
         requires absent { Self.segments self.old rule.vid ≡ None }
-        requires few { segment_count (Self.segments self.old) < 256 }
         requires in_range { IsRule rule }
         requires room { sum_of_limits (Self.segments self.old) + rule.limit ≤ Self.pool self.old }
         requires time { Self.moment self.old ≤ now }

@@ -1,7 +1,7 @@
 -- Flood lists, and the endpoint's own addresses. It states no standard.
 use Rattle.std.specs.Prelude.{◌≢◌, ℕ, Bool, false, not, ◌&&◌, nat_le, is_some, List, [], ◌∷◌, length, filter, replicate, Option, None, Some}
 use Rattle.std.specs.List.{AllPairs, list_any}
-use Rattle.header_sums.specs.Octets.{is_same}
+use Rattle.header_octets.specs.Octets.{is_same}
 use Rattle.ip_udp_view.specs.declared.addr.Addr.{Addr}
 use Rattle.ip_udp_view.specs.declared.addr.Addr.TheVariants.{V4, V6}
 use Rattle.ip_udp_view.specs.declared.addr.Tunnel.{Tunnel}

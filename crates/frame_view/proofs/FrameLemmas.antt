@@ -1,8 +1,8 @@
 -- A text by its places is a frame in whole text.
 use Rattle.std.proofs.Common.{◌≡◌, ℕ, zero, suc, ◌+◌, ◌*◌, ◌/◌, ◌%◌, ◌<◌, ◌≤◌, true, eqb, List, ◌∷◌, ◌++◌, length, take, drop, refl, sym, ap, ◌∙◌, arith}
 use Rattle.std.proofs.lemmas.List.{take-append-drop, drop-drop}
-use Rattle.header_sums.specs.Octets.{octet, field, octets}
-use Rattle.header_sums.proofs.OctetsLemmas.{begins-true, cell}
+use Rattle.header_octets.specs.Octets.{octet, field, octets}
+use Rattle.header_octets.proofs.OctetsLemmas.{begins-true, cell}
 use Rattle.frame_view.specs.Ether.{has_tag}
 use Rattle.frame_view.specs.Frame.{tagged, frame_behind_tag}
 use Rattle.frame_view.specs.Tag.{bit, vid_of}

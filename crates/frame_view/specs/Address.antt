@@ -1,6 +1,6 @@
 -- MAC addresses, as their six octets (IEEE 802, 8.2.2; IEEE 802.1Q, 8.6.3).
 use Rattle.std.specs.Prelude.{ℕ, Bool, ◌%◌, ◌==◌, ◌&&◌, nat_lt, List, [], ◌∷◌}
-use Rattle.header_sums.specs.Octets.{octet, begins}
+use Rattle.header_octets.specs.Octets.{octet, begins}
 
 -- a group address: the low bit of the first octet is set (IEEE 802, 8.2.2)
 abbrev pub is_group : List ℕ → Bool

@@ -1,6 +1,6 @@
 -- How the tag of a frame is split off (IEEE 802.1Q, 9.6).
 use Rattle.std.specs.Prelude.{◌≡◌, ℕ, ◌<◌, ◌≤◌, nat_lt, Bool, true, false, List, length, drop, if◌then◌else◌}
-use Rattle.header_sums.specs.Octets.{field}
+use Rattle.header_octets.specs.Octets.{field}
 use Rattle.frame_view.specs.Frame.{frame_of, frame_behind_tag, plain, tagged}
 use Rattle.frame_view.specs.Tag.{begins_tag, vid_of}
 use Rattle.frame_view.specs.declared.ether_view.Tagging.{Tagging}

@@ -1,6 +1,6 @@
 -- A frame as a bridge sees it, and its texts without a tag and with one (IEEE 802.1Q, 6.8 and 9.6).
 use Rattle.std.specs.Prelude.{◌≡◌, ◌<◌, ◌≤◌, ℕ, ◌+◌, Bool, false, List, ◌++◌, length, take, drop}
-use Rattle.header_sums.specs.Octets.{field, part}
+use Rattle.header_octets.specs.Octets.{field, part}
 use Rattle.frame_view.specs.Tag.{tag_text, tci_of, pcp_of, dei_of}
 
 -- destination, source, priority and drop eligible bit, and a body that begins with the type: no tag is in it

@@ -2,7 +2,7 @@
 -- the drop eligible bit (DEI) and a VLAN identifier (VID) of 12 bits.
 use Rattle.std.specs.Prelude.{◌≡◌, ◌⊎◌, ℕ, zero, suc, Bool, true, false, IsTrue, ◌+◌, ◌*◌, ◌/◌, ◌%◌, ◌≤◌, ◌==◌, ◌&&◌, ◌||◌, nat_le, if◌then◌else◌, List, [], ◌∷◌, ◌++◌, length, drop}
 use Rattle.std.specs.List.{concat, AllByRecursion}
-use Rattle.header_sums.specs.Octets.{octets, begins}
+use Rattle.header_octets.specs.Octets.{octets, begins}
 
 -- an identifier that names a VLAN: neither 0, which gives a priority alone, nor the reserved 4095
 abbrev pub IsVid : ℕ → Type 0

@@ -3,8 +3,8 @@ use Rattle.std.proofs.Common.{◌≡◌, ℕ, zero, suc, ◌+◌, ◌*◌, ◌/�
 use Rattle.std.specs.Prelude.{IsTrue, is_some, unwrap_or}
 use Rattle.std.proofs.lemmas.Bool.{ltb-false, le-ltb, cond-false, cond-true, cases_Bool}
 use Rattle.std.proofs.lemmas.List.{take-append-drop, length-take, length-drop, length-append, take_at, drop_at, drop-drop}
-use Rattle.header_sums.specs.Octets.{IsText, octet, field}
-use Rattle.header_sums.proofs.OctetsLemmas.{cell, octets2-field, field2-below, IsText-drop}
+use Rattle.header_octets.specs.Octets.{IsText, octet, field}
+use Rattle.header_octets.proofs.OctetsLemmas.{cell, octets2-field, field2-below, IsText-drop}
 use Rattle.geneve_head.specs.Options.{TunnelOption, IsOptionText, AreOptionTexts, option_length, option_at, split_option, with_option, options_at, options_in}
 use Rattle.geneve_head.specs.Reading.{OptionsWhereTheyAdd, OptionsNowhereElse}
 

@@ -3,8 +3,8 @@ use Rattle.std.proofs.Common.{◌≡◌, ℕ, ◌*◌, ◌/◌, ◌%◌, Bool, t
 use Rattle.std.specs.Prelude.{is_none, unwrap_or, IsTrue, IsFalse, IsErrOf, Result, Ok, Err}
 use Rattle.std.proofs.lemmas.Bool.{ltb-false, le-ltb, lt-leb, leb-false, eq-eqb, eqb-true, not-false, not_from_true}
 use Rattle.std.proofs.lemmas.List.{take-append-drop, length-take, length-drop, length-append, take_at, drop_at, drop-drop}
-use Rattle.header_sums.specs.Octets.{IsText, octet, field, octets, part}
-use Rattle.header_sums.proofs.OctetsLemmas.{cells8, octets3-field, field3-below, IsText-drop, IsText-take}
+use Rattle.header_octets.specs.Octets.{IsText, octet, field, octets, part}
+use Rattle.header_octets.proofs.OctetsLemmas.{cells8, octets3-field, field3-below, IsText-drop, IsText-take}
 use Rattle.frame_view.specs.First.{first, fault_of}
 use Rattle.frame_view.proofs.FirstLemmas.{NothingHolds-from}
 use Rattle.geneve_head.specs.declared.view.GnFault.{GnFault}

@@ -2,7 +2,7 @@
 -- the protocol type (16 bits), the network identifier (VNI, 24 bits) and 8 reserved bits; then the options. Reserved bits
 -- are ignored on receipt and sent as 0.
 use Rattle.std.specs.Prelude.{◌≡◌, ◌<◌, ℕ, ◌*◌, List, [], ◌∷◌, ◌++◌, length}
-use Rattle.header_sums.specs.Octets.{octets}
+use Rattle.header_octets.specs.Octets.{octets}
 use Rattle.vxlan_head.specs.Vxlan.{IsVni}
 use Rattle.geneve_head.specs.Options.{TunnelOption, AreOptionTexts}
 

@@ -1,7 +1,7 @@
 -- Options of a Geneve header (RFC 8926, 3.5).
 use Rattle.std.specs.Prelude.{◌≡◌, ◌<◌, ℕ, zero, suc, ◌^◌, ◌+◌, ◌*◌, ◌%◌, ◌==◌, ◌&&◌, ◌||◌, nat_lt, nat_le, Bool, not, if◌then◌else◌, List, [], ◌∷◌, ◌++◌, length, drop, Option, Some, None, unwrap_or}
 use Rattle.std.specs.List.{list_any, list_all}
-use Rattle.header_sums.specs.Octets.{octet, field, octets, part}
+use Rattle.header_octets.specs.Octets.{octet, field, octets, part}
 
 -- an option: its class, its whole type octet, and its data
 pub record TunnelOption : Type 0 where

@@ -4,8 +4,8 @@ use Rattle.std.specs.List.{concat, AllByRecursion}
 use Rattle.std.proofs.lemmas.Bool.{ltb-false, le-ltb, le-leb, or_cases, cases_Bool, false≢true, not-false, not_from_true, cond-true}
 use Rattle.std.proofs.lemmas.List.{take-append-drop, take-append-le, take_at, drop_at, length-take, length-append}
 use lib.Pointwise.{pointwise}
-use Rattle.header_sums.specs.Octets.{IsText}
-use Rattle.header_sums.proofs.OctetsLemmas.{begins-true, field2-below, IsText-drop, IsText-take}
+use Rattle.header_octets.specs.Octets.{IsText}
+use Rattle.header_octets.proofs.OctetsLemmas.{begins-true, field2-below, IsText-drop, IsText-take}
 use Rattle.frame_view.specs.First.{first}
 use Rattle.frame_view.specs.Tag.{has_outer_tag, IsOuterTag, without_tags}
 use Rattle.frame_view.proofs.FirstLemmas.{NothingHolds-from, first-nothing}

@@ -2,9 +2,9 @@
 use Rattle.std.proofs.Common.{◌≡◌, ℕ, ◌+◌, ◌*◌, ◌/◌, ◌%◌, ◌≤◌, true, false, not, ◌||◌, eqb, ltb, List, ◌++◌, length, take, drop, refl, sym, ap, ◌∙◌, subst, arith, inl, inr, ◌↔◌}
 use Rattle.std.proofs.lemmas.Bool.{eqb-true, eq-eqb, ltb-false, le-ltb, or_parts, or_from, not-false, not_from_true, cases_Bool, false≢true}
 use Rattle.std.proofs.lemmas.List.{take-append-drop, length-append}
-use Rattle.header_sums.specs.Octets.{octet, field}
-use Rattle.header_sums.proofs.OctetsLemmas.{octet-append, field-append, part-append}
-use Rattle.header_sums.specs.Sum.{total, folded}
+use Rattle.header_octets.specs.Octets.{octet, field}
+use Rattle.header_octets.proofs.OctetsLemmas.{octet-append, field-append, part-append}
+use Rattle.header_octets.specs.Sum.{total, folded}
 use Rattle.ip_udp_view.specs.declared.addr.Addr.TheVariants.{V4, V6}
 use Rattle.ip_udp_view.specs.Parts.{Parts, joined}
 use Rattle.ip_udp_view.specs.Ip.{Family, Ip4, Ip6, version, ihl, header_length, total_length, payload_length, IsHeader, IsHeader4, IsHeader6, SplitsIp, IsSumRight, is_fragment, protocol, source, destination, packet_parts, is_bad_ip, is_bad_ip_sum}

@@ -2,9 +2,9 @@
 use Rattle.std.proofs.Common.{◌≡◌, ℕ, ◌+◌, ◌%◌, ◌<◌, List, [], ◌∷◌, ◌++◌, length, refl, ap, append-nil, arith}
 use Rattle.std.proofs.lemmas.List.{length-append}
 use Rattle.std.specs.Prelude.{IsTrue}
-use Rattle.header_sums.specs.Octets.{octets}
-use Rattle.header_sums.specs.Sum.{total}
-use Rattle.header_sums.proofs.SumLemmas.{total-append_even, total-pseudo4, total-pseudo6}
+use Rattle.header_octets.specs.Octets.{octets}
+use Rattle.header_octets.specs.Sum.{total}
+use Rattle.header_octets.proofs.SumLemmas.{total-append_even, total-pseudo4, total-pseudo6}
 use Rattle.ip_udp_view.specs.declared.addr.Addr.{Addr}
 use Rattle.ip_udp_view.specs.declared.addr.Addr.TheVariants.{V4, V6}
 use Rattle.ip_udp_view.specs.Addr.{address, IsAddr, same_family}

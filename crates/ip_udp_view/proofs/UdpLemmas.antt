@@ -2,8 +2,8 @@
 use Rattle.std.proofs.Common.{◌≡◌, ◌↔◌, ℕ, ◌+◌, ◌<◌, ◌≤◌, true, false, ltb, List, [], ◌∷◌, ◌++◌, length, take, drop, sym, ap, ◌∙◌, subst, append_assoc, arith, inl, inr}
 use Rattle.std.proofs.lemmas.Bool.{ltb-false, le-ltb, or_parts, or_from, cases_Bool, false≢true}
 use Rattle.std.proofs.lemmas.List.{take-append-drop, take_at, length-append}
-use Rattle.header_sums.specs.Octets.{IsText, octet, field, octets}
-use Rattle.header_sums.proofs.OctetsLemmas.{field-append, cells8, octets2-field}
+use Rattle.header_octets.specs.Octets.{IsText, octet, field, octets}
+use Rattle.header_octets.proofs.OctetsLemmas.{field-append, cells8, octets2-field}
 use Rattle.ip_udp_view.specs.Parts.{Parts, joined}
 use Rattle.ip_udp_view.specs.Udp.{sport, dport, udp_length, udp_sum, udp_header, IsUdpHeader, SplitsUdp, udp_parts, datagram, data_of, is_bad_udp}
 use Rattle.ip_udp_view.proofs.CutLemmas.{joined-cut, cut-joined, length-cut_head, length-cut_payload}

@@ -5,7 +5,7 @@ use Rattle.ip_udp_view.specs.declared.addr.Addr.{Addr}
 use Rattle.ip_udp_view.specs.declared.addr.Addr.TheVariants.{V4, V6}
 use Rattle.ip_udp_view.specs.declared.addr.Tunnel.{Tunnel}
 use Rattle.ip_udp_view.specs.declared.addr.Tunnel.TheVariants.{Vxlan, Geneve}
-use Rattle.header_sums.specs.Octets.{IsText, octet, is_same}
+use Rattle.header_octets.specs.Octets.{IsText, octet, is_same}
 
 -- the octets of an address, 4 or 16
 abbrev pub address : Addr → List ℕ

@@ -2,7 +2,7 @@
 -- (RFC 768; RFC 791, 3.1; RFC 8200, 3; over Ethernet RFC 894 and RFC 2464, 3).
 use Rattle.std.specs.Prelude.{◌≡◌, ◌<◌, ◌≤◌, ℕ, ◌+◌, ◌-◌, ◌^◌, ◌==◌, ◌||◌, nat_lt, Bool, false, not, if◌then◌else◌, List, [], ◌∷◌, ◌++◌, length, take, drop}
 use Rattle.std.specs.List.{concat, AllByRecursion}
-use Rattle.header_sums.specs.Octets.{begins}
+use Rattle.header_octets.specs.Octets.{begins}
 use Rattle.frame_view.specs.Tag.{IsOuterTag, without_tags}
 use Rattle.frame_view.specs.declared.reason.Reason.{Reason}
 use Rattle.frame_view.specs.declared.reason.Reason.TheVariants.{Runt, NotIp, BadIp, BadIpSum, Fragment, NotUdp, BadUdp}

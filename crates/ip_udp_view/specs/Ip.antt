@@ -1,8 +1,8 @@
 -- IP packets: RFC 791, 3.1 (IPv4); RFC 8200, 3 (IPv6). A header's field is named by where it stands in it. A text r is
 -- what stands behind the type of a frame: a packet, and a trailer behind the length that its header tells.
 use Rattle.std.specs.Prelude.{◌≡◌, ◌≤◌, ℕ, ◌+◌, ◌*◌, ◌/◌, ◌%◌, ◌==◌, ◌||◌, nat_lt, Bool, false, not, List, [], ◌∷◌, length}
-use Rattle.header_sums.specs.Octets.{octet, field, part}
-use Rattle.header_sums.specs.Sum.{total, folded}
+use Rattle.header_octets.specs.Octets.{octet, field, part}
+use Rattle.header_octets.specs.Sum.{total, folded}
 use Rattle.ip_udp_view.specs.declared.addr.Addr.{Addr}
 use Rattle.ip_udp_view.specs.declared.addr.Addr.TheVariants.{V4, V6}
 use Rattle.ip_udp_view.specs.declared.ip_fault.IpFault.{IpFault}

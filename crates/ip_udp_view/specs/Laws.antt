@@ -2,7 +2,7 @@
 -- It states no standard.
 use Rattle.std.specs.Prelude.{◌≡◌, ◌↔◌, ℕ, true, false, List, None}
 use Rattle.std.specs.List.{concat}
-use Rattle.header_sums.specs.Octets.{IsText}
+use Rattle.header_octets.specs.Octets.{IsText}
 use Rattle.frame_view.specs.First.{first}
 use Rattle.ip_udp_view.specs.declared.addr.Addr.{Addr}
 use Rattle.ip_udp_view.specs.Parts.{Parts}

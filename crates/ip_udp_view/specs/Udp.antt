@@ -1,8 +1,8 @@
 -- UDP datagrams: RFC 768; their checksum over IPv6: RFC 8200, 8.1. A text p is an IP payload: a datagram, and a tail
 -- behind the length that its header tells.
 use Rattle.std.specs.Prelude.{◌≡◌, ℕ, ◌+◌, ◌==◌, ◌||◌, nat_lt, Bool, true, false, if◌then◌else◌, List, [], ◌∷◌, ◌++◌, length, take}
-use Rattle.header_sums.specs.Octets.{field, octets}
-use Rattle.header_sums.specs.Sum.{total, folded, pseudo4, pseudo6}
+use Rattle.header_octets.specs.Octets.{field, octets}
+use Rattle.header_octets.specs.Sum.{total, folded, pseudo4, pseudo6}
 use Rattle.ip_udp_view.specs.declared.addr.Addr.{Addr}
 use Rattle.ip_udp_view.specs.declared.addr.Addr.TheVariants.{V4, V6}
 use Rattle.ip_udp_view.specs.declared.udp_view.BadUdp.{BadUdp}

@@ -6,7 +6,7 @@ ghost use Rattle.ip_udp_view.specs.Ip.{Ip4, SplitsIp, IsSumRight, packet_parts, 
 use crate::octets::array_at;
 use crate::{Addr, IpFault};
 use byteorder::{BigEndian, ByteOrder};
-use header_sums::{fold, words};
+use header_octets::{fold, words};
 use std::marker::Model;
 
 /// The version in the first four bits of an IPv4 header.

@@ -28,7 +28,7 @@ mod octets;
 mod udp_view;
 
 pub use addr::{Addr, Tunnel};
-pub use header_sums::UDP;
+pub use header_octets::UDP;
 pub use ip_fault::IpFault;
 pub use ip_view::{IP4_TYPE, IP6_TYPE, IpView};
 pub use ip4_view::Ip4View;

@@ -1,6 +1,6 @@
 //! Arrays out of octets.
 ghost use Rattle.std.specs.Prelude.{◌≡◌, ◌+◌, ◌≤◌, length};
-ghost use Rattle.header_sums.specs.Octets.{part};
+ghost use Rattle.header_octets.specs.Octets.{part};
 
 /// The `N` octets from a place on.
 pub(crate) fn array_at<const N: usize>(octets: &[u8], at: usize) -> [u8; N]

@@ -4,14 +4,14 @@
 //! that is right stays so where it is the pseudo header's sum too. The view says which it is, the settings whether it is
 //! taken; so a story, a look at captures and a summary tell of it whatever the settings are.
 ghost use Rattle.std.specs.Prelude.{◌≡◌, ◌^◌, ◌≤◌, ◌++◌, length, IsTrue, IfOk};
-ghost use Rattle.header_sums.specs.Sum.{total, folded};
+ghost use Rattle.header_octets.specs.Sum.{total, folded};
 ghost use Rattle.frame_view.specs.First.{fault_of, first};
 ghost use Rattle.ip_udp_view.specs.Addr.{address, same_family};
 ghost use Rattle.ip_udp_view.specs.Udp.{SplitsUdp, udp_parts, udp_faults, sport, dport, pseudo, is_partial, sum_state};
 
 use crate::Addr;
 use byteorder::{BigEndian, ByteOrder};
-use header_sums::{UDP, fold, folded, words};
+use header_octets::{UDP, fold, folded, words};
 use std::marker::Model;
 use thiserror::Error;
 

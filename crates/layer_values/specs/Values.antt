@@ -2,7 +2,7 @@
 -- RFC 8200, 3 (IPv6), RFC 768 (UDP), RFC 7348, 5 (VXLAN) and RFC 8926, 3.4 (Geneve), each at its place. As
 --       ip4 192.0.2.1 > 192.0.2.2 ttl 64 length 96 protocol 17
 use Rattle.std.specs.Prelude.{ℕ, ◌*◌, nat_le, if◌then◌else◌, List, [], ◌++◌, length, codes, decimal}
-use Rattle.header_sums.specs.Octets.{octet, field, part}
+use Rattle.header_octets.specs.Octets.{octet, field, part}
 use Rattle.frame_view.specs.Tag.{pcp_of, dei_of, vid_of, bit}
 use Rattle.ip_udp_view.specs.Ip.{Ip4 as family_4, Ip6 as family_6, total_length, payload_length, protocol, is_fragment, fragment_offset, has_more_fragments}
 use Rattle.ip_udp_view.specs.Udp.{sport, dport, udp_length}

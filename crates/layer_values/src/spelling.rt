@@ -1,7 +1,7 @@
 //! Octets in hexadecimal, and addresses.
 ghost use Rattle.std.specs.Prelude.{◌≡◌, ◌+◌, ◌++◌, ◌≤◌, OnOk, length, string_bytes};
 ghost use Rattle.std.specs.List.{flat_map};
-ghost use Rattle.header_sums.specs.Octets.{part};
+ghost use Rattle.header_octets.specs.Octets.{part};
 ghost use Rattle.layer_values.specs.Text.{hex_octet, hex_text, mac_text, ip4_text, ip6_text};
 
 use std::alloc::AllocError;

@@ -1,4 +1,4 @@
-//! Tests of decision lines that are read back, over the public names of `shard_lines`. There is nothing here but tests, and
+//! Tests of decision lines that are read back, over the public names of `part_lines`. There is nothing here but tests, and
 //! nothing stands on this crate.
 //!
 //! Read first: `reading_tests`, lines and what is read from each: the number of an event and the places where it was sent, a

@@ -1,8 +1,8 @@
 //! Parts of a run, in their folders, made the whole run again.
 //!
 //! Use first: [`merge`] puts the parts in some folders together and writes the whole run into another; it answers the
-//! [`MergedTexts`], as far as [`TextsAsked`] asks for them. What it does over streams stands in `shard_merge`, and of tables,
-//! counts and tunnels in `part_tables`, `part_counts` and `tunnel_tables`.
+//! [`MergedTexts`], as far as [`TextsAsked`] asks for them. What it does over streams stands in `part_merge`, and of tables,
+//! counts and tunnels in `part_reports` and `tunnel_tables`.
 //!
 //! It has no specs of its own.
 //!

@@ -1,14 +1,14 @@
 //! What parts of a run say of themselves, and whether they are so.
-use dissector::tap_of;
 use octet_sum::OctetSum;
-use program_faults::{Failure, OutputFile, ShardFailure, read_text};
+use part_record::{
+    OutputFacts, PartRecord, PartRecordFault, ToldOutputs, part_all, record_of, same_run,
+};
+use program_faults::{Failure, OutputFile, PartFailure, read_text};
 use program_files::{PartLines, count_lines, is_as_told, may_have_octets, open_part_file};
 use segment_set::SegmentSet;
-use shard_record::{
-    OutputFacts, ShardFault, ShardRecord, ToldOutputs, part_all, record_of, same_run,
-};
 use std::alloc::AllocError;
 use std::rt::Files;
+use text_calls::tap_of;
 use timeline::Tap;
 
 /// How many reads are made of a text of what a part was made from, at most.
@@ -21,7 +21,7 @@ pub fn read_records<'a, R: Files + AllocGlobal>(
 ) -> Result<Vec<Vec<u8>>, Failure<'a>> {
     let mut texts = Vec::new(rt.alloc());
     for folder in folders {
-        let mut input = match open_part_file(rt, *folder, OutputFile::Shard) {
+        let mut input = match open_part_file(rt, *folder, OutputFile::PartRecord) {
             Ok(input) => input,
             Err(failure) => return Err(failure),
         };
@@ -53,13 +53,13 @@ pub fn look_at<'a, R: Files + AllocGlobal>(
     folders: &[&'a str],
     texts: &[Vec<u8>],
 ) -> Result<Looked, Failure<'a>> {
-    let mut first: Option<ShardRecord<'_>> = None;
+    let mut first: Option<PartRecord<'_>> = None;
     let mut sets = Vec::new(rt.alloc());
     let mut outputs = Vec::new(rt.alloc());
     for (folder, text) in folders.iter().zip(texts) {
         let (found, told, segments) = match read_record(text.as_slice()) {
             Ok(read) => read,
-            Err(fault) => return Err(Failure::Shard(*folder, fault)),
+            Err(fault) => return Err(Failure::Part(*folder, fault)),
         };
         if sets.push(segments).is_err() || outputs.push(told).is_err() {
             return Err(Failure::from(AllocError));
@@ -68,7 +68,7 @@ pub fn look_at<'a, R: Files + AllocGlobal>(
             None => first = Some(found),
             Some(first) => {
                 if let Err(difference) = same_run(first, &found) {
-                    return Err(Failure::Shard(*folder, ShardFailure::Other(difference)));
+                    return Err(Failure::Part(*folder, PartFailure::Other(difference)));
                 }
             }
         }
@@ -90,17 +90,17 @@ pub fn look_at<'a, R: Files + AllocGlobal>(
 }
 
 /// What a part was made from, what it says of its outputs, and its segments.
-fn read_record(text: &[u8]) -> Result<(ShardRecord<'_>, ToldOutputs, SegmentSet), ShardFailure> {
+fn read_record(text: &[u8]) -> Result<(PartRecord<'_>, ToldOutputs, SegmentSet), PartFailure> {
     let Ok(text) = str::from_utf8(text) else {
-        return Err(ShardFailure::Record(ShardFault::Head));
+        return Err(PartFailure::Record(PartRecordFault::Head));
     };
     let (found, outputs) = match record_of(text) {
         Ok(found) => found,
-        Err(fault) => return Err(ShardFailure::Record(fault)),
+        Err(fault) => return Err(PartFailure::Record(fault)),
     };
     match SegmentSet::parse(found.segments) {
         Ok(segments) => Ok((found, outputs, segments)),
-        Err(fault) => Err(ShardFailure::List(fault)),
+        Err(fault) => Err(PartFailure::List(fault)),
     }
 }
 
@@ -112,35 +112,35 @@ fn see_lines<'a, R: Files + AllocGlobal>(
 ) -> Result<(), Failure<'a>> {
     let (found, outputs, _) = match read_record(text) {
         Ok(read) => read,
-        Err(fault) => return Err(Failure::Shard(folder, fault)),
+        Err(fault) => return Err(Failure::Part(folder, fault)),
     };
     let lines = count_lines(rt, folder)?;
     if lines.events != found.events {
-        return Err(Failure::Shard(folder, ShardFailure::Events));
+        return Err(Failure::Part(folder, PartFailure::Events));
     }
     match see_records(&lines, outputs.as_slice()) {
         Ok(()) => Ok(()),
-        Err(fault) => Err(Failure::Shard(folder, fault)),
+        Err(fault) => Err(Failure::Part(folder, fault)),
     }
 }
 
 /// Sees that lines are as many and tell as many records of each capture as is told of the outputs.
-fn see_records(lines: &PartLines, outputs: &[OutputFacts]) -> Result<(), ShardFailure> {
+fn see_records(lines: &PartLines, outputs: &[OutputFacts]) -> Result<(), PartFailure> {
     for (index, told) in outputs.iter().enumerate() {
         match output_at(index) {
             OutputFile::Decisions => {
                 if told.records != lines.lines {
-                    return Err(ShardFailure::Lines);
+                    return Err(PartFailure::Lines);
                 }
             }
             OutputFile::Underlay => {
                 if told.records != lines.records.records(Tap::Underlay) {
-                    return Err(ShardFailure::Records(OutputFile::Underlay));
+                    return Err(PartFailure::Records(OutputFile::Underlay));
                 }
             }
             output => {
                 if told.records != lines.records.records(tap_of(index.saturating_sub(2))) {
-                    return Err(ShardFailure::Records(output));
+                    return Err(PartFailure::Records(output));
                 }
             }
         }
@@ -157,7 +157,7 @@ fn see_octets<'a, R: Files + AllocGlobal>(
     for (index, told) in outputs.iter().enumerate() {
         let output = output_at(index);
         if !may_have_octets(rt, folder, output, told.sum.octets)? {
-            return Err(Failure::Shard(folder, ShardFailure::Octets(output)));
+            return Err(Failure::Part(folder, PartFailure::Octets(output)));
         }
     }
     Ok(())
@@ -183,7 +183,7 @@ fn see_sums<'a, R: Files + AllocGlobal>(
         let output = output_at(index);
         match is_as_told(rt, folder, output, told.sum) {
             Ok(true) => {}
-            Ok(false) => return Err(Failure::Shard(folder, ShardFailure::Sums(output))),
+            Ok(false) => return Err(Failure::Part(folder, PartFailure::Sums(output))),
             Err(failure) => return Err(failure),
         }
     }

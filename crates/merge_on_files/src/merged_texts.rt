@@ -1,7 +1,6 @@
 //! What the parts of a run told, as the whole run tells it.
-use part_counts::{ReportFault, Summary};
-use part_tables::{TablesFault, rows_in, tables_of};
-use program_faults::{Failure, OutputFile, ShardFailure, read_text};
+use part_reports::{ReportFault, Summary, TablesFault, rows_in, tables_of};
+use program_faults::{Failure, OutputFile, PartFailure, read_text};
 use program_files::{open_part_file, path_of};
 use segment_set::SegmentSet;
 use std::alloc::AllocError;
@@ -162,7 +161,7 @@ fn read_left<'a, R: Files + AllocGlobal>(
     let path = path_of(rt.alloc(), folder, output)?;
     if let Err(error) = fs::metadata(rt, path.as_path()) {
         if error.kind() == ErrorKind::NotFound {
-            return Err(Failure::Shard(folder, ShardFailure::Lacks(output)));
+            return Err(Failure::Part(folder, PartFailure::Lacks(output)));
         }
     }
     let mut input = match open_part_file(rt, folder, output) {
@@ -177,5 +176,5 @@ fn read_left<'a, R: Files + AllocGlobal>(
 
 /// That this line of a text which the part in this folder left isn't what stands there in such a text.
 fn wrong_line<'a>(folder: &'a str, output: OutputFile, line: usize) -> Failure<'a> {
-    Failure::Shard(folder, ShardFailure::Report(output, line))
+    Failure::Part(folder, PartFailure::Report(output, line))
 }

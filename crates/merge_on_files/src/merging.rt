@@ -4,10 +4,10 @@ ghost use Rattle.std.specs.Prelude.{◌≤◌};
 use crate::looking::{Looked, look_at, output_at, read_failure, read_records};
 use crate::merged_texts::{MergedTexts, TextsAsked, merge_texts};
 use crate::opening::open_parts;
+use part_merge::{MergeFault, Target, merge_streams};
+use part_record::{MOST_PORTS, ToldOutputs};
 use program_faults::{Failure, OutputFile};
 use program_files::{FailedOutputs, drop_part, is_same, open_outputs, path_of};
-use shard_merge::{MergeFault, Target, merge_streams};
-use shard_record::{MOST_PORTS, ToldOutputs};
 use std::alloc::AllocError;
 use std::fs::{self, Metadata};
 use std::os::unix::fs::FileTypeExt;
@@ -117,7 +117,7 @@ const BESIDE_PORTS: usize = 5;
 /// then what the part says of itself and leaves besides.
 fn file_at(index: usize, ports: usize) -> OutputFile {
     match index.checked_sub(ports.saturating_add(2)) {
-        Some(0) => OutputFile::Shard,
+        Some(0) => OutputFile::PartRecord,
         Some(1) => OutputFile::Tables,
         Some(_) => OutputFile::Summary,
         None => output_at(index),

@@ -1,16 +1,16 @@
 //! Parts of a run, opened for a merge.
 use crate::looking::{output_at, read_failure};
 use crate::merging::failure_of;
-use dissector::tap_of;
 use line_stream::Lines;
 use octet_sum::OctetSum;
+use part_merge::{Capture, MergeFault, Part, PartFault, RecordsFault};
+use part_record::{OutputFacts, ToldOutputs};
 use pcap_stream::{Source, SourceFault};
 use program_faults::{Failure, OutputFile};
 use program_files::{PartInput, open_output};
-use shard_merge::{Capture, MergeFault, Part, PartFault, RecordsFault};
-use shard_record::{OutputFacts, ToldOutputs};
 use std::alloc::AllocError;
 use std::rt::Files;
+use text_calls::tap_of;
 use timeline::Tap;
 
 /// How many reads are made of a capture of a part, at most.

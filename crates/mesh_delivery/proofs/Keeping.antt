@@ -143,7 +143,7 @@ abbrev refusals : Settings → NewSegment → List (ChangeFault × Bool)
 refusals S new =
     (OutOfRange, not (is_limit new.limit && is_ageing new.ageing && are_vnis new.tunnels))
     ∷ (SegmentThere, is_taken S new)
-    ∷ (SegmentsFull, not (nat_lt (segment_count (tables_asked S)) 256))
+    ∷ (SegmentsFull, not (nat_lt (segment_count (tables_asked S)) S.overlay.underlay.limits.segments))
     ∷ (PoolFull, is_too_much S new.limit)
     ∷ []
 

@@ -5,7 +5,7 @@ use Rattle.std.specs.Option.{option_map, option_map_or, option_and_then}
 use Rattle.std.specs.Cmp.{nat_cmp_total}
 use Rattle.std.specs.FinMap.{entries, entries_sorted, get-entries}
 use Rattle.std.proofs.lemmas.Bool.{false≢true, eqb-true}
-use Rattle.header_sums.proofs.OctetsLemmas.{is_same-true, is_same-refl}
+use Rattle.header_octets.proofs.OctetsLemmas.{is_same-true, is_same-refl}
 use Rattle.frame_view.specs.First.{first}
 use Rattle.frame_view.specs.Frame.{Frame, IsFrame, plain}
 use Rattle.frame_view.specs.declared.reason.Reason.{Reason}

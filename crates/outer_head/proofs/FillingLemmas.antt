@@ -2,11 +2,11 @@
 use Rattle.std.proofs.Common.{◌≡◌, ℕ, ◌+◌, List, [], ◌++◌, length, take, drop, refl, sym, ap, ◌∙◌, subst, arith, append_assoc, Bool}
 use Rattle.std.proofs.lemmas.List.{take_at, append-nil}
 use borrow.Rule.Slice.PartMut.{put_mid}
-use Rattle.header_sums.specs.Octets.{octets, part}
+use Rattle.header_octets.specs.Octets.{octets, part}
 use Rattle.ip_udp_view.specs.Datagram.{ether_type}
 use Rattle.ip_udp_view.specs.Ip.{Ip4, Ip6}
 use Rattle.ip_udp_view.specs.declared.addr.Addr.TheVariants.{V4, V6}
-use Rattle.header_sums.specs.Sum.{check}
+use Rattle.header_octets.specs.Sum.{check}
 use Rattle.outer_head.specs.Packet.{ip4_header, ip6_sent, sum_sent, packet4, packet6}
 use Rattle.outer_head.specs.Template.{Fixed, blank4, blank6}
 use Rattle.outer_head.proofs.TemplateLemmas.{cells, cells-is, by_cells}

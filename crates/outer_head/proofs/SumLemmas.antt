@@ -3,9 +3,9 @@ use Rattle.std.proofs.Common.{◌≡◌, ℕ, Option, Some, None, ◌+◌, ◌*�
 use Rattle.std.specs.Prelude.{IfSome, is_some}
 use Rattle.std.specs.Option.{option_map_or}
 use Rattle.std.proofs.lemmas.List.{length-append}
-use Rattle.header_sums.specs.Sum.{total, folded, complement, sent_of, sent, check}
-use Rattle.header_sums.proofs.SumLemmas.{total-append_even}
-use Rattle.header_sums.proofs.FoldLemmas.{folded-added}
+use Rattle.header_octets.specs.Sum.{total, folded, complement, sent_of, sent, check}
+use Rattle.header_octets.proofs.SumLemmas.{total-append_even}
+use Rattle.header_octets.proofs.FoldLemmas.{folded-added}
 use Rattle.ip_udp_view.specs.declared.addr.Addr.{Addr}
 use Rattle.ip_udp_view.specs.Udp.{pseudo, udp_header}
 use Rattle.outer_head.specs.Packet.{ip4_header, sum_sent}

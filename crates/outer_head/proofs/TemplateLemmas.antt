@@ -1,7 +1,7 @@
 -- What a blank head tells.
 use Rattle.std.proofs.Common.{◌≡◌, ℕ, zero, suc, ◌+◌, ◌*◌, ◌/◌, ◌%◌, ◌<◌, List, [], ◌∷◌, ◌++◌, length, take, drop, refl, sym, ap, ◌∙◌, subst, arith}
 use Rattle.std.proofs.lemmas.List.{length-take, length-drop, length-append}
-use Rattle.header_sums.specs.Octets.{octet, part}
+use Rattle.header_octets.specs.Octets.{octet, part}
 use Rattle.outer_head.specs.Template.{Fixed, blank4, fixed4, blank6, fixed6}
 
 -- the octets of a text one by one

@@ -1,8 +1,8 @@
 -- An outer packet as it is sent: Ethernet; IPv4 (RFC 791, 3.1) or IPv6 (RFC 8200, 3); UDP (RFC 768); VXLAN (RFC 7348, 5) or
 -- Geneve (RFC 8926, 3.4); and the frame without a tag.
 use Rattle.std.specs.Prelude.{ℕ, ◌+◌, Bool, if◌then◌else◌, List, ◌∷◌, ◌++◌, length}
-use Rattle.header_sums.specs.Octets.{octets}
-use Rattle.header_sums.specs.Sum.{total, folded, check, sent}
+use Rattle.header_octets.specs.Octets.{octets}
+use Rattle.header_octets.specs.Sum.{total, folded, check, sent}
 use Rattle.frame_view.specs.Frame.{Frame, plain}
 use Rattle.ip_udp_view.specs.declared.addr.Addr.{Addr}
 use Rattle.ip_udp_view.specs.declared.addr.Addr.TheVariants.{V4, V6}

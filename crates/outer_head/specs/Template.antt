@@ -1,8 +1,8 @@
 -- What is fixed in the heads of one tunnel's packets: the head of a packet in which all that differs is 0.
 -- It states no standard.
 use Rattle.std.specs.Prelude.{ℕ, ◌+◌, List, [], ◌∷◌, ◌++◌, replicate}
-use Rattle.header_sums.specs.Octets.{octet, octets, field, part}
-use Rattle.header_sums.specs.Sum.{total}
+use Rattle.header_octets.specs.Octets.{octet, octets, field, part}
+use Rattle.header_octets.specs.Sum.{total}
 use Rattle.ip_udp_view.specs.Datagram.{ether_type}
 use Rattle.ip_udp_view.specs.Ip.{Ip4, Ip6}
 use Rattle.outer_head.specs.Packet.{ip4_header, ip6_sent}

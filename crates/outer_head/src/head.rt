@@ -1,14 +1,14 @@
 //! Heads, and the parts that both families share.
 ghost use Rattle.std.specs.Prelude.{◌≡◌, ◌≤◌, ◌+◌, ◌*◌, ◌^◌, length};
 ghost use Rattle.std.specs.Option.{option_map_or};
-ghost use Rattle.header_sums.specs.Sum.{total, sent_of, complement};
+ghost use Rattle.header_octets.specs.Sum.{total, sent_of, complement};
 ghost use Rattle.outer_head.specs.Packet.{tunnel_header};
 ghost use Rattle.outer_head.specs.Template.{blank_udp};
 
 use arrayvec::ArrayVec;
 use frame_view::BridgeFrame;
 use geneve_head::gn_head;
-use header_sums::{sent_sum, words};
+use header_octets::{sent_sum, words};
 use ip_udp_view::Tunnel;
 use vxlan_head::{Vni, vx_head};
 

@@ -1,13 +1,13 @@
 //! Heads over IPv4.
 ghost use Rattle.std.specs.Prelude.{◌≡◌, ◌≤◌, ◌+◌, ◌++◌, length, replicate, is_some, IfSome};
-ghost use Rattle.header_sums.specs.Octets.{octets, part};
-ghost use Rattle.header_sums.specs.Sum.{check};
+ghost use Rattle.header_octets.specs.Octets.{octets, part};
+ghost use Rattle.header_octets.specs.Sum.{check};
 ghost use Rattle.frame_view.specs.Frame.{plain};
 ghost use Rattle.outer_head.specs.Packet.{ip4_header, frame_sum, packet4};
 
 use crate::head::{BEFORE_BODY, Head, blank_udp, copy, udp_sum};
 use frame_view::{BridgeFrame, Mac};
-use header_sums::{fold, words};
+use header_octets::{fold, words};
 use ip_udp_view::{IP4_TYPE, UDP};
 use std::marker::Model;
 

@@ -1,12 +1,12 @@
 //! Heads over IPv6, whose own header has no checksum.
 ghost use Rattle.std.specs.Prelude.{◌≡◌, ◌≤◌, ◌+◌, ◌++◌, length, replicate, is_some, IfSome};
-ghost use Rattle.header_sums.specs.Octets.{octets, part};
+ghost use Rattle.header_octets.specs.Octets.{octets, part};
 ghost use Rattle.frame_view.specs.Frame.{plain};
 ghost use Rattle.outer_head.specs.Packet.{ip6_sent, frame_sum, packet6};
 
 use crate::head::{BEFORE_BODY, Head, blank_udp, copy, udp_sum};
 use frame_view::{BridgeFrame, Mac};
-use header_sums::words;
+use header_octets::words;
 use ip_udp_view::{IP6_TYPE, UDP};
 use std::marker::Model;
 

@@ -1,22 +1,24 @@
 -- Settings of version 1 mean the same in version 2.
 use Rattle.std.proofs.Common.{◌≡◌, ℕ, codes, pos, true, false, nat_lt, ◌+◌, List, [], ◌∷◌, ◌++◌, length, map, Option, Some, None, option_map, Ok, Err, refl, sym, ap, subst, ◌∙◌, inl, inr}
-use Rattle.std.specs.Prelude.{IfOk, IsOk, IsUtf8, Vec}
+use Rattle.std.specs.Prelude.{IfOk, IsOk, IsUtf8, Vec, is_some, option_and_then}
 use Rattle.std.specs.declared.alloc.Global.{Global}
 use Rattle.std.proofs.lemmas.Bool.{cases_Bool, false≢true}
 use Rattle.std.proofs.lemmas.List.{length-map}
 use Rattle.std.proofs.lemmas.Str.{is_utf8-from_IsUtf8}
 use Rattle.toml.specs.Data.{Data, string, integer, float, boolean, datetime, array, table, Items, no_items, item, Members, same_key, get_member}
 use Rattle.flood_lists.specs.declared.own.Own.{Own}
+use Rattle.underlay.specs.declared.limits.Limits.{Limits}
 use Rattle.underlay.specs.Settings.{own}
 use Rattle.config_text.specs.declared.fault.SettingsFault.TheVariants.{OverLimit}
 use Rattle.config_text.specs.Fault.{Meaning, ◌>>=◌, GivesAs, seen}
 use Rattle.config_text.specs.Column.{range}
-use Rattle.config_text.specs.Table.{Place, top, required_value, required, optional_value, all_known, only, table_value, subtable, list_of, items_value, limited, some_items, required_items, row_place, each, numbered}
+use Rattle.config_text.specs.Table.{Place, top, required_value, optional_value, all_known, table_value, subtable, list_of, items_value, limited, some_items, required_items, row_place, each, numbered}
 use Rattle.overlay_settings.specs.declared.segment.SegmentRule.{SegmentRule}
 use Rattle.overlay_settings.specs.Settings.{Settings}
 use Rattle.overlay_config.specs.declared.version.Version.{Version}
 use Rattle.overlay_config.specs.declared.version.Version.TheVariants.{One, Two, Three}
 use Rattle.overlay_config.specs.Port.{port_of}
+use Rattle.overlay_config.specs.Limits.{usual_limits, limits_of}
 use Rattle.overlay_config.specs.Underlay.{underlay_of}
 use Rattle.overlay_config.specs.Segment.{segment_of}
 use Rattle.overlay_config.specs.Settings.{top_keys, segments_of, version_of, given_pool_of, settings_of, settings_in}
@@ -25,7 +27,8 @@ use Rattle.toml.specs.Parse.{parse_document}
 use Rattle.overlay_config.specs.Migrate.{without, migrated_segment, migrated_item, migrated_items, migrated_list, migrated_segments, version_2, is_one, migrated}
 use Rattle.overlay_config.proofs.Rewrites.{get_without, get_here, get_other, get_gone, option_here, option_other}
 use Rattle.overlay_config.proofs.Readings.{bind_then, ok_is}
-use Rattle.overlay_config.proofs.SegmentKept.{gives, ok_not_err, place, required_from, known_with, known_option, known_fewer, only_known, known_only, segment_kept}
+use Rattle.overlay_config.proofs.SegmentKept.{gives, ok_not_err, place, required_from, known_with, known_option, known_fewer, segment_kept}
+use Rattle.overlay_config.proofs.Asked.{version_by, keys_of}
 
 -- ---- all segments
 
@@ -100,35 +103,34 @@ segment_there : (ms : Members) → get_member (codes "segment") (version_2 ms) �
 segment_there ms =
     get_other (codes "segment") (codes "version") (integer (pos 2)) (migrated_segments ms) refl ∙ option_here (codes "segment") (new_list ms) (less_segment ms) (get_gone (codes "segment") ms)
 
-segments_kept : (own : Own) (ports : ℕ) (ms : Members) (segments : List SegmentRule) → segments_of One own ports (top ms) ≡ Ok segments → segments_of Two own ports (top (version_2 ms)) ≡ Ok segments
+segments_kept : (limits : Limits) (own : Own) (ports : ℕ) (ms : Members) (segments : List SegmentRule) → segments_of One limits own ports (top ms) ≡ Ok segments → segments_of Two limits own ports (top (version_2 ms)) ≡ Ok segments
 unfolding segments_of
-segments_kept own ports ms segments e =
-    bind_then (required_items (top ms) (codes "segment") 256) _ segments e (λ tables tables-is e0.
+segments_kept limits own ports ms segments e =
+    bind_then (required_items (top ms) (codes "segment") limits.segments) _ segments e (λ tables tables-is e0.
     bind_then (each (segment_of One own ports) (codes "segment") [] tables) _ segments e0 (λ rows rows-is e1.
-    gives (required_items (top (version_2 ms)) (codes "segment") 256) _ (map migrated_item tables) segments
-    (ap (required_from (codes "segment") 256) (segment_there ms) ∙ list_kept (codes "segment") 256 (get_member (codes "segment") ms) tables tables-is)
+    gives (required_items (top (version_2 ms)) (codes "segment") limits.segments) _ (map migrated_item tables) segments
+    (ap (required_from (codes "segment") limits.segments) (segment_there ms) ∙ list_kept (codes "segment") limits.segments (get_member (codes "segment") ms) tables tables-is)
     (gives (each (segment_of Two own ports) (codes "segment") [] (map migrated_item tables)) _ rows segments (each_kept own ports (codes "segment") [] tables rows rows-is) e1)))
 
-top_known : (ms : Members) → all_known top_keys ms ≡ true → all_known top_keys (version_2 ms) ≡ true
+top_known : (ms : Members) → all_known (top_keys false) ms ≡ true → all_known (top_keys false) (version_2 ms) ≡ true
 top_known ms all =
-    known_with top_keys (codes "version") (integer (pos 2)) (migrated_segments ms) refl
-    (known_option top_keys (codes "segment") (new_list ms) (less_segment ms) refl (known_fewer top_keys (codes "segment") ms all))
+    known_with (top_keys false) (codes "version") (integer (pos 2)) (migrated_segments ms) refl
+    (known_option (top_keys false) (codes "segment") (new_list ms) (less_segment ms) refl (known_fewer (top_keys false) (codes "segment") ms all))
 
 version_two : (ms : Members) → version_of (top ms) ≡ Ok One → version_of (top (version_2 ms)) ≡ Ok Two
-unfolding version_of
 version_two ms e =
-    let at : Place = top (version_2 ms) in
-    bind_then (only (top ms) top_keys) _ One e (λ known known-is e0.
-    gives (only at top_keys) _ known Two (known_only at top_keys known (top_known ms (only_known (top ms) top_keys known known-is)))
-    (gives (required at (codes "version") (range 1 3)) _ 2 Two (ap (required_value (codes "version") (range 1 3)) (get_here (codes "version") (integer (pos 2)) (migrated_segments ms))) refl))
+    let here = get_here (codes "version") (integer (pos 2)) (migrated_segments ms) in
+    version_by (top (version_2 ms)) false 2 (ap (λ o. is_some (option_and_then (range 3 3) o)) here)
+    (top_known ms (keys_of (top ms) One e))
+    (ap (required_value (codes "version") (range 1 3)) here)
 
 abbrev subtable_from : List ℕ → Option Data → Meaning Place
 subtable_from p o = table_value p o >>= λ members. Ok (record { prefix = p ++ codes "."; members = members })
 
 -- the underlay of version 2 means what it means in version 1
-underlay_kept : (below : Place) → underlay_of Two below ≡ underlay_of One below
+underlay_kept : (limits : Limits) (below : Place) → underlay_of Two limits below ≡ underlay_of One limits below
 unfolding underlay_of
-underlay_kept below = refl
+underlay_kept limits below = refl
 
 version_2_means : (ms : Members) (s : Settings) → version_of (top ms) ≡ Ok One → settings_of ms ≡ Ok s → settings_of (version_2 ms) ≡ Ok s
 unfolding settings_of
@@ -136,22 +138,26 @@ version_2_means ms s one e =
     let new : Place = top (version_2 ms) in
     bind_then (version_of (top ms)) _ s e (λ version version-is e0.
     bind_then (given_pool_of (top ms)) _ s e0 (λ given given-is e1.
-    bind_then (subtable (top ms) (codes "underlay")) _ s e1 (λ below below-is e2.
-    bind_then (underlay_of version below) _ s e2 (λ underlay underlay-is e3.
+    bind_then (limits_of version (top ms)) _ s e1 (λ limits limits-is el.
+    bind_then (subtable (top ms) (codes "underlay")) _ s el (λ below below-is e2.
+    bind_then (underlay_of version limits below) _ s e2 (λ underlay underlay-is e3.
     bind_then (required_items (top ms) (codes "port") 16) _ s e3 (λ tables tables-is e4.
     bind_then (each (λ earlier at. port_of at) (codes "port") [] tables) _ s e4 (λ ports ports-is e5.
-    bind_then (segments_of version (own underlay) (length ports) (top ms)) _ s e5 (λ segments segments-is e6.
-    let segments-one : segments_of One (own underlay) (length ports) (top ms) ≡ Ok segments =
-    subst (λ v. segments_of v (own underlay) (length ports) (top ms) ≡ Ok segments) (ok_is version One (sym version-is ∙ one)) segments-is in
-    let underlay-one : underlay_of One below ≡ Ok underlay =
-    subst (λ v. underlay_of v below ≡ Ok underlay) (ok_is version One (sym version-is ∙ one)) underlay-is in
+    bind_then (segments_of version limits (own underlay) (length ports) (top ms)) _ s e5 (λ segments segments-is e6.
+    let is : version ≡ One = ok_is version One (sym version-is ∙ one) in
+    let usual : limits ≡ usual_limits = ok_is limits usual_limits (sym (subst (λ v. limits_of v (top ms) ≡ Ok limits) is limits-is)) in
+    let segments-one : segments_of One usual_limits (own underlay) (length ports) (top ms) ≡ Ok segments =
+    subst (λ l. segments_of One l (own underlay) (length ports) (top ms) ≡ Ok segments) usual
+    (subst (λ v. segments_of v limits (own underlay) (length ports) (top ms) ≡ Ok segments) is segments-is) in
+    let underlay-one : underlay_of One usual_limits below ≡ Ok underlay =
+    subst (λ l. underlay_of One l below ≡ Ok underlay) usual (subst (λ v. underlay_of v limits below ≡ Ok underlay) is underlay-is) in
     gives (version_of new) _ Two s (version_two ms one)
     (gives (given_pool_of new) _ given s (ap (optional_value (codes "pool") (range 1 65536)) (top_key (codes "pool") ms refl refl) ∙ given-is)
     (gives (subtable new (codes "underlay")) _ below s (ap (subtable_from (codes "underlay")) (top_key (codes "underlay") ms refl refl) ∙ below-is)
-    (gives (underlay_of Two below) _ underlay s (underlay_kept below ∙ underlay-one)
+    (gives (underlay_of Two usual_limits below) _ underlay s (underlay_kept usual_limits below ∙ underlay-one)
     (gives (required_items new (codes "port") 16) _ tables s (ap (required_from (codes "port") 16) (top_key (codes "port") ms refl refl) ∙ tables-is)
     (gives (each (λ earlier at. port_of at) (codes "port") [] tables) _ ports s ports-is
-    (gives (segments_of Two (own underlay) (length ports) new) _ segments s (segments_kept (own underlay) (length ports) ms segments segments-one) e6)))))))))))))
+    (gives (segments_of Two usual_limits (own underlay) (length ports) new) _ segments s (segments_kept usual_limits (own underlay) (length ports) ms segments segments-one) e6))))))))))))))
 
 is_one_ok : (v : Meaning Version) → is_one v ≡ true → v ≡ Ok One
 is_one_ok (Ok One) e = refl

@@ -7,4 +7,5 @@ pub mod Meets
 mod Rising
 mod Rewrites
 mod SegmentKept
+mod Asked
 mod Keeps

@@ -16,6 +16,7 @@ use Rattle.vlan_ports.specs.declared.port.Accept.TheVariants.{All}
 use Rattle.vlan_ports.specs.declared.port.PortRule.{PortRule}
 use Rattle.underlay.specs.declared.segment.PeerRule.TheVariants.{Any}
 use Rattle.underlay.specs.declared.segment.TagRule.TheVariants.{Drop}
+use Rattle.underlay.specs.declared.limits.Limits.{Limits}
 use Rattle.underlay.specs.declared.settings.Underlay.{Underlay}
 use Rattle.underlay.specs.Settings.{own}
 use Rattle.config_text.specs.declared.fault.SettingsFault.TheVariants.{Missing, BadValue, TwoSegments, OverLimit}
@@ -40,6 +41,7 @@ use Rattle.overlay_config.specs.Segment.{tables_of, rules_of, segment_of, segmen
 use Rattle.overlay_settings.specs.Settings.{Settings, sum_of_limits}
 use Rattle.overlay_config.specs.Settings.{version_of, given_pool_of, pool_for, segments_of, settings_of, settings_in}
 use Rattle.overlay_config.specs.Document.{document}
+use Rattle.overlay_config.specs.Limits.{usual_limits, limit_keys, limits_in, limits_of}
 use Rattle.overlay_settings.specs.Rules.{IsWithin, EachBehind, IsKnown, IsEndpoint, IsIndividual, IsHop, AreHops, IsUnderlay, IsPort, IsMember, IsSegment, MeetsRules}
 use Rattle.overlay_config.proofs.Hops.{all_size, none_size, hops_are}
 use Rattle.overlay_config.proofs.Readings.{bind_then, ok_is, fits_ok, refuse_ok, range_meets, required_meets, optional_meets, required_range, defaulted_range, limited_items_ok, required_items_ok, Longer, from_none, each_meets, gathered_meets, listed_meets, some_is, unless_ok, when_ok}
@@ -191,9 +193,27 @@ default_mtu = (lit≤ tt, lit≤ tt)
 default_ttl : IsWithin 1 255 64
 default_ttl = (lit≤ tt, lit≤ tt)
 
-underlay_meets : (version : Version) (at : Place) (u : Underlay) → underlay_of version at ≡ Ok u → IsUnderlay u
+usual_segments : IsWithin 1 4094 256
+usual_segments = (lit≤ tt, lit≤ tt)
+
+abbrev AreLimits : Limits → Type 0
+AreLimits l = IsWithin 1 4094 l.segments
+
+limits_in_meet : (at : Place) (l : Limits) → limits_in at ≡ Ok l → AreLimits l
+unfolding limits_in
+limits_in_meet at l e =
+    bind_then (only at limit_keys) _ l e (λ known known-is e0.
+    bind_then (defaulted at (codes "segments") (range 1 4094) 256) _ l e0 (λ segments segments-is e1.
+    subst AreLimits (ok_is _ l e1) (defaulted_range at (codes "segments") 1 4094 256 segments usual_segments segments-is)))
+
+limits_meet : (version : Version) (at : Place) (l : Limits) → limits_of version at ≡ Ok l → AreLimits l
+limits_meet One at l e = subst AreLimits (ok_is usual_limits l e) usual_segments
+limits_meet Two at l e = subst AreLimits (ok_is usual_limits l e) usual_segments
+limits_meet Three at l e = bind_then (subtable at (codes "limits")) limits_in l e (λ table table-is e0. limits_in_meet table l e0)
+
+underlay_meets : (version : Version) (limits : Limits) (at : Place) (u : Underlay) → AreLimits limits → underlay_of version limits at ≡ Ok u → IsUnderlay u × (limits ≡ u.limits)
 unfolding underlay_of
-underlay_meets version at u e =
+underlay_meets version limits at u are e =
     bind_then (only at (underlay_keys version)) _ u e (λ keys keys-is e0.
     bind_then (required at (codes "mac") individual_mac) _ u e0 (λ mac mac-is e1.
     bind_then (required at (codes "next_hop") individual_mac) _ u e1 (λ next next-is e2.
@@ -211,22 +231,26 @@ underlay_meets version at u e =
     let p = tunnel_ports_meet at ports ports-is in
     let k = listed_meets IsKnown put_known known_meets at (codes "known") 16 known known-is in
     let h = hops_meet at hops hops-is in
-    subst IsUnderlay (ok_is _ u e12) (record {
-      mac = required_meets IsIndividual individual_mac mac_meets at (codes "mac") mac mac-is;
-      next_hop = required_meets IsIndividual individual_mac mac_meets at (codes "next_hop") next next-is;
-      ip4 = o.0;
-      ip6 = o.1;
-      family = o.2;
-      mtu = defaulted_range at (codes "mtu") 1280 65535 1550 mtu default_mtu mtu-is;
-      ttl = defaulted_range at (codes "ttl") 1 255 64 ttl default_ttl ttl-is;
-      vxlan_port = p.0;
-      geneve_port = p.1;
-      ports_apart = p.2;
-      known_count = k.0;
-      known = k.1;
-      hop_count = h.0;
-      hops = h.1;
-    }))))))))))))))
+    subst (λ (x : Underlay). IsUnderlay x × (limits ≡ x.limits)) (ok_is _ u e12) (
+      record {
+        mac = required_meets IsIndividual individual_mac mac_meets at (codes "mac") mac mac-is;
+        next_hop = required_meets IsIndividual individual_mac mac_meets at (codes "next_hop") next next-is;
+        ip4 = o.0;
+        ip6 = o.1;
+        family = o.2;
+        mtu = defaulted_range at (codes "mtu") 1280 65535 1550 mtu default_mtu mtu-is;
+        ttl = defaulted_range at (codes "ttl") 1 255 64 ttl default_ttl ttl-is;
+        vxlan_port = p.0;
+        geneve_port = p.1;
+        ports_apart = p.2;
+        known_count = k.0;
+        known = k.1;
+        hop_count = h.0;
+        hops = h.1;
+        limits = are;
+      },
+      refl,
+    ))))))))))))))
 
 -- ---- segments
 
@@ -332,17 +356,17 @@ segment_meets version own ports earlier at s e =
 
 -- ---- all
 
-segments_meet : (version : Version) (own : Own) (ports : ℕ) (at : Place) (segments : List SegmentRule) → segments_of version own ports at ≡ Ok segments
-    → IsWithin 1 256 (length segments) × EachBehind (IsSegment own ports) [] segments × (sum_of_limits segments ≤ 65536)
+segments_meet : (version : Version) (limits : Limits) (own : Own) (ports : ℕ) (at : Place) (segments : List SegmentRule) → segments_of version limits own ports at ≡ Ok segments
+    → IsWithin 1 limits.segments (length segments) × EachBehind (IsSegment own ports) [] segments × (sum_of_limits segments ≤ 65536)
 unfolding segments_of
-segments_meet version own ports at segments e =
-    bind_then (required_items at (codes "segment") 256) _ segments e (λ tables tables-is e0.
+segments_meet version limits own ports at segments e =
+    bind_then (required_items at (codes "segment") limits.segments) _ segments e (λ tables tables-is e0.
     bind_then (each (segment_of version own ports) (codes "segment") [] tables) _ segments e0 (λ all all-is e1.
     bind_then (refuse_if (nat_lt 65536 (sum_of_limits all)) (OverLimit (codes "limit"))) _ segments e1 (λ total total-is e2.
     let q = from_none (IsSegment own ports) (length tables) all (each_meets (IsSegment own ports) (segment_of version own ports) (codes "segment") (segment_meets version own ports) [] tables all all-is) in
-    let few = required_items_ok at (codes "segment") 256 tables tables-is in
-    subst (λ l. IsWithin 1 256 (length l) × EachBehind (IsSegment own ports) [] l × (sum_of_limits l ≤ 65536)) (ok_is all segments e2)
-    (subst (IsWithin 1 256) (sym q.1) few, q.0, ltb-false 65536 (sum_of_limits all) (refuse_ok _ _ total total-is)))))
+    let few = required_items_ok at (codes "segment") limits.segments tables tables-is in
+    subst (λ l. IsWithin 1 limits.segments (length l) × EachBehind (IsSegment own ports) [] l × (sum_of_limits l ≤ 65536)) (ok_is all segments e2)
+    (subst (IsWithin 1 limits.segments) (sym q.1) few, q.0, ltb-false 65536 (sum_of_limits all) (refuse_ok _ _ total total-is)))))
 
 -- segments of which there is one have limits that sum to 1 at least
 some_entries : (own : Own) (ports : ℕ) (segments : List SegmentRule) → 1 ≤ length segments → EachBehind (IsSegment own ports) [] segments → 1 ≤ sum_of_limits segments
@@ -367,25 +391,27 @@ unfolding settings_of
 settings_meet members s e =
     bind_then (version_of (top members)) _ s e (λ version version-is ev.
     bind_then (given_pool_of (top members)) _ s ev (λ given given-is e0.
-    bind_then (subtable (top members) (codes "underlay")) _ s e0 (λ below below-is e1.
-    bind_then (underlay_of version below) _ s e1 (λ underlay underlay-is e2.
+    bind_then (limits_of version (top members)) _ s e0 (λ limits limits-is el.
+    bind_then (subtable (top members) (codes "underlay")) _ s el (λ below below-is e1.
+    bind_then (underlay_of version limits below) _ s e1 (λ underlay underlay-is e2.
     bind_then (required_items (top members) (codes "port") 16) _ s e2 (λ tables tables-is e3.
     bind_then (each (λ earlier at. port_of at) (codes "port") [] tables) _ s e3 (λ ports ports-is e4.
-    bind_then (segments_of version (own underlay) (length ports) (top members)) _ s e4 (λ segments segments-is e5.
+    bind_then (segments_of version limits (own underlay) (length ports) (top members)) _ s e4 (λ segments segments-is e5.
     bind_then (pool_for given segments) _ s e5 (λ pool pool-is e6.
+    let u = underlay_meets version limits below underlay (limits_meet version (top members) limits limits-is) underlay-is in
     let p = from_none IsPort (length tables) ports (each_meets IsPort (λ earlier at. port_of at) (codes "port") port_meets [] tables ports ports-is) in
     let few = required_items_ok (top members) (codes "port") 16 tables tables-is in
-    let q = segments_meet version (own underlay) (length ports) (top members) segments segments-is in
+    let q = segments_meet version limits (own underlay) (length ports) (top members) segments segments-is in
     let l = pool_meets given segments pool pool-is (given_meets (top members) given given-is) (some_entries (own underlay) (length ports) segments q.0.0 q.1, q.2) in
     subst MeetsRules (ok_is _ s e6) (record {
-      underlay = underlay_meets version below underlay underlay-is;
+      underlay = u.0;
       port_count = subst (IsWithin 1 16) (sym p.1) few;
       ports = p.0;
-      segment_count = q.0;
+      segment_count = subst (λ (l : Limits). IsWithin 1 l.segments (length segments)) u.1 q.0;
       segments = q.1;
       pool = l.0;
       limits = l.1;
-    })))))))))
+    }))))))))))
 
 pub texts_meet : (text : List ℕ) (s : Settings) → settings_in text ≡ Ok s → MeetsRules s
 texts_meet text s e = bind_then (document text) settings_of s e (λ members members-is e0. settings_meet members s e0)

@@ -63,15 +63,15 @@ on_ok (Err e) p = tt
 
 -- ---- what a key holds
 
-is_equal : (o : Ordering) → is_eq o ≡ true → o ≡ Equal
+pub is_equal : (o : Ordering) → is_eq o ≡ true → o ≡ Equal
 is_equal Less e = absurd (false≢true e)
 is_equal Equal e = refl
 is_equal Greater e = absurd (false≢true e)
 
-same_is : (k l : List ℕ) → same_key k l ≡ true → k ≡ l
+pub same_is : (k l : List ℕ) → same_key k l ≡ true → k ≡ l
 same_is k l e = exact_bytes k l (is_equal _ e)
 
-pass : (o : Ordering) (r s : Option Data) → is_eq o ≡ false → match_ordering o r s r ≡ r
+pub pass : (o : Ordering) (r s : Option Data) → is_eq o ≡ false → match_ordering o r s r ≡ r
 pass Less r s h = refl
 pass Equal r s h = absurd (false≢true (sym h))
 pass Greater r s h = refl

@@ -84,10 +84,10 @@ listed_at p q o limit put empty all e =
 
 -- ---- the names of keys
 
-abbrev is_known : List (List ℕ) → List ℕ → Bool
+abbrev pub is_known : List (List ℕ) → List ℕ → Bool
 is_known keys k = list_any (pointwise nat_eq k) keys
 
-apart_back : (k l : List ℕ) → same_key k l ≡ false → pointwise nat_eq l k ≡ false
+pub apart_back : (k l : List ℕ) → same_key k l ≡ false → pointwise nat_eq l k ≡ false
 apart_back k l apart =
     elim (cases_Bool (pointwise nat_eq l k)) [
       | inl same ↦
@@ -96,7 +96,7 @@ apart_back k l apart =
       | inr other ↦ other
     ]
 
-any_but : (test : List ℕ → Bool) (xs : List (List ℕ)) (k : List ℕ) (ys : List (List ℕ)) → test k ≡ false → list_any test (xs ++ k ∷ ys) ≡ list_any test (xs ++ ys)
+pub any_but : (test : List ℕ → Bool) (xs : List (List ℕ)) (k : List ℕ) (ys : List (List ℕ)) → test k ≡ false → list_any test (xs ++ k ∷ ys) ≡ list_any test (xs ++ ys)
 any_but test [] k ys fails = rw fails
 any_but test (x ∷ xs) k ys fails = ap (λ b. test x || b) (any_but test xs k ys fails)
 

@@ -175,7 +175,7 @@ tunnels_meet own at x e =
 -- ---- the list of tables
 
 -- the number of a table has room behind the list's name
-pub item_fits : (at : Place) (name : List ℕ) (k : ℕ) → length at.prefix ≤ 12 → name ≡ path at (codes "tunnel") → k ≤ 9 → length name + length (decimal k) ≤ 19
+pub item_fits : (at : Place) (name : List ℕ) (k : ℕ) → length at.prefix ≤ 13 → name ≡ path at (codes "tunnel") → k ≤ 9 → length name + length (decimal k) ≤ 20
 item_fits at name k short is few =
     let digits : length (decimal k) ≤ 1 = length-decimal-le 1 k (lit≤ tt) (omega (arith, few)) (omega (arith, few)) in
     let six : length (codes "tunnel") ≡ 6 = refl in

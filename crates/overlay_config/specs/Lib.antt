@@ -2,6 +2,7 @@ pub mod Fault
 pub mod Document
 pub mod Underlay
 pub mod Version
+pub mod Limits
 pub mod Port
 pub mod Members
 pub mod Flood
@@ -10,5 +11,6 @@ pub mod LocalRules
 pub mod Tunnel
 pub mod Segment
 pub mod Settings
+pub mod Before
 pub mod Change
 pub mod Migrate

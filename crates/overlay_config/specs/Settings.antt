@@ -1,8 +1,9 @@
 -- What a settings text means. It states no standard.
 pub use Rattle.overlay_settings.specs.Settings.{Settings}
-use Rattle.std.specs.Prelude.{ℕ, nat_lt, List, [], ◌∷◌, length, Option, Some, None, Ok, codes}
-use Rattle.toml.specs.Data.{Members}
+use Rattle.std.specs.Prelude.{ℕ, nat_lt, List, [], ◌∷◌, ◌++◌, length, Bool, true, false, Option, Some, None, is_some, option_and_then, Ok, codes}
+use Rattle.toml.specs.Data.{Members, get_member}
 use Rattle.flood_lists.specs.declared.own.Own.{Own}
+use Rattle.underlay.specs.declared.limits.Limits.{Limits}
 use Rattle.underlay.specs.Settings.{own}
 use Rattle.config_text.specs.declared.fault.SettingsFault.TheVariants.{OverLimit}
 use Rattle.config_text.specs.Fault.{Meaning, ◌>>=◌}
@@ -11,19 +12,29 @@ use Rattle.config_text.specs.Table.{Place, top, only, required, optional, subtab
 use Rattle.overlay_settings.specs.declared.segment.SegmentRule.{SegmentRule}
 use Rattle.overlay_settings.specs.Settings.{sum_of_limits}
 use Rattle.overlay_config.specs.Document.{document}
+use Rattle.overlay_config.specs.Limits.{limits_of}
 use Rattle.overlay_config.specs.Underlay.{underlay_of}
 use Rattle.overlay_config.specs.Port.{port_of}
 use Rattle.overlay_config.specs.Segment.{segment_of}
 use Rattle.overlay_config.specs.Version.{Version, version_named}
 
--- the keys at the top
-abbrev pub top_keys : List (List ℕ)
-top_keys = codes "version" ∷ codes "pool" ∷ codes "underlay" ∷ codes "port" ∷ codes "segment" ∷ []
+-- the value of `version` is the number 3, whatever other keys there are
+abbrev pub is_third : Place → Bool
+is_third at = is_some (option_and_then (range 3 3) (get_member (codes "version") at.members))
 
--- beside the endpoint's own addresses and the number of its ports
-unfoldable pub segments_of : Version → Own → ℕ → Place → Meaning (List SegmentRule)
-segments_of version own ports at = do
-  tables ← required_items at (codes "segment") 256
+-- the key at the top that version 3 adds
+abbrev pub key_added : Bool → List (List ℕ)
+key_added false = []
+key_added true = codes "limits" ∷ []
+
+-- the keys at the top, of version 3 or of another one
+abbrev pub top_keys : Bool → List (List ℕ)
+top_keys third = codes "version" ∷ codes "pool" ∷ key_added third ++ codes "underlay" ∷ codes "port" ∷ codes "segment" ∷ []
+
+-- beside the limits, the endpoint's own addresses and the number of its ports
+unfoldable pub segments_of : Version → Limits → Own → ℕ → Place → Meaning (List SegmentRule)
+segments_of version limits own ports at = do
+  tables ← required_items at (codes "segment") limits.segments
   segments ← each (segment_of version own ports) (codes "segment") [] tables
   total ← refuse_if (nat_lt 65536 (sum_of_limits segments)) (OverLimit (codes "limit"))
   Ok segments
@@ -36,7 +47,7 @@ pool_for (Some pool) segments = refuse_if (nat_lt pool (sum_of_limits segments))
 -- the version, asked behind the names of the keys alone
 unfoldable pub version_of : Place → Meaning Version
 version_of at = do
-  known ← only at top_keys
+  known ← only at (top_keys (is_third at))
   number ← required at (codes "version") (range 1 3)
   Ok (version_named number)
 
@@ -49,11 +60,12 @@ unfoldable pub settings_of : Members → Meaning Settings
 settings_of members = do
   version ← version_of (top members)
   given ← given_pool_of (top members)
+  limits ← limits_of version (top members)
   below ← subtable (top members) (codes "underlay")
-  underlay ← underlay_of version below
+  underlay ← underlay_of version limits below
   tables ← required_items (top members) (codes "port") 16
   ports ← each (λ earlier at. port_of at) (codes "port") [] tables
-  segments ← segments_of version (own underlay) (length ports) (top members)
+  segments ← segments_of version limits (own underlay) (length ports) (top members)
   pool ← pool_for given segments
   Ok (record { underlay = underlay; ports = ports; segments = segments; pool = pool })
 

@@ -6,6 +6,7 @@ use Rattle.toml.specs.Data.{Data, Items, no_items, item, as_array}
 use Rattle.ip_udp_view.specs.declared.addr.Addr.{Addr}
 use Rattle.ip_udp_view.specs.Addr.{address, same_addr}
 use Rattle.geneve_head.specs.Options.{holds}
+use Rattle.underlay.specs.declared.limits.Limits.{Limits}
 use Rattle.underlay.specs.declared.settings.Underlay.{Underlay}
 use Rattle.config_text.specs.declared.fault.SettingsFault.TheVariants.{Missing, BadValue}
 use Rattle.config_text.specs.Fault.{Meaning, ◌>>=◌}
@@ -96,9 +97,9 @@ hops_of at = do
   hops ← each hop_of (codes "underlay.hop") [] tables
   Ok (exceptions empty hops)
 
--- what the table of the underlay means, in settings of a version
-unfoldable pub underlay_of : Version → Place → Meaning Underlay
-underlay_of version at = do
+-- what the table of the underlay means, in settings of a version, beside the limits in force
+unfoldable pub underlay_of : Version → Limits → Place → Meaning Underlay
+underlay_of version limits at = do
   known_keys ← only at (underlay_keys version)
   mac ← required at (codes "mac") individual_mac
   next_hop ← required at (codes "next_hop") individual_mac
@@ -112,4 +113,4 @@ underlay_of version at = do
   partial ← partial_of version at
   known ← listed at (codes "known") 16 put_known []
   hops ← hops_of at
-  Ok (record { mac = mac; next_hop = next_hop; ip4 = own.0; ip6 = own.1; mtu = mtu; ttl = ttl; vxlan_port = ports.0; geneve_port = ports.1; sum4 = sum4; sum6 = sum6; zero6 = zero6; partial = partial; known = known; hops = hops })
+  Ok (record { mac = mac; next_hop = next_hop; ip4 = own.0; ip6 = own.1; mtu = mtu; ttl = ttl; vxlan_port = ports.0; geneve_port = ports.1; sum4 = sum4; sum6 = sum6; zero6 = zero6; partial = partial; known = known; hops = hops; limits = limits })

@@ -1,14 +1,29 @@
 //! The laws of the settings' definitions, as contracts of functions that do nothing.
-ghost use Rattle.std.specs.Prelude.{◌≡◌, ℕ, List, Ok};
+ghost use Rattle.std.specs.Prelude.{◌≡◌, ℕ, pos, IsFalse, List, None, Ok, codes};
 ghost use Rattle.overlay_settings.specs.Rules.{MeetsRules};
 ghost use Rattle.overlay_settings.specs.Settings.{Settings};
-ghost use Rattle.toml.specs.Data.{Members};
-ghost use Rattle.overlay_config.specs.Migrate.{migrated};
-ghost use Rattle.overlay_config.specs.Settings.{settings_in, settings_of};
+ghost use Rattle.toml.specs.Data.{Members, get_member, integer};
+ghost use Rattle.config_text.specs.Table.{top};
+ghost use Rattle.overlay_config.specs.Before as before;
+ghost use Rattle.overlay_config.specs.declared.version.Version.TheVariants.{Two};
+ghost use Rattle.overlay_config.specs.Migrate.{migrated, with_value};
+ghost use Rattle.overlay_config.specs.Settings.{is_third, settings_in, settings_of, version_of};
 
 /// The settings that a text means keep to every rule.
 pub fn meanings()
     ensures { (text : List ℕ) (s : Settings) → settings_in text ≡ Ok s → MeetsRules s }
+{}
+
+/// Settings that aren't of version 3 mean what they meant before limits could be asked for, each fault included, and so do
+/// those without a table `limits`.
+pub fn before_limits()
+    ensures others { (members : Members) → IsFalse (is_third (top members)) → settings_of members ≡ before.settings_of members }
+    ensures unasked { (members : Members) → get_member (codes "limits") members ≡ None → settings_of members ≡ before.settings_of members }
+{}
+
+/// Settings of version 2 mean the same with 3 in place of their version.
+pub fn third_versions()
+    ensures { (members : Members) (s : Settings) → version_of (top members) ≡ Ok Two → settings_of members ≡ Ok s → settings_of (with_value (codes "version") (integer (pos 3)) members) ≡ Ok s }
 {}
 
 /// Migrated settings mean the same, and are migrated to themselves.

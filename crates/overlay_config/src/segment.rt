@@ -36,7 +36,7 @@ fn read_rules(
     at: &Reader,
 ) -> Result<(TunnelRules, LocalRules), SettingsFault>
     requires few { ports ≤ 16 }
-    requires short { length (place_of at.now).prefix ≤ 12 }
+    requires short { length (place_of at.now).prefix ≤ 13 }
     ensures { result ≡ rules_of version own ports (place_of at.now) }
 {
     match version {
@@ -68,8 +68,8 @@ impl Row for SegmentRow {
 
     ghost means = { λ r. segment_of r.version r.own r.ports };
 
-    // `segment.256.`, so that there is room for the tables of its tunnels.
-    ghost longest = { λ _. 12 };
+    // `segment.4094.`, so that there is room for the tables of its tunnels.
+    ghost longest = { λ _. 13 };
 
     #[tactic(auto, unfolding(crate::specs::Segment::segment_of))]
     fn read(&self, earlier: &[SegmentRule], at: &Reader) -> Result<SegmentRule, SettingsFault> {

@@ -7,9 +7,10 @@ ghost use Rattle.toml.specs.View.{table_view};
 ghost use Rattle.overlay_config.specs.Fault.{Gives, GivesAs};
 ghost use Rattle.config_text.specs.Reader.{place_of};
 ghost use Rattle.overlay_settings.specs.Settings.{sum_of_limits};
-ghost use Rattle.overlay_config.specs.Settings.{given_pool_of, pool_for, segments_of, settings_in, settings_of, version_of};
+ghost use Rattle.overlay_config.specs.Settings.{given_pool_of, is_third, top_keys, pool_for, segments_of, settings_in, settings_of, version_of};
 
 use crate::document::read_document;
+use crate::limits::read_limits;
 use crate::port::PortRow;
 use crate::segment::SegmentRow;
 use crate::underlay_table::read_underlay;
@@ -19,8 +20,15 @@ use flood_lists::Own;
 use overlay_settings::{Parts, SegmentRule, Settings};
 use std::alloc::Global;
 use toml::Table;
+use underlay::Limits;
 
 const KEYS: [&str; 5] = ["version", "pool", "underlay", "port", "segment"];
+
+/// The keys of version 3.
+const KEYS_THREE: [&str; 6] = ["version", "pool", "limits", "underlay", "port", "segment"];
+
+/// The number of version 3.
+const THIRD: U8Range = U8Range { low: 3, high: 3 };
 
 /// The most entries that all tables together may have.
 const LARGEST_POOL: u32 = 65536;
@@ -32,7 +40,7 @@ const POOL: U32Range = U32Range {
 
 /// The sum of the segments' limits.
 fn sum_of_limits(segments: &[SegmentRule]) -> u32
-    requires { length segments.now ≤ 256 }
+    requires { length segments.now ≤ 4094 }
     ensures { result ≡ sum_of_limits segments.now }
 {
     let mut total: u32 = 0;
@@ -42,25 +50,27 @@ fn sum_of_limits(segments: &[SegmentRule]) -> u32
     total
 }
 
-/// The segments, beside the endpoint's own addresses and the number of its ports, which is 16 at most.
+/// The segments, beside the limits in force, the endpoint's own addresses and the number of its ports, which is 16 at most.
 #[tactic(auto, unfolding(crate::specs::Settings::segments_of))]
 fn read_segments(
     alloc: Global,
     version: Version,
+    limits: Limits,
     own: Own,
     ports: u8,
     top: &Reader,
 ) -> Result<Vec<SegmentRule>, SettingsFault>
-    requires { ports ≤ 16 }
-    ensures value { GivesAs (λ v. v.items) result (segments_of version own ports (place_of top.now)) }
-    ensures few { IfOk result (λ v. length v.items ≤ 256) }
+    requires few { ports ≤ 16 }
+    requires limits { limits.segments ≤ 4094 }
+    ensures value { GivesAs (λ v. v.items) result (segments_of version limits own ports (place_of top.now)) }
+    ensures few { IfOk result (λ v. length v.items ≤ 4094) }
 {
     let row = SegmentRow {
         version,
         own,
         ports,
     };
-    let tables = top.required_items("segment", 256)?;
+    let tables = top.required_items("segment", usize::from(limits.segments))?;
     let segments = read_rows(alloc, &row, "segment", tables)?;
     if sum_of_limits(segments.as_slice()) > LARGEST_POOL {
         return Err(SettingsFault::OverLimit(Key::of("", "limit")));
@@ -71,7 +81,7 @@ fn read_segments(
 /// The pool for these segments: the one that is given, or else the sum of their limits. `OverLimit`: they sum to more than
 /// is given.
 fn pool_for(given: Option<u32>, segments: &[SegmentRule]) -> Result<u32, SettingsFault>
-    requires { length segments.now ≤ 256 }
+    requires { length segments.now ≤ 4094 }
     ensures { result ≡ pool_for given segments.now }
 {
     let sum = sum_of_limits(segments);
@@ -82,12 +92,26 @@ fn pool_for(given: Option<u32>, segments: &[SegmentRule]) -> Result<u32, Setting
     }
 }
 
-/// The version, asked behind the names of the keys alone.
+/// Whether the value of `version` is 3, whatever other keys there are.
+fn is_third(top: &Reader) -> bool
+    ensures { result ≡ is_third (place_of top.now) }
+{
+    matches!(top.optional("version", &THIRD), Ok(Some(_)))
+}
+
+/// The keys at the top, of version 3 or of another one.
+fn top_keys(third: bool) -> &'static [&'static str]
+    ensures { map (λ k. k.now) result.now ≡ top_keys third }
+{
+    if third { &KEYS_THREE } else { &KEYS }
+}
+
+/// The version, asked behind the names of the keys alone, which say `limits` only where it is the third.
 #[tactic(auto, unfolding(crate::specs::Settings::version_of))]
 pub(crate) fn read_version(top: &Reader) -> Result<Version, SettingsFault>
     ensures { result ≡ version_of (place_of top.now) }
 {
-    top.only(&KEYS)?;
+    top.only(top_keys(is_third(top)))?;
     let number = top.required("version", &U8Range { low: 1, high: 3 })?;
     Ok(Version::named(number))
 }
@@ -107,10 +131,12 @@ fn read_parts(alloc: Global, table: &Table) -> Result<Parts, SettingsFault>
     let top = Reader::top(table);
     let version = read_version(&top)?;
     let given = read_given_pool(&top)?;
-    let underlay = read_underlay(alloc, version, &top.subtable("underlay")?)?;
+    let limits = read_limits(version, &top)?;
+    let underlay = read_underlay(alloc, version, limits, &top.subtable("underlay")?)?;
     let tables = top.required_items("port", 16)?;
     let ports = read_rows(alloc, &PortRow, "port", tables)?;
-    let segments = read_segments(alloc, version, underlay.own(), ports.len() as u8, &top)?;
+    let own = underlay.own();
+    let segments = read_segments(alloc, version, limits, own, ports.len() as u8, &top)?;
     let pool = pool_for(given, segments.as_slice())?;
     Ok(Parts {
         underlay,

@@ -185,7 +185,7 @@ fn read_table(
     Ok(TunnelTable { tunnel, flood })
 }
 
-/// The table of this number in a list of tunnels, behind the one before it. The list's name and the number have 19 octets
+/// The table of this number in a list of tunnels, behind the one before it. The list's name and the number have 20 octets
 /// at most.
 fn read_item(
     list: &str,
@@ -194,7 +194,7 @@ fn read_item(
     own: Own,
     earlier: Option<TunnelTable>,
 ) -> Result<TunnelTable, SettingsFault>
-    requires { length list.now + length (decimal number) ≤ 19 }
+    requires { length list.now + length (decimal number) ≤ 20 }
     ensures value { result ≡ tunnel_item_of own (option_to_list earlier) list.now number (view value.now) }
     ensures apart { IfOk result (λ t. IfSome earlier (λ e. t.tunnel.kind ≢ e.tunnel.kind)) }
 {
@@ -205,7 +205,7 @@ fn read_item(
 /// The tunnels of a segment in version 2, and its flood list.
 #[tactic(auto, unfolding(crate::specs::Tunnel::tunnels_of))]
 pub(crate) fn read_tunnels(at: &Reader, own: Own) -> Result<TunnelRules, SettingsFault>
-    requires { length (place_of at.now).prefix ≤ 12 }
+    requires { length (place_of at.now).prefix ≤ 13 }
     ensures { result ≡ tunnels_of own (place_of at.now) }
 {
     let list = at.path("tunnel");

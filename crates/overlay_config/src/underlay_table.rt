@@ -17,7 +17,7 @@ use frame_view::Mac;
 use geneve_head::Known;
 use ip_udp_view::Addr;
 use std::alloc::Global;
-use underlay::{Hops, Underlay};
+use underlay::{Hops, Limits, Underlay};
 
 const HOP_KEYS: [&str; 2] = ["addr", "mac"];
 
@@ -26,14 +26,15 @@ const PORT: U16Range = U16Range {
     high: 65535,
 };
 
-/// Reads the underlay's table, in settings of a version.
+/// Reads the underlay's table, in settings of a version, beside the limits in force.
 #[tactic(auto, unfolding(crate::specs::Underlay::underlay_of))]
 pub(crate) fn read_underlay(
     alloc: Global,
     version: Version,
+    limits: Limits,
     at: &Reader,
 ) -> Result<Underlay, SettingsFault>
-    ensures { Gives result (underlay_of version (place_of at.now)) }
+    ensures { Gives result (underlay_of version limits (place_of at.now)) }
 {
     at.only(version.underlay_keys())?;
     let mac = at.required("mac", &IndividualMac)?;
@@ -70,6 +71,7 @@ pub(crate) fn read_underlay(
         partial,
         known,
         hops,
+        limits,
     })
 }
 

@@ -4,13 +4,13 @@ ghost use Rattle.overlay_config.specs.Segment.{segment_keys};
 ghost use Rattle.overlay_config.specs.Underlay.{underlay_keys};
 ghost use Rattle.overlay_config.specs.Version.{version_named};
 
-/// The versions of settings, which differ in what a segment says of its tunnels, and in the keys of the underlay.
+/// The versions of settings, which differ in what a segment says of its tunnels, and in keys at the top and of the underlay.
 #[derive(Clone, Copy)]
 pub(crate) enum Version {
     One,
     /// A segment has one tunnel or two, each in a table of its own.
     Two,
-    /// As the second, and the underlay says whether checksums left to the card are taken.
+    /// As the second, and there may be limits of its own, and the underlay says whether checksums left to the card are taken.
     Three,
 }
 

@@ -69,6 +69,8 @@ pub record IsUnderlay (u : Underlay) : Type 0 where
   pub known : EachBehind IsKnown [] u.known
   pub hop_count : len u.hops ≤ 64
   pub hops : AreHops u.hops
+  -- the most segments: all VIDs (IEEE 802.1Q, 9.6)
+  pub limits : IsWithin 1 4094 u.limits.segments
 
 -- ---- ports and segments
 
@@ -112,7 +114,7 @@ pub record MeetsRules (s : Settings) : Type 0 where
   pub underlay : IsUnderlay s.underlay
   pub port_count : IsWithin 1 16 (length s.ports)
   pub ports : EachBehind IsPort [] s.ports
-  pub segment_count : IsWithin 1 256 (length s.segments)
+  pub segment_count : IsWithin 1 s.underlay.limits.segments (length s.segments)
   pub segments : EachBehind (IsSegment (own s.underlay) (length s.ports)) [] s.segments
   pub pool : IsWithin 1 65536 s.pool
   pub limits : sum_of_limits s.segments ≤ s.pool

@@ -2,7 +2,7 @@
 use Rattle.std.proofs.Common.{◌≡◌, ℕ, zero, suc, ◌≤◌, ◌||◌, leb, eqb, Bool, true, false, not, cond, List, length, drop, Option, Some, None, refl, sym, ap, ◌∙◌, arith, inl, inr}
 use Rattle.std.proofs.lemmas.Bool.{or_cases, not-false}
 use Rattle.std.proofs.lemmas.List.{length-append}
-use Rattle.header_sums.proofs.OctetsLemmas.{begins-true}
+use Rattle.header_octets.proofs.OctetsLemmas.{begins-true}
 use Rattle.frame_view.proofs.FirstLemmas.{NothingHolds-from}
 use Rattle.frame_view.specs.declared.reason.Reason.{Reason}
 use Rattle.frame_view.specs.declared.reason.Reason.TheVariants.{Runt, NotIp, BadIpSum, Fragment, BadUdp, NotTunnel, ZeroSum, CriticalOption}

@@ -1,7 +1,7 @@
 -- What the layers of a packet are together, and what they have to do with what an endpoint answers.
 -- It states no standard.
 use Rattle.std.specs.Prelude.{◌≡◌, ℕ, ◌||◌, Bool, true, false, IsTrue, List, length, All, Option, Err}
-use Rattle.header_sums.specs.Octets.{part}
+use Rattle.header_octets.specs.Octets.{part}
 use Rattle.frame_view.specs.declared.reason.Reason.{Reason}
 use Rattle.frame_view.specs.declared.reason.Reason.TheVariants.{Runt, NotIp, BadIpSum, Fragment, CriticalOption}
 use Rattle.packet_layers.specs.Apart.{Span, Head, Apart}

@@ -4,4 +4,4 @@ pub mod Laws
 pub mod Code
 -- the words of the crates below that the clauses here cite
 pub use Rattle.frame_view.specs.First
-pub use Rattle.header_sums.specs.Octets
+pub use Rattle.header_octets.specs.Octets

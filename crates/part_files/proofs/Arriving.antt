@@ -3,8 +3,8 @@ use Rattle.std.proofs.Common.{◌≡◌, ◌≢◌, refl, sym, ap, subst, ℕ, �
 use Rattle.std.specs.List.{concat}
 use Rattle.std.proofs.lemmas.Bool.{ltb-false}
 use Rattle.std.proofs.lemmas.List.{length-drop, length-take}
-use Rattle.header_sums.specs.Octets.{IsText, octets}
-use Rattle.header_sums.proofs.OctetsLemmas.{IsText-drop, IsText-take}
+use Rattle.header_octets.specs.Octets.{IsText, octets}
+use Rattle.header_octets.proofs.OctetsLemmas.{IsText-drop, IsText-take}
 use Rattle.frame_view.specs.First.{first}
 use Rattle.frame_view.specs.Frame.{Frame, IsFrame, plain}
 use Rattle.frame_view.specs.declared.reason.Refused.{Refused}

@@ -14,8 +14,8 @@ use Rattle.config_text.proofs.Addresses.{addr_is, then_some}
 use Rattle.overlay_settings.specs.declared.change.Target.TheVariants as target
 use Rattle.overlay_settings.specs.declared.change.TimedChange.{TimedChange}
 use Rattle.overlay_config.specs.Change.{addr_at, any_number, change_in, changes_in, egress_words, kind_words, mac_at, new_segment_of, port_at, remote_of, target_in, target_of, tunnel_at, vid_at}
-use Rattle.segment_shards.proofs.ChangeRows.{IsTimed, Reads, optional-if, then-if, then-so, value-if}
-use Rattle.segment_shards.proofs.ChangeRows as rows
+use Rattle.segment_parts.proofs.ChangeRows.{IsTimed, Reads, optional-if, then-if, then-so, value-if}
+use Rattle.segment_parts.proofs.ChangeRows as rows
 use Rattle.part_files.proofs.Remotes.{HasAddr, IsTarget}
 
 -- ---- columns

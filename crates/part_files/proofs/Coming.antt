@@ -4,8 +4,8 @@ use Rattle.std.specs.Prelude.{nat_lt}
 use Rattle.std.specs.List.{AllByRecursion, cons_option, filter_map, flat_map}
 use Rattle.std.specs.declared.alloc.Global.{Global}
 use Rattle.std.proofs.lemmas.List.{drop_at, take_at}
-use Rattle.header_sums.specs.Octets.{IsText}
-use Rattle.header_sums.proofs.OctetsLemmas.{IsText-drop, IsText-take}
+use Rattle.header_octets.specs.Octets.{IsText}
+use Rattle.header_octets.proofs.OctetsLemmas.{IsText-drop, IsText-take}
 use Rattle.pcap_io.specs.Capture.{opened}
 use Rattle.pcap_io.specs.Next.{Cut, End, Faulty, Whole}
 use Rattle.pcap_io.specs.Reading.{AreRecordTexts, Reading}

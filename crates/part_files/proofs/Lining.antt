@@ -3,7 +3,7 @@ use Rattle.std.proofs.Common.{◌≡◌, refl, ℕ, suc, ◌+◌, ◌*◌, ◌/�
 use Rattle.std.specs.Prelude.{codes}
 use Rattle.std.specs.Fmt.{decimal}
 use Rattle.std.specs.List.{AllByRecursion}
-use Rattle.header_sums.specs.Octets.{IsText, octet}
+use Rattle.header_octets.specs.Octets.{IsText, octet}
 use Rattle.frame_view.specs.Reason as reason
 use Rattle.frame_view.specs.declared.reason.Reason.{Reason}
 use Rattle.ip_udp_view.specs.Addr.{IsAddr}
@@ -27,7 +27,7 @@ use Rattle.endpoint_core.specs.Step.{Answer, Decided, Replied}
 use Rattle.endpoint_core.specs.Text.{addr_text, further_text, grouped, hex_digit, hex_octet, kind_text, outcome_text, outcomes_text, place_text, result_by, sent_text}
 use Rattle.decision_lines.specs.Lines.{answer_text, line_front, reply_text, segment_text}
 use Rattle.line_words.proofs.Decimals.{lacks}
-use Rattle.shard_lines.specs.ReadBack.{IsFront, IsSource, IsVid}
+use Rattle.part_lines.specs.ReadBack.{IsFront, IsSource, IsVid}
 use Rattle.part_files.proofs.Answering.{AnswerFits, SentFits}
 use Rattle.part_files.proofs.Emitting.{Fits}
 use Rattle.part_files.proofs.Leaving.{IsOutlet}

@@ -7,10 +7,10 @@ use Rattle.timeline.specs.declared.timeline.Cut.{Cut}
 use Rattle.decision_lines.specs.Lines.{cut_line}
 use Rattle.segment_set.specs.Segments.{Segments, holds}
 use Rattle.capture_run.specs.Among.{cuts_among}
-use Rattle.shard_merge.specs.Coming.{AreTexts, HoldsAll, IsCutLine, IsPiece}
-use Rattle.shard_merge.specs.Left.{AreLeft}
-use Rattle.shard_merge.specs.Merged.{Piece, capture_at, lines_in}
-use Rattle.segment_shards.specs.Pieces.{Told, all_pieces, pieces_in}
+use Rattle.part_merge.specs.Coming.{AreTexts, HoldsAll, IsCutLine, IsPiece}
+use Rattle.part_merge.specs.Left.{AreLeft}
+use Rattle.part_merge.specs.Merged.{Piece, capture_at, lines_in}
+use Rattle.segment_parts.specs.Pieces.{Told, all_pieces, pieces_in}
 use Rattle.part_files.specs.Files.{Part, ReadOver}
 use Rattle.part_files.proofs.Lists.{concat-map, map-length}
 use Rattle.part_files.proofs.Reading.{HoldTexts}

@@ -9,7 +9,7 @@ use Rattle.timeline.specs.declared.source.Tap.TheVariants.{Port, Underlay}
 use Rattle.timeline.specs.declared.timeline.Cut.{Cut}
 use Rattle.noninterference.proofs.Lists.{at-range}
 use Rattle.stream_run.specs.Stage.{Drains, StandAt, StandsBetween}
-use Rattle.shard_merge.specs.Merged.{Piece, capture_at, texts_of_pieces}
+use Rattle.part_merge.specs.Merged.{Piece, capture_at, texts_of_pieces}
 use Rattle.part_files.specs.Files.{AreEmpty, IsEmpty}
 
 -- ---- one output

@@ -23,13 +23,13 @@ use Rattle.decision_lines.specs.Lines.{answer_text, cut_line, line, line_front}
 use Rattle.capture_run.specs.Outputs.{event_of, input_of, named_by, no_change}
 use Rattle.capture_run.specs.Sendings.{Sending, sendings_of, sent_by}
 use Rattle.noninterference.specs.Leaving.{told_in}
-use Rattle.shard_lines.specs.Facts.{facts_of}
-use Rattle.shard_lines.specs.ReadBack.{IsFront, IsOutcome, IsPlace, IsSource, IsVid, taken_at, taken_by, taken_from}
-use Rattle.shard_lines.specs.declared.facts.LineFacts.TheVariants as facts
-use Rattle.shard_lines.proofs.Lines.{cuts, decisions, replies}
-use Rattle.shard_merge.specs.Coming.{IsCutLine, IsLine, IsPiece}
-use Rattle.shard_merge.specs.Moved.{AreRecords, taps}
-use Rattle.segment_shards.specs.Pieces.{IsAsked, Told, all_pieces, piece_of, record_in, told_from}
+use Rattle.part_lines.specs.Facts.{facts_of}
+use Rattle.part_lines.specs.ReadBack.{IsFront, IsOutcome, IsPlace, IsSource, IsVid, taken_at, taken_by, taken_from}
+use Rattle.part_lines.specs.declared.facts.LineFacts.TheVariants as facts
+use Rattle.part_lines.proofs.Lines.{cuts, decisions, replies}
+use Rattle.part_merge.specs.Coming.{IsCutLine, IsLine, IsPiece}
+use Rattle.part_merge.specs.Moved.{AreRecords, taps}
+use Rattle.segment_parts.specs.Pieces.{IsAsked, Told, all_pieces, piece_of, record_in, told_from}
 use Rattle.part_files.proofs.Answering.{AnswerFits, DecisionFits, IsInput, SentFits, answer-fits, knows-after}
 use Rattle.part_files.proofs.Coming.{Comes, IsComing, IsCut}
 use Rattle.part_files.proofs.Emitting.{Fits}

@@ -18,11 +18,11 @@ use Rattle.capture_run.specs.Outputs.{event_of}
 use Rattle.capture_run.proofs.Growing.{rising_events}
 use Rattle.mesh_delivery.proofs.Underlays.{underlay-kept}
 use Rattle.noninterference.proofs.Lists.{all-map}
-use Rattle.shard_merge.specs.Coming.{AreTexts, IsPiece}
-use Rattle.segment_shards.specs.Pieces.{IsAsked, Told, all_pieces, pieces_of, told_from}
-use Rattle.segment_shards.proofs.ChangeRows.{IsTimed, all-changes}
-use Rattle.segment_shards.proofs.ChangeTexts.{text-names}
-use Rattle.segment_shards.proofs.Vids.{told-asked, vids-told}
+use Rattle.part_merge.specs.Coming.{AreTexts, IsPiece}
+use Rattle.segment_parts.specs.Pieces.{IsAsked, Told, all_pieces, pieces_of, told_from}
+use Rattle.segment_parts.proofs.ChangeRows.{IsTimed, all-changes}
+use Rattle.segment_parts.proofs.ChangeTexts.{text-names}
+use Rattle.segment_parts.proofs.Vids.{told-asked, vids-told}
 use Rattle.part_files.specs.Files.{AreCounted, AreOctets}
 use Rattle.part_files.proofs.Beginning.{knows-opened}
 use Rattle.part_files.proofs.ChangeTexts.{text-timed}

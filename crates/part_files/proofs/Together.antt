@@ -24,22 +24,22 @@ use Rattle.capture_run.specs.declared.fault.RunFault.TheVariants.{PortCount}
 use Rattle.noninterference.specs.Coming.{Inputs, IsRunOf, changes_of}
 use Rattle.stream_run.specs.Over.{IsRunOverAmong, LeavesOver}
 use Rattle.stream_run.specs.Stage.{Drains, StandAt}
-use Rattle.shard_merge.specs.Blame.{UnlessLines}
-use Rattle.shard_merge.specs.Coming.{Holds, HoldsAll, Shard}
-use Rattle.shard_merge.specs.Left.{UnlessDevice}
-use Rattle.shard_merge.specs.Merged.{IsRising, Piece, merged, side_by_side, texts_of_pieces}
-use Rattle.shard_merge.specs.Numbers.{AreNumbered, UnlessMissing, numbers}
-use Rattle.shard_merge.specs.Whole.{Adds, AllHold, AllRise, AreParts, cut_lines}
-use Rattle.shard_merge.specs.declared.fault.MergeFault.{MergeFault}
-use Rattle.segment_shards.specs.Pieces.{PartAll, Told, pieces_in, pieces_of}
-use Rattle.segment_shards.proofs.ChangeTexts.{text-names}
-use Rattle.segment_shards.proofs.Merging.{merged-rises, part-of_run, part-rises, pieces-merged, run-merged}
-use Rattle.segment_shards.proofs.Vids.{vids-told}
-use Rattle.segment_shards.proofs.Writing.{numbers-rise}
-use Rattle.shard_merge.proofs.Missing.{unless_device}
-use Rattle.shard_merge.proofs.Blaming.{unless_lines}
+use Rattle.part_merge.specs.Blame.{UnlessLines}
+use Rattle.part_merge.specs.Coming.{Holds, HoldsAll, OpenPart}
+use Rattle.part_merge.specs.Left.{UnlessDevice}
+use Rattle.part_merge.specs.Merged.{IsRising, Piece, merged, side_by_side, texts_of_pieces}
+use Rattle.part_merge.specs.Numbers.{AreNumbered, UnlessMissing, numbers}
+use Rattle.part_merge.specs.Whole.{Adds, AllHold, AllRise, AreParts, cut_lines}
+use Rattle.part_merge.specs.declared.fault.MergeFault.{MergeFault}
+use Rattle.segment_parts.specs.Pieces.{PartAll, Told, pieces_in, pieces_of}
+use Rattle.segment_parts.proofs.ChangeTexts.{text-names}
+use Rattle.segment_parts.proofs.Merging.{merged-rises, part-of_run, part-rises, pieces-merged, run-merged}
+use Rattle.segment_parts.proofs.Vids.{vids-told}
+use Rattle.segment_parts.proofs.Writing.{numbers-rise}
+use Rattle.part_merge.proofs.Missing.{unless_device}
+use Rattle.part_merge.proofs.Blaming.{unless_lines}
 use Rattle.line_stream.specs.Lines.{Reader}
-use Rattle.part_files.specs.Files.{HoldCaptures, OpenedOver, OpensWith, Part, RanOver, ReadOver, segments_of, shards_of}
+use Rattle.part_files.specs.Files.{HoldCaptures, OpenedOver, OpensWith, Part, RanOver, ReadOver, segments_of, opened_parts}
 use Rattle.part_files.proofs.Lists.{all-two, map-length}
 use Rattle.part_files.proofs.Opening.{part-holds}
 use Rattle.part_files.proofs.Reading.{HoldTexts, texts-held}
@@ -95,23 +95,23 @@ port-count s cs n found o is = by (n == length s.ports) refl is
 
 module _ (count : ℕ) (pieces : Segments → List Piece) (cuts : Segments → List Cut) where
   abbrev HoldsOwn : Part → Type 0
-  HoldsOwn p = Holds count (pieces p.segments) (map cut_line (cuts p.segments)) p.shard
+  HoldsOwn p = Holds count (pieces p.segments) (map cut_line (cuts p.segments)) p.opened
 
-  each-holds : (parts : List Part) → AllByRecursion HoldsOwn parts → (s : Shard) (k : ℕ) → k < length parts
-      → Holds count (slice_index_or (map pieces (segments_of parts)) k []) (slice_index_or (cut_lines (map cuts (segments_of parts))) k []) (slice_index_or (shards_of parts) k s)
+  each-holds : (parts : List Part) → AllByRecursion HoldsOwn parts → (s : OpenPart) (k : ℕ) → k < length parts
+      → Holds count (slice_index_or (map pieces (segments_of parts)) k []) (slice_index_or (cut_lines (map cuts (segments_of parts))) k []) (slice_index_or (opened_parts parts) k s)
   each-holds [] all s k lt = absurd (omega (arith, lt))
   each-holds (p ∷ ps) all s zero lt = all.0
   each-holds (p ∷ ps) all s (suc k) lt = each-holds ps all.1 s k (omega (arith, lt))
 
-  all-hold : (parts : List Part) → AllByRecursion HoldsOwn parts → AllHold count (map pieces (segments_of parts)) (cut_lines (map cuts (segments_of parts))) (shards_of parts)
+  all-hold : (parts : List Part) → AllByRecursion HoldsOwn parts → AllHold count (map pieces (segments_of parts)) (cut_lines (map cuts (segments_of parts))) (opened_parts parts)
   all-hold parts all = record {
     many = map-length pieces (segments_of parts) ∙ counted;
     many_cuts = map-length (λ (of_part : List Cut). map cut_line of_part) (map cuts (segments_of parts)) ∙ map-length cuts (segments_of parts) ∙ counted;
-    each = λ s k lt. each-holds parts all s k (subst (λ (n : ℕ). k < n) (map-length (λ (p : Part). p.shard) parts) lt);
+    each = λ s k lt. each-holds parts all s k (subst (λ (n : ℕ). k < n) (map-length (λ (p : Part). p.opened) parts) lt);
   }
     where
-      counted : length (segments_of parts) ≡ length (shards_of parts)
-      counted = map-length (λ (p : Part). p.segments) parts ∙ sym (map-length (λ (p : Part). p.shard) parts)
+      counted : length (segments_of parts) ≡ length (opened_parts parts)
+      counted = map-length (λ (p : Part). p.segments) parts ∙ sym (map-length (λ (p : Part). p.opened) parts)
 
 all-rise : (pieces : Segments → List Piece) → ((segments : Segments) → IsRising 0 (pieces segments)) → (sets : List Segments) → AllRise (map pieces sets)
 all-rise pieces each [] = tt
@@ -161,7 +161,7 @@ module _ (settings changes : List ℕ) (texts : List (Vec ℕ Global)) (text : L
         opened.part.opened (length texts) (own_pieces p.segments) (map cut_line (own_cuts p.segments)) (reads-own readable p ran_over opened.read)
 
     are-parts : (parts : List Part) → PartAll (segments_of parts) → AllByRecursion (RanOver settings changes texts text) parts → AllByRecursion OpenedOver parts → AreReadable (length texts) s cs timeline
-        → AreParts (length texts) (map own_pieces (segments_of parts)) (map own_cuts (segments_of parts)) (shards_of parts)
+        → AreParts (length texts) (map own_pieces (segments_of parts)) (map own_cuts (segments_of parts)) (opened_parts parts)
     unfolding x ts
     are-parts parts parted all opened readable = record {
       hold = all-hold (length texts) own_pieces own_cuts parts
@@ -190,13 +190,13 @@ module _ (settings changes : List ℕ) (texts : List (Vec ℕ Global)) (text : L
   Answered = (o : Outputs) × (run (settings_in settings) (changes_in changes) texts text ≡ Ok o) × UnlessDevice result (Adds o old old_underlay written new new_underlay now)
 
   -- what the merge makes of whatever pieces the parts hold
-  abbrev Puts : List Shard → Type 0
-  Puts shards = (pieces : List (List Piece)) (cuts : List (List Cut)) → AreParts (length old) pieces cuts shards
+  abbrev Puts : List OpenPart → Type 0
+  Puts opened = (pieces : List (List Piece)) (cuts : List (List Cut)) → AreParts (length old) pieces cuts opened
       → UnlessMissing result (merged pieces) (Adds (texts_of_pieces (length old) (merged pieces) (side_by_side cuts)) old old_underlay written new new_underlay now)
 
   merged-run : (parts : List Part) (s : Rules) (cs : List TimedChange) → settings_in settings ≡ Ok s → changes_in changes ≡ Ok cs → Whole s (record { changes = cs; ports = texts; underlay = text })
       → PartAll (segments_of parts) → AllByRecursion (RanOver settings changes texts text) parts → AllByRecursion OpenedOver parts → ReadsBack settings changes texts text → length old ≡ length texts
-      → Puts (shards_of parts) → Answered
+      → Puts (opened_parts parts) → Answered
   unfolding x
   merged-run parts s cs settings_are changes_are w parted all opened reads many merges =
       let counted = port-count s cs (length texts) (told (map (λ (c : TimedChange). c.at) cs) texts text) w.o w.is.outputs in
@@ -207,7 +207,7 @@ module _ (settings changes : List ℕ) (texts : List (Vec ℕ Global)) (text : L
       let numbered = numbered-own settings changes texts text s cs settings_are changes_are w.timeline w.o w.is parts parted in
       let adds = unless_device (merged (map its_pieces (segments_of parts)))
       (Adds (texts_of_pieces (length old) (merged (map its_pieces (segments_of parts))) (side_by_side (map its_cuts (segments_of parts)))) old old_underlay written new new_underlay now)
-      result numbered (merges (map its_pieces (segments_of parts)) (map its_cuts (segments_of parts)) (subst (λ (n : ℕ). AreParts n (map its_pieces (segments_of parts)) (map its_cuts (segments_of parts)) (shards_of parts)) (sym many) held)) in
+      result numbered (merges (map its_pieces (segments_of parts)) (map its_cuts (segments_of parts)) (subst (λ (n : ℕ). AreParts n (map its_pieces (segments_of parts)) (map its_cuts (segments_of parts)) (opened_parts parts)) (sym many) held)) in
       let same = ap (λ (n : ℕ). texts_of_pieces n (merged (map its_pieces (segments_of parts))) (side_by_side (map its_cuts (segments_of parts)))) many
       ∙ merged-own settings changes texts text s cs settings_are changes_are w.timeline w.o w.is parts parted in (
         w.o,
@@ -216,7 +216,7 @@ module _ (settings changes : List ℕ) (texts : List (Vec ℕ Global)) (text : L
       )
 
   pub files-merged : (parts : List Part) → PartAll (segments_of parts) → AllByRecursion (RanOver settings changes texts text) parts → AllByRecursion OpenedOver parts → ReadsBack settings changes texts text → length old ≡ length texts
-      → Puts (shards_of parts) → Answered
+      → Puts (opened_parts parts) → Answered
   files-merged [] parted all opened reads many merges = let none : 0 ≡ 1 = parted None tt in absurd (omega (arith, none))
   files-merged (p ∷ ps) parted all opened reads many merges =
       let first = ran p.segments (settings_in settings) (changes_in changes) texts text p.old p.new all.0.ran in
@@ -241,7 +241,7 @@ module _ (settings changes : List ℕ) (texts : List (Vec ℕ Global)) (text : L
         underlay = (_, held.underlay);
       }
 
-  pub opens-part : ReadOver p → ReadsBack settings changes texts text → (number : ℕ) (result : Result Shard (MergeFault × Reader)) → OpensWith number p result → UnlessLines number p.reader result
+  pub opens-part : ReadOver p → ReadsBack settings changes texts text → (number : ℕ) (result : Result OpenPart (MergeFault × Reader)) → OpensWith number p result → UnlessLines number p.reader result
   unfolding x
   opens-part read reads number result opens =
       let counted = port-count first.s first.cs (length texts) (told (map (λ (c : TimedChange). c.at) first.cs) texts text) its_whole.o its_whole.is.outputs in

@@ -8,7 +8,7 @@
 use Rattle.std.specs.Prelude.{◌≡◌, ◌<◌, ℕ, ◌^◌, List, [], ◌++◌, length, map, slice_index_or, Option, Some, Vec, Result, Ok}
 use Rattle.std.specs.List.{AllByRecursion}
 use Rattle.std.specs.declared.alloc.Global.{Global}
-use Rattle.header_sums.specs.Octets.{IsText}
+use Rattle.header_octets.specs.Octets.{IsText}
 use Rattle.pcap_io.specs.Written.{written_header}
 use Rattle.pcap_stream.specs.Sink.{Drain}
 use Rattle.pcap_stream.specs.Source.{Stream}
@@ -21,13 +21,13 @@ use Rattle.overlay_settings.specs.declared.change.TimedChange.{TimedChange}
 use Rattle.segment_set.specs.Segments.{Segments}
 use Rattle.stream_run.specs.Over.{IsRunOverAmong}
 use Rattle.stream_run.specs.Stage.{Drains}
-use Rattle.shard_merge.specs.Blame.{PartOpens, ReadsWith, WritesWith}
-use Rattle.shard_merge.specs.Coming.{Holds, HoldsAll, Shard, UnlessPart}
-use Rattle.shard_merge.specs.Copied.{Opens}
-use Rattle.shard_merge.specs.Merged.{Piece, merged, side_by_side, texts_of_pieces}
-use Rattle.shard_merge.specs.Numbers.{UnlessMissing}
-use Rattle.shard_merge.specs.Whole.{Adds, AreParts}
-use Rattle.shard_merge.specs.declared.fault.MergeFault.{MergeFault}
+use Rattle.part_merge.specs.Blame.{PartOpens, ReadsWith, WritesWith}
+use Rattle.part_merge.specs.Coming.{Holds, HoldsAll, OpenPart, UnlessPart}
+use Rattle.part_merge.specs.Copied.{Opens}
+use Rattle.part_merge.specs.Merged.{Piece, merged, side_by_side, texts_of_pieces}
+use Rattle.part_merge.specs.Numbers.{UnlessMissing}
+use Rattle.part_merge.specs.Whole.{Adds, AreParts}
+use Rattle.part_merge.specs.declared.fault.MergeFault.{MergeFault}
 
 -- ---- a part
 
@@ -45,7 +45,7 @@ pub record Part : Type 0 where
   pub ports : List Stream
   pub underlay : Stream
   -- all of it, with its first line read
-  pub shard : Shard
+  pub opened : OpenPart
 
 -- ---- its run
 
@@ -80,7 +80,7 @@ pub record ReadOver (p : Part) : Type 0 where
   pub underlay : IsCaptureOf p.new.underlay p.underlay_source p.underlay
 
 -- what comes of opening a part of this number with these lines and captures
-pub record OpensWith (number : ℕ) (p : Part) (result : Result Shard (MergeFault × Reader)) : Type 0 where
+pub record OpensWith (number : ℕ) (p : Part) (result : Result OpenPart (MergeFault × Reader)) : Type 0 where
   pub opened : (count : ℕ) (pieces : List Piece) (cuts : List (List ℕ)) → HoldsAll count pieces cuts p.reader p.ports p.underlay → UnlessPart result (Holds count pieces cuts)
   pub reads : PartOpens number p.reader p.ports p.underlay result
 
@@ -88,7 +88,7 @@ pub record OpensWith (number : ℕ) (p : Part) (result : Result Shard (MergeFaul
 pub record OpenedOver (p : Part) : Type 0 where
   pub read : ReadOver p
   pub number : ℕ
-  pub part : OpensWith number p (Ok p.shard)
+  pub part : OpensWith number p (Ok p.opened)
 
 -- an output holds the header of a capture and something behind it
 abbrev pub HoldsCapture : Drain → Type 0
@@ -106,15 +106,15 @@ abbrev pub segments_of : List Part → List Segments
 segments_of parts = map (λ (p : Part). p.segments) parts
 
 -- the parts as they are opened
-abbrev pub shards_of : List Part → List Shard
-shards_of parts = map (λ (p : Part). p.shard) parts
+abbrev pub opened_parts : List Part → List OpenPart
+opened_parts parts = map (λ (p : Part). p.opened) parts
 
 -- a merge of parts that are opened: of whatever pieces these hold, it puts the texts to its outputs, or tells which is missing;
 -- and it blames a device only where that failed
-pub record Merges (shards shards_now : List Shard) (old : List Drain) (old_underlay : Drain) (written : Option (List ℕ)) (failures : ℕ) (new : List Drain) (new_underlay : Drain) (now : Option (List ℕ)) (failures_now : ℕ) (result : Result (Unit {0}) MergeFault) : Type 0 where
-  pub puts : (pieces : List (List Piece)) (cuts : List (List Cut)) → AreParts (length old) pieces cuts shards
+pub record Merges (opened opened_now : List OpenPart) (old : List Drain) (old_underlay : Drain) (written : Option (List ℕ)) (failures : ℕ) (new : List Drain) (new_underlay : Drain) (now : Option (List ℕ)) (failures_now : ℕ) (result : Result (Unit {0}) MergeFault) : Type 0 where
+  pub puts : (pieces : List (List Piece)) (cuts : List (List Cut)) → AreParts (length old) pieces cuts opened
       → UnlessMissing result (merged pieces) (Adds (texts_of_pieces (length old) (merged pieces) (side_by_side cuts)) old old_underlay written new new_underlay now)
-  pub reads : ReadsWith shards shards_now result
+  pub reads : ReadsWith opened opened_now result
   pub writes : WritesWith old old_underlay failures new new_underlay failures_now result
 
 -- ---- what comes in

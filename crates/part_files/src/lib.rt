@@ -11,7 +11,7 @@
 //! for octet, unless a read or a write fails. It asks that captures are octets and that there are fewer than 2^64 events. That
 //! a file holds what was written to it isn't proved, nor that the program hands its files on so.
 //!
-//! Why it is so: the law stands above `stream_run`, which makes parts, and `shard_merge`, which puts them together, and goes
+//! Why it is so: the law stands above `stream_run`, which makes parts, and `part_merge`, which puts them together, and goes
 //! over the clauses of `run_segments`, `Capture::open`, `Part::open` and `merge_streams`.
 #![tactic(auto)]
 

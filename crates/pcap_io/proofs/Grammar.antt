@@ -4,10 +4,10 @@ use Rattle.std.specs.Prelude.{◌==◌, nat_lt, nat_le}
 use Rattle.std.proofs.lemmas.Bool.{le-ltb, lt-leb, ne_eqb}
 use Rattle.std.proofs.lemmas.List.{drop_at, drop-drop, take-append-drop, take_at}
 use Rattle.pcap_io.proofs.Headers.{length-record_header_text, record_header_in-text, record_header_text-in}
-use Rattle.header_sums.proofs.OctetsLemmas.{IsText-drop}
+use Rattle.header_octets.proofs.OctetsLemmas.{IsText-drop}
 use Rattle.pcap_io.proofs.Numbers.{number_of-fits}
 use Rattle.pcap_io.proofs.Readings.{IsWhole, IsWhole-from, records-next}
-use Rattle.header_sums.specs.Octets.{IsText}
+use Rattle.header_octets.specs.Octets.{IsText}
 use Rattle.pcap_io.specs.Next.{End, Next, Another, Ends, ending, endings, first_row, next_of, next_unless, record_by, behind_by}
 use Rattle.pcap_io.specs.Record.{Record, longest}
 use Rattle.pcap_io.specs.Reading.{AreRecordTexts, IsReadAs, Reading, reading_by, records, with_record}

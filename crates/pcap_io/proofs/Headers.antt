@@ -1,9 +1,9 @@
 -- The two headers as texts, and as they are read.
 use Rattle.std.proofs.Common.{◌≡◌, ◌∙◌, refl, sym, ap, ℕ, ◌+◌, ◌^◌, ◌<◌, ◌≤◌, List, [], ◌++◌, length, drop, arith, append_assoc, length-append, length-drop}
 use Rattle.std.proofs.lemmas.List.{drop_at, drop-drop, take-append-drop}
-use Rattle.header_sums.proofs.OctetsLemmas.{IsText-drop}
+use Rattle.header_octets.proofs.OctetsLemmas.{IsText-drop}
 use Rattle.pcap_io.proofs.Numbers.{length-octets_of, number_of-octets_of, octets2-number_of, octets4-number_of}
-use Rattle.header_sums.specs.Octets.{IsText}
+use Rattle.header_octets.specs.Octets.{IsText}
 use Rattle.pcap_io.specs.RecordText.{record_header_in, record_header_text}
 use Rattle.pcap_io.specs.Style.{number_of, octets_of}
 use Rattle.pcap_io.specs.declared.record.RecordHeader.{RecordHeader}

@@ -1,7 +1,7 @@
 -- Numbers as octets, in either order.
 use Rattle.std.proofs.Common.{◌≡◌, refl, ℕ, ◌^◌, ◌/◌, ◌%◌, ◌<◌, ◌≤◌, List, [], ◌∷◌, ◌++◌, length, take, arith}
 use Rattle.byteorder.specs.Numbers.{big_from-lt, big_number-reads_back, length-bytes_high_first, length-bytes_low_first, little_from-lt, little_number-reads_back}
-use Rattle.header_sums.specs.Octets.{IsText}
+use Rattle.header_octets.specs.Octets.{IsText}
 use Rattle.pcap_io.specs.Style.{number_of, octets_of}
 use Rattle.pcap_io.specs.declared.style.Order.{Order}
 use Rattle.pcap_io.specs.declared.style.Order.TheVariants.{Big, Little}

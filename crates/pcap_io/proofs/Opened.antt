@@ -6,8 +6,8 @@ use Rattle.std.proofs.lemmas.Bool.{le-ltb, ltb-false, eqb-true}
 use Rattle.std.proofs.lemmas.List.{drop_at, drop-drop, take-append-drop}
 use Rattle.pcap_io.proofs.Grammar.{records-found, records-is}
 use Rattle.pcap_io.proofs.Headers.{four_from, length-record_header_text, number_behind, two_from}
-use Rattle.header_sums.specs.Octets.{IsText}
-use Rattle.header_sums.proofs.OctetsLemmas.{IsText-drop}
+use Rattle.header_octets.specs.Octets.{IsText}
+use Rattle.header_octets.proofs.OctetsLemmas.{IsText-drop}
 use Rattle.pcap_io.proofs.Numbers.{length-octets_of}
 use Rattle.pcap_io.specs.Capture.{IsCapture, opened, opened_by}
 use Rattle.pcap_io.specs.Header.{ethernet, header_in, header_text, is_version_2_4, style_by, style_by_magic, style_of}

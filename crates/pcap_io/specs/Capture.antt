@@ -1,6 +1,6 @@
 -- A capture (pcap-savefile(5)): a global header, records, and a rest.
 use Rattle.std.specs.Prelude.{◌≡◌, ℕ, List, ◌++◌, length, drop, Result, Ok, Err}
-use Rattle.header_sums.specs.Octets.{IsText}
+use Rattle.header_octets.specs.Octets.{IsText}
 use Rattle.pcap_io.specs.Header.{ethernet, header_text, style_of}
 use Rattle.pcap_io.specs.Reading.{Reading, IsReadAs, records}
 use Rattle.pcap_io.specs.declared.header.CaptureFault.{CaptureFault}

@@ -4,8 +4,8 @@ use Rattle.std.specs.List.{find}
 use Rattle.std.specs.Prelude.{◌==◌, ◌&&◌, ◌||◌, IsTrue, MatchBool, nat_lt, not, if◌then◌else◌}
 use Rattle.std.proofs.lemmas.Bool.{cases_lt, le-ltb, ltb-false, ne_eqb, eqb-true, eqb-false, eq-eqb, not-false, or_parts}
 use Rattle.std.proofs.Math.Seq.{take-append-add}
-use Rattle.header_sums.specs.Octets.{IsText}
-use Rattle.header_sums.proofs.OctetsLemmas.{IsText-drop}
+use Rattle.header_octets.specs.Octets.{IsText}
+use Rattle.header_octets.proofs.OctetsLemmas.{IsText-drop}
 use Rattle.std.proofs.lemmas.List.{drop_at, take_at, drop-drop, take-append-drop}
 use Rattle.pcap_io.proofs.Headers.{four_from, number_behind}
 use Rattle.pcap_io.proofs.Numbers.{length-octets_of, number_of-fits, number_of-octets_of}

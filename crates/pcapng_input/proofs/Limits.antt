@@ -3,8 +3,8 @@ use Rattle.std.proofs.Common.{◌≡◌, refl, ℕ, zero, suc, ◌+◌, ◌-◌,
 use Rattle.std.specs.List.{AllByRecursion}
 use Rattle.std.specs.Prelude.{◌==◌, ◌&&◌, nat_lt, not, if◌then◌else◌, slice_get}
 use Rattle.std.proofs.lemmas.Bool.{ltb-false}
-use Rattle.header_sums.specs.Octets.{IsText}
-use Rattle.header_sums.proofs.OctetsLemmas.{IsText-drop, IsText-take}
+use Rattle.header_octets.specs.Octets.{IsText}
+use Rattle.header_octets.proofs.OctetsLemmas.{IsText-drop, IsText-take}
 use Rattle.pcap_io.proofs.Numbers.{number_of-fits}
 use Rattle.pcap_io.specs.Record.{IsWithinLimits, Record, last_moment, longest}
 use Rattle.pcap_io.specs.Style.{number_of, second}

@@ -2,7 +2,7 @@
 use Rattle.std.proofs.Common.{◌≡◌, ◌∙◌, refl, sym, ap, ℕ, ◌/◌, ◌%◌, List, [], ◌∷◌, ◌++◌, length, arith, append_assoc, Result, Ok}
 use Rattle.std.specs.List.{AllByRecursion, flat_map}
 use Rattle.std.proofs.lemmas.List.Concat.{flat_map-cons}
-use Rattle.header_sums.specs.Octets.{IsText}
+use Rattle.header_octets.specs.Octets.{IsText}
 use Rattle.pcap_io.proofs.Opened.{opened-is}
 use Rattle.pcap_io.proofs.RoundTrip.{opened-written}
 use Rattle.pcap_io.specs.Capture.{IsCapture, opened}

@@ -2,7 +2,7 @@
 -- the byte order that the header of their section tells.
 use Rattle.std.specs.Prelude.{ℕ, ◌-◌, ◌%◌, ◌==◌, ◌&&◌, ◌||◌, not, nat_lt, if◌then◌else◌, Bool, List, [], ◌∷◌, length, drop, Option, Some, None}
 use Rattle.std.specs.List.{find}
-use Rattle.header_sums.specs.Octets.{part}
+use Rattle.header_octets.specs.Octets.{part}
 use Rattle.pcap_io.specs.Style.{number_of}
 use Rattle.pcap_io.specs.declared.style.Order.{Order}
 use Rattle.pcap_io.specs.declared.style.Order.TheVariants.{Big, Little}

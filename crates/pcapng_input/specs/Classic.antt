@@ -1,6 +1,6 @@
 -- The classic capture (pcap-savefile(5)) of a pcapng text.
 use Rattle.std.specs.Prelude.{◌≡◌, ℕ, List, [], ◌∷◌, ◌++◌, Option, Some, None, Result, Ok, Err, ⊤}
-use Rattle.header_sums.specs.Octets.{IsText}
+use Rattle.header_octets.specs.Octets.{IsText}
 use Rattle.pcap_io.specs.Capture.{opened}
 use Rattle.pcap_io.specs.Next.{Cut, End, Whole}
 use Rattle.pcap_io.specs.Record.{Record}

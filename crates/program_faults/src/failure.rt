@@ -3,7 +3,7 @@ ghost use Rattle.std.specs.Prelude.{◌≡◌};
 ghost use Rattle.capture_run.specs.declared.fault.RunFault.TheVariants as run;
 ghost use Rattle.program_faults.specs.Status.{failure_status_of};
 ghost use Rattle.program_faults.specs.declared.failure.Failure.TheVariants as failures;
-ghost use Rattle.program_faults.specs.declared.failure.ShardFailure.TheVariants as shards;
+ghost use Rattle.program_faults.specs.declared.failure.PartFailure.TheVariants as part_failures;
 ghost use Rattle.program_faults.specs.declared.text.TextFault.TheVariants.{OutOfMemory, Read};
 
 use crate::one_line::OneLine;
@@ -11,12 +11,13 @@ use crate::split_failure::{SplitFailure, UnwrittenFile};
 use crate::status::exit_code;
 use crate::system_fault::SystemFault;
 use crate::text::TextFault;
+use crate::worked_failure::WorkedFailure;
 use capture_compare::{CompareFault, Side};
 use capture_run::RunFault;
+use part_merge::PartFault;
+use part_record::{Difference, DigestsFault, LentFault, PartRecordFault, PartingFault};
 use pcapng_input::PcapngFault;
 use segment_set::ListFault;
-use shard_merge::PartFault;
-use shard_record::{Difference, DigestsFault, LentFault, PartingFault, ShardFault};
 use std::alloc::AllocError;
 use std::{fmt, io};
 use thiserror::Error;
@@ -61,7 +62,7 @@ pub enum Failure<'a> {
     Digests(&'a str, DigestsFailure),
     /// The part in this folder is wrong.
     #[error("part {name}: {1}", name = OneLine(*.0))]
-    Shard(&'a str, ShardFailure),
+    Part(&'a str, PartFailure),
     /// Parts aren't a whole run.
     #[error("{0}")]
     Parting(PartingFault),
@@ -71,6 +72,15 @@ pub enum Failure<'a> {
     /// A pcapng capture that is compared is refused.
     #[error("{0}: {1}")]
     ComparedPcapng(Side, PcapngFault),
+    /// What a run wrote at this place and what was captured there couldn't be compared to their ends.
+    #[error("{0}: {1}")]
+    ComparedAt(Tap, CompareFault),
+    /// A pcapng capture of this place that is compared is refused.
+    #[error("{0}: {1}: {2}")]
+    ComparedPcapngAt(Tap, Side, PcapngFault),
+    /// The folder of this name isn't compared with what is named beside it, or the capture of this name isn't.
+    #[error("{name}: {1}", name = OneLine(*.0))]
+    Worked(&'a str, WorkedFailure),
     /// What was received isn't what was sent.
     #[error("what was received isn't what was sent")]
     Differs,
@@ -101,10 +111,10 @@ pub enum DigestsFailure {
 
 /// What is wrong with a part of a run.
 #[derive(Debug, Drop, Error)]
-pub enum ShardFailure {
+pub enum PartFailure {
     /// Its record of what it was made from is no such text.
     #[error("shard.txt: {0}")]
-    Record(ShardFault),
+    Record(PartRecordFault),
     /// The list of its segments is none.
     #[error("shard.txt: {0}")]
     List(ListFault),
@@ -145,7 +155,7 @@ pub enum OutputFile {
     Underlay,
     Decisions,
     /// What a part was made from.
-    Shard,
+    PartRecord,
     /// What a part counted.
     Summary,
     /// The tables of a part at its end.
@@ -159,7 +169,7 @@ impl fmt::Display for OutputFile {
             OutputFile::Port(number) => write!(f, "port{number}.pcap"),
             OutputFile::Underlay => f.write_str("underlay.pcap"),
             OutputFile::Decisions => f.write_str("decisions.txt"),
-            OutputFile::Shard => f.write_str("shard.txt"),
+            OutputFile::PartRecord => f.write_str("shard.txt"),
             OutputFile::Summary => f.write_str("summary.txt"),
             OutputFile::Tables => f.write_str("tables.txt"),
             OutputFile::Stdout => f.write_str("stdout"),
@@ -197,9 +207,9 @@ impl<'a> Failure<'a> {
 
     /// That the part in this folder is wrong.
     pub fn in_part(folder: &'a str, fault: PartFault) -> Failure<'a>
-        ensures { result ≡ failures.Shard folder.entry (shards.Part fault) }
+        ensures { result ≡ failures.Part folder.entry (part_failures.Part fault) }
     {
-        Failure::Shard(folder, ShardFailure::Part(fault))
+        Failure::Part(folder, PartFailure::Part(fault))
     }
 
     /// The exit status: 1 for a text, a capture, a part or digests that are refused, an event that isn't there or captures that
@@ -216,10 +226,13 @@ impl<'a> Failure<'a> {
             | Failure::Shift(_)
             | Failure::ReadOnce(_)
             | Failure::Digests(..)
-            | Failure::Shard(..)
+            | Failure::Part(..)
             | Failure::Parting(_)
             | Failure::Compared(_)
             | Failure::ComparedPcapng(..)
+            | Failure::ComparedAt(..)
+            | Failure::ComparedPcapngAt(..)
+            | Failure::Worked(..)
             | Failure::Differs
             | Failure::Missing(_)
             | Failure::Split(..) => 1,

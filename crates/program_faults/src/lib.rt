@@ -11,8 +11,8 @@
 //! `SystemFault` has the number that the system told. For every input, a text read is all that it tells it had left, in at most
 //! so many reads; Read is answered only where a read failed or all reads were made.
 //!
-//! Why it is so: this stands below the runs over streams and not in `dissector` above them, so the crate that opens files waits
-//! neither for `stream_run` nor for `dissector` to be proved.
+//! Why it is so: this stands below the runs over streams and not in `text_calls` above them, so the crate that opens files waits
+//! neither for `stream_run` nor for `text_calls` to be proved.
 #![tactic(auto)]
 
 mod failure;
@@ -22,11 +22,13 @@ mod split_failure;
 mod status;
 mod system_fault;
 mod text;
+mod worked_failure;
 
-pub use failure::{DigestsFailure, Failure, OutputFile, ShardFailure};
+pub use failure::{DigestsFailure, Failure, OutputFile, PartFailure};
 pub use one_line::OneLine;
 pub use printed::is_lost;
 pub use split_failure::{SplitFailure, UnwrittenFile};
 pub use status::exit_code;
 pub use system_fault::SystemFault;
 pub use text::{TextFault, read_text};
+pub use worked_failure::WorkedFailure;

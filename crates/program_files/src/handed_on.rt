@@ -10,7 +10,7 @@ ghost use Rattle.pcap_stream.specs.Sink.{Drain};
 ghost use Rattle.program_files.specs.Held.{AreHandedOn, AreHeld, IsHeld, handed_on, written};
 
 use crate::failed_outputs::{FailedOutput, FailedOutputs};
-use crate::outputs::{OutputSums, Outputs, ShardFile, Written};
+use crate::outputs::{OutputSums, Outputs, PartRecordFile, Written};
 use arrayvec::ArrayVec;
 use octet_sum::OctetSum;
 use pcap_stream::Sink;
@@ -25,19 +25,19 @@ pub struct HandedOn<F: Write + Drop> {
     pub underlay: Written<F>,
     pub decisions: Written<F>,
     /// The file in which a part says what it was made from.
-    pub shard: Option<F>,
+    pub part_file: Option<F>,
 }
 
 impl<F: Write + Drop> HandedOn<F> {
     /// Of a part, the file in which it says what it was made from, and the sums of its outputs.
-    pub fn into_shard(self) -> Option<ShardFile<F>> {
+    pub fn into_part_record(self) -> Option<PartRecordFile<F>> {
         let HandedOn {
             ports,
             underlay,
             decisions,
-            shard,
+            part_file,
         } = self;
-        let file = shard?;
+        let file = part_file?;
         let mut sums = OutputSums {
             decisions: sum_of(decisions),
             underlay: sum_of(underlay),
@@ -47,7 +47,7 @@ impl<F: Write + Drop> HandedOn<F> {
             // There is room for as many as a run has ports.
             let _ = sums.ports.try_push(sum_of(port));
         }
-        Some(ShardFile { file, sums })
+        Some(PartRecordFile { file, sums })
     }
 }
 
@@ -111,7 +111,7 @@ impl<F: Write + Drop> Outputs<F> {
             ports,
             underlay,
             decisions,
-            shard,
+            part_file,
         } = self;
         let mut underlay = underlay.into_inner();
         let mut decisions = decisions;
@@ -126,7 +126,7 @@ impl<F: Write + Drop> Outputs<F> {
                 ports,
                 underlay,
                 decisions,
-                shard,
+                part_file,
             }),
             None => None,
         }

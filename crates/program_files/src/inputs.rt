@@ -12,13 +12,14 @@ ghost use Rattle.program_files.specs.Device.{left_in};
 ghost use Rattle.program_files.specs.Opened.{AreOpened, IsOpened};
 ghost use Rattle.program_files.specs.declared.inputs.Device.{Device as AnyDevice};
 
+use crate::outputs::path_of;
 use command_line::{STANDARD_INPUT, capture_name};
 use file_kind::{FileKind, Peeked, peek};
+use part_record::CountInput;
 use pcap_stream::{Source, StdInput};
 use pcapng_input::{CaptureInput, Selection};
-use program_faults::{Failure, read_text};
-use shard_record::CountInput;
-use std::alloc::AllocError;
+use program_faults::{Failure, OutputFile, WorkedFailure, read_text};
+use std::alloc::{AllocError, Global};
 use std::fs;
 use std::io::{self, BufReader, Input, Read};
 use std::rt::Files;
@@ -160,20 +161,54 @@ pub fn open_seen<'a, R: Files + Input + AllocGlobal>(
         Ok(blocks) => blocks,
         Err(failure) => return Err(failure),
     };
+    seen(rt.alloc(), name, blocks, selection_of(asked.interface))
+}
+
+/// Opens a capture that a run wrote into this folder, and looks at its first octets.
+pub fn open_written<'a, R: Files + Input + AllocGlobal>(
+    rt: &R,
+    folder: &'a str,
+    output: OutputFile,
+) -> Result<SeenCapture<'a, R::File, R::Reader>, Failure<'a>>
+    ensures new { IfOk result (λ seen. seen.standing ≡ New) }
+    ensures most { IfOk result (λ seen. most_left seen < 2 ^ 64) }
+{
+    let path = match path_of(rt.alloc(), folder, output) {
+        Ok(path) => path,
+        Err(error) => return Err(Failure::from(error)),
+    };
+    let Ok(file) = fs::open(rt, path.as_path()) else {
+        return Err(Failure::Worked(folder, WorkedFailure::Lacks(output)));
+    };
+    let blocks = match BufReader::with_capacity(rt.alloc(), BLOCK, Device::File(file)) {
+        Ok(reader) => StdInput::new(reader),
+        Err(_) => return Err(Failure::from(AllocError)),
+    };
+    match seen(rt.alloc(), folder, blocks, Selection::All) {
+        Ok((_, capture)) => Ok(capture),
+        Err(failure) => Err(failure),
+    }
+}
+
+/// A capture whose octets these are, of which nothing is read yet: what it is by its first octets, and its records.
+fn seen<'a, F: Read + Drop, I: Read + Drop>(
+    alloc: Global,
+    name: &'a str,
+    blocks: Blocks<F, I>,
+    selection: Selection<'a>,
+) -> Result<(FileKind, SeenCapture<'a, F, I>), Failure<'a>>
+    ensures new { IfOk result (λ seen. seen.1.standing ≡ New) }
+    ensures most { IfOk result (λ seen. most_left seen.1 < 2 ^ 64) }
+{
     let Ok((head, peeked)) = peek(blocks) else {
         return Err(Failure::Read(name));
     };
     let kind = FileKind::of(head.octets());
-    let input = match CaptureInput::new(
-        rt.alloc(),
-        peeked,
-        selection_of(asked.interface),
-        CAPTURE_READS,
-    ) {
+    let input = match CaptureInput::new(alloc, peeked, selection, CAPTURE_READS) {
         Ok(input) => input,
         Err(error) => return Err(Failure::from(error)),
     };
-    match Source::new(rt.alloc(), input, SURVEY_READS) {
+    match Source::new(alloc, input, SURVEY_READS) {
         Ok(capture) => Ok((kind, capture)),
         Err(error) => Err(Failure::from(error)),
     }

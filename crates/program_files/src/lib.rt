@@ -12,7 +12,7 @@
 //! octets is said wherever files tell theirs; what a file of the system, a pipe or a terminal holds isn't proved.
 //!
 //! Why it is so: the program's work on files stands here, in `runs_on_files`, `merge_on_files` and `tep_program`, and
-//! `dissector` knows octets alone. The system's files tell a contract nothing of what they hold, so what is said of octets is
+//! `text_calls` knows octets alone. The system's files tell a contract nothing of what they hold, so what is said of octets is
 //! said of all files that do: the code is one for both.
 #![tactic(auto)]
 
@@ -33,14 +33,14 @@ pub use file_causes::{head_of_file, read_fault};
 pub use handed_on::HandedOn;
 pub use inputs::{
     Blocks, CAPTURE_READS, Capture, ClassicInput, Device, SeenCapture, open_blocks, open_capture,
-    open_captures, open_front, open_named, open_seen, read_file, read_if_given, read_underlay,
-    selection_of,
+    open_captures, open_front, open_named, open_seen, open_written, read_file, read_if_given,
+    read_underlay, selection_of,
 };
 pub use interface_list::{Described, MOST_INTERFACES, Reach, interfaces_of_file};
 pub use names::{Names, RunInput, file_of, is_read_once, is_regular_file, is_same};
 pub use output_device::OutputDevice;
 pub use outputs::{
-    Opened, OutputSums, Outputs, ShardFile, Written, open_outputs, path_of, spare_inputs,
+    Opened, OutputSums, Outputs, PartRecordFile, Written, open_outputs, path_of, spare_inputs,
 };
 pub use part_inputs::{
     PartFile, PartInput, PartLines, count_lines, is_as_told, may_have_octets, open_output,

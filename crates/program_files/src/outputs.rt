@@ -10,9 +10,9 @@ use crate::names::Names;
 use crate::output_device::OutputDevice;
 use arrayvec::ArrayVec;
 use octet_sum::OctetSum;
+use part_record::{MOST_PORTS, SumOutput};
 use pcap_stream::{BlockOutput, Sink, StdOutput};
 use program_faults::{Failure, OutputFile};
-use shard_record::{MOST_PORTS, SumOutput};
 use std::alloc::{AllocError, Global};
 use std::fs::{OpenFile, OpenOptions};
 use std::io::{self, Write};
@@ -33,7 +33,7 @@ pub struct OutputSums {
 
 /// The empty file in which a part is to say what it was made from, and the sums of the outputs that stand.
 #[derive(Drop)]
-pub struct ShardFile<F: Drop> {
+pub struct PartRecordFile<F: Drop> {
     pub file: F,
     pub sums: OutputSums,
 }
@@ -46,7 +46,7 @@ pub struct Outputs<F: Write + Drop> {
     pub underlay: Sink<Written<F>>,
     pub decisions: Written<F>,
     /// The file in which a part is to say what it was made from.
-    pub shard: Option<F>,
+    pub part_file: Option<F>,
 }
 
 /// The same files, opened, with what stood in them.
@@ -55,7 +55,7 @@ pub struct Opened<F: Drop> {
     pub ports: Vec<F>,
     underlay: F,
     decisions: F,
-    shard: Option<F>,
+    part_file: Option<F>,
 }
 
 /// Refuses an output that is one of the files that are read: to write it would be to cut what is still to be read. The same of
@@ -70,7 +70,7 @@ pub fn spare_inputs<R: Files + AllocGlobal>(
     }
     spare(rt, folder, names, OutputFile::Underlay)?;
     spare(rt, folder, names, OutputFile::Decisions)?;
-    spare(rt, folder, names, OutputFile::Shard)?;
+    spare(rt, folder, names, OutputFile::PartRecord)?;
     spare(rt, folder, names, OutputFile::Tables)?;
     spare(rt, folder, names, OutputFile::Summary)
 }
@@ -123,8 +123,8 @@ pub fn open_outputs<R: Files + AllocGlobal>(
         Ok(file) => file,
         Err(failure) => return Err(failure),
     };
-    let shard = if is_part {
-        match open(rt, folder, OutputFile::Shard) {
+    let part_file = if is_part {
+        match open(rt, folder, OutputFile::PartRecord) {
             Ok(file) => Some(file),
             Err(failure) => return Err(failure),
         }
@@ -135,7 +135,7 @@ pub fn open_outputs<R: Files + AllocGlobal>(
         ports,
         underlay,
         decisions,
-        shard,
+        part_file,
     })
 }
 
@@ -164,15 +164,15 @@ impl<F: Write + OpenFile + Drop> Opened<F> {
             ports: files,
             underlay,
             decisions,
-            shard,
+            part_file,
         } = self;
         // A part that stops says of nothing that it was made from it.
-        if let Some(file) = &shard {
+        if let Some(file) = &part_file {
             if let Err(error) = cut(file) {
-                return Err(Failure::writing(OutputFile::Shard, &error));
+                return Err(Failure::writing(OutputFile::PartRecord, &error));
             }
         }
-        let is_part = shard.is_some();
+        let is_part = part_file.is_some();
         let mut ports = Vec::new(alloc);
         for file in files {
             let output = OutputFile::Port(ports.len() + 1);
@@ -193,7 +193,7 @@ impl<F: Write + OpenFile + Drop> Opened<F> {
                 ports,
                 underlay,
                 decisions,
-                shard,
+                part_file,
             }),
             Err(failure) => Err(failure),
         }

@@ -2,11 +2,11 @@
 use crate::outputs::path_of;
 use line_stream::{Lines, LinesFault};
 use octet_sum::OctetSum;
+use part_lines::{LineFacts, Places, read_line};
+use part_merge::PartFault;
+use part_record::{RecordCounts, SumInput};
 use pcap_stream::{Input, StdInput};
 use program_faults::{Failure, OutputFile};
-use shard_lines::{LineFacts, Places, read_line};
-use shard_merge::PartFault;
-use shard_record::{RecordCounts, SumInput};
 use std::alloc::AllocError;
 use std::fs;
 use std::io::BufReader;

@@ -25,7 +25,7 @@ pub fn drop_texts<R: Files + AllocGlobal>(rt: &R, folder: &str) -> Result<(), Fa
 /// Removes what an earlier part left in a folder besides its outputs, where something else than a part is to be written there:
 /// first what it was made from, without which no merge takes the folder.
 pub fn drop_part<R: Files + AllocGlobal>(rt: &R, folder: &str) -> Result<(), Failure<'static>> {
-    drop_unprinted(rt, folder, OutputFile::Shard)?;
+    drop_unprinted(rt, folder, OutputFile::PartRecord)?;
     drop_unprinted(rt, folder, OutputFile::Tables)?;
     drop_unprinted(rt, folder, OutputFile::Summary)
 }

@@ -2,7 +2,7 @@
 --     with_counts, all_counts      what is counted of all keys, as a finite map in the order of their ranks
 --     Rows, shown      its first rows, and what the others come to
 --     counted      the same with more of a key
-use Rattle.std.specs.Prelude.{◌<◌, ◌≤◌, ℕ, suc, nat_lt, if◌then◌else◌, ⊤, List, [], ◌∷◌, length, take, drop, slice_index_or}
+use Rattle.std.specs.Prelude.{◌<◌, ◌≤◌, ℕ, suc, nat_lt, if◌then◌else◌, ⊤, List, [], ◌∷◌, length, take, drop, slice_index_or, Option, None, Some}
 use Rattle.ranked_rows.specs.declared.row.Row.{Row}
 
 -- ---- finite maps, as lists in the order of the ranks of their keys
@@ -28,6 +28,11 @@ all_counts rank joined rows (more ∷ others) = all_counts rank joined (with_cou
 abbrev pub total : {K C : Type 0} → (C → C → C) → C → List (Row K C) → C
 total joined none [] = none
 total joined none (row ∷ rows) = joined row.counts (total joined none rows)
+
+-- what is counted, or nothing where nothing is
+abbrev pub counted_or : {C : Type 0} → C → Option C → C
+counted_or none None = none
+counted_or none (Some counts) = counts
 
 -- ---- tables
 

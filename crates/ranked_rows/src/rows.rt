@@ -1,7 +1,7 @@
 //! Tables.
 ghost use Rattle.std.specs.Prelude.{◌≡◌, ◌<◌, ◌≤◌, IfOk, drop, false, length, nat_lt, slice_index_or, take, true, vec_capacity};
 ghost use Rattle.std.specs.List.{insert};
-ghost use Rattle.ranked_rows.specs.Rows.{AreRising, IsPlaceOf, counted, no_rows, total, with_counts};
+ghost use Rattle.ranked_rows.specs.Rows.{AreRising, IsPlaceOf, counted, counted_or, no_rows, total, with_counts};
 ghost use Rattle.ranked_rows.specs.declared.row.Row.{Row as ARow};
 
 use crate::counts::Counts;
@@ -27,14 +27,14 @@ pub struct RankedRows<K: Ranked + Copy, C: Counts + Copy> {
 }
 
 impl<K: Ranked + Copy, C: Counts + Copy> Model for RankedRows<K, C> {
-    ghost use Rattle.std.specs.Prelude.{◌≤◌, length, vec_capacity};
+    ghost use Rattle.std.specs.Prelude.{◌≡◌, ◌≤◌, length, vec_capacity};
     ghost use Rattle.ranked_rows.specs.Rows.{AreRising, Rows};
 
     ghost Value = { Rows K C };
 
     ghost view = { λ r. record { rows = r.rows.items; others = r.others } };
 
-    ghost invariant = { λ r. AreRising K.rank r.rows.items × (length r.rows.items ≤ 4096) × (4096 ≤ vec_capacity r.rows) };
+    ghost invariant = { λ r. AreRising K.rank r.rows.items × (length r.rows.items ≤ 4096) × (4096 ≤ vec_capacity r.rows) × (C.joined r.others C.none ≡ r.others) };
 }
 
 impl<K: Ranked + Copy, C: Counts + Copy> RankedRows<K, C> {
@@ -69,32 +69,43 @@ impl<K: Ranked + Copy, C: Counts + Copy> RankedRows<K, C> {
     {
         let (at, has_row) = place_by(self.rows.as_slice(), self.stood.as_mut_slice(), &key);
         let rest = put(&mut self.rows, at, has_row, key, counts);
-        self.others = self.others.with(rest);
+        join(&mut self.others, rest);
     }
 }
 
-/// Counts more of a key in rows, at its place, where its row stands if it has one, and answers what has no place there.
+/// Counts more of a key in rows, at its place, where its row stands if it has one, and answers what has no place there. None: all
+/// has its place.
 fn put<K: Ranked + Copy, C: Counts + Copy>(
     rows: &mut Vec<Row<K, C>>,
     at: usize,
     has_row: bool,
     key: K,
     counts: C,
-) -> C
+) -> Option<C>
     requires place { IsPlaceOf K.rank (K.rank key) rows.old.items at }
     requires there { has_row ≡ true → (at < length rows.old.items) × ((d : ARow K C) → K.rank (slice_index_or rows.old.items at d).key ≤ K.rank key) }
     requires behind { has_row ≡ false → (d : ARow K C) → at < length rows.old.items → K.rank key < K.rank (slice_index_or rows.old.items at d).key }
     requires few { length rows.old.items ≤ 4096 }
     requires room { 4096 ≤ vec_capacity rows.old }
     ensures rows { rows.new.items ≡ take 4096 (with_counts K.rank C.joined key counts rows.old.items) }
-    ensures rest { result ≡ total C.joined C.none (drop 4096 (with_counts K.rank C.joined key counts rows.old.items)) }
+    ensures rest { counted_or C.none result ≡ total C.joined C.none (drop 4096 (with_counts K.rank C.joined key counts rows.old.items)) }
     ensures room { 4096 ≤ vec_capacity rows.new }
 {
     if has_row {
         rows[at].counts = rows[at].counts.with(counts);
-        return C::none();
+        return None;
     }
-    enter(rows, at, Row { key, counts })
+    Some(enter(rows, at, Row { key, counts }))
+}
+
+/// Counts to others what has no place, where there is any.
+fn join<C: Counts + Copy>(others: &mut C, rest: Option<C>)
+    requires { C.joined others.old C.none ≡ others.old }
+    ensures { others.new ≡ C.joined others.old (counted_or C.none rest) }
+{
+    if let Some(rest) = rest {
+        *others = others.with(rest);
+    }
 }
 
 /// Whether the row at this place doesn't stand behind that of a key.

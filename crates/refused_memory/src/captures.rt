@@ -1,9 +1,9 @@
 //! Calls that read and write captures.
 use crate::answer::Answer;
-use dissector::{TextFault, read_text};
 use pcap_io::{put_header, put_record};
 use pcap_stream::{DeviceFault, Input, Source, StdInput};
 use pcapng_input::{CaptureInput, PcapngError, Selection, classic_of};
+use program_faults::{TextFault, read_text};
 use std::alloc::Global;
 use std::test::Fail;
 use test_inputs::memory::request;

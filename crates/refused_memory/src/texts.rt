@@ -1,10 +1,11 @@
 //! Calls that read the texts of settings, changes and words.
 use crate::answer::Answer;
 use capture_run::RunFault;
-use dissector::{Line, LineFault, check_text, line_of};
+use command_line::{Line, LineFault, line_of};
 use overlay_config::{SettingsFault, changes_of, migrate, settings_of};
 use std::alloc::Global;
 use test_inputs::memory::request;
+use text_calls::check_text;
 
 /// Words with every value that a run takes.
 const WORDS: [&str; 10] = [

@@ -5,7 +5,7 @@ use Rattle.segment_set.specs.Segments.{Segments}
 use Rattle.endpoint_core.specs.Step.{Answer, State}
 use Rattle.timeline.specs.declared.event.Event.{Event}
 use Rattle.stream_run.specs.Sights.{Due, Sight, due}
-use Rattle.table_lines.specs.Lines.{tables_text}
+use Rattle.table_lines.specs.Lines.{shown_at, tables_text}
 use Rattle.overlay_settings.specs.declared.change.TimedChange.{TimedChange}
 use Rattle.event_story.specs.Story.{run_story}
 use Rattle.run_reports.specs.Name.{is_named}
@@ -55,9 +55,9 @@ abbrev pub is_before : Option ℕ → ℕ → Bool
 is_before None moment = false
 is_before (Some at) moment = nat_lt at moment
 
--- the tables, before the first event behind their moment
+-- the tables at their moment, before the first event behind it
 abbrev pub tables_before : Segments → Option ℕ → State → ℕ → List ℕ
-tables_before segments due s moment = if is_before due moment then tables_text segments s else []
+tables_before segments due s moment = if is_before due moment then tables_text segments (shown_at due s) else []
 
 -- with the tables before an event of this moment
 abbrev pub tables_told : Telling → State → ℕ → Telling
@@ -98,10 +98,10 @@ told_by r s = replied_by r (due s.state s.number s.event) s.reply
 
 -- ---- the end
 
--- the tables, where their moment didn't come
+-- the tables at their moment, where no event was behind it
 abbrev pub tables_still_due : Segments → Option ℕ → State → List ℕ
 tables_still_due segments None s = []
-tables_still_due segments (Some at) s = tables_text segments s
+tables_still_due segments (Some at) s = tables_text segments (shown_at (Some at) s)
 
 -- with these
 abbrev pub due_told : Telling → State → Telling

@@ -10,7 +10,7 @@ use Rattle.std.specs.Ordering.{eq_by_cmp}
 use Rattle.std.specs.Str.{bytes_eq}
 use Rattle.line_words.specs.Numbers.{number_of}
 use Rattle.config_text.specs.Address.{mac_of}
-use Rattle.header_sums.specs.Octets.{part}
+use Rattle.header_octets.specs.Octets.{part}
 use Rattle.frame_view.specs.Reason.{number_of as reason_number}
 use Rattle.frame_view.specs.declared.reason.Reason.{Reason}
 use Rattle.frame_view.specs.declared.reason.Refused.{Refused}

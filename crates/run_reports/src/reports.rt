@@ -3,7 +3,7 @@ ghost use Rattle.std.specs.Prelude.{◌≡◌, ◌++◌, false, IfOk, OnOk, map}
 ghost use Rattle.endpoint_core.specs.Kept.{state_of};
 ghost use Rattle.stream_run.specs.Sights.{due};
 ghost use Rattle.event_story.specs.Story.{run_story};
-ghost use Rattle.table_lines.specs.Lines.{tables_text};
+ghost use Rattle.table_lines.specs.Lines.{shown_at, tables_text};
 ghost use Rattle.run_reports.specs.Report.{asked, due_told, ended_by, is_before, is_found, seen_by, story_told, tables_told};
 
 use crate::asked::AskedNames;
@@ -159,8 +159,14 @@ impl<'n, 'a> Reports<'n, 'a> {
         ensures { OnOk result (self.new ≡ tables_told self.old (state_of endpoint.now) moment) }
     {
         if is_before(self.due, moment) {
+            put_tables(
+                self.alloc,
+                &mut self.text,
+                endpoint,
+                self.segments,
+                self.due,
+            )?;
             self.due = None;
-            put_tables(self.alloc, &mut self.text, endpoint, self.segments)?;
         }
         Ok(())
     }
@@ -195,7 +201,7 @@ impl<'n, 'a> Reports<'n, 'a> {
     {
         self.tell_due(endpoint)?;
         if self.tables {
-            put_tables(self.alloc, &mut self.last, endpoint, self.segments)?;
+            put_tables(self.alloc, &mut self.last, endpoint, self.segments, None)?;
         }
         Ok(())
     }
@@ -205,8 +211,14 @@ impl<'n, 'a> Reports<'n, 'a> {
         ensures { OnOk result (self.new ≡ due_told self.old (state_of endpoint.now)) }
     {
         if self.due.is_some() {
+            put_tables(
+                self.alloc,
+                &mut self.text,
+                endpoint,
+                self.segments,
+                self.due,
+            )?;
             self.due = None;
-            put_tables(self.alloc, &mut self.text, endpoint, self.segments)?;
         }
         Ok(())
     }
@@ -222,16 +234,17 @@ fn is_before(due: Option<u64>, moment: u64) -> bool
     }
 }
 
-/// Puts the tables of these segments as they are.
+/// Puts the tables of these segments as they are at a moment up to which nothing more comes, or at that of the last event.
 fn put_tables(
     alloc: Global,
     text: &mut Vec<u8>,
     endpoint: &Endpoint,
     segments: &SegmentSet,
+    at: Option<u64>,
 ) -> Result<(), AllocError>
-    ensures { OnOk result (text.new.items ≡ text.old.items ++ tables_text segments.now (state_of endpoint.now)) }
+    ensures { OnOk result (text.new.items ≡ text.old.items ++ tables_text segments.now (shown_at at (state_of endpoint.now))) }
 {
-    let tables = tables_text(alloc, endpoint, segments)?;
+    let tables = tables_text(alloc, endpoint, segments, at)?;
     text.extend_from_slice(tables.as_slice())
 }
 

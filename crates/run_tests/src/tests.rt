@@ -1,3 +1,3 @@
 mod command_line_tests;
 mod decision_lines_tests;
-mod dissector_tests;
+mod text_calls_tests;

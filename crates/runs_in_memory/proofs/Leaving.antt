@@ -11,8 +11,8 @@ use Rattle.segment_set.specs.Segments.{Segments}
 use Rattle.pcap_stream.specs.Source.{Stream}
 use Rattle.pcapng_input.specs.Adapted.{told_text}
 use Rattle.capture_run.specs.Outputs.{Outputs}
-use Rattle.shard_record.specs.Digests.{digest_of}
-use Rattle.shard_record.specs.declared.digests.CaptureDigest.{CaptureDigest}
+use Rattle.part_record.specs.Digests.{digest_of}
+use Rattle.part_record.specs.declared.digests.CaptureDigest.{CaptureDigest}
 use Rattle.program_files.specs.Device.{left_in}
 use Rattle.program_files.specs.Held.{AreHeld, Held, IsHeld}
 use Rattle.program_files.specs.Opened.{AreOpened, IsOpened, told_of}

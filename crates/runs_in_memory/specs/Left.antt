@@ -20,8 +20,8 @@ use Rattle.overlay_config.specs.Settings.{Settings}
 use Rattle.segment_set.specs.Segments.{Segments}
 use Rattle.capture_run.specs.Outputs.{Outputs}
 use Rattle.stream_run.specs.Over.{texts_octets}
-use Rattle.shard_record.specs.Digests.{digest_of}
-use Rattle.shard_record.specs.declared.digests.CaptureDigest.{CaptureDigest}
+use Rattle.part_record.specs.Digests.{digest_of}
+use Rattle.part_record.specs.declared.digests.CaptureDigest.{CaptureDigest}
 use Rattle.program_files.specs.Asked.{IsAsked}
 use Rattle.program_files.specs.Device.{left_in}
 use Rattle.program_files.specs.Held.{AreHeld, Held}

@@ -6,7 +6,7 @@ ghost use Rattle.overlay_config.specs.Fault.{Meaning};
 ghost use Rattle.overlay_config.specs.Settings.{Settings};
 ghost use Rattle.overlay_settings.specs.declared.change.TimedChange.{TimedChange};
 ghost use Rattle.segment_set.specs.Segments.{Segments};
-ghost use Rattle.shard_record.specs.declared.digests.CaptureDigest.{CaptureDigest};
+ghost use Rattle.part_record.specs.declared.digests.CaptureDigest.{CaptureDigest};
 ghost use Rattle.runs_on_files.specs.Digests.{AreDigestsOf};
 ghost use Rattle.runs_on_files.specs.Files.{IsRunOnFiles};
 ghost use Rattle.memory_files.specs.Memory.{file_holds, file_left, input_left};

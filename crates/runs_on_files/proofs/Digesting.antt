@@ -5,8 +5,8 @@ use Rattle.std.proofs.lemmas.List.{take_more}
 use Rattle.std.proofs.lemmas.Slice.Zip.{all_zipped_more}
 use Rattle.std.specs.Prelude.{IfSome, IsOk, OnOk, Result, Ok, Err}
 use Rattle.std.specs.Io.KnownBytes.{Consumes, IsAtEnd}
-use Rattle.shard_record.specs.Digests.{digest_of}
-use Rattle.shard_record.specs.declared.digests.CaptureDigest.{CaptureDigest}
+use Rattle.part_record.specs.Digests.{digest_of}
+use Rattle.part_record.specs.declared.digests.CaptureDigest.{CaptureDigest}
 use Rattle.runs_on_files.specs.Digests.{AreDigestsOf, IsDigestOf}
 
 pub whole_digest : (told left : Option (List ℕ)) (rest : List ℕ) (digest : CaptureDigest) → Consumes told left rest → IsAtEnd left → digest ≡ digest_of rest → IfSome told (λ octets. digest ≡ digest_of octets)

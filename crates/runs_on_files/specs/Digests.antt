@@ -4,8 +4,8 @@
 use Rattle.std.specs.Prelude.{◌≡◌, ℕ, List, Option, IfSome}
 use Rattle.std.specs.Borrow.{Bor}
 use Rattle.std.specs.List.{AllZip}
-use Rattle.shard_record.specs.Digests.{digest_of}
-use Rattle.shard_record.specs.declared.digests.CaptureDigest.{CaptureDigest}
+use Rattle.part_record.specs.Digests.{digest_of}
+use Rattle.part_record.specs.declared.digests.CaptureDigest.{CaptureDigest}
 use Rattle.program_files.specs.Opened.{IsOpened}
 
 module _ {F I : Type 0} (files : F → Option (List ℕ)) (input : I → Option (List ℕ)) where

@@ -4,15 +4,15 @@ ghost use Rattle.runs_on_files.specs.Digests.{AreDigestsOf, IsDigestOf};
 
 use arrayvec::ArrayVec;
 use capture_run::RunFault;
-use dissector::tap_of;
-use program_faults::{DigestsFailure, Failure};
-use program_files::{CAPTURE_READS, open_named, print_text, read_file};
-use shard_record::{
+use part_record::{
     CaptureDigest, CaptureDigests, DigestInput, DigestsFault, LentFault, MOST_PORTS, digests_of,
     digests_text,
 };
+use program_faults::{DigestsFailure, Failure};
+use program_files::{CAPTURE_READS, open_named, print_text, read_file};
 use std::io::Input;
 use std::rt::Files;
+use text_calls::tap_of;
 use timeline::Tap;
 
 /// Prints the digests of captures.

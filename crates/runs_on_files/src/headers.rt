@@ -1,12 +1,12 @@
 //! A look at how captures begin, before an output is emptied.
 use capture_run::RunFault;
-use dissector::tap_of;
 use pcap_io::CaptureFault;
 use pcap_stream::{Source, SourceFault};
 use program_faults::Failure;
 use program_files::{ClassicInput, Names, is_read_once, open_front};
 use std::io::{Input, Read};
 use std::rt::Files;
+use text_calls::tap_of;
 use timeline::Tap;
 
 /// How many reads are made of what a capture tells, at most.

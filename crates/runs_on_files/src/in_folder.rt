@@ -15,7 +15,8 @@ use crate::into_outputs::run_into;
 use crate::run_captures::RunCaptures;
 use program_faults::Failure;
 use program_files::{
-    FailedOutputs, Names, Outputs, ShardFile, drop_part, drop_texts, open_outputs, spare_inputs,
+    FailedOutputs, Names, Outputs, PartRecordFile, drop_part, drop_texts, open_outputs,
+    spare_inputs,
 };
 use segment_set::SegmentSet;
 use std::io::Input;
@@ -38,7 +39,7 @@ pub(crate) fn run_in_folder<'a, R: Files + Input + AllocGlobal, S: Sieve, T: Wat
     sieve: &mut S,
     watch: &mut T,
     failed: &mut FailedOutputs,
-) -> Result<Option<ShardFile<R::File>>, Failure<'a>>
+) -> Result<Option<PartRecordFile<R::File>>, Failure<'a>>
     requires settings { settings_in read.settings_text.now ≡ Ok read.settings }
     requires told { changes_in read.changes_text.now ≡ Ok read.changes.now }
     requires rising { EachBehind IsRising [] read.changes.now }
@@ -60,7 +61,7 @@ pub(crate) fn run_in_folder<'a, R: Files + Input + AllocGlobal, S: Sieve, T: Wat
         watch,
         failed,
     ) {
-        Ok(files) => Ok(files.into_shard()),
+        Ok(files) => Ok(files.into_part_record()),
         Err(failure) => Err(failure),
     }
 }

@@ -47,7 +47,7 @@ pub(crate) fn run_into<'a, F: Read + Drop, I: Read + Drop, O: Write + Drop, S: S
         ports,
         underlay,
         decisions,
-        shard,
+        part_file,
     } = outputs;
     let mut written = Outputs {
         ports,
@@ -64,7 +64,7 @@ pub(crate) fn run_into<'a, F: Read + Drop, I: Read + Drop, O: Write + Drop, S: S
         ports,
         underlay,
         decisions,
-        shard,
+        part_file,
     };
     match run {
         Ok(()) => match outputs.finish(alloc, failed) {

@@ -1,8 +1,8 @@
 //! What the captures of a run tell as outbound.
 use crate::run_captures::RunCaptures;
-use dissector::tap_of;
 use std::alloc::{AllocError, Global};
 use std::io::Read;
+use text_calls::tap_of;
 use timeline::Tap;
 
 /// How many packets of a capture were left out, since the capture tells them as outbound.

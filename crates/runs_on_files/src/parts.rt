@@ -4,7 +4,7 @@ ghost use Rattle.overlay_config.specs.Change.{IsRising, changes_in};
 ghost use Rattle.overlay_config.specs.Settings.{settings_in};
 ghost use Rattle.overlay_settings.specs.Rules.{EachBehind};
 ghost use Rattle.runs_on_files.specs.Files.{IsRunOnFiles};
-ghost use Rattle.shard_record.specs.Lent.{HaveOctets};
+ghost use Rattle.part_record.specs.Lent.{HaveOctets};
 
 use crate::digests::{lent_digests, take_digests};
 use crate::outbound::Outbound;
@@ -12,20 +12,20 @@ use crate::runs::{Done, Scope, run_on_files};
 use crate::texts::Texts;
 use arrayvec::ArrayVec;
 use capture_run::RunFault;
-use dissector::tap_of;
 use overlay_config::TimedChange;
-use program_faults::{DigestsFailure, Failure, OutputFile};
-use program_files::{FailedOutputs, Names, OutputSums, PartLines, ShardFile, count_lines};
-use segment_set::SegmentSet;
-use sha2::{Digest, Sha256};
-use shard_record::{
-    CaptureDigests, LentFault, MOST_PORTS, OutputFacts, ShardRecord, ToldOutputs, see_octets,
+use part_record::{
+    CaptureDigests, LentFault, MOST_PORTS, OutputFacts, PartRecord, ToldOutputs, see_octets,
     text_of,
 };
+use program_faults::{DigestsFailure, Failure, OutputFile};
+use program_files::{FailedOutputs, Names, OutputSums, PartLines, PartRecordFile, count_lines};
+use segment_set::SegmentSet;
+use sha2::{Digest, Sha256};
 use std::alloc::Global;
 use std::io::{Input, Write};
 use std::rt::Files;
 use stream_run::{Sieve, Watch};
+use text_calls::tap_of;
 use timeline::Tap;
 
 /// A run whose outputs are written.
@@ -36,7 +36,7 @@ pub struct Ran<F: Drop> {
     /// What the captures tell as outbound, which was left out.
     pub outbound: Vec<Outbound>,
     /// The empty file in which a part is to say what it was made from.
-    shard: Option<F>,
+    part_file: Option<F>,
     /// What it was made from.
     record: Vec<u8>,
 }
@@ -47,15 +47,15 @@ impl<F: Write + Drop> Ran<F> {
         Ran {
             cut,
             outbound,
-            shard: None,
+            part_file: None,
             record: Vec::new(alloc),
         }
     }
 
     /// Writes what a part was made from, once. No merge takes a part before.
     pub fn finish(&mut self) -> Result<(), Failure<'static>> {
-        match self.shard.take() {
-            Some(file) => write_shard(file, self.record.as_slice()),
+        match self.part_file.take() {
+            Some(file) => write_part_record(file, self.record.as_slice()),
             None => Ok(()),
         }
     }
@@ -69,7 +69,8 @@ impl<F: Write + Drop> Ran<F> {
 /// grew or was cut in the meantime is refused.
 ///
 /// `told` are the changes that their text means, where it was read before, as [`Texts::changes_read`] answers them: then it
-/// isn't read again.
+/// isn't read again. `both` is how long behind its frame what the switch itself sent may come that the sieve leaves out, in
+/// nanoseconds, where it leaves that out.
 pub fn run_part<'a, R: Files + Input + AllocGlobal, S: Sieve, T: Watch>(
     rt: &R,
     names: Names<'_, 'a>,
@@ -78,6 +79,7 @@ pub fn run_part<'a, R: Files + Input + AllocGlobal, S: Sieve, T: Watch>(
     folder: &str,
     list: &'a str,
     segments: &SegmentSet,
+    both: Option<u64>,
     sieve: &mut S,
     watch: &mut T,
     failed: &mut FailedOutputs,
@@ -97,7 +99,7 @@ pub fn run_part<'a, R: Files + Input + AllocGlobal, S: Sieve, T: Watch>(
         outbound,
         ports,
         underlay,
-        shard,
+        part_file,
     } = match run_on_files(
         rt,
         names,
@@ -120,9 +122,9 @@ pub fn run_part<'a, R: Files + Input + AllocGlobal, S: Sieve, T: Watch>(
         Ok(lines) => lines,
         Err(failure) => return Err(failure),
     };
-    let made = record_of_part(names, texts, list, &digests, lines.events);
-    let (shard, record) = match shard {
-        Some(ShardFile { file, sums }) => {
+    let made = record_of_part(names, texts, list, both, &digests, lines.events);
+    let (part_file, record) = match part_file {
+        Some(PartRecordFile { file, sums }) => {
             let outputs = outputs_told(&lines, &sums);
             (Some(file), text_of(rt.alloc(), &made, outputs.as_slice())?)
         }
@@ -132,7 +134,7 @@ pub fn run_part<'a, R: Files + Input + AllocGlobal, S: Sieve, T: Watch>(
     Ok(Ran {
         cut,
         outbound,
-        shard,
+        part_file,
         record,
     })
 }
@@ -221,11 +223,11 @@ fn cut_told(alloc: Global, cut: Vec<Tap>, segments: &SegmentSet) -> Vec<Tap> {
 }
 
 /// Writes what a part was made from.
-fn write_shard<F: Write + Drop>(file: F, text: &[u8]) -> Result<(), Failure<'static>> {
+fn write_part_record<F: Write + Drop>(file: F, text: &[u8]) -> Result<(), Failure<'static>> {
     let mut file = file;
     match file.write_all(text) {
         Ok(()) => Ok(()),
-        Err(error) => Err(Failure::writing(OutputFile::Shard, &error)),
+        Err(error) => Err(Failure::writing(OutputFile::PartRecord, &error)),
     }
 }
 
@@ -294,15 +296,16 @@ fn record_of_part<'a>(
     names: Names<'_, 'a>,
     texts: &Texts,
     segments: &'a str,
+    both: Option<u64>,
     digests: &CaptureDigests,
     events: u64,
-) -> ShardRecord<'a> {
+) -> PartRecord<'a> {
     let mut ports = ArrayVec::<[u8; 32], MOST_PORTS>::new();
     for digest in digests.ports.as_slice() {
         // There is room for as many as there are digests.
         let _ = ports.try_push(digest.sum);
     }
-    ShardRecord {
+    PartRecord {
         segments,
         settings: digest_of_text(texts.settings.as_slice()),
         changes: if names.changes.is_some() {
@@ -312,6 +315,7 @@ fn record_of_part<'a>(
         },
         ports,
         underlay: digests.underlay.sum,
+        both,
         events,
     }
 }

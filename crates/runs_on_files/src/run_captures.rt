@@ -1,12 +1,12 @@
 //! The captures of a run.
-use dissector::{failure_of_run, tap_of};
+use part_record::CountInput;
 use pcapng_input::PcapngFault;
 use program_faults::Failure;
 use program_files::{Capture, ClassicInput, Names};
-use shard_record::CountInput;
 use std::alloc::{AllocError, Global};
 use std::io::Read;
 use stream_run::{Captures, StreamFault};
+use text_calls::{failure_of_run, tap_of};
 use timeline::Tap;
 
 /// The captures of a run on files, whose octets are counted.

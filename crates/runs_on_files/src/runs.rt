@@ -16,7 +16,7 @@ use crate::unwritten::run_into_nothing;
 use capture_run::{RunFault, of_changes, of_settings};
 use overlay_config::{Settings, TimedChange, changes_of, settings_of};
 use program_faults::Failure;
-use program_files::{FailedOutputs, Names, ShardFile, open_capture, open_captures};
+use program_files::{FailedOutputs, Names, PartRecordFile, open_capture, open_captures};
 use segment_set::SegmentSet;
 use std::alloc::{AllocError, Global};
 use std::io::{Input, Read};
@@ -55,7 +55,7 @@ pub struct Done<F: Drop> {
     /// And how many that of the underlay.
     pub underlay: u64,
     /// The empty file in which a part is to say what it was made from, and the sums of its outputs.
-    pub shard: Option<ShardFile<F>>,
+    pub part_file: Option<PartRecordFile<F>>,
 }
 
 /// Runs on captures, and writes what comes out into a folder as it comes; where no folder is named nothing is made or written.
@@ -126,7 +126,7 @@ fn run_on_opened<'a, R: Files + Input + AllocGlobal, S: Sieve, T: Watch>(
         captures.entry.ports.items captures.entry.underlay new_ports new_underlay)) }
 {
     let mut captures = captures;
-    let shard = match run_on_captures(
+    let part_file = match run_on_captures(
         rt,
         names,
         texts,
@@ -138,10 +138,10 @@ fn run_on_opened<'a, R: Files + Input + AllocGlobal, S: Sieve, T: Watch>(
         watch,
         failed,
     ) {
-        Ok(shard) => shard,
+        Ok(part_file) => part_file,
         Err(failure) => return Err(failure),
     };
-    match done_on(rt.alloc(), &captures, shard) {
+    match done_on(rt.alloc(), &captures, part_file) {
         Ok(done) => Ok(done),
         Err(error) => Err(Failure::from(error)),
     }
@@ -162,7 +162,7 @@ fn run_on_captures<'a, R: Files + Input + AllocGlobal, S: Sieve, T: Watch>(
     sieve: &mut S,
     watch: &mut T,
     failed: &mut FailedOutputs,
-) -> Result<Option<ShardFile<R::File>>, Failure<'a>>
+) -> Result<Option<PartRecordFile<R::File>>, Failure<'a>>
     requires told { IfSome told (λ t. changes_in texts.now.changes.items ≡ Ok t.now) }
     requires rising { IfSome told (λ t. EachBehind IsRising [] t.now) }
     requires ports { All IsUnread captures.old.ports.items }
@@ -211,7 +211,7 @@ fn run_on_read<'a, R: Files + Input + AllocGlobal, S: Sieve, T: Watch>(
     sieve: &mut S,
     watch: &mut T,
     failed: &mut FailedOutputs,
-) -> Result<Option<ShardFile<R::File>>, Failure<'a>>
+) -> Result<Option<PartRecordFile<R::File>>, Failure<'a>>
     requires settings { settings_in texts.now.settings.items ≡ Ok settings }
     requires told { changes_in texts.now.changes.items ≡ Ok told.now }
     requires rising { EachBehind IsRising [] told.now }
@@ -267,7 +267,7 @@ fn segments_in<'s>(scope: Scope<'s>, all: &'s SegmentSet) -> &'s SegmentSet
 fn done_on<F: Read + Drop, I: Read + Drop>(
     alloc: Global,
     captures: &RunCaptures<'_, F, I>,
-    shard: Option<ShardFile<F>>,
+    part_file: Option<PartRecordFile<F>>,
 ) -> Result<Done<F>, AllocError> {
     let cut = cut_taps(alloc, captures)?;
     let outbound = outbound_of(alloc, captures)?;
@@ -277,6 +277,6 @@ fn done_on<F: Read + Drop, I: Read + Drop>(
         outbound,
         ports: counts,
         underlay: captures.underlay.input().octets(),
-        shard,
+        part_file,
     })
 }

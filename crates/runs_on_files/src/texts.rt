@@ -34,15 +34,6 @@ impl Texts {
         Ok(Texts { settings, changes })
     }
 
-    /// The changes. There are none in a text that is refused: the run tells why, behind the settings' own fault.
-    pub fn changes_told(&self, alloc: Global) -> Result<Vec<TimedChange>, AllocError> {
-        match self.changes_read(alloc) {
-            Ok(Some(changes)) => Ok(changes),
-            Ok(None) => Ok(Vec::new(alloc)),
-            Err(error) => Err(error),
-        }
-    }
-
     /// The changes that their text means, for [`run_on_files`](crate::run_on_files). None of a text that is refused: the run
     /// tells why, behind the settings' own fault.
     pub fn changes_read(&self, alloc: Global) -> Result<Option<Vec<TimedChange>>, AllocError>

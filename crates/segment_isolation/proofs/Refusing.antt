@@ -111,10 +111,11 @@ comes-same vid S T h new =
     let pool : S.pool ≡ T.pool = ap (λ (x : Seen). x.pool) h in
     let sum : sum_of_limits (tables_asked S) ≡ sum_of_limits (tables_asked T) = sum-same vid S T h in
     let count : segment_count (tables_asked S) ≡ segment_count (tables_asked T) = count-same vid S T h in
+    let most : S.overlay.underlay.limits.segments ≡ T.overlay.underlay.limits.segments = ap (λ (x : Seen). x.underlay.limits.segments) h in
     λ i. first
     ((OutOfRange, not (is_limit new.limit && is_ageing new.ageing && are_vnis new.tunnels))
     ∷ (SegmentThere, there i || not (free i))
-    ∷ (SegmentsFull, not (nat_lt (count i) 256))
+    ∷ (SegmentsFull, not (nat_lt (count i) (most i)))
     ∷ (PoolFull, nat_lt (pool i) (sum i + new.limit))
     ∷ [])
 

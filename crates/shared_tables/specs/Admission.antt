@@ -7,11 +7,11 @@ use Rattle.shared_tables.specs.declared.look_up.Beside.{Beside}
 use Rattle.shared_tables.specs.declared.admission.Outcome.TheVariants as outcome
 use Rattle.shared_tables.specs.Bucket.{key_of, IsKey, tree_of}
 use Rattle.shared_tables.specs.Pool.{Held, entry_at, IfHeld}
-use Rattle.shared_tables.specs.Threads.{IsHeld}
+use Rattle.shared_tables.specs.LinkSteps.{IsHeld}
 use Rattle.shared_tables.specs.Shared.{Shared, rule_at, span_of, Lacks, IsNow, Admits}
-use Rattle.shared_tables.specs.TreesOf.{BelongsBeside}
-use Rattle.shared_tables.specs.Trees.{Trees, number_at, place_by, planted, grafted}
-use Rattle.shared_tables.specs.Whole.{Makes, Refuses}
+use Rattle.shared_tables.specs.TreesOfSlots.{BelongsBeside}
+use Rattle.shared_tables.specs.TreeColumns.{Trees, number_at, place_by, planted, grafted}
+use Rattle.shared_tables.specs.WholePool.{Makes, Refuses}
 
 -- the entry of a newcomer
 abbrev pub held_of : Newcomer → Held

@@ -7,7 +7,7 @@ use Rattle.filter_db.specs.declared.tables.TableRule.{TableRule}
 use Rattle.filter_db.specs.Segment.{Segment, new_segments}
 use Rattle.filter_db.specs.Database.{slot}
 use Rattle.shared_tables.specs.declared.share.Share.{Share}
-use Rattle.shared_tables.specs.Sound.{share_at, share_limit}
+use Rattle.shared_tables.specs.SlotsOfSegments.{share_at, share_limit}
 
 -- a share that has no entries yet
 pub record IsNew (share : Share) : Type 0 where

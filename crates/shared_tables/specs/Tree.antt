@@ -4,7 +4,7 @@ use Rattle.std.specs.Int.{bit_at}
 use Rattle.shared_tables.specs.declared.trees.Target.{Target}
 use Rattle.shared_tables.specs.declared.trees.Target.TheVariants as target
 use Rattle.shared_tables.specs.Line.{is_on}
-use Rattle.shared_tables.specs.Trees.{child_of}
+use Rattle.shared_tables.specs.TreeColumns.{child_of}
 
 -- a leaf with its slot, or a fork with its number, the bit that parts its leaves, and what is behind it
 pub data Tree : Type 0 where

@@ -6,10 +6,10 @@
 ghost use Rattle.std.specs.Prelude.{◌≡◌, ◌↔◌, ◌<◌, ℕ, IsTrue, IsSome, Some, length};
 ghost use Rattle.shared_tables.specs.Pool.{entry_at};
 ghost use Rattle.shared_tables.specs.Shared.{rule_at, kept_count, HasRoom, Enters, IsOf};
-ghost use Rattle.shared_tables.specs.Whole.{IsWhole, seen, Replaces};
+ghost use Rattle.shared_tables.specs.WholePool.{IsWhole, seen, Replaces};
 ghost use Rattle.shared_tables.specs.Admission.{held_of, MayCome, ComesOrNot, MayAttach, Attaches};
-ghost use Rattle.shared_tables.specs.TreesOf.{leaf_of};
-ghost use Rattle.shared_tables.specs.Trees.{HasSizes};
+ghost use Rattle.shared_tables.specs.TreesOfSlots.{leaf_of};
+ghost use Rattle.shared_tables.specs.TreeColumns.{HasSizes};
 
 use crate::bucket::key;
 use crate::entries::{drop_entry, join_share, renew_entry};

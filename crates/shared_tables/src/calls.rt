@@ -8,7 +8,8 @@
 ghost use Rattle.std.specs.Prelude.{◌≡◌, ◌↔◌, ◌≤◌, ◌+◌, ℕ, IsTrue, IsSome, IsErr, IsOk, length};
 ghost use Rattle.std.specs.FinMap.{len};
 ghost use Rattle.filter_db.specs.Table.{stands, learned_as, is_full, has_fixed};
-ghost use Rattle.filter_db.specs.Segment.{aged_all, segment_at, adjusted, learn_in, fix_in, unfix_in, flush_place_in, flush_in, set_ageing_in};
+ghost use Rattle.filter_db.specs.Segment.{aged_all, segment_at, adjusted, learn_in, fix_in, unfix_in, flush_place_in, flush_in};
+ghost use Rattle.filter_db.specs.Segment.{set_ageing_in};
 ghost use Rattle.shared_tables.specs.Segments.{segments_of};
 ghost use Rattle.shared_tables.specs.Work.{ComparesFew, ComparesByBits, VisitsFew, TellsAtMost, Pays};
 

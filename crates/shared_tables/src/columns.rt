@@ -5,7 +5,7 @@
 //! tells its tree again: the fork needs no column of its own, and the first leaf of a tree comes and goes by one write.
 ghost use Rattle.std.specs.Prelude.{◌≡◌, ◌+◌, ◌*◌, ◌<◌, ◌≤◌, ◌++◌, ℕ, IfOk, length, replicate, slice_index_or, slice_set, vec_capacity};
 ghost use Rattle.std.specs.List.{range_with_len};
-ghost use Rattle.shared_tables.specs.Trees.{number_at, bare_trees};
+ghost use Rattle.shared_tables.specs.TreeColumns.{number_at, bare_trees};
 
 use crate::bucket::TREES;
 use std::alloc::{AllocError, Global};
@@ -26,11 +26,11 @@ pub struct Columns {
 }
 
 impl Model for Columns {
-    ghost use Rattle.shared_tables.specs.Trees.{Trees};
+    ghost use Rattle.shared_tables.specs.TreeColumns.{Trees};
 
     ghost Value = { Trees };
 
-    ghost use Rattle.shared_tables.specs.ColumnsInside.{columns_of, AreInOrder};
+    ghost use Rattle.shared_tables.specs.ColumnsFromNumbers.{columns_of, AreInOrder};
 
     ghost view = { columns_of };
 

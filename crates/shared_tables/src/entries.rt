@@ -6,9 +6,10 @@
 //! has its moment written alone.
 ghost use Rattle.std.specs.Prelude.{◌≡◌, ℕ, ◌<◌, Some, None, Option, IfSome, IsSome, vec_len, is_none, false, slice_set};
 ghost use Rattle.shared_tables.specs.Pool.{Pool, tree_in, links_at, entry_at, is_fixed_in, renewed, place_in};
-ghost use Rattle.shared_tables.specs.Trees.{HasSizes, MayGo, Uproots};
-ghost use Rattle.shared_tables.specs.Threads.{IsHeld, HoldsAny, dropped, moved, pushed_back};
-ghost use Rattle.shared_tables.specs.Sound.{share_at, share_moved, CountsSome, CountsMore, HasEnds, HasEndsLeft, share_without, shares_without, shares_moved, shares_with, last_left, last_in};
+ghost use Rattle.shared_tables.specs.TreeColumns.{HasSizes, MayGo, Uproots};
+ghost use Rattle.shared_tables.specs.LinkSteps.{IsHeld, HoldsAny, dropped, moved, pushed_back};
+ghost use Rattle.shared_tables.specs.SlotsOfSegments.{share_at, share_moved, CountsSome, CountsMore, HasEnds, HasEndsLeft, share_without};
+ghost use Rattle.shared_tables.specs.SlotsOfSegments.{shares_without, shares_moved, shares_with, last_left, last_in};
 
 use crate::links::SlotId;
 use crate::share::{self, Share};

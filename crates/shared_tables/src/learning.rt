@@ -6,8 +6,9 @@ ghost use Rattle.std.specs.Prelude.{◌≡◌, ℕ, ◌+◌, ◌<◌, ◌≤◌,
 ghost use Rattle.shared_tables.specs.Bucket.{bucket_of, tree_of};
 ghost use Rattle.shared_tables.specs.Admission.{FindsOrAdmits};
 ghost use Rattle.shared_tables.specs.Pool.{entry_at, is_fixed_in};
-ghost use Rattle.shared_tables.specs.Threads.{IsHeld};
-ghost use Rattle.shared_tables.specs.Shared.{rule_at, bucket_count, IsNow, span_of, Sweeps, IsOf, Relearns, Refreshes, Flushes, kept_count, stands_at};
+ghost use Rattle.shared_tables.specs.LinkSteps.{IsHeld};
+ghost use Rattle.shared_tables.specs.Shared.{rule_at, bucket_count, IsNow, span_of, Sweeps, IsOf, Relearns, Refreshes, Flushes};
+ghost use Rattle.shared_tables.specs.Shared.{kept_count, stands_at};
 ghost use Rattle.shared_tables.specs.Standing.{Empties};
 ghost use Rattle.shared_tables.specs.Work.{ComparesByBits};
 

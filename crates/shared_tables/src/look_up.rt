@@ -2,8 +2,8 @@
 ghost use Rattle.std.specs.Prelude.{◌≡◌, ℕ, ◌+◌, ◌<◌, ◌≤◌};
 ghost use Rattle.std.specs.Int.{bit_at};
 ghost use Rattle.shared_tables.specs.Shared.{bucket_count};
-ghost use Rattle.shared_tables.specs.TreesOf.{AreTreesOf};
-ghost use Rattle.shared_tables.specs.Whole.{Finds};
+ghost use Rattle.shared_tables.specs.TreesOfSlots.{AreTreesOf};
+ghost use Rattle.shared_tables.specs.WholePool.{Finds};
 ghost use Rattle.shared_tables.specs.Bucket.{bucket_of, tree_of, key_of, key_bits, IsKey};
 
 use crate::bucket;

@@ -4,9 +4,9 @@
 //! and of its list of fixed entries, and asks for no age but those of the dead that go first under a new limit. The calls
 //! that brought the entries have paid for it: two for each call is still more than all ages that were asked for and all
 //! entries that are kept.
-ghost use Rattle.std.specs.Prelude.{◌≡◌, ◌+◌, ◌<◌, ◌≤◌, None, IsSome, length};
+ghost use Rattle.std.specs.Prelude.{◌≡◌, ◌+◌, ◌≤◌, None, IsSome, length};
 ghost use Rattle.filter_db.specs.Segment.{aged_all, segment_at, adjusted, IsRule};
-ghost use Rattle.filter_db.specs.Standing.{sum_of_limits, segment_count, added, removed, set_limit_in};
+ghost use Rattle.filter_db.specs.Standing.{sum_of_limits, added, removed, set_limit_in};
 ghost use Rattle.shared_tables.specs.Segments.{segments_of};
 ghost use Rattle.shared_tables.specs.Work.{VisitsFew, Pays};
 
@@ -29,7 +29,6 @@ impl PoolTables for SharedTables {
 
     fn add(&mut self, rule: TableRule, now: u64)
         requires absent { segments_of self.old rule.vid ≡ None }
-        requires few { segment_count (segments_of self.old) < 256 }
         requires in_range { IsRule rule }
         requires room { sum_of_limits (segments_of self.old) + rule.limit ≤ length self.old.entries }
         requires time { self.old.moment ≤ now }

@@ -3,8 +3,8 @@
 //! A segment's share stands at its VID's own place, 4,096 of them, so that it is found, added and removed by one index.
 ghost use Rattle.std.specs.Prelude.{◌≡◌, ℕ, ◌<◌, Some, None, Option, length, slice_set, vec_len};
 ghost use Rattle.shared_tables.specs.Pool.{Pool, links_at};
-ghost use Rattle.shared_tables.specs.Threads.{IsHeld, HoldsAny, unlinked, pushed_back, AreEnds, ends_without, ends_with};
-ghost use Rattle.shared_tables.specs.Sound.{line_at, with_line, share_at};
+ghost use Rattle.shared_tables.specs.LinkSteps.{IsHeld, HoldsAny, unlinked, pushed_back, AreEnds, ends_without, ends_with};
+ghost use Rattle.shared_tables.specs.SlotsOfSegments.{line_at, with_line, share_at};
 ghost use Rattle.shared_tables.specs.Opened.{new_share};
 
 use crate::links::SlotId;

@@ -1,12 +1,15 @@
 //! The tables of all segments in one pool of slots.
-ghost use Rattle.std.specs.Prelude.{◌≡◌, ℕ, ◌+◌, ◌<◌, ◌≤◌, ◌↔◌, IsTrue, IfOk, IfSome, IfNone, IsSome, Some, None, Option, List, All, false, length, replicate, slice_set};
+ghost use Rattle.std.specs.Prelude.{◌≡◌, ℕ, ◌+◌, ◌<◌, ◌≤◌, ◌↔◌, IsTrue, IfOk, IfSome, IfNone, IsSome, Some, None, Option, List};
+ghost use Rattle.std.specs.Prelude.{All, false, length, replicate, slice_set};
 ghost use Rattle.std.specs.List.{sum_by};
 ghost use Rattle.filter_db.specs.declared.tables.TableRule.{TableRule};
 ghost use Rattle.filter_db.specs.Place.{same_place};
 ghost use Rattle.filter_db.specs.Segment.{IsRule, AreForDistinctVids, new_segments};
 ghost use Rattle.shared_tables.specs.Pool.{entry_at, IfHeld, is_dead_in, is_fixed_in, place_in};
-ghost use Rattle.shared_tables.specs.Threads.{IsHeld};
-ghost use Rattle.shared_tables.specs.Shared.{rule_at, Lacks, kept_count, bucket_count, IsNow, HasRoom, Refreshes, IsOf, span_of, NoneAges, IsOldest, IsOrderly, live_place, with_ageing, DropsPlace, stands_at};
+ghost use Rattle.shared_tables.specs.LinkSteps.{IsHeld};
+ghost use Rattle.shared_tables.specs.Shared.{rule_at, Lacks, kept_count, bucket_count, IsNow, HasRoom, Refreshes, IsOf};
+ghost use Rattle.shared_tables.specs.Shared.{span_of, NoneAges, IsOldest, IsOrderly, live_place, with_ageing, DropsPlace};
+ghost use Rattle.shared_tables.specs.Shared.{stands_at};
 ghost use Rattle.shared_tables.specs.Segments.{segments_of};
 ghost use Rattle.shared_tables.specs.Admission.{ComesTo};
 ghost use Rattle.shared_tables.specs.Bucket.{bucket_of, tree_of};
@@ -50,7 +53,7 @@ impl Model for SharedTables {
 
     ghost Value = { Shared };
 
-    ghost use Rattle.shared_tables.specs.SharedInside.{shared_of, IsSoundInside};
+    ghost use Rattle.shared_tables.specs.SharedFromFields.{shared_of, IsSoundInside};
 
     ghost view = { shared_of };
 

@@ -12,23 +12,24 @@
 //! the slots once, and to `entry` and `entry_count`, and count nothing, since no bridge asks for it. Where an address isn't
 //! the one of the leaf that it came to, the comparison has told the lowest bit in which the two differ: a fork on that bit
 //! parts them when the entry comes.
-ghost use Rattle.std.specs.Prelude.{◌≡◌, ℕ, ◌+◌, ◌<◌, ◌≤◌, IfOk, IfSome, IfNone, IsSome, Some, None, Option, false, length, replicate, slice_set};
-ghost use Rattle.shared_tables.specs.Pool.{Pool, tree_in, Held, entry_at, links_at, free_count, is_fixed_in, is_dead_in, alone, links_with, IfHeld, taken, freed, renewed, readdressed, place_in, free_pool};
-ghost use Rattle.shared_tables.specs.TreesOf.{PartedAt, key_in};
+ghost use Rattle.std.specs.Prelude.{◌≡◌, ◌+◌, ◌<◌, ◌≤◌, IfOk, IfSome, IfNone, IsSome, Some, None, length};
 ghost use Rattle.std.specs.Int.{bit_at};
-ghost use Rattle.shared_tables.specs.Bucket.{vid_in, mac_in};
 ghost use Rattle.filter_db.specs.Place.{same_place};
-ghost use Rattle.shared_tables.specs.Threads.{link_set};
-ghost use Rattle.shared_tables.specs.Slots.{entry_in, kind_of, moment_of};
+ghost use Rattle.shared_tables.specs.Bucket.{vid_in, mac_in};
+ghost use Rattle.shared_tables.specs.Pool.{Pool, alone, entry_at, free_count, free_pool, freed, is_dead_in, is_fixed_in, links_at};
+ghost use Rattle.shared_tables.specs.Pool.{IfHeld, taken, tree_in};
+ghost use Rattle.shared_tables.specs.Slots.{entry_in, kind_of};
+ghost use Rattle.shared_tables.specs.TreesOfSlots.{PartedAt, key_in};
 
 use crate::bucket::{key, tree_by_key};
-use crate::links::{ALONE, Link, Links, Side, SlotId};
+use crate::links::{ALONE, Link, Links, SlotId};
 use filter_db::Place;
 use frame_view::{Mac, Vid};
 use std::alloc::{AllocError, Global};
 use std::marker::Model;
 use work_count::Count;
 
+mod changing;
 mod listing;
 
 pub use listing::put_word;
@@ -138,26 +139,6 @@ fn key_of(slot: &Slot) -> u64
     slot.key
 }
 
-/// Gives its entry another address.
-fn readdress(slot: &mut Slot, vid: Vid, mac: Mac)
-    requires { IsSome (entry_in slot.old) }
-    ensures entry { entry_in slot.new ≡ readdressed (entry_in slot.old) vid mac }
-    ensures line { slot.new.line ≡ slot.old.line }
-{
-    slot.key = key(vid, mac);
-}
-
-/// Gives its entry another place and another last moment.
-fn renew(slot: &mut Slot, place: &Place, last: Option<u64>)
-    requires { IsSome (entry_in slot.old) }
-    ensures entry { entry_in slot.new ≡ renewed (entry_in slot.old) place.now last }
-    ensures line { slot.new.line ≡ slot.old.line }
-{
-    slot.place = *place;
-    slot.last = last.unwrap_or(0);
-    slot.kind = kind_of(last);
-}
-
 /// Puts an entry into it, on no line yet.
 #[inline(always)]
 fn fill(slot: &mut Slot, vid: Vid, mac: &Mac, place: &Place, last: Option<u64>)
@@ -183,36 +164,6 @@ fn filled(vid: Vid, mac: &Mac, place: &Place, last: Option<u64>) -> Slot
         line: ALONE,
         place: *place,
         kind: kind_of(last),
-    }
-}
-
-/// Gives its entry, which was learned, another last moment.
-fn see(slot: &mut Slot, last: u64)
-    requires held { IsSome (entry_in slot.old) }
-    requires learned { is_fixed_in (entry_in slot.old) ≡ false }
-    ensures entry { entry_in slot.new ≡ renewed (entry_in slot.old) (place_in (entry_in slot.old)) (Some last) }
-    ensures line { slot.new.line ≡ slot.old.line }
-{
-    slot.last = last;
-}
-
-/// Gives it other neighbours, each written by itself.
-#[inline(always)]
-fn set_links(slot: &mut Slot, links: Links)
-    ensures { slot.new ≡ record slot.old { line = links } }
-{
-    slot.line.previous = links.previous;
-    slot.line.next = links.next;
-}
-
-/// Gives it another neighbour on one side.
-#[inline(always)]
-fn set_link(slot: &mut Slot, side: Side, link: Link)
-    ensures { slot.new ≡ record slot.old { line = links_with side slot.old.line link } }
-{
-    match side {
-        Side::Previous => slot.line.previous = link,
-        Side::Next => slot.line.next = link,
     }
 }
 
@@ -288,16 +239,6 @@ impl Slots {
         is_dead(&self.slots[slot.number as usize], ageing, now)
     }
 
-    /// Gives the slot's entry another address.
-    pub fn readdress(&mut self, slot: SlotId, vid: Vid, mac: Mac)
-        requires in_pool { slot < length self.old.entries }
-        requires held { IsSome (entry_at self.old.entries slot) }
-        ensures { self.new
-            ≡ record self.old { entries = slice_set self.old.entries slot (readdressed (entry_at self.old.entries slot) vid mac) } }
-    {
-        readdress(&mut self.slots[slot.number as usize], vid, mac);
-    }
-
     /// Whether a slot holds a fixed entry.
     pub fn is_fixed(&self, slot: SlotId) -> bool
         requires in_pool { slot < length self.now.entries }
@@ -346,26 +287,6 @@ impl Slots {
         self.slots[slot.number as usize].place == *place
     }
 
-    /// Gives the slot other neighbours.
-    #[inline(always)]
-    pub fn set_links(&mut self, slot: SlotId, links: Links)
-        requires in_pool { slot < length self.old.entries }
-        requires held { IsSome (entry_at self.old.entries slot) }
-        ensures { self.new ≡ record self.old { lines = slice_set self.old.lines slot links } }
-    {
-        set_links(&mut self.slots[slot.number as usize], links);
-    }
-
-    /// Gives the slot another neighbour on one side.
-    #[inline(always)]
-    pub fn set_link(&mut self, side: Side, slot: SlotId, link: Link)
-        requires in_pool { slot < length self.old.entries }
-        requires held { IsSome (entry_at self.old.entries slot) }
-        ensures { self.new ≡ record self.old { lines = link_set side self.old.lines (Some slot) link } }
-    {
-        set_link(&mut self.slots[slot.number as usize], side, link);
-    }
-
     /// Takes a free slot for an entry: one that was freed, or else one that wasn't taken yet.
     pub fn take(&mut self, vid: Vid, mac: &Mac, place: &Place, last: Option<u64>) -> SlotId
         requires { 0 < free_count self.old.entries }
@@ -386,28 +307,6 @@ impl Slots {
                 slot
             }
         }
-    }
-
-    /// Gives the slot's entry another place and another last moment.
-    pub fn renew(&mut self, slot: SlotId, place: &Place, last: Option<u64>)
-        requires in_pool { slot < length self.old.entries }
-        requires held { IsSome (entry_at self.old.entries slot) }
-        ensures { self.new
-            ≡ record self.old { entries = slice_set self.old.entries slot (renewed (entry_at self.old.entries slot) place.now last) } }
-    {
-        renew(&mut self.slots[slot.number as usize], place, last);
-    }
-
-    /// Gives the slot's entry, which was learned, another last moment.
-    #[inline(always)]
-    pub fn see(&mut self, slot: SlotId, last: u64)
-        requires in_pool { slot < length self.old.entries }
-        requires held { IsSome (entry_at self.old.entries slot) }
-        requires learned { is_fixed_in (entry_at self.old.entries slot) ≡ false }
-        ensures { let e = entry_at self.old.entries slot in
-            self.new ≡ record self.old { entries = slice_set self.old.entries slot (renewed e (place_in e) (Some last)) } }
-    {
-        see(&mut self.slots[slot.number as usize], last);
     }
 
     /// Frees a slot.

@@ -6,7 +6,7 @@
 //! is left for another VID. An added segment is empty by that count.
 ghost use Rattle.std.specs.Prelude.{◌≡◌, ◌<◌, None, slice_set, vec_len};
 ghost use Rattle.std.specs.List.{sum_by};
-ghost use Rattle.shared_tables.specs.Sound.{share_limit};
+ghost use Rattle.shared_tables.specs.SlotsOfSegments.{share_limit};
 ghost use Rattle.shared_tables.specs.Standing.{one_there};
 
 use crate::share::Share;

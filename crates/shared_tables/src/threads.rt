@@ -1,7 +1,8 @@
 //! Lines through the slots, linked both ways.
 ghost use Rattle.std.specs.Prelude.{◌≡◌};
 ghost use Rattle.shared_tables.specs.Pool.{links_at};
-ghost use Rattle.shared_tables.specs.Threads.{IsHeld, HoldsAny, link_set, ends_set, unlinked, pushed_back, AreEnds, ends_without, ends_with};
+ghost use Rattle.shared_tables.specs.LinkSteps.{IsHeld, HoldsAny, link_set, ends_set, unlinked, pushed_back, AreEnds};
+ghost use Rattle.shared_tables.specs.LinkSteps.{ends_without, ends_with};
 
 use crate::links::{Link, Links, Side, SlotId};
 use crate::slots::Slots;

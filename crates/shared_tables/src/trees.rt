@@ -7,7 +7,8 @@
 //! fork there can part them by it again. A new leaf takes the place of the one that the look-up came to, below a new fork,
 //! and a leaf that goes takes the fork above it along: both take a few writes and no walk.
 ghost use Rattle.std.specs.Prelude.{◌≡◌, ◌+◌, ◌-◌, ◌/◌, ◌%◌, ◌<◌, ◌≤◌, ◌↔◌, IsTrue, IfOk, length};
-ghost use Rattle.shared_tables.specs.Trees.{target_in, IsFork, fork_word, child_of, target_at, number_at, place_by, planted, grafted, cleared, pruned, standing, Uproots, MayGo, HasSizes, bare_trees, Names};
+ghost use Rattle.shared_tables.specs.TreeColumns.{target_in, IsFork, fork_word, child_of, target_at, number_at, place_by, planted};
+ghost use Rattle.shared_tables.specs.TreeColumns.{grafted, cleared, pruned, standing, Uproots, MayGo, HasSizes, bare_trees, Names};
 
 use crate::bucket::TREES;
 use crate::columns::{Columns, NOTHING};
@@ -44,7 +45,7 @@ pub struct Trees {
 }
 
 impl Model for Trees {
-    ghost use Rattle.shared_tables.specs.Trees.{Trees};
+    ghost use Rattle.shared_tables.specs.TreeColumns.{Trees};
 
     ghost Value = { Trees };
 
@@ -79,7 +80,7 @@ pub fn bit_in(word: u32) -> u32
 
 /// What a word says.
 #[inline(always)]
-#[tactic(auto, unfolding(crate::specs::Trees::target_in))]
+#[tactic(auto, unfolding(crate::specs::TreeColumns::target_in))]
 pub fn read(word: u32) -> Target
     ensures { result ≡ target_in word }
 {
@@ -113,7 +114,7 @@ fn child(fork: u32, side: u32) -> u32
 
 /// The place where what has a number in a tree stands.
 #[inline(always)]
-#[tactic(auto, unfolding(crate::specs::Trees::place_by))]
+#[tactic(auto, unfolding(crate::specs::TreeColumns::place_by))]
 fn place_by(tree: usize, number: u32) -> usize
     ensures { result ≡ place_by tree number }
 {

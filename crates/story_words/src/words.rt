@@ -1,6 +1,8 @@
 //! Words, and the values among them.
 ghost use Rattle.std.specs.Prelude.{◌≡◌, ◌++◌, if◌then◌else◌, OnOk, codes, decimal, string_bytes};
-ghost use Rattle.story_words.specs.Words.{behind_colons, mac_text, place_text, port_text, up_word, tunnel_word, group_word, destination_word, origin_word, member_word, receiver_word, sum_word, listed_word, last_text, egress_word, stood_text};
+ghost use Rattle.story_words.specs.Words.{behind_colons, mac_text, place_text, port_text, up_word, tunnel_word, group_word};
+ghost use Rattle.story_words.specs.Words.{destination_word, origin_word, member_word, receiver_word, sum_word, listed_word};
+ghost use Rattle.story_words.specs.Words.{last_text, egress_word, stood_text};
 
 use endpoint_core::{put_hex, put_place};
 use filter_db::{Entry, Place};

@@ -1,12 +1,12 @@
 -- The live entries of segments as lines of text: `segment 10 02:00:00:00:00:07 p2 seen 7000000000 age 3.000000000`,
 -- and `segment 10 02:00:00:00:00:09 192.0.2.2 fixed`. It states no standard.
-use Rattle.std.specs.Prelude.{ℕ, ◌-◌, ◌/◌, ◌%◌, if◌then◌else◌, Bool, List, [], ◌∷◌, ◌++◌, length, replicate, codes, decimal, Option, Some, None}
+use Rattle.std.specs.Prelude.{ℕ, max, ◌-◌, ◌/◌, ◌%◌, if◌then◌else◌, Bool, List, [], ◌∷◌, ◌++◌, length, replicate, codes, decimal, Option, Some, None}
 use Rattle.std.specs.FinMap.{entries}
 use Rattle.std.specs.List.{flat_map, range_with_len}
-use Rattle.header_sums.specs.Octets.{octet}
+use Rattle.header_octets.specs.Octets.{octet}
 use Rattle.segment_set.specs.Segments.{Segments, holds}
 use Rattle.filter_db.specs.declared.entry.Entry.{Entry}
-use Rattle.endpoint_core.specs.Step.{State, has_two_tunnels}
+use Rattle.endpoint_core.specs.Step.{State, has_two_tunnels, passed}
 use Rattle.endpoint_core.specs.Text.{hex_octet, place_text}
 
 -- six pairs of hexadecimal digits between colons
@@ -45,6 +45,12 @@ lines_among segments s vid = if holds segments (Some vid) then segment_lines s v
 -- the VIDs that a segment may have (IEEE 802.1Q, 9.6)
 unfoldable pub vids : List ℕ
 vids = range_with_len 1 4094
+
+-- what is shown of a state: as it is behind its last event, or as it is at a moment up to which nothing more comes, where that
+-- isn't before
+abbrev pub shown_at : Option ℕ → State → State
+shown_at None s = s
+shown_at (Some moment) s = passed (max moment s.moment) s
 
 -- the lines of all segments that are asked for, their VIDs rising; a whole run asks for all
 abbrev pub tables_text : Segments → State → List ℕ

@@ -1,29 +1,33 @@
 //! The lines of segments.
-ghost use Rattle.std.specs.Prelude.{◌≡◌, ◌++◌, IfOk, OnOk, string_bytes};
+ghost use Rattle.std.specs.Prelude.{◌≡◌, ◌≤◌, ◌++◌, IfOk, OnOk, string_bytes};
+ghost use Rattle.std.specs.List.{flat_map};
 ghost use Rattle.endpoint_core.specs.Kept.{state_of};
-ghost use Rattle.endpoint_core.specs.Step.{has_two_tunnels};
-ghost use Rattle.table_lines.specs.Lines.{lines_among, segment_lines, tables_text};
+ghost use Rattle.endpoint_core.specs.Step.{has_two_tunnels, passed};
+ghost use Rattle.table_lines.specs.Lines.{entry_line, lines_among, segment_lines, shown_at, tables_text};
 
 use crate::line::put_line;
 use endpoint_core::Endpoint;
-use frame_view::Vid;
+use filter_db::Entry;
+use frame_view::{Mac, Vid};
 use segment_set::SegmentSet;
 use std::alloc::{AllocError, Global};
 
-/// The live entries of the segments that are asked for, at the moment of the endpoint's last step, one a line, the VIDs rising
-/// and within a segment the addresses. Of each VID that is asked for the entries are listed once, where it has a segment.
-/// `AllocError`: there was no room for the text.
+/// The live entries of the segments that are asked for, one a line, the VIDs rising and within a segment the addresses: at a
+/// moment, in nanoseconds, up to which nothing more comes, or without one at that of the endpoint's last step, and never before
+/// that. Of each VID that is asked for the entries are listed once, where it has a segment. `AllocError`: there was no room for
+/// the text.
 pub fn tables_text(
     alloc: Global,
     endpoint: &Endpoint,
     segments: &SegmentSet,
+    at: Option<u64>,
 ) -> Result<Vec<u8>, AllocError>
-    ensures { IfOk result (λ text. text.items ≡ tables_text segments.now (state_of endpoint.now)) }
+    ensures { IfOk result (λ text. text.items ≡ tables_text segments.now (shown_at at (state_of endpoint.now))) }
 {
     let mut text = String::new(alloc);
     for number in 1..4095 {
         if let Some(vid) = Vid::new(number) {
-            put_asked(alloc, &mut text, endpoint, segments, vid)?;
+            put_asked(alloc, &mut text, endpoint, segments, at, vid)?;
         }
     }
     Ok(text.into_bytes())
@@ -35,14 +39,18 @@ fn put_asked(
     text: &mut String,
     endpoint: &Endpoint,
     segments: &SegmentSet,
+    at: Option<u64>,
     vid: Vid,
 ) -> Result<(), AllocError>
-    ensures { OnOk result (string_bytes text.new ≡ string_bytes text.old ++ lines_among segments.now (state_of endpoint.now) vid) }
+    ensures { OnOk result (string_bytes text.new ≡ string_bytes text.old ++ lines_among segments.now (shown_at at (state_of endpoint.now)) vid) }
 {
     if !segments.has(Some(vid)) {
         return Ok(());
     }
-    put_segment(alloc, text, endpoint, vid)
+    match at {
+        Some(moment) => put_segment_at(alloc, text, endpoint, moment.max(endpoint.now()), vid),
+        None => put_segment(alloc, text, endpoint, vid),
+    }
 }
 
 /// Puts the lines of a segment.
@@ -55,9 +63,47 @@ fn put_segment(
     ensures { OnOk result (string_bytes text.new ≡ string_bytes text.old ++ segment_lines (state_of endpoint.now) vid) }
 {
     let rows = endpoint.entries(alloc, vid)?;
-    let two_tunnels = has_two_tunnels(endpoint, vid);
-    let now = endpoint.now();
-    for (mac, entry) in &rows {
+    put_rows(
+        text,
+        has_two_tunnels(endpoint, vid),
+        endpoint.now(),
+        vid,
+        rows.as_slice(),
+    )
+}
+
+/// Puts the lines of a segment at a moment that isn't before the last step's.
+fn put_segment_at(
+    alloc: Global,
+    text: &mut String,
+    endpoint: &Endpoint,
+    moment: u64,
+    vid: Vid,
+) -> Result<(), AllocError>
+    requires { (state_of endpoint.now).moment ≤ moment }
+    ensures { OnOk result (string_bytes text.new ≡ string_bytes text.old ++ segment_lines (passed moment (state_of endpoint.now)) vid) }
+{
+    let rows = endpoint.entries_at(alloc, vid, moment)?;
+    put_rows(
+        text,
+        has_two_tunnels(endpoint, vid),
+        moment,
+        vid,
+        rows.as_slice(),
+    )
+}
+
+/// Puts the lines of these entries at a moment.
+fn put_rows(
+    text: &mut String,
+    two_tunnels: bool,
+    now: u64,
+    vid: Vid,
+    rows: &[(Mac, Entry)],
+) -> Result<(), AllocError>
+    ensures { OnOk result (string_bytes text.new ≡ string_bytes text.old ++ flat_map (entry_line two_tunnels now vid) rows.now) }
+{
+    for (mac, entry) in rows {
         put_line(text, two_tunnels, now, vid, *mac, *entry)?;
     }
     Ok(())

@@ -1,6 +1,6 @@
 -- Who talks to whom, and the order of these. It states no standard.
 use Rattle.std.specs.Prelude.{ℕ, ◌+◌, ◌*◌, ◌^◌}
-use Rattle.header_sums.specs.Octets.{field}
+use Rattle.header_octets.specs.Octets.{field}
 use Rattle.ip_udp_view.specs.declared.addr.Addr.{Addr}
 use Rattle.ip_udp_view.specs.declared.addr.Addr.TheVariants.{V4, V6}
 use Rattle.ip_udp_view.specs.declared.addr.Tunnel.{Tunnel}

@@ -24,11 +24,12 @@ pub enum Exit {
 
 impl Exit {
     /// Whether it is the other.
+    #[inline(always)]
     fn is_same(&self, other: &Exit) -> bool
         ensures { result ≡ true → self.now ≡ other.now }
     {
         match (self, other) {
-            (Exit::To(place), Exit::To(another)) => place == another,
+            (Exit::To(place), Exit::To(another)) => is_same_place(place, another),
             (Exit::Flood, Exit::Flood) | (Exit::Drop, Exit::Drop) => true,
             _ => false,
         }
@@ -65,6 +66,7 @@ impl Ranked for Talk {
         pair < other_pair
     }
 
+    #[inline(always)]
     fn is_same(&self, other: &Talk) -> bool {
         self.has_addresses_of(other) && self.has_places_of(other)
     }
@@ -97,6 +99,7 @@ impl Talk {
 
     /// Whether it has the segment, source and destination of another.
     #[tactic(auto, unfolding(crate::specs::Talk::pair_number))]
+    #[inline(always)]
     fn has_addresses_of(&self, other: &Talk) -> bool
         ensures { result ≡ true → pair_number self.now ≡ pair_number other.now }
     {
@@ -107,10 +110,11 @@ impl Talk {
 
     /// Whether it has the places of another.
     #[tactic(auto, unfolding(crate::specs::Talk::places_number))]
+    #[inline(always)]
     fn has_places_of(&self, other: &Talk) -> bool
         ensures { result ≡ true → places_number self.now ≡ places_number other.now }
     {
-        self.from == other.from && self.to.is_same(&other.to)
+        is_same_place(&self.from, &other.from) && self.to.is_same(&other.to)
     }
 
     /// That the number of its places ends below 2^262. It does nothing.
@@ -119,5 +123,16 @@ impl Talk {
         ensures { places_number self.now < 2 ^ 262 }
     {
         let _ = self.places_number();
+    }
+}
+
+/// Whether a place is another. Most are local ports.
+#[inline(always)]
+fn is_same_place(place: &Place, other: &Place) -> bool
+    ensures { result ≡ true → place.now ≡ other.now }
+{
+    match (place, other) {
+        (Place::Local(port), Place::Local(another)) => port == another,
+        _ => place == other,
     }
 }

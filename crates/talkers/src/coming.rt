@@ -3,9 +3,10 @@ ghost use Rattle.std.specs.Prelude.{◌≡◌, ◌≤◌, length, true};
 ghost use Rattle.endpoint_core.specs.Kept.{state_of};
 ghost use Rattle.talk_rows.specs.Passed.{one_frame};
 ghost use Rattle.talkers.specs.Talkers.{coming_at, coming_by, coming_of, talk_of};
+ghost use Rattle.timeline.specs.declared.source.Tap.TheVariants.{Port, Underlay};
 ghost use Rattle.vlan_ports.specs.Ports.{is_port};
 
-use endpoint_core::{Course, Endpoint};
+use endpoint_core::{Course, Endpoint, nothing_came};
 use filter_db::Place;
 use frame_view::{Mac, Vid};
 use talk_rows::{Exit, Passed, Talk};
@@ -51,35 +52,69 @@ impl Coming {
     }
 }
 
-/// The frame that what happens brings to a segment, where it brings one.
-pub(crate) fn coming_of(endpoint: &Endpoint, moment: u64, happening: &Happening) -> Option<Coming>
-    ensures { result ≡ coming_of (state_of endpoint.now).bridges.settings moment happening.now }
+/// Keeps the frame that what happens brings to a segment, where it brings one. It is written where it lies: a result in its place
+/// would be put together and copied.
+pub(crate) fn keep_coming(
+    endpoint: &Endpoint,
+    moment: u64,
+    happening: &Happening,
+    coming: &mut Option<Coming>,
+)
+    ensures { coming.new ≡ coming_of (state_of endpoint.now).bridges.settings moment happening.now }
 {
     match happening {
-        Happening::Change(_) => None,
-        Happening::Record(tap, captured) => coming_at(endpoint, moment, *tap, captured),
+        Happening::Change(_) => *coming = None,
+        Happening::Record(tap, captured) => keep_at(endpoint, moment, *tap, captured, coming),
     }
 }
 
-/// The frame that octets at a place are, where they come to a segment.
-fn coming_at(endpoint: &Endpoint, moment: u64, tap: Tap, captured: &Captured) -> Option<Coming>
-    ensures { result ≡ coming_at (state_of endpoint.now).bridges.settings moment tap captured.now }
+/// Keeps the frame that octets at a place are, where they come to a segment.
+fn keep_at(
+    endpoint: &Endpoint,
+    moment: u64,
+    tap: Tap,
+    captured: &Captured,
+    coming: &mut Option<Coming>,
+)
+    ensures { coming.new ≡ coming_at (state_of endpoint.now).bridges.settings moment tap captured.now }
 {
     match tap {
-        Tap::Port(port) => {
-            if !is_port(endpoint, port) {
-                return None;
-            }
-            coming_by(
-                moment,
-                &endpoint.frame_from(port, captured.original, captured.octets),
-            )
-        }
-        Tap::Underlay => coming_by(
-            moment,
-            &endpoint.frame_in(captured.original, captured.octets),
-        ),
+        Tap::Port(port) => keep_at_port(endpoint, moment, port, captured, coming),
+        Tap::Underlay => keep_at_underlay(endpoint, moment, captured, coming),
     }
+}
+
+/// Keeps the frame that octets at the port of this number are, where they come to a segment.
+fn keep_at_port(
+    endpoint: &Endpoint,
+    moment: u64,
+    port: u8,
+    captured: &Captured,
+    coming: &mut Option<Coming>,
+)
+    ensures { coming.new ≡ coming_at (state_of endpoint.now).bridges.settings moment (Port port) captured.now }
+{
+    if !is_port(endpoint, port) {
+        *coming = None;
+        return;
+    }
+    let mut course = nothing_came();
+    endpoint.bring_frame(port, captured.original, captured.octets, &mut course);
+    keep_by(moment, &course, coming);
+}
+
+/// Keeps the frame that octets at the underlay bring, where it comes to a segment.
+fn keep_at_underlay(
+    endpoint: &Endpoint,
+    moment: u64,
+    captured: &Captured,
+    coming: &mut Option<Coming>,
+)
+    ensures { coming.new ≡ coming_at (state_of endpoint.now).bridges.settings moment Underlay captured.now }
+{
+    let mut course = nothing_came();
+    endpoint.bring_packet(captured.original, captured.octets, &mut course);
+    keep_by(moment, &course, coming);
 }
 
 /// Whether the port of this number is there.
@@ -89,22 +124,23 @@ fn is_port(endpoint: &Endpoint, port: u8) -> bool
     1 <= port && port <= endpoint.ports()
 }
 
-/// A frame that comes to a segment, where it does.
-fn coming_by(moment: u64, came: &Course) -> Option<Coming>
-    ensures { result ≡ coming_by moment came.now }
+/// Keeps a frame that comes to a segment, where it does.
+#[inline(always)]
+fn keep_by(moment: u64, came: &Course, coming: &mut Option<Coming>)
+    ensures { coming.new ≡ coming_by moment came.now }
 {
     match came {
         Ok(came) => {
             let frame = came.frame();
-            Some(Coming {
+            *coming = Some(Coming {
                 vid: came.segment(),
                 source: frame.src(),
                 from: came.place(),
                 destination: frame.dst(),
                 octets: ADDRESSES + frame.body.len() as u64,
                 moment,
-            })
+            });
         }
-        Err(_) => None,
+        Err(_) => *coming = None,
     }
 }

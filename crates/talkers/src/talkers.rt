@@ -6,7 +6,7 @@ ghost use Rattle.endpoint_core.specs.Step.{Decided};
 ghost use Rattle.talkers.specs.Lines.{talks_text};
 ghost use Rattle.talkers.specs.Talkers.{answer_told, exit_of, exit_to, expecting, no_talkers, rows_told, talk_rows};
 
-use crate::coming::{Coming, coming_of};
+use crate::coming::{Coming, keep_coming};
 use crate::lines::put_talks;
 use endpoint_core::{ChangeFault, Course, Endpoint};
 use filter_db::Place;
@@ -86,7 +86,7 @@ impl Talkers {
     fn expect(&mut self, endpoint: &Endpoint, event: &Event)
         ensures { self.new ≡ expecting self.old (state_of endpoint.now).bridges.settings event.now.moment event.now.happening }
     {
-        self.coming = coming_of(endpoint, event.moment, &event.happening);
+        keep_coming(endpoint, event.moment, &event.happening, &mut self.coming);
     }
 
     /// Counts the frame that is kept, where it goes.

@@ -15,7 +15,7 @@ use Rattle.tenants_apart.proofs.Telling.{departures-own, lines-own, departures-a
 abbrev aged_empty : ℕ → Part → Own
 aged_empty t p = record { settings = p; table = live_in p.bridge t empty }
 
-Related-opened : (vid : ℕ) (S T : Settings) → part_of vid S ≡ part_of vid T → Related vid (opened S) (opened T)
+pub Related-opened : (vid : ℕ) (S T : Settings) → part_of vid S ≡ part_of vid T → Related vid (opened S) (opened T)
 Related-opened vid S T same = Related-made vid (opened S) (opened T) (λ t. ap (aged_empty t) same)
 
 pub answers-alike : (vid : ℕ) (S T : Settings) (es fs : List Event) → IsRising 0 es → IsRising 0 fs → part_of vid S ≡ part_of vid T

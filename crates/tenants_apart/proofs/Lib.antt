@@ -16,6 +16,7 @@ pub mod SecondTag
 pub mod Single
 pub mod Stepping
 pub mod Stopped
+pub mod Tables
 pub mod Telling
 pub mod Told
 pub mod Vnis

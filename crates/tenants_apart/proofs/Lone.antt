@@ -116,8 +116,8 @@ module _ (vid : ℕ) (S T : Settings) (h : part_of vid S ≡ part_of vid T) (lon
   still : (a b c d : ℕ) → a ≡ c → d ≤ b → nat_lt a b ≡ false → nat_lt c d ≡ false
   still a b c d same less fails = let fewer = ltb-false a b fails in le-ltb c d (omega (arith, fewer, same, less))
 
-  still-less : (a b c : ℕ) → b ≤ a → not (nat_lt a c) ≡ false → not (nat_lt b c) ≡ false
-  still-less a b c less fails = let lt : a < c = ltb-true a c (not-false (nat_lt a c) fails) in ap not (lt-ltb b c (omega (arith, lt, less)))
+  still-less : (a b c d : ℕ) → b ≤ a → c ≡ d → not (nat_lt a c) ≡ false → not (nat_lt b d) ≡ false
+  still-less a b c d less same fails = let lt : a < c = ltb-true a c (not-false (nat_lt a c) fails) in ap not (lt-ltb b d (omega (arith, lt, less, same)))
 
   module _ (pool : S.pool ≡ T.pool) where
     segment-same : (v : ℕ) → (vid == v) ≡ true → segment_at S v ≡ segment_at T v
@@ -127,16 +127,16 @@ module _ (vid : ℕ) (S T : Settings) (h : part_of vid S ≡ part_of vid T) (lon
     comes-calm new about calm = by (not (is_limit new.limit && is_ageing new.ageing && are_vnis new.tunnels)) calm
       where
         by : (b : Bool)
-            → wants_room (first ((OutOfRange, b) ∷ (SegmentThere, is_taken S new) ∷ (SegmentsFull, not (nat_lt (segment_count (tables_asked S)) 256)) ∷ (PoolFull, is_too_much S new.limit) ∷ [])) ≡ false
-            → wants_room (first ((OutOfRange, b) ∷ (SegmentThere, is_taken T new) ∷ (SegmentsFull, not (nat_lt (segment_count (tables_asked T)) 256)) ∷ (PoolFull, is_too_much T new.limit) ∷ [])) ≡ false
+            → wants_room (first ((OutOfRange, b) ∷ (SegmentThere, is_taken S new) ∷ (SegmentsFull, not (nat_lt (segment_count (tables_asked S)) S.overlay.underlay.limits.segments)) ∷ (PoolFull, is_too_much S new.limit) ∷ [])) ≡ false
+            → wants_room (first ((OutOfRange, b) ∷ (SegmentThere, is_taken T new) ∷ (SegmentsFull, not (nat_lt (segment_count (tables_asked T)) T.overlay.underlay.limits.segments)) ∷ (PoolFull, is_too_much T new.limit) ∷ [])) ≡ false
         by true x = refl
         by false x =
-            let rows : List (ChangeFault × Bool) = (SegmentThere, is_taken S new) ∷ (SegmentsFull, not (nat_lt (segment_count (tables_asked S)) 256)) ∷ (PoolFull, is_too_much S new.limit) ∷ [] in
+            let rows : List (ChangeFault × Bool) = (SegmentThere, is_taken S new) ∷ (SegmentsFull, not (nat_lt (segment_count (tables_asked S)) S.overlay.underlay.limits.segments)) ∷ (PoolFull, is_too_much S new.limit) ∷ [] in
             let none = NothingHolds-from rows (none-wants rows (refl, (refl, (refl, tt))) x) in
             let parts = or_parts (is_some (segment_at S new.vid)) (not (are_free S.overlay new.tunnels)) none.0 in
             let there : is_some (segment_at T new.vid) ≡ false = ap is_some (sym (segment-same new.vid about)) ∙ parts.0 in
             let free : are_free T.overlay new.tunnels ≡ true = free-too new.tunnels (not-false (are_free S.overlay new.tunnels) parts.1) in
-            let full : not (nat_lt (segment_count (tables_asked T)) 256) ≡ false = still-less (segment_count (tables_asked S)) (segment_count (tables_asked T)) 256 count-less none.1.0 in
+            let full : not (nat_lt (segment_count (tables_asked T)) T.overlay.underlay.limits.segments) ≡ false = still-less (segment_count (tables_asked S)) (segment_count (tables_asked T)) S.overlay.underlay.limits.segments T.overlay.underlay.limits.segments count-less (ap (λ (p : Part). p.underlay.limits.segments) h) none.1.0 in
             let much : is_too_much T new.limit ≡ false = still S.pool (sum_of_limits (tables_asked S) + new.limit) T.pool (sum_of_limits (tables_asked T) + new.limit) pool (omega (arith, limits-less)) none.1.1.0 in
             λ i. wants_room (first ((SegmentThere, there i || not (free i)) ∷ (SegmentsFull, full i) ∷ (PoolFull, much i) ∷ []))
 

@@ -47,8 +47,8 @@ first-same row rows others all both calm quiet = by row.1 calm quiet
 comes-same : (S T : Settings) (new : NewSegment) → wants_room (refused S (AddSegment new)) ≡ false → wants_room (refused T (AddSegment new)) ≡ false → refused S (AddSegment new) ≡ refused T (AddSegment new)
 comes-same S T new calm quiet =
     first-same (OutOfRange, not (is_limit new.limit && is_ageing new.ageing && are_vnis new.tunnels))
-    ((SegmentThere, is_taken S new) ∷ (SegmentsFull, not (nat_lt (segment_count (tables_asked S)) 256)) ∷ (PoolFull, is_too_much S new.limit) ∷ [])
-    ((SegmentThere, is_taken T new) ∷ (SegmentsFull, not (nat_lt (segment_count (tables_asked T)) 256)) ∷ (PoolFull, is_too_much T new.limit) ∷ [])
+    ((SegmentThere, is_taken S new) ∷ (SegmentsFull, not (nat_lt (segment_count (tables_asked S)) S.overlay.underlay.limits.segments)) ∷ (PoolFull, is_too_much S new.limit) ∷ [])
+    ((SegmentThere, is_taken T new) ∷ (SegmentsFull, not (nat_lt (segment_count (tables_asked T)) T.overlay.underlay.limits.segments)) ∷ (PoolFull, is_too_much T new.limit) ∷ [])
     (refl, (refl, (refl, tt))) (refl, (refl, (refl, tt))) calm quiet
 
 limited-same : (S T : Settings) (limit : ℕ) (o p : Option SegmentSettings) → o ≡ p

@@ -63,7 +63,7 @@ abbrev pub row_of : State → Event → Row
 row_of s e = record { event = e; reply = answer s e }
 
 module _ (vid : ℕ) where
-  abbrev is_own : State → Event → Bool
+  abbrev pub is_own : State → Event → Bool
   is_own s e = names_or_concerns vid s.bridges.settings e.input
 
   abbrev pub own_from : State → List Event → List Event
@@ -124,11 +124,16 @@ module _ (vid : ℕ) where
   unfolding Related
   Related-made s r same t late later = same t
 
+  -- what both have of the segment at a moment behind both
+  pub Related-at : (s r : State) → Related s r → (t : ℕ) → s.moment ≤ t → r.moment ≤ t → owned vid (aged t s.bridges) ≡ owned vid (aged t r.bridges)
+  unfolding Related
+  Related-at s r h t late later = h t late later
+
   Related-turned : (s r : State) → Related s r → Related r s
   unfolding Related
   Related-turned s r h t later late = sym (h t late later)
 
-  Related-kept : (s r : State) (e : Event) → s.moment ≤ e.at → r.moment ≤ e.at → Related s r → is_own s e ≡ true → is_own r e ≡ true → AreRoomAlike vid s.bridges.settings r.bridges.settings e.input → Related (after s e) (after r e)
+  pub Related-kept : (s r : State) (e : Event) → s.moment ≤ e.at → r.moment ≤ e.at → Related s r → is_own s e ≡ true → is_own r e ≡ true → AreRoomAlike vid s.bridges.settings r.bridges.settings e.input → Related (after s e) (after r e)
   unfolding Related
   Related-kept s r e late later h own other room t from since =
       ap (λ (w : Own). aged_own t (aged_own e.at w)) (after-same vid e.at (aged e.at s.bridges) (aged e.at r.bridges) (h e.at late later) e.input own other room)
@@ -137,7 +142,7 @@ module _ (vid : ℕ) where
   unfolding Related
   answers-same s r e late later h own other room = answer-same vid e.at (aged e.at s.bridges) (aged e.at r.bridges) (h e.at late later) e.input own other room
 
-  Related-left : (s r : State) (e : Event) → s.moment ≤ e.at → Related s r → is_own s e ≡ false → Related (after s e) r
+  pub Related-left : (s r : State) (e : Event) → s.moment ≤ e.at → Related s r → is_own s e ≡ false → Related (after s e) r
   unfolding Related
   Related-left s r e late h other t from since =
       ap (λ (w : Own). aged_own t (aged_own e.at w)) (after-other vid e.at (aged e.at s.bridges) e.input other)
@@ -145,7 +150,7 @@ module _ (vid : ℕ) where
       ∙ aged_own-twice e.at t (owned vid s.bridges) from
       ∙ h t (le_trans late from) since
 
-  Related-right : (s r : State) (e : Event) → r.moment ≤ e.at → Related s r → is_own r e ≡ false → Related s (after r e)
+  pub Related-right : (s r : State) (e : Event) → r.moment ≤ e.at → Related s r → is_own r e ≡ false → Related s (after r e)
   Related-right s r e later h other = Related-turned (after r e) s (Related-left r s e later (Related-turned s r h) other)
 
   -- ---- whole runs

@@ -2,8 +2,8 @@
 use Rattle.std.proofs.Common.{◌≡◌, ◌↔◌, ℕ, suc, ◌+◌, ◌<◌, ◌≤◌, true, List, [], ◌∷◌, ◌++◌, length, take, drop, Err, refl, sym, ap, ◌∙◌, arith, inr}
 use Rattle.std.proofs.lemmas.Bool.{false≢true}
 use Rattle.std.proofs.lemmas.List.{length-append, length-drop, drop-drop, take_at, drop_at}
-use Rattle.header_sums.specs.Octets.{IsText, octet, field, octets}
-use Rattle.header_sums.proofs.OctetsLemmas.{begins-true, cell, octets2-field, field2-below}
+use Rattle.header_octets.specs.Octets.{IsText, octet, field, octets}
+use Rattle.header_octets.proofs.OctetsLemmas.{begins-true, cell, octets2-field, field2-below}
 use Rattle.frame_view.specs.Address.{is_group, is_reserved}
 use Rattle.frame_view.specs.Frame.{Frame, IsFrame, plain}
 use Rattle.frame_view.specs.Tag.{begins_tag, tag_text, tci_of, vid_of, pcp_of, dei_of}

@@ -133,7 +133,7 @@ free-if S new none =
     let rows : List (ChangeFault × Bool) =
     (OutOfRange, not (is_limit new.limit && is_ageing new.ageing && are_vnis new.tunnels))
     ∷ (SegmentThere, is_taken S new)
-    ∷ (SegmentsFull, not (nat_lt (segment_count (tables_asked S)) 256))
+    ∷ (SegmentsFull, not (nat_lt (segment_count (tables_asked S)) S.overlay.underlay.limits.segments))
     ∷ (PoolFull, is_too_much S new.limit)
     ∷ [] in
     not-false (are_free S.overlay new.tunnels) (or_parts (is_some (segment_at S new.vid)) (not (are_free S.overlay new.tunnels)) (NothingHolds-from rows none).1.0).1

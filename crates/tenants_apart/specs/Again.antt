@@ -6,7 +6,7 @@
 --     IsBehindTag      a frame, and the one behind the tag that its body begins with
 --     IsLocalText      what leaves at a port is the text of a frame
 use Rattle.std.specs.Prelude.{◌≡◌, ◌<◌, ◌≤◌, ℕ, true, false, List, ◌++◌, length, Option, Some, IsSome}
-use Rattle.header_sums.specs.Octets.{IsText}
+use Rattle.header_octets.specs.Octets.{IsText}
 use Rattle.frame_view.specs.Address.{is_group, is_reserved}
 use Rattle.frame_view.specs.Frame.{Frame, IsFrame}
 use Rattle.frame_view.specs.Tag.{tag_text, tci_of}

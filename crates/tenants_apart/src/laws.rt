@@ -4,7 +4,7 @@ ghost use Rattle.std.specs.List.{AllByRecursion};
 ghost use Rattle.timeline.specs.Timeline.{Timeline};
 ghost use Rattle.timeline.specs.declared.source.Source.{Source};
 ghost use Rattle.timeline.specs.declared.source.Tap.{Tap};
-ghost use Rattle.header_sums.specs.Octets.{IsText};
+ghost use Rattle.header_octets.specs.Octets.{IsText};
 ghost use Rattle.frame_view.specs.Frame.{Frame, IsFrame};
 ghost use Rattle.frame_view.specs.Refusal.{nowhere};
 ghost use Rattle.frame_view.specs.Tag.{IsVid, begins_tag};
@@ -26,7 +26,8 @@ ghost use Rattle.endpoint_core.specs.Arrival.{came_at, came_by};
 ghost use Rattle.endpoint_core.specs.Came.{Came};
 ghost use Rattle.endpoint_core.specs.Event.{Event, FrameAt, Packet, Asks, IsRising, frame_at, packet_at, change_at};
 ghost use Rattle.endpoint_core.specs.Run.{settings_after};
-ghost use Rattle.endpoint_core.specs.Step.{State, opened, answer, state_after};
+ghost use Rattle.endpoint_core.specs.Step.{State, opened, answer, passed, state_after};
+ghost use Rattle.table_lines.specs.Lines.{segment_lines};
 ghost use Rattle.capture_run.specs.Outputs.{Outputs};
 ghost use Rattle.segment_isolation.specs.Alone.{all_see, concerns, only};
 ghost use Rattle.noninterference.specs.Coming.{Inputs, IsRunOf, ChangesNeverFall, coming_to};
@@ -57,6 +58,21 @@ pub fn events()
         part_of vid S ≡ part_of vid T → own_events vid S es ≡ own_events vid T fs →
         room_replies vid S es ≡ room_replies vid T fs →
         lines_in vid (rows (opened S) es) ≡ lines_in vid (rows (opened T) fs) }
+{}
+
+/// Of the same two lists, at a moment that isn't before the last event of either: what is live of the segment's table then is the
+/// same, and so are the lines that tell it.
+pub fn tables()
+    ensures live { (vid : ℕ) (S T : Settings) (es fs : List Event) (moment : ℕ) → IsRising 0 es → IsRising 0 fs →
+        part_of vid S ≡ part_of vid T → own_events vid S es ≡ own_events vid T fs →
+        room_replies vid S es ≡ room_replies vid T fs →
+        (state_after (opened S) es).moment ≤ moment → (state_after (opened T) fs).moment ≤ moment →
+        (passed moment (state_after (opened S) es)).bridges.tables vid ≡ (passed moment (state_after (opened T) fs)).bridges.tables vid }
+    ensures shown { (vid : ℕ) (S T : Settings) (es fs : List Event) (moment : ℕ) → IsRising 0 es → IsRising 0 fs →
+        part_of vid S ≡ part_of vid T → own_events vid S es ≡ own_events vid T fs →
+        room_replies vid S es ≡ room_replies vid T fs →
+        (state_after (opened S) es).moment ≤ moment → (state_after (opened T) fs).moment ≤ moment →
+        segment_lines (passed moment (state_after (opened S) es)) vid ≡ segment_lines (passed moment (state_after (opened T) fs)) vid }
 {}
 
 /// The same as far as the one goes: the segment's own events of the one are the first of those of the other. Then its answers,

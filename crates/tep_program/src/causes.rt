@@ -2,11 +2,10 @@
 use crate::named::{capture_at, folder_of, is_text, names_of};
 use crate::notes::tell_notes;
 use crate::refusals::{tell_part_capture, tell_pcapng, tell_refused};
-use command_line::{STANDARD_INPUT, capture_name};
-use dissector::Line;
-use program_faults::{Failure, OneLine, OutputFile, ShardFailure, SplitFailure, SystemFault};
+use command_line::{Line, STANDARD_INPUT, capture_name};
+use part_merge::PartFault;
+use program_faults::{Failure, OneLine, OutputFile, PartFailure, SplitFailure, SystemFault};
 use program_files::{FailedOutput, file_of, is_same, path_of, read_fault};
-use shard_merge::PartFault;
 use std::alloc::AllocError;
 use std::fs;
 use std::io::ErrorKind;
@@ -17,7 +16,7 @@ const MOST_PORTS: usize = 16;
 
 /// The texts of a part that a merge reads first.
 const PART_TEXTS: [OutputFile; 3] = [
-    OutputFile::Shard,
+    OutputFile::PartRecord,
     OutputFile::Decisions,
     OutputFile::Underlay,
 ];
@@ -53,7 +52,7 @@ fn tell<R: Files + AllocGlobal + Eprint>(
             tell_notes(rt, line);
             Ok(())
         }
-        Failure::Shard(folder, ShardFailure::Part(PartFault::Capture(tap, fault))) => {
+        Failure::Part(folder, PartFailure::Part(PartFault::Capture(tap, fault))) => {
             tell_part_capture(rt, *folder, *tap, *fault)
         }
         _ => Ok(()),
@@ -66,8 +65,8 @@ fn tell_unread<R: Files + AllocGlobal + Eprint>(
     line: &Line<'_>,
     name: &str,
 ) -> Result<(), AllocError> {
-    if let Line::Merge { shards, .. } = line {
-        return tell_unread_part(rt, name, shards.as_slice());
+    if let Line::Merge { parts, .. } = line {
+        return tell_unread_part(rt, name, parts.as_slice());
     }
     if is_text(line, name) {
         if let Some(fault) = read_fault(rt, name) {
@@ -106,7 +105,7 @@ fn tell_fault(rt: &impl Eprint, path: &str, fault: SystemFault) {
 fn tell_unread_part<R: Files + AllocGlobal + Eprint>(
     rt: &R,
     folder: &str,
-    shards: &[&str],
+    parts: &[&str],
 ) -> Result<(), AllocError> {
     if let Err(error) = fs::metadata(rt, folder) {
         if error.kind() == ErrorKind::NotFound {
@@ -122,7 +121,7 @@ fn tell_unread_part<R: Files + AllocGlobal + Eprint>(
     }
     for index in 0..MOST_PORTS {
         let output = OutputFile::Port(index + 1);
-        if is_in_one(rt, shards, output)? && tell_unread_file(rt, folder, output)? {
+        if is_in_one(rt, parts, output)? && tell_unread_file(rt, folder, output)? {
             return Ok(());
         }
     }
@@ -140,7 +139,7 @@ fn tell_unread_file<R: Files + AllocGlobal + Eprint>(
     match read_fault(rt, name) {
         Some(fault) => {
             tell_fault(rt, name, fault);
-            if output == OutputFile::Shard && fault.is_not_there() {
+            if output == OutputFile::PartRecord && fault.is_not_there() {
                 let _ = eprintln!(rt; "  a part has one: tep run --segments makes parts");
             }
             Ok(true)
@@ -178,18 +177,20 @@ fn tell_spared<R: Files + AllocGlobal + Eprint>(
     if let Some(names) = names_of(line) {
         if let Some(input) = names.reader_of(rt, path.as_path()) {
             let _ = eprintln!(rt; "  {shown} is {input} itself");
+            tell_own_folder(rt);
         }
         return Ok(());
     }
-    let (Line::Merge { shards, .. }, Ok(found)) = (line, fs::metadata(rt, path.as_path())) else {
+    let (Line::Merge { parts, .. }, Ok(found)) = (line, fs::metadata(rt, path.as_path())) else {
         return Ok(());
     };
-    for shard in shards {
+    for folder in parts {
         for index in 0..MOST_PORTS + PART_TEXTS.len() {
-            let part = path_of(rt.alloc(), *shard, part_file(index))?;
+            let part = path_of(rt.alloc(), *folder, part_file(index))?;
             if is_same(rt, part.as_path(), &found) {
                 let itself = OneLine(part.as_path().as_str());
                 let _ = eprintln!(rt; "  {shown} is {itself} itself");
+                tell_own_folder(rt);
                 return Ok(());
             }
         }
@@ -197,10 +198,15 @@ fn tell_spared<R: Files + AllocGlobal + Eprint>(
     Ok(())
 }
 
+/// Tells what to do where an output is an input.
+fn tell_own_folder(rt: &impl Eprint) {
+    let _ = eprintln!(rt; "  give the outputs a folder of their own");
+}
+
 /// The file of this number in the folder of a part.
 fn part_file(index: usize) -> OutputFile {
     match index {
-        0 => OutputFile::Shard,
+        0 => OutputFile::PartRecord,
         1 => OutputFile::Decisions,
         2 => OutputFile::Underlay,
         number => OutputFile::Port(number.saturating_sub(2)),

@@ -8,7 +8,6 @@ use crate::swapped::swapped_lines;
 use capture_run::RunFault;
 use capture_survey::{Report, SurveyFault, survey_capture};
 use config_text::SettingsFault;
-use dissector::{check_read, read_texts, tap_of};
 use file_kind::FileKind;
 use foreseen_changes::foresee;
 use overlay_config::{Settings, TimedChange};
@@ -20,6 +19,7 @@ use std::fmt::Write;
 use std::io::{Input, Read};
 use std::rt::Files;
 use text_advice::{TextKind, advice, syntax_error_at};
+use text_calls::{check_read, read_texts, tap_of};
 use timeline::Tap;
 
 /// A text that was read, with its file's name.

@@ -2,6 +2,7 @@
 ghost use Rattle.std.specs.Prelude.{◌≤◌, IfOk, IfSome};
 
 use capture_compare::{CompareFault, Side, compare_captures};
+use carried_key::{KeyRoom, Manner};
 use command_line::time_of;
 use program_faults::Failure;
 use program_files::{SeenCapture, open_seen, print_text};
@@ -39,7 +40,15 @@ pub fn compare<'a, R: Files + Input + AllocGlobal + Print>(
     let (_, mut sent) = open_seen(rt, asked.sent)?;
     let (_, mut received) = open_seen(rt, asked.received)?;
     let mut comparison = Comparison::new(rt.alloc(), clock.within)?;
-    let compared = compare_captures(&mut sent, &mut received, clock, &mut comparison);
+    let mut room = KeyRoom::new(rt.alloc())?;
+    let compared = compare_captures(
+        &mut sent,
+        &mut received,
+        clock,
+        Manner::Whole,
+        &mut room,
+        &mut comparison,
+    );
     let told = print_counts(rt, &comparison);
     if let Err(fault) = compared {
         return Err(match fault {
@@ -59,7 +68,10 @@ pub fn compare<'a, R: Files + Input + AllocGlobal + Print>(
 }
 
 /// The clock that the words ask for.
-fn clock_of<'a>(within: Option<&'a str>, shift: Option<&'a str>) -> Result<Clock, Failure<'a>>
+pub(crate) fn clock_of<'a>(
+    within: Option<&'a str>,
+    shift: Option<&'a str>,
+) -> Result<Clock, Failure<'a>>
     ensures sent { IfOk result (λ clock. clock.sent_delay ≤ 2000000000000000000) }
     ensures received { IfOk result (λ clock. clock.received_delay ≤ 2000000000000000000) }
 {

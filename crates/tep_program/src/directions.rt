@@ -1,10 +1,10 @@
 //! Captures that have both directions: what the switch itself sent is left out of them.
 use both_ways::BothWays;
 use command_line::time_of;
-use dissector::tap_of;
 use overlay_config::settings_of;
 use program_faults::Failure;
 use std::alloc::{AllocError, Global};
+use text_calls::tap_of;
 use timeline::Tap;
 
 /// How long behind its frame what the switch sent may come, in nanoseconds, where no other time is asked for.

@@ -5,7 +5,6 @@ use crate::directions::{WITHIN, sieve_of};
 use crate::nobody::Nobody;
 use both_ways::BothWays;
 use capture_survey::Echoes;
-use dissector::tap_of;
 use program_faults::Failure;
 use program_files::{Names, print_text};
 use runs_on_files::{Texts, run_unwritten};
@@ -13,6 +12,7 @@ use segment_set::SegmentSet;
 use std::fmt::Write;
 use std::io::Input;
 use std::rt::Files;
+use text_calls::tap_of;
 use timeline::Tap;
 
 /// How many numbers a place could have.

@@ -1,5 +1,5 @@
 //! The program `tep` from its words to its texts and exit status: its words, its look at what a run is to read, and its exit
-//! statuses. What it works out stands in the library `dissector` and in `stream_run`, its files and its runs and merges on them
+//! statuses. What it works out stands in the library `text_calls` and in `stream_run`, its files and its runs and merges on them
 //! in `program_files`, `runs_on_files` and `merge_on_files`.
 //!
 //! Use first: [`start`] gets the words of the process; [`run`] is handed them.
@@ -31,5 +31,6 @@ mod program;
 mod refusals;
 mod swapped;
 mod told_runs;
+mod worked;
 
 pub use program::{run, start};

@@ -1,5 +1,5 @@
 //! What a line names.
-use dissector::Line;
+use command_line::Line;
 use program_files::Names;
 use timeline::Tap;
 

@@ -2,10 +2,9 @@
 //! spaces.
 use crate::named::capture_at;
 use capture_run::RunFault;
-use command_line::{STANDARD_INPUT, capture_name};
-use dissector::Line;
-use program_faults::{DigestsFailure, Failure, OneLine, OutputFile, ShardFailure};
-use shard_record::{PartingFault, ShardFault};
+use command_line::{Line, STANDARD_INPUT, capture_name};
+use part_record::{PartRecordFault, PartingFault};
+use program_faults::{DigestsFailure, Failure, OneLine, OutputFile, PartFailure};
 use timeline::Tap;
 
 /// Tells what to do next about a fault, where there is one thing to do.
@@ -15,15 +14,12 @@ pub fn tell_next_step<R: Eprint>(rt: &R, line: &Line<'_>, failure: &Failure<'_>)
         Failure::Run(RunFault::Record(tap, number, _)) => tell_record(rt, line, *tap, *number),
         Failure::WriteFailed(output, fault)
             if *output != OutputFile::Stdout && fault.is_not_there() => { tell_folder(rt, line) }
-        Failure::Write(output) if *output != OutputFile::Stdout => {
-            tell(rt, "give the outputs a folder of their own")
-        }
         Failure::ReadOnce(_) => tell(
             rt,
             "tep digest, over the same captures as files, makes the digests: tep digest -u U P1 P2 .. >digests.txt",
         ),
         Failure::Digests(_, fault) => tell(rt, for_digests(fault)),
-        Failure::Shard(_, fault) => tell_part(rt, line, fault),
+        Failure::Part(_, fault) => tell_part(rt, line, fault),
         Failure::Parting(fault) => tell(rt, for_parting(fault)),
         Failure::Missing(_) => tell(
             rt,
@@ -92,23 +88,23 @@ fn for_digests(fault: &DigestsFailure) -> &'static str {
 }
 
 /// Tells what to do about a part.
-fn tell_part(rt: &impl Eprint, line: &Line<'_>, fault: &ShardFailure) {
+fn tell_part(rt: &impl Eprint, line: &Line<'_>, fault: &PartFailure) {
     match fault {
-        ShardFailure::Lacks(OutputFile::Tables) => tell(rt, "run the part again with --tables"),
-        ShardFailure::Lacks(_) => tell(rt, "run the part again with --summary"),
+        PartFailure::Lacks(OutputFile::Tables) => tell(rt, "run the part again with --tables"),
+        PartFailure::Lacks(_) => tell(rt, "run the part again with --summary"),
         // Its own words say it.
-        ShardFailure::Record(ShardFault::Older) => {}
-        ShardFailure::Other(_) => tell_other(rt, line),
+        PartFailure::Record(PartRecordFault::Older) => {}
+        PartFailure::Other(_) => tell_other(rt, line),
         _ => tell(rt, "run the part again"),
     }
 }
 
 /// Tells which part is the first, from which another differs.
 fn tell_other(rt: &impl Eprint, line: &Line<'_>) {
-    let Line::Merge { shards, .. } = line else {
+    let Line::Merge { parts, .. } = line else {
         return;
     };
-    if let Some(first) = shards.first() {
+    if let Some(first) = parts.first() {
         let shown = OneLine(*first);
         let _ = eprintln!(rt;
             "  the first part is {shown}: run the one again that isn't as it should be"

@@ -1,7 +1,7 @@
 //! What is to be told of a line that is done: lines on standard error, each begun by two spaces.
 use crate::interfaces::{missing_interface, several_interfaces};
 use crate::named::folder_of;
-use dissector::Line;
+use command_line::Line;
 use program_faults::{OneLine, OutputFile};
 use program_files::path_of;
 use std::alloc::AllocError;
@@ -42,7 +42,7 @@ fn tell<R: Files + AllocGlobal + Eprint>(rt: &R, line: &Line<'_>) -> Result<(), 
             print_note(rt, several_interfaces(rt, *capture)?);
             Ok(())
         }
-        Line::Merge { shards, .. } => match shards.first() {
+        Line::Merge { parts, .. } => match parts.first() {
             Some(first) => tell_left(rt, line, ports_in(rt, *first)?),
             None => Ok(()),
         },

@@ -12,15 +12,18 @@ use crate::directions::within_of;
 use crate::next_steps::tell_next_step;
 use crate::notes::tell_notes;
 use crate::told_runs::{Asked, run_and_tell};
+use crate::worked::{Worked, compare_worked};
 use capture_run::{RunFault, of_settings};
 use clap::error::ErrorKind as Refusal;
-use dissector::{Line, LineFault, Values, explain_bytes, line_of, sample};
+use command_line::{Line, LineFault, line_of};
+use explanation::{Values, explain_bytes};
 use merge_on_files::{TextsAsked, merge};
 use overlay_config::migrate;
 use program_faults::{Failure, OutputFile, is_lost};
 use program_files::{FailedOutputs, Names, print_text, read_file, read_underlay};
 use run_reports::is_event_name;
 use runs_on_files::print_digests;
+use sample_run::sample;
 use split_on_files::split;
 use std::alloc::{AllocError, Global};
 use std::env;
@@ -66,6 +69,7 @@ pub fn run<'a, R: Files + Input + AllocGlobal + Print + Eprint>(rt: &R, words: &
         },
         Err(LineFault::OutOfMemory) => stopped(rt, &Failure::Run(RunFault::OutOfMemory)),
         Err(LineFault::NoValue) => words_refused(rt, &LineFault::NoValue),
+        Err(LineFault::Unpaired) => words_refused(rt, &LineFault::Unpaired),
         Err(LineFault::InputTwice) => words_refused(rt, &LineFault::InputTwice),
         Err(LineFault::NoSegments) => words_refused(rt, &LineFault::NoSegments),
         Err(LineFault::Refused(error)) => {
@@ -210,7 +214,7 @@ fn perform<'a, R: Files + Input + AllocGlobal + Print + Eprint>(
         Line::Digest { underlay, ports } => print_digests(rt, *underlay, ports.as_slice()),
         Line::Merge {
             out,
-            shards,
+            parts,
             tables,
             summary,
         } => {
@@ -218,7 +222,7 @@ fn perform<'a, R: Files + Input + AllocGlobal + Print + Eprint>(
                 tables: *tables,
                 summary: *summary,
             };
-            merge_and_tell(rt, *out, shards.as_slice(), asked, failed)
+            merge_and_tell(rt, *out, parts.as_slice(), asked, failed)
         }
         Line::Split { out, capture } => split(rt, *out, *capture),
         Line::Compare {
@@ -234,6 +238,22 @@ fn perform<'a, R: Files + Input + AllocGlobal + Print + Eprint>(
                 shift: *shift,
             };
             compare(rt, asked)
+        }
+        Line::CompareWorked {
+            worked,
+            underlay,
+            ports,
+            within,
+            shift,
+        } => {
+            let asked = Worked {
+                folder: *worked,
+                underlay: *underlay,
+                ports: ports.as_slice(),
+                within: *within,
+                shift: *shift,
+            };
+            compare_worked(rt, asked)
         }
     }
 }

@@ -1,6 +1,5 @@
 //! Captures of a port and of the underlay that look swapped.
 use decapsulate::ip_view;
-use dissector::tap_of;
 use frame_view::EtherView;
 use ip_udp_view::{UDP, UdpView};
 use overlay_config::settings_of;
@@ -9,6 +8,7 @@ use std::alloc::{AllocError, Global};
 use std::fmt::{self, Write};
 use std::io::Input;
 use std::rt::Files;
+use text_calls::tap_of;
 use underlay::Underlay;
 
 /// How many records of a capture are looked at, at most.

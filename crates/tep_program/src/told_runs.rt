@@ -6,7 +6,6 @@ ghost use Rattle.overlay_settings.specs.Rules.{EachBehind};
 use crate::directions::{sieve_of, tell_left_out};
 use crate::nobody::Nobody;
 use crate::outbound::tell_outbound;
-use dissector::segments_of;
 use overlay_config::TimedChange;
 use program_faults::{Failure, OutputFile};
 use program_files::{FailedOutputs, Names, leave_text, print_text};
@@ -19,6 +18,7 @@ use std::io::Input;
 use std::rt::Files;
 use stream_run::{Sieve, TakesAll, Unwatched, Watch};
 use talkers::{Beside as BesideTalkers, Talkers};
+use text_calls::segments_of;
 use timeline::Tap;
 use tunnel_traffic::{Beside, TunnelTraffic};
 
@@ -249,7 +249,17 @@ fn run_asked<'a, R: Files + Input + AllocGlobal, S: Sieve, T: Watch>(
     match (folder, asked.segments) {
         (None, _) => run_unwritten(rt, names, texts, told, segments, sieve, watch),
         (Some(folder), Some(list)) => run_part(
-            rt, names, texts, told, folder, list, segments, sieve, watch, failed,
+            rt,
+            names,
+            texts,
+            told,
+            folder,
+            list,
+            segments,
+            asked.within,
+            sieve,
+            watch,
+            failed,
         ),
         (Some(_), None) => {
             match run_on_files(

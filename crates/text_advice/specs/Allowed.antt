@@ -5,25 +5,28 @@ use Rattle.text_advice.specs.Known.{fits}
 use Rattle.std.specs.Borrow.{Bor}
 use Rattle.text_advice.specs.declared.allowed.TheConstants.{SENTENCES}
 
--- what is allowed under the keys of a path, for a fault
+-- what is allowed under the keys of a path, where the text has a variant of this name, for a fault
 pub record Row : Type 0 where
   pub path : List ℕ
+  pub variant : List ℕ
   pub fault : List ℕ
   pub text : List ℕ
 
 -- what the code holds of one
-abbrev pub sentence_row_of : Bor (List ℕ) × Bor (List ℕ) × Bor (List ℕ) → Row
-sentence_row_of s = record { path = s.0.now; fault = s.1.now; text = s.2.now }
+abbrev pub sentence_row_of : Bor (List ℕ) × Bor (List ℕ) × Bor (List ℕ) × Bor (List ℕ) → Row
+sentence_row_of s = record { path = s.0.now; variant = s.1.now; fault = s.2.now; text = s.3.now }
 
--- the first sentence of the path that fits the fault
-abbrev pub sentence_in : List Row → List ℕ → List ℕ → Option (List ℕ)
-sentence_in [] path fault = None
-sentence_in (r ∷ rs) path fault = if same r.path path && fits r.fault fault then Some r.text else sentence_in rs path fault
+-- the first sentence of the path that fits the variant and the fault
+abbrev pub sentence_in : List Row → List ℕ → List ℕ → List ℕ → Option (List ℕ)
+sentence_in [] path variant fault = None
+sentence_in (r ∷ rs) path variant fault =
+    if same r.path path && fits r.variant variant && fits r.fault fault then Some r.text else sentence_in rs path variant fault
 
 -- the same of one that stands in the code as a constant
-abbrev pub constant_row : record { now : List ℕ } × record { now : List ℕ } × record { now : List ℕ } → Row
-constant_row s = record { path = s.0.now; fault = s.1.now; text = s.2.now }
+abbrev pub constant_row : record { now : List ℕ } × record { now : List ℕ } × record { now : List ℕ }
+    × record { now : List ℕ } → Row
+constant_row s = record { path = s.0.now; variant = s.1.now; fault = s.2.now; text = s.3.now }
 
--- what is allowed under the key of a path, for a fault
-unfoldable pub sentence_of : List ℕ → List ℕ → Option (List ℕ)
-sentence_of path fault = sentence_in (map constant_row SENTENCES) path fault
+-- what is allowed under the key of a path, in a text of a variant, for a fault
+unfoldable pub sentence_of : List ℕ → List ℕ → List ℕ → Option (List ℕ)
+sentence_of path variant fault = sentence_in (map constant_row SENTENCES) path variant fault

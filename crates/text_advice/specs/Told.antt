@@ -80,10 +80,13 @@ at_line keys allowed header (Some l) = record { place = Some (place_in l); found
 
 -- by the table that the search finds, or doesn't
 abbrev pub told_at : TextKind → Block → List ℕ → List ℕ → Option Spot → Findings
-told_at kind whole path fault None = at_line (keys_of kind path (variant kind whole whole)) (sentence_of path fault) whole.header None
+told_at kind whole path fault None =
+    let v = variant kind whole whole in
+    at_line (keys_of kind path v) (sentence_of path v fault) whole.header None
 told_at kind whole path fault (Some s) =
-    let keys = keys_of kind path (variant kind whole s.block) in
-    at_line keys (sentence_of path fault) s.block.header (spot_line keys s)
+    let v = variant kind whole s.block in
+    let keys = keys_of kind path v in
+    at_line keys (sentence_of path v fault) s.block.header (spot_line keys s)
 
 -- of the key of a path, in a text of these lines, for a fault
 abbrev pub told : TextKind → List (List ℕ) → List (List ℕ) → List ℕ → Findings

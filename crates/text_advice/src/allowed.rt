@@ -4,202 +4,272 @@ ghost use Rattle.text_advice.specs.Allowed.{sentence_row_of, sentence_in, senten
 
 use crate::known::fits;
 
-/// The path of a key without the numbers of tables; the fault that the sentence is for, with a space behind, or nothing for any
-/// other; and what is allowed under the key.
-pub type Sentence = (&'static str, &'static str, &'static str);
+/// The path of a key without the numbers of tables; the version of the settings, or nothing for any other; the fault that the
+/// sentence is for, with a space behind, or nothing for any other; and what is allowed under the key.
+pub type Sentence = (&'static str, &'static str, &'static str, &'static str);
 
 /// What is allowed under each key of settings and of changes.
-pub const SENTENCES: [Sentence; 64] = [
+pub const SENTENCES: [Sentence; 67] = [
     (
         "version",
         "",
-        "the number 1, or 2 where segments have tables of tunnels, or 3, which is 2 with underlay.partial",
+        "",
+        "the number 1, or 2 where segments have tables of tunnels, or 3, which is 2 with underlay.partial and limits",
     ),
     (
         "pool",
+        "",
         "OverLimit ",
         "the limits of all segments sum to the pool at most",
     ),
-    ("pool", "", "a number, 1 to 65536"),
+    ("pool", "", "", "a number, 1 to 65536"),
     (
         "limit",
         "",
+        "",
         "the limits of all segments sum to 65536 at most",
     ),
-    ("underlay", "", "one table, headed [underlay]"),
+    ("limits", "", "", "one table, headed [limits]"),
+    ("limits.segments", "", "", "a number, 1 to 4094"),
+    ("underlay", "", "", "one table, headed [underlay]"),
     (
         "underlay.mac",
+        "",
         "",
         "a MAC address in quotes that is no group's, as \"02:00:00:00:00:01\"",
     ),
     (
         "underlay.next_hop",
         "",
+        "",
         "a MAC address in quotes that is no group's, as \"02:00:00:00:00:01\"",
     ),
     (
         "underlay.ip4",
+        "",
         "",
         "an IPv4 address in quotes, as \"192.0.2.1\", not 0.0.0.0, 255.255.255.255 or a group; one of ip4 and ip6 has to be there",
     ),
     (
         "underlay.ip6",
         "",
+        "",
         "an IPv6 address in quotes, as \"2001:db8::1\", not :: or a group; one of ip4 and ip6 has to be there",
     ),
-    ("underlay.mtu", "", "a number of octets, 1280 to 65535"),
-    ("underlay.ttl", "", "a number, 1 to 255"),
-    ("underlay.vxlan_port", "", "a number, 1 to 65535"),
+    ("underlay.mtu", "", "", "a number of octets, 1280 to 65535"),
+    ("underlay.ttl", "", "", "a number, 1 to 255"),
+    ("underlay.vxlan_port", "", "", "a number, 1 to 65535"),
     (
         "underlay.geneve_port",
         "",
+        "",
         "a number, 1 to 65535, by default 6081, not that of vxlan_port, by default 4789",
     ),
-    ("underlay.sum4", "", "true or false"),
-    ("underlay.sum6", "", "true or false"),
-    ("underlay.zero6", "", "true or false"),
-    ("underlay.partial", "", "true or false"),
+    ("underlay.sum4", "", "", "true or false"),
+    ("underlay.sum6", "", "", "true or false"),
+    ("underlay.zero6", "", "", "true or false"),
+    ("underlay.partial", "", "", "true or false"),
     (
         "underlay.known",
+        "",
         "",
         "a list of at most 16 lists [class, type], of numbers 0 to 65535 and 0 to 255, none twice",
     ),
     (
         "underlay.hop",
         "",
+        "",
         "at most 64 tables with addr and mac, each headed [[underlay.hop]]",
     ),
     (
         "underlay.hop.addr",
+        "",
         "",
         "an address in quotes, as in ip4 or ip6, none twice",
     ),
     (
         "underlay.hop.mac",
         "",
+        "",
         "a MAC address in quotes that is no group's, as \"02:00:00:00:00:01\"",
     ),
-    ("port", "", "1 to 16 tables, each headed [[port]]"),
-    ("port.pvid", "", "a number, 1 to 4094"),
-    ("port.accept", "", "\"all\", \"tagged\" or \"untagged\""),
-    ("port.up", "", "true or false"),
+    ("port", "", "", "1 to 16 tables, each headed [[port]]"),
+    ("port.pvid", "", "", "a number, 1 to 4094"),
+    ("port.accept", "", "", "\"all\", \"tagged\" or \"untagged\""),
+    ("port.up", "", "", "true or false"),
     (
         "segment",
+        "",
         "TwoSegments ",
         "a vid, and for each tunnel a kind and VNI, that no earlier segment has",
     ),
-    ("segment", "", "1 to 256 tables, each headed [[segment]]"),
-    ("segment.vid", "", "a number, 1 to 4094"),
-    ("segment.vni", "", "a number, 0 to 16777215"),
+    (
+        "segment",
+        "3",
+        "",
+        "1 to 256 tables, or to limits.segments where it is given, each headed [[segment]]",
+    ),
+    (
+        "segment",
+        "",
+        "",
+        "1 to 256 tables, each headed [[segment]]",
+    ),
+    ("segment.vid", "", "", "a number, 1 to 4094"),
+    ("segment.vni", "", "", "a number, 0 to 16777215"),
     (
         "segment.tunnel",
+        "",
         "",
         "\"vxlan\" or \"geneve\"; from version 2 on instead 1 or 2 tables, each headed [[segment.tunnel]]",
     ),
     (
         "segment.tunnel.kind",
         "",
+        "",
         "\"vxlan\" or \"geneve\", not that of the table before",
     ),
-    ("segment.tunnel.vni", "", "a number, 0 to 16777215"),
-    ("segment.tunnel.group", "", "a number, 0 to 255"),
+    ("segment.tunnel.vni", "", "", "a number, 0 to 16777215"),
+    ("segment.tunnel.group", "", "", "a number, 0 to 255"),
     (
         "segment.tunnel.flood",
         "",
+        "",
         "a list of addresses in quotes, groups too, at most 16 over both tables, none twice, none 0.0.0.0, 255.255.255.255, ::, an own address, or of a family without an own address",
     ),
-    ("segment.limit", "", "a number, 1 to 8192"),
-    ("segment.ageing", "", "a number of seconds, 10 to 1000000"),
-    ("segment.learn", "", "true or false"),
-    ("segment.peers", "", "\"any\" or \"listed\""),
-    ("segment.tags", "", "\"drop\" or \"pass\""),
+    ("segment.limit", "", "", "a number, 1 to 8192"),
+    (
+        "segment.ageing",
+        "",
+        "",
+        "a number of seconds, 10 to 1000000",
+    ),
+    ("segment.learn", "", "", "true or false"),
+    ("segment.peers", "", "", "\"any\" or \"listed\""),
+    ("segment.tags", "", "", "\"drop\" or \"pass\""),
     (
         "segment.untagged",
+        "",
         "",
         "a list of numbers of ports, of which the first [[port]] is 1, none twice",
     ),
     (
         "segment.tagged",
         "",
+        "",
         "a list of numbers of ports, of which the first [[port]] is 1, none twice, none of them untagged",
     ),
     (
         "segment.flood",
         "",
+        "",
         "a list of at most 16 addresses in quotes, groups too, none twice, none 0.0.0.0, 255.255.255.255, ::, an own address, or of a family without an own address",
     ),
     (
         "change",
+        "",
         "NotRising ",
         "a moment not below that of the change before",
     ),
-    ("change", "", "at most 10000 tables, each headed [[change]]"),
+    (
+        "change",
+        "",
+        "",
+        "at most 10000 tables, each headed [[change]]",
+    ),
     (
         "change.kind",
+        "",
         "",
         "\"add_flood\", \"remove_flood\", \"fix\", \"unfix\", \"set_ageing\", \"set_learning\", \"set_member\", \"port_up\", \"port_down\", \"flush\", \"add_segment\", \"remove_segment\" or \"set_limit\"",
     ),
     (
         "change.at",
         "",
+        "",
         "a number of nanoseconds, 0 to 4294967295999999999",
     ),
-    ("change.vid", "", "a number, 1 to 4094"),
+    ("change.vid", "", "", "a number, 1 to 4094"),
     (
         "change.addr",
+        "",
         "",
         "an address in quotes, as \"192.0.2.2\" or \"2001:db8::2\"",
     ),
     (
         "change.tunnel",
         "",
+        "",
         "\"vxlan\" or \"geneve\"; in a fix beside remote alone",
     ),
     (
         "change.mac",
+        "",
         "",
         "a MAC address in quotes, as \"02:00:00:00:00:01\"",
     ),
     (
         "change.port",
         "",
+        "",
         "a number, 0 to 255; in a fix one of port and remote",
     ),
     (
         "change.remote",
         "",
+        "",
         "an address in quotes, as \"192.0.2.2\" or \"2001:db8::2\"; in a fix one of port and remote",
     ),
-    ("change.seconds", "", "a number of seconds, 0 to 4294967295"),
-    ("change.on", "", "true or false"),
-    ("change.egress", "", "\"tagged\", \"untagged\" or \"none\""),
-    ("change.vni", "", "a number, 0 to 16777215"),
-    ("change.group", "", "a number, 0 to 255"),
-    ("change.vni2", "", "a number, 0 to 16777215"),
-    ("change.group2", "", "a number, 0 to 255; beside vni2 alone"),
-    ("change.limit", "", "a number, 0 to 4294967295"),
-    ("change.ageing", "", "a number of seconds, 0 to 4294967295"),
-    ("change.learn", "", "true or false"),
-    ("change.peers", "", "\"any\" or \"listed\""),
-    ("change.tags", "", "\"drop\" or \"pass\""),
+    (
+        "change.seconds",
+        "",
+        "",
+        "a number of seconds, 0 to 4294967295",
+    ),
+    ("change.on", "", "", "true or false"),
+    (
+        "change.egress",
+        "",
+        "",
+        "\"tagged\", \"untagged\" or \"none\"",
+    ),
+    ("change.vni", "", "", "a number, 0 to 16777215"),
+    ("change.group", "", "", "a number, 0 to 255"),
+    ("change.vni2", "", "", "a number, 0 to 16777215"),
+    (
+        "change.group2",
+        "",
+        "",
+        "a number, 0 to 255; beside vni2 alone",
+    ),
+    ("change.limit", "", "", "a number, 0 to 4294967295"),
+    (
+        "change.ageing",
+        "",
+        "",
+        "a number of seconds, 0 to 4294967295",
+    ),
+    ("change.learn", "", "", "true or false"),
+    ("change.peers", "", "", "\"any\" or \"listed\""),
+    ("change.tags", "", "", "\"drop\" or \"pass\""),
 ];
 
-/// The first sentence of this path that is for the fault, or for any.
-fn sentence_in(rows: &[Sentence], path: &[u8], fault: &[u8]) -> Option<&'static str>
-    ensures { option_map (λ s. s.now) result ≡ sentence_in (map sentence_row_of rows.now) path.now fault.now }
+/// The first sentence of this path that is for the variant and for the fault, or for any.
+fn sentence_in(rows: &[Sentence], path: &[u8], variant: &[u8], fault: &[u8]) -> Option<&'static str>
+    ensures { option_map (λ s. s.now) result ≡ sentence_in (map sentence_row_of rows.now) path.now variant.now fault.now }
 {
     for row in rows {
-        if row.0.as_bytes() == path && fits(row.1, fault) {
-            return Some(row.2);
+        if row.0.as_bytes() == path && fits(row.1, variant) && fits(row.2, fault) {
+            return Some(row.3);
         }
     }
     None
 }
 
-/// What is allowed under the key of a path, for a fault.
+/// What is allowed under the key of a path, in a text of a variant, for a fault.
 #[tactic(auto, unfolding(crate::specs::Allowed::sentence_of))]
-pub(crate) fn sentence_of(path: &[u8], fault: &[u8]) -> Option<&'static str>
-    ensures { option_map (λ s. s.now) result ≡ sentence_of path.now fault.now }
+pub(crate) fn sentence_of(path: &[u8], variant: &[u8], fault: &[u8]) -> Option<&'static str>
+    ensures { option_map (λ s. s.now) result ≡ sentence_of path.now variant.now fault.now }
 {
-    sentence_in(&SENTENCES, path, fault)
+    sentence_in(&SENTENCES, path, variant, fault)
 }

@@ -14,8 +14,14 @@ pub enum TextKind {
 pub type TableKeys = (&'static str, &'static str, &'static [&'static str]);
 
 /// The tables of settings.
-pub const SETTINGS_KEYS: [TableKeys; 9] = [
+pub const SETTINGS_KEYS: [TableKeys; 11] = [
+    (
+        "*",
+        "3",
+        &["version", "pool", "limits", "underlay", "port", "segment"],
+    ),
     ("*", "", &["version", "pool", "underlay", "port", "segment"]),
+    ("limits.*", "", &["segments"]),
     (
         "underlay.*",
         "3",

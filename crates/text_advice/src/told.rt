@@ -162,14 +162,17 @@ fn told_at<'a>(
 ) -> Result<Findings<'a>, AllocError>
     ensures { IfOk result (λ t. told_of t ≡ told_at kind (block_of whole.entry) path.now fault.now (option_map spot_of spot.entry)) }
 {
-    let allowed = sentence_of(path, fault);
     match spot {
         None => {
-            let keys = keys_of(kind, path, variant(kind, whole, whole));
+            let variant = variant(kind, whole, whole);
+            let keys = keys_of(kind, path, variant);
+            let allowed = sentence_of(path, variant, fault);
             at_line(alloc, keys, allowed, whole.header, None)
         }
         Some(spot) => {
-            let keys = keys_of(kind, path, variant(kind, whole, spot.block));
+            let variant = variant(kind, whole, spot.block);
+            let keys = keys_of(kind, path, variant);
+            let allowed = sentence_of(path, variant, fault);
             at_line(
                 alloc,
                 keys,

@@ -25,7 +25,8 @@ pub struct Bridge<'s> {
 
 impl<'s> Bridge<'s> {
     /// Whether there is a local port of this number, and it is up.
-    fn is_up(&self, port: u8) -> bool
+    #[inline(always)]
+    pub fn is_up(&self, port: u8) -> bool
         ensures value { result ≡ is_up_at (config_of self.now).up port }
         ensures there { IsTrue result → (1 ≤ port) × (port ≤ length self.now.ports.now.ports) }
     {
@@ -56,7 +57,7 @@ impl<'s> Bridge<'s> {
     }
 
     /// Whether both places are remotes of one horizon group.
-    pub(crate) fn in_one_group(&self, from: &Place, to: &Place) -> bool
+    pub fn in_one_group(&self, from: &Place, to: &Place) -> bool
         ensures { result ≡ in_one_group (config_of self.now) from.now to.now }
     {
         match (from, to) {

@@ -1,17 +1,17 @@
 //! One step of a learning bridge (IEEE 802.1Q, 8.6 to 8.8) whose ports are local ports and the remote endpoints of tunnels
 //! (RFC 7348, 4.1; RFC 8926, 2). No tunnel header is in sight: it knows frames and places.
 //!
-//! Use first: [`bridge_step`] learns where a frame's source stands and then answers where the frame goes: a [`Verdict`]. A
-//! [`Bridge`] is one segment's configuration, and the tables are handed in. [`bridge_step_into`] puts the places into
-//! [`Outlets`] that are lent, and [`send_toward`] answers where a frame goes by where its destination stands, without tables.
+//! Use first: [`bridge_step_into`] learns where a frame's source stands and then puts where the frame goes into [`Outlets`]
+//! that are lent. A [`Bridge`] is one segment's configuration, and the tables are handed in. [`send_toward`] answers where a
+//! frame goes by where its destination stands, without tables.
 //!
 //! Specs to read: `specs/Bridge`, then `specs/Verdict` and `specs/Outlets`; `specs/Once` for the law.
 //!
-//! Proved: in one step, for every `Tables`, the source is learned and then the verdict is the outlets, or the reason why
+//! Proved: in one step, for every `Tables`, the source is learned and then the answer is the outlets, or the reason why
 //! there are none, of the definition; lent outlets are empty after every refusal. So it is of a frame whose destination's
 //! place is told. The outlets are distinct places (`laws::once_at_each_place`).
 //!
-//! Why it is so: a verdict is its places, or the reason. The bridge looks at a port's state and membership when the frame
+//! Why it is so: the answer is a list of places, or the reason. The bridge looks at a port's state and membership when the frame
 //! comes, so a fixed entry at a port that is down or no member makes its address unreachable.
 #![tactic(auto)]
 
@@ -19,9 +19,7 @@ mod bridge;
 pub mod laws;
 mod outlets;
 mod step;
-mod verdict;
 
 pub use bridge::Bridge;
 pub use outlets::Outlets;
-pub use step::{bridge_step, bridge_step_into, send_toward};
-pub use verdict::Verdict;
+pub use step::{bridge_step_into, send_toward};

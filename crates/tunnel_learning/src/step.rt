@@ -1,45 +1,22 @@
 //! One step.
 ghost use Rattle.std.specs.Prelude.{◌≡◌, ◌≤◌, IsSome, OnErr, [], ◌++◌, if◌then◌else◌, length};
 ghost use Rattle.filter_db.specs.Segment.{segment_at, aged_all};
-ghost use Rattle.tunnel_learning.specs.Bridge.{config_of, to_place, everywhere, local_places, remote_places, is_local_outlet, outlets, learned, toward};
+ghost use Rattle.tunnel_learning.specs.Bridge.{config_of, everywhere, is_local_outlet, learned, local_places, outlets};
+ghost use Rattle.tunnel_learning.specs.Bridge.{remote_places, to_place, toward};
 ghost use Rattle.vlan_ports.specs.Row.{row_at};
 ghost use Rattle.tunnel_learning.specs.declared.bridge.Bridge.{Bridge as ABridge};
 ghost use Rattle.filter_db.specs.declared.place.Place.TheVariants.{Local};
-ghost use Rattle.tunnel_learning.specs.Verdict.{seen, put_or};
+ghost use Rattle.tunnel_learning.specs.Verdict.{put_or};
 
-use crate::{Bridge, Outlets, Verdict};
+use crate::{Bridge, Outlets};
 use filter_db::{Place, Tables};
 use frame_view::{BridgeFrame, Reason};
 use vlan_ports::Row;
 
 /// A frame came from a place at a moment: learns where its source stands, where the segment learns (IEEE 802.1Q, 8.7),
-/// and then answers where it goes (8.6 and 8.8, with split horizon among the remotes of a group).
+/// and then puts where it goes (8.6 and 8.8, with split horizon among the remotes of a group) into a list that is emptied first.
+/// After an `Err`, one of SamePlace, Horizon, Unreachable and NoOutlet, it is empty.
 /// `now` is in nanoseconds and isn't before the tables' own; the segment has a table.
-pub fn bridge_step<T: Tables>(
-    tables: &mut T,
-    bridge: &Bridge,
-    now: u64,
-    from: Place,
-    frame: &BridgeFrame,
-) -> Verdict
-    requires has { IsSome (T.segments tables.old bridge.now.vid) }
-    requires time { T.moment tables.old ≤ now }
-    ensures verdict { let entries = (segment_at bridge.now.vid (aged_all now (T.segments tables.new))).entries in
-        seen result ≡ outlets (config_of bridge.now) from frame.now entries }
-    ensures tables { let c = config_of bridge.now in
-        T.segments tables.new ≡ learned c bridge.now.vid now from frame.now (T.segments tables.old) }
-    // A step that learns moves the tables' moment on, and a look-up doesn't.
-    ensures moment { T.moment tables.new ≡ (if bridge.now.learning then now else T.moment tables.old) }
-    ensures pool { T.pool tables.new ≡ T.pool tables.old }
-{
-    let mut places = Outlets::new();
-    match bridge_step_into(tables, bridge, now, &from, frame, &mut places) {
-        Ok(()) => Verdict::Outlets(places),
-        Err(reason) => Verdict::Dropped(reason),
-    }
-}
-
-/// The same into a list that is emptied first. After an `Err`, one of SamePlace, Horizon, Unreachable and NoOutlet, it is empty.
 pub fn bridge_step_into<T: Tables>(
     tables: &mut T,
     bridge: &Bridge,

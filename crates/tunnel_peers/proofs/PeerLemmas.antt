@@ -3,9 +3,9 @@ use Rattle.std.proofs.Common.{◌≡◌, ◌≢◌, ℕ, ◌+◌, ◌*◌, ◌^�
 use Rattle.std.specs.Prelude.{IfSome, ◌⊎◌}
 use Rattle.std.proofs.lemmas.Bool.{le-ltb, or_from, or_left, or_right, not_from_true}
 use Rattle.std.proofs.lemmas.List.{length-append}
-use Rattle.header_sums.specs.Octets.{octets}
-use Rattle.header_sums.proofs.OctetsLemmas.{is_same-true}
-use Rattle.header_sums.proofs.SumLemmas.{sent-not_zero}
+use Rattle.header_octets.specs.Octets.{octets}
+use Rattle.header_octets.proofs.OctetsLemmas.{is_same-true}
+use Rattle.header_octets.proofs.SumLemmas.{sent-not_zero}
 use Rattle.frame_view.specs.Frame.{Frame, plain}
 use Rattle.frame_view.specs.First.{unless}
 use Rattle.frame_view.specs.Refusal.{as_refused}

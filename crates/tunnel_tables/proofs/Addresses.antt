@@ -4,7 +4,7 @@ use Rattle.std.specs.Fmt.{decimal}
 use Rattle.std.specs.Option.{option_and_then}
 use Rattle.std.proofs.lemmas.Bool.{cases_lt, cond-true, cond-false, le-ltb, lt-ltb, ne_eqb}
 use Rattle.std.proofs.lemmas.Fmt.{length-decimal-le}
-use Rattle.header_sums.specs.Octets.{IsText, octet}
+use Rattle.header_octets.specs.Octets.{IsText, octet}
 use Rattle.ip_udp_view.specs.Addr.{IsAddr}
 use Rattle.ip_udp_view.specs.declared.addr.Addr.{Addr}
 use Rattle.ip_udp_view.specs.declared.addr.Addr.TheVariants.{V4, V6}

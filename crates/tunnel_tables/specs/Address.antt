@@ -4,7 +4,7 @@
 --     addr_of      four decimals between points, or eight groups of four hexadecimal digits between colons
 use Rattle.std.specs.Prelude.{ℕ, ◌+◌, ◌-◌, ◌*◌, ◌%◌, ◌==◌, nat_lt, if◌then◌else◌, List, [], ◌∷◌, length, Option, Some, None}
 use Rattle.std.specs.Option.{option_and_then}
-use Rattle.header_sums.specs.Octets.{octet}
+use Rattle.header_octets.specs.Octets.{octet}
 use Rattle.ip_udp_view.specs.declared.addr.Addr.{Addr}
 use Rattle.ip_udp_view.specs.declared.addr.Addr.TheVariants.{V4, V6}
 use Rattle.line_words.specs.Numbers.{number_of}

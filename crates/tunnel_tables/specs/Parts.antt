@@ -1,6 +1,6 @@
 -- The lines of a summary that tell what passed by tunnels stand behind all others. It states no standard.
 use Rattle.std.specs.Prelude.{◌≡◌, ◌≢◌, ◌<◌, ◌≤◌, ℕ, ◌-◌, ◌||◌, Bool, true, false, List, ◌++◌, length, drop, slice_index, codes}
-use Rattle.header_sums.specs.Octets.{is_same}
+use Rattle.header_octets.specs.Octets.{is_same}
 use Rattle.line_words.specs.Words.{word}
 
 -- such a line begins a text

@@ -5,7 +5,7 @@
 -- A line is read here by its words alone: whether it is written as it has to be is seen where all of them are written again.
 use Rattle.std.specs.Prelude.{ℕ, ◌^◌, ◌==◌, nat_lt, if◌then◌else◌, List, [], ◌∷◌, ◌++◌, codes, Option, Some, None}
 use Rattle.std.specs.Option.{option_and_then, option_to_list}
-use Rattle.header_sums.specs.Octets.{is_same}
+use Rattle.header_octets.specs.Octets.{is_same}
 use Rattle.ip_udp_view.specs.declared.addr.Tunnel.{Tunnel}
 use Rattle.ip_udp_view.specs.declared.addr.Tunnel.TheVariants.{Vxlan, Geneve}
 use Rattle.line_words.specs.Words.{word, behind}

@@ -1,5 +1,6 @@
 -- What a change of a segment's flood list leaves.
 use Rattle.std.proofs.Common.{◌≡◌, ◌<◌, ℕ, true, List, [], length, get_or, set, Option, Some, None, Result, Ok, Err, refl, sym, ap, ◌∙◌, subst}
+use Rattle.std.proofs.lemmas.List.{length-set}
 use Rattle.std.specs.Prelude.{OnOk, is_some}
 use Rattle.std.specs.Option.{option_map_or}
 use Rattle.std.specs.FinMap.{get, insert}
@@ -7,8 +8,8 @@ use Rattle.underlay.specs.declared.places.Row.{Row}
 use Rattle.underlay.specs.declared.segment.Segment.{Segment}
 use Rattle.underlay.specs.Flood.{Entries}
 use Rattle.underlay.specs.Overlay.{Segments, flood_in, flooding}
-use Rattle.underlay.specs.Seats.{Seats, seated}
-use Rattle.underlay.proofs.SeatLemmas.{Keeps, read_at, there_at, row_at, found, seated-change, seated-same, keeps-change}
+use Rattle.underlay.specs.Seats.{Seats, seated, Leads}
+use Rattle.underlay.proofs.SeatLemmas.{Keeps, leads-within, read_at, there_at, row_at, found, seated-change, seated-same, keeps-change}
 
 -- what a segment with another flood list in place of itself is
 put-flooding : (m : Segments) (vid : ℕ) (g : Segment) (flood : Entries) → get m vid ≡ Some g → insert m vid (record g { flood = flood }) ≡ flooding m vid flood
@@ -23,7 +24,7 @@ on_ok {A = A} {E = E} {P = P} {Q = Q} r s same holds then = subst (λ (x : Resul
 
 -- what rows and an index show
 abbrev pub shown : List (Option Row) → List (Option ℕ) → Seats
-shown rows index = record { segments = seated (λ r. r.segment) rows index; heads = seated (λ r. r.heads) rows index }
+shown rows index = record { segments = seated (λ r. r.segment) rows index; heads = seated (λ r. r.heads) rows index; most = length rows }
 
 -- a row with another flood list
 abbrev pub with_list : Row → Entries → Row
@@ -35,12 +36,16 @@ pub record Flooded (seats : Seats) (rows : List (Option Row)) (index : List (Opt
   pub list : old.segment.flood ≡ flood_in seats.segments vid
   pub segments : seated (λ r. r.segment) (set rows p (Some (with_list old flood))) index ≡ flooding seats.segments vid flood
   pub heads : seated (λ r. r.heads) (set rows p (Some (with_list old flood))) index ≡ seats.heads
+  pub most : length (set rows p (Some (with_list old flood))) ≡ seats.most
 
 -- a segment that is there: what the index says for its VID, as it is read, and what stands at that place
 module _ (seats : Seats) (rows : List (Option Row)) (index : List (Option ℕ)) (vid i : ℕ) (x : Option ℕ) (show : shown rows index ≡ seats)
     (read : x ≡ get_or index i x) (same : i ≡ vid) (lt : vid < length index) where
   pub has_place : is_some (get seats.segments vid) ≡ true → is_some x ≡ true
   has_place there = there_at (λ r. r.segment) rows index vid x (read_at index i vid x read same lt) (ap (λ (s : Seats). is_some (get s.segments vid)) show ∙ there)
+
+  pub has_seat : (j : ℕ) → x ≡ Some j → Leads (λ r. r.vid) rows index → j < length rows
+  has_seat j is leads = leads-within (λ r. r.vid) rows index vid j leads (sym (read_at index i vid x read same lt) ∙ is)
 
   module _ (j p : ℕ) (y : Option Row) (is : x ≡ Some j) (read_row : y ≡ get_or rows p y) (place : p ≡ j) (lt_row : j < length rows) where
     at : get_or index vid None ≡ Some j
@@ -68,4 +73,5 @@ module _ (seats : Seats) (rows : List (Option Row)) (index : List (Option ℕ)) 
               ap (λ (k : ℕ). seated (λ r. r.heads) (set rows k (Some new)) index) place
               ∙ seated-same (λ r. r.vid) (λ r. r.heads) rows index j new old there refl lt_row
               ∙ ap (λ (s : Seats). s.heads) show;
+          most = length-set rows p (Some new) ∙ ap (λ (s : Seats). s.most) show;
         }

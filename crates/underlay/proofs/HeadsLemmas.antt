@@ -22,12 +22,12 @@ map_cond : {A B : Type 0} (f : A → B) (b : Bool) (x y : Option A) → cond b (
 map_cond f true x y = refl
 map_cond f false x y = refl
 
-pub heads-nothing : (U : Underlay) (s : Seats) → s ≡ record { segments = empty; heads = empty } → AreHeads U s
-heads-nothing U s is vid =
+pub heads-nothing : (U : Underlay) (s : Seats) (most : ℕ) → s ≡ record { segments = empty; heads = empty; most = most } → AreHeads U s
+heads-nothing U s most is vid =
     ap (λ (x : Seats). get x.heads vid) is ∙ get-empty nat_cmp vid
     ∙ sym (ap (λ (x : Seats). option_map (heads_by U) (get x.segments vid)) is ∙ ap (option_map (heads_by U)) (get-empty nat_cmp vid))
 
-pub heads-insert : (U : Underlay) (s n : Seats) (vid : ℕ) (g : Segment) (h : SegmentHeads) → AreHeads U s → n ≡ record { segments = insert s.segments vid g; heads = insert s.heads vid h } → h ≡ heads_by U g → AreHeads U n
+pub heads-insert : (U : Underlay) (s n : Seats) (vid : ℕ) (g : Segment) (h : SegmentHeads) → AreHeads U s → n ≡ record s { segments = insert s.segments vid g; heads = insert s.heads vid h } → h ≡ heads_by U g → AreHeads U n
 heads-insert U s n vid g h are is made q =
     ap (λ (x : Seats). get x.heads q) is ∙ get-insert_at s.heads vid h q
     ∙ ap (λ (x : Option SegmentHeads). cond (eqb q vid) (Some h) x) (are q)
@@ -35,7 +35,7 @@ heads-insert U s n vid g h are is made q =
     ∙ map_cond (heads_by U) (eqb q vid) (Some g) (get s.segments q)
     ∙ sym (ap (λ (x : Seats). option_map (heads_by U) (get x.segments q)) is ∙ ap (option_map (heads_by U)) (get-insert_at s.segments vid g q))
 
-pub heads-remove : (U : Underlay) (s n : Seats) (vid : ℕ) → AreHeads U s → n ≡ record { segments = remove s.segments vid; heads = remove s.heads vid } → AreHeads U n
+pub heads-remove : (U : Underlay) (s n : Seats) (vid : ℕ) → AreHeads U s → n ≡ record s { segments = remove s.segments vid; heads = remove s.heads vid } → AreHeads U n
 heads-remove U s n vid are is q =
     ap (λ (x : Seats). get x.heads q) is ∙ get-remove_at s.heads vid q
     ∙ ap (λ (x : Option SegmentHeads). cond (eqb q vid) None x) (are q)

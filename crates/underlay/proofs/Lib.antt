@@ -3,6 +3,7 @@ pub mod FloodLemmas
 pub mod HeadsLemmas
 pub mod HopsLemmas
 pub mod IndexLemmas
+pub mod RoomLemmas
 pub mod SearchLemmas
 pub mod SeatLemmas
 pub mod ToldLemmas

@@ -196,6 +196,15 @@ module _ {R : Type 0} (number : R → ℕ) where
     | inr ne ↦ ap (option_map number) (get_or-set_other rows j k (Some r) None ne) ∙ leads p k at
   ]
 
+  -- a place that the index has is one of the rows
+  pub leads-within : (rows : List (Option R)) (index : List (Option ℕ)) (q k : ℕ) → Leads number rows index → get_or index q None ≡ Some k → k < length rows
+  leads-within rows index q k leads at = within rows k (leads q k at)
+    where
+      within : (rows : List (Option R)) (k : ℕ) → option_map number (get_or rows k None) ≡ Some q → k < length rows
+      within [] k is = absurd (none-some q is)
+      within (x ∷ rows) zero is = omega arith
+      within (x ∷ rows) (suc k) is = omega (arith, within rows k is)
+
 -- ---- how many rows hold something
 
 pub occupied-nothing : (R : Type 0) (n : ℕ) → occupied {R = R} (replicate n None) ≡ 0
@@ -258,21 +267,21 @@ absent f rows index q at = get-seated f rows index q ∙ look-none f rows (get_o
 
 module _ {R X : Type 0} (number : R → ℕ) (f : R → X) where
   abbrev pub Keeps : List (Option R) → List (Option ℕ) → Type 0
-  Keeps rows index = (4094 < length index) × (length rows ≡ 256) × Leads number rows index × (occupied rows ≡ len (seated f rows index))
+  Keeps rows index = (4094 < length index) × (length rows < 65536) × Leads number rows index × (occupied rows ≡ len (seated f rows index))
 
-  pub keeps-nothing : (rows : List (Option R)) (index : List (Option ℕ)) → rows ≡ replicate 256 None → index ≡ replicate 4096 None → Keeps rows index
-  keeps-nothing rows index rows_are index_is = (
+  pub keeps-nothing : (most : ℕ) (rows : List (Option R)) (index : List (Option ℕ)) → most < 65536 → rows ≡ replicate most None → index ≡ replicate 4096 None → Keeps rows index
+  keeps-nothing most rows index few rows_are index_is = (
     omega (arith, ap length index_is, length-replicate {A = Option ℕ} 4096 None),
-    ap length rows_are ∙ length-replicate {A = Option R} 256 None,
+    omega (arith, few, ap length rows_are, length-replicate {A = Option R} most None),
     subst (λ (i : List (Option ℕ)). Leads number rows i) (sym index_is) (leads-nothing number rows 4096),
-    ap occupied rows_are ∙ occupied-nothing R 256 ∙ sym (ap (λ (i : List (Option ℕ)). len (seated f rows i)) index_is ∙ ap len (seated-nothing f rows 4096) ∙ len-empty nat_cmp X),
+    ap occupied rows_are ∙ occupied-nothing R most ∙ sym (ap (λ (i : List (Option ℕ)). len (seated f rows i)) index_is ∙ ap len (seated-nothing f rows 4096) ∙ len-empty nat_cmp X),
   )
 
   pub keeps-put : (rows : List (Option R)) (index : List (Option ℕ)) (q j : ℕ) (r : R) → Keeps rows index → number r ≡ q → get_or rows j None ≡ None → j < length rows → q < length index → get (seated f rows index) q ≡ None
       → Keeps (set rows j (Some r)) (set index q (Some j))
   keeps-put rows index q j r kept is free lt lt' new = (
     omega (arith, kept.0, length-set index q (Some j)),
-    length-set rows j (Some r) ∙ kept.1,
+    omega (arith, length-set rows j (Some r), kept.1),
     leads-put number rows index q j r kept.2 is free lt lt',
     occupied-put rows j r free lt ∙ ap (λ (n : ℕ). n + 1) kept.3
         ∙ sym (ap len (seated-put number f rows index q j r kept.2 free lt lt') ∙ len-insert nat_cmp_total (seated f rows index) q (f r)
@@ -286,7 +295,7 @@ module _ {R X : Type 0} (number : R → ℕ) (f : R → X) where
       let found_there : get m q ≡ Some (f s) = get-seated f rows index q ∙ look-at f rows (get_or index q None) j at ∙ ap (option_map f) there in
       let fewer : len (remove m q) ≡ len m - 1 = len-remove nat_cmp_total m q ∙ ap (λ (x : Option X). cond (is_some x) (len m - 1) (len m)) found_there in (
         omega (arith, kept.0, length-set index q None),
-        length-set rows j None ∙ kept.1,
+        omega (arith, length-set rows j None, kept.1),
         leads-take number rows index q j kept.2 at lt',
         (let e : occupied (set rows j None) ≡ len (remove m q) = omega (arith, occupied-take rows j s there, kept.3, fewer) in e) ∙ sym (ap len (seated-take number f rows index q j kept.2 at lt')),
       )
@@ -307,7 +316,7 @@ module _ {R X : Type 0} (number : R → ℕ) (f : R → X) where
       let m = seated f rows index in
       let found_there : get m q ≡ Some (f s) = get-seated f rows index q ∙ look-at f rows (get_or index q None) j at ∙ ap (option_map f) there in (
         kept.0,
-        length-set rows j (Some r) ∙ kept.1,
+        omega (arith, length-set rows j (Some r), kept.1),
         leads-change number rows index j r s kept.2 there same lt,
         occupied-change rows j r s there ∙ kept.3
             ∙ sym (ap len (seated-change number f rows index q j r kept.2 at lt) ∙ len-insert nat_cmp_total m q (f r) ∙ ap (λ (x : Option X). cond (is_some x) (len m) (len m + 1)) found_there),

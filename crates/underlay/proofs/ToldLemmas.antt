@@ -110,15 +110,3 @@ told_more U rules more apart =
     ap (λ (m : Segments). let S : Overlay = record { underlay = U; segments = m } in S)
     (sym (ap (λ (l : List (ℕ × Segment)). from_entries l) (map-entry rules more)
     ∙ from_entries_push nat_cmp_total nat_cmp-IsAntisymmetric (map entry rules) more.vid (segment_of more) (sym (get-from_entries nat_cmp_total (map entry rules) more.vid) ∙ told_absent rules more apart)))
-
--- ---- how many segments there are
-
-pub segments_more : (m : Segments) (vid : ℕ) (g : Segment) → len (insert m vid g) ≤ len m + 1
-segments_more m vid g = by (is_some (get m vid)) (len-insert nat_cmp_total m vid g)
-  where
-    by : (b : Bool) → len (insert m vid g) ≡ cond b (len m) (len m + 1) → len (insert m vid g) ≤ len m + 1
-    by true is = omega arith
-    by false is = omega arith
-
-pub no_segments : len (empty {X = Segment} {R = nat_cmp}) ≡ 0
-no_segments = len-empty nat_cmp Segment

@@ -1,5 +1,5 @@
 -- How the values that contracts see of the segments are stored. It states no standard.
-use Rattle.std.specs.Prelude.{refl}
+use Rattle.std.specs.Prelude.{ℕ, refl}
 use Rattle.std.specs.Coded.{Coded, code_by, coded×, coded_ℕ}
 use Rattle.std.specs.FinMap.{code}
 use Rattle.underlay.specs.declared.settings.Underlay.{Underlay}
@@ -10,6 +10,7 @@ use Rattle.underlay.specs.contracts.segment.Segment as segment
 use Rattle.underlay.specs.contracts.settings.Underlay as settings
 use Rattle.underlay.specs.declared.heads.SegmentHeads.{SegmentHeads}
 use Rattle.underlay.specs.Overlay.{Overlay, Segments}
+use Rattle.underlay.specs.Index.{Index, Listed}
 use Rattle.underlay.specs.Seats.{Seats}
 
 -- segments are stored as pairs of a VID and a segment
@@ -26,8 +27,14 @@ overlay_code =
 abbrev pub heads_code : Coded (FinMap nat_cmp SegmentHeads)
 heads_code = code coded_ℕ heads.the_row.coded
 
--- and segments with their heads likewise
+-- segments with their heads, and the number for which there is room, are stored as its three parts
 abbrev pub seats_code : Coded Seats
 seats_code =
-    code_by (Segments × FinMap nat_cmp SegmentHeads) (coded× segments_code heads_code)
-    (λ s. (s.segments, s.heads)) (λ p. record { segments = p.0; heads = p.1 }) (λ _. refl)
+    code_by (Segments × (FinMap nat_cmp SegmentHeads × ℕ)) (coded× segments_code (coded× heads_code coded_ℕ))
+    (λ s. (s.segments, (s.heads, s.most))) (λ p. record { segments = p.0; heads = p.1.0; most = p.1.1 }) (λ _. refl)
+
+-- an index of VIDs by VNIs, and the number for which there is room, are stored as a pair
+abbrev pub listed_code : Coded Listed
+listed_code =
+    code_by (Index × ℕ) (coded× (code coded_ℕ coded_ℕ) coded_ℕ)
+    (λ l. (l.vids, l.most)) (λ p. record { vids = p.0; most = p.1 }) (λ _. refl)

@@ -12,6 +12,11 @@ use Rattle.underlay.specs.Overlay.{Segments, tunnel_of, has_tunnel}
 abbrev pub Index : Type 0
 Index = FinMap nat_cmp ℕ
 
+-- an index, and the most VIDs that there is room for in it
+pub record Listed : Type 0 where
+  pub vids : Index
+  pub most : ℕ
+
 -- the index has this VID at this VNI
 abbrev pub leads_to : Index → ℕ → ℕ → Bool
 leads_to index vni vid = option_map_or (λ at. at == vid) (get index vni) false

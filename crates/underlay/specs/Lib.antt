@@ -4,6 +4,7 @@ pub mod Flood
 pub mod Heads
 pub mod Index
 pub mod Overlay
+pub mod Room
 pub mod Search
 pub mod Seats
 pub mod Settings

@@ -25,7 +25,8 @@ occupied (Some r ∷ rows) = 1 + occupied rows
 abbrev pub Leads : {R : Type 0} → (R → ℕ) → List (Option R) → List (Option ℕ) → Type 0
 Leads number rows index = (q k : ℕ) → get_or index q None ≡ Some k → option_map number (get_or rows k None) ≡ Some q
 
--- the segments and the heads of their packets, each by its VID
+-- the segments and the heads of their packets, each by its VID, and the most of them that there is room for
 pub record Seats : Type 0 where
   pub segments : Segments
   pub heads : FinMap nat_cmp SegmentHeads
+  pub most : ℕ

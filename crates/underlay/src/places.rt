@@ -21,8 +21,6 @@ use std::marker::Model;
 
 /// The numbers of 12 bits, of which VIDs are some.
 const NUMBERS: usize = 4096;
-/// The most segments.
-const CAPACITY: usize = 256;
 
 /// A segment, its VID and the heads of its packets.
 #[derive(Drop)]
@@ -32,14 +30,16 @@ struct Row {
     heads: SegmentHeads,
 }
 
-/// At most 256 segments with the heads of their packets, seen by contracts as finite maps from VIDs. One is found by one
-/// index. Only [`SegmentPlaces::open`] takes memory.
+/// The segments with the heads of their packets, as many as it was opened for at most, seen by contracts as finite maps
+/// from VIDs. One is found by one index. Only [`SegmentPlaces::open`] takes memory.
 #[derive(Drop)]
 pub(crate) struct SegmentPlaces {
     /// For each number of 12 bits the place in `rows` of the segment with this VID.
-    index: Vec<Option<u8>>,
-    /// 256 places, each with a segment or free.
+    index: Vec<Option<u16>>,
+    /// The places of all segments, each with one or free.
     rows: Vec<Option<Row>>,
+    /// The place behind the one that was taken last. Where it is free, the next segment gets it.
+    next: usize,
 }
 
 impl Model for SegmentPlaces {
@@ -55,28 +55,33 @@ impl Model for SegmentPlaces {
     ghost view = { λ s. record {
       segments = seated (λ row. row.segment) s.rows.items s.index.items;
       heads = seated (λ row. row.heads) s.rows.items s.index.items;
+      most = length s.rows.items;
     } };
 
     ghost invariant = { λ s. (4094 < length s.index.items)
-        × (length s.rows.items ≡ 256)
+        × (length s.rows.items < 65536)
         × Leads (λ row. row.vid) s.rows.items s.index.items
         × (occupied s.rows.items ≡ len (seated (λ row. row.segment) s.rows.items s.index.items)) };
 }
 
 impl SegmentPlaces {
-    /// No segment, and the places of all.
-    pub(crate) fn open(alloc: Global) -> Result<SegmentPlaces, AllocError>
-        ensures { IfOk result (λ places. places ≡ record { segments = empty; heads = empty }) }
+    /// No segment, and the places of so many.
+    pub(crate) fn open(alloc: Global, most: u16) -> Result<SegmentPlaces, AllocError>
+        ensures { IfOk result (λ places. places ≡ record { segments = empty; heads = empty; most = most }) }
     {
         let mut index = Vec::with_capacity(alloc, NUMBERS)?;
         for _number in 0..NUMBERS {
             index.push(None)?;
         }
-        let mut rows = Vec::with_capacity(alloc, CAPACITY)?;
-        for _place in 0..CAPACITY {
+        let mut rows = Vec::with_capacity(alloc, usize::from(most))?;
+        for _place in 0..usize::from(most) {
             rows.push(None)?;
         }
-        Ok(SegmentPlaces { index, rows })
+        Ok(SegmentPlaces {
+            index,
+            rows,
+            next: 0,
+        })
     }
 
     /// The row of the segment with this VID.
@@ -111,25 +116,26 @@ impl SegmentPlaces {
         occupied(&self.rows)
     }
 
-    /// Puts a segment that isn't there at a free place. There are fewer than 256 before.
+    /// Puts a segment that isn't there at a free place, of which there is one.
     pub(crate) fn put(&mut self, vid: Vid, segment: Segment, heads: SegmentHeads)
         requires new { get self.old.segments vid ≡ None }
-        requires room { len self.old.segments < 256 }
-        ensures { self.new ≡ record { segments = insert self.old.segments vid segment; heads = insert self.old.heads vid heads } }
+        requires room { len self.old.segments < self.old.most }
+        ensures { self.new ≡ record self.old { segments = insert self.old.segments vid segment; heads = insert self.old.heads vid heads } }
     {
-        let place = free_place(&self.rows);
+        let place = free_place(&self.rows, self.next);
         self.rows[place] = Some(Row {
             vid,
             segment,
             heads,
         });
-        self.index[usize::from(vid.get())] = Some(place as u8);
+        self.index[usize::from(vid.get())] = Some(place as u16);
+        self.next = place + 1;
     }
 
     /// Takes the segment with this VID from its place, which is free then.
     pub(crate) fn take(&mut self, vid: Vid) -> Option<Segment>
         ensures taken { result ≡ get self.old.segments vid }
-        ensures left { self.new ≡ record { segments = remove self.old.segments vid; heads = remove self.old.heads vid } }
+        ensures left { self.new ≡ record self.old { segments = remove self.old.segments vid; heads = remove self.old.heads vid } }
     {
         match self.index[usize::from(vid.get())].take() {
             Some(place) => segment_of(self.rows[usize::from(place)].take()),
@@ -152,6 +158,7 @@ impl SegmentPlaces {
             ≡ flooding self.old.segments vid (flood_in self.old.segments vid ++ record { tunnel = kind; addr = addr } ∷ [])) }
         ensures refused { OnErr result (self.new.segments ≡ self.old.segments) }
         ensures heads { self.new.heads ≡ self.old.heads }
+        ensures most { self.new.most ≡ self.old.most }
     {
         let place = usize::from(self.index[usize::from(vid.get())].unwrap());
         let row = self.rows[place].as_mut().unwrap();
@@ -171,6 +178,7 @@ impl SegmentPlaces {
             (self.new.segments ≡ flooding self.old.segments vid (without (flood_in self.old.segments vid) kind addr)) }
         ensures refused { OnErr result (self.new.segments ≡ self.old.segments) }
         ensures heads { self.new.heads ≡ self.old.heads }
+        ensures most { self.new.most ≡ self.old.most }
     {
         let place = usize::from(self.index[usize::from(vid.get())].unwrap());
         let row = self.rows[place].as_mut().unwrap();
@@ -201,12 +209,15 @@ fn occupied(rows: &[Option<Row>]) -> usize
     count
 }
 
-/// The first free place.
-fn free_place(rows: &[Option<Row>]) -> usize
+/// A free place: the likely one, or else the first. So where segments only come, as at the opening, none is searched for.
+fn free_place(rows: &[Option<Row>], likely: usize) -> usize
     requires { occupied rows.now < length rows.now }
     ensures there { result < length rows.now }
     ensures free { get_or rows.now result None ≡ None }
 {
+    if likely < rows.len() && rows[likely].is_none() {
+        return likely;
+    }
     for place in 0..rows.len() {
         if rows[place].is_none() {
             return place;

@@ -2,7 +2,7 @@
 ghost use Rattle.std.specs.Prelude.{◌≡◌};
 ghost use Rattle.underlay.specs.Settings.{own, is_own, kind_at, port_of, hop_to};
 
-use crate::Hops;
+use crate::{Hops, Limits};
 use flood_lists::Own;
 use frame_view::Mac;
 use geneve_head::Known;
@@ -39,6 +39,8 @@ pub struct Underlay {
     pub known: Known,
     /// The exceptions from the next hop.
     pub hops: Hops,
+    /// How much the endpoint has room for.
+    pub limits: Limits,
 }
 
 impl Underlay {

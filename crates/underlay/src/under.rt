@@ -23,8 +23,8 @@ use std::alloc::{AllocError, Global};
 use std::marker::Model;
 use vxlan_head::Vni;
 
-/// The settings of the underlay, and the tunnels of at most 256 segments; seen by contracts as the settings and a
-/// finite map from VID to segment.
+/// The settings of the underlay, and the tunnels of at most as many segments as its limits say; seen by contracts as the
+/// settings and a finite map from VID to segment.
 ///
 /// Only [`Under::open`] takes memory. A segment is found by its VID by one index, and by the kind and VNI of a tunnel
 /// by a binary search.
@@ -44,6 +44,7 @@ impl Model for Under {
     ghost use Rattle.underlay.specs.Code.{overlay_code};
     ghost use Rattle.underlay.specs.Heads.{AreHeads};
     ghost use Rattle.underlay.specs.Index.{Indexes};
+    ghost use Rattle.underlay.specs.Room.{HasRoomFor};
 
     ghost Value = { Overlay };
 
@@ -51,22 +52,22 @@ impl Model for Under {
 
     ghost view = { λ u. record { underlay = u.underlay; segments = u.segments.segments } };
 
-    ghost invariant = { λ u. Indexes Vxlan u.segments.segments u.vxlan
-        × Indexes Geneve u.segments.segments u.geneve
-        × AreHeads u.underlay u.segments };
+    ghost invariant = { λ u. Indexes Vxlan u.segments.segments u.vxlan.vids
+        × Indexes Geneve u.segments.segments u.geneve.vids
+        × AreHeads u.underlay u.segments
+        × HasRoomFor u.underlay.limits.segments u.segments u.vxlan u.geneve };
 }
 
 impl Under {
-    /// The settings, and the segments of these rules: at most 256, no two of which are for one VID or have tunnels of
-    /// one kind and VNI. It reserves the places of 256 segments, an index of
-    /// all VIDs, and 256 places in each of the two indexes of VNIs. `AllocError`:
-    /// there was no room for them.
+    /// The settings, and the segments of these rules: at most as many as the limits say, no two of which are for one VID
+    /// or have tunnels of one kind and VNI. It reserves the places of so many segments, an index of all VIDs, and as many
+    /// places in each of the two indexes of VNIs. `AllocError`: there was no room for them.
     pub fn open(
         alloc: Global,
         underlay: Underlay,
         rules: Vec<TunnelRule>,
     ) -> Result<Under, AllocError>
-        requires few { length rules.items ≤ 256 }
+        requires few { length rules.items ≤ underlay.limits.segments }
         requires apart { AreApart rules.items }
         ensures { IfOk result (λ under. under ≡ told underlay rules.items) }
     {
@@ -81,11 +82,12 @@ impl Under {
     fn without_segments(alloc: Global, underlay: Underlay) -> Result<Under, AllocError>
         ensures { IfOk result (λ under. under ≡ told underlay []) }
     {
+        let most = underlay.limits.segments;
         Ok(Under {
             underlay,
-            segments: SegmentPlaces::open(alloc)?,
-            vxlan: VniIndex::open(alloc)?,
-            geneve: VniIndex::open(alloc)?,
+            segments: SegmentPlaces::open(alloc, most)?,
+            vxlan: VniIndex::open(alloc, most)?,
+            geneve: VniIndex::open(alloc, most)?,
         })
     }
 
@@ -124,7 +126,7 @@ impl Under {
         self.underlay.zero6
     }
 
-    /// How many segments there are, 256 at most.
+    /// How many segments there are.
     pub fn segment_count(&self) -> usize
         ensures { result ≡ len self.now.segments }
     {
@@ -232,11 +234,11 @@ impl Under {
         self.segments.remove_flood(vid, kind, addr)
     }
 
-    /// Adds a segment. Its VID is new, and so are its tunnels' kinds and VNIs.
+    /// Adds a segment, where there are fewer than the limits say. Its VID is new, and so are its tunnels' kinds and VNIs.
     pub fn add_segment(&mut self, rule: TunnelRule)
         requires new { IsTrue (not (has_segment self.old rule.vid)) }
         requires free { IsTrue (are_free self.old rule.tunnels) }
-        requires room { len self.old.segments < 256 }
+        requires room { len self.old.segments < self.old.underlay.limits.segments }
         ensures { self.new ≡ with_segment self.old rule }
     {
         let TunnelRule {
@@ -271,7 +273,7 @@ impl Under {
 
     /// The index of the tunnels of a kind.
     fn index(&self, kind: Tunnel) -> &VniIndex
-        ensures { Indexes kind self.now.segments result.now }
+        ensures { Indexes kind self.now.segments result.now.vids }
     {
         match kind {
             Tunnel::Vxlan => &self.vxlan,

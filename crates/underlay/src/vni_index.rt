@@ -10,46 +10,47 @@ use std::alloc::{AllocError, Global};
 use std::marker::Model;
 use vxlan_head::Vni;
 
-/// The most entries that an index has.
-const CAPACITY: usize = 256;
-
-/// The VIDs of at most 256 segments by their VNIs in tunnels of one kind, seen by contracts as a finite map. Only
-/// [`VniIndex::open`] takes memory.
+/// The VIDs of segments by their VNIs in tunnels of one kind, as many as it was opened for at most; seen by contracts as a
+/// finite map and that number. Only [`VniIndex::open`] takes memory.
 #[derive(Drop)]
 pub(crate) struct VniIndex {
     /// In the order of the VNIs.
     entries: Vec<(Vni, Vid)>,
+    /// For how many there is room.
+    most: u16,
 }
 
 impl Model for VniIndex {
-    ghost use Rattle.std.specs.Prelude.{ℕ, ◌≤◌, T};
-    ghost use Rattle.std.specs.Coded.{coded_ℕ};
+    ghost use Rattle.std.specs.Prelude.{◌≤◌, T};
     ghost use Rattle.std.specs.Ordering.{nat_cmp};
-    ghost use Rattle.std.specs.FinMap.{FinMap, code, from_sorted, is_sorted};
+    ghost use Rattle.std.specs.FinMap.{from_sorted, is_sorted};
     ghost use Rattle.std.specs.Vec.{vec_capacity};
+    ghost use Rattle.underlay.specs.Code.{listed_code};
+    ghost use Rattle.underlay.specs.Index.{Listed};
 
-    ghost Value = { FinMap nat_cmp ℕ };
+    ghost Value = { Listed };
 
-    ghost coded = { code coded_ℕ coded_ℕ };
+    ghost coded = { listed_code };
 
-    ghost view = { λ m. from_sorted m.entries.items };
+    ghost view = { λ m. record { vids = from_sorted m.entries.items; most = m.most } };
 
-    ghost invariant = { λ m. T (is_sorted nat_cmp m.entries.items) × (256 ≤ vec_capacity m.entries) };
+    ghost invariant = { λ m. T (is_sorted nat_cmp m.entries.items) × (m.most ≤ vec_capacity m.entries) };
 }
 
 impl VniIndex {
-    /// An index of none. It reserves the places of all entries.
-    pub(crate) fn open(alloc: Global) -> Result<VniIndex, AllocError>
-        ensures { IfOk result (λ index. index ≡ empty) }
+    /// An index of none. It reserves the places of so many entries.
+    pub(crate) fn open(alloc: Global, most: u16) -> Result<VniIndex, AllocError>
+        ensures { IfOk result (λ index. index ≡ record { vids = empty; most = most }) }
     {
         Ok(VniIndex {
-            entries: Vec::with_capacity(alloc, CAPACITY)?,
+            entries: Vec::with_capacity(alloc, usize::from(most))?,
+            most,
         })
     }
 
     /// The segment with this VNI.
     pub(crate) fn get(&self, vni: Vni) -> Option<Vid>
-        ensures { result ≡ get self.now vni }
+        ensures { result ≡ get self.now.vids vni }
     {
         let place = self.search(vni).ok()?;
         Some(self.entries[place].1)
@@ -57,9 +58,9 @@ impl VniIndex {
 
     /// Adds a segment, whose VNI isn't there yet.
     fn insert(&mut self, vni: Vni, vid: Vid)
-        requires new { get self.old vni ≡ None }
-        requires room { len self.old < 256 }
-        ensures { self.new ≡ insert self.old vni vid }
+        requires new { get self.old.vids vni ≡ None }
+        requires room { len self.old.vids < self.old.most }
+        ensures { self.new ≡ record self.old { vids = insert self.old.vids vni vid } }
     {
         if let Err(place) = self.search(vni) {
             // There is room: nothing is taken.
@@ -69,7 +70,7 @@ impl VniIndex {
 
     /// Removes the segment with this VNI, if there is one.
     fn remove(&mut self, vni: Vni)
-        ensures { self.new ≡ remove self.old vni }
+        ensures { self.new ≡ record self.old { vids = remove self.old.vids vni } }
     {
         if let Ok(place) = self.search(vni) {
             self.entries.remove(place);
@@ -78,9 +79,9 @@ impl VniIndex {
 
     /// Adds a segment by its tunnel of this kind, if it has one.
     pub(crate) fn list(&mut self, tunnel: Option<SegmentTunnel>, vid: Vid)
-        requires new { IfSome tunnel (λ t. get self.old t.vni ≡ None) }
-        requires room { len self.old < 256 }
-        ensures { self.new ≡ listing self.old tunnel vid }
+        requires new { IfSome tunnel (λ t. get self.old.vids t.vni ≡ None) }
+        requires room { len self.old.vids < self.old.most }
+        ensures { self.new ≡ record self.old { vids = listing self.old.vids tunnel vid } }
     {
         if let Some(tunnel) = tunnel {
             self.insert(tunnel.vni, vid);
@@ -89,7 +90,7 @@ impl VniIndex {
 
     /// Removes a segment by its tunnel of this kind, if it has one.
     pub(crate) fn unlist(&mut self, tunnel: Option<SegmentTunnel>)
-        ensures { self.new ≡ unlisting self.old tunnel }
+        ensures { self.new ≡ record self.old { vids = unlisting self.old.vids tunnel } }
     {
         if let Some(tunnel) = tunnel {
             self.remove(tunnel.vni);
@@ -98,7 +99,7 @@ impl VniIndex {
 
     /// The place of a VNI, or where it would go.
     fn search(&self, vni: Vni) -> Result<usize, usize>
-        ensures { MatchResult result (IsAt self.now vni) (IsGapFor self.now vni) }
+        ensures { MatchResult result (IsAt self.now.vids vni) (IsGapFor self.now.vids vni) }
     {
         self.entries
             .binary_search_by_key(&vni.get(), |entry| entry.0.get())

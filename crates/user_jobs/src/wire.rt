@@ -1,7 +1,7 @@
 //! Frames, packets in tunnels, and captures of them.
 
 use crate::draws::Draws;
-use header_sums::folded;
+use header_octets::folded;
 use std::alloc::{AllocError, Global};
 
 /// The sizes of frames: of twelve, seven are short, four middling and one long.

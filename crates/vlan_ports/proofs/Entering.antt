@@ -6,8 +6,8 @@ use Rattle.std.specs.Option.{option_and_then}
 use Rattle.std.specs.Prelude.{IsSome, is_none, is_some}
 use Rattle.std.proofs.lemmas.Bool.{ltb-false, le-ltb, eqb-false, ne_eqb, cases_Bool, and_cases, and_left, and_right, cond-true, cond-false, false≢true, not-false}
 use Rattle.std.proofs.lemmas.List.{length-append, length-take, length-drop, drop-drop, take_at, drop_at}
-use Rattle.header_sums.specs.Octets.{IsText, field, octets, part}
-use Rattle.header_sums.proofs.OctetsLemmas.{field-drop, field2-below}
+use Rattle.header_octets.specs.Octets.{IsText, field, octets, part}
+use Rattle.header_octets.proofs.OctetsLemmas.{field-drop, field2-below}
 use Rattle.frame_view.specs.Ether.{has_tag}
 use Rattle.frame_view.specs.First.{first, unless}
 use Rattle.frame_view.specs.Frame.{Frame, IsFrame, plain, tagged, frame_of, frame_behind_tag}

@@ -1,8 +1,8 @@
 -- A text is a VXLAN packet where none of the faults holds, and nowhere else.
 use Rattle.std.proofs.Common.{◌≡◌, ℕ, true, List, [], ◌∷◌, ◌++◌, length, drop, None, refl, sym, ap, ◌∙◌, subst, arith}
 use Rattle.std.proofs.lemmas.Bool.{ltb-false, le-ltb, not-false, not_from_true}
-use Rattle.header_sums.specs.Octets.{octet, octets}
-use Rattle.header_sums.proofs.OctetsLemmas.{cells8, octets3-field, field3-below}
+use Rattle.header_octets.specs.Octets.{octet, octets}
+use Rattle.header_octets.proofs.OctetsLemmas.{cells8, octets3-field, field3-below}
 use Rattle.frame_view.proofs.FirstLemmas.{NothingHolds-from, first-nothing}
 use Rattle.frame_view.specs.First.{first}
 use Rattle.vxlan_head.specs.Vxlan.{IsVni, has_vni}

@@ -3,7 +3,7 @@ use Rattle.std.specs.Prelude.{◌≡◌, ℕ, Bool, not, nat_lt, List, [], ◌�
 use Rattle.frame_view.specs.First.{first}
 use Rattle.frame_view.specs.declared.reason.Reason.{Reason}
 use Rattle.frame_view.specs.declared.reason.Reason.TheVariants as reason
-use Rattle.header_sums.specs.Octets.{IsText, octet, field}
+use Rattle.header_octets.specs.Octets.{IsText, octet, field}
 use Rattle.vxlan_head.specs.Vxlan.{IsVni, has_vni, IsVxlan, vxlan_header}
 use Rattle.vxlan_head.specs.declared.view.VxFault.{VxFault}
 use Rattle.vxlan_head.specs.declared.view.VxFault.TheVariants.{ShortTunnel, NoVniFlag}

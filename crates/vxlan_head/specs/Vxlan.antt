@@ -1,7 +1,7 @@
 -- The VXLAN header (RFC 7348, 5): flags of 8 bits, 24 reserved bits, the network identifier (VNI) of 24 bits, and 8
 -- reserved bits. Reserved bits are ignored on receipt and sent as 0.
 use Rattle.std.specs.Prelude.{◌≡◌, ◌<◌, ℕ, ◌^◌, ◌/◌, ◌%◌, ◌==◌, Bool, IsTrue, List, [], ◌∷◌, ◌++◌, length}
-use Rattle.header_sums.specs.Octets.{octets}
+use Rattle.header_octets.specs.Octets.{octets}
 
 -- a number that fits the 24 bits of a VNI
 abbrev pub IsVni : ℕ → Type 0

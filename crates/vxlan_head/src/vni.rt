@@ -1,7 +1,7 @@
 //! The numbers of virtual networks.
 ghost use Rattle.std.specs.Prelude.{◌≡◌};
 ghost use Rattle.std.specs.Option.{SomeIff};
-ghost use Rattle.header_sums.specs.Octets.{number, octets};
+ghost use Rattle.header_octets.specs.Octets.{number, octets};
 ghost use Rattle.vxlan_head.specs.Vxlan.{IsVni};
 
 use byteorder::{BigEndian, ByteOrder};

@@ -99,7 +99,7 @@ pub(crate) fn add<T: PoolTables>(tables: &mut T, rule: TableRule, now: u64) -> b
     if tables.has(rule.vid) || now < tables.now() || !in_range {
         return false;
     }
-    if tables.segment_count() >= 256 || u32::from(rule.limit) > tables.room() {
+    if u32::from(rule.limit) > tables.room() {
         return false;
     }
     tables.add(rule, now);

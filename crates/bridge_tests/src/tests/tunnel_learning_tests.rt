@@ -8,7 +8,7 @@ use ip_udp_view::{Addr, Tunnel};
 use std::alloc::Global;
 use std::process::Abort;
 use std::test::Fail;
-use tunnel_learning::{Bridge, Verdict, bridge_step};
+use tunnel_learning::{Bridge, Outlets, bridge_step_into};
 use vlan_ports::{Accept, MemberRule, PortList, PortRule, PortSet};
 
 const VXLAN_3: Place = Place::Remote(Tunnel::Vxlan, Addr::V4([192, 0, 2, 3]));
@@ -67,8 +67,14 @@ fn frame_of(dst: u8, src: u8) -> [u8; 14] {
 /// A frame from a place, to and from addresses by their last octets, and where it goes, or why it doesn't.
 type Came = (Place, u8, u8, Result<&'static [Place], Reason>);
 
-/// What the bridge does with a frame that comes at a moment.
-fn verdict(tables: &mut ListTables, bridge: &Bridge, now: u64, came: &Came) -> Option<Verdict> {
+/// What the bridge does with a frame that comes at a moment, its places in a list.
+fn verdict(
+    tables: &mut ListTables,
+    bridge: &Bridge,
+    now: u64,
+    came: &Came,
+    places: &mut Outlets,
+) -> Option<Result<(), Reason>> {
     if !tables.has(bridge.vid) || now < tables.now() {
         return None;
     }
@@ -83,14 +89,15 @@ fn verdict(tables: &mut ListTables, bridge: &Bridge, now: u64, came: &Came) -> O
         addresses: view.addresses(),
         body: view.after_addresses(),
     };
-    Some(bridge_step(tables, bridge, now, from, &frame))
+    Some(bridge_step_into(tables, bridge, now, &from, &frame, places))
 }
 
 /// Whether a frame that comes at a moment goes where it should.
 fn is_answered(tables: &mut ListTables, bridge: &Bridge, now: u64, came: &Came) -> bool {
-    match (verdict(tables, bridge, now, came), came.3) {
-        (Some(Verdict::Outlets(places)), Ok(wanted)) => places.as_slice() == wanted,
-        (Some(Verdict::Dropped(reason)), Err(wanted)) => reason == wanted,
+    let mut places = Outlets::new();
+    match (verdict(tables, bridge, now, came, &mut places), came.3) {
+        (Some(Ok(())), Ok(wanted)) => places.as_slice() == wanted,
+        (Some(Err(reason)), Err(wanted)) => reason == wanted,
         _ => false,
     }
 }

@@ -6,7 +6,7 @@ use std::alloc::Global;
 use std::test::Fail;
 use test_inputs::octets_of;
 use timeline::{Captured, Event, Happening, Tap};
-use underlay::{Hops, Underlay};
+use underlay::{Hops, Limits, Underlay};
 
 /// How many nanoseconds behind its frame an echo comes at most.
 const WITHIN: u64 = 10;
@@ -58,6 +58,7 @@ fn underlay() -> Underlay {
         partial: false,
         known: Known::new(),
         hops: Hops::new(),
+        limits: Limits { segments: 256 },
     }
 }
 

@@ -47,7 +47,7 @@ impl EndpointState {
         self.parts.tables.ageing(vid)
     }
 
-    /// How many segments there are, 256 at most.
+    /// How many segments there are.
     pub fn segment_count(&self) -> u32
         ensures { result ≡ segment_count (tables_asked (settings_of self.now)) }
     {

@@ -1,5 +1,5 @@
 //! What a frame would meet, told without a step.
-ghost use Rattle.std.specs.Prelude.{◌≡◌, ◌≤◌, ◌&&◌, IfOk, IsSome, IsTrue, if◌then◌else◌, None, Some, true};
+ghost use Rattle.std.specs.Prelude.{◌≡◌, ◌≤◌, ◌&&◌, IfOk, IsSome, IsTrue, OnErr, [], if◌then◌else◌, None, Some, true};
 ghost use Rattle.std.specs.List.{list_all};
 ghost use Rattle.std.specs.Option.{option_map};
 ghost use Rattle.std.specs.FinMap.{get, len};
@@ -8,7 +8,7 @@ ghost use Rattle.frame_view.specs.Address.{is_group};
 ghost use Rattle.filter_db.specs.declared.entry.Entry.{Entry};
 ghost use Rattle.filter_db.specs.Table.{Table, mac_cmp, is_learned, learn};
 ghost use Rattle.tunnel_learning.specs.Bridge as bridges;
-ghost use Rattle.tunnel_learning.specs.Verdict.{seen};
+ghost use Rattle.tunnel_learning.specs.Verdict.{put_or};
 ghost use Rattle.endpoint_state.specs.Held.{settings_of, state_at, moment_of};
 ghost use Rattle.endpoint_state.specs.Settings.{segment_at};
 ghost use Rattle.endpoint_state.specs.Sound.{is_reached};
@@ -16,8 +16,8 @@ ghost use Rattle.endpoint_state.specs.Step.{can_leave, after_frame, verdict};
 
 use crate::EndpointState;
 use filter_db::{Entry, Place};
-use frame_view::{BridgeFrame, Mac, Vid};
-use tunnel_learning::{Bridge, Outlets, Verdict, send_toward};
+use frame_view::{BridgeFrame, Mac, Reason, Vid};
+use tunnel_learning::{Bridge, Outlets, send_toward};
 
 impl EndpointState {
     /// What the table of a segment has of an address at a moment, which isn't before the tables' own.
@@ -60,19 +60,28 @@ impl EndpointState {
     }
 
     /// Where a step would send a frame that came to a segment from a place that it can send to, at a moment that isn't
-    /// before any earlier one.
-    pub fn foresee(&self, now: u64, vid: Vid, from: Place, frame: &BridgeFrame) -> Verdict
+    /// before any earlier one, in a list that is emptied first. After an `Err` it is empty.
+    pub fn foresee(
+        &self,
+        now: u64,
+        vid: Vid,
+        from: Place,
+        frame: &BridgeFrame,
+        places: &mut Outlets,
+    ) -> Result<(), Reason>
         requires time { moment_of self.now ≤ now }
         requires there { IsSome (segment_at (settings_of self.now) vid) }
         requires reached { is_reached (settings_of self.now).overlay vid from ≡ true }
-        ensures verdict { seen result ≡ verdict now vid from frame.now (state_at now self.now) }
-        ensures leaves { IfOk (seen result) (λ places. IsTrue (list_all (can_leave (settings_of self.now) vid) places)) }
+        ensures verdict { put_or places.new.items result ≡ verdict now vid from frame.now (state_at now self.now) }
+        ensures leaves { IfOk (put_or places.new.items result)
+            (λ places. IsTrue (list_all (can_leave (settings_of self.now) vid) places)) }
+        ensures empty { OnErr result (places.new.items ≡ []) }
     {
         // It tells the invariant.
         let _ = &self.parts;
         let stood = self.destination(now, vid, from, frame);
         let bridge = self.bridge(vid);
-        toward(&bridge, from, frame, place_of(stood))
+        toward(&bridge, from, frame, place_of(stood), places)
     }
 }
 
@@ -124,16 +133,21 @@ fn place_of(entry: Option<Entry>) -> Option<Place>
     entry.map(|entry| entry.place)
 }
 
-/// Where a bridge sends a frame whose destination stands at a place, or isn't known.
-fn toward(bridge: &Bridge, from: Place, frame: &BridgeFrame, to: Option<Place>) -> Verdict
-    ensures { seen result ≡ bridges.toward (bridges.config_of bridge.now) from (if is_group frame.now.dst then None else to) }
+/// Where a bridge sends a frame whose destination stands at a place, or isn't known, in a list that is emptied first.
+fn toward(
+    bridge: &Bridge,
+    from: Place,
+    frame: &BridgeFrame,
+    to: Option<Place>,
+    places: &mut Outlets,
+) -> Result<(), Reason>
+    ensures verdict { put_or places.new.items result
+        ≡ bridges.toward (bridges.config_of bridge.now) from (if is_group frame.now.dst then None else to) }
+    ensures empty { OnErr result (places.new.items ≡ []) }
 {
     let known = if frame.dst().is_group() { None } else { to };
-    let mut places = Outlets::new();
-    match send_toward(bridge, &from, known, &mut places) {
-        Ok(()) => Verdict::Outlets(places),
-        Err(reason) => Verdict::Dropped(reason),
-    }
+    places.clear();
+    send_toward(bridge, &from, known, places)
 }
 
 /// Whether two addresses are one.

@@ -1,5 +1,5 @@
 //! Lines, and what is read from each.
-use shard_lines::{LineFacts, Places, read_line};
+use part_lines::{LineFacts, Places, read_line};
 use std::alloc::Global;
 use std::test::Fail;
 

@@ -90,11 +90,11 @@ const LINES: [(&[&str], &str); 13] = [
     ),
     (
         &["tep", "merge", "a", "-o", "d", "b"],
-        "Merge { out: \"d\", shards: [\"a\", \"b\"], tables: false, summary: false }",
+        "Merge { out: \"d\", parts: [\"a\", \"b\"], tables: false, summary: false }",
     ),
     (
         &["tep", "merge", "-od", "a", "--summary", "--tables"],
-        "Merge { out: \"d\", shards: [\"a\"], tables: true, summary: true }",
+        "Merge { out: \"d\", parts: [\"a\"], tables: true, summary: true }",
     ),
     (
         &["tep", "digest", "-uu", "p1", "-"],

@@ -2,7 +2,7 @@
 ghost use Rattle.std.specs.Prelude.{◌≤◌, ◌+◌, length};
 
 use decision_lines::{Counter, Desk, Line};
-use endpoint_core::{ChangeFault, Endpoint, Head, Leaving, Outlets};
+use endpoint_core::{ChangeFault, Endpoint, Outlets};
 use filter_db::Place;
 use frame_view::{Reason, Refused, Vid};
 use ip_udp_view::{Addr, Tunnel};
@@ -215,31 +215,31 @@ fn all_places() -> [Place; 32] {
 }
 
 /// Puts the same outcome at each place.
-fn put_all(line: &mut Line, places: &[Place], sent: &Result<Leaving, Reason>)
+fn put_all(line: &mut Line, places: &[Place], count: Result<usize, Reason>)
     requires few { length places.now ≤ 32 }
     requires room { length line.old + 2464 ≤ 4096 }
     ensures { length line.new ≤ length line.old + 2464 }
 {
     let mut is_first = true;
     for place in places {
-        line.put_outcome(is_first, true, *place, sent);
+        line.put_counted(is_first, true, *place, count);
         is_first = false;
     }
 }
 
-/// Writes the line of an event where this left at all places.
-fn write_longest(line: &mut Line, sent: &Result<Leaving, Reason>) {
+/// Writes the line of an event where so many octets left at all places.
+fn write_longest(line: &mut Line, count: Result<usize, Reason>) {
     let octets = broadcast();
     let event = record(u64::MAX, u64::MAX, Tap::Port(16), &octets);
     line.begin(&counted(1_000), &event, Vid::new(4094));
-    put_all(line, &all_places(), sent);
+    put_all(line, &all_places(), count);
     line.end();
 }
 
 /// Writes that line of what leaves at each place, and so last of what leaves at the last; whether a frame leaves.
 fn writes_longest(line: &mut Line, endpoint: &mut Endpoint) -> bool {
     let octets = broadcast();
-    let (mut places, mut head) = (Outlets::new(), Head::new());
+    let mut places = Outlets::new();
     if endpoint.now() > SECOND || endpoint.ports() == 0 {
         return false;
     }
@@ -247,7 +247,7 @@ fn writes_longest(line: &mut Line, endpoint: &mut Endpoint) -> bool {
         return false;
     };
     for place in places.as_slice() {
-        write_longest(line, &endpoint.emit(&came, *place, &mut head));
+        write_longest(line, endpoint.size_at(&came, *place));
     }
     true
 }

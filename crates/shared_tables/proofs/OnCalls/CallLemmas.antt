@@ -15,7 +15,7 @@ use Rattle.filter_db.specs.Segment.{Segment, Segments, aged_all, segment_at, adj
 use Rattle.filter_db.specs.Ageing.{sifted}
 use Rattle.shared_tables.specs.Pool.{Held}
 use Rattle.shared_tables.specs.Pool.{entry_at, IfHeld, is_dead_in, is_fixed_in}
-use Rattle.shared_tables.specs.Threads.{IsHeld}
+use Rattle.shared_tables.specs.LinkSteps.{IsHeld}
 use Rattle.shared_tables.specs.Shared.{Shared, Rule, rule_at, span_of, bucket_count, vid_key, kept_count, Lacks, IsOrderly, IsAtLimit, HasRoom, Sweeps, Admits, Relearns, Refreshes, Enters, answer_of, live_place}
 use Rattle.shared_tables.specs.Bucket.{bucket_of}
 use Rattle.shared_tables.specs.Work.{ComparesFew, ComparesByBits}

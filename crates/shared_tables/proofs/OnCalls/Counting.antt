@@ -10,8 +10,8 @@ use Rattle.shared_tables.specs.Listing.{live_row, live_rows, CountsLive}
 use Rattle.shared_tables.specs.Pool.{Held, entry_at, links_at, is_dead_in}
 use Rattle.shared_tables.specs.Segments.{entry_of}
 use Rattle.shared_tables.specs.Shared.{line_key, last_at, same_bool}
-use Rattle.shared_tables.specs.Sound.{IsAged, IsLines, line_at}
-use Rattle.shared_tables.specs.Threads.{IsHeld}
+use Rattle.shared_tables.specs.SlotsOfSegments.{IsAged, IsLines, line_at}
+use Rattle.shared_tables.specs.LinkSteps.{IsHeld}
 use Rattle.shared_tables.proofs.OnEntries.Linked.{first_on, linked_split, on_behind}
 use Rattle.shared_tables.proofs.OnEntries.Sweeping.{aged_least, dead_of, later_lives}
 use Rattle.shared_tables.proofs.OnEntries.Threaded.{on_line_held}

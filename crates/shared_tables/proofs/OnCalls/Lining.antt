@@ -16,8 +16,8 @@ use Rattle.shared_tables.specs.Listing.{live_row, live_rows, AreSlotsOf, HasLive
 use Rattle.shared_tables.specs.Pool.{Held, IfHeld, entry_at, links_at}
 use Rattle.shared_tables.specs.Segments.{entry_of, kept_table}
 use Rattle.shared_tables.specs.Shared.{IsUnique, Lacks, line_key, same_bool}
-use Rattle.shared_tables.specs.Sound.{IsLines, line_at}
-use Rattle.shared_tables.specs.Threads.{IsHeld}
+use Rattle.shared_tables.specs.SlotsOfSegments.{IsLines, line_at}
+use Rattle.shared_tables.specs.LinkSteps.{IsHeld}
 use Rattle.shared_tables.proofs.OnEntries.Linked.{by_bool, equal, first_on, is_on-append, linked_split, nat_eq_refl, on_behind, or_false}
 use Rattle.shared_tables.proofs.OnCalls.ListingLemmas.{live_table, live_unique}
 use Rattle.shared_tables.proofs.OnCalls.Tabled.{get-raw, hit, hit_held, held_hit, raw, raw_found, raw_lacks}

@@ -23,8 +23,8 @@ use Rattle.shared_tables.specs.Pool.{Held, entry_at, vacancy, free_count}
 use Rattle.shared_tables.specs.Line.{weight, IsThread, first_of, is_on}
 use Rattle.shared_tables.specs.Shared.{Shared, Rule, rule_at, vid_key, line_key, same_bool, kept_count, IsOf, NoneAges, Drops, Flushes, KeepsOrDrops, IsUnique, is_held, held_count}
 use Rattle.shared_tables.specs.Work.{is_dead, dead_count}
-use Rattle.shared_tables.specs.Threads.{IsHeld}
-use Rattle.shared_tables.specs.Sound.{IsSound, IsLines, share_at, share_count, share_limit, rule_of, line_at}
+use Rattle.shared_tables.specs.LinkSteps.{IsHeld}
+use Rattle.shared_tables.specs.SlotsOfSegments.{IsSound, IsLines, share_at, share_count, share_limit, rule_of, line_at}
 use Rattle.shared_tables.specs.Opened.{new_share}
 use Rattle.shared_tables.specs.Segments.{rows_of, kept_table, kept_segment, segments_of}
 use Rattle.shared_tables.specs.Standing.{one_there, with_limit, NoneFixed, IsFixedOf, Empties}

@@ -5,7 +5,7 @@ use Rattle.std.proofs.lemmas.List.Sums.{sum_by-set}
 use Rattle.filter_db.specs.declared.place.Place.{Place}
 use Rattle.filter_db.specs.declared.tables.Learned.{Learned}
 use Rattle.shared_tables.specs.Pool.{Held, entry_at, is_fixed_in, renewed}
-use Rattle.shared_tables.specs.Threads.{IsHeld}
+use Rattle.shared_tables.specs.LinkSteps.{IsHeld}
 use Rattle.shared_tables.specs.Line.{weight}
 use Rattle.shared_tables.specs.Shared.{Shared, Rule, rule_at, vid_key, is_held, held_count, HasRoom, IsAtLimit, kept_count, Sweeps, Drops, Enters, Refreshes, Admits, Relearns}
 use Rattle.shared_tables.specs.Work.{ComparesFew, ComparesByBits, Pays}

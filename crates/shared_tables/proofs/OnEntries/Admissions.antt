@@ -14,9 +14,9 @@ use Rattle.shared_tables.specs.Admission.{held_of, ComesOrNot, ComesTo, FindsOrA
 use Rattle.shared_tables.specs.Pool.{Pool, Held, entry_at, is_dead_in}
 use Rattle.shared_tables.specs.Line.{weight}
 use Rattle.shared_tables.specs.Shared.{Shared, Rule, rule_at, kept_count, vid_key, HasRoom, IsAtLimit, IsNow, Lacks, span_of, Enters, line_key, IsOldest, Sweeps, Admits, KeepsOrFrees, is_held, held_count}
-use Rattle.shared_tables.specs.Sound.{IsSound, share_at, rule_of}
-use Rattle.shared_tables.specs.Whole.{seen, Refuses, Makes}
-use Rattle.shared_tables.specs.Threads.{IsHeld}
+use Rattle.shared_tables.specs.SlotsOfSegments.{IsSound, share_at, rule_of}
+use Rattle.shared_tables.specs.WholePool.{seen, Refuses, Makes}
+use Rattle.shared_tables.specs.LinkSteps.{IsHeld}
 use Rattle.shared_tables.proofs.OnEntries.Linked.{by_bool, equal}
 use Rattle.shared_tables.proofs.OnEntries.Threaded.{on_line_held}
 use Rattle.shared_tables.proofs.OnEntries.SoundLemmas.{rule_is, kept_is, has_share, IsShare}

@@ -8,13 +8,13 @@ use Rattle.shared_tables.specs.declared.look_up.Beside.{Beside}
 use Rattle.shared_tables.specs.declared.trees.Target.TheVariants as target
 use Rattle.shared_tables.specs.Bucket.{key_of, tree_of}
 use Rattle.shared_tables.specs.Pool.{Pool, Held, entry_at, alone, free_count}
-use Rattle.shared_tables.specs.Threads.{HoldsAny, pushed_back, ends_with}
+use Rattle.shared_tables.specs.LinkSteps.{HoldsAny, pushed_back, ends_with}
 use Rattle.shared_tables.specs.Shared.{rule_at, kept_count, HasRoom, Enters, line_key}
-use Rattle.shared_tables.specs.Sound.{share_at, share_with, share_written, shares_with, line_at, last_in, rule_of, CountsMore, HasEnds}
-use Rattle.shared_tables.specs.Trees.{Trees, target_at, number_at, place_by, planted, grafted}
+use Rattle.shared_tables.specs.SlotsOfSegments.{share_at, share_with, share_written, shares_with, line_at, last_in, rule_of, CountsMore, HasEnds}
+use Rattle.shared_tables.specs.TreeColumns.{Trees, target_at, number_at, place_by, planted, grafted}
 use Rattle.shared_tables.specs.Tree.{Tree}
-use Rattle.shared_tables.specs.TreesOf.{IsRooted, LeadsTo, Belongs, BelongsBeside, AreTreesOf}
-use Rattle.shared_tables.specs.Whole.{IsWhole, seen}
+use Rattle.shared_tables.specs.TreesOfSlots.{IsRooted, LeadsTo, Belongs, BelongsBeside, AreTreesOf}
+use Rattle.shared_tables.specs.WholePool.{IsWhole, seen}
 use Rattle.shared_tables.specs.Admission.{held_of, MayCome, MayAttach, Attaches}
 use Rattle.shared_tables.proofs.OnTrees.Buckets.{tree_small}
 use Rattle.shared_tables.proofs.OnEntries.SoundLemmas.{IsShare, share_with_room, room_is, holds_last, holds_more, thread_ends, sound_at, same_shared, rules_stay, rule_of-with_line}

@@ -7,10 +7,10 @@ use Rattle.shared_tables.specs.declared.links.Links.{Links}
 use Rattle.shared_tables.specs.declared.share.Share.{Share}
 use Rattle.shared_tables.specs.declared.shared_tables.SharedTables.TheInside.{Inside}
 use Rattle.shared_tables.specs.Pool.{entry_at, links_at, alone, is_fixed_in, IfHeld}
-use Rattle.shared_tables.specs.Threads.{IsHeld, HoldsAny, unlinked, ends_without}
-use Rattle.shared_tables.specs.SharedInside.{shared_of}
+use Rattle.shared_tables.specs.LinkSteps.{IsHeld, HoldsAny, unlinked, ends_without}
+use Rattle.shared_tables.specs.SharedFromFields.{shared_of}
 use Rattle.shared_tables.specs.Shared.{Shared, rule_at, HasRoom, kept_count, Lacks, IsOf, line_key}
-use Rattle.shared_tables.specs.Sound.{share_at, shares_without, share_without, share_written, CountsSome, rule_of, line_at, IsSound}
+use Rattle.shared_tables.specs.SlotsOfSegments.{share_at, shares_without, share_without, share_written, CountsSome, rule_of, line_at, IsSound}
 use Rattle.shared_tables.proofs.OnEntries.SoundLemmas.{holds_previous, holds_next, rules_stay, rule_of-with_line, HoldsOf, holds_of, has_share, share_in_range, rule_is}
 use Rattle.shared_tables.proofs.OnEntries.Leaving.{leave_lt, leave_count, leave_sound, leave_lacks, leave_few, line_on}
 

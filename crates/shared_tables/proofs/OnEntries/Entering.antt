@@ -7,10 +7,10 @@ use Rattle.shared_tables.specs.declared.links.Links.{Links}
 use Rattle.shared_tables.specs.Pool.{Held}
 use Rattle.shared_tables.specs.declared.share.Share.{Share}
 use Rattle.shared_tables.specs.Pool.{entry_at, alone, vacancy, free_count, IfHeld}
-use Rattle.shared_tables.specs.Threads.{pushed_back, ends_with}
+use Rattle.shared_tables.specs.LinkSteps.{pushed_back, ends_with}
 use Rattle.shared_tables.specs.Line.{IsLinked, is_on, IsThread}
 use Rattle.shared_tables.specs.Shared.{line_key, same_bool, last_at, last_in_entry, last_seen, IsNow, Lacks, IsUnique}
-use Rattle.shared_tables.specs.Sound.{IsLines, IsSound, IsAged, share_at, line_at, with_line, share_count, share_limit}
+use Rattle.shared_tables.specs.SlotsOfSegments.{IsLines, IsSound, IsAged, share_at, line_at, with_line, share_count, share_limit}
 use Rattle.shared_tables.proofs.OnEntries.Linked.{by_bool, equal, nat_eq_refl, nat_eq_sym, length-pushed_back}
 use Rattle.shared_tables.proofs.OnEntries.Threaded.{thread_back, thread_same, thread_links, apart_by_keys, back_frame, back_over}
 use Rattle.shared_tables.proofs.OnEntries.SoundLemmas.{share_in_range}

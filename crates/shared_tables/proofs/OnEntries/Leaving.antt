@@ -7,10 +7,10 @@ use Rattle.shared_tables.specs.declared.links.Links.{Links}
 use Rattle.shared_tables.specs.Pool.{Held}
 use Rattle.shared_tables.specs.declared.share.Share.{Share}
 use Rattle.shared_tables.specs.Pool.{links_at, entry_at, alone, vacancy, IfHeld}
-use Rattle.shared_tables.specs.Threads.{unlinked, ends_without}
+use Rattle.shared_tables.specs.LinkSteps.{unlinked, ends_without}
 use Rattle.shared_tables.specs.Line.{is_on, IsThread}
 use Rattle.shared_tables.specs.Shared.{tree_key, line_key, kept_count, same_bool, last_at, Lacks}
-use Rattle.shared_tables.specs.Sound.{IsLines, IsSound, IsAged, share_at, line_at, with_line, share_count, share_limit}
+use Rattle.shared_tables.specs.SlotsOfSegments.{IsLines, IsSound, IsAged, share_at, line_at, with_line, share_count, share_limit}
 use Rattle.shared_tables.proofs.OnEntries.Linked.{by_bool, equal, nat_eq_refl, length-unlinked, Around, around, off_without, unlinked_frame, linked_frame}
 use Rattle.shared_tables.proofs.OnEntries.Threaded.{thread_without, thread_same, thread_links, apart_by_keys, in_entries}
 use Rattle.shared_tables.proofs.OnEntries.SoundLemmas.{kept_is, share_in_range}

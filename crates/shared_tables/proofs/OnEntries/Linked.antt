@@ -4,7 +4,7 @@ use Rattle.std.proofs.lemmas.List.{get_or-set_same, get_or-set_other, length-set
 use Rattle.std.proofs.lemmas.Bool.Decides.{nat_tests}
 use Rattle.shared_tables.specs.declared.links.Links.{Links}
 use Rattle.shared_tables.specs.Pool.{links_at, alone}
-use Rattle.shared_tables.specs.Threads.{next_set, previous_set, unlinked, pushed_back}
+use Rattle.shared_tables.specs.LinkSteps.{next_set, previous_set, unlinked, pushed_back}
 use Rattle.shared_tables.specs.Line.{first_of, last_of, IsLinked, is_on, IsApart}
 
 -- or, and its parts

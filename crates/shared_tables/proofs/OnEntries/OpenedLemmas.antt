@@ -19,7 +19,7 @@ use Rattle.shared_tables.specs.declared.share.Share.{Share}
 use Rattle.shared_tables.specs.Pool.{alone, vacancy}
 use Rattle.shared_tables.specs.Line.{weight, IsThread}
 use Rattle.shared_tables.specs.Shared.{line_key, is_held, held_count}
-use Rattle.shared_tables.specs.Sound.{IsSound, IsLines, share_at, share_count, share_limit, rule_of, line_at}
+use Rattle.shared_tables.specs.SlotsOfSegments.{IsSound, IsLines, share_at, share_count, share_limit, rule_of, line_at}
 use Rattle.shared_tables.specs.Opened.{IsNew, AreOpened, new_share, segment_of_new}
 use Rattle.shared_tables.specs.Segments.{rows_of, kept_segment, segments_of}
 use Rattle.shared_tables.proofs.OnEntries.Linked.{by_bool, equal, nat_eq_refl}

@@ -9,13 +9,13 @@ use Rattle.shared_tables.specs.declared.links.Links.{Links}
 use Rattle.shared_tables.specs.declared.share.Share.{Share}
 use Rattle.shared_tables.specs.declared.shared_tables.SharedTables.TheInside.{Inside}
 use Rattle.shared_tables.specs.Pool.{Pool, entry_at, links_at, alone, is_fixed_in}
-use Rattle.shared_tables.specs.Threads.{IsHeld, unlinked, ends_without, dropped}
+use Rattle.shared_tables.specs.LinkSteps.{IsHeld, unlinked, ends_without, dropped}
 use Rattle.shared_tables.specs.declared.threads.Ends.{Ends}
 use Rattle.shared_tables.specs.Line.{first_of, is_on, IsThread}
 use Rattle.shared_tables.specs.Shared.{line_key, KeepsOrDrops, stands_at}
-use Rattle.shared_tables.specs.Sound.{share_at, shares_without, rule_of, IsSound}
-use Rattle.shared_tables.specs.Trees.{Trees, Uproots}
-use Rattle.shared_tables.specs.TreesOf.{AreTreesOf}
+use Rattle.shared_tables.specs.SlotsOfSegments.{share_at, shares_without, rule_of, IsSound}
+use Rattle.shared_tables.specs.TreeColumns.{Trees, Uproots}
+use Rattle.shared_tables.specs.TreesOfSlots.{AreTreesOf}
 use Rattle.shared_tables.proofs.OnTrees.Uprooting.{uproot_trees}
 use Rattle.shared_tables.proofs.OnEntries.Linked.{by_bool, equal, nat_eq_refl, on_behind, first_on, own_links, is_on-push, linked_frame, off_without}
 use Rattle.shared_tables.proofs.OnEntries.Threaded.{thread_without, thread_links}

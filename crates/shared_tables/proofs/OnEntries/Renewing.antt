@@ -10,12 +10,12 @@ use Rattle.shared_tables.specs.declared.shared_tables.SharedTables.TheInside.{In
 use Rattle.shared_tables.specs.Pool.{Held}
 use Rattle.shared_tables.specs.declared.share.Share.{Share}
 use Rattle.shared_tables.specs.Pool.{Pool, links_at, entry_at, alone, is_fixed_in, renewed}
-use Rattle.shared_tables.specs.Threads.{IsHeld, HoldsAny, moved, AreEnds, unlinked, pushed_back, ends_without, ends_with}
+use Rattle.shared_tables.specs.LinkSteps.{IsHeld, HoldsAny, moved, AreEnds, unlinked, pushed_back, ends_without, ends_with}
 use Rattle.shared_tables.specs.Shared.{Shared, rule_at, line_key, IsNow, IsOf}
-use Rattle.shared_tables.specs.SharedInside.{shared_of, IsSoundInside}
-use Rattle.shared_tables.specs.Sound.{IsSound, share_at, line_at, with_line, share_moved, shares_moved, share_written, last_left, HasEndsLeft, rule_of}
-use Rattle.shared_tables.specs.Whole.{IsWhole}
-use Rattle.shared_tables.specs.TreesOf.{AreTreesOf}
+use Rattle.shared_tables.specs.SharedFromFields.{shared_of, IsSoundInside}
+use Rattle.shared_tables.specs.SlotsOfSegments.{IsSound, share_at, line_at, with_line, share_moved, shares_moved, share_written, last_left, HasEndsLeft, rule_of}
+use Rattle.shared_tables.specs.WholePool.{IsWhole}
+use Rattle.shared_tables.specs.TreesOfSlots.{AreTreesOf}
 use Rattle.shared_tables.proofs.OnTrees.Relabeling.{renew_trees}
 use Rattle.shared_tables.proofs.OnEntries.Threaded.{back_over}
 use Rattle.shared_tables.proofs.OnEntries.SoundLemmas.{sound_at, same_shared, thread_ends, holds_last, holds_more, rules_stay, share_in_range}

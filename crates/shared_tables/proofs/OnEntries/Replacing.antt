@@ -10,13 +10,13 @@ use Rattle.shared_tables.specs.declared.look_up.Beside.{Beside}
 use Rattle.shared_tables.specs.Bucket.{key_of, tree_of}
 use Rattle.shared_tables.specs.Pool.{Pool, Held, tree_in, entry_at, links_at, IfHeld, is_fixed_in, renewed, readdressed, vacancy}
 use Rattle.shared_tables.specs.Line.{is_on}
-use Rattle.shared_tables.specs.Threads.{HoldsAny, dropped, moved}
+use Rattle.shared_tables.specs.LinkSteps.{HoldsAny, dropped, moved}
 use Rattle.shared_tables.specs.Shared.{Shared, rule_at, kept_count, tree_key, HasRoom, Lacks, IsOf, Enters, line_key, same_bool, last_at, last_in_entry}
-use Rattle.shared_tables.specs.Sound.{IsSound, IsLines, IsAged, share_at, shares_without, shares_moved, last_left, HasEndsLeft, line_at, rule_of}
-use Rattle.shared_tables.specs.Trees.{Trees, Uproots, MayGo}
+use Rattle.shared_tables.specs.SlotsOfSegments.{IsSound, IsLines, IsAged, share_at, shares_without, shares_moved, last_left, HasEndsLeft, line_at, rule_of}
+use Rattle.shared_tables.specs.TreeColumns.{Trees, Uproots, MayGo}
 use Rattle.shared_tables.specs.Tree.{leaves}
-use Rattle.shared_tables.specs.TreesOf.{leaf_of, Belongs, BelongsBeside, PartedAt, AreTreesOf}
-use Rattle.shared_tables.specs.Whole.{IsWhole, seen, Replaces}
+use Rattle.shared_tables.specs.TreesOfSlots.{leaf_of, Belongs, BelongsBeside, PartedAt, AreTreesOf}
+use Rattle.shared_tables.specs.WholePool.{IsWhole, seen, Replaces}
 use Rattle.shared_tables.specs.Admission.{held_of, MayCome}
 use Rattle.shared_tables.proofs.OnEntries.Linked.{by_bool, equal}
 use Rattle.shared_tables.proofs.OnEntries.Threaded.{thread_same}

@@ -12,7 +12,7 @@ use Rattle.shared_tables.specs.declared.slots.Kind.TheVariants as kind
 use Rattle.filter_db.specs.declared.place.Place.{Place}
 use Rattle.shared_tables.specs.Bucket.{vid_in, mac_in}
 use Rattle.shared_tables.specs.Pool.{Pool, Held, IfHeld, entry_at, links_at, vacancy, free_count, renewed, readdressed, place_in, taken, freed, alone}
-use Rattle.shared_tables.specs.TreesOf.{key_in}
+use Rattle.shared_tables.specs.TreesOfSlots.{key_in}
 use Rattle.shared_tables.proofs.OnTrees.Keys.{key_of-key}
 use Rattle.shared_tables.specs.Slots.{entry_in, entry_by, kind_of, moment_of, line_of, pool_with, pool_of, no_slot, all_slots, IsAbsent, IsFreeList, IsFreeAll, IsStocked, IsWithin}
 

@@ -12,15 +12,15 @@ use Rattle.shared_tables.specs.declared.share.Share.{Share}
 use Rattle.shared_tables.specs.Pool.{links_at, entry_at}
 use Rattle.shared_tables.specs.Line.{weight}
 use Rattle.shared_tables.specs.Shared.{vid_key, line_key, kept_count, same_bool, last_at}
-use Rattle.shared_tables.specs.Threads.{IsHeld, HoldsAny}
+use Rattle.shared_tables.specs.LinkSteps.{IsHeld, HoldsAny}
 use Rattle.shared_tables.specs.Line.{first_of, last_of, is_on, IsThread}
 use Rattle.shared_tables.specs.Shared.{Rule, Shared, HasRoom, rule_at, IsOf, IsOrderly}
 use Rattle.shared_tables.specs.declared.shared_tables.SharedTables.TheInside.{Inside}
-use Rattle.shared_tables.specs.SharedInside.{shared_of, IsSoundInside}
-use Rattle.shared_tables.specs.Sound.{with_line, IsAged}
+use Rattle.shared_tables.specs.SharedFromFields.{shared_of, IsSoundInside}
+use Rattle.shared_tables.specs.SlotsOfSegments.{with_line, IsAged}
 use Rattle.std.proofs.Math.Seq.{map-set_same}
 use Rattle.shared_tables.specs.declared.threads.Ends.{Ends}
-use Rattle.shared_tables.specs.Sound.{IsLines, IsSound, share_at, rule_of}
+use Rattle.shared_tables.specs.SlotsOfSegments.{IsLines, IsSound, share_at, rule_of}
 use Rattle.shared_tables.proofs.OnEntries.Linked.{by_bool, equal, nat_eq_refl, last_in, last_of-cons, last_on, first_on, Around, around, own_links, on_before, on_behind, or_is_true}
 use Rattle.shared_tables.proofs.OnEntries.Threaded.{in_entries}
 

@@ -11,7 +11,7 @@ use Rattle.filter_db.specs.Table.{is_young}
 use Rattle.shared_tables.specs.Pool.{entry_at, is_dead_in, renewed}
 use Rattle.shared_tables.specs.Line.{first_of, is_on, weight}
 use Rattle.shared_tables.specs.Shared.{Shared, line_key, last_at, last_in_entry, last_seen, NoneAges, IsOldest, Sweeps, KeepsOrFrees, IsOf, is_held, held_count, same_bool, Refreshes, Drops, KeepsOrDrops}
-use Rattle.shared_tables.specs.Sound.{IsLines, IsAged}
+use Rattle.shared_tables.specs.SlotsOfSegments.{IsLines, IsAged}
 use Rattle.shared_tables.proofs.OnEntries.Linked.{by_bool, equal, nat_eq_refl, first_on}
 use Rattle.shared_tables.proofs.OnEntries.Threaded.{in_entries}
 

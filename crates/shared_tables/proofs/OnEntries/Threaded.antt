@@ -8,7 +8,7 @@ use Rattle.shared_tables.specs.declared.links.Links.{Links}
 use Rattle.shared_tables.specs.Pool.{Held}
 use Rattle.shared_tables.specs.Pool.{links_at, entry_at, alone}
 use Rattle.shared_tables.specs.Shared.{line_key}
-use Rattle.shared_tables.specs.Threads.{IsHeld, next_set, unlinked, pushed_back, ends_without, ends_with}
+use Rattle.shared_tables.specs.LinkSteps.{IsHeld, next_set, unlinked, pushed_back, ends_without, ends_with}
 use Rattle.shared_tables.specs.Line.{first_of, last_of, IsLinked, is_on, IsApart, weight, IsThread}
 use Rattle.shared_tables.proofs.OnEntries.Linked.{by_bool, equal, IsOff, own_links, unlinked_linked, off_without, apart_without, is_on-without, linked_frame, linked_join, linked_next, next_frame, last_in, last_of-cons, last_of-append, last_on, first_on, on_behind, apart_push, is_on-push, nat_eq_refl}
 

@@ -9,9 +9,9 @@ use Rattle.shared_tables.specs.declared.trees.Target.TheVariants as target
 use Rattle.shared_tables.specs.Pool.{Held, entry_at}
 use Rattle.shared_tables.specs.Line.{weight}
 use Rattle.shared_tables.specs.Shared.{tree_key}
-use Rattle.shared_tables.specs.Trees.{Trees, target_in, target_at, number_at, child_of, bare_trees}
+use Rattle.shared_tables.specs.TreeColumns.{Trees, target_in, target_at, number_at, child_of, bare_trees}
 use Rattle.shared_tables.specs.Bucket.{IsKey}
-use Rattle.shared_tables.specs.TreesOf.{key_in, IsTreeOf, StandsAt, Keeps, AreTreesOf}
+use Rattle.shared_tables.specs.TreesOfSlots.{key_in, IsTreeOf, StandsAt, Keeps, AreTreesOf}
 use Rattle.shared_tables.proofs.OnTrees.TreesOfLemmas.{nothing_word}
 
 module _ (n : ℕ) (few : n ≤ 65536) where

@@ -2,7 +2,7 @@
 use Rattle.std.proofs.Common.{◌≡◌, ℕ, ◌+◌, ◌-◌, ◌<◌, ◌≤◌, List, [], ◌∷◌, ◌++◌, length, take, drop, replicate, slice_set, sym, ap, ◌∙◌, subst, arith, length-append}
 use Rattle.std.proofs.lemmas.List.{take-set-le, drop-set-lt, drop-set-add, length-take, replicate-append-replicate, append_assoc}
 use Rattle.std.proofs.Math.Seq.{take-set-lt, take-append_seam, drop-append_seam}
-use Rattle.shared_tables.specs.Trees.{Trees}
+use Rattle.shared_tables.specs.TreeColumns.{Trees}
 
 -- the columns of a list, of which all but the first begin at these places
 abbrev pub split : ℕ → ℕ → List ℕ → Trees

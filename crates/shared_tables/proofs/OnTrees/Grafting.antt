@@ -11,10 +11,10 @@ use Rattle.shared_tables.specs.Bucket.{key_of, IsKey, tree_of}
 use Rattle.shared_tables.specs.Pool.{Held, entry_at}
 use Rattle.shared_tables.specs.Line.{is_on, weight}
 use Rattle.shared_tables.specs.Shared.{tree_key}
-use Rattle.shared_tables.specs.Threads.{IsHeld}
+use Rattle.shared_tables.specs.LinkSteps.{IsHeld}
 use Rattle.shared_tables.specs.Tree.{Tree, leaves, descend, with_twig}
-use Rattle.shared_tables.specs.Trees.{Trees, target_at, number_at, child_of, fork_word, place_by, grafted}
-use Rattle.shared_tables.specs.TreesOf.{keys_of, key_in, leaves_of, IsRooted, IsTreeOf, Belongs, HasChildren, IsPlaced, StandsAt, spare_of, Keeps, AreTreesOf}
+use Rattle.shared_tables.specs.TreeColumns.{Trees, target_at, number_at, child_of, fork_word, place_by, grafted}
+use Rattle.shared_tables.specs.TreesOfSlots.{keys_of, key_in, leaves_of, IsRooted, IsTreeOf, Belongs, HasChildren, IsPlaced, StandsAt, spare_of, Keeps, AreTreesOf}
 use Rattle.shared_tables.proofs.OnEntries.Linked.{by_bool, equal, nat_eq_refl}
 use Rattle.shared_tables.proofs.OnEntries.Threaded.{in_entries}
 use Rattle.shared_tables.proofs.OnTrees.Buckets.{tree_small, tree_excl}

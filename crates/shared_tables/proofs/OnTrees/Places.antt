@@ -8,8 +8,8 @@ use Rattle.shared_tables.specs.Pool.{Held, entry_at}
 use Rattle.shared_tables.specs.Line.{is_on}
 use Rattle.shared_tables.specs.Shared.{tree_key}
 use Rattle.shared_tables.specs.Tree.{Tree, Leaf, Fork, leaves, IsTree, descend}
-use Rattle.shared_tables.specs.Trees.{Trees, target_at, number_at, child_of, place_by}
-use Rattle.shared_tables.specs.TreesOf.{IsPlaced, StandsAt, AreTreesOf}
+use Rattle.shared_tables.specs.TreeColumns.{Trees, target_at, number_at, child_of, place_by}
+use Rattle.shared_tables.specs.TreesOfSlots.{IsPlaced, StandsAt, AreTreesOf}
 use Rattle.shared_tables.proofs.OnEntries.Linked.{by_bool}
 use Rattle.shared_tables.proofs.OnTrees.Buckets.{tree_same}
 use Rattle.shared_tables.proofs.OnTrees.TreeLemmas.{same_tree, tree_leaf, only_leaf, other_right, on_left, descend_on}

@@ -8,8 +8,8 @@ use Rattle.shared_tables.specs.Pool.{Held, entry_at}
 use Rattle.shared_tables.specs.Line.{is_on}
 use Rattle.shared_tables.specs.Shared.{tree_key}
 use Rattle.shared_tables.specs.Tree.{Tree, Leaf}
-use Rattle.shared_tables.specs.Trees.{Trees, target_at, number_at, child_of, planted}
-use Rattle.shared_tables.specs.TreesOf.{leaves_of, IsRooted, IsTreeOf, HasChildren, IsPlaced, StandsAt, spare_of, Keeps, AreTreesOf}
+use Rattle.shared_tables.specs.TreeColumns.{Trees, target_at, number_at, child_of, planted}
+use Rattle.shared_tables.specs.TreesOfSlots.{leaves_of, IsRooted, IsTreeOf, HasChildren, IsPlaced, StandsAt, spare_of, Keeps, AreTreesOf}
 use Rattle.shared_tables.proofs.OnEntries.Linked.{by_bool, equal, nat_eq_refl}
 use Rattle.shared_tables.proofs.OnTrees.Buckets.{tree_small, tree_excl}
 use Rattle.shared_tables.proofs.OnTrees.TreeLemmas.{tree_there, tree_frame}

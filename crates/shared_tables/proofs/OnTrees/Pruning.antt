@@ -8,8 +8,8 @@ use Rattle.shared_tables.specs.Pool.{Held, entry_at}
 use Rattle.shared_tables.specs.Line.{is_on}
 use Rattle.shared_tables.specs.Shared.{tree_key}
 use Rattle.shared_tables.specs.Tree.{Tree, Leaf, Fork, leaves, IsTree, descend, without}
-use Rattle.shared_tables.specs.Trees.{Trees, Names, target_at, number_at, child_of, place_by, standing, pruned}
-use Rattle.shared_tables.specs.TreesOf.{keys_of, key_in, leaves_of, IsRooted, AnyParted, LeadsTo, IsTreeOf, Belongs, HasChildren, IsPlaced, StandsAt, spare_of, Keeps, AreTreesOf}
+use Rattle.shared_tables.specs.TreeColumns.{Trees, Names, target_at, number_at, child_of, place_by, standing, pruned}
+use Rattle.shared_tables.specs.TreesOfSlots.{keys_of, key_in, leaves_of, IsRooted, AnyParted, LeadsTo, IsTreeOf, Belongs, HasChildren, IsPlaced, StandsAt, spare_of, Keeps, AreTreesOf}
 use Rattle.shared_tables.proofs.OnEntries.Linked.{by_bool, equal, nat_eq_refl}
 use Rattle.shared_tables.proofs.OnEntries.Threaded.{in_entries}
 use Rattle.shared_tables.proofs.OnTrees.Buckets.{tree_small, tree_excl}

@@ -7,10 +7,10 @@ use Rattle.shared_tables.specs.Bucket.{key_of, IsKey, tree_of}
 use Rattle.shared_tables.specs.Pool.{Held, entry_at}
 use Rattle.shared_tables.specs.Line.{is_on}
 use Rattle.shared_tables.specs.Shared.{tree_key}
-use Rattle.shared_tables.specs.Threads.{IsHeld}
+use Rattle.shared_tables.specs.LinkSteps.{IsHeld}
 use Rattle.shared_tables.specs.Tree.{Tree, descend}
-use Rattle.shared_tables.specs.Trees.{Trees, target_at}
-use Rattle.shared_tables.specs.TreesOf.{keys_of, key_in, leaves_of, IsRooted, IsTreeOf, Belongs, StandsAt, AreTreesOf}
+use Rattle.shared_tables.specs.TreeColumns.{Trees, target_at}
+use Rattle.shared_tables.specs.TreesOfSlots.{keys_of, key_in, leaves_of, IsRooted, IsTreeOf, Belongs, StandsAt, AreTreesOf}
 use Rattle.shared_tables.proofs.OnEntries.Linked.{by_bool, equal, nat_eq_refl}
 use Rattle.shared_tables.proofs.OnEntries.Threaded.{in_entries}
 use Rattle.shared_tables.proofs.OnTrees.Buckets.{tree_small, tree_excl}

@@ -5,9 +5,9 @@ use Rattle.std.proofs.lemmas.Nat.Bits.{bit_at-lt}
 use Rattle.shared_tables.specs.declared.trees.Target.{Target}
 use Rattle.shared_tables.specs.declared.trees.Target.TheVariants as target
 use Rattle.shared_tables.specs.Line.{is_on}
-use Rattle.shared_tables.specs.Trees.{child_of}
+use Rattle.shared_tables.specs.TreeColumns.{child_of}
 use Rattle.shared_tables.specs.Tree.{Tree, Leaf, Fork, leaves, IsTree, HaveBit, IsParted, by_bit, descend, twig, with_twig, with_left, with_right, without}
-use Rattle.shared_tables.specs.TreesOf.{leaves_of, AnyParted, LeadsTo}
+use Rattle.shared_tables.specs.TreesOfSlots.{leaves_of, AnyParted, LeadsTo}
 use Rattle.shared_tables.proofs.OnEntries.Linked.{is_on-append, by_bool, equal, nat_eq_refl, nat_eq_sym, or_is_true}
 
 -- a tree has a leaf

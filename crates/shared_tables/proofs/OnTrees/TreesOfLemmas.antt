@@ -11,10 +11,10 @@ use Rattle.shared_tables.specs.Pool.{Held, entry_at, IfHeld}
 use Rattle.std.specs.List.{sum_by, range_with_len}
 use Rattle.shared_tables.specs.Line.{is_on, weight}
 use Rattle.shared_tables.specs.Shared.{tree_key}
-use Rattle.shared_tables.specs.Threads.{IsHeld}
+use Rattle.shared_tables.specs.LinkSteps.{IsHeld}
 use Rattle.shared_tables.specs.Tree.{Tree, leaves, IsTree, IsParted, descend}
-use Rattle.shared_tables.specs.Trees.{Trees, target_in, IsFork, fork_word, target_at, number_at, child_of}
-use Rattle.shared_tables.specs.TreesOf.{keys_of, AreKeys, key_in, leaves_of, IsRooted, AnyParted, LeadsTo, IsTreeOf, Belongs, IsBare, StandsAt, AreTreesOf}
+use Rattle.shared_tables.specs.TreeColumns.{Trees, target_in, IsFork, fork_word, target_at, number_at, child_of}
+use Rattle.shared_tables.specs.TreesOfSlots.{keys_of, AreKeys, key_in, leaves_of, IsRooted, AnyParted, LeadsTo, IsTreeOf, Belongs, IsBare, StandsAt, AreTreesOf}
 use Rattle.shared_tables.proofs.OnEntries.Linked.{by_bool, equal, nat_eq_refl}
 use Rattle.shared_tables.proofs.OnTrees.TreeLemmas.{true_false, by_side, same_tree, tree_there, parted_frame}
 

@@ -3,8 +3,8 @@ use Rattle.std.proofs.Common.{inl, inr, ◌⊎◌, ◌≡◌, ◌≢◌, ℕ, �
 use Rattle.std.proofs.lemmas.Bool.{cases_lt}
 use Rattle.shared_tables.specs.Pool.{Held, entry_at, tree_in}
 use Rattle.shared_tables.specs.Bucket.{tree_of}
-use Rattle.shared_tables.specs.Trees.{Trees, Uproots, MayGo, number_at}
-use Rattle.shared_tables.specs.TreesOf.{Belongs, AreTreesOf}
+use Rattle.shared_tables.specs.TreeColumns.{Trees, Uproots, MayGo, number_at}
+use Rattle.shared_tables.specs.TreesOfSlots.{Belongs, AreTreesOf}
 use Rattle.shared_tables.proofs.OnTrees.Buckets.{tree_small}
 use Rattle.shared_tables.proofs.OnTrees.Clearing as clear
 use Rattle.shared_tables.proofs.OnTrees.Pruning as prune

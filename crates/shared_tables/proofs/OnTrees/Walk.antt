@@ -8,11 +8,11 @@ use Rattle.shared_tables.specs.declared.trees.Target.TheVariants as target
 use Rattle.shared_tables.specs.Bucket.{key_of, bucket_of, tree_of}
 use Rattle.shared_tables.specs.Pool.{Held, entry_at, IfHeld}
 use Rattle.shared_tables.specs.Line.{is_on, weight}
-use Rattle.shared_tables.specs.Threads.{IsHeld}
+use Rattle.shared_tables.specs.LinkSteps.{IsHeld}
 use Rattle.shared_tables.specs.Shared.{tree_key, Lacks, bucket_count}
 use Rattle.shared_tables.specs.Tree.{Tree, Leaf, Fork, leaves, IsTree, IsParted, descend}
-use Rattle.shared_tables.specs.Trees.{Trees, target_at, child_of}
-use Rattle.shared_tables.specs.TreesOf.{keys_of, key_in, leaves_of, IsRooted, AnyParted, IsTreeOf, Belongs, AreTreesOf}
+use Rattle.shared_tables.specs.TreeColumns.{Trees, target_at, child_of}
+use Rattle.shared_tables.specs.TreesOfSlots.{keys_of, key_in, leaves_of, IsRooted, AnyParted, IsTreeOf, Belongs, AreTreesOf}
 use Rattle.shared_tables.proofs.OnTrees.Buckets.{few_in_tree, tree_small}
 use Rattle.shared_tables.proofs.OnTrees.TreeLemmas.{some_leaf, by_side, at_zero, at_one, tree_there, descend_on, descend_own}
 use Rattle.shared_tables.proofs.OnTrees.TreesOfLemmas.{key_of_held, some_of_key, fork_there}

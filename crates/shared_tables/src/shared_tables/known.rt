@@ -8,8 +8,8 @@ ghost use Rattle.shared_tables.specs.Listing.{CountsLive, live_entry};
 ghost use Rattle.shared_tables.specs.Pool.{entry_at, IfHeld};
 ghost use Rattle.shared_tables.specs.Segments.{segments_of};
 ghost use Rattle.shared_tables.specs.Shared.{Lacks};
-ghost use Rattle.shared_tables.specs.Sound.{IsLines};
-ghost use Rattle.shared_tables.specs.Threads.{IsHeld};
+ghost use Rattle.shared_tables.specs.SlotsOfSegments.{IsLines};
+ghost use Rattle.shared_tables.specs.LinkSteps.{IsHeld};
 
 use crate::bucket::tree_of;
 use crate::links::SlotId;

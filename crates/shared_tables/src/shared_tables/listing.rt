@@ -10,7 +10,7 @@ ghost use Rattle.filter_db.specs.Segment.{aged_all, segment_at};
 ghost use Rattle.shared_tables.specs.Listing.{held_rows, rows_in, AreHeld, AreWords, HasLive, ListsLine};
 ghost use Rattle.shared_tables.specs.Segments.{segments_of};
 ghost use Rattle.shared_tables.specs.Shared.{IsUnique};
-ghost use Rattle.shared_tables.specs.Sound.{IsLines, line_at};
+ghost use Rattle.shared_tables.specs.SlotsOfSegments.{IsLines, line_at};
 
 use super::known::span_of;
 use crate::links::{Link, SlotId};

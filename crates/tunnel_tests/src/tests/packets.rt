@@ -4,7 +4,7 @@ ghost use Rattle.std.specs.Prelude.{◌≡◌};
 use frame_view::Mac;
 use geneve_head::Known;
 use ip_udp_view::{Addr, Tunnel};
-use underlay::{Hops, SegmentTunnel, Underlay};
+use underlay::{Hops, Limits, SegmentTunnel, Underlay};
 use vxlan_head::Vni;
 
 /// The next hop of all endpoints.
@@ -28,7 +28,9 @@ pub(crate) fn octets6(last: u8) -> [u8; 16] {
 }
 
 /// The underlay of an endpoint whose addresses end with this octet.
-pub(crate) fn underlay(last: u8) -> Underlay {
+pub(crate) fn underlay(last: u8) -> Underlay
+    ensures { result.limits.segments ≡ 256 }
+{
     Underlay {
         mac: Mac([0x02, 0, 0, 0, 0xAA, last]),
         next_hop: NEXT_HOP,
@@ -44,6 +46,7 @@ pub(crate) fn underlay(last: u8) -> Underlay {
         partial: false,
         known: Known::new(),
         hops: Hops::new(),
+        limits: Limits { segments: 256 },
     }
 }
 

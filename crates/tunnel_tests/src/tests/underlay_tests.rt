@@ -1,6 +1,5 @@
 //! The underlay's settings, and the ways to a segment.
-ghost use Rattle.std.specs.Prelude.{◌≡◌, ◌≤◌, ◌<◌, ◌+◌, [], ◌∷◌};
-ghost use Rattle.std.specs.FinMap.{len};
+ghost use Rattle.std.specs.Prelude.{◌≡◌, [], ◌∷◌};
 
 use crate::tests::packets::{NEXT_HOP, host4, host6, octets6, tunnel, underlay};
 use flood_lists::{FloodFault, FloodList, NotThere, Own};
@@ -125,13 +124,11 @@ fn rule(vid: Vid, tunnel: SegmentTunnel) -> TunnelRule
     }
 }
 
-/// Adds a segment with one tunnel, where neither its VID nor its kind and VNI are there; whether it did.
-#[tactic(auto, using(underlay::proofs::ToldLemmas::segments_more))]
-fn add(under: &mut Under, vid: Vid, tunnel: SegmentTunnel) -> bool
-    requires { len under.old.segments < 256 }
-    ensures { len under.new.segments ≤ len under.old.segments + 1 }
-{
-    if under.has(vid) || under.taken(tunnel.kind, tunnel.vni) {
+/// Adds a segment with one tunnel, where neither its VID nor its kind and VNI are there and the limits leave room; whether
+/// it did.
+fn add(under: &mut Under, vid: Vid, tunnel: SegmentTunnel) -> bool {
+    let most = usize::from(under.settings().limits.segments);
+    if under.segment_count() >= most || under.has(vid) || under.taken(tunnel.kind, tunnel.vni) {
         return false;
     }
     under.add_segment(rule(vid, tunnel));
@@ -143,9 +140,7 @@ fn vid(number: u16) -> Result<Vid, Fail> {
 }
 
 /// Adds two segments, and what neither VID nor tunnel is free for; whether each is answered so.
-fn adds_two(under: &mut Under, ten: Vid, twenty: Vid) -> bool
-    requires { len under.old.segments < 252 }
-{
+fn adds_two(under: &mut Under, ten: Vid, twenty: Vid) -> bool {
     add(under, ten, vxlan_5000())
         && !add(under, twenty, vxlan_5000())
         && !add(under, ten, geneve_5000())
@@ -188,7 +183,6 @@ fn removes(under: &mut Under, vid: Vid) -> bool {
 }
 
 #[test]
-#[tactic(auto, using(underlay::proofs::ToldLemmas::no_segments))]
 fn a_segment_is_found_by_its_vid_and_by_its_tunnel(rt: HostRuntime) -> Result<(), Fail> {
     let (ten, twenty, thirty) = (vid(10)?, vid(20)?, vid(30)?);
     let mut under = Under::open(rt.alloc(), underlay(1), Vec::new(rt.alloc()))?;
@@ -203,9 +197,7 @@ fn a_segment_is_found_by_its_vid_and_by_its_tunnel(rt: HostRuntime) -> Result<()
 }
 
 /// Adds two segments over VXLAN; whether both were.
-fn adds_two_over_vxlan(under: &mut Under, ten: Vid, twenty: Vid) -> bool
-    requires { len under.old.segments < 252 }
-{
+fn adds_two_over_vxlan(under: &mut Under, ten: Vid, twenty: Vid) -> bool {
     add(under, ten, tunnel(Tunnel::Vxlan, [0, 0, 1]))
         && add(under, twenty, tunnel(Tunnel::Vxlan, [0, 0, 2]))
 }
@@ -228,7 +220,6 @@ fn has_targets(under: &Under, vid: Vid, wanted: usize) -> bool {
 }
 
 #[test]
-#[tactic(auto, using(underlay::proofs::ToldLemmas::no_segments))]
 fn a_flood_list_changes_alone(rt: HostRuntime) -> Result<(), Fail> {
     let (ten, twenty) = (vid(10)?, vid(20)?);
     let mut under = Under::open(rt.alloc(), underlay(1), Vec::new(rt.alloc()))?;

@@ -1,5 +1,5 @@
 use Rattle.std.proofs.Common.{◌≡◌, ◌∙◌, ◌+◌, ◌*◌, ap, length, arith, ℕ}
-use Rattle.header_sums.specs.Sum.{total, sent_of, complement}
+use Rattle.header_octets.specs.Sum.{total, sent_of, complement}
 use Rattle.frame_view.specs.Frame.{Frame}
 use Rattle.outer_head.proofs.head.udp_sum.Goals as goal
 

@@ -1,5 +1,5 @@
 use Rattle.std.proofs.Common.{◌∙◌}
-use Rattle.header_sums.specs.Octets.{octets}
+use Rattle.header_octets.specs.Octets.{octets}
 use Rattle.outer_head.proofs.FillingLemmas.{written6}
 use Rattle.outer_head.proofs.template6.fill.Goals as goal
 

@@ -35,7 +35,7 @@ returns-then-has_row-clause-rest g c =
     let more : v ≡ row_of x.key (joined x.counts c.args.counts) =
     ap (row_of x.key) (c.with.ensures ∙ ap (λ (y : Row g.row.K.Denot g.row.C.Denot). joined y.counts c.args.counts) (same_at rows at c.index.result.now x there.0 c.index.ensures same)) in
     let is = found rank joined c.args.key c.args.counts rows at x v there.0 place.before same (omega (arith, there.1 x, ap (rank_of rank) same)) (omega (arith, place.behind at x (omega arith) there.0, ap (rank_of rank) same)) more in
-    c.none.ensures ∙ ap (total joined g.C.Counts.none) (sym (ap (drop 4096) is ∙ drop_whole 4096 (slice_set rows at v) (omega (arith, length_set rows at v, c.requires.few))))
+    sym (ap (total joined g.C.Counts.none) (ap (drop 4096) is ∙ drop_whole 4096 (slice_set rows at v) (omega (arith, length_set rows at v, c.requires.few))))
 
 pub returns-clause-rows : goal.returns-clause-rows
 returns-clause-rows g c =

@@ -2,8 +2,8 @@ use Rattle.std.proofs.Common.{inl, inr, ◌≡◌, ℕ, ◌*◌, List, false, Op
 use Rattle.shared_tables.specs.declared.share.Share.{Share}
 use Rattle.shared_tables.specs.Pool.{Pool, entry_at, is_dead_in}
 use Rattle.shared_tables.specs.Shared.{rule_at, span_of, IsOf}
-use Rattle.shared_tables.specs.Sound.{IsSound, share_at}
-use Rattle.shared_tables.specs.Whole.{seen, Replaces}
+use Rattle.shared_tables.specs.SlotsOfSegments.{IsSound, share_at}
+use Rattle.shared_tables.specs.WholePool.{seen, Replaces}
 use Rattle.shared_tables.specs.Admission.{held_of}
 use Rattle.shared_tables.proofs.OnEntries.SoundLemmas.{share_read, has_share}
 use Rattle.shared_tables.proofs.OnEntries.Sweeping.{of_ages}

@@ -1,8 +1,8 @@
 use Rattle.std.proofs.Common.{List, sym, ap, ◌∙◌, subst}
 use Rattle.shared_tables.specs.declared.links.Links.{Links}
 use Rattle.shared_tables.specs.Pool.{Pool}
-use Rattle.shared_tables.specs.Threads.{HoldsAny, pushed_back}
-use Rattle.shared_tables.specs.Sound.{share_at, last_in}
+use Rattle.shared_tables.specs.LinkSteps.{HoldsAny, pushed_back}
+use Rattle.shared_tables.specs.SlotsOfSegments.{share_at, last_in}
 use Rattle.shared_tables.proofs.OnEntries.SoundLemmas.{none_is}
 use Rattle.shared_tables.proofs.OnEntries.Admitting.{enter_frees, number_lt, counts_more, has_ends, lasts, may_attach, enter_whole, enters}
 use Rattle.shared_tables.proofs.admission.enter_in.Goals as goal

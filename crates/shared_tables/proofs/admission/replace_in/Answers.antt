@@ -1,5 +1,5 @@
 use Rattle.std.proofs.Common.{◌≡◌, ◌≢◌, true, false, Some, sym, ◌∙◌}
-use Rattle.shared_tables.specs.TreesOf.{leaf_of}
+use Rattle.shared_tables.specs.TreesOfSlots.{leaf_of}
 use Rattle.shared_tables.proofs.OnEntries.Replacing.{may_drop, may_leave, dropped_whole, dropped_room, dropped_may_come, dropped_replaces, again_threaded, again_last, again_ends, again_whole, again_replaces}
 use Rattle.shared_tables.proofs.admission.replace_in.Goals as goal
 

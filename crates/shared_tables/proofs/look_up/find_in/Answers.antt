@@ -4,8 +4,8 @@ use Rattle.shared_tables.specs.declared.trees.Target.{Target}
 use Rattle.shared_tables.specs.declared.trees.Target.TheVariants as target
 use Rattle.shared_tables.specs.Bucket.{key_of, IsKey}
 use Rattle.shared_tables.specs.Pool.{Held, entry_at, IfHeld}
-use Rattle.shared_tables.specs.TreesOf.{key_in, PartedAt}
-use Rattle.shared_tables.specs.Trees.{IsFork, target_in, target_at, child_of}
+use Rattle.shared_tables.specs.TreesOfSlots.{key_in, PartedAt}
+use Rattle.shared_tables.specs.TreeColumns.{IsFork, target_in, target_at, child_of}
 use Rattle.shared_tables.proofs.OnTrees.TreesOfLemmas.{leaf_there, fork_told, no_fork_told}
 use Rattle.shared_tables.proofs.OnTrees.Walk.{Walks, walk_starts, walk_on, walk_few, walk_short, walk_none, walk_leaf, walk_fork, arrives_held, arrives_lacks, arrives_belongs, walk_still}
 use Rattle.shared_tables.proofs.look_up.find_in.Goals as goal

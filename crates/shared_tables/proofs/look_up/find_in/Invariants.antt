@@ -1,7 +1,7 @@
 use Rattle.std.proofs.Common.{◌+◌, ◌-◌}
 use Rattle.shared_tables.specs.Bucket.{bucket_of}
 use Rattle.shared_tables.specs.Shared.{bucket_count}
-use Rattle.shared_tables.specs.Trees.{target_in}
+use Rattle.shared_tables.specs.TreeColumns.{target_in}
 use Rattle.shared_tables.proofs.OnTrees.Walk.{Walks}
 use Rattle.shared_tables.proofs.look_up.find_in.Given as goal
 

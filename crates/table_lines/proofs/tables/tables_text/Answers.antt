@@ -2,7 +2,7 @@ use Rattle.std.proofs.Common.{◌≡◌, ◌++◌, List, ℕ, ◌∙◌, ◌-◌
 use Rattle.std.specs.List.{flat_map, range_with_len}
 use Rattle.std.specs.String.{string_bytes}
 use Rattle.endpoint_core.specs.Kept.{state_of}
-use Rattle.table_lines.specs.Lines.{lines_among}
+use Rattle.table_lines.specs.Lines.{lines_among, shown_at}
 use Rattle.table_lines.proofs.LineLemmas.{segments_more, segments_all}
 use Rattle.table_lines.proofs.tables.tables_text.Goals as goal
 use Rattle.table_lines.proofs.tables.tables_text.Goals.{in-Some+in_ok-put_asked, in_default}
@@ -10,7 +10,7 @@ use Rattle.table_lines.proofs.tables.tables_text.Goals.{in-Some+in_ok-put_asked,
 pub loop-number-preserved : goal.loop-number-preserved
 loop-number-preserved c =
     let q = c.args.segments.now in
-    let s = state_of c.args.endpoint.now in
+    let s = shown_at c.args.at (state_of c.args.endpoint.now) in
     let number : ℕ = c.loop-number.number in
     let next : (number - 1) + 1 ≡ (number + 1) - 1 = omega (arith, c.loop-number.auto.number) in
     elim c.match-new.branch [
@@ -25,4 +25,4 @@ loop-number-preserved c =
 pub returns : goal.returns
 returns c =
     ap (λ v. v.items) c.into_bytes.ensures.value ∙ c.loop-number.invariant
-    ∙ segments_all c.args.segments.now (state_of c.args.endpoint.now) (c.loop-number.number - 1) (omega (arith, c.loop-number-test.false, c.loop-number.auto.number-end))
+    ∙ segments_all c.args.segments.now (shown_at c.args.at (state_of c.args.endpoint.now)) (c.loop-number.number - 1) (omega (arith, c.loop-number-test.false, c.loop-number.auto.number-end))

@@ -5,7 +5,7 @@ use Rattle.underlay.proofs.SeatLemmas.{read_at, taken_row}
 use Rattle.underlay.proofs.places.free_place.Goals as goal
 
 pub loop-place-preserved : goal.loop-place-preserved
-loop-place-preserved c = taken_row c.args.rows.now c.loop-place.place c.index-rows-place.result (read_at c.args.rows.now c.loop-place.place c.loop-place.place c.index-rows-place.result c.index-rows-place.is refl c.loop-place-test.true) (c.if-is_none.ensures) c.loop-place.invariant
+loop-place-preserved c = taken_row c.args.rows.now c.loop-place.place c.index-rows-place.result (read_at c.args.rows.now c.loop-place.place c.loop-place.place c.index-rows-place.result c.index-rows-place.is refl c.loop-place-test.true) (c.if-is_none-2.ensures) c.loop-place.invariant
 
 pub unreachable-requires : goal.unreachable-requires
 unreachable-requires c =

@@ -1,5 +1,5 @@
 use Rattle.std.proofs.Common.{◌∙◌, refl, sym, ap, subst, List, length, map, replicate, None, arith}
-use Rattle.std.proofs.lemmas.List.{length-replicate}
+use Rattle.std.proofs.lemmas.List.{length-map, length-replicate}
 use Rattle.std.specs.Prelude.{IsTrue, All}
 use Rattle.std.specs.List.{list_all, sum_by}
 use Rattle.filter_db.specs.Segment.{IsRule, AreForDistinctVids}
@@ -41,6 +41,13 @@ open-requires-4-clause-apart c =
     let same = c.told.view_is ∙ c.into_parts-told.ensures.value in
     let tunnels = c.in_ok-rules.ensures.tunnels ∙ ap (λ (s : Settings). map tunnel_rule s.segments) same in
     subst AreApart (sym tunnels) (are_apart c.args.settings c.into_parts-told.ensures.rules)
+
+pub open-requires-4-clause-few : goal.open-requires-4-clause-few
+open-requires-4-clause-few c =
+    let same = c.told.view_is ∙ c.into_parts-told.ensures.value in
+    let tunnels = c.in_ok-rules.ensures.tunnels ∙ ap (λ (s : Settings). map tunnel_rule s.segments) same in
+    let few = c.into_parts-told.ensures.rules.segment_count.1 in
+    omega (arith, ap length tunnels, length-map c.args.settings.segments tunnel_rule, few, ap (λ (s : Settings). s.underlay.limits.segments) same)
 
 pub invariant_of-result : goal.invariant_of-result
 invariant_of-result c =

@@ -1,7 +1,7 @@
 use Rattle.std.proofs.Common.{rules, arith, ◌≡◌, ◌≤◌, ℕ, ◌<◌, ◌-◌, ◌∙◌, true, length, drop, take, sym, ap}
 use Rattle.std.proofs.lemmas.List.{get_or-drop, take_rest, drop-drop, length-drop}
-use Rattle.header_sums.specs.Octets.{octet, field}
-use Rattle.header_sums.proofs.OctetsLemmas.{field-slice, field-drop}
+use Rattle.header_octets.specs.Octets.{octet, field}
+use Rattle.header_octets.proofs.OctetsLemmas.{field-slice, field-drop}
 use Rattle.frame_view.specs.Ether.{has_tag}
 use Rattle.frame_view.specs.Frame.{tagged, frame_behind_tag}
 use Rattle.frame_view.specs.Tag.{vid_of}

@@ -2,8 +2,8 @@ use Rattle.std.proofs.Common.{rules, ◌≡◌, ℕ, ◌+◌, ◌-◌, ◌*◌, 
 use Rattle.std.specs.Prelude.{unwrap_or, IsTrue}
 use Rattle.std.proofs.lemmas.Bool.{le-ltb, lt-leb, eq-eqb, not_from_true}
 use Rattle.std.proofs.lemmas.List.{take_rest}
-use Rattle.header_sums.specs.Octets.{field, part}
-use Rattle.header_sums.proofs.OctetsLemmas.{field-slice}
+use Rattle.header_octets.specs.Octets.{field, part}
+use Rattle.header_octets.proofs.OctetsLemmas.{field-slice}
 use Rattle.frame_view.specs.First.{first, fault_of}
 use Rattle.geneve_head.specs.Options.{TunnelOption, options_in, allowed}
 use Rattle.geneve_head.specs.Reading.{options_length, head_length, geneve_vni, geneve_options, geneve_inner, geneve_faults, option_faults}

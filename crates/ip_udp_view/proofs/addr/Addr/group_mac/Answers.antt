@@ -1,7 +1,7 @@
 use Rattle.std.proofs.Common.{rules, arith, ◌≡◌, ℕ, List, ◌∷◌, length, drop, sym, ap, ◌∙◌}
 use Rattle.std.proofs.lemmas.List.{drop_all}
-use Rattle.header_sums.specs.Octets.{octet}
-use Rattle.header_sums.proofs.OctetsLemmas.{cell}
+use Rattle.header_octets.specs.Octets.{octet}
+use Rattle.header_octets.proofs.OctetsLemmas.{cell}
 use Rattle.ip_udp_view.specs.Addr.{group_mac}
 use Rattle.ip_udp_view.proofs.addr.Addr.group_mac.Goals as goal
 

@@ -1,5 +1,5 @@
 use Rattle.std.proofs.Common.{arith, ◌≡◌, ◌*◌, ℕ, ap, ◌∙◌}
-use Rattle.header_sums.proofs.OctetsLemmas.{field-slice}
+use Rattle.header_octets.proofs.OctetsLemmas.{field-slice}
 use Rattle.ip_udp_view.specs.Parts.{cut}
 use Rattle.ip_udp_view.specs.Ip.{Ip4, header_length, total_length, packet_parts}
 use Rattle.ip_udp_view.proofs.CutLemmas.{sliced, sliced-cut}

@@ -1,5 +1,5 @@
 use Rattle.std.proofs.Common.{arith, ◌≡◌, ◌+◌, ℕ, ap, ◌∙◌}
-use Rattle.header_sums.proofs.OctetsLemmas.{field-slice}
+use Rattle.header_octets.proofs.OctetsLemmas.{field-slice}
 use Rattle.ip_udp_view.specs.Parts.{cut}
 use Rattle.ip_udp_view.specs.Ip.{Ip6, packet_length, packet_parts, SplitsIp}
 use Rattle.ip_udp_view.proofs.CutLemmas.{sliced, sliced-cut}

@@ -1,7 +1,7 @@
 use Rattle.std.proofs.Common.{rules, arith, ◌≡◌, ◌+◌, ◌++◌, length, ◌∙◌, subst}
 use Rattle.std.proofs.lemmas.List.{length-append}
-use Rattle.header_sums.specs.Sum.{total}
-use Rattle.header_sums.proofs.OctetsLemmas.{field-slice}
+use Rattle.header_octets.specs.Sum.{total}
+use Rattle.header_octets.proofs.OctetsLemmas.{field-slice}
 use Rattle.ip_udp_view.specs.Addr.{IsAddr}
 use Rattle.ip_udp_view.specs.Parts.{Parts}
 use Rattle.ip_udp_view.specs.Udp.{pseudo}

@@ -1,7 +1,7 @@
 use Rattle.std.proofs.Common.{rules, arith, ◌≡◌, ◌+◌, ◌++◌, ◌∙◌, length, sym, subst, ap}
-use Rattle.header_sums.specs.Sum.{total, folded}
-use Rattle.header_sums.proofs.FoldLemmas.{folded-added}
-use Rattle.header_sums.proofs.SumLemmas.{total-append_even}
+use Rattle.header_octets.specs.Sum.{total, folded}
+use Rattle.header_octets.proofs.FoldLemmas.{folded-added}
+use Rattle.header_octets.proofs.SumLemmas.{total-append_even}
 use Rattle.ip_udp_view.specs.Addr.{IsAddr}
 use Rattle.ip_udp_view.specs.Parts.{Parts}
 use Rattle.ip_udp_view.specs.Udp.{pseudo}

@@ -1,6 +1,6 @@
 use Rattle.std.proofs.Common.{◌∙◌, ◌++◌, List, ℕ, decimal, ap}
 use Rattle.std.specs.Prelude.{codes}
-use Rattle.header_sums.specs.Octets.{octet, part}
+use Rattle.header_octets.specs.Octets.{octet, part}
 use Rattle.layer_values.specs.Text.{ip6_text}
 use Rattle.layer_values.proofs.TextLemmas.{put_after, put_field}
 use Rattle.layer_values.proofs.lines.Lines.put_ip6_ends.Goals as goal

@@ -1,6 +1,6 @@
 use Rattle.std.proofs.Common.{◌≡◌, ◌∙◌, ◌++◌, ℕ, decimal, ap}
 use Rattle.std.specs.Prelude.{codes}
-use Rattle.header_sums.specs.Octets.{octet}
+use Rattle.header_octets.specs.Octets.{octet}
 use Rattle.ip_udp_view.specs.Ip.{payload_length}
 use Rattle.layer_values.proofs.TextLemmas.{put_field}
 use Rattle.layer_values.proofs.lines.Lines.put_ip6_fields.Goals as goal

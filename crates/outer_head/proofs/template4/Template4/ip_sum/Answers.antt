@@ -1,5 +1,5 @@
 use Rattle.std.proofs.Common.{◌≡◌, ◌∙◌, ap, sym, length, arith}
-use Rattle.header_sums.specs.Sum.{folded}
+use Rattle.header_octets.specs.Sum.{folded}
 use Rattle.outer_head.specs.Template.{Fixed, ip4_part}
 use Rattle.outer_head.proofs.SumLemmas.{check-ip4}
 use Rattle.outer_head.proofs.TemplateLemmas.{length-part}

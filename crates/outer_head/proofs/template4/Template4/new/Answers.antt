@@ -1,5 +1,5 @@
 use Rattle.std.proofs.Common.{◌≡◌, ◌∙◌, ◌+◌, ◌++◌, [], ap, sym, arith, replicate}
-use Rattle.header_sums.specs.Sum.{total}
+use Rattle.header_octets.specs.Sum.{total}
 use Rattle.ip_udp_view.specs.Datagram.{ether_type}
 use Rattle.ip_udp_view.specs.Ip.{Ip4}
 use Rattle.outer_head.specs.Packet.{ip4_header}

@@ -1,7 +1,7 @@
 use Rattle.std.proofs.Common.{◌≡◌, ◌∙◌, ◌+◌, ◌++◌, ap, sym, length, arith, ℕ, List}
 use Rattle.std.proofs.lemmas.List.{length-append}
-use Rattle.header_sums.specs.Octets.{octets}
-use Rattle.header_sums.proofs.SumLemmas.{total-pseudo6}
+use Rattle.header_octets.specs.Octets.{octets}
+use Rattle.header_octets.proofs.SumLemmas.{total-pseudo6}
 use Rattle.frame_view.specs.Frame.{Frame, plain}
 use Rattle.ip_udp_view.specs.declared.addr.Addr.TheVariants.{V6}
 use Rattle.outer_head.specs.Template.{Fixed, udp_part, blank6}

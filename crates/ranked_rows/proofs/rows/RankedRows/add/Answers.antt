@@ -1,5 +1,5 @@
-use Rattle.std.proofs.Common.{ap, sym, subst, length, List, arith}
-use Rattle.ranked_rows.specs.Rows.{AreRising, with_counts}
+use Rattle.std.proofs.Common.{◌∙◌, ap, sym, subst, drop, length, List, arith}
+use Rattle.ranked_rows.specs.Rows.{AreRising, total, with_counts}
 use Rattle.ranked_rows.specs.declared.row.Row.{Row}
 use Rattle.ranked_rows.proofs.Lists.{take_few}
 use Rattle.ranked_rows.proofs.Places.{rising_first, rising_more}
@@ -8,8 +8,14 @@ use Rattle.ranked_rows.proofs.rows.RankedRows.add.Goals as goal
 pub invariant_of-self : goal.invariant_of-self
 invariant_of-self g c =
     let rank = g.K.Ranked.rank in
-    let rows = with_counts rank g.C.Counts.joined c.args.key c.args.counts c.self.inside.rows.items in (
-      subst (λ (l : List (Row g.row.K.Denot g.row.C.Denot)). AreRising rank l) (sym c.put-rest.ensures.rows) (rising_first rank 4096 0 rows (rising_more rank g.C.Counts.joined 0 c.args.key c.args.counts c.self.inside.rows.items (omega arith) c.self.invariant.0)),
+    let joined = g.C.Counts.joined in
+    let none = g.C.Counts.none in
+    let rows = with_counts rank joined c.args.key c.args.counts c.self.inside.rows.items in
+    let old = c.self.inside.others in
+    let rest = total joined none (drop 4096 rows) in
+    let is = c.join.ensures ∙ ap (joined old) c.put-rest.ensures.rest in (
+      subst (λ (l : List (Row g.row.K.Denot g.row.C.Denot)). AreRising rank l) (sym c.put-rest.ensures.rows) (rising_first rank 4096 0 rows (rising_more rank joined 0 c.args.key c.args.counts c.self.inside.rows.items (omega arith) c.self.invariant.0)),
       omega (arith, take_few 4096 rows, ap length c.put-rest.ensures.rows),
       c.put-rest.ensures.room,
+      ap (λ others. joined others none) is ∙ g.met.C.Counts.whole old rest ∙ sym is,
     )

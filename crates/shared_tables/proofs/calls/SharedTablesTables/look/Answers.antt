@@ -2,7 +2,7 @@ use Rattle.std.proofs.Common.{sym, ap, ◌∙◌, subst}
 use Rattle.filter_db.specs.Table.{stands}
 use Rattle.filter_db.specs.Segment.{Segment}
 use Rattle.shared_tables.specs.Pool.{entry_at, IfHeld}
-use Rattle.shared_tables.specs.Threads.{IsHeld}
+use Rattle.shared_tables.specs.LinkSteps.{IsHeld}
 use Rattle.shared_tables.specs.Shared.{Shared, Lacks, live_place, span_of, rule_at}
 use Rattle.shared_tables.proofs.OnCalls.CallLemmas.{Begins, looks, own_is, span_is, look_found, look_none}
 use Rattle.shared_tables.proofs.calls.SharedTablesTables.look.Goals as goal

@@ -1,5 +1,5 @@
 use Rattle.std.proofs.Common.{◌≡◌, ◌+◌, slice_set, subst}
-use Rattle.shared_tables.specs.Trees.{Trees}
+use Rattle.shared_tables.specs.TreeColumns.{Trees}
 use Rattle.shared_tables.proofs.OnTrees.ColumnsLemmas.{split, fork_set}
 use Rattle.shared_tables.proofs.columns.Columns.set_fork.Goals as goal
 

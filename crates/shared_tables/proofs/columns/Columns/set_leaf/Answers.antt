@@ -1,5 +1,5 @@
 use Rattle.std.proofs.Common.{◌≡◌, ◌+◌, ◌<◌, length, slice_set, subst, sym}
-use Rattle.shared_tables.specs.Trees.{Trees}
+use Rattle.shared_tables.specs.TreeColumns.{Trees}
 use Rattle.shared_tables.proofs.OnTrees.ColumnsLemmas.{split, leaf_set}
 use Rattle.shared_tables.proofs.columns.Columns.set_leaf.Goals as goal
 

@@ -3,7 +3,7 @@ use Rattle.std.specs.List.{sum_by}
 use Rattle.filter_db.specs.Standing.{sum_of_limits, added}
 use Rattle.shared_tables.specs.declared.share.Share.{Share}
 use Rattle.shared_tables.specs.Shared.{Shared, rule_at}
-use Rattle.shared_tables.specs.Sound.{share_at, share_limit}
+use Rattle.shared_tables.specs.SlotsOfSegments.{share_at, share_limit}
 use Rattle.shared_tables.specs.Segments.{segments_of}
 use Rattle.shared_tables.proofs.OnEntries.SoundLemmas.{sound_at}
 use Rattle.shared_tables.proofs.OnCalls.StandingLemmas.{shared_by, limits_are, no_share, absent_none, begin_sound, begun_share}

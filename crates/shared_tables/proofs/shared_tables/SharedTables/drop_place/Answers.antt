@@ -2,7 +2,7 @@ use Rattle.std.proofs.Common.{ℕ, Option, refl, sym, ap, ◌∙◌, subst, arit
 use Rattle.shared_tables.specs.declared.links.Links.{Links}
 use Rattle.shared_tables.specs.declared.shared_tables.SharedTables.TheInside.{Inside}
 use Rattle.shared_tables.specs.Shared.{Shared, DropsAll}
-use Rattle.shared_tables.specs.SharedInside.{shared_of}
+use Rattle.shared_tables.specs.SharedFromFields.{shared_of}
 use Rattle.shared_tables.proofs.OnEntries.Dropping.{threaded}
 use Rattle.shared_tables.proofs.OnTrees.Uprooting.{may_go}
 use Rattle.shared_tables.proofs.OnEntries.Passing.{Passes, seen_there, pass_starts, pass_held, pass_stays, pass_keep, pass_drop, pass_none, pass_ends, pass_at, pass_stands}

@@ -8,8 +8,8 @@ use Rattle.shared_tables.specs.declared.share.Share.{Share}
 use Rattle.shared_tables.specs.Listing.{held_rows, live_rows, AreHeld}
 use Rattle.shared_tables.specs.Segments.{segments_of}
 use Rattle.shared_tables.specs.Shared.{Rule, Shared, rule_at, span_of}
-use Rattle.shared_tables.specs.SharedInside.{shared_of}
-use Rattle.shared_tables.specs.Sound.{rule_of, share_at}
+use Rattle.shared_tables.specs.SharedFromFields.{shared_of}
+use Rattle.shared_tables.specs.SlotsOfSegments.{rule_of, share_at}
 use Rattle.shared_tables.proofs.OnCalls.ListingLemmas.{listed, listed_none}
 use Rattle.shared_tables.proofs.OnCalls.Worded.{are_held, held_live, sorted_words, words_ordered}
 use Rattle.shared_tables.proofs.OnEntries.SoundLemmas.{rule_is, share_read}

@@ -5,7 +5,7 @@ use Rattle.shared_tables.specs.declared.share.Share.{Share}
 use Rattle.shared_tables.specs.Listing.{live_entry}
 use Rattle.shared_tables.specs.Pool.{entry_at}
 use Rattle.shared_tables.specs.Shared.{IsUnique, Shared, rule_at}
-use Rattle.shared_tables.specs.Sound.{rule_of, share_at}
+use Rattle.shared_tables.specs.SlotsOfSegments.{rule_of, share_at}
 use Rattle.shared_tables.proofs.OnCalls.Knowing.{known_none, known_nowhere, known_some}
 use Rattle.shared_tables.proofs.OnEntries.SoundLemmas.{rule_is, share_read}
 use Rattle.shared_tables.proofs.shared_tables.SharedTables.entry.Goals as goal

@@ -5,7 +5,7 @@ use Rattle.filter_db.specs.Table.{nanoseconds}
 use Rattle.shared_tables.specs.declared.share.Share.{Share}
 use Rattle.shared_tables.specs.Listing.{CountsLive}
 use Rattle.shared_tables.specs.Shared.{IsUnique, Shared, rule_at}
-use Rattle.shared_tables.specs.Sound.{rule_of, share_at}
+use Rattle.shared_tables.specs.SlotsOfSegments.{rule_of, share_at}
 use Rattle.shared_tables.proofs.OnCalls.Knowing.{count_nowhere, known_count}
 use Rattle.shared_tables.proofs.OnEntries.SoundLemmas.{rule_is, share_read}
 use Rattle.shared_tables.proofs.shared_tables.SharedTables.entry_count.Goals as goal

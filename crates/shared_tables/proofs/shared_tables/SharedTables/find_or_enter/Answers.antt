@@ -1,9 +1,9 @@
 use Rattle.std.proofs.Common.{◌+◌, ◌<◌, ◌≤◌, true, false, IsSome, sym, subst}
 use Rattle.shared_tables.specs.Pool.{entry_at, IfHeld}
-use Rattle.shared_tables.specs.Threads.{IsHeld}
+use Rattle.shared_tables.specs.LinkSteps.{IsHeld}
 use Rattle.shared_tables.specs.Bucket.{bucket_of, key_bits}
 use Rattle.shared_tables.specs.Shared.{Shared, rule_at, span_of, bucket_count}
-use Rattle.shared_tables.specs.Whole.{seen}
+use Rattle.shared_tables.specs.WholePool.{seen}
 use Rattle.shared_tables.proofs.OnEntries.Admissions.{some_span, outcome_for, seen_found, share_there}
 use Rattle.shared_tables.proofs.shared_tables.SharedTables.find_or_enter.Goals as goal
 use Rattle.shared_tables.proofs.shared_tables.SharedTables.find_or_enter.Goals.{then-comes, else-comes}

@@ -3,10 +3,10 @@ use Rattle.std.specs.Option.{option_map}
 use Rattle.shared_tables.specs.Pool.{Pool}
 use Rattle.shared_tables.specs.Shared.{held_count}
 use Rattle.shared_tables.specs.Segments.{segments_of}
-use Rattle.shared_tables.specs.Sound.{rule_of}
+use Rattle.shared_tables.specs.SlotsOfSegments.{rule_of}
 use Rattle.shared_tables.proofs.OnEntries.SoundLemmas.{sound_at}
 use Rattle.shared_tables.proofs.OnEntries.OpenedLemmas.{open_sound, segments_of_opened, none_held}
-use Rattle.shared_tables.specs.TreesOf.{AreTreesOf}
+use Rattle.shared_tables.specs.TreesOfSlots.{AreTreesOf}
 use Rattle.shared_tables.proofs.OnTrees.Bare.{bare_trees_of}
 use Rattle.shared_tables.proofs.shared_tables.SharedTables.open.Goals as goal
 

@@ -2,9 +2,9 @@ use Rattle.std.proofs.Common.{◌≡◌, map, set, None, refl, sym, ap, ◌∙�
 use Rattle.std.specs.Option.{option_map}
 use Rattle.shared_tables.specs.Pool.{Pool, entry_at, IfHeld}
 use Rattle.shared_tables.specs.Shared.{Shared, HasRoom, rule_at, kept_count, Lacks}
-use Rattle.shared_tables.specs.Sound.{rule_of}
+use Rattle.shared_tables.specs.SlotsOfSegments.{rule_of}
 use Rattle.shared_tables.proofs.OnEntries.SoundLemmas.{sound_at, same_shared}
-use Rattle.shared_tables.specs.TreesOf.{AreTreesOf}
+use Rattle.shared_tables.specs.TreesOfSlots.{AreTreesOf}
 use Rattle.shared_tables.proofs.OnTrees.Uprooting.{may_go, uproot_trees}
 use Rattle.shared_tables.proofs.OnEntries.Dropping.{stays_inside, threaded, drop_sound, drop_rules, drop_room, drop_lacks}
 use Rattle.shared_tables.proofs.shared_tables.SharedTables.release.Goals as goal

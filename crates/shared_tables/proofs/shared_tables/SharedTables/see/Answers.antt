@@ -2,10 +2,10 @@ use Rattle.std.proofs.Common.{◌≡◌, ℕ, List, Option, set, Some, false, sy
 use Rattle.shared_tables.specs.declared.share.Share.{Share}
 use Rattle.shared_tables.specs.declared.shared_tables.SharedTables.TheInside.{Inside}
 use Rattle.shared_tables.specs.Pool.{Pool, entry_at, links_at, is_fixed_in, place_in, renewed}
-use Rattle.shared_tables.specs.Threads.{HoldsAny, moved}
+use Rattle.shared_tables.specs.LinkSteps.{HoldsAny, moved}
 use Rattle.shared_tables.specs.Shared.{Shared}
-use Rattle.shared_tables.specs.SharedInside.{shared_of}
-use Rattle.shared_tables.specs.Sound.{share_at, shares_moved, last_left, HasEndsLeft}
+use Rattle.shared_tables.specs.SharedFromFields.{shared_of}
+use Rattle.shared_tables.specs.SlotsOfSegments.{share_at, shares_moved, last_left, HasEndsLeft}
 use Rattle.shared_tables.proofs.OnEntries.Renewing.{renewable, renewed_whole, renewed_seen}
 use Rattle.shared_tables.proofs.shared_tables.SharedTables.see.Goals as goal
 

@@ -4,7 +4,7 @@ use Rattle.filter_db.specs.Segment.{segment_at, adjusted}
 use Rattle.filter_db.specs.Standing.{sum_of_limits}
 use Rattle.shared_tables.specs.declared.share.Share.{Share}
 use Rattle.shared_tables.specs.Shared.{Shared, kept_count}
-use Rattle.shared_tables.specs.Sound.{share_at, share_limit}
+use Rattle.shared_tables.specs.SlotsOfSegments.{share_at, share_limit}
 use Rattle.shared_tables.specs.Segments.{segments_of}
 use Rattle.shared_tables.specs.Standing.{with_limit}
 use Rattle.shared_tables.proofs.OnEntries.SoundLemmas.{sound_at, share_read}

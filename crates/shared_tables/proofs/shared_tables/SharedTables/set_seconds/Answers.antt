@@ -3,7 +3,7 @@ use Rattle.std.specs.Option.{option_map}
 use Rattle.std.proofs.lemmas.List.{map-set}
 use Rattle.shared_tables.specs.declared.share.Share.{Share}
 use Rattle.shared_tables.specs.Shared.{Shared, Rule, with_ageing}
-use Rattle.shared_tables.specs.Sound.{share_at, rule_of}
+use Rattle.shared_tables.specs.SlotsOfSegments.{share_at, rule_of}
 use Rattle.shared_tables.proofs.OnEntries.SoundLemmas.{sound_at, same_shared, rule_is, share_read}
 use Rattle.shared_tables.proofs.OnEntries.OpenedLemmas.{seconds_sound}
 use Rattle.shared_tables.proofs.shared_tables.SharedTables.set_seconds.Goals as goal

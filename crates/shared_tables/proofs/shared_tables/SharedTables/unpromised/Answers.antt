@@ -2,7 +2,7 @@ use Rattle.std.proofs.Common.{◌≡◌, ◌+◌, ◌-◌, length, ap, subst, ar
 use Rattle.std.specs.List.{sum_by}
 use Rattle.filter_db.specs.Standing.{sum_of_limits}
 use Rattle.shared_tables.specs.Shared.{Shared}
-use Rattle.shared_tables.specs.Sound.{share_limit}
+use Rattle.shared_tables.specs.SlotsOfSegments.{share_limit}
 use Rattle.shared_tables.specs.Segments.{segments_of}
 use Rattle.shared_tables.proofs.OnCalls.StandingLemmas.{limits_are}
 use Rattle.shared_tables.proofs.shared_tables.SharedTables.unpromised.Goals as goal

@@ -1,7 +1,7 @@
 use Rattle.std.proofs.Common.{◌≡◌, ◌+◌, Option, ◌∙◌, ap, subst, arith}
 use Rattle.std.specs.Int.{bit_at}
 use Rattle.shared_tables.specs.Bucket.{vid_in, mac_in}
-use Rattle.shared_tables.specs.TreesOf.{key_in}
+use Rattle.shared_tables.specs.TreesOfSlots.{key_in}
 use Rattle.shared_tables.specs.Slots.{entry_in}
 use Rattle.shared_tables.specs.Pool.{Held, IfHeld}
 use Rattle.shared_tables.proofs.OnTrees.Parting.{if_none, if_some}

@@ -1,6 +1,6 @@
 use Rattle.std.proofs.Common.{◌≡◌, ◌∙◌, ap, sym, true, false}
-use Rattle.header_sums.proofs.OctetsLemmas.{is_same-refl}
-use Rattle.header_sums.specs.Octets.{is_same}
+use Rattle.header_octets.proofs.OctetsLemmas.{is_same-refl}
+use Rattle.header_octets.specs.Octets.{is_same}
 use Rattle.tunnel_tables.proofs.Reading.{read_back}
 use Rattle.tunnel_tables.specs.Lines.{tunnels_text}
 use Rattle.tunnel_tables.specs.Rows.{rows_of, told_by}

@@ -2,22 +2,28 @@ use Rattle.std.proofs.Common.{◌∙◌, ◌++◌, ◌∷◌, [], ap, sym, refl,
 use Rattle.std.specs.Option.{option_copied_mut}
 use Rattle.underlay.specs.Flood.{Entries, first, add_faults}
 use Rattle.underlay.specs.Overlay.{flooding}
-use Rattle.underlay.proofs.FloodLemmas.{Flooded, has_place, has_row, flooded, on_ok}
+use Rattle.underlay.proofs.FloodLemmas.{Flooded, has_place, has_seat, has_row, flooded, on_ok}
 use Rattle.underlay.proofs.places.SegmentPlaces.add_flood.Goals as goal
 
 pub unwrap-requires : goal.unwrap-requires
 unwrap-requires c = has_place c.args.self.now c.self.inside.rows.items c.self.inside.index.items c.args.vid c.from.result c.index.result.now c.self.view_is c.index.ensures (omega arith) (omega arith) c.requires.there
 
+pub index_mut-requires : goal.index_mut-requires
+index_mut-requires c =
+    omega (arith, has_seat c.args.self.now c.self.inside.rows.items c.self.inside.index.items c.args.vid c.from.result c.index.result.now c.self.view_is c.index.ensures (omega arith) (omega arith) c.unwrap.result c.unwrap.ensures c.self.invariant.2)
+
 pub unwrap-row-requires : goal.unwrap-row-requires
 unwrap-row-requires c =
     c.as_mut.ensures.variant
     ∙ has_row c.args.self.now c.self.inside.rows.items c.self.inside.index.items c.args.vid c.from.result c.index.result.now c.self.view_is c.index.ensures (omega arith) (omega arith)
-    c.unwrap.result c.from-place.result c.index_mut.result.now c.unwrap.ensures c.index_mut.ensures.value (omega arith) (omega arith) c.requires.there
+    c.unwrap.result c.from-place.result c.index_mut.result.now c.unwrap.ensures c.index_mut.ensures.value (omega arith)
+    (has_seat c.args.self.now c.self.inside.rows.items c.self.inside.index.items c.args.vid c.from.result c.index.result.now c.self.view_is c.index.ensures (omega arith) (omega arith) c.unwrap.result c.unwrap.ensures c.self.invariant.2) c.requires.there
 
 left : (c : goal.After-self-1) → Flooded c.args.self.now c.self.inside.rows.items c.self.inside.index.items c.args.vid c.from-place.result c.unwrap-row.result.now c.add.new.self
 left c =
     flooded c.args.self.now c.self.inside.rows.items c.self.inside.index.items c.args.vid c.from.result c.index.result.now c.self.view_is c.index.ensures (omega arith) (omega arith)
-    c.unwrap.result c.from-place.result c.index_mut.result.now c.unwrap.ensures c.index_mut.ensures.value (omega arith) (omega arith)
+    c.unwrap.result c.from-place.result c.index_mut.result.now c.unwrap.ensures c.index_mut.ensures.value (omega arith)
+    (has_seat c.args.self.now c.self.inside.rows.items c.self.inside.index.items c.args.vid c.from.result c.index.result.now c.self.view_is c.index.ensures (omega arith) (omega arith) c.unwrap.result c.unwrap.ensures c.self.invariant.2)
     c.unwrap-row.result.now c.add.new.self c.self.invariant (sym c.as_mut.ensures.value ∙ ap option_copied_mut c.unwrap-row.ensures)
 
 pub invariant_of-self : goal.invariant_of-self
@@ -33,3 +39,6 @@ returns-clause-added c =
 
 pub returns-clause-heads : goal.returns-clause-heads
 returns-clause-heads c = (left c).heads
+
+pub returns-clause-most : goal.returns-clause-most
+returns-clause-most c = (left c).most

@@ -1,6 +1,7 @@
-use Rattle.std.proofs.Common.{◌≡◌, ◌∙◌, ◌++◌, ◌∷◌, [], Option, None, arith, ap, List, ℕ, replicate, refl}
-use Rattle.std.proofs.lemmas.List.{replicate-append-replicate}
+use Rattle.std.proofs.Common.{◌≡◌, ◌∙◌, ◌++◌, ◌∷◌, [], Option, None, arith, ap, length, List, ℕ, replicate, refl}
+use Rattle.std.proofs.lemmas.List.{replicate-append-replicate, length-replicate}
 use Rattle.underlay.specs.Seats.{Seats, seated}
+use Rattle.underlay.specs.declared.places.Row.{Row}
 use Rattle.underlay.proofs.SeatLemmas.{seated-nothing, keeps-nothing}
 use Rattle.underlay.proofs.places.SegmentPlaces.open.Goals as goal
 
@@ -14,9 +15,11 @@ pub loop-place-preserved : goal.loop-place-preserved
 loop-place-preserved c = (c.loop-place.invariant.0, c.in_ok-push-2.ensures.items ∙ ap (λ l. l ++ None ∷ []) c.loop-place.invariant.1 ∙ replicate-append-replicate c.loop-place._place 1 None)
 
 pub invariant_of-result : goal.invariant_of-result
-invariant_of-result c = keeps-nothing (λ row. row.vid) (λ row. row.segment) c.loop-place.rows.items c.loop-number.index.items (let n : c.loop-place._place ≡ 256 = omega arith in c.loop-place.invariant.1 ∙ ap (λ (n : ℕ). replicate n None) n) c.loop-place.invariant.0
+invariant_of-result c = keeps-nothing (λ row. row.vid) (λ row. row.segment) c.loop-place._place c.loop-place.rows.items c.loop-number.index.items (omega arith) c.loop-place.invariant.1 c.loop-place.invariant.0
 
 pub returns : goal.returns
 returns c =
-    ap (λ (i : List (Option ℕ)). let s : Seats = record { segments = seated (λ row. row.segment) c.loop-place.rows.items i; heads = seated (λ row. row.heads) c.loop-place.rows.items i } in s) c.loop-place.invariant.0
-    ∙ rw (seated-nothing (λ row. row.segment) c.loop-place.rows.items 4096, seated-nothing (λ row. row.heads) c.loop-place.rows.items 4096) refl
+    let rows = c.loop-place.rows.items in
+    let size : length rows ≡ c.args.most = omega (arith, ap length c.loop-place.invariant.1, length-replicate {A = Option Row} c.loop-place._place None) in
+    ap (λ (i : List (Option ℕ)). let s : Seats = record { segments = seated (λ row. row.segment) rows i; heads = seated (λ row. row.heads) rows i; most = length rows } in s) c.loop-place.invariant.0
+    ∙ rw (seated-nothing (λ row. row.segment) rows 4096, seated-nothing (λ row. row.heads) rows 4096, size) refl

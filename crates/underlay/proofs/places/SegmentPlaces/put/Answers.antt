@@ -1,11 +1,12 @@
 use Rattle.std.proofs.Common.{◌≡◌, ◌∙◌, ◌<◌, ap, sym, refl, arith, ℕ, None, Some, List, Option, set, get_or, length}
+use Rattle.std.proofs.lemmas.List.{length-set}
 use Rattle.std.specs.FinMap.{get, insert}
 use Rattle.underlay.specs.Seats.{Seats, seated}
 use Rattle.underlay.specs.declared.places.Row.{Row}
 use Rattle.underlay.proofs.SeatLemmas.{seated-put, keeps-put}
 use Rattle.underlay.proofs.places.SegmentPlaces.put.Goals as goal
 
-free : (c : goal.After-self-2-1) → get_or c.self.inside.rows.items c.free_place-place.result None ≡ None
+free : (c : goal.After-self-3-1) → get_or c.self.inside.rows.items c.free_place-place.result None ≡ None
 free c = ap (λ (l : List (Option Row)). get_or l c.free_place-place.result None) (sym c.deref.ensures.value) ∙ c.free_place-place.ensures.free
 
 pub invariant_of-self : goal.invariant_of-self
@@ -27,8 +28,9 @@ returns c =
     let same : c.from.result ≡ c.args.vid = omega arith in
     let lt : j < length rows = omega (arith, ap length c.deref.ensures.value, c.free_place-place.ensures.there) in
     let lt' : c.args.vid < length index = omega arith in
-    ap (λ (k : ℕ). let s : Seats = record { segments = seated (λ r. r.segment) (set rows j (Some row)) (set index k (Some j)); heads = seated (λ r. r.heads) (set rows j (Some row)) (set index k (Some j)) } in s) same
+    ap (λ (k : ℕ). let s : Seats = record { segments = seated (λ r. r.segment) (set rows j (Some row)) (set index k (Some j)); heads = seated (λ r. r.heads) (set rows j (Some row)) (set index k (Some j)); most = length (set rows j (Some row)) } in s) same
     ∙ rw (
       seated-put (λ r. r.vid) (λ r. r.segment) rows index c.args.vid j row c.self.invariant.2 (free c) lt lt',
       seated-put (λ r. r.vid) (λ r. r.heads) rows index c.args.vid j row c.self.invariant.2 (free c) lt lt',
-    ) (ap (λ (s : Seats). let n : Seats = record { segments = insert s.segments c.args.vid c.args.segment; heads = insert s.heads c.args.vid c.args.heads } in n) c.self.view_is)
+      length-set rows j (Some row),
+    ) (ap (λ (s : Seats). let n : Seats = record s { segments = insert s.segments c.args.vid c.args.segment; heads = insert s.heads c.args.vid c.args.heads } in n) c.self.view_is)

@@ -23,7 +23,7 @@ add_segment-requires-clause-free c =
 pub add_segment-requires-clause-room : goal.add_segment-requires-clause-room
 add_segment-requires-clause-room c =
     let all : c.loop-rule.yielded ++ c.in-Some.rule ∷ into_iter_items c.next.new.self ≡ c.args.rules.items = ap (λ (l : List TunnelRule). c.loop-rule.yielded ++ l) (sym c.in-Some.ensures.steps.0) ∙ c.loop-rule.invariant.3 in
-    omega (arith, c.requires.few, told_size c.loop-rule.yielded, ap (λ (S : Overlay). len S.segments) c.loop-rule.invariant.2, ap length all, length-append c.loop-rule.yielded (c.in-Some.rule ∷ into_iter_items c.next.new.self))
+    omega (arith, c.requires.few, told_size c.loop-rule.yielded, ap (λ (S : Overlay). len S.segments) c.loop-rule.invariant.2, ap (λ (S : Overlay). S.underlay.limits.segments) c.loop-rule.invariant.2, ap length all, length-append c.loop-rule.yielded (c.in-Some.rule ∷ into_iter_items c.next.new.self))
 
 pub loop-rule-preserved : goal.loop-rule-preserved
 loop-rule-preserved c =

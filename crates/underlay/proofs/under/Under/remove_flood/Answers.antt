@@ -1,15 +1,18 @@
+use Rattle.std.proofs.Common.{refl}
 use Rattle.ip_udp_view.specs.declared.addr.Tunnel.TheVariants.{Vxlan, Geneve}
 use Rattle.underlay.specs.Flood.{Entries, without}
 use Rattle.underlay.specs.Overlay.{flood_in}
 use Rattle.underlay.proofs.HeadsLemmas.{heads-flood}
 use Rattle.underlay.proofs.IndexLemmas.{indexes_flood}
+use Rattle.underlay.proofs.RoomLemmas.{room_stays}
 use Rattle.underlay.proofs.under.Under.remove_flood.Goals as goal
 
 -- no tunnel has changed
 pub invariant_of-self : goal.invariant_of-self
 invariant_of-self c =
     let flood : Entries = without (flood_in c.self.inside.segments.segments c.args.vid) c.args.kind c.args.addr in (
-      indexes_flood Vxlan c.remove_flood.result c.self.inside.segments.segments c.remove_flood.new.self.segments c.self.inside.vxlan c.args.vid flood c.self.invariant.0 c.remove_flood.ensures.removed c.remove_flood.ensures.refused,
-      indexes_flood Geneve c.remove_flood.result c.self.inside.segments.segments c.remove_flood.new.self.segments c.self.inside.geneve c.args.vid flood c.self.invariant.1 c.remove_flood.ensures.removed c.remove_flood.ensures.refused,
+      indexes_flood Vxlan c.remove_flood.result c.self.inside.segments.segments c.remove_flood.new.self.segments c.self.inside.vxlan.vids c.args.vid flood c.self.invariant.0 c.remove_flood.ensures.removed c.remove_flood.ensures.refused,
+      indexes_flood Geneve c.remove_flood.result c.self.inside.segments.segments c.remove_flood.new.self.segments c.self.inside.geneve.vids c.args.vid flood c.self.invariant.1 c.remove_flood.ensures.removed c.remove_flood.ensures.refused,
       heads-flood c.remove_flood.result c.self.inside.underlay c.self.inside.segments c.remove_flood.new.self c.args.vid flood c.self.invariant.2 c.remove_flood.ensures.removed c.remove_flood.ensures.refused c.remove_flood.ensures.heads,
+      room_stays c.self.inside.underlay.limits.segments c.self.inside.segments c.remove_flood.new.self c.self.inside.vxlan c.self.inside.vxlan c.self.inside.geneve c.self.inside.geneve c.self.invariant.3 c.remove_flood.ensures.most refl refl,
     )

@@ -1,6 +1,7 @@
 use Rattle.std.proofs.Common.{ap}
 use Rattle.ip_udp_view.specs.declared.addr.Tunnel.TheVariants.{Vxlan, Geneve}
 use Rattle.std.specs.FinMap.{empty}
+use Rattle.underlay.specs.Index.{Listed}
 use Rattle.underlay.specs.Seats.{Seats}
 use Rattle.underlay.proofs.HeadsLemmas.{heads-nothing}
 use Rattle.underlay.proofs.IndexLemmas.{indexes_nothing, indexes_as}
@@ -9,7 +10,12 @@ use Rattle.underlay.proofs.under.Under.without_segments.Goals as goal
 pub invariant_of-result : goal.invariant_of-result
 invariant_of-result c =
     let none = ap (λ (s : Seats). s.segments) c.in_ok-open.ensures in (
-      indexes_as Vxlan c.in_ok-open.field-0.segments empty c.in_ok-open-2.field-0 empty none c.in_ok-open-2.ensures (indexes_nothing Vxlan),
-      indexes_as Geneve c.in_ok-open.field-0.segments empty c.in_ok-open-3.field-0 empty none c.in_ok-open-3.ensures (indexes_nothing Geneve),
-      heads-nothing c.args.underlay c.in_ok-open.field-0 c.in_ok-open.ensures,
+      indexes_as Vxlan c.in_ok-open.field-0.segments empty c.in_ok-open-2.field-0.vids empty none (ap (λ (l : Listed). l.vids) c.in_ok-open-2.ensures) (indexes_nothing Vxlan),
+      indexes_as Geneve c.in_ok-open.field-0.segments empty c.in_ok-open-3.field-0.vids empty none (ap (λ (l : Listed). l.vids) c.in_ok-open-3.ensures) (indexes_nothing Geneve),
+      heads-nothing c.args.underlay c.in_ok-open.field-0 c.args.underlay.limits.segments c.in_ok-open.ensures,
+      record {
+        rows = ap (λ (s : Seats). s.most) c.in_ok-open.ensures;
+        vxlan_places = ap (λ (l : Listed). l.most) c.in_ok-open-2.ensures;
+        geneve_places = ap (λ (l : Listed). l.most) c.in_ok-open-3.ensures;
+      },
     )

@@ -1,7 +1,7 @@
 use Rattle.std.proofs.Common.{◌≡◌, ◌-◌, ◌/◌, ◌%◌, ℕ, List, length, take, drop, subst, sym, ◌∙◌, arith}
 use Rattle.std.proofs.lemmas.Bool.{le-ltb, not_from_true, eq-eqb}
 use Rattle.std.proofs.lemmas.List.{take_rest}
-use Rattle.header_sums.specs.Octets.{octet}
+use Rattle.header_octets.specs.Octets.{octet}
 use Rattle.frame_view.proofs.FirstLemmas.{first-nothing}
 use Rattle.vxlan_head.specs.Vxlan.{IsVxlan}
 use Rattle.vxlan_head.specs.Reading.{vxlan_vni, vxlan_inner, vxlan_faults}

@@ -1,0 +1,116 @@
+-- A datagram with a tunnel's header is read as what it carries.
+use Rattle.std.proofs.Common.{◌≡◌, ◌∙◌, ℕ, ◌*◌, ◌%◌, Bool, false, not, eqb, List, [], ◌∷◌, ◌++◌, drop, take, Option, Some, None, refl, sym, ap, arith}
+use Rattle.std.specs.Prelude.{is_some, option_map}
+use Rattle.std.proofs.lemmas.Bool.{cond-true, cond-false}
+use Rattle.std.proofs.lemmas.List.{drop-take, take_at}
+use Rattle.header_octets.specs.Octets.{octets, part}
+use Rattle.frame_view.specs.First.{first}
+use Rattle.frame_view.specs.declared.reason.Reason.TheVariants.{Fragment, NotUdp, BadUdp}
+use Rattle.frame_view.proofs.FirstLemmas.{first-none, first-skip}
+use Rattle.ip_udp_view.specs.declared.addr.Addr.{Addr}
+use Rattle.ip_udp_view.specs.declared.addr.Tunnel.{Tunnel}
+use Rattle.ip_udp_view.specs.declared.addr.Tunnel.TheVariants.{Vxlan, Geneve}
+use Rattle.ip_udp_view.specs.Datagram.{Datagram, HasParts}
+use Rattle.ip_udp_view.specs.Udp.{data_of, is_bad_udp}
+use Rattle.ip_udp_view.proofs.DatagramLemmas.{only-datagram}
+use Rattle.vxlan_head.specs.Reading.{reason_of as vxlan_reason, vxlan_faults}
+use Rattle.vxlan_head.proofs.Reading.{vxlan-only}
+use Rattle.geneve_head.specs.Geneve.{IsGeneve}
+use Rattle.geneve_head.specs.Options.{TunnelOption}
+use Rattle.geneve_head.specs.Reading.{geneve_faults, head_length, options_length, reason_of as geneve_reason}
+use Rattle.geneve_head.specs.declared.view.GnFault.{GnFault}
+use Rattle.geneve_head.proofs.PacketLemmas.{geneve-only}
+use Rattle.decapsulate.specs.Arrival.{Packet, frame_reasons, inner_of, packet_in, tunnel_reasons, vni_of}
+use Rattle.decapsulate.proofs.PacketLemmas.{first-as_reasons}
+use Rattle.carried_key.specs.Laws.{GeneveIsCarried, VxlanIsCarried}
+use Rattle.carried_key.specs.Tunnelled.{Tunnelled, carried_at, carried_by, has_no_datagram, kind_at, options_of, tunnelled}
+
+-- where none of all holds, none of those in front does, nor of those behind
+both-none : {A : Type 0} (rows others : List (A × Bool)) → first (rows ++ others) ≡ None → (first rows ≡ None) × (first others ≡ None)
+both-none [] others h = (refl, h)
+both-none (a ∷ rows) others h =
+    let p = first-none a.0 a.1 (rows ++ others) h in
+    let q = both-none rows others p.1 in
+    (first-skip a.0 a.1 rows p.0 ∙ q.0, q.1)
+
+-- ---- the datagram
+
+has-datagram : (p : Packet) → first ((Fragment, p.is_fragment) ∷ (NotUdp, not (eqb p.protocol 17)) ∷ (BadUdp, is_bad_udp p.payload) ∷ []) ≡ None → has_no_datagram p ≡ false
+has-datagram p h =
+    let fragment = first-none Fragment p.is_fragment ((NotUdp, not (eqb p.protocol 17)) ∷ (BadUdp, is_bad_udp p.payload) ∷ []) h in
+    let udp = first-none NotUdp (not (eqb p.protocol 17)) ((BadUdp, is_bad_udp p.payload) ∷ []) fragment.1 in
+    let bad = first-none BadUdp (is_bad_udp p.payload) [] udp.1 in
+    rw (fragment.0, udp.0, bad.0) refl
+
+-- what a datagram carries
+pub read-at : (b : List ℕ) (source destination : Addr) (from to sum : ℕ) (d : List ℕ) → Datagram b source destination from to sum d → tunnelled b ≡ carried_at (kind_at to) source destination d
+read-at b source destination from to sum d k =
+    let told = only-datagram b source destination from to sum d k in
+    let p = packet_in b in
+    let none = both-none (frame_reasons b) ((Fragment, p.is_fragment) ∷ (NotUdp, not (eqb p.protocol 17)) ∷ (BadUdp, is_bad_udp p.payload) ∷ []) told.0 in
+    let parts : HasParts b source destination from to sum d = told.1 in
+    cond-false _ _ _ (ap is_some none.0)
+    ∙ cond-false _ _ _ (has-datagram p none.1)
+    ∙ ap (λ (n : ℕ). carried_at (kind_at n) p.source p.destination (data_of p.payload)) parts.dport_is
+    ∙ ap (λ (a : Addr). carried_at (kind_at to) a p.destination (data_of p.payload)) parts.source_is
+    ∙ ap (λ (a : Addr). carried_at (kind_at to) source a (data_of p.payload)) parts.destination_is
+    ∙ ap (λ (t : List ℕ). carried_at (kind_at to) source destination t) parts.data_is
+
+-- ---- the tunnel's header
+
+carried-by : (kind : Tunnel) (source destination : Addr) (d : List ℕ) (vni : ℕ) (options inner : List ℕ) → first (tunnel_reasons [] kind d) ≡ None → vni_of kind d ≡ vni → options_of kind d ≡ options → inner_of kind d ≡ inner
+    → carried_by kind source destination d ≡ Some (record { kind = kind; source = source; destination = destination; vni = vni; options = options; inner = inner })
+carried-by kind source destination d vni options inner none v o i = cond-false _ _ _ (ap is_some none) ∙ same (vni_of kind d) vni (options_of kind d) options (inner_of kind d) inner v o i
+  where
+    same : (a b : ℕ) (c e f g : List ℕ) → a ≡ b → c ≡ e → f ≡ g
+        → ◌≡◌ {A = Option Tunnelled} (Some (record { kind = kind; source = source; destination = destination; vni = a; options = c; inner = f }))
+        (Some (record { kind = kind; source = source; destination = destination; vni = b; options = e; inner = g }))
+    same a b c e f g h i j = cc
+
+pub vxlan-carried : VxlanIsCarried
+vxlan-carried b source destination port sum d vni inner k v =
+    let told = vxlan-only d vni inner v in
+    read-at b source destination port 4789 sum d k
+    ∙ carried-by Vxlan source destination d vni [] inner (first-as_reasons vxlan_reason (vxlan_faults d) ∙ ap (option_map vxlan_reason) told.0) told.1 refl told.2
+
+-- the options in a header
+options-are : (d : List ℕ) (vni : ℕ) (options : List TunnelOption) (inner : List ℕ) (g : IsGeneve d vni options inner) → options_of Geneve d ≡ g.option_texts
+options-are d vni options inner g =
+    let n = g.opt_len in
+    let texts = g.option_texts in
+    let x = n ∷ g.flags ∷ 0x65 ∷ 0x58 ∷ octets 3 vni ++ (g.last ∷ texts ++ inner) in
+    let version = g.version_0 in
+    let room = g.room in
+    let low : n % 64 ≡ n = omega arith in
+    let size : options_length x ≡ 4 * n = ap (λ (w : ℕ). 4 * w) low in
+    let here : part 8 (options_length x) x ≡ texts = take_at texts inner (options_length x) (omega arith) in
+    ap (λ (t : List ℕ). part 8 (options_length t) t) g.whole ∙ here
+
+pub geneve-carried : GeneveIsCarried
+geneve-carried b source destination port sum d vni options inner k g taken =
+    let told = geneve-only [] d vni options inner g in
+    let none : first (geneve_faults [] d) ≡ None = told.0 ∙ cond-true _ _ _ taken in
+    read-at b source destination port 6081 sum d k
+    ∙ carried-by Geneve source destination d vni g.option_texts inner (first-as_reasons geneve_reason (geneve_faults [] d) ∙ ap (option_map geneve_reason) none) told.1
+    (options-are d vni options inner g) told.3
+
+-- ---- what is read of a Geneve packet
+
+-- nothing where it has a fault
+pub geneve-refused : (source destination : Addr) (d : List ℕ) (known : List (ℕ × ℕ)) (fault : GnFault) → known ≡ [] → Some fault ≡ first (geneve_faults known d) → None ≡ carried_by Geneve source destination d
+geneve-refused source destination d known fault none h =
+    let told : first (geneve_faults [] d) ≡ Some fault = ap (λ (k : List (ℕ × ℕ)). first (geneve_faults k d)) (sym none) ∙ sym h in
+    sym (cond-true _ _ _ (ap is_some (first-as_reasons geneve_reason (geneve_faults [] d) ∙ ap (option_map geneve_reason) told)))
+
+-- the options in its header
+options-behind : (d head : List ℕ) → head ≡ take (head_length d) d → drop 8 head ≡ options_of Geneve d
+options-behind d head is = ap (drop 8) is ∙ drop-take 8 (options_length d) d
+
+pub geneve-taken : (source destination : Addr) (d : List ℕ) (known : List (ℕ × ℕ)) (vni : ℕ) (list : List TunnelOption) (head options inner : List ℕ) → known ≡ [] → None ≡ first (geneve_faults known d)
+    → IsGeneve d vni list inner → head ≡ take (head_length d) d → options ≡ drop 8 head
+    → Some (record { kind = Geneve; source = source; destination = destination; vni = vni; options = options; inner = inner }) ≡ carried_by Geneve source destination d
+geneve-taken source destination d known vni list head options inner none h g head_is options_is =
+    let told : first (geneve_faults [] d) ≡ None = ap (λ (k : List (ℕ × ℕ)). first (geneve_faults k d)) (sym none) ∙ sym h in
+    let says = geneve-only [] d vni list inner g in
+    sym (carried-by Geneve source destination d vni options inner (first-as_reasons geneve_reason (geneve_faults [] d) ∙ ap (option_map geneve_reason) told) says.1
+    (sym (options_is ∙ options-behind d head head_is)) says.3)

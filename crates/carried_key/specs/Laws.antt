@@ -1,0 +1,44 @@
+-- Laws of what packets carry, and of their keys.
+use Rattle.std.specs.Prelude.{◌≡◌, ℕ, IsTrue, List, [], ◌∷◌, Some}
+use Rattle.header_octets.specs.Octets.{octets}
+use Rattle.ip_udp_view.specs.Addr.{address}
+use Rattle.ip_udp_view.specs.Datagram.{Datagram}
+use Rattle.ip_udp_view.specs.declared.addr.Addr.{Addr}
+use Rattle.ip_udp_view.specs.declared.addr.Tunnel.TheVariants.{Vxlan, Geneve}
+use Rattle.vxlan_head.specs.Vxlan.{IsVxlan}
+use Rattle.geneve_head.specs.Geneve.{IsGeneve}
+use Rattle.geneve_head.specs.Options.{TunnelOption, allowed}
+use Rattle.carried_key.specs.Key.{carried_text}
+use Rattle.carried_key.specs.Tunnelled.{Tunnelled, tunnelled}
+
+-- a datagram to VXLAN's port with a VXLAN header (RFC 7348, 5), in whole texts, carries its VNI and inner text between its
+-- addresses: whatever its addresses of Ethernet, its tags, the other fields of IP, its source port and its checksum are
+abbrev pub VxlanIsCarried : Type 0
+VxlanIsCarried =
+    (b : List ℕ) (source destination : Addr) (port sum : ℕ) (d : List ℕ) (vni : ℕ) (inner : List ℕ)
+    → Datagram b source destination port 4789 sum d → IsVxlan d vni inner
+    → tunnelled b ≡ Some (record { kind = Vxlan; source = source; destination = destination; vni = vni; options = []; inner = inner })
+
+-- the same of Geneve (RFC 8926, 3.3 and 3.4), with its options, none of which is critical
+abbrev pub GeneveIsCarried : Type 0
+GeneveIsCarried =
+    (b : List ℕ) (source destination : Addr) (port sum : ℕ) (d : List ℕ) (vni : ℕ) (options : List TunnelOption) (inner : List ℕ)
+    → Datagram b source destination port 6081 sum d → (g : IsGeneve d vni options inner) → IsTrue (allowed [] options)
+    → tunnelled b ≡ Some (record { kind = Geneve; source = source; destination = destination; vni = vni; options = g.option_texts; inner = inner })
+
+-- two tunnels carry the same between the same addresses
+pub record AreSame (s t : Tunnelled) : Type 0 where
+  pub kind_is : s.kind ≡ t.kind
+  pub source_is : address s.source ≡ address t.source
+  pub destination_is : address s.destination ≡ address t.destination
+  pub vni_is : octets 3 s.vni ≡ octets 3 t.vni
+  pub options_are : s.options ≡ t.options
+  pub inner_is : s.inner ≡ t.inner
+
+-- they do where their keys are the same
+abbrev pub KeyTells : Type 0
+KeyTells = (s t : Tunnelled) → carried_text s ≡ carried_text t → AreSame s t
+
+-- and no packet of a tunnel has the key of what is none
+abbrev pub KeyTellsApart : Type 0
+KeyTellsApart = (t : Tunnelled) (b : List ℕ) → carried_text t ≡ 0 ∷ b → ⊥

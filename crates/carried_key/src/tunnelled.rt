@@ -1,0 +1,154 @@
+//! What a packet carries in a tunnel.
+ghost use Rattle.std.specs.Prelude.{◌≡◌, ◌≤◌, IfSome, drop, length};
+ghost use Rattle.carried_key.specs.Tunnelled.{carried_at, carried_by, carried_in, kind_at, tunnelled};
+ghost use Rattle.ip_udp_view.specs.Udp.{data_of};
+ghost use Rattle.ip_udp_view.specs.declared.addr.Tunnel.TheVariants as kinds;
+
+use decapsulate::Packet;
+use geneve_head::{GnView, Known};
+use ip_udp_view::{Addr, Tunnel, UDP, UdpView};
+use std::marker::Model;
+use vxlan_head::{Vni, VxView};
+
+/// The port of VXLAN (RFC 7348, 5).
+const VXLAN_PORT: u16 = 4789;
+
+/// The port of Geneve (RFC 8926, 3.3).
+const GENEVE_PORT: u16 = 6081;
+
+/// The octets of Geneve's header in front of its options (RFC 8926, 3.4).
+const FIXED_LENGTH: usize = 8;
+
+/// What a packet carries in a tunnel, and between whom: slices of the packet.
+#[derive(Debug, Drop)]
+pub struct Tunnelled<'a> {
+    /// The kind of the tunnel, by the port of the datagram.
+    pub kind: Tunnel,
+    /// Who sent it.
+    pub source: Addr,
+    /// To whom.
+    pub destination: Addr,
+    /// The number of the network.
+    pub vni: Vni,
+    /// The texts of the options of Geneve: at most 252 octets, none of VXLAN.
+    pub options: &'a [u8],
+    /// The text behind the tunnel header.
+    pub inner: &'a [u8],
+}
+
+impl<'a> Model for Tunnelled<'a> {
+    ghost use Rattle.std.specs.Prelude.{◌≤◌, length};
+    ghost use Rattle.carried_key.specs.Tunnelled.{Tunnelled};
+
+    ghost Value = { Tunnelled };
+
+    ghost view = { λ t. record {
+      kind = t.kind;
+      source = t.source;
+      destination = t.destination;
+      vni = t.vni;
+      options = t.options.now;
+      inner = t.inner.now;
+    } };
+
+    ghost invariant = { λ t. length t.options.now ≤ 252 };
+}
+
+/// What a packet of the underlay carries in a tunnel, by the tunnels' ports of the standards; nothing where it is no packet of
+/// a tunnel, a fragment of one, or one with a critical option.
+pub fn tunnelled_in(octets: &[u8]) -> Option<Tunnelled<'_>>
+    ensures value { result ≡ tunnelled octets.now }
+    ensures short { IfSome result (λ t. length t.inner ≤ length octets.now) }
+{
+    match Packet::read(octets) {
+        Ok(packet) => carried_in(&packet),
+        Err(_) => None,
+    }
+}
+
+/// What an IP packet carries.
+fn carried_in<'a>(packet: &Packet<'a>) -> Option<Tunnelled<'a>>
+    ensures value { result ≡ carried_in packet.now }
+    ensures short { IfSome result (λ t. length t.inner ≤ length packet.now.payload) }
+{
+    if packet.is_fragment || packet.protocol != UDP {
+        return None;
+    }
+    let Ok(datagram) = UdpView::read(packet.payload) else {
+        return None;
+    };
+    let kind = kind_at(datagram.dport());
+    carried_at(kind, packet.source, packet.destination, datagram.payload())
+}
+
+/// The kind of tunnel whose datagrams go to a port.
+fn kind_at(port: u16) -> Option<Tunnel>
+    ensures { result ≡ kind_at port }
+{
+    match port {
+        VXLAN_PORT => Some(Tunnel::Vxlan),
+        GENEVE_PORT => Some(Tunnel::Geneve),
+        _ => None,
+    }
+}
+
+/// What data carry that came from one address to another, at the port of a kind.
+fn carried_at<'a>(
+    kind: Option<Tunnel>,
+    source: Addr,
+    destination: Addr,
+    payload: &'a [u8],
+) -> Option<Tunnelled<'a>>
+    ensures value { result ≡ carried_at kind source destination payload.now }
+    ensures short { IfSome result (λ t. length t.inner ≤ length payload.now) }
+{
+    match kind {
+        Some(Tunnel::Vxlan) => vxlan_in(source, destination, payload),
+        Some(Tunnel::Geneve) => geneve_in(source, destination, payload),
+        None => None,
+    }
+}
+
+/// What data with a VXLAN header carry.
+fn vxlan_in<'a>(source: Addr, destination: Addr, payload: &'a [u8]) -> Option<Tunnelled<'a>>
+    ensures value { result ≡ carried_by kinds.Vxlan source destination payload.now }
+    ensures short { IfSome result (λ t. length t.inner ≤ length payload.now) }
+{
+    let Ok(view) = VxView::read(payload) else {
+        return None;
+    };
+    Some(Tunnelled {
+        kind: Tunnel::Vxlan,
+        source,
+        destination,
+        vni: view.vni(),
+        options: &payload[..0],
+        inner: view.payload(),
+    })
+}
+
+/// What data with a Geneve header carry.
+fn geneve_in<'a>(source: Addr, destination: Addr, payload: &'a [u8]) -> Option<Tunnelled<'a>>
+    ensures value { result ≡ carried_by kinds.Geneve source destination payload.now }
+    ensures short { IfSome result (λ t. length t.inner ≤ length payload.now) }
+{
+    let Ok(view) = GnView::read(payload, &Known::new()) else {
+        return None;
+    };
+    Some(Tunnelled {
+        kind: Tunnel::Geneve,
+        source,
+        destination,
+        vni: view.vni(),
+        options: behind_fixed(view.head()),
+        inner: view.payload(),
+    })
+}
+
+/// What stands in a header of Geneve behind its first octets: its options.
+fn behind_fixed(head: &[u8]) -> &[u8]
+    requires { 8 ≤ length head.now }
+    ensures { result.now ≡ drop 8 head.now }
+{
+    &head[FIXED_LENGTH..]
+}

@@ -1,3 +1,0 @@
-mod kind_tests;
-mod peek_tests;
-mod survey_tests;

@@ -1,0 +1,155 @@
+//! What comes to an endpoint: a frame at a local port or a packet from the underlay is brought to a segment, and then taken.
+//!
+//! [`Endpoint::bring_frame`] and [`Endpoint::bring_packet`] tell to which segment, and change nothing; [`Endpoint::take`] turns
+//! that, where it lies, into where it goes. The others are both in one call, or hand out what these write.
+ghost use Rattle.std.specs.Prelude.{◌≡◌, ◌≤◌, IfOk, IsSome, length, true};
+ghost use Rattle.endpoint_state.specs.Settings.{segment_at};
+ghost use Rattle.endpoint_state.specs.Sound.{is_reached};
+ghost use Rattle.endpoint_state.specs.State.{aged};
+ghost use Rattle.endpoint_core.specs.Arrival.{came_at, came_by};
+ghost use Rattle.endpoint_core.specs.Course.{decision_of, IsThere, IsShortFrame, CanLeave, IsEmptied, IsOfWhatCame};
+ghost use Rattle.endpoint_core.specs.Event.{frame_at, packet_at};
+ghost use Rattle.endpoint_core.specs.Step.{Decided, answer, after, decided, after_coming};
+
+use crate::arrival::{come_at, come_by};
+use crate::decide::decide;
+use crate::{Course, Endpoint, nothing_came};
+use tunnel_learning::Outlets;
+
+impl Endpoint {
+    ghost use Rattle.endpoint_core.specs.Kept.{state_of};
+
+    /// Sets a course to what [`Endpoint::frame_from`] answers, whatever it was.
+    #[inline(always)]
+    pub fn bring_frame<'a>(
+        &self,
+        port: u8,
+        original: u32,
+        octets: &'a [u8],
+        course: &mut Course<'a>,
+    )
+        requires low { 1 ≤ port }
+        requires high { port ≤ length (state_of self.now).bridges.settings.ports.ports }
+        ensures value { course.new ≡ came_at (state_of self.now).bridges.settings.ports port original octets.now }
+        ensures there { IfOk course.new (λ x. IsSome (segment_at (state_of self.now).bridges.settings x.vid)) }
+        ensures short { IfOk course.new (λ x. length x.frame.body ≤ 65549) }
+        ensures reached { IfOk course.new (λ x. is_reached (state_of self.now).bridges.settings.overlay x.vid x.from ≡ true) }
+    {
+        come_at(self.state.ports(), port, original, octets, course);
+    }
+
+    /// Sets a course to what [`Endpoint::frame_in`] answers, whatever it was.
+    #[inline(always)]
+    pub fn bring_packet<'a>(&self, original: u32, octets: &'a [u8], course: &mut Course<'a>)
+        ensures value { course.new ≡ came_by (state_of self.now).bridges.settings.overlay original octets.now }
+        ensures there { IfOk course.new (λ x. IsSome (segment_at (state_of self.now).bridges.settings x.vid)) }
+        ensures short { IfOk course.new (λ x. length x.frame.body ≤ 65549) }
+        ensures reached { IfOk course.new (λ x. is_reached (state_of self.now).bridges.settings.overlay x.vid x.from ≡ true) }
+    {
+        come_by(self.state.under(), original, octets, course);
+    }
+
+    /// A frame or a packet came at a moment, in nanoseconds, to a segment or to none, as [`Endpoint::frame_from`] or
+    /// [`Endpoint::frame_in`] tells it of this endpoint. That is turned, where it lies, into where it goes, with the places in
+    /// a list that is written over, and empty where it is dropped. `now` isn't before `self.now()`.
+    #[inline]
+    pub fn take<'a>(&mut self, now: u64, course: &mut Course<'a>, places: &mut Outlets)
+        requires moment { (state_of self.old).moment ≤ now }
+        requires there { IfOk course.old (λ x. IsSome (segment_at (state_of self.old).bridges.settings x.vid)) }
+        requires short { IfOk course.old (λ x. length x.frame.body ≤ 65549) }
+        requires reached { IfOk course.old (λ x. is_reached (state_of self.old).bridges.settings.overlay x.vid x.from ≡ true) }
+        ensures answer { decision_of (state_of self.new).bridges.settings course.new places.new.items
+            ≡ decided now (aged now (state_of self.old).bridges) course.old }
+        ensures after { state_of self.new ≡ after_coming now course.old (state_of self.old) }
+        ensures there { IsThere (state_of self.new).bridges.settings course.new }
+        ensures short { IsShortFrame course.new }
+        ensures leave { CanLeave (state_of self.new).bridges.settings course.new places.new.items }
+        ensures empty { IsEmptied course.new places.new.items }
+        ensures came { IsOfWhatCame course.old course.new }
+    {
+        decide(&mut self.state, now, course, places);
+        self.counts.tally(&self.state, course, places.as_slice());
+        self.moment = now;
+    }
+
+    /// The frame that these octets at a local port would be, in its segment; or the first reason, of 1 to 11, why it would
+    /// come to none. The port is 1 to `ports()`.
+    pub fn frame_from<'a>(&self, port: u8, original: u32, octets: &'a [u8]) -> Course<'a>
+        requires low { 1 ≤ port }
+        requires high { port ≤ length (state_of self.now).bridges.settings.ports.ports }
+        ensures value { result ≡ came_at (state_of self.now).bridges.settings.ports port original octets.now }
+        ensures there { IfOk result (λ x. IsSome (segment_at (state_of self.now).bridges.settings x.vid)) }
+        ensures short { IfOk result (λ x. length x.frame.body ≤ 65549) }
+        ensures reached { IfOk result (λ x. is_reached (state_of self.now).bridges.settings.overlay x.vid x.from ≡ true) }
+    {
+        let mut course = nothing_came();
+        self.bring_frame(port, original, octets, &mut course);
+        course
+    }
+
+    /// The frame that an outer packet would bring, in its segment; or the first reason, of 1 to 3, 5, 6 and 12 to 34, why
+    /// it would bring none.
+    pub fn frame_in<'a>(&self, original: u32, octets: &'a [u8]) -> Course<'a>
+        ensures value { result ≡ came_by (state_of self.now).bridges.settings.overlay original octets.now }
+        ensures there { IfOk result (λ x. IsSome (segment_at (state_of self.now).bridges.settings x.vid)) }
+        ensures short { IfOk result (λ x. length x.frame.body ≤ 65549) }
+        ensures reached { IfOk result (λ x. is_reached (state_of self.now).bridges.settings.overlay x.vid x.from ≡ true) }
+    {
+        let mut course = nothing_came();
+        self.bring_packet(original, octets, &mut course);
+        course
+    }
+
+    /// A frame of this original length came in at a local port at a moment, in nanoseconds: where it goes, with the places
+    /// in a list that is written over, and empty where it is dropped. `now` isn't before `self.now()`, and the port is 1 to `ports()`.
+    pub fn take_frame<'a>(
+        &mut self,
+        now: u64,
+        port: u8,
+        original: u32,
+        octets: &'a [u8],
+        places: &mut Outlets,
+    ) -> Course<'a>
+        requires moment { (state_of self.old).moment ≤ now }
+        requires low { 1 ≤ port }
+        requires high { port ≤ length (state_of self.old).bridges.settings.ports.ports }
+        ensures answer { Decided (decision_of (state_of self.new).bridges.settings result places.new.items)
+            ≡ answer (state_of self.old) (frame_at now port original octets.now) }
+        ensures after { state_of self.new ≡ after (state_of self.old) (frame_at now port original octets.now) }
+        ensures there { IsThere (state_of self.new).bridges.settings result }
+        ensures short { IsShortFrame result }
+        ensures leave { CanLeave (state_of self.new).bridges.settings result places.new.items }
+        ensures empty { IsEmptied result places.new.items }
+        ensures came { let S = (state_of self.old).bridges.settings in
+            IsOfWhatCame (came_at S.ports port original octets.now) result }
+    {
+        let mut course = self.frame_from(port, original, octets);
+        self.take(now, &mut course, places);
+        course
+    }
+
+    /// A packet of this original length came in from the underlay at a moment, in nanoseconds: where its frame goes, with
+    /// the places in a list that is written over, and empty where it is dropped. `now` isn't before `self.now()`.
+    pub fn take_packet<'a>(
+        &mut self,
+        now: u64,
+        original: u32,
+        octets: &'a [u8],
+        places: &mut Outlets,
+    ) -> Course<'a>
+        requires { (state_of self.old).moment ≤ now }
+        ensures answer { Decided (decision_of (state_of self.new).bridges.settings result places.new.items)
+            ≡ answer (state_of self.old) (packet_at now original octets.now) }
+        ensures after { state_of self.new ≡ after (state_of self.old) (packet_at now original octets.now) }
+        ensures there { IsThere (state_of self.new).bridges.settings result }
+        ensures short { IsShortFrame result }
+        ensures leave { CanLeave (state_of self.new).bridges.settings result places.new.items }
+        ensures empty { IsEmptied result places.new.items }
+        ensures came { let S = (state_of self.old).bridges.settings in
+            IsOfWhatCame (came_by S.overlay original octets.now) result }
+    {
+        let mut course = self.frame_in(original, octets);
+        self.take(now, &mut course, places);
+        course
+    }
+}

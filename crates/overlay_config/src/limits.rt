@@ -1,0 +1,39 @@
+//! The table of the limits.
+ghost use Rattle.std.specs.Prelude.{◌≡◌, ◌≤◌, length, IfOk};
+ghost use Rattle.config_text.specs.Reader.{place_of};
+ghost use Rattle.overlay_config.specs.Limits.{limits_in, limits_of};
+
+use crate::version::Version;
+use config_text::{Reader, SettingsFault, U16Range};
+use underlay::Limits;
+
+const KEYS: [&str; 1] = ["segments"];
+
+/// The limits where nothing else is asked for, which versions before the third always have.
+const USUAL: Limits = Limits { segments: 256 };
+
+/// The most segments, one for each VID.
+const SEGMENTS: U16Range = U16Range { low: 1, high: 4094 };
+
+/// The table of the limits.
+#[tactic(auto, unfolding(crate::specs::Limits::limits_in))]
+fn read_table(at: &Reader) -> Result<Limits, SettingsFault>
+    ensures value { result ≡ limits_in (place_of at.now) }
+    ensures most { IfOk result (λ l. l.segments ≤ 4094) }
+{
+    at.only(&KEYS)?;
+    let segments = at.defaulted("segments", &SEGMENTS, USUAL.segments)?;
+    Ok(Limits { segments })
+}
+
+/// The limits in force, in settings of a version. Those before the third have no table of them.
+pub(crate) fn read_limits(version: Version, top: &Reader) -> Result<Limits, SettingsFault>
+    requires { length (place_of top.now).prefix ≤ 15 }
+    ensures value { result ≡ limits_of version (place_of top.now) }
+    ensures most { IfOk result (λ l. l.segments ≤ 4094) }
+{
+    match version {
+        Version::One | Version::Two => Ok(USUAL),
+        Version::Three => read_table(&top.subtable("limits")?),
+    }
+}

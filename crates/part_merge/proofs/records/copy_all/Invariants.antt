@@ -1,0 +1,23 @@
+use Rattle.std.proofs.Common.{◌≡◌, ◌++◌, ℕ, List, length}
+use Rattle.timeline.specs.declared.source.Tap.{Tap}
+use Rattle.part_merge.specs.Blame.{captures_health, sinks_health}
+use Rattle.part_merge.specs.Left.{AreLeft}
+use Rattle.part_merge.specs.Merged.{records_at}
+use Rattle.part_merge.specs.Moved.{AreRecords, taps}
+use Rattle.part_merge.proofs.CopiedRecords.{CopiedSoFar}
+use Rattle.part_merge.proofs.records.copy_all.Given as goal
+
+-- some of the records were copied, and the others are left
+abbrev pub invariant-loop-tap : goal.invariant-loop-tap
+invariant-loop-tap g l = record {
+  ports : length l.ports ≡ length l.initial.ports;
+  sinks : length l.port_sinks ≡ length l.ports;
+  copied : (records : List (Tap × List ℕ)) (rest : Tap → List ℕ) → l.initial.places ≡ taps records → AreRecords (length l.initial.ports) records
+      → AreLeft (λ t. records_at t records ++ rest t) l.initial.ports l.initial.underlay
+      → CopiedSoFar records rest l.places (length l.initial.ports) l.ports l.underlay l.initial.port_sinks l.initial.underlay_sink l.port_sinks l.underlay_sink;
+  reads : captures_health l.ports l.underlay ≡ captures_health l.initial.ports l.initial.underlay;
+  writes : sinks_health l.port_sinks l.underlay_sink ≡ sinks_health l.initial.port_sinks l.initial.underlay_sink;
+}
+
+abbrev pub decreases-loop-tap : goal.decreases-loop-tap
+decreases-loop-tap g l = length l.places

@@ -1,0 +1,77 @@
+//! What outputs hold back, handed on between events: the captures first and the lines behind them, so that no line leaves
+//! before the records of its event.
+//!
+//! Where the lines' block has no room for one line more, 4,096 octets, all blocks are handed on, the captures' first, as a run
+//! does (`stream_run`). So a merge that is killed, or a full disk, leaves no line without its records.
+ghost use Rattle.std.specs.Prelude.{ℕ, List};
+ghost use Rattle.std.specs.Io.KnownBytes.{Keeps};
+ghost use Rattle.pcap_stream.specs.Sink.{Drain};
+ghost use Rattle.part_merge.specs.Blame.{BlamesNoRead, WritesWith};
+ghost use Rattle.part_merge.specs.Left.{AreKept, UnlessDevice};
+
+use crate::fault::{MergeFault, Target};
+use pcap_stream::{Output, Sink};
+use timeline::Tap;
+
+/// How many octets a line of a part has at most.
+pub(crate) const LONGEST_LINE: usize = 4_096;
+
+/// How many ports a merge has at most.
+const MOST_PORTS: usize = 255;
+
+/// Hands on what the captures of the ports hold back, rising.
+fn hand_on_ports<W: Output>(port_sinks: &mut [Sink<W>]) -> Result<(), MergeFault>
+    ensures kept { UnlessDevice result ((underlay_sink : Drain) → AreKept port_sinks.old underlay_sink port_sinks.new underlay_sink) }
+    ensures no_read { BlamesNoRead result }
+    ensures writes { (underlay_sink : Drain) (failures : ℕ) → WritesWith port_sinks.old underlay_sink failures port_sinks.new underlay_sink failures result }
+{
+    for i in 0..port_sinks.len().min(MOST_PORTS) {
+        if let Err(_) = port_sinks[i].hand_on_held() {
+            return Err(MergeFault::Write(Target::Capture(Tap::Port(i as u8 + 1))));
+        }
+    }
+    Ok(())
+}
+
+/// Hands on what the capture of the underlay holds back.
+fn hand_on_underlay<W: Output>(underlay_sink: &mut Sink<W>) -> Result<(), MergeFault>
+    ensures kept { UnlessDevice result (Keeps underlay_sink.old.written underlay_sink.new.written) }
+    ensures no_read { BlamesNoRead result }
+    ensures writes { (sinks : List Drain) (failures : ℕ) → WritesWith sinks underlay_sink.old failures sinks underlay_sink.new failures result }
+{
+    match underlay_sink.hand_on_held() {
+        Ok(()) => Ok(()),
+        Err(_) => Err(MergeFault::Write(Target::Capture(Tap::Underlay))),
+    }
+}
+
+/// Hands on the lines that are held back.
+fn hand_on_lines<W: Output>(decisions: &mut W) -> Result<(), MergeFault>
+    ensures kept { UnlessDevice result (Keeps (W.written decisions.old) (W.written decisions.new)) }
+    ensures no_read { BlamesNoRead result }
+    ensures writes { (sinks : List Drain) (underlay_sink : Drain) → WritesWith sinks underlay_sink (W.failures decisions.old) sinks underlay_sink (W.failures decisions.new) result }
+{
+    match decisions.hand_on_held() {
+        Ok(()) => Ok(()),
+        Err(_) => Err(MergeFault::Write(Target::Decisions)),
+    }
+}
+
+/// Hands on what the outputs hold back: the captures of the ports, rising, that of the underlay, and then the lines.
+pub(crate) fn hand_on_all<W: Output>(
+    port_sinks: &mut [Sink<W>],
+    underlay_sink: &mut Sink<W>,
+    decisions: &mut W,
+) -> Result<(), MergeFault>
+    ensures kept { UnlessDevice result (AreKept port_sinks.old underlay_sink.old port_sinks.new underlay_sink.new × Keeps (W.written decisions.old) (W.written decisions.new)) }
+    ensures no_read { BlamesNoRead result }
+    ensures writes { WritesWith port_sinks.old underlay_sink.old (W.failures decisions.old) port_sinks.new underlay_sink.new (W.failures decisions.new) result }
+{
+    if let Err(fault) = hand_on_ports(port_sinks) {
+        return Err(fault);
+    }
+    if let Err(fault) = hand_on_underlay(underlay_sink) {
+        return Err(fault);
+    }
+    hand_on_lines(decisions)
+}

@@ -1,0 +1,216 @@
+//! A merge of parts.
+ghost use Rattle.std.specs.Prelude.{◌≡◌, ◌≤◌, ◌<◌, ℕ, List, OnErr, OnOk, length, slice_index_or};
+ghost use Rattle.std.specs.Io.KnownBytes.{Appends};
+ghost use Rattle.std.specs.List.{concat};
+ghost use Rattle.pcap_stream.specs.Sink.{Drain};
+ghost use Rattle.pcap_io.specs.Written.{written_header};
+ghost use Rattle.timeline.specs.declared.timeline.Cut.{Cut};
+ghost use Rattle.part_merge.specs.Blame.{BlamesNoRead, BlamesNoWrite, ReadsWith, WritesWith};
+ghost use Rattle.part_merge.specs.Coming.{OpenPart};
+ghost use Rattle.part_merge.specs.Left.{AreAdded, UnlessDevice};
+ghost use Rattle.part_merge.specs.Merged.{IsRising, Piece, merged, side_by_side, texts_of_pieces};
+ghost use Rattle.part_merge.specs.Numbered.{AddsCuts, AddsEvents, AddsLine, AddsNumbered, AreRead, HaveNoEvent};
+ghost use Rattle.part_merge.specs.Numbers.{UnlessMissing};
+ghost use Rattle.part_merge.specs.Whole.{Adds, AllHold, AllRise, AreParts, HaveAll, OnlyCuts, PutsAll, PutsAt, behind};
+
+use crate::fault::{MergeFault, PartFault, Target};
+use crate::first::find_first;
+use crate::hand_on::{LONGEST_LINE, hand_on_all};
+use crate::part::Part;
+use pcap_stream::{Input, Output, Sink};
+use timeline::Tap;
+
+/// Puts the outputs of the parts of a run together, to outputs of as many captures.
+///
+/// Decision lines come in order of their events' numbers, and behind them those of cut captures, part by part; records in
+/// the order that the lines tell. Where the parts hold the texts of a run's events, each event in one of them and numbered from
+/// 1 on, the outputs hold the texts of all these events then, unless a read or a write fails. Where numbers from 1 to the last
+/// are missing, the first of them is told. Everything else is a fault; what was written before it stands.
+///
+/// Whatever the parts hold: where it answers `Ok`, no line of theirs is left, and the lines that were written are those of
+/// events numbered 1, 2 and so on, each number once, and behind them those of cut captures.
+///
+/// Of parts that hold something else it notices what [`PartFault`] names: of a line its end, its number, its fields, its places
+/// and its length; numbers that fall or stand twice; lines of cut captures in front of an event's, or more than 256; another
+/// number of captures than the outputs; and of a capture what can't be read, fewer or more records than the lines tell, and one
+/// that isn't whole. A number that is missing in front of a greater one is [`MergeFault::Missing`]. Nothing else is noticed:
+/// neither other octets or another moment of a record, nor another word of a line, nor that a line stands in another part with
+/// its records, nor that the last events are missing, nor that a part is of another run.
+pub fn merge_streams<R: Input, W: Output>(
+    parts: &mut [Part<R>],
+    port_sinks: &mut [Sink<W>],
+    underlay_sink: &mut Sink<W>,
+    decisions: &mut W,
+) -> Result<(), MergeFault>
+    requires few { length port_sinks.old ≤ 255 }
+    ensures merged { (pieces : List (List Piece)) (cuts : List (List Cut)) → AreParts (length port_sinks.old) pieces cuts parts.old
+        → UnlessMissing result (merged pieces) (Adds (texts_of_pieces (length port_sinks.old) (merged pieces) (side_by_side cuts)) port_sinks.old underlay_sink.old (W.written decisions.old) port_sinks.new underlay_sink.new (W.written decisions.new)) }
+    ensures numbered { OnOk result (AddsNumbered (W.written decisions.old) (W.written decisions.new)) }
+    ensures read { OnOk result (AreRead parts.new) }
+    ensures reads { ReadsWith parts.old parts.new result }
+    ensures writes { WritesWith port_sinks.old underlay_sink.old (W.failures decisions.old) port_sinks.new underlay_sink.new (W.failures decisions.new) result }
+{
+    if let Err(fault) = see_counts(parts, port_sinks.len()) {
+        return Err(fault);
+    }
+    if let Err(fault) = begin_all(port_sinks, underlay_sink) {
+        return Err(fault);
+    }
+    if let Err(fault) = put_events(parts, port_sinks, underlay_sink, decisions) {
+        return Err(fault);
+    }
+    finish_all(parts, port_sinks.len(), decisions)
+}
+
+/// Sees that each part has as many captures as the outputs.
+fn see_counts<R: Input>(parts: &[Part<R>], count: usize) -> Result<(), MergeFault>
+    ensures all { OnOk result (HaveAll count parts.now) }
+    ensures other { OnErr result (HaveAll count parts.now → ⊥) }
+    ensures no_read { BlamesNoRead result }
+    ensures no_write { BlamesNoWrite result }
+{
+    for (index, part) in parts.iter().enumerate() {
+        if part.count() != count {
+            return Err(MergeFault::Part(index, PartFault::Ports));
+        }
+    }
+    Ok(())
+}
+
+/// Writes the headers of the captures, the ports' rising and then the underlay's.
+fn begin_all<W: Output>(
+    port_sinks: &mut [Sink<W>],
+    underlay_sink: &mut Sink<W>,
+) -> Result<(), MergeFault>
+    requires { length port_sinks.old ≤ 255 }
+    ensures begun { UnlessDevice result (AreAdded (λ tap. written_header) port_sinks.old underlay_sink.old port_sinks.new underlay_sink.new) }
+    ensures no_read { BlamesNoRead result }
+    ensures writes { (failures : ℕ) → WritesWith port_sinks.old underlay_sink.old failures port_sinks.new underlay_sink.new failures result }
+{
+    for i in 0..port_sinks.len() {
+        if let Err(_) = port_sinks[i].begin() {
+            return Err(MergeFault::Write(Target::Capture(Tap::Port(i as u8 + 1))));
+        }
+    }
+    match underlay_sink.begin() {
+        Ok(()) => Ok(()),
+        Err(_) => Err(MergeFault::Write(Target::Capture(Tap::Underlay))),
+    }
+}
+
+/// Puts the event that comes next in a part to the outputs.
+fn put_at<R: Input, W: Output>(
+    parts: &mut [Part<R>],
+    index: usize,
+    port_sinks: &mut [Sink<W>],
+    underlay_sink: &mut Sink<W>,
+    decisions: &mut W,
+) -> Result<(), MergeFault>
+    requires there { index < length parts.old }
+    requires count { (s : OpenPart) → length port_sinks.old ≡ length (slice_index_or parts.old index s).ports }
+    ensures put { (s : OpenPart) → PutsAt parts.old index s parts.new port_sinks.old underlay_sink.old (W.written decisions.old) port_sinks.new underlay_sink.new (W.written decisions.new) result }
+    ensures line { (s : OpenPart) → OnOk result (AddsLine (slice_index_or parts.old index s).coming (W.written decisions.old) (W.written decisions.new)) }
+    ensures reads { ReadsWith parts.old parts.new result }
+    ensures writes { WritesWith port_sinks.old underlay_sink.old (W.failures decisions.old) port_sinks.new underlay_sink.new (W.failures decisions.new) result }
+{
+    parts[index].put_event(index, port_sinks, underlay_sink, decisions)
+}
+
+/// Puts the event that comes next in a part to the outputs. Where the next line might find no room beside those that are held
+/// back, all that is held back is handed on.
+fn put_and_hand_on<R: Input, W: Output>(
+    parts: &mut [Part<R>],
+    index: usize,
+    port_sinks: &mut [Sink<W>],
+    underlay_sink: &mut Sink<W>,
+    decisions: &mut W,
+) -> Result<(), MergeFault>
+    requires there { index < length parts.old }
+    requires count { (s : OpenPart) → length port_sinks.old ≡ length (slice_index_or parts.old index s).ports }
+    ensures put { (s : OpenPart) → PutsAt parts.old index s parts.new port_sinks.old underlay_sink.old (W.written decisions.old) port_sinks.new underlay_sink.new (W.written decisions.new) result }
+    ensures line { (s : OpenPart) → OnOk result (AddsLine (slice_index_or parts.old index s).coming (W.written decisions.old) (W.written decisions.new)) }
+    ensures reads { ReadsWith parts.old parts.new result }
+    ensures writes { WritesWith port_sinks.old underlay_sink.old (W.failures decisions.old) port_sinks.new underlay_sink.new (W.failures decisions.new) result }
+{
+    if let Err(fault) = put_at(parts, index, port_sinks, underlay_sink, decisions) {
+        return Err(fault);
+    }
+    if decisions.must_hand_on(LONGEST_LINE) {
+        return hand_on_all(port_sinks, underlay_sink, decisions);
+    }
+    Ok(())
+}
+
+/// Puts the events of all parts to the outputs, in order of their numbers, of which none may be missing.
+fn put_events<R: Input, W: Output>(
+    parts: &mut [Part<R>],
+    port_sinks: &mut [Sink<W>],
+    underlay_sink: &mut Sink<W>,
+    decisions: &mut W,
+) -> Result<(), MergeFault>
+    requires { HaveAll (length port_sinks.old) parts.old }
+    ensures counts { HaveAll (length port_sinks.old) parts.new }
+    ensures events { (pieces : List (List Piece)) (cuts : List (List (List ℕ))) → AllHold (length port_sinks.old) pieces cuts parts.old → AllRise pieces → IsRising 0 (merged pieces)
+        → UnlessMissing result (merged pieces) (PutsAll (length port_sinks.old) (merged pieces) cuts parts.new port_sinks.old underlay_sink.old (W.written decisions.old) port_sinks.new underlay_sink.new (W.written decisions.new)) }
+    ensures numbered { OnOk result ((count : ℕ) × AddsEvents count (W.written decisions.old) (W.written decisions.new)) }
+    ensures over { OnOk result (HaveNoEvent parts.new) }
+    ensures reads { ReadsWith parts.old parts.new result }
+    ensures writes { WritesWith port_sinks.old underlay_sink.old (W.failures decisions.old) port_sinks.new underlay_sink.new (W.failures decisions.new) result }
+{
+    let mut last = 0;
+    while let Some(first) = find_first(parts) {
+        if first.number <= last {
+            return Err(behind(last, first.index, first.number));
+        }
+        let next = last + 1;
+        if first.number > next {
+            return Err(MergeFault::Missing(next));
+        }
+        if let Err(fault) = put_and_hand_on(
+            parts,
+            first.index,
+            port_sinks,
+            underlay_sink,
+            decisions,
+        ) {
+            return Err(fault);
+        }
+        last = first.number;
+    }
+    Ok(())
+}
+
+/// What is wrong with a part whose event of this number comes behind one that is no smaller.
+fn behind(last: u64, part: usize, number: u64) -> MergeFault
+    requires { number ≤ last }
+    ensures { result ≡ behind last part number }
+{
+    if number == last && number > 0 {
+        MergeFault::Part(part, PartFault::Doubled(number))
+    } else {
+        MergeFault::Part(part, PartFault::Falls(number))
+    }
+}
+
+/// Puts the lines of the cut captures of all parts to the decisions, part by part, and sees that nothing is left in any
+/// capture.
+fn finish_all<R: Input, W: Output>(
+    parts: &mut [Part<R>],
+    count: usize,
+    decisions: &mut W,
+) -> Result<(), MergeFault>
+    requires few { count ≤ 255 }
+    requires counts { HaveAll count parts.old }
+    ensures cuts { (cuts : List (List (List ℕ))) → OnlyCuts count cuts parts.old → UnlessDevice result (Appends (W.written decisions.old) (W.written decisions.new) (concat (side_by_side cuts))) }
+    ensures put { OnOk result (AddsCuts (W.written decisions.old) (W.written decisions.new)) }
+    ensures over { OnOk result (HaveNoEvent parts.old → AreRead parts.new) }
+    ensures reads { ReadsWith parts.old parts.new result }
+    ensures writes { (sinks : List Drain) (underlay_sink : Drain) → WritesWith sinks underlay_sink (W.failures decisions.old) sinks underlay_sink (W.failures decisions.new) result }
+{
+    for index in 0..parts.len() {
+        if let Err(fault) = parts[index].finish(index, decisions) {
+            return Err(fault);
+        }
+    }
+    Ok(())
+}

@@ -1,0 +1,371 @@
+//! A part of a run: its decision lines and its captures.
+ghost use Rattle.std.specs.Prelude.{◌≡◌, ◌≤◌, ◌++◌, ℕ, List, [], ◌∷◌, IfOk, IfSome, Ok, OnOk, length, true};
+ghost use Rattle.std.specs.Io.KnownBytes.{Appends};
+ghost use Rattle.std.specs.List.{concat};
+ghost use Rattle.pcap_stream.specs.Sink.{Drain};
+ghost use Rattle.part_lines.specs.Facts.{facts_of};
+ghost use Rattle.part_lines.specs.declared.facts.LineFacts.TheVariants.{Event};
+ghost use Rattle.timeline.specs.declared.source.Tap.{Tap as ATap};
+ghost use Rattle.part_merge.specs.Blame.{BlamesNoRead, BlamesNoWrite, CapturesRead, LinesRead, PartOpens, PartReads, WritesWith};
+ghost use Rattle.part_merge.specs.Coming.{ComesNext, Holds, HoldsAll, StandBehind, UnlessPart, coming_in, is_cut, is_over, stopped_by};
+ghost use Rattle.part_merge.specs.Left.{AreAdded, AreLeft, UnlessDevice};
+ghost use Rattle.part_merge.specs.Merged.{Piece, records_at};
+ghost use Rattle.part_merge.specs.Moved.{AreRecords, Moves, taps};
+ghost use Rattle.part_merge.specs.Firsts.{IsNone};
+ghost use Rattle.part_merge.specs.Numbered.{AddsCuts, AddsLine, IsOf};
+ghost use Rattle.part_merge.specs.Told.{IsPlaced, coming_told};
+ghost use Rattle.part_merge.specs.declared.part.Coming.TheVariants.{Nothing};
+
+use crate::capture::Capture;
+use crate::fault::{MergeFault, PartFault, Target};
+use crate::records::{copy_all, end_captures};
+use line_stream::{Lines, LinesFault};
+use part_lines::{LineFacts, LineParts, Places, find_parts, read_line};
+use pcap_stream::{Input, Output, Sink};
+use std::marker::Model;
+
+/// The lines of cut captures that a part has at most: one for each capture, of 255 ports and the underlay.
+const MOST_CUTS: usize = 256;
+
+/// What a part's next line is of.
+#[derive(Clone, Copy, Debug, PartialEq, Eq)]
+pub enum Coming {
+    /// The event of this number.
+    Event(u64),
+    /// A cut capture.
+    Cut,
+    /// There is none.
+    Nothing,
+}
+
+/// A part of a run: its next decision line and the lines behind it, and its captures. Contracts see them all.
+#[derive(Drop)]
+pub struct Part<R: Input> {
+    lines: Lines<R>,
+    /// Those of the ports, that of port 1 first.
+    ports: Vec<Capture<R>>,
+    underlay: Capture<R>,
+    coming: Coming,
+    /// Where the result of the next line begins; none where it isn't an event's, and behind a fault.
+    begins: Option<usize>,
+}
+
+impl<R: Input> Model for Part<R> {
+    ghost use Rattle.std.specs.Prelude.{IfSome};
+    ghost use Rattle.part_merge.specs.Coming.{OpenPart};
+    ghost use Rattle.part_merge.specs.Numbered.{IsOf};
+    ghost use Rattle.part_merge.specs.Told.{IsPlaced};
+
+    ghost Value = { OpenPart };
+
+    ghost view = { λ p. record { reader = p.lines; ports = p.ports.items; underlay = p.underlay; coming = p.coming } };
+
+    ghost invariant = { λ p. IfSome p.begins (IsPlaced p.lines.line) × IsOf p.coming p.lines.line };
+}
+
+/// What a part keeps of its next line.
+#[derive(Clone, Copy)]
+struct Told {
+    coming: Coming,
+    /// Where the line's result begins, if it is of an event.
+    begins: Option<usize>,
+}
+
+/// What a line is of, where it is the line of a part or nothing behind its last. `was_cut`: the line before it was of a cut
+/// capture.
+fn coming_of(part: usize, was_cut: bool, line: &[u8]) -> Result<Told, MergeFault>
+    ensures coming { coming_told result ≡ coming_in part was_cut line.now }
+    ensures placed { IfOk result (λ told. IfSome told.begins (IsPlaced line.now)) }
+    ensures no_read { BlamesNoRead result }
+    ensures no_write { BlamesNoWrite result }
+{
+    if line.is_empty() {
+        return Ok(Told {
+            coming: Coming::Nothing,
+            begins: None,
+        });
+    }
+    match find_parts(line) {
+        Ok(LineParts::Event(number, at)) => {
+            if was_cut {
+                Err(MergeFault::Part(part, PartFault::Late))
+            } else {
+                Ok(Told {
+                    coming: Coming::Event(number),
+                    begins: Some(at),
+                })
+            }
+        }
+        Ok(LineParts::Cut) => Ok(Told {
+            coming: Coming::Cut,
+            begins: None,
+        }),
+        Err(fault) => Err(MergeFault::Part(part, PartFault::Line(fault))),
+    }
+}
+
+/// Whether a line is of a cut capture.
+fn is_cut(coming: Coming) -> bool
+    ensures { result ≡ is_cut coming }
+{
+    match coming {
+        Coming::Cut => true,
+        _ => false,
+    }
+}
+
+/// Whether no line of a cut capture comes.
+fn is_over(coming: Coming) -> bool
+    ensures { result ≡ is_over coming }
+{
+    match coming {
+        Coming::Cut => false,
+        _ => true,
+    }
+}
+
+/// Why a merge stops where a part's line isn't lent.
+fn stopped_by(part: usize, fault: LinesFault) -> MergeFault
+    ensures { result ≡ stopped_by part fault }
+{
+    match fault {
+        LinesFault::Read => MergeFault::Read(part),
+        LinesFault::TooLong => MergeFault::Part(part, PartFault::LongLine),
+    }
+}
+
+/// Copies the records that the line of an event tells. Where its result is known to begin somewhere it isn't read again.
+fn copy_event<R: Input, W: Output>(
+    part: usize,
+    line: &[u8],
+    begins: Option<usize>,
+    ports: &mut [Capture<R>],
+    underlay: &mut Capture<R>,
+    port_sinks: &mut [Sink<W>],
+    underlay_sink: &mut Sink<W>,
+) -> Result<(), MergeFault>
+    requires placed { IfSome begins (IsPlaced line.now) }
+    requires count { length port_sinks.old ≡ length ports.old }
+    ensures copied { (number : ℕ) (records : List (ATap × List ℕ)) (rest : ATap → List ℕ) → facts_of line.now ≡ Ok (Event number (taps records)) → AreRecords (length ports.old) records
+        → AreLeft (λ t. records_at t records ++ rest t) ports.old underlay.old
+        → Moves rest (λ t. records_at t records) ports.new underlay.new port_sinks.old underlay_sink.old port_sinks.new underlay_sink.new result }
+    ensures reads { CapturesRead part ports.old underlay.old ports.new underlay.new result }
+    ensures writes { (failures : ℕ) → WritesWith port_sinks.old underlay_sink.old failures port_sinks.new underlay_sink.new failures result }
+{
+    if let Some(at) = begins {
+        let places = Places::behind(line, at);
+        return copy_all(part, places, ports, underlay, port_sinks, underlay_sink);
+    }
+    match read_line(line) {
+        Ok(LineFacts::Event(_, places)) => {
+            copy_all(part, places, ports, underlay, port_sinks, underlay_sink)
+        }
+        Ok(LineFacts::Cut) => Ok(()),
+        Err(fault) => Err(MergeFault::Part(part, PartFault::Line(fault))),
+    }
+}
+
+/// Puts a line to the decisions.
+fn put_line<W: Output>(decisions: &mut W, line: &[u8]) -> Result<(), MergeFault>
+    ensures put { UnlessDevice result (Appends (W.written decisions.old) (W.written decisions.new) line.now) }
+    ensures no_read { BlamesNoRead result }
+    ensures writes { (sinks : List Drain) (underlay_sink : Drain) → WritesWith sinks underlay_sink (W.failures decisions.old) sinks underlay_sink (W.failures decisions.new) result }
+{
+    match decisions.write_all(line) {
+        Ok(()) => Ok(()),
+        Err(_) => Err(MergeFault::Write(Target::Decisions)),
+    }
+}
+
+impl<R: Input> Part<R> {
+    /// A part with these decision lines, of which none was read, and these captures. It reads the first line, and nothing
+    /// else; of its faults `part` is the number. Lines that aren't read are handed back, as they stand then.
+    pub fn open(
+        part: usize,
+        lines: Lines<R>,
+        ports: Vec<Capture<R>>,
+        underlay: Capture<R>,
+    ) -> Result<Part<R>, (MergeFault, Lines<R>)>
+    where
+        R: Drop,
+        ensures opened { (count : ℕ) (pieces : List Piece) (cuts : List (List ℕ)) → HoldsAll count pieces cuts lines ports.items underlay → UnlessPart result (Holds count pieces cuts) }
+        ensures reads { PartOpens part lines ports.items underlay result }
+    {
+        let coming = Coming::Nothing;
+        let mut opened = Part {
+            lines,
+            ports,
+            underlay,
+            coming,
+            begins: None,
+        };
+        match opened.next(part) {
+            Ok(()) => Ok(opened),
+            Err(fault) => Err((fault, opened.lines)),
+        }
+    }
+
+    /// How many captures of ports it has.
+    pub(crate) fn count(&self) -> usize
+        ensures { result ≡ length self.now.ports }
+    {
+        self.ports.len()
+    }
+
+    /// What the next line is of.
+    pub(crate) fn coming(&self) -> Coming
+        ensures { result ≡ self.now.coming }
+    {
+        self.coming
+    }
+
+    /// The next line.
+    fn line(&self) -> &[u8]
+        ensures line { result.now ≡ self.now.reader.line }
+        ensures is_of { IsOf self.now.coming self.now.reader.line }
+    {
+        self.lines.line()
+    }
+
+    /// Goes on to the next line. Where it can't be read, none comes.
+    fn next(&mut self, part: usize) -> Result<(), MergeFault>
+        ensures ports { self.new.ports ≡ self.old.ports }
+        ensures underlay { self.new.underlay ≡ self.old.underlay }
+        ensures next { (count : ℕ) (pieces : List Piece) (cuts : List (List ℕ)) → StandBehind count pieces cuts self.old → UnlessDevice result (ComesNext pieces cuts self.new) }
+        ensures behind_cut { OnOk result (is_cut self.old.coming ≡ true → IsNone self.new.coming) }
+        ensures reads { LinesRead part self.old.reader self.new.reader result }
+        ensures no_write { BlamesNoWrite result }
+    {
+        let was_cut = is_cut(self.coming);
+        self.coming = Coming::Nothing;
+        self.begins = None;
+        if let Err(fault) = self.lines.fetch() {
+            return Err(stopped_by(part, fault));
+        }
+        match coming_of(part, was_cut, self.lines.line()) {
+            Ok(told) => {
+                self.coming = told.coming;
+                self.begins = told.begins;
+                Ok(())
+            }
+            Err(fault) => Err(fault),
+        }
+    }
+
+    /// Copies the records that the next line tells.
+    fn copy_records<W: Output>(
+        &mut self,
+        part: usize,
+        port_sinks: &mut [Sink<W>],
+        underlay_sink: &mut Sink<W>,
+    ) -> Result<(), MergeFault>
+        requires { length port_sinks.old ≡ length self.old.ports }
+        ensures reader { self.new.reader ≡ self.old.reader }
+        ensures coming { self.new.coming ≡ self.old.coming }
+        ensures ports { length self.new.ports ≡ length self.old.ports }
+        ensures copied { (number : ℕ) (records : List (ATap × List ℕ)) (rest : ATap → List ℕ) → facts_of self.old.reader.line ≡ Ok (Event number (taps records)) → AreRecords (length self.old.ports) records
+            → AreLeft (λ t. records_at t records ++ rest t) self.old.ports self.old.underlay
+            → Moves rest (λ t. records_at t records) self.new.ports self.new.underlay port_sinks.old underlay_sink.old port_sinks.new underlay_sink.new result }
+        ensures reads { PartReads part self.old self.new result }
+        ensures writes { (failures : ℕ) → WritesWith port_sinks.old underlay_sink.old failures port_sinks.new underlay_sink.new failures result }
+    {
+        copy_event(
+            part,
+            self.lines.line(),
+            self.begins,
+            self.ports.as_mut_slice(),
+            &mut self.underlay,
+            port_sinks,
+            underlay_sink,
+        )
+    }
+
+    /// Puts the records and the line of the event that comes next to the outputs, and goes on to the next line.
+    pub(crate) fn put_event<W: Output>(
+        &mut self,
+        part: usize,
+        port_sinks: &mut [Sink<W>],
+        underlay_sink: &mut Sink<W>,
+        decisions: &mut W,
+    ) -> Result<(), MergeFault>
+        requires { length port_sinks.old ≡ length self.old.ports }
+        ensures ports { length self.new.ports ≡ length self.old.ports }
+        ensures event { (count : ℕ) (p : Piece) (ps : List Piece) (cuts : List (List ℕ)) → Holds count (p ∷ ps) cuts self.old
+            → UnlessDevice result (Holds count ps cuts self.new × AreAdded (λ t. records_at t p.records) port_sinks.old underlay_sink.old port_sinks.new underlay_sink.new × Appends (W.written decisions.old) (W.written decisions.new) p.line) }
+        ensures put { OnOk result (AddsLine self.old.coming (W.written decisions.old) (W.written decisions.new)) }
+        ensures reads { PartReads part self.old self.new result }
+        ensures writes { WritesWith port_sinks.old underlay_sink.old (W.failures decisions.old) port_sinks.new underlay_sink.new (W.failures decisions.new) result }
+    {
+        if let Err(fault) = self.copy_records(part, port_sinks, underlay_sink) {
+            return Err(fault);
+        }
+        self.put_next_line(part, decisions)
+    }
+
+    /// Puts the next line to the decisions, and goes on to the one behind it.
+    fn put_next_line<W: Output>(&mut self, part: usize, decisions: &mut W) -> Result<(), MergeFault>
+        ensures ports { self.new.ports ≡ self.old.ports }
+        ensures underlay { self.new.underlay ≡ self.old.underlay }
+        ensures line { (count : ℕ) (pieces : List Piece) (cuts : List (List ℕ)) → StandBehind count pieces cuts self.old
+            → UnlessDevice result (ComesNext pieces cuts self.new × Appends (W.written decisions.old) (W.written decisions.new) self.old.reader.line) }
+        ensures put { OnOk result (AddsLine self.old.coming (W.written decisions.old) (W.written decisions.new)) }
+        ensures behind_cut { OnOk result (is_cut self.old.coming ≡ true → IsNone self.new.coming) }
+        ensures reads { PartReads part self.old self.new result }
+        ensures writes { (sinks : List Drain) (underlay_sink : Drain) → WritesWith sinks underlay_sink (W.failures decisions.old) sinks underlay_sink (W.failures decisions.new) result }
+    {
+        if let Err(fault) = put_line(decisions, self.line()) {
+            return Err(fault);
+        }
+        self.next(part)
+    }
+
+    /// Puts the lines of the cut captures that come next to the decisions.
+    fn put_cuts<W: Output>(&mut self, part: usize, decisions: &mut W) -> Result<(), MergeFault>
+        ensures ports { length self.new.ports ≡ length self.old.ports }
+        ensures cuts { (count : ℕ) (cuts : List (List ℕ)) → Holds count [] cuts self.old → UnlessDevice result (Holds count [] [] self.new × Appends (W.written decisions.old) (W.written decisions.new) (concat cuts)) }
+        ensures put { OnOk result (AddsCuts (W.written decisions.old) (W.written decisions.new)) }
+        ensures over { OnOk result (IsNone self.old.coming → self.new.coming ≡ Nothing) }
+        ensures reads { PartReads part self.old self.new result }
+        ensures writes { (sinks : List Drain) (underlay_sink : Drain) → WritesWith sinks underlay_sink (W.failures decisions.old) sinks underlay_sink (W.failures decisions.new) result }
+    {
+        for _count in 0..MOST_CUTS + 1 {
+            if is_over(self.coming()) {
+                return Ok(());
+            }
+            if let Err(fault) = self.put_next_line(part, decisions) {
+                return Err(fault);
+            }
+        }
+        Err(MergeFault::Part(part, PartFault::Cuts))
+    }
+
+    /// Puts the lines of its cut captures to the decisions, and sees that nothing is left in its captures.
+    pub(crate) fn finish<W: Output>(
+        &mut self,
+        part: usize,
+        decisions: &mut W,
+    ) -> Result<(), MergeFault>
+        requires { length self.old.ports ≤ 255 }
+        ensures cuts { (count : ℕ) (cuts : List (List ℕ)) → Holds count [] cuts self.old → UnlessDevice result (Appends (W.written decisions.old) (W.written decisions.new) (concat cuts)) }
+        ensures put { OnOk result (AddsCuts (W.written decisions.old) (W.written decisions.new)) }
+        ensures over { OnOk result (IsNone self.old.coming → self.new.coming ≡ Nothing) }
+        ensures reads { PartReads part self.old self.new result }
+        ensures writes { (sinks : List Drain) (underlay_sink : Drain) → WritesWith sinks underlay_sink (W.failures decisions.old) sinks underlay_sink (W.failures decisions.new) result }
+    {
+        if let Err(fault) = self.put_cuts(part, decisions) {
+            return Err(fault);
+        }
+        self.end(part)
+    }
+
+    /// Sees that nothing is left in the captures.
+    fn end(&mut self, part: usize) -> Result<(), MergeFault>
+        requires { length self.old.ports ≤ 255 }
+        ensures coming { self.new.coming ≡ self.old.coming }
+        ensures ended { (count : ℕ) → Holds count [] [] self.old → UnlessDevice result (Unit {0}) }
+        ensures reads { PartReads part self.old self.new result }
+        ensures no_write { BlamesNoWrite result }
+    {
+        end_captures(part, self.ports.as_mut_slice(), &mut self.underlay)
+    }
+}

@@ -1,0 +1,139 @@
+//! The records of one event.
+ghost use Rattle.std.specs.Prelude.{◌≡◌, ◌≤◌, ◌++◌, ℕ, List, [], length};
+ghost use Rattle.pcap_stream.specs.Sink.{Drain};
+ghost use Rattle.pcap_stream.specs.Source.{Stream};
+ghost use Rattle.timeline.specs.declared.source.Tap.{Tap as ATap};
+ghost use Rattle.timeline.specs.declared.source.Tap.TheVariants.{Port};
+ghost use Rattle.part_merge.specs.Blame.{BlamesNoWrite, CapturesRead, SinkWrites, SourceReads, WritesWith};
+ghost use Rattle.part_merge.specs.Left.{AreAdded, AreLeft, IsAdded, IsLeft, IsTap, IsWritten, UnlessDevice};
+ghost use Rattle.part_merge.specs.Moved.{AreRecords, Moves, taps};
+ghost use Rattle.part_merge.specs.Merged.{at_tap, records_at};
+
+use crate::capture::{Capture, Stop};
+use crate::fault::{MergeFault, PartFault, Target};
+use part_lines::Places;
+use pcap_stream::{Input, Output, Sink};
+use timeline::Tap;
+
+/// Why a merge stops where a record of a capture of a part isn't copied.
+pub(crate) fn stopped_at(part: usize, tap: Tap, stop: Stop) -> MergeFault
+    ensures { result ≡ Rattle.part_merge.specs.Moved.stopped_at part tap stop }
+{
+    match stop {
+        Stop::Read => MergeFault::Read(part),
+        Stop::Write => MergeFault::Write(Target::Capture(tap)),
+        Stop::Wrong(fault) => MergeFault::Part(part, PartFault::Capture(tap, fault)),
+    }
+}
+
+/// Copies the next record of a capture of a part.
+fn copy_record<R: Input, W: Output>(
+    part: usize,
+    tap: Tap,
+    capture: &mut Capture<R>,
+    sink: &mut Sink<W>,
+) -> Result<(), MergeFault>
+    ensures copied { (text rest : List ℕ) → IsWritten text → IsLeft (text ++ rest) capture.old → UnlessDevice result (IsLeft rest capture.new × IsAdded text sink.old sink.new) }
+    ensures reads { SourceReads part capture.old capture.new result }
+    ensures writes { SinkWrites tap sink.old sink.new result }
+{
+    match capture.copy(sink) {
+        Ok(()) => Ok(()),
+        Err(stop) => Err(stopped_at(part, tap, stop)),
+    }
+}
+
+/// Copies the next record of the capture of a port of a part, where there is one of this number.
+fn copy_port<R: Input, W: Output>(
+    part: usize,
+    port: u8,
+    ports: &mut [Capture<R>],
+    port_sinks: &mut [Sink<W>],
+) -> Result<(), MergeFault>
+    requires { length port_sinks.old ≡ length ports.old }
+    ensures copied { (text : List ℕ) (rest : ATap → List ℕ) (underlay : Stream) (underlay_sink : Drain) → IsTap (length ports.old) (Port port) → IsWritten text
+        → AreLeft (λ t. at_tap t (Port port) text ++ rest t) ports.old underlay
+        → Moves rest (λ t. at_tap t (Port port) text) ports.new underlay port_sinks.old underlay_sink port_sinks.new underlay_sink result }
+    ensures reads { (underlay : Stream) → CapturesRead part ports.old underlay ports.new underlay result }
+    ensures writes { (underlay_sink : Drain) (failures : ℕ) → WritesWith port_sinks.old underlay_sink failures port_sinks.new underlay_sink failures result }
+{
+    let index = usize::from(port);
+    if index == 0 || index > ports.len() {
+        return Err(MergeFault::Part(part, PartFault::NoCapture(Tap::Port(port))));
+    }
+    copy_record(
+        part,
+        Tap::Port(port),
+        &mut ports[index - 1],
+        &mut port_sinks[index - 1],
+    )
+}
+
+/// Copies the next record of a part's capture into that of the outputs.
+fn copy_at<R: Input, W: Output>(
+    part: usize,
+    tap: Tap,
+    ports: &mut [Capture<R>],
+    underlay: &mut Capture<R>,
+    port_sinks: &mut [Sink<W>],
+    underlay_sink: &mut Sink<W>,
+) -> Result<(), MergeFault>
+    requires { length port_sinks.old ≡ length ports.old }
+    ensures copied { (text : List ℕ) (rest : ATap → List ℕ) → IsTap (length ports.old) tap → IsWritten text
+        → AreLeft (λ t. at_tap t tap text ++ rest t) ports.old underlay.old
+        → Moves rest (λ t. at_tap t tap text) ports.new underlay.new port_sinks.old underlay_sink.old port_sinks.new underlay_sink.new result }
+    ensures reads { CapturesRead part ports.old underlay.old ports.new underlay.new result }
+    ensures writes { (failures : ℕ) → WritesWith port_sinks.old underlay_sink.old failures port_sinks.new underlay_sink.new failures result }
+{
+    match tap {
+        Tap::Port(port) => copy_port(part, port, ports, port_sinks),
+        Tap::Underlay => copy_record(part, tap, underlay, underlay_sink),
+    }
+}
+
+/// Copies the next record of each of some places, in order.
+pub(crate) fn copy_all<R: Input, W: Output>(
+    part: usize,
+    places: Places<'_>,
+    ports: &mut [Capture<R>],
+    underlay: &mut Capture<R>,
+    port_sinks: &mut [Sink<W>],
+    underlay_sink: &mut Sink<W>,
+) -> Result<(), MergeFault>
+    requires { length port_sinks.old ≡ length ports.old }
+    ensures copied { (records : List (ATap × List ℕ)) (rest : ATap → List ℕ) → places.entry ≡ taps records → AreRecords (length ports.old) records
+        → AreLeft (λ t. records_at t records ++ rest t) ports.old underlay.old
+        → Moves rest (λ t. records_at t records) ports.new underlay.new port_sinks.old underlay_sink.old port_sinks.new underlay_sink.new result }
+    ensures reads { CapturesRead part ports.old underlay.old ports.new underlay.new result }
+    ensures writes { (failures : ℕ) → WritesWith port_sinks.old underlay_sink.old failures port_sinks.new underlay_sink.new failures result }
+{
+    let mut places = places;
+    while let Some(tap) = places.next_place() {
+        if let Err(fault) = copy_at(part, tap, ports, underlay, port_sinks, underlay_sink) {
+            return Err(fault);
+        }
+    }
+    Ok(())
+}
+
+/// Sees that nothing is left in the captures of a part.
+pub(crate) fn end_captures<R: Input>(
+    part: usize,
+    ports: &mut [Capture<R>],
+    underlay: &mut Capture<R>,
+) -> Result<(), MergeFault>
+    requires { length ports.old ≤ 255 }
+    ensures ended { AreLeft (λ t. []) ports.old underlay.old → UnlessDevice result (Unit {0}) }
+    ensures reads { CapturesRead part ports.old underlay.old ports.new underlay.new result }
+    ensures no_write { BlamesNoWrite result }
+{
+    for i in 0..ports.len() {
+        if let Err(stop) = ports[i].end() {
+            return Err(stopped_at(part, Tap::Port(i as u8 + 1), stop));
+        }
+    }
+    match underlay.end() {
+        Ok(()) => Ok(()),
+        Err(stop) => Err(stopped_at(part, Tap::Underlay, stop)),
+    }
+}

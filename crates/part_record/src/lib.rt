@@ -1,0 +1,54 @@
+//! What a part of a run was made from, as the small text `shard.txt` tells it.
+//!
+//! Use first: a [`PartRecord`] has the part's segments, the SHA-256 (FIPS 180-4) of the settings, of the changes and of each
+//! capture, and how many events the part tells; [`OutputFacts`] have what is told of each of its outputs. [`text_of`] writes
+//! both, one fact a line, and [`record_of`] reads them back, and nothing else. [`same_run`] says whether two parts are of one
+//! run, and [`part_all`] whether parts are all of it. [`CaptureDigests`] are taken once and lent to each part, by
+//! [`digests_text`] and [`digests_of`], and [`see_octets`] says whether they may be those of captures with so many octets.
+//!
+//! On the way of octets: [`DigestInput`] takes a capture's digest and the number of its octets, and [`CountInput`] that number
+//! alone. [`SumOutput`] sums what it hands on, [`SumInput`] fails at an end with other sums than were told, and
+//! [`RecordCounts`] are counts by place.
+//!
+//! Specs to read, in order: `specs/Record`, `specs/Outputs`, `specs/Fault`, `specs/Same`, `specs/Parting`, `specs/Digests`,
+//! `specs/Lent`, `specs/Sum`, `specs/Counts`.
+//!
+//! Proved: a text is read as a record just where it is that record's text, and else a fault is told that stands there; as
+//! digests just where it is theirs, and else the first line at which it is none. Each input and output on the way hands on what
+//! it gets, and its digest, number or sums are those of these octets. `same_run` answers Ok just where all facts but the
+//! segments and the part's own events are the same, `part_all` where each VID and `none` are in exactly one part, `see_octets`
+//! where captures have as many octets as told; and else the first that isn't so.
+#![tactic(auto)]
+
+mod count_input;
+mod digest_input;
+mod digest_lines;
+mod digests;
+mod facts;
+mod fault;
+pub mod laws;
+mod lent;
+mod outputs;
+mod parting;
+mod read;
+mod record_counts;
+mod same;
+mod steps;
+mod sum_input;
+mod sum_output;
+mod write;
+
+pub use count_input::CountInput;
+pub use digest_input::DigestInput;
+pub use digests::{CaptureDigest, CaptureDigests, DigestsFault, digests_of, digests_text};
+pub use facts::{MOST_PORTS, PartRecord};
+pub use fault::PartRecordFault;
+pub use lent::{LentFault, see_octets};
+pub use outputs::{MOST_OUTPUTS, OutputFacts, ToldOutputs};
+pub use parting::{PartingFault, part_all};
+pub use read::record_of;
+pub use record_counts::RecordCounts;
+pub use same::{Difference, same_run};
+pub use sum_input::SumInput;
+pub use sum_output::SumOutput;
+pub use write::text_of;

@@ -1,0 +1,13 @@
+pub mod Cells
+pub mod Folds
+pub mod LineLemmas
+pub mod Lines
+pub mod Numbers
+pub mod Reading
+pub mod RowLemmas
+pub mod SegmentLemmas
+pub mod Telling
+pub mod Tests
+pub mod Together
+pub mod Whole
+pub mod Words

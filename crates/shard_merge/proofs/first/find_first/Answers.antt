@@ -1,9 +1,0 @@
-use Rattle.std.proofs.Common.{◌∙◌, ap, sym}
-use Rattle.std.proofs.lemmas.List.{get_or_default}
-use Rattle.shard_merge.specs.Coming.{Shard}
-use Rattle.shard_merge.proofs.first.find_first.Goals as goal
-
-pub loop-index-preserved : goal.loop-index-preserved
-loop-index-preserved g c =
-    c.earlier-first.ensures c.args.parts.now c.loop-index.invariant
-    (λ s. ap (λ (x : Shard). x.coming) (get_or_default c.args.parts.now c.loop-index.index s c.index-parts-index.result c.loop-index-test.true ∙ sym c.index-parts-index.is) ∙ sym c.coming.ensures)

@@ -1,6 +1,0 @@
-use Rattle.std.proofs.Common.{◌≡◌, ◌<◌, ℕ, length, slice_index_or}
-use Rattle.shard_merge.specs.Coming.{Shard}
-use Rattle.shard_merge.proofs.merge.see_counts.Given as goal
-
-abbrev pub invariant-loop-index : goal.invariant-loop-index
-invariant-loop-index g l = (s : Shard) (k : ℕ) → k < l.index → length (slice_index_or l.parts k s).ports ≡ l.count

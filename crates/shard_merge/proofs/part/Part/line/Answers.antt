@@ -1,7 +1,0 @@
-use Rattle.std.proofs.Common.{subst}
-use Rattle.shard_merge.specs.Coming.{Shard}
-use Rattle.shard_merge.specs.Numbered.{IsOf}
-use Rattle.shard_merge.proofs.part.Part.line.Goals as goal
-
-pub returns-clause-is_of : goal.returns-clause-is_of
-returns-clause-is_of g c = subst (λ (s : Shard). IsOf s.coming s.reader.line) c.self.view_is c.self.invariant.1

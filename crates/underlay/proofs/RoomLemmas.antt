@@ -1,0 +1,16 @@
+-- Room that stays, for as many segments as the limits say.
+use Rattle.std.proofs.Common.{◌≡◌, ◌≤◌, ◌<◌, ℕ, ap, ◌∙◌, arith}
+use Rattle.underlay.specs.Index.{Index, Listed}
+use Rattle.underlay.specs.Room.{HasRoomFor}
+use Rattle.underlay.specs.Seats.{Seats}
+
+-- an index of other VIDs with the same room
+pub same_listed : (vids new : Index) (most : ℕ) (old : Listed) → vids ≡ new → most ≡ old.most → (let l : Listed = record { vids = vids; most = most } in l) ≡ record old { vids = new }
+same_listed vids new most old same room =
+    ap (λ (m : Index). let l : Listed = record { vids = m; most = most } in l) same
+    ∙ ap (λ (n : ℕ). let l : Listed = record { vids = new; most = n } in l) room
+
+-- there is as much room as before
+pub room_stays : (most : ℕ) (s n : Seats) (v w g h : Listed) → HasRoomFor most s v g → n.most ≡ s.most → w.most ≡ v.most → h.most ≡ g.most → HasRoomFor most n w h
+room_stays most s n v w g h room seats vxlan geneve =
+    record { rows = seats ∙ room.rows; vxlan_places = vxlan ∙ room.vxlan_places; geneve_places = geneve ∙ room.geneve_places }

@@ -1,0 +1,10 @@
+-- Room for as many segments as the limits in force say. It serves proofs.
+use Rattle.std.specs.Prelude.{◌≡◌, ℕ}
+use Rattle.underlay.specs.Index.{Listed}
+use Rattle.underlay.specs.Seats.{Seats}
+
+-- there is room for so many segments, and in both indexes for so many VNIs
+pub record HasRoomFor (most : ℕ) (seats : Seats) (vxlan geneve : Listed) : Type 0 where
+  pub rows : seats.most ≡ most
+  pub vxlan_places : vxlan.most ≡ most
+  pub geneve_places : geneve.most ≡ most

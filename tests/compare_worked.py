@@ -1,0 +1,193 @@
+#!/usr/bin/env python3
+"""`tep compare --worked`: a folder as a run leaves it, and captures of what went out, made here octet by octet, with what each
+change of them makes of the counts, as worked out by hand. Usage: compare_worked.py TEP FOLDER; prints what differs, and exits 1
+where something does."""
+import os
+import struct
+import subprocess
+import sys
+
+MOMENT = 5
+INNER = bytes(range(60))
+
+
+def words_sum(octets):
+    """The Internet checksum (RFC 1071)."""
+    total = sum(struct.unpack(f">{len(octets) // 2}H", octets))
+    while total >> 16:
+        total = (total & 0xFFFF) + (total >> 16)
+    return total ^ 0xFFFF
+
+
+def ip4(payload, ttl=64, number=0, flags=0x4000, destination=b"\xc0\0\2\2", wrong=0):
+    """An IPv4 packet (RFC 791, 3.1) of UDP behind its addresses of Ethernet's type."""
+    head = struct.pack(">BBHHHBBH", 0x45, 0, 20 + len(payload), number, flags, ttl, 17, 0) + b"\xc0\0\2\1" + destination
+    head = head[:10] + struct.pack(">H", words_sum(head) ^ wrong) + head[12:]
+    return b"\x08\0" + head + payload
+
+
+def ip6(payload, limit=64):
+    """The same of IPv6 (RFC 8200, 3)."""
+    address = bytes.fromhex("20010db8000000000000000000000001")
+    return b"\x86\xdd" + struct.pack(">IHBB", 0x60000000, len(payload), 17, limit) + address + address[:15] + b"\2" + payload
+
+
+def udp(port, data, source=50000, check=0):
+    """A datagram (RFC 768)."""
+    return struct.pack(">HHHH", source, port, 8 + len(data), check) + data
+
+
+def vxlan(vni, inner, rest=0):
+    """A VXLAN packet (RFC 7348, 5)."""
+    return struct.pack(">BBHI", 8, rest, rest, vni << 8 | rest) + inner
+
+
+def geneve(vni, options, inner, flags=0):
+    """A Geneve packet (RFC 8926, 3.4)."""
+    return struct.pack(">BBHI", len(options) // 4, flags, 0x6558, vni << 8) + options + inner
+
+
+def frame(packet, mac=b"\2\0\0\0\0\1\2\0\0\0\0\2", tag=b""):
+    return mac + tag + packet
+
+
+OPTION = b"\x01\x02\x03\x01abcd"
+CRITICAL = b"\x01\x02\x83\x01abcd"
+ARP = frame(b"\x08\x06" + bytes(28))
+VX = frame(ip4(udp(4789, vxlan(10, INNER))))
+VX6 = frame(ip6(udp(4789, vxlan(10, INNER))))
+GN = frame(ip4(udp(6081, geneve(10, OPTION, INNER))))
+UNDERLAY = [VX, VX6, GN, ARP]
+PORTS = [[INNER, INNER[::-1]], [VX]]
+
+# What stands in the place of a packet of the underlay, and whether it is the same: VXLAN over IPv4.
+FOR_VX = [
+    ("another TTL", frame(ip4(udp(4789, vxlan(10, INNER)), ttl=3)), True),
+    ("another identification", frame(ip4(udp(4789, vxlan(10, INNER)), number=7)), True),
+    ("no Don't Fragment", frame(ip4(udp(4789, vxlan(10, INNER)), flags=0)), True),
+    ("another source port", frame(ip4(udp(4789, vxlan(10, INNER), source=1))), True),
+    ("another UDP checksum", frame(ip4(udp(4789, vxlan(10, INNER), check=9))), True),
+    ("other MAC addresses", frame(ip4(udp(4789, vxlan(10, INNER))), mac=bytes(12)), True),
+    ("a tag", frame(ip4(udp(4789, vxlan(10, INNER))), tag=b"\x81\0\0\5"), True),
+    ("Ethernet's padding", frame(ip4(udp(4789, vxlan(10, INNER)))) + bytes(4), True),
+    ("reserved bits", frame(ip4(udp(4789, vxlan(10, INNER, rest=5)))), True),
+    ("another inner octet", frame(ip4(udp(4789, vxlan(10, INNER[:59] + b"\xff")))), False),
+    ("a shorter inner frame", frame(ip4(udp(4789, vxlan(10, INNER[:59])))), False),
+    ("another VNI", frame(ip4(udp(4789, vxlan(11, INNER)))), False),
+    ("another destination", frame(ip4(udp(4789, vxlan(10, INNER)), destination=b"\xc0\0\2\3")), False),
+    ("another port", frame(ip4(udp(4790, vxlan(10, INNER)))), False),
+    ("a wrong IPv4 checksum", frame(ip4(udp(4789, vxlan(10, INNER)), wrong=1)), False),
+    ("a fragment", frame(ip4(udp(4789, vxlan(10, INNER)), flags=0x2000)), False),
+    ("IPv6", frame(ip6(udp(4789, vxlan(10, INNER)))), False),
+]
+# The same of Geneve, whose packet has an option.
+FOR_GN = [
+    ("another TTL", frame(ip4(udp(6081, geneve(10, OPTION, INNER)), ttl=3)), True),
+    ("the bit C", frame(ip4(udp(6081, geneve(10, OPTION, INNER, flags=0x40)))), True),
+    ("another VNI", frame(ip4(udp(6081, geneve(11, OPTION, INNER)))), False),
+    ("other data of the option", frame(ip4(udp(6081, geneve(10, OPTION[:7] + b"e", INNER)))), False),
+    ("no option", frame(ip4(udp(6081, geneve(10, b"", INNER)))), False),
+    ("the option's data as inner frame", frame(ip4(udp(6081, geneve(10, b"", OPTION + INNER)))), False),
+    ("the bit O", frame(ip4(udp(6081, geneve(10, OPTION, INNER, flags=0x80)))), False),
+]
+
+
+def write(path, records, moment=MOMENT):
+    """A classic capture of nanoseconds: its records at one moment, in seconds."""
+    with open(path, "wb") as out:
+        out.write(struct.pack("<IHHiIII", 0xA1B23C4D, 2, 4, 0, 0, 262144, 1))
+        for octets in records:
+            out.write(struct.pack("<IIII", moment, 0, len(octets), len(octets)) + octets)
+    return path
+
+
+def line(word, sent, received, both):
+    alone = f"sent alone {sent - both}, received alone {received - both}"
+    return f"{word}: sent {sent}, received {received}, both {both}, {alone}\n"
+
+
+def told(p1, p2, u):
+    """What is printed of these three places, each with its counts, or None without a capture."""
+    places = [("p1", p1), ("p2", p2), ("u", u)]
+    text = "".join(line(word, *counts) if counts else f"{word}: no capture\n" for word, counts in places)
+    return text + line("all", *(sum(counts[i] for _, counts in places if counts) for i in range(3)))
+
+
+def main():
+    tep, folder = sys.argv[1:]
+    worked = os.path.join(folder, "worked")
+    os.makedirs(worked)
+    ports = [write(f"{worked}/port{n}.pcap", records) for n, records in enumerate(PORTS, 1)]
+    underlay = write(f"{worked}/underlay.pcap", UNDERLAY)
+    open(f"{worked}/decisions.txt", "w").close()
+    failed = False
+
+    def wants(what, status, text, *words):
+        nonlocal failed
+        done = subprocess.run([tep, "compare", *words], capture_output=True, text=True)
+        if (done.returncode, done.stdout + done.stderr) != (status, text):
+            print(f"compare_worked.py: {what}: status {done.returncode}\n{done.stdout}{done.stderr}in place of {status}\n{text}")
+            failed = True
+
+    differs = "what was received isn't what was sent\n"
+    seen = os.path.join(folder, "seen.pcap")
+
+    def underlay_is(what, records, counts, moment=MOMENT, words=()):
+        same = counts[0] == counts[1] == counts[2]
+        text = told((2, 2, 2), (1, 1, 1), counts) + ("" if same else differs)
+        write(seen, records, moment)
+        wants(what, 0 if same else 1, text, *words, "--worked", worked, "-u", seen, *ports)
+
+    underlay_is("the same", UNDERLAY, (4, 4, 4))
+    underlay_is("in another order", UNDERLAY[::-1], (4, 4, 4))
+    underlay_is("one lost", UNDERLAY[1:], (4, 3, 3))
+    underlay_is("one doubled", UNDERLAY + [VX], (4, 5, 4))
+    underlay_is("an octet of no tunnel's packet", UNDERLAY[:3] + [ARP[:-1] + b"\1"], (4, 4, 3))
+    underlay_is("a second later", UNDERLAY, (4, 4, 4), MOMENT + 1)
+    underlay_is("two seconds later", UNDERLAY, (4, 4, 0), MOMENT + 2)
+    for what, packet, same in FOR_VX:
+        underlay_is(what, [packet] + UNDERLAY[1:], (4, 4, 4 if same else 3))
+    for what, packet, same in FOR_GN:
+        underlay_is("Geneve: " + what, [VX, VX6, packet, ARP], (4, 4, 4 if same else 3))
+    limit = frame(ip6(udp(4789, vxlan(10, INNER)), limit=1))
+    underlay_is("another hop limit", [VX, limit, GN, ARP], (4, 4, 4))
+
+    # A packet with a critical option, which no reader without settings knows, is compared octet by octet.
+    critical = frame(ip4(udp(6081, geneve(10, CRITICAL, INNER, flags=0x40))))
+    write(underlay, [critical])
+    underlay_is("a critical option", [critical], (1, 1, 1))
+    underlay_is("a critical option and another TTL", [frame(ip4(udp(6081, geneve(10, CRITICAL, INNER, flags=0x40)), ttl=3))], (1, 1, 0))
+    write(underlay, UNDERLAY)
+
+    # At a port all octets count, also of what looks like a tunnel's packet.
+    write(seen, [FOR_VX[0][1]])
+    wants("another TTL at a port", 1, told((2, 2, 2), (1, 1, 0), (4, 4, 4)) + differs, "--worked", worked, "-u", underlay, ports[0], seen)
+    wants("no capture of a port", 0, told(None, (1, 1, 1), (4, 4, 4)), "--worked", worked, "-u", underlay, "-", ports[1])
+    wants("no capture of the underlay", 0, told((2, 2, 2), (1, 1, 1), None), "--worked", worked, "-u", "-", *ports)
+    wants("no capture at all", 0, told(None, None, None), "--worked", worked, "-u", "-", "-", "-")
+
+    # What isn't compared.
+    begin = ("--worked", worked, "-u", underlay)
+    wants("one capture too few", 1, f"{worked}: no capture is named beside its port2.pcap\n", *begin, ports[0])
+    wants("one capture too many", 1, f"{worked}: it has no port3.pcap\n", *begin, *ports, "-")
+    wants("one capture twice", 1, f"{ports[0]}: it is named for two places\n", *begin, ports[0], ports[0])
+    wants("the underlay's twice", 1, f"{underlay}: it is named for two places\n", *begin, underlay, ports[1])
+    wants("no such capture", 3, "read none.pcap\n  none.pcap: no such file\n", *begin, "none.pcap", ports[1])
+    empty = os.path.join(folder, "empty.pcap")
+    open(empty, "w").close()
+    zero = line("p1", 0, 0, 0)
+    wants("an empty file", 1, f"{zero}p1: received: NotPcap\n", *begin, empty, ports[1])
+    unpaired = "error: compare takes SENT and RECEIVED, or --worked DIR, --underlay FILE and a capture for each port\n"
+    wants("no underlay", 2, unpaired, "--worked", worked, *ports)
+    wants("an underlay alone", 2, unpaired, "-u", underlay, *ports)
+    wants("one capture", 2, unpaired, ports[0])
+    wants("three captures", 2, unpaired, *ports, underlay)
+    os.remove(f"{worked}/decisions.txt")
+    wants("no decisions", 1, f"{worked}: it has no decisions.txt\n", *begin, *ports)
+    open(f"{worked}/decisions.txt", "w").close()
+    os.rename(underlay, empty)
+    wants("no underlay in the folder", 1, f"{worked}: it has no underlay.pcap\n", "--worked", worked, "-u", empty, *ports)
+    return failed
+
+
+sys.exit(main())

@@ -145,24 +145,20 @@ fn limits_share_the_pool(rt: HostRuntime) -> Result<(), Fail> {
     walk(&rt, rt.alloc(), 600, &SHARING)
 }
 
-/// The room of a full set of segments: 256 may stand, each with limit 1.
+/// As many segments may stand as have room: 300, each with limit 1.
 #[test]
-fn counts_256_segments(rt: HostRuntime) -> Result<(), Fail> {
+fn counts_300_segments(rt: HostRuntime) -> Result<(), Fail> {
     let mut tables = pool(rt.alloc(), 300)?;
-    for number in 1..=256u16 {
+    for number in 1..=300u16 {
         check(
             &rt,
             comes_of(&mut tables, Step::Adds(number, 1, true)),
             "a VID",
         );
     }
-    check(
-        &rt,
-        comes_of(&mut tables, Step::Leaves(256, 44)),
-        "the room",
-    );
-    let next = Step::Adds(257, 1, false);
-    check(&rt, comes_of(&mut tables, next), "a 257th segment");
+    check(&rt, comes_of(&mut tables, Step::Leaves(300, 0)), "the room");
+    let next = Step::Adds(301, 1, false);
+    check(&rt, comes_of(&mut tables, next), "a 301st segment");
     Ok(())
 }
 

@@ -88,9 +88,9 @@ _tep() {
         compare)
             case $before,$cur in
                 --worked,*) _tep_offers folders ;;
-                -u,* | --underlay,*) _tep_offers files ;;
-                --within,* | --shift,*) _tep_offers words "" ;;
-                *,-*) _tep_offers words "--worked --underlay --within --shift --help --version" ;;
+                -u,* | --underlay,* | -s,* | --settings,*) _tep_offers files ;;
+                --within,* | --shift,* | --by,*) _tep_offers words "" ;;
+                *,-*) _tep_offers words "--worked --underlay --settings --strict --within --shift --list --by --help --version" ;;
                 *) _tep_offers files ;;
             esac
             ;;

@@ -72,8 +72,12 @@ complete -c tep -n '__tep_command split' -s V -l version -d 'Print version'
 
 complete -c tep -n '__tep_command compare' -l worked -x -a '(__fish_complete_directories)' -d 'The folder that \'tep run\' wrote into, to compare each of its captures with what was seen there'
 complete -c tep -n '__tep_command compare' -s u -l underlay -r -F -d 'With --worked what was seen at the underlay; \'-\' where there is no capture of it'
+complete -c tep -n '__tep_command compare' -s s -l settings -r -F -d 'With --worked the settings text, for the ports of tunnels and the options that are known'
+complete -c tep -n '__tep_command compare' -l strict -d 'With --worked all octets are compared at the underlay, too'
 complete -c tep -n '__tep_command compare' -l within -x -d 'How much later a record may be received: 500us, 10ms, 2s; 1s without it'
 complete -c tep -n '__tep_command compare' -l shift -x -d 'How far RECEIVED\'s clock is ahead, or behind as in --shift=-2ms; records may then be early, too'
+complete -c tep -n '__tep_command compare' -l list -d 'Prints a line for each record that is of one capture alone'
+complete -c tep -n '__tep_command compare' -l by -x -d 'Prints a table of what was compared: by \'length\''
 complete -c tep -n '__tep_command compare' -s h -l help -d 'Print help'
 complete -c tep -n '__tep_command compare' -s V -l version -d 'Print version'
 

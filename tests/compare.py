@@ -30,21 +30,57 @@ def rising(records):
         yield latest, octets
 
 
-def counts(sent, received, within, shift):
-    """How many were sent, were received, and are both: each content alone, the first with the first that is not too late."""
+def matched(sent, received, within, shift):
+    """The numbers of those that were sent and of those that were received that are both: each content alone, the first with the
+    first that is not too late."""
     least, most = (0, within) if shift is None else (shift - within, shift + within)
     queues = collections.defaultdict(collections.deque)
-    for moment, octets in rising(sent):
-        queues[octets].append(moment)
-    both = 0
-    for moment, octets in rising(received):
+    for number, (moment, octets) in enumerate(rising(sent)):
+        queues[octets].append((moment, number))
+    of_sent, of_received = set(), set()
+    for number, (moment, octets) in enumerate(rising(received)):
         queue = queues[octets]
-        while queue and queue[0] + most < moment:
+        while queue and queue[0][0] + most < moment:
             queue.popleft()
-        if queue and queue[0] + least <= moment:
-            queue.popleft()
-            both += 1
-    return len(sent), len(received), both
+        if queue and queue[0][0] + least <= moment:
+            of_sent.add(queue.popleft()[1])
+            of_received.add(number)
+    return of_sent, of_received
+
+
+def alone(side, records, both):
+    """The lines of those that are not both, and how many of each length there are."""
+    lines, lengths = [], collections.Counter()
+    for number, (moment, octets) in enumerate(rising(records)):
+        if number not in both:
+            lines.append(f"{moment} {side} alone length {len(octets)} record {number + 1}")
+            lengths[len(octets)] += 1
+    return lines, lengths
+
+
+def report(sent, received, within, shift):
+    """What is printed: the lines of those that were sent alone, of those that were received alone, the counts, and the table by
+    length."""
+    of_sent, of_received = matched(sent, received, within, shift)
+    both = len(of_sent)
+    sent_lines, sent_lengths = alone("sent", sent, of_sent)
+    received_lines, received_lengths = alone("received", received, of_received)
+    counts = [f"sent {len(sent)}", f"received {len(received)}", f"both {both}"]
+    counts += [f"sent alone {len(sent) - both}", f"received alone {len(received) - both}"]
+    lengths = collections.Counter(len(sent[number][1]) for number in of_sent)
+    table = [
+        f"length {n}: both {lengths[n]}, sent alone {sent_lengths[n]}, received alone {received_lengths[n]}"
+        for n in sorted(set(lengths) | set(sent_lengths) | set(received_lengths))
+    ]
+    return sent_lines, received_lines, counts, table
+
+
+def in_parts(printed):
+    """The same of what was printed: the lines of each side in their order, whatever the order of both."""
+    lines = printed.splitlines()
+    start = next((at for at, line in enumerate(lines) if line.startswith("sent ") and " alone " not in line), len(lines))
+    sides = [[line for line in lines[:start] if f" {side} alone " in line] for side in ("sent", "received")]
+    return *sides, lines[start : start + 5], lines[start + 5 :]
 
 
 def up_to_fault(sent, received, within, shift, faulty):
@@ -92,9 +128,9 @@ def made(chance):
     return sent, received, within, shift, [chance.random() < 0.15, chance.random() < 0.15]
 
 
-def told(tep, folder, within, shift):
+def told(tep, folder, within, shift, *more):
     """What the program prints, and its status."""
-    words = [tep, "compare", f"{folder}/sent.pcap", f"{folder}/received.pcap", "--within", f"{within}ns"]
+    words = [tep, "compare", f"{folder}/sent.pcap", f"{folder}/received.pcap", "--within", f"{within}ns", *more]
     if shift is not None:
         words += [f"--shift={shift}ns"]
     done = subprocess.run(words, capture_output=True, text=True, check=False)
@@ -123,11 +159,12 @@ def main():
         write(f"{folder}/sent.pcap", sent, faulty[0])
         write(f"{folder}/received.pcap", received, faulty[1])
         sent, received, fault = up_to_fault(sent, received, within, shift, faulty)
-        a, b, both = counts(sent, received, within, shift)
-        wanted = f"sent {a}\nreceived {b}\nboth {both}\nsent alone {a - both}\nreceived alone {b - both}\n"
-        said = fault or (None if a == both == b else "what was received isn't what was sent")
-        printed, status, told_of = told(tep, folder, within, shift)
-        if (printed, status, told_of) != (wanted, 1 if said else 0, f"{said}\n" if said else ""):
+        wanted = report(sent, received, within, shift)
+        said = fault or ("what was received isn't what was sent" if wanted[0] or wanted[1] else None)
+        printed, status, told_of = told(tep, folder, within, shift, "--list", "--by", "length")
+        plain = told(tep, folder, within, shift)[0].splitlines()
+        found = in_parts(printed), plain, status, told_of
+        if found != (wanted, wanted[2], 1 if said else 0, f"{said}\n" if said else ""):
             wrong += 1
             print(f"seed {seed}: status {status}, printed\n{printed}{told_of}wanted\n{wanted}{said}")
             if wrong == 3:
@@ -135,4 +172,5 @@ def main():
     sys.exit(1 if wrong else 0)
 
 
-main()
+if __name__ == "__main__":
+    main()

@@ -42,6 +42,8 @@ wants 1 "within: 5 is no time, as 500us, 10ms or 1s are" --within 5 "$capture" "
 wants 1 "shift: -x is no time, as 500us, 10ms or -1s are" --shift=-x "$capture" "$capture"
 wants 1 "within: 1000000001s is no time, as 500us, 10ms or 1s are" --within 1000000001s "$capture" "$capture"
 
+wants 1 "by: size is not length" --by size "$capture" "$capture"
+
 # What a run wrote, beside what was captured of what went out.
 python3 tests/compare_worked.py ./tep "$folder" || complain "what a run wrote is told otherwise"
 mkdir "$folder/out"
@@ -60,4 +62,14 @@ p3: sent 3, received 3, both 3, sent alone 0, received alone 0
 u: sent 4, received 4, both 4, sent alone 0, received alone 0
 all: sent 16, received 16, both 16, sent alone 0, received alone 0" \
     --worked "$folder/linux" -u "${seen}_underlay.pcap" "${seen}_port1.pcap" "${seen}_port2.pcap" "${seen}_port3.pcap"
+
+# Where nothing was captured each record is told by itself, in front of the counts, and by its length behind them.
+head -c 24 "${seen}_port3.pcap" >"$folder/none.pcap"
+wants 1 "p1: no capture
+p2: no capture
+$(python3 tests/compare_lonely.py p3 "$folder/linux/port3.pcap")
+u: no capture
+all: sent 3, received 0, both 0, sent alone 3, received alone 0
+what was received isn't what was sent" \
+    --list --by length --worked "$folder/linux" -u - - - "$folder/none.pcap"
 exit $status

@@ -37,6 +37,17 @@ def udp(port, data, source=50000, check=0):
     return struct.pack(">HHHH", source, port, 8 + len(data), check) + data
 
 
+def pseudo_sum(length):
+    """The sum of the pseudo header before a datagram of ip4's addresses (RFC 768), no complement of it taken: what a sender writes
+    that leaves the rest to its card."""
+    return words_sum(b"\xc0\0\2\1\xc0\0\2\2" + struct.pack(">BBH", 0, 17, length)) ^ 0xFFFF
+
+
+def right_sum(datagram):
+    """The checksum of a datagram of ip4's addresses that has none (RFC 768)."""
+    return words_sum(struct.pack(">H", pseudo_sum(len(datagram))) + datagram + bytes(len(datagram) % 2))
+
+
 def vxlan(vni, inner, rest=0):
     """A VXLAN packet (RFC 7348, 5)."""
     return struct.pack(">BBHI", 8, rest, rest, vni << 8 | rest) + inner
@@ -57,6 +68,8 @@ ARP = frame(b"\x08\x06" + bytes(28))
 VX = frame(ip4(udp(4789, vxlan(10, INNER))))
 VX6 = frame(ip6(udp(4789, vxlan(10, INNER))))
 GN = frame(ip4(udp(6081, geneve(10, OPTION, INNER))))
+RIGHT = right_sum(udp(4789, vxlan(10, INNER)))
+PARTIAL = frame(ip4(udp(4789, vxlan(10, INNER), check=pseudo_sum(len(udp(4789, vxlan(10, INNER)))))))
 UNDERLAY = [VX, VX6, GN, ARP]
 PORTS = [[INNER, INNER[::-1]], [VX]]
 
@@ -66,7 +79,9 @@ FOR_VX = [
     ("another identification", frame(ip4(udp(4789, vxlan(10, INNER)), number=7)), True),
     ("no Don't Fragment", frame(ip4(udp(4789, vxlan(10, INNER)), flags=0)), True),
     ("another source port", frame(ip4(udp(4789, vxlan(10, INNER), source=1))), True),
-    ("another UDP checksum", frame(ip4(udp(4789, vxlan(10, INNER), check=9))), True),
+    ("a right UDP checksum", frame(ip4(udp(4789, vxlan(10, INNER), check=RIGHT))), True),
+    ("a UDP checksum left to the card", PARTIAL, True),
+    ("a wrong UDP checksum", frame(ip4(udp(4789, vxlan(10, INNER), check=RIGHT ^ 1))), False),
     ("other MAC addresses", frame(ip4(udp(4789, vxlan(10, INNER))), mac=bytes(12)), True),
     ("a tag", frame(ip4(udp(4789, vxlan(10, INNER))), tag=b"\x81\0\0\5"), True),
     ("Ethernet's padding", frame(ip4(udp(4789, vxlan(10, INNER)))) + bytes(4), True),
@@ -164,7 +179,53 @@ def main():
     wants("another TTL at a port", 1, told((2, 2, 2), (1, 1, 0), (4, 4, 4)) + differs, "--worked", worked, "-u", underlay, ports[0], seen)
     wants("no capture of a port", 0, told(None, (1, 1, 1), (4, 4, 4)), "--worked", worked, "-u", underlay, "-", ports[1])
     wants("no capture of the underlay", 0, told((2, 2, 2), (1, 1, 1), None), "--worked", worked, "-u", "-", *ports)
-    wants("no capture at all", 0, told(None, None, None), "--worked", worked, "-u", "-", "-", "-")
+    nothing = "error: each capture is '-', so nothing is compared\n"
+    wants("no capture at all", 2, nothing, "--worked", worked, "-u", "-", "-", "-")
+    wants("no capture at all of another run", 2, nothing, "--worked", "none", "-u", "-", "-")
+
+    # Strictly all octets count at the underlay, too.
+    underlay_is("the same, strictly", UNDERLAY, (4, 4, 4), words=("--strict",))
+    for what, packet, _ in FOR_VX:
+        underlay_is(f"{what}, strictly", [packet] + UNDERLAY[1:], (4, 4, 3), words=("--strict",))
+    folderless = "error: --settings and --strict go with --worked DIR\n"
+    wants("strictly without a run", 2, folderless, "--strict", *ports)
+
+    # The tunnels of settings: their ports, the options that they know, and whether they take a checksum that is left to the card.
+    settings = os.path.join(folder, "settings.toml")
+    at_others = ("--settings", settings)
+
+    def settings_are(lines):
+        with open(settings, "w") as out:
+            out.write('version = 3\n[underlay]\nmac = "02:00:00:00:00:01"\nnext_hop = "02:00:00:00:00:02"\nip4 = "192.0.2.1"\n')
+            out.write(f'{lines}[[port]]\npvid = 10\n[[segment]]\nvid = 10\n[[segment.tunnel]]\nkind = "vxlan"\nvni = 10\n')
+
+    settings_are("vxlan_port = 4790\ngeneve_port = 6082\n")
+    others = [frame(ip4(udp(4790, vxlan(10, INNER)))), frame(ip4(udp(6082, geneve(10, OPTION, INNER))))]
+    changed = [frame(ip4(udp(4790, vxlan(10, INNER)), ttl=3)), frame(ip4(udp(6082, geneve(10, OPTION, INNER)), ttl=3))]
+    write(underlay, others)
+    underlay_is("other ports and another TTL", changed, (2, 2, 2), words=at_others)
+    underlay_is("other ports and another TTL without settings", changed, (2, 2, 0))
+    underlay_is("other ports and another TTL, strictly", changed, (2, 2, 0), words=(*at_others, "--strict"))
+    write(underlay, [VX])
+    underlay_is("another TTL at a port of no tunnel", [FOR_VX[0][1]], (1, 1, 0), words=at_others)
+    settings_are("")
+    underlay_is("a checksum left to the card, and not taken", [PARTIAL], (1, 1, 0), words=("-s", settings))
+    settings_are("partial = true\n")
+    underlay_is("a checksum left to the card, and taken", [PARTIAL], (1, 1, 1), words=("-s", settings))
+    settings_are("known = [[258, 131]]\n")
+    unknown = CRITICAL[:2] + b"\x84" + CRITICAL[3:]
+    for what, option, both in (("a known critical option", CRITICAL, 1), ("a critical option that isn't known", unknown, 0)):
+        write(underlay, [frame(ip4(udp(6081, geneve(10, option, INNER, flags=0x40))))])
+        another = frame(ip4(udp(6081, geneve(10, option, INNER, flags=0x40)), ttl=3))
+        underlay_is(f"{what} and another TTL", [another], (1, 1, both), words=("-s", settings))
+    settings_are("mtu = 1\n")
+    done = subprocess.run([tep, "compare", "--worked", worked, "-s", settings, "-u", underlay, *ports], capture_output=True, text=True)
+    if (done.returncode, done.stdout, done.stderr.split("\n")[0]) != (1, "", "settings: BadValue underlay.mtu"):
+        print(f"compare_worked.py: settings that are refused: status {done.returncode}\n{done.stdout}{done.stderr}")
+        failed = True
+    wants("no such settings", 3, "read none.toml\n  none.toml: no such file\n", "--worked", worked, "-s", "none.toml", "-u", underlay, *ports)
+    wants("settings without a run", 2, folderless, "-s", settings, *ports)
+    write(underlay, UNDERLAY)
 
     # What isn't compared.
     begin = ("--worked", worked, "-u", underlay)

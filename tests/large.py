@@ -273,6 +273,26 @@ def same_as_file():
         asks(folder.lines()[-1] == "cut p1 1", "a cut file's last line")
 
 
+def at_the_end():
+    """What `explain` and `digest` print of a pipe they print at its end, all of it, and it's what they print of a file."""
+    parts = [HEADER, record(1, FRAME), record(2, FRAME)]
+    with Folder() as folder:
+        file = folder.path / "file.pcap"
+        file.write_bytes(b"".join(parts))
+        for words in (["explain", "--settings", SETTINGS], ["digest", "--underlay", folder.empty]):
+            of_file = subprocess.run([TEP, *words, file], check=True, stdout=subprocess.PIPE).stdout
+            path, pipe = folder.pipe(words[0])
+            run = subprocess.Popen([TEP, *words, path], stdout=subprocess.PIPE)
+            os.set_blocking(run.stdout.fileno(), False)
+            for part in parts:
+                pipe.write(part)
+                time.sleep(0.1)
+                asks(run.poll() is None and run.stdout.read() is None, f"{words[0]} before the end of its pipe")
+            pipe.close()
+            asks(run.wait() == 0, f"{words[0]} of a pipe")
+            asks(run.stdout.read() == of_file != b"", f"{words[0]} of a pipe and of a file")
+
+
 def faulty():
     """Behind a record with a fault stand the events before it, whole."""
     with Folder() as folder:
@@ -321,7 +341,7 @@ def calls():
 
 def main():
     subprocess.run([TEP, "--version"], check=True, stdout=subprocess.DEVNULL)
-    for test in (held_pcap, held_pcapng, by_turns, silent, left_by_its_reader, same_as_file, faulty, full, calls, large):
+    for test in (held_pcap, held_pcapng, by_turns, silent, left_by_its_reader, same_as_file, at_the_end, faulty, full, calls, large):
         test()
 
 

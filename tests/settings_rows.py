@@ -387,6 +387,34 @@ PARTS_3 = [
     ("version = 3", 'version = 3\n[limits]\nsegments = "256"', "BadValue limits.segments"),
     ("version = 3", "version = 3\n[limits]\nsegment = 256", "BadValue limits.*"),
     ("version = 3", "version = 3\n[limits]\nsegments = 0\nports = 16", "BadValue limits.*"),
+    ("version = 3", "version = 3\n[limits]\nentries = 1\naddresses = 262144", "ok"),
+    ("version = 3", "version = 3\n[limits]\nentries = 131072\naddresses = 256", "ok"),
+    ("version = 3", "version = 3\n[limits]\nentries = 0", "BadValue limits.entries"),
+    ("version = 3", "version = 3\n[limits]\nentries = 131073", "BadValue limits.entries"),
+    ("version = 3", "version = 3\n[limits]\nentries = true", "BadValue limits.entries"),
+    ("version = 3", "version = 3\n[limits]\naddresses = 0", "BadValue limits.addresses"),
+    ("version = 3", "version = 3\n[limits]\naddresses = 262145", "BadValue limits.addresses"),
+    ("version = 3", "version = 3\n[limits]\naddresses = [1]", "BadValue limits.addresses"),
+    # In this order: segments, entries, addresses.
+    ("version = 3", "version = 3\n[limits]\naddresses = 0\nentries = 0", "BadValue limits.entries"),
+    ("version = 3", "version = 3\n[limits]\nentries = 0\nsegments = 0", "BadValue limits.segments"),
+    # A limit, within the most entries of a segment; where none is given it is 256, or the most.
+    ("# segment", "limit = 8192", "ok"),
+    ("# segment", "limit = 8193", "BadValue segment.1.limit"),
+    ("version = 3", "version = 3\n[limits]\naddresses = 262144", "ok"),
+    ("version = 3", "version = 3\n[limits]\naddresses = 255", "OverLimit limit"),
+    ("version = 3", "version = 3\n[limits]\nentries = 255\naddresses = 255", "ok"),
+    ("version = 3", "version = 3\n[limits]\nentries = 255\naddresses = 254", "OverLimit limit"),
+    # A pool, within the addresses.
+    ("version = 3", "version = 3\npool = 65536", "ok"),
+    ("version = 3", "version = 3\npool = 65537", "BadValue pool"),
+    ("version = 3", "version = 3\npool = 65537\n[limits]\naddresses = 65537", "ok"),
+    ("version = 3", "version = 3\npool = 262144\n[limits]\naddresses = 262144", "ok"),
+    ("version = 3", "version = 3\npool = 262145\n[limits]\naddresses = 262144", "BadValue pool"),
+    ("version = 3", "version = 3\npool = 65536\n[limits]\naddresses = 65535", "BadValue pool"),
+    ("version = 3", "version = 3\npool = 65537\nlimits = 1", "BadValue limits"),
+    ("version = 3", "version = 3\npool = 262145\nlimits = 1", "BadValue pool"),
+    ("version = 3", "version = 2\npool = 65537", "BadValue pool"),
     ("version = 3", "version = 3\nlimits = 256", "BadValue limits"),
     ("version = 3", "version = 3\n[[limits]]\nsegments = 256", "BadValue limits"),
     # They come behind `pool` and before `underlay`.
@@ -433,6 +461,16 @@ MANY = [
     # All share the pool.
     ("pool = 65503\n[limits]\nsegments = 4094\n", 16, 4094, "OverLimit pool"),
     ("pool = 65504\n[limits]\nsegments = 4094\n", 16, 4094, "ok"),
+    ("[limits]\nsegments = 4094\naddresses = 262016\n", 64, 4094, "ok"),
+    ("[limits]\nsegments = 4094\naddresses = 262015\n", 64, 4094, "OverLimit limit"),
+    # The most of one segment is not that of all.
+    ("[limits]\nentries = 131072\naddresses = 262144\n", 131072, 2, "ok"),
+    ("[limits]\nentries = 131072\naddresses = 262144\n", 131072, 3, "OverLimit limit"),
+    ("[limits]\nentries = 131072\naddresses = 262144\n", 131073, 1, "BadValue segment.1.limit"),
+    ("[limits]\naddresses = 262144\n", 8193, 1, "BadValue segment.1.limit"),
+    ("[limits]\nentries = 256\n", 257, 1, "BadValue segment.1.limit"),
+    ("[limits]\nentries = 131072\n", 65536, 1, "ok"),
+    ("[limits]\nentries = 131072\n", 65537, 1, "OverLimit limit"),
 ]
 
 # Keys of a second table of tunnels, and the fault that they are. The first table floods to as many as are told.
@@ -885,11 +923,29 @@ TOLD_SETTINGS = [
     ),
     (
         "version = 3\n[limits]\nsegment = 300\n",
-        "S:3:1: BadValue limits.*\n  found: segment\n  did you mean: segments\n  keys: segments\n",
+        "S:3:1: BadValue limits.*\n  found: segment\n  did you mean: segments\n  keys: segments entries addresses\n",
     ),
     (
         "version = 3\n[limits]\nsegments = 5000\n",
         "S:3:1: BadValue limits.segments\n  found: 5000\n  allowed: a number, 1 to 4094\n",
+    ),
+    (
+        "version = 3\n[limits]\nentries = 131073\n",
+        "S:3:1: BadValue limits.entries\n  found: 131073\n  allowed: a number, 1 to 131072\n",
+    ),
+    # What the limits may raise.
+    (
+        "version = 3\npool = 65537\n",
+        "S:2:1: BadValue pool\n  found: 65537\n  allowed: a number, 1 to 65536, or to limits.addresses where it is given\n",
+    ),
+    (
+        "version = 2\npool = 65537\n",
+        "S:2:1: BadValue pool\n  found: 65537\n  allowed: a number, 1 to 65536\n",
+    ),
+    (
+        FEWEST_2.replace("version = 2", "version = 3").replace("# segment", "limit = 8193"),
+        "S:10:1: BadValue segment.1.limit\n  found: 8193\n"
+        "  allowed: a number, 1 to 8192, or to limits.entries where it is given\n",
     ),
     # A segment more than there may be.
     (

@@ -3,7 +3,8 @@
 --     taken        those of some events in a row that are
 --     behind       what is known behind an event
 --     behind_all   what is known behind some events in a row: its counts tell how many records at each place aren't input
-use Rattle.std.specs.Prelude.{◌≡◌, refl, ℕ, ◌+◌, ◌-◌, ◌^◌, min, Bool, true, false, is_none, if◌then◌else◌, List, [], ◌∷◌, replicate, set, slice_index}
+use Rattle.std.specs.Prelude.{◌≡◌, refl, ℕ, ◌+◌, ◌-◌, ◌^◌, min, Bool, true, false, is_none}
+use Rattle.std.specs.Prelude.{if◌then◌else◌, List, [], ◌∷◌, replicate, set, slice_index}
 use Rattle.std.specs.FinMap.{empty}
 use Rattle.echo_window.specs.Echo.{Record, Window, after, echo_of}
 use Rattle.both_ways.specs.Told.{Told, Sent, Frame, Bare, place_of, told_of}

@@ -52,10 +52,12 @@ impl BothWays {
     }
 
     /// Whether the next event is input. Where it isn't, it is counted at its place.
+    #[inline(always)]
     pub fn is_input(&mut self, event: &Event) -> bool
         ensures answer { result ≡ is_taken self.old event.now }
         ensures behind { self.new ≡ behind self.old event.now }
-        ensures taken { (es : List AnEvent) → taken self.old (event.now ∷ es) ≡ (if result then event.now ∷ taken self.new es else taken self.new es) }
+        ensures taken { (es : List AnEvent) → taken self.old (event.now ∷ es)
+            ≡ (if result then event.now ∷ taken self.new es else taken self.new es) }
     {
         match &event.happening {
             Happening::Change(_) => true,
@@ -94,6 +96,7 @@ impl Sieve for BothWays {
 
     ghost goes = { λ old e new. new ≡ behind old e };
 
+    #[inline(always)]
     fn takes(&mut self, event: &Event) -> bool {
         self.is_input(event)
     }
@@ -113,8 +116,12 @@ fn meet(window: &mut Window, place: u8, moment: u64, told: Told) -> bool
 
 /// Shows a window a frame at a place. Whether it is no echo.
 fn is_met_first(window: &mut Window, place: u8, moment: u64, frame: FrameText) -> bool
-    ensures answer { result ≡ is_none (echo_of window.old.within window.old.came (met place moment (frame.entry.front.now ++ frame.entry.rest.now))) }
-    ensures behind { window.new ≡ record { within = window.old.within; came = after window.old.within window.old.came (met place moment (frame.entry.front.now ++ frame.entry.rest.now)) } }
+    ensures answer { result ≡ is_none (echo_of window.old.within window.old.came
+        (met place moment (frame.entry.front.now ++ frame.entry.rest.now))) }
+    ensures behind { window.new ≡ record {
+      within = window.old.within;
+      came = after window.old.within window.old.came (met place moment (frame.entry.front.now ++ frame.entry.rest.now));
+    } }
 {
     let record = Record {
         place: u16::from(place),

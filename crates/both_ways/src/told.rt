@@ -1,6 +1,6 @@
 //! What a record of a capture tells of a frame.
-ghost use Rattle.std.specs.Prelude.{◌≡◌, ◌++◌};
-ghost use Rattle.both_ways.specs.Told.{packet_told, place_of, seen, told_of, underlay_told, untagged};
+ghost use Rattle.std.specs.Prelude.{◌≡◌, ◌++◌, if◌then◌else◌};
+ghost use Rattle.both_ways.specs.Told.{Sent, Bare, packet_told, place_of, seen, told_of, underlay_told, untagged};
 
 use decapsulate::{Packet, carried_in};
 use frame_view::{EtherView, Tagging};
@@ -56,17 +56,24 @@ fn underlay_told<'a>(underlay: &Underlay, octets: &'a [u8]) -> Told<'a>
     }
 }
 
-/// What a packet tells.
+/// What a packet tells. One that carries a frame to the endpoint doesn't come from the endpoint's own address.
 fn packet_told<'a>(underlay: &Underlay, packet: &Packet<'a>) -> Told<'a>
     ensures { seen result ≡ packet_told underlay.now packet.now }
 {
-    if underlay.is_own(packet.source) {
-        return Told::Sent;
-    }
     match carried_in(underlay, packet) {
         Ok(carried) => Told::Frame(untagged(carried.inner)),
-        Err(_) => Told::Bare,
+        Err(_) => frameless(underlay.is_own(packet.source)),
     }
+}
+
+/// What a packet tells that brings no frame.
+fn frameless<'a>(is_own: bool) -> Told<'a>
+    ensures { seen result ≡ (if is_own then Sent else Bare) }
+{
+    if is_own {
+        return Told::Sent;
+    }
+    Told::Bare
 }
 
 /// A frame without its tag.

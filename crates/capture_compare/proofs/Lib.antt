@@ -6,3 +6,4 @@ pub mod Sending
 pub mod Receiving
 pub mod Stepping
 pub mod Itself
+pub mod Showing

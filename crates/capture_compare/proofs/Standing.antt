@@ -1,5 +1,5 @@
 -- Where two captures stand: whose record comes next, what is behind those that were taken, and what is counted of them.
-use Rattle.std.proofs.Common.{◌≡◌, ◌∙◌, refl, sym, ap, subst, ℕ, ◌≤◌, ◌<◌, nat_le, Bool, true, false, List, [], ◌∷◌, ◌++◌, length, append_assoc, arith, Option, Some, None, IfSome, Result}
+use Rattle.std.proofs.Common.{◌≡◌, ◌∙◌, refl, sym, ap, subst, ℕ, ◌≤◌, ◌<◌, nat_le, Bool, true, false, List, [], ◌∷◌, ◌++◌, length, map, append_assoc, arith, Option, Some, None, IfSome, Result}
 use Rattle.std.proofs.lemmas.List.{append-nil}
 use Rattle.std.proofs.lemmas.Bool.{leb-false, leb-true}
 use Rattle.pcap_io.specs.Reading.{Reading, records}
@@ -7,9 +7,10 @@ use Rattle.pcap_io.specs.Record.{Record}
 use Rattle.pcap_io.specs.declared.header.CaptureFault.{CaptureFault}
 use Rattle.pcap_stream.specs.Source.{Stream}
 use Rattle.record_match.specs.Compared.{Comparison, IsCompared, octets_in}
-use Rattle.record_match.specs.Match.{Record as Seen, Sent, matched, received_count}
+use Rattle.record_match.specs.Match.{Record as Seen, Sent, as_sent, matched, received_count}
+use Rattle.record_match.specs.Settled.{alone_from, told_from}
 use Rattle.record_match.specs.Window.{Window, at_moment, has_room}
-use Rattle.record_match.proofs.Comparing.{held-then}
+use Rattle.record_match.proofs.Comparing.{all-alone, held-then}
 use Rattle.capture_compare.specs.Clocked.{AreUpTo, latest, on_clock, seen_at, timed}
 use Rattle.capture_compare.specs.Compared.{AllHadRoom, AreCounts, records_of, fault_in, has_room_for, records_in, window_at}
 use Rattle.capture_compare.specs.Turns.{Stands, StandsBy, Waits, turn_of}
@@ -140,6 +141,8 @@ counts-of within now c S R h is = record {
   sent_is = h.sent_is;
   received_is = h.received_is;
   both_is = h.both_is ∙ ap (λ (w : ℕ). received_count (matched w S R)) is;
+  told_is = h.told_is ∙ ap (λ (w : ℕ). told_from w 1 (map as_sent S) R) is;
+  alone_is = sym (all-alone c S R now h) ∙ ap (λ (w : ℕ). alone_from 1 (matched w S R)) is;
 }
 
 pub window-is : (within now m : ℕ) (c : Comparison) (S R : List Seen) → IsCompared c S R now → now ≤ m → c.window.within ≡ within → at_moment m c.window ≡ window_at within m S R

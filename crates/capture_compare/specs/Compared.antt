@@ -3,14 +3,15 @@
 --     fault_in       that fault
 --     has_room_for   whether a window has room for one more record that was sent
 --     Tells          what is told of two captures, by the answer
-use Rattle.std.specs.Prelude.{◌≡◌, ◌≢◌, ⊤, ℕ, ◌+◌, Bool, true, false, List, [], ◌∷◌, ◌++◌, length, Option, Some, None, Result, Ok, Err}
+use Rattle.std.specs.Prelude.{◌≡◌, ◌≢◌, ⊤, ℕ, ◌+◌, Bool, true, false, List, [], ◌∷◌, ◌++◌, length, map, Option, Some, None, Result, Ok, Err}
 use Rattle.pcap_io.specs.Capture.{opened}
 use Rattle.pcap_io.specs.Next.{End, Whole, Cut, Faulty}
 use Rattle.pcap_io.specs.Reading.{Reading}
 use Rattle.pcap_io.specs.Record.{Record}
 use Rattle.pcap_io.specs.declared.header.CaptureFault.{CaptureFault}
 use Rattle.record_match.specs.Compared.{Comparison, octets_in}
-use Rattle.record_match.specs.Match.{Record as Seen, matched, received_count}
+use Rattle.record_match.specs.Match.{Record as Seen, as_sent, matched, received_count}
+use Rattle.record_match.specs.Settled.{alone_from, held_alone, of_received, of_sent, told_from}
 use Rattle.record_match.specs.Window.{Window, has_room, still_held}
 use Rattle.record_match.specs.declared.clock.Clock.{Clock}
 use Rattle.capture_compare.specs.Clocked.{before, on_clock, received_by, sent_by}
@@ -48,11 +49,14 @@ fault_in side text = fault_of side (opened text)
 
 -- ---- what is counted
 
--- so many were sent, were received, and are both
+-- so many were sent, were received, and are both. Whoever looks on was told of each record that was received what it is, and of
+-- those that were sent which weren't received; of those that are held still it is told at the end
 pub record AreCounts (within : ℕ) (sent received : List Seen) (c : Comparison) : Type 0 where
   pub sent_is : c.sent ≡ length sent
   pub received_is : c.received ≡ length received
   pub both_is : c.both ≡ received_count (matched within sent received)
+  pub told_is : of_received c.log ≡ told_from within 1 (map as_sent sent) received
+  pub alone_is : of_sent c.log ++ held_alone c.window.records c.window.held ≡ alone_from 1 (matched within sent received)
 
 -- ---- the window
 
@@ -134,9 +138,12 @@ abbrev pub Stops : Clock → List ℕ → List ℕ → Comparison → List Seen 
 Stops clock sent received c S R (faults.Read sides.Sent) = IsSentInFront clock c S R
 Stops clock sent received c S R (faults.Read sides.Received) = IsReceivedInFront clock c S R
 Stops clock sent received c S R (faults.Header sides.Sent fault) = IsSentFault clock sent received c S R (faults.Header sides.Sent fault)
-Stops clock sent received c S R (faults.Header sides.Received fault) = IsReceivedFault clock sent received c S R (faults.Header sides.Received fault)
-Stops clock sent received c S R (faults.Record sides.Sent n fault) = IsSentFault clock sent received c S R (faults.Record sides.Sent n fault)
-Stops clock sent received c S R (faults.Record sides.Received n fault) = IsReceivedFault clock sent received c S R (faults.Record sides.Received n fault)
+Stops clock sent received c S R (faults.Header sides.Received fault) =
+    IsReceivedFault clock sent received c S R (faults.Header sides.Received fault)
+Stops clock sent received c S R (faults.Record sides.Sent n fault) =
+    IsSentFault clock sent received c S R (faults.Record sides.Sent n fault)
+Stops clock sent received c S R (faults.Record sides.Received n fault) =
+    IsReceivedFault clock sent received c S R (faults.Record sides.Received n fault)
 Stops clock sent received c S R (faults.Full moment) = IsFull clock received c S R moment
 
 -- what is told of two captures, by the manner of comparing and the answer

@@ -1,5 +1,6 @@
 -- Two captures amidst a comparison. It serves proofs.
-use Rattle.std.specs.Prelude.{◌≡◌, ◌≢◌, ◌≤◌, ℕ, ◌+◌, ◌*◌, max, nat_le, if◌then◌else◌, Bool, true, false, List, [], ◌∷◌, ◌++◌, length, Option, Some, None, IfSome, Result, Ok, Err}
+use Rattle.std.specs.Prelude.{◌≡◌, ◌≢◌, ◌≤◌, ℕ, ◌+◌, ◌*◌, max, nat_le, if◌then◌else◌, Bool, true, false}
+use Rattle.std.specs.Prelude.{List, [], ◌∷◌, ◌++◌, length, Option, Some, None, IfSome, Result, Ok, Err}
 use Rattle.pcap_io.specs.Record.{Record}
 use Rattle.pcap_io.specs.declared.header.CaptureFault.TheVariants as capture
 use Rattle.pcap_io.specs.declared.record.RecordFault.TheVariants as record_
@@ -7,7 +8,8 @@ use Rattle.pcap_stream.specs.InTurn.{IsReading}
 use Rattle.pcap_stream.specs.Source.{Stream, New, lent, most_left}
 use Rattle.pcap_stream.specs.declared.fault.SourceFault.{SourceFault}
 use Rattle.pcap_stream.specs.declared.fault.SourceFault.TheVariants as source
-use Rattle.record_match.specs.Compared.{AreBefore, Comparison, IsCompared}
+use Rattle.record_match.specs.Compared.{AreBefore, Comparison, Counted, IsCompared, logged}
+use Rattle.record_match.specs.Settled.{Fact, Shows}
 use Rattle.record_match.specs.declared.clock.Clock.{Clock}
 use Rattle.capture_compare.specs.Clocked.{AreUpTo, latest, on_clock}
 use Rattle.capture_compare.specs.Compared.{AllHadRoom, Tells, fault_in, records_in}
@@ -106,12 +108,28 @@ pub record Amidst (manner : Manner) (clock : Clock) (s0 r0 s r : Stream) (sendin
 
 -- what two captures tell once they stopped
 abbrev pub Stopped : Manner → Clock → Stream → Stream → Comparison → Result (Unit {0}) CompareFault → Type 0
-Stopped manner clock s0 r0 c result = (sent received : List ℕ) → s0.supply.rest ≡ Some sent → r0.supply.rest ≡ Some received → Tells manner clock sent received c result
+Stopped manner clock s0 r0 c result = (sent received : List ℕ) → s0.supply.rest ≡ Some sent → r0.supply.rest ≡ Some received
+    → Tells manner clock sent received c result
 
 -- behind a step
-abbrev pub Steps : Manner → Clock → Stream → Stream → Stream → Stream → Coming → Coming → Comparison → Result (Unit {0}) CompareFault → Type 0
+abbrev pub Steps : Manner → Clock → Stream → Stream → Stream → Stream → Coming → Coming → Comparison
+    → Result (Unit {0}) CompareFault → Type 0
 Steps manner clock s0 r0 s r sending receiving c (Ok x) = Amidst manner clock s0 r0 s r sending receiving c
 Steps manner clock s0 r0 s r sending receiving c (Err fault) = Stopped manner clock s0 r0 c (Err fault)
+
+-- ---- who looks on
+
+-- amidst, and what whoever looks on was told
+abbrev pub IsShown : {W : Type 0} → (W → Fact → W → Type 0) → W → W → Manner → Clock → Stream → Stream → Stream → Stream → Coming
+    → Coming → Counted → Type 0
+IsShown sees start now manner clock s0 r0 s r sending receiving c =
+    Shows sees start now (λ log. Amidst manner clock s0 r0 s r sending receiving (logged c log))
+
+-- the same behind a step
+abbrev pub StepIsShown : {W : Type 0} → (W → Fact → W → Type 0) → W → W → Manner → Clock → Stream → Stream → Stream → Stream
+    → Coming → Coming → Counted → Result (Unit {0}) CompareFault → Type 0
+StepIsShown sees start now manner clock s0 r0 s r sending receiving c result =
+    Shows sees start now (λ log. Steps manner clock s0 r0 s r sending receiving (logged c log) result)
 
 -- ---- how much may come
 

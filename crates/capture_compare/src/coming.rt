@@ -57,7 +57,8 @@ impl Coming {
         requires count { self.old.fetched + 1 < 2 ^ 64 }
         requires delay { self.old.delay ≤ 2000000000000000000 }
         ensures fetched { (manner : AManner) (start : Stream) (rs : List ARecord) → HasLent start source.old rs self.old.fetched
-            → moment ≡ latest (on_clock manner self.old.delay rs) → Fetches manner self.old.side self.old.delay start source.new rs self.new result }
+            → moment ≡ latest (on_clock manner self.old.delay rs)
+            → Fetches manner self.old.side self.old.delay start source.new rs self.new result }
         ensures less { IfSome self.new.next (λ _. 16 + most_left source.new ≤ most_left source.old) }
     {
         self.next = None;

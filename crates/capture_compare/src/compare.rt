@@ -1,10 +1,11 @@
 //! The records of two captures in the order of their moments.
 ghost use Rattle.std.specs.Prelude.{◌≡◌, ◌≤◌, ◌<◌, ◌+◌, ◌^◌, ℕ, List, [], Some, IfSome, IsSome, OnOk};
 ghost use Rattle.pcap_stream.specs.Source.{New, Stream, lent, most_left};
-ghost use Rattle.record_match.specs.Compared.{IsCompared};
+ghost use Rattle.record_match.specs.Compared.{IsCompared, logged};
+ghost use Rattle.record_match.specs.Settled.{Shows};
 ghost use Rattle.record_match.specs.declared.clock.Clock.{Clock as AClock};
 ghost use Rattle.capture_compare.specs.Compared.{Tells};
-ghost use Rattle.capture_compare.specs.Turns.{Amidst, Steps, turn_of};
+ghost use Rattle.capture_compare.specs.Turns.{IsShown, StepIsShown, turn_of};
 ghost use Rattle.capture_compare.specs.declared.coming.Coming.{Coming as AComing};
 ghost use Rattle.capture_compare.specs.declared.turn.Turn.TheVariants as turns;
 
@@ -14,7 +15,7 @@ use crate::take::{take_received, take_sent};
 use crate::turn::{Turn, turn_of};
 use carried_key::{KeyRoom, Manner};
 use pcap_stream::{Input, Source};
-use record_match::{Clock, Comparison};
+use record_match::{Clock, Comparison, Onlooker};
 
 /// Compares two captures, those that were sent and those that were received, to their ends. Two records are the same where their
 /// keys by the manner are. Of several records at one moment those that were sent come first.
@@ -24,13 +25,14 @@ use record_match::{Clock, Comparison};
 ///
 /// The faults are those of the captures, in the order in which their records come; or `Full` with the moment, where the window
 /// has no room. The comparison has then what was compared before.
-pub fn compare_captures<R: Input>(
+pub fn compare_captures<R: Input, W: Onlooker>(
     sent: &mut Source<R>,
     received: &mut Source<R>,
     clock: Clock,
-    manner: Manner,
+    manner: &Manner,
     room: &mut KeyRoom,
     comparison: &mut Comparison,
+    onlooker: &mut W,
 ) -> Result<(), CompareFault>
     requires new_sent { sent.old.standing ≡ New }
     requires new_received { received.old.standing ≡ New }
@@ -38,10 +40,11 @@ pub fn compare_captures<R: Input>(
     requires most_received { most_left received.old < 2 ^ 64 }
     requires sent_delay { clock.sent_delay ≤ 2000000000000000000 }
     requires received_delay { clock.received_delay ≤ 2000000000000000000 }
-    requires none { IsCompared comparison.old [] [] 0 }
+    requires none { IsCompared (logged comparison.old []) [] [] 0 }
     requires within { comparison.old.window.within ≡ clock.within }
-    ensures told { (sent_text received_text : List ℕ) → sent.old.supply.rest ≡ Some sent_text → received.old.supply.rest ≡ Some received_text
-        → Tells manner clock sent_text received_text comparison.new result }
+    ensures told { Shows W.sees onlooker.old onlooker.new (λ log. (sent_text received_text : List ℕ)
+        → sent.old.supply.rest ≡ Some sent_text → received.old.supply.rest ≡ Some received_text
+        → Tells manner.now clock sent_text received_text (logged comparison.new log) result) }
 {
     let mut sending = Coming::new(Side::Sent, clock.sent_delay);
     if let Err(fault) = sending.open(sent) {
@@ -62,6 +65,7 @@ pub fn compare_captures<R: Input>(
                     manner,
                     room,
                     comparison,
+                    onlooker,
                 ) {
                     return Err(fault);
                 }
@@ -74,6 +78,7 @@ pub fn compare_captures<R: Input>(
                     manner,
                     room,
                     comparison,
+                    onlooker,
                 ) {
                     return Err(fault);
                 }
@@ -83,47 +88,61 @@ pub fn compare_captures<R: Input>(
 }
 
 /// Takes the next record that was sent, and fetches the one behind it.
-fn send_next<R: Input>(
+fn send_next<R: Input, W: Onlooker>(
     source: &mut Source<R>,
     sending: &mut Coming,
     moment: u64,
-    manner: Manner,
+    manner: &Manner,
     room: &mut KeyRoom,
     comparison: &mut Comparison,
+    onlooker: &mut W,
 ) -> Result<(), CompareFault>
     requires lent { IsSome (lent source.old.standing) }
     requires count { sending.old.fetched + 1 < 2 ^ 64 }
     requires sent { comparison.old.sent + 1 < 2 ^ 64 }
     requires delay { sending.old.delay ≤ 2000000000000000000 }
     requires moment { sending.old.delay ≤ moment }
-    ensures told { (clock : AClock) (s0 r0 r : Stream) (receiving : AComing) → Amidst manner clock s0 r0 source.old r sending.old receiving comparison.old
-        → turn_of sending.old.next receiving.next ≡ turns.Sent moment → Steps manner clock s0 r0 source.new r sending.new receiving comparison.new result }
+    ensures told { (clock : AClock) (s0 r0 r : Stream) (receiving : AComing) (start : W)
+        → IsShown W.sees start onlooker.old manner.now clock s0 r0 source.old r sending.old receiving comparison.old
+        → turn_of sending.old.next receiving.next ≡ turns.Sent moment
+        → StepIsShown W.sees start onlooker.new manner.now clock s0 r0 source.new r sending.new receiving comparison.new result }
     ensures less { OnOk result (IfSome sending.new.next (λ _. 16 + most_left source.new ≤ most_left source.old)) }
 {
-    if let Err(fault) = take_sent(source, sending.delay(), moment, manner, room, comparison) {
+    if let Err(fault) = take_sent(
+        source,
+        sending.delay(),
+        moment,
+        manner,
+        room,
+        comparison,
+        onlooker,
+    ) {
         return Err(fault);
     }
     sending.fetch(source, moment)
 }
 
 /// Takes the next record that was received, and fetches the one behind it.
-fn receive_next<R: Input>(
+fn receive_next<R: Input, W: Onlooker>(
     source: &mut Source<R>,
     receiving: &mut Coming,
     moment: u64,
-    manner: Manner,
+    manner: &Manner,
     room: &mut KeyRoom,
     comparison: &mut Comparison,
+    onlooker: &mut W,
 ) -> Result<(), CompareFault>
     requires lent { IsSome (lent source.old.standing) }
     requires count { receiving.old.fetched + 1 < 2 ^ 64 }
     requires received { comparison.old.received + 1 < 2 ^ 64 }
     requires both { comparison.old.both + 1 < 2 ^ 64 }
     requires delay { receiving.old.delay ≤ 2000000000000000000 }
-    ensures told { (clock : AClock) (s0 r0 s : Stream) (sending : AComing) → Amidst manner clock s0 r0 s source.old sending receiving.old comparison.old
-        → turn_of sending.next receiving.old.next ≡ turns.Received moment → Steps manner clock s0 r0 s source.new sending receiving.new comparison.new result }
+    ensures told { (clock : AClock) (s0 r0 s : Stream) (sending : AComing) (start : W)
+        → IsShown W.sees start onlooker.old manner.now clock s0 r0 s source.old sending receiving.old comparison.old
+        → turn_of sending.next receiving.old.next ≡ turns.Received moment
+        → StepIsShown W.sees start onlooker.new manner.now clock s0 r0 s source.new sending receiving.new comparison.new result }
     ensures less { OnOk result (IfSome receiving.new.next (λ _. 16 + most_left source.new ≤ most_left source.old)) }
 {
-    take_received(source, moment, manner, room, comparison);
+    take_received(source, moment, manner, room, comparison, onlooker);
     receiving.fetch(source, moment)
 }

@@ -30,9 +30,11 @@ told_at_end lane is_cut (Some own) = told_end lane.left_out (EndsFaulty own)
 -- of the interface with this number is told what the step gives to it, and then what is told behind
 abbrev pub TellsNext : Lanes → Lanes → List ℕ → ℕ → Option (List ℕ) → Option (List ℕ) → Step → Type 0
 TellsNext old new record_text number text behind (step.Ended is_cut) =
-    IfSome text (λ text. told_of old.section old.lanes number text ≡ told_at_end (lane_at old.lanes number) is_cut (lane_at old.lanes number).fault)
+    IfSome text (λ text. told_of old.section old.lanes number text
+    ≡ told_at_end (lane_at old.lanes number) is_cut (lane_at old.lanes number).fault)
 TellsNext old new record_text number text behind (step.Block (taken.Refused fault)) =
-    IfSome text (λ text. told_of old.section old.lanes number text ≡ told_at_fault (lane_at old.lanes number) fault (lane_at old.lanes number).fault)
+    IfSome text (λ text. told_of old.section old.lanes number text
+    ≡ told_at_fault (lane_at old.lanes number) fault (lane_at old.lanes number).fault)
 TellsNext old new record_text number text behind (step.Block t) =
     OfTexts (λ text rest. told_of old.section old.lanes number text
     ≡ told_behind (given_to number t record_text) (told_of new.section new.lanes number rest)) text behind
@@ -50,7 +52,8 @@ pub record BeginsDescribed (old new : Section) (text : List ℕ) (t : Taken) (na
 
 -- an interface that the next block describes is told as such, with its number in its section and its name, and no other block is
 abbrev pub StepsDescribed : Section → Section → Option (List ℕ) → List ℕ → Step → Type 0
-StepsDescribed old new text name (step.Block (taken.Described number)) = IfSome text (λ text. BeginsDescribed old new text (taken.Described number) name)
+StepsDescribed old new text name (step.Block (taken.Described number)) =
+    IfSome text (λ text. BeginsDescribed old new text (taken.Described number) name)
 StepsDescribed old new text name s = length new.interfaces ≤ length old.interfaces
 
 -- the same where what comes next stands in what is held. It serves proofs.

@@ -1,5 +1,6 @@
 -- What a block tells of each interface.
-use Rattle.std.specs.Prelude.{◌≡◌, ◌<◌, ◌≤◌, ℕ, ◌+◌, ◌==◌, true, if◌then◌else◌, List, [], ◌∷◌, Option, None, Some, length, slice_get, slice_set, ⊤}
+use Rattle.std.specs.Prelude.{◌≡◌, ◌<◌, ◌≤◌, ℕ, ◌+◌, ◌==◌, true, if◌then◌else◌, List, []}
+use Rattle.std.specs.Prelude.{◌∷◌, Option, None, Some, length, slice_get, slice_set, ⊤}
 use Rattle.pcap_io.specs.Record.{last_moment}
 use Rattle.pcapng_input.specs.Adapted.{Told, told_behind, told_end}
 use Rattle.pcapng_input.specs.Block.{AnotherBlock, Block, next_block}

@@ -1,5 +1,6 @@
 -- The lines that tell what is in a capture. It states no standard.
-use Rattle.std.specs.Prelude.{ℕ, ◌==◌, ◌^◌, ◌*◌, ◌-◌, ◌/◌, ◌%◌, if◌then◌else◌, nat_le, nat_lt, ◌&&◌, Bool, true, false, List, [], ◌++◌, codes, decimal, Option, Some, None}
+use Rattle.std.specs.Prelude.{ℕ, ◌==◌, ◌^◌, ◌*◌, ◌-◌, ◌/◌, ◌%◌, if◌then◌else◌, nat_le, nat_lt, ◌&&◌}
+use Rattle.std.specs.Prelude.{Bool, true, false, List, [], ◌++◌, codes, decimal, Option, Some, None}
 use Rattle.std.specs.Fmt.{format_spec, padded_integral}
 use Rattle.pcap_io.specs.Style.{second}
 use Rattle.pcap_io.specs.declared.style.Order.{Order}

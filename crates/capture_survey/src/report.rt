@@ -1,6 +1,7 @@
 //! The lines that tell what is in a capture.
 ghost use Rattle.std.specs.Prelude.{◌≡◌, Some};
-ghost use Rattle.capture_survey.specs.Report.{format_words, heading_text, line_text, moment_text, note_count, note_words, notes_text, report_text, summary_words};
+ghost use Rattle.capture_survey.specs.Report.{format_words, heading_text, line_text, moment_text, note_count};
+ghost use Rattle.capture_survey.specs.Report.{note_words, notes_text, report_text, summary_words};
 
 use crate::survey::Survey;
 use crate::tally::Span;

@@ -2,7 +2,8 @@
 ghost use Rattle.std.specs.Prelude.{◌≡◌, ◌++◌, ◌∷◌, [], List};
 ghost use Rattle.pcap_io.specs.Record.{Record as ARecord};
 ghost use Rattle.timeline.specs.declared.source.Tap.{Tap as ATap};
-ghost use Rattle.capture_survey.specs.Tally.{HasRoom, first_of, is_below, is_cut_short, is_left_to_card, is_too_long, last_of, longest_at, one_if, tally_of};
+ghost use Rattle.capture_survey.specs.Tally.{HasRoom, first_of, is_below, is_cut_short, is_left_to_card};
+ghost use Rattle.capture_survey.specs.Tally.{is_too_long, last_of, longest_at, one_if, tally_of};
 
 use pcap_io::Record;
 use timeline::Tap;

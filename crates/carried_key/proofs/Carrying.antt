@@ -1,7 +1,7 @@
 -- A datagram with a tunnel's header is read as what it carries.
-use Rattle.std.proofs.Common.{◌≡◌, ◌∙◌, ℕ, ◌*◌, ◌%◌, Bool, false, not, eqb, List, [], ◌∷◌, ◌++◌, drop, take, Option, Some, None, refl, sym, ap, arith}
-use Rattle.std.specs.Prelude.{is_some, option_map}
-use Rattle.std.proofs.lemmas.Bool.{cond-true, cond-false}
+use Rattle.std.proofs.Common.{◌≡◌, ◌≢◌, ◌∙◌, ℕ, ◌*◌, ◌%◌, Bool, false, not, eqb, List, [], ◌∷◌, ◌++◌, drop, take, Option, Some, None, refl, sym, ap, arith}
+use Rattle.std.specs.Prelude.{if◌then◌else◌, is_some, option_map}
+use Rattle.std.proofs.lemmas.Bool.{cond-true, cond-false, eq-eqb, ne_eqb}
 use Rattle.std.proofs.lemmas.List.{drop-take, take_at}
 use Rattle.header_octets.specs.Octets.{octets, part}
 use Rattle.frame_view.specs.First.{first}
@@ -11,7 +11,7 @@ use Rattle.ip_udp_view.specs.declared.addr.Addr.{Addr}
 use Rattle.ip_udp_view.specs.declared.addr.Tunnel.{Tunnel}
 use Rattle.ip_udp_view.specs.declared.addr.Tunnel.TheVariants.{Vxlan, Geneve}
 use Rattle.ip_udp_view.specs.Datagram.{Datagram, HasParts}
-use Rattle.ip_udp_view.specs.Udp.{data_of, is_bad_udp}
+use Rattle.ip_udp_view.specs.Udp.{data_of, dport, is_bad_udp, sum_state, udp_header}
 use Rattle.ip_udp_view.proofs.DatagramLemmas.{only-datagram}
 use Rattle.vxlan_head.specs.Reading.{reason_of as vxlan_reason, vxlan_faults}
 use Rattle.vxlan_head.proofs.Reading.{vxlan-only}
@@ -22,8 +22,9 @@ use Rattle.geneve_head.specs.declared.view.GnFault.{GnFault}
 use Rattle.geneve_head.proofs.PacketLemmas.{geneve-only}
 use Rattle.decapsulate.specs.Arrival.{Packet, frame_reasons, inner_of, packet_in, tunnel_reasons, vni_of}
 use Rattle.decapsulate.proofs.PacketLemmas.{first-as_reasons}
-use Rattle.carried_key.specs.Laws.{GeneveIsCarried, VxlanIsCarried}
-use Rattle.carried_key.specs.Tunnelled.{Tunnelled, carried_at, carried_by, has_no_datagram, kind_at, options_of, tunnelled}
+use Rattle.carried_key.specs.Laws.{GeneveIsCarried, IsSumTaken, VxlanIsCarried}
+use Rattle.carried_key.specs.Tunnelled.{Tunnelled, carried_at, carried_by, has_no_datagram, is_taken, kind_at, options_of, tunnelled}
+use Rattle.carried_key.specs.declared.tunnels.Tunnels.{Tunnels}
 
 -- where none of all holds, none of those in front does, nor of those behind
 both-none : {A : Type 0} (rows others : List (A × Bool)) → first (rows ++ others) ≡ None → (first rows ≡ None) × (first others ≡ None)
@@ -43,24 +44,33 @@ has-datagram p h =
     rw (fragment.0, udp.0, bad.0) refl
 
 -- what a datagram carries
-pub read-at : (b : List ℕ) (source destination : Addr) (from to sum : ℕ) (d : List ℕ) → Datagram b source destination from to sum d → tunnelled b ≡ carried_at (kind_at to) source destination d
-read-at b source destination from to sum d k =
+pub read-at : (T : Tunnels) (b : List ℕ) (source destination : Addr) (from to sum : ℕ) (d : List ℕ) → Datagram b source destination from to sum d → IsSumTaken T source destination from to sum d
+    → tunnelled T b ≡ carried_at T.known (kind_at T to) source destination d
+read-at T b source destination from to sum d k right =
     let told = only-datagram b source destination from to sum d k in
     let p = packet_in b in
     let none = both-none (frame_reasons b) ((Fragment, p.is_fragment) ∷ (NotUdp, not (eqb p.protocol 17)) ∷ (BadUdp, is_bad_udp p.payload) ∷ []) told.0 in
     let parts : HasParts b source destination from to sum d = told.1 in
     cond-false _ _ _ (ap is_some none.0)
     ∙ cond-false _ _ _ (has-datagram p none.1)
-    ∙ ap (λ (n : ℕ). carried_at (kind_at n) p.source p.destination (data_of p.payload)) parts.dport_is
-    ∙ ap (λ (a : Addr). carried_at (kind_at to) a p.destination (data_of p.payload)) parts.source_is
-    ∙ ap (λ (a : Addr). carried_at (kind_at to) source a (data_of p.payload)) parts.destination_is
-    ∙ ap (λ (t : List ℕ). carried_at (kind_at to) source destination t) parts.data_is
+    ∙ ap (λ (t : List ℕ). carried_at T.known (if is_taken T (sum_state p.source p.destination t) then kind_at T (dport p.payload) else None) p.source p.destination (data_of p.payload)) parts.datagram_is
+    ∙ ap (λ (a : Addr). carried_at T.known (if is_taken T (sum_state a p.destination (udp_header from to sum d ++ d)) then kind_at T (dport p.payload) else None) a p.destination (data_of p.payload)) parts.source_is
+    ∙ ap (λ (a : Addr). carried_at T.known (if is_taken T (sum_state source a (udp_header from to sum d ++ d)) then kind_at T (dport p.payload) else None) source a (data_of p.payload)) parts.destination_is
+    ∙ ap (λ (o : Option Tunnel). carried_at T.known o source destination (data_of p.payload)) (cond-true _ _ _ right)
+    ∙ ap (λ (n : ℕ). carried_at T.known (kind_at T n) source destination (data_of p.payload)) parts.dport_is
+    ∙ ap (λ (t : List ℕ). carried_at T.known (kind_at T to) source destination t) parts.data_is
+
+at-vxlan : (T : Tunnels) → kind_at T T.vxlan_port ≡ Some Vxlan
+at-vxlan T = cond-true _ _ _ (eq-eqb T.vxlan_port T.vxlan_port refl)
+
+at-geneve : (T : Tunnels) → T.geneve_port ≢ T.vxlan_port → kind_at T T.geneve_port ≡ Some Geneve
+at-geneve T other = cond-false _ _ _ (ne_eqb T.geneve_port T.vxlan_port other) ∙ cond-true _ _ _ (eq-eqb T.geneve_port T.geneve_port refl)
 
 -- ---- the tunnel's header
 
-carried-by : (kind : Tunnel) (source destination : Addr) (d : List ℕ) (vni : ℕ) (options inner : List ℕ) → first (tunnel_reasons [] kind d) ≡ None → vni_of kind d ≡ vni → options_of kind d ≡ options → inner_of kind d ≡ inner
-    → carried_by kind source destination d ≡ Some (record { kind = kind; source = source; destination = destination; vni = vni; options = options; inner = inner })
-carried-by kind source destination d vni options inner none v o i = cond-false _ _ _ (ap is_some none) ∙ same (vni_of kind d) vni (options_of kind d) options (inner_of kind d) inner v o i
+carried-by : (known : List (ℕ × ℕ)) (kind : Tunnel) (source destination : Addr) (d : List ℕ) (vni : ℕ) (options inner : List ℕ) → first (tunnel_reasons known kind d) ≡ None → vni_of kind d ≡ vni → options_of kind d ≡ options → inner_of kind d ≡ inner
+    → carried_by known kind source destination d ≡ Some (record { kind = kind; source = source; destination = destination; vni = vni; options = options; inner = inner })
+carried-by known kind source destination d vni options inner none v o i = cond-false _ _ _ (ap is_some none) ∙ same (vni_of kind d) vni (options_of kind d) options (inner_of kind d) inner v o i
   where
     same : (a b : ℕ) (c e f g : List ℕ) → a ≡ b → c ≡ e → f ≡ g
         → ◌≡◌ {A = Option Tunnelled} (Some (record { kind = kind; source = source; destination = destination; vni = a; options = c; inner = f }))
@@ -68,10 +78,11 @@ carried-by kind source destination d vni options inner none v o i = cond-false _
     same a b c e f g h i j = cc
 
 pub vxlan-carried : VxlanIsCarried
-vxlan-carried b source destination port sum d vni inner k v =
+vxlan-carried T b source destination port sum d vni inner k right v =
     let told = vxlan-only d vni inner v in
-    read-at b source destination port 4789 sum d k
-    ∙ carried-by Vxlan source destination d vni [] inner (first-as_reasons vxlan_reason (vxlan_faults d) ∙ ap (option_map vxlan_reason) told.0) told.1 refl told.2
+    read-at T b source destination port T.vxlan_port sum d k right
+    ∙ ap (λ (o : Option Tunnel). carried_at T.known o source destination d) (at-vxlan T)
+    ∙ carried-by T.known Vxlan source destination d vni [] inner (first-as_reasons vxlan_reason (vxlan_faults d) ∙ ap (option_map vxlan_reason) told.0) told.1 refl told.2
 
 -- the options in a header
 options-are : (d : List ℕ) (vni : ℕ) (options : List TunnelOption) (inner : List ℕ) (g : IsGeneve d vni options inner) → options_of Geneve d ≡ g.option_texts
@@ -87,30 +98,29 @@ options-are d vni options inner g =
     ap (λ (t : List ℕ). part 8 (options_length t) t) g.whole ∙ here
 
 pub geneve-carried : GeneveIsCarried
-geneve-carried b source destination port sum d vni options inner k g taken =
-    let told = geneve-only [] d vni options inner g in
-    let none : first (geneve_faults [] d) ≡ None = told.0 ∙ cond-true _ _ _ taken in
-    read-at b source destination port 6081 sum d k
-    ∙ carried-by Geneve source destination d vni g.option_texts inner (first-as_reasons geneve_reason (geneve_faults [] d) ∙ ap (option_map geneve_reason) none) told.1
+geneve-carried T b source destination port sum d vni options inner other k right g taken =
+    let told = geneve-only T.known d vni options inner g in
+    let none : first (geneve_faults T.known d) ≡ None = told.0 ∙ cond-true _ _ _ taken in
+    read-at T b source destination port T.geneve_port sum d k right
+    ∙ ap (λ (o : Option Tunnel). carried_at T.known o source destination d) (at-geneve T other)
+    ∙ carried-by T.known Geneve source destination d vni g.option_texts inner (first-as_reasons geneve_reason (geneve_faults T.known d) ∙ ap (option_map geneve_reason) none) told.1
     (options-are d vni options inner g) told.3
 
 -- ---- what is read of a Geneve packet
 
 -- nothing where it has a fault
-pub geneve-refused : (source destination : Addr) (d : List ℕ) (known : List (ℕ × ℕ)) (fault : GnFault) → known ≡ [] → Some fault ≡ first (geneve_faults known d) → None ≡ carried_by Geneve source destination d
-geneve-refused source destination d known fault none h =
-    let told : first (geneve_faults [] d) ≡ Some fault = ap (λ (k : List (ℕ × ℕ)). first (geneve_faults k d)) (sym none) ∙ sym h in
-    sym (cond-true _ _ _ (ap is_some (first-as_reasons geneve_reason (geneve_faults [] d) ∙ ap (option_map geneve_reason) told)))
+pub geneve-refused : (source destination : Addr) (d : List ℕ) (known : List (ℕ × ℕ)) (fault : GnFault) → Some fault ≡ first (geneve_faults known d) → None ≡ carried_by known Geneve source destination d
+geneve-refused source destination d known fault h =
+    sym (cond-true _ _ _ (ap is_some (first-as_reasons geneve_reason (geneve_faults known d) ∙ ap (option_map geneve_reason) (sym h))))
 
 -- the options in its header
 options-behind : (d head : List ℕ) → head ≡ take (head_length d) d → drop 8 head ≡ options_of Geneve d
 options-behind d head is = ap (drop 8) is ∙ drop-take 8 (options_length d) d
 
-pub geneve-taken : (source destination : Addr) (d : List ℕ) (known : List (ℕ × ℕ)) (vni : ℕ) (list : List TunnelOption) (head options inner : List ℕ) → known ≡ [] → None ≡ first (geneve_faults known d)
+pub geneve-taken : (source destination : Addr) (d : List ℕ) (known : List (ℕ × ℕ)) (vni : ℕ) (list : List TunnelOption) (head options inner : List ℕ) → None ≡ first (geneve_faults known d)
     → IsGeneve d vni list inner → head ≡ take (head_length d) d → options ≡ drop 8 head
-    → Some (record { kind = Geneve; source = source; destination = destination; vni = vni; options = options; inner = inner }) ≡ carried_by Geneve source destination d
-geneve-taken source destination d known vni list head options inner none h g head_is options_is =
-    let told : first (geneve_faults [] d) ≡ None = ap (λ (k : List (ℕ × ℕ)). first (geneve_faults k d)) (sym none) ∙ sym h in
-    let says = geneve-only [] d vni list inner g in
-    sym (carried-by Geneve source destination d vni options inner (first-as_reasons geneve_reason (geneve_faults [] d) ∙ ap (option_map geneve_reason) told) says.1
+    → Some (record { kind = Geneve; source = source; destination = destination; vni = vni; options = options; inner = inner }) ≡ carried_by known Geneve source destination d
+geneve-taken source destination d known vni list head options inner h g head_is options_is =
+    let says = geneve-only known d vni list inner g in
+    sym (carried-by known Geneve source destination d vni options inner (first-as_reasons geneve_reason (geneve_faults known d) ∙ ap (option_map geneve_reason) (sym h)) says.1
     (sym (options_is ∙ options-behind d head head_is)) says.3)

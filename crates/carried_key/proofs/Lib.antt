@@ -1,3 +1,4 @@
 pub mod Carrying
 pub mod Keys
 pub mod Lengths
+pub mod Port

@@ -8,6 +8,7 @@ use Rattle.ip_udp_view.specs.declared.addr.Tunnel.{Tunnel}
 use Rattle.ip_udp_view.specs.declared.addr.Tunnel.TheVariants.{Vxlan, Geneve}
 use Rattle.carried_key.specs.Tunnelled.{Tunnelled, tunnelled}
 use Rattle.carried_key.specs.declared.key.Manner.{Manner}
+use Rattle.carried_key.specs.declared.tunnels.Tunnels.{Tunnels}
 use Rattle.carried_key.specs.declared.key.Manner.TheVariants.{Whole, Carried}
 
 -- the octet that a key begins with: 1 and 2 by the kind of tunnel; 0 goes before what is no packet of a tunnel
@@ -30,15 +31,15 @@ abbrev pub text_by : List ℕ → Option Tunnelled → List ℕ
 text_by b None = 0 ∷ b
 text_by b (Some t) = carried_text t
 
-abbrev pub carried_key : List ℕ → List ℕ
-carried_key b = text_by b (tunnelled b)
+abbrev pub carried_key : Tunnels → List ℕ → List ℕ
+carried_key T b = text_by b (tunnelled T b)
 
 -- the key of a record with these octets
 abbrev pub key_by : Manner → List ℕ → List ℕ
 key_by Whole b = b
-key_by Carried b = carried_key b
+key_by (Carried tunnels) b = carried_key tunnels b
 
 -- what a room for keys holds of it: nothing where the octets themselves are the key
 abbrev pub held_by : Manner → List ℕ → List ℕ
 held_by Whole b = []
-held_by Carried b = carried_key b
+held_by (Carried tunnels) b = carried_key tunnels b

@@ -1,5 +1,5 @@
 -- Laws of what packets carry, and of their keys.
-use Rattle.std.specs.Prelude.{◌≡◌, ℕ, IsTrue, List, [], ◌∷◌, Some}
+use Rattle.std.specs.Prelude.{◌≡◌, ◌≢◌, ℕ, IsTrue, List, [], ◌∷◌, ◌++◌, Some}
 use Rattle.header_octets.specs.Octets.{octets}
 use Rattle.ip_udp_view.specs.Addr.{address}
 use Rattle.ip_udp_view.specs.Datagram.{Datagram}
@@ -9,22 +9,40 @@ use Rattle.vxlan_head.specs.Vxlan.{IsVxlan}
 use Rattle.geneve_head.specs.Geneve.{IsGeneve}
 use Rattle.geneve_head.specs.Options.{TunnelOption, allowed}
 use Rattle.carried_key.specs.Key.{carried_text}
-use Rattle.carried_key.specs.Tunnelled.{Tunnelled, tunnelled}
+use Rattle.ip_udp_view.specs.Udp.{sum_state, udp_header}
+use Rattle.carried_key.specs.Tunnelled.{Tunnelled, is_taken, tunnelled}
+use Rattle.carried_key.specs.declared.tunnels.Tunnels.{Tunnels}
 
--- a datagram to VXLAN's port with a VXLAN header (RFC 7348, 5), in whole texts, carries its VNI and inner text between its
--- addresses: whatever its addresses of Ethernet, its tags, the other fields of IP, its source port and its checksum are
+-- the checksum of a datagram with these data, ports and addresses is taken
+abbrev pub IsSumTaken : Tunnels → Addr → Addr → ℕ → ℕ → ℕ → List ℕ → Type 0
+IsSumTaken T source destination from to sum d =
+    IsTrue (is_taken T (sum_state source destination (udp_header from to sum d ++ d)))
+
+-- a datagram to VXLAN's port with a VXLAN header (RFC 7348, 5), in whole texts, whose checksum is taken, carries its VNI and inner
+-- text between its addresses: whatever its addresses of Ethernet, its tags, the other fields of IP and its source port are
 abbrev pub VxlanIsCarried : Type 0
 VxlanIsCarried =
-    (b : List ℕ) (source destination : Addr) (port sum : ℕ) (d : List ℕ) (vni : ℕ) (inner : List ℕ)
-    → Datagram b source destination port 4789 sum d → IsVxlan d vni inner
-    → tunnelled b ≡ Some (record { kind = Vxlan; source = source; destination = destination; vni = vni; options = []; inner = inner })
+    (T : Tunnels) (b : List ℕ) (source destination : Addr) (port sum : ℕ) (d : List ℕ) (vni : ℕ) (inner : List ℕ)
+    → Datagram b source destination port T.vxlan_port sum d → IsSumTaken T source destination port T.vxlan_port sum d
+    → IsVxlan d vni inner
+    → tunnelled T b ≡ Some (record { kind = Vxlan; source = source; destination = destination; vni = vni; options = []; inner = inner })
 
--- the same of Geneve (RFC 8926, 3.3 and 3.4), with its options, none of which is critical
+-- the same of Geneve (RFC 8926, 3.3 and 3.4), at another port, with its options, of which those that are critical are known
 abbrev pub GeneveIsCarried : Type 0
 GeneveIsCarried =
-    (b : List ℕ) (source destination : Addr) (port sum : ℕ) (d : List ℕ) (vni : ℕ) (options : List TunnelOption) (inner : List ℕ)
-    → Datagram b source destination port 6081 sum d → (g : IsGeneve d vni options inner) → IsTrue (allowed [] options)
-    → tunnelled b ≡ Some (record { kind = Geneve; source = source; destination = destination; vni = vni; options = g.option_texts; inner = inner })
+    (T : Tunnels) (b : List ℕ) (source destination : Addr) (port sum : ℕ) (d : List ℕ) (vni : ℕ) (options : List TunnelOption)
+    (inner : List ℕ)
+    → T.geneve_port ≢ T.vxlan_port
+    → Datagram b source destination port T.geneve_port sum d → IsSumTaken T source destination port T.geneve_port sum d
+    → (g : IsGeneve d vni options inner) → IsTrue (allowed T.known options)
+    → tunnelled T b ≡ Some (record {
+      kind = Geneve;
+      source = source;
+      destination = destination;
+      vni = vni;
+      options = g.option_texts;
+      inner = inner;
+    })
 
 -- two tunnels carry the same between the same addresses
 pub record AreSame (s t : Tunnelled) : Type 0 where

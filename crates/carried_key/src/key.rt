@@ -1,9 +1,10 @@
 //! The key of a record: two records are the same where their keys are.
-ghost use Rattle.std.specs.Prelude.{◌≡◌, ◌≤◌, ◌+◌, ◌++◌, ◌∷◌, [], IfOk, length, vec_capacity};
+ghost use Rattle.std.specs.Prelude.{◌≡◌, ◌≤◌, ◌+◌, ◌++◌, ◌∷◌, [], ℕ, List, false, true, IfOk, length, vec_capacity};
 ghost use Rattle.carried_key.specs.Key.{carried_key, carried_text, counted, held_by, key_by, mark};
 ghost use Rattle.ip_udp_view.specs.Addr.{address};
 
 use crate::tunnelled::{Tunnelled, tunnelled_in};
+use crate::tunnels::Tunnels;
 use ip_udp_view::{Addr, Tunnel};
 use std::alloc::{AllocError, Global};
 use std::marker::Model;
@@ -15,12 +16,26 @@ const LONGEST: usize = 262_144;
 const ROOM: usize = LONGEST + 512;
 
 /// What of two records decides whether they are the same.
-#[derive(Clone, Copy, Debug, PartialEq, Eq)]
+#[derive(Debug, Drop)]
 pub enum Manner {
     /// All their octets.
     Whole,
-    /// What they carry in a tunnel and between whom, where both are packets of a tunnel; else all their octets.
-    Carried,
+    /// What they carry in one of these tunnels and between whom, where both are packets of a tunnel; else all their octets.
+    Carried(Tunnels),
+}
+
+impl Manner {
+    /// How records of the underlay are compared: strictly by all their octets, else by what they carry in these tunnels.
+    pub fn of_underlay(tunnels: Tunnels, strict: bool) -> Manner
+        ensures strict { strict ≡ true → (b : List ℕ) → key_by result b ≡ b }
+        ensures carried { strict ≡ false → (b : List ℕ) → key_by result b ≡ carried_key tunnels b }
+    {
+        if strict {
+            Manner::Whole
+        } else {
+            Manner::Carried(tunnels)
+        }
+    }
 }
 
 /// Room for the key of one record at a time, seen by contracts as what it holds.
@@ -50,38 +65,38 @@ impl KeyRoom {
     }
 
     /// Makes the key of a record, of at most 262,144 octets.
-    pub fn put(&mut self, manner: Manner, octets: &[u8])
+    pub fn put(&mut self, manner: &Manner, octets: &[u8])
         requires { length octets.now ≤ 262144 }
-        ensures { self.new ≡ held_by manner octets.now }
+        ensures { self.new ≡ held_by manner.now octets.now }
     {
         self.text.clear();
         match manner {
             Manner::Whole => {}
-            Manner::Carried => write_key(&mut self.text, octets),
+            Manner::Carried(tunnels) => write_key(&mut self.text, tunnels, octets),
         }
     }
 
     /// The key of the record that was put last.
-    pub fn key<'a>(&'a self, manner: Manner, octets: &'a [u8]) -> &'a [u8]
-        requires { self.now ≡ held_by manner octets.now }
-        ensures { result.now ≡ key_by manner octets.now }
+    pub fn key<'a>(&'a self, manner: &Manner, octets: &'a [u8]) -> &'a [u8]
+        requires { self.now ≡ held_by manner.now octets.now }
+        ensures { result.now ≡ key_by manner.now octets.now }
     {
         match manner {
             Manner::Whole => octets,
-            Manner::Carried => self.text.as_slice(),
+            Manner::Carried(_) => self.text.as_slice(),
         }
     }
 }
 
 /// Writes the key of a packet by what it carries.
-fn write_key(text: &mut Vec<u8>, octets: &[u8])
+fn write_key(text: &mut Vec<u8>, tunnels: &Tunnels, octets: &[u8])
     requires empty { text.old.items ≡ [] }
     requires room { 262656 ≤ vec_capacity text.old }
     requires short { length octets.now ≤ 262144 }
-    ensures items { text.new.items ≡ carried_key octets.now }
+    ensures items { text.new.items ≡ carried_key tunnels.now octets.now }
     ensures capacity { vec_capacity text.old ≤ vec_capacity text.new }
 {
-    match tunnelled_in(octets) {
+    match tunnelled_in(tunnels, octets) {
         Some(carried) => write_carried(text, &carried),
         None => write_whole(text, octets),
     }

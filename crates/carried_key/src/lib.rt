@@ -2,22 +2,27 @@
 //! not what each sender chooses.
 //!
 //! Use first: [`KeyRoom`] holds one record's key, by a [`Manner`]: the octets as they stand, or what a tunnel carries, as
-//! [`tunnelled_in`] reads it (RFC 7348, 5; RFC 8926, 3). It takes its memory when it is made.
+//! [`tunnelled_in`] reads it (RFC 7348, 5; RFC 8926, 3). It takes its memory when it is made. [`Tunnels`] says which packets are
+//! those of tunnels: by their ports, the critical options that are known, and whether checksums are left to cards.
 //!
 //! Specs to read, in order: `specs/Tunnelled`, `specs/Key`, `specs/Laws`.
 //!
 //! Proved: of every octet string what a tunnel carries is read as the definition says, and the key is the definition's. By the
-//! laws of [`laws`] a datagram to a tunnel's port with that tunnel's header, in whole texts, is read as its kind, addresses,
-//! VNI, options and inner text, whatever else its headers have; and two packets of tunnels have the same key only where these
-//! are the same, and none has the key of what is no packet of a tunnel.
+//! laws of [`laws`] a datagram to a tunnel's port with that tunnel's header, in whole texts, whose checksum is none, right, or left
+//! to a card where that is taken, is read as its kind, addresses, VNI, options and inner text, whatever else its headers have;
+//! and two packets of tunnels have the same key only where these are the same, and none has the key of what is no packet of a
+//! tunnel.
 //!
-//! Why it is so: nothing of a run's settings is asked for but the tunnels' ports, which are those of the standards; so a packet
-//! with a critical option, which no reader without settings knows, is compared as it stands, as are fragments.
+//! Why it is so: a packet with a critical option that nobody said to be known is compared as it stands, as are fragments, and
+//! as is one whose UDP checksum is wrong: a receiver drops it (RFC 768; RFC 1122, 4.1.3.4), so it isn't one that carries
+//! something. Only packets at a tunnel's port are summed up.
 #![tactic(auto)]
 
 mod key;
 pub mod laws;
 mod tunnelled;
+mod tunnels;
 
 pub use key::{KeyRoom, Manner};
 pub use tunnelled::{Tunnelled, tunnelled_in};
+pub use tunnels::Tunnels;

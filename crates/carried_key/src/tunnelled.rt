@@ -1,20 +1,15 @@
 //! What a packet carries in a tunnel.
-ghost use Rattle.std.specs.Prelude.{◌≡◌, ◌≤◌, IfSome, drop, length};
-ghost use Rattle.carried_key.specs.Tunnelled.{carried_at, carried_by, carried_in, kind_at, tunnelled};
-ghost use Rattle.ip_udp_view.specs.Udp.{data_of};
+ghost use Rattle.std.specs.Prelude.{◌≡◌, ◌≤◌, [], IfSome, drop, length};
+ghost use Rattle.carried_key.specs.Tunnelled.{carried_at, carried_by, carried_in, kind_in, tunnelled};
+ghost use Rattle.ip_udp_view.specs.Udp.{SplitsUdp, data_of};
 ghost use Rattle.ip_udp_view.specs.declared.addr.Tunnel.TheVariants as kinds;
 
+use crate::tunnels::Tunnels;
 use decapsulate::Packet;
 use geneve_head::{GnView, Known};
 use ip_udp_view::{Addr, Tunnel, UDP, UdpView};
 use std::marker::Model;
 use vxlan_head::{Vni, VxView};
-
-/// The port of VXLAN (RFC 7348, 5).
-const VXLAN_PORT: u16 = 4789;
-
-/// The port of Geneve (RFC 8926, 3.3).
-const GENEVE_PORT: u16 = 6081;
 
 /// The octets of Geneve's header in front of its options (RFC 8926, 3.4).
 const FIXED_LENGTH: usize = 8;
@@ -54,21 +49,22 @@ impl<'a> Model for Tunnelled<'a> {
     ghost invariant = { λ t. length t.options.now ≤ 252 };
 }
 
-/// What a packet of the underlay carries in a tunnel, by the tunnels' ports of the standards; nothing where it is no packet of
-/// a tunnel, a fragment of one, or one with a critical option.
-pub fn tunnelled_in(octets: &[u8]) -> Option<Tunnelled<'_>>
-    ensures value { result ≡ tunnelled octets.now }
+/// What a packet of the underlay carries in a tunnel, by these tunnels' ports; nothing where it is no packet of a tunnel, a
+/// fragment of one, one with a critical option that isn't known, or one whose UDP checksum is wrong, or left to the sender's card
+/// where that isn't taken.
+pub fn tunnelled_in<'a>(tunnels: &Tunnels, octets: &'a [u8]) -> Option<Tunnelled<'a>>
+    ensures value { result ≡ tunnelled tunnels.now octets.now }
     ensures short { IfSome result (λ t. length t.inner ≤ length octets.now) }
 {
     match Packet::read(octets) {
-        Ok(packet) => carried_in(&packet),
+        Ok(packet) => carried_in(tunnels, &packet),
         Err(_) => None,
     }
 }
 
 /// What an IP packet carries.
-fn carried_in<'a>(packet: &Packet<'a>) -> Option<Tunnelled<'a>>
-    ensures value { result ≡ carried_in packet.now }
+fn carried_in<'a>(tunnels: &Tunnels, packet: &Packet<'a>) -> Option<Tunnelled<'a>>
+    ensures value { result ≡ carried_in tunnels.now packet.now }
     ensures short { IfSome result (λ t. length t.inner ≤ length packet.now.payload) }
 {
     if packet.is_fragment || packet.protocol != UDP {
@@ -77,41 +73,53 @@ fn carried_in<'a>(packet: &Packet<'a>) -> Option<Tunnelled<'a>>
     let Ok(datagram) = UdpView::read(packet.payload) else {
         return None;
     };
-    let kind = kind_at(datagram.dport());
-    carried_at(kind, packet.source, packet.destination, datagram.payload())
+    let kind = kind_of(tunnels, packet, &datagram);
+    carried_at(
+        &tunnels.known,
+        kind,
+        packet.source,
+        packet.destination,
+        datagram.payload(),
+    )
 }
 
-/// The kind of tunnel whose datagrams go to a port.
-fn kind_at(port: u16) -> Option<Tunnel>
-    ensures { result ≡ kind_at port }
+/// The kind of tunnel whose datagram a packet has, where its checksum is taken.
+fn kind_of(tunnels: &Tunnels, packet: &Packet<'_>, datagram: &UdpView<'_>) -> Option<Tunnel>
+    requires { SplitsUdp packet.now.payload datagram.now }
+    ensures { result ≡ kind_in tunnels.now packet.now }
 {
-    match port {
-        VXLAN_PORT => Some(Tunnel::Vxlan),
-        GENEVE_PORT => Some(Tunnel::Geneve),
-        _ => None,
+    let kind = tunnels.kind_at(datagram.dport());
+    if kind.is_none() {
+        return None;
+    }
+    if tunnels.is_taken(datagram.sum_state(packet.source, packet.destination)) {
+        kind
+    } else {
+        None
     }
 }
 
 /// What data carry that came from one address to another, at the port of a kind.
 fn carried_at<'a>(
+    known: &Known,
     kind: Option<Tunnel>,
     source: Addr,
     destination: Addr,
     payload: &'a [u8],
 ) -> Option<Tunnelled<'a>>
-    ensures value { result ≡ carried_at kind source destination payload.now }
+    ensures value { result ≡ carried_at known.now kind source destination payload.now }
     ensures short { IfSome result (λ t. length t.inner ≤ length payload.now) }
 {
     match kind {
         Some(Tunnel::Vxlan) => vxlan_in(source, destination, payload),
-        Some(Tunnel::Geneve) => geneve_in(source, destination, payload),
+        Some(Tunnel::Geneve) => geneve_in(known, source, destination, payload),
         None => None,
     }
 }
 
 /// What data with a VXLAN header carry.
 fn vxlan_in<'a>(source: Addr, destination: Addr, payload: &'a [u8]) -> Option<Tunnelled<'a>>
-    ensures value { result ≡ carried_by kinds.Vxlan source destination payload.now }
+    ensures value { result ≡ carried_by [] kinds.Vxlan source destination payload.now }
     ensures short { IfSome result (λ t. length t.inner ≤ length payload.now) }
 {
     let Ok(view) = VxView::read(payload) else {
@@ -128,11 +136,16 @@ fn vxlan_in<'a>(source: Addr, destination: Addr, payload: &'a [u8]) -> Option<Tu
 }
 
 /// What data with a Geneve header carry.
-fn geneve_in<'a>(source: Addr, destination: Addr, payload: &'a [u8]) -> Option<Tunnelled<'a>>
-    ensures value { result ≡ carried_by kinds.Geneve source destination payload.now }
+fn geneve_in<'a>(
+    known: &Known,
+    source: Addr,
+    destination: Addr,
+    payload: &'a [u8],
+) -> Option<Tunnelled<'a>>
+    ensures value { result ≡ carried_by known.now kinds.Geneve source destination payload.now }
     ensures short { IfSome result (λ t. length t.inner ≤ length payload.now) }
 {
-    let Ok(view) = GnView::read(payload, &Known::new()) else {
+    let Ok(view) = GnView::read(payload, known) else {
         return None;
     };
     Some(Tunnelled {

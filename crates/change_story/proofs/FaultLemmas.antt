@@ -140,7 +140,7 @@ fault-first B (PortUp port) h = one NoPort (not (is_port (length B.settings.port
 fault-first B (PortDown port) h = one NoPort (not (is_port (length B.settings.ports.ports) port))
 fault-first B (Flush vid) h = segment (segment_at B.settings vid) vid _ _ _ (λ s. refl)
 fault-first B (AddSegment new) h =
-    coming (segment_at B.settings new.vid) (is_limit new.limit) (is_ageing new.ageing) (are_vnis new.tunnels) (are_free B.settings.overlay new.tunnels) (not (nat_lt (segment_count (tables_asked B.settings)) B.settings.overlay.underlay.limits.segments)) (is_too_much B.settings new.limit) h
+    coming (segment_at B.settings new.vid) (is_limit B.settings.overlay.underlay.limits.entries new.limit) (is_ageing new.ageing) (are_vnis new.tunnels) (are_free B.settings.overlay new.tunnels) (not (nat_lt (segment_count (tables_asked B.settings)) B.settings.overlay.underlay.limits.segments)) (is_too_much B.settings new.limit) h
 fault-first B (RemoveSegment vid) h = segment (segment_at B.settings vid) vid _ _ _ (λ s. refl)
 fault-first B (SetLimit vid limit) h =
-    segment (segment_at B.settings vid) vid _ _ _ (λ s. two OutOfRange PoolFull (not (is_limit limit)) (nat_lt (B.settings.pool + s.limit) (sum_of_limits (tables_asked B.settings) + limit)))
+    segment (segment_at B.settings vid) vid _ _ _ (λ s. two OutOfRange PoolFull (not (is_limit B.settings.overlay.underlay.limits.entries limit)) (nat_lt (B.settings.pool + s.limit) (sum_of_limits (tables_asked B.settings) + limit)))

@@ -1,6 +1,7 @@
 -- The checks of a change, in their order, each with what it saw; and what the change finds where none refuses it.
 -- It states no standard.
-use Rattle.std.specs.Prelude.{◌≡◌, ℕ, ◌+◌, ◌-◌, Bool, true, not, nat_lt, nat_le, is_some, is_none, if◌then◌else◌, List, [], ◌∷◌, ◌++◌, length, map, Option, Some, None}
+use Rattle.std.specs.Prelude.{◌≡◌, ℕ, ◌+◌, ◌-◌, Bool, true, not, nat_lt, nat_le, is_some, is_none}
+use Rattle.std.specs.Prelude.{if◌then◌else◌, List, [], ◌∷◌, ◌++◌, length, map, Option, Some, None}
 use Rattle.std.specs.Option.{option_map, option_map_or, option_to_list}
 use Rattle.std.specs.FinMap.{get, len}
 use Rattle.frame_view.specs.Address.{is_group as is_group_mac}
@@ -17,7 +18,9 @@ use Rattle.underlay.specs.Overlay.{are_free}
 use Rattle.underlay.specs.Settings.{own}
 use Rattle.underlay.specs.declared.tunnels.SegmentTunnel.{SegmentTunnel}
 use Rattle.overlay_settings.specs.declared.change.Change.{Change}
-use Rattle.overlay_settings.specs.declared.change.Change.TheVariants.{AddFlood, RemoveFlood, Fix, Unfix, SetAgeing, SetLearning, SetMember, PortUp, PortDown, Flush, AddSegment, RemoveSegment, SetLimit}
+use Rattle.overlay_settings.specs.declared.change.Change.TheVariants.{AddFlood, RemoveFlood, Fix, Unfix, SetAgeing}
+use Rattle.overlay_settings.specs.declared.change.Change.TheVariants.{SetLearning, SetMember, PortUp, PortDown}
+use Rattle.overlay_settings.specs.declared.change.Change.TheVariants.{Flush, AddSegment, RemoveSegment, SetLimit}
 use Rattle.overlay_settings.specs.declared.change.NewSegment.{NewSegment}
 use Rattle.overlay_settings.specs.declared.change.Target.{Target}
 use Rattle.overlay_settings.specs.declared.change.Target.TheVariants as target
@@ -25,7 +28,10 @@ use Rattle.endpoint_state.specs.Change.{are_vnis, is_ageing, is_limit, is_too_mu
 use Rattle.endpoint_state.specs.Settings.{Settings, kind_named, tables_asked}
 use Rattle.endpoint_state.specs.State.{State}
 use Rattle.endpoint_state.specs.declared.fault.ChangeFault.{ChangeFault}
-use Rattle.endpoint_state.specs.declared.fault.ChangeFault.TheVariants.{NoSegment, NoPort, AlreadyThere, NotThere, FloodFull, TableFull, GroupAddress, OutOfRange, NoFamily, OwnAddress, SegmentThere, PoolFull, SegmentsFull, NoTunnel}
+use Rattle.endpoint_state.specs.declared.fault.ChangeFault.TheVariants.{NoSegment, NoPort, AlreadyThere, NotThere}
+use Rattle.endpoint_state.specs.declared.fault.ChangeFault.TheVariants.{FloodFull, TableFull, GroupAddress, OutOfRange}
+use Rattle.endpoint_state.specs.declared.fault.ChangeFault.TheVariants.{NoFamily, OwnAddress, SegmentThere, PoolFull}
+use Rattle.endpoint_state.specs.declared.fault.ChangeFault.TheVariants.{SegmentsFull, NoTunnel}
 use Rattle.change_story.specs.Segment.{Segment, segment_in}
 use Rattle.change_story.specs.declared.check.Check.{Check}
 use Rattle.change_story.specs.declared.seen.Seen.{Seen}
@@ -89,9 +95,9 @@ fixed_check mac m = record { fault = NotThere; fails = not (has_fixed mac m); sa
 abbrev pub ageing_check : ℕ → Check
 ageing_check seconds = record { fault = OutOfRange; fails = not (is_ageing seconds); saw = seen.Ageing seconds }
 
--- limits are 1 to 8,192
-abbrev pub limit_check : ℕ → Check
-limit_check limit = record { fault = OutOfRange; fails = not (is_limit limit); saw = seen.Limit limit }
+-- limits are 1 to the most entries of a segment
+abbrev pub limit_check : ℕ → ℕ → Check
+limit_check most limit = record { fault = OutOfRange; fails = not (is_limit most limit); saw = seen.Limit limit most }
 
 -- no segment has this VID
 abbrev pub vid_check : ℕ → Bool → Check
@@ -149,7 +155,7 @@ fix_checks S mac target m g = mac_check mac ∷ (target_checks S g target ++ roo
 -- of a new segment
 abbrev pub new_checks : Settings → NewSegment → List Check
 new_checks S new =
-    limit_check new.limit
+    limit_check S.overlay.underlay.limits.entries new.limit
     ∷ ageing_check new.ageing
     ∷ vid_check new.vid (is_some (segment_in S new.vid))
     ∷ vnis_check (are_free S.overlay new.tunnels)
@@ -160,7 +166,7 @@ new_checks S new =
 -- of a new limit of a segment, which gives its old one back
 abbrev pub limit_checks : Settings → ℕ → Segment → List Check
 limit_checks S limit g =
-    limit_check limit
+    limit_check S.overlay.underlay.limits.entries limit
     ∷ pool_check (nat_lt (S.pool + g.limit) (sum_of_limits (tables_asked S) + limit)) (room_in S + g.limit)
     ∷ []
 

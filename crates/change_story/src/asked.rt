@@ -2,7 +2,8 @@
 ghost use Rattle.std.specs.Prelude.{◌≡◌, ◌++◌, OnOk, codes, decimal, string_bytes};
 ghost use Rattle.endpoint_core.specs.Text.{addr_text};
 ghost use Rattle.story_words.specs.Words.{mac_text, tunnel_word};
-ghost use Rattle.change_story.specs.Change.{change_line, change_text, egress_name, named_text, numbers_text, of_vid, target_text, vni_text, vnis_text};
+ghost use Rattle.change_story.specs.Change.{change_line, change_text, egress_name, named_text};
+ghost use Rattle.change_story.specs.Change.{numbers_text, of_vid, target_text, vni_text, vnis_text};
 
 use endpoint_core::put_addr;
 use endpoint_state::{Change, NewSegment, Target};

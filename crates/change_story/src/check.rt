@@ -222,14 +222,14 @@ pub(crate) fn ageing_check(seconds: u32) -> Check
     }
 }
 
-/// Limits are 1 to 8,192.
-pub(crate) fn limit_check(limit: u32) -> Check
-    ensures { result ≡ checks.limit_check limit }
+/// Limits are 1 to the most entries of a segment.
+pub(crate) fn limit_check(most: u32, limit: u32) -> Check
+    ensures { result ≡ checks.limit_check most limit }
 {
     Check {
         fault: ChangeFault::OutOfRange,
-        fails: !is_limit(limit),
-        saw: Seen::Limit { limit },
+        fails: !is_limit(most, limit),
+        saw: Seen::Limit { limit, most },
     }
 }
 

@@ -328,7 +328,7 @@ fn put_new(
     put_all(
         checks,
         &[
-            limit_check(new.limit),
+            limit_check(state.under().settings().limits.entries, new.limit),
             ageing_check(new.ageing),
             vid_check(new.vid, segment_in(state, new.vid).is_some()),
             vnis_check(state.under().are_free(&new.tunnels)),
@@ -355,7 +355,8 @@ fn put_limit(
         None => Ok(()),
         Some(segment) => {
             let room = room_with(state, segment.limit, limit);
-            put_all(checks, &[limit_check(limit), room])
+            let most = state.under().settings().limits.entries;
+            put_all(checks, &[limit_check(most, limit), room])
         }
     }
 }

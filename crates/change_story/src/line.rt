@@ -69,7 +69,7 @@ fn put_words(text: &mut String, seen: Seen) -> Result<(), AllocError>
         Seen::Ageing { seconds } => {
             put_number(text, "ageing ", u64::from(seconds), ", 10 to 1000000")
         }
-        Seen::Limit { limit } => put_number(text, "limit ", u64::from(limit), ", 1 to 8192"),
+        Seen::Limit { limit, most } => put_limit(text, limit, most),
         Seen::Vnis { free } => text.push_str(either(free, "vnis free", "vnis taken")),
         Seen::Segments { segments, most } => put_segments(text, segments, most),
         Seen::Pool { room } => put_pool(text, room),
@@ -102,6 +102,13 @@ fn put_segments(text: &mut String, segments: u32, most: u16) -> Result<(), Alloc
         ≡ string_bytes text.old ++ (codes "segments " ++ decimal segments ++ codes ", at most " ++ decimal most)) }
 {
     write!(text, "segments {segments}, at most {most}")
+}
+
+fn put_limit(text: &mut String, limit: u32, most: u32) -> Result<(), AllocError>
+    ensures { OnOk result (string_bytes text.new
+        ≡ string_bytes text.old ++ (codes "limit " ++ decimal limit ++ codes ", 1 to " ++ decimal most)) }
+{
+    write!(text, "limit {limit}, 1 to {most}")
 }
 
 fn put_pool(text: &mut String, room: u64) -> Result<(), AllocError>

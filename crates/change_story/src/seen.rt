@@ -63,9 +63,10 @@ pub enum Seen {
     Ageing {
         seconds: u32,
     },
-    /// The new limit.
+    /// The new limit, and the most that it may be.
     Limit {
         limit: u32,
+        most: u32,
     },
     /// Whether no segment has a tunnel of the kind and VNI of one of the new segment's.
     Vnis {

@@ -69,8 +69,10 @@ explained_by a words m fault.OutOfMemory is has none lacks = tt
 explained_by a words m (fault.Refused e) is has none lacks = absurd lacks
 explained_by a words m fault.NoValue is has none lacks = (taken_by a words is none, meant_by a words m None is has none lacks)
 explained_by a words m fault.Unpaired is has none lacks = (taken_by a words is none, meant_by a words m None is has none lacks)
+explained_by a words m fault.NoFolder is has none lacks = (taken_by a words is none, meant_by a words m None is has none lacks)
 explained_by a words m fault.InputTwice is has none lacks = absurd lacks
 explained_by a words m fault.NoSegments is has none lacks = absurd lacks
+explained_by a words m fault.NoCapture is has none lacks = absurd lacks
 
 -- ---- a run of which something is told
 
@@ -117,5 +119,7 @@ explained_line words fault.OutOfMemory h = tt
 explained_line words (fault.Refused e) h = h
 explained_line words fault.NoValue h = h
 explained_line words fault.Unpaired h = h
+explained_line words fault.NoFolder h = h
 explained_line words fault.InputTwice h = absurd h
 explained_line words fault.NoSegments h = absurd h
+explained_line words fault.NoCapture h = absurd h

@@ -65,6 +65,10 @@ rule_for arguments.Worked = option_rule (codes "worked")
 rule_for arguments.WorkedUnderlay = record (option_rule (codes "underlay")) { short = Some 117 }
 rule_for arguments.Later = option_rule (codes "within")
 rule_for arguments.Shift = option_rule (codes "shift")
+rule_for arguments.WorkedSettings = record (option_rule (codes "settings")) { short = Some 115 }
+rule_for arguments.Strict = flag_rule (codes "strict")
+rule_for arguments.Lists = flag_rule (codes "list")
+rule_for arguments.By = option_rule (codes "by")
 
 -- an app with these arguments behind its own
 abbrev pub with_arguments : App → List Argument → App
@@ -102,7 +106,8 @@ arguments_of subcommands.Digest = arguments.Underlay ∷ arguments.Ports ∷ []
 arguments_of subcommands.Merge = arguments.Out ∷ arguments.Parts ∷ arguments.Tables ∷ arguments.Summary ∷ []
 arguments_of subcommands.Split = arguments.Out ∷ arguments.SplitCapture ∷ []
 arguments_of subcommands.Compare =
-    arguments.Compared ∷ arguments.Worked ∷ arguments.WorkedUnderlay ∷ arguments.Later ∷ arguments.Shift ∷ []
+    arguments.Compared ∷ arguments.Worked ∷ arguments.WorkedUnderlay ∷ arguments.WorkedSettings ∷ arguments.Strict
+    ∷ arguments.Later ∷ arguments.Shift ∷ arguments.Lists ∷ arguments.By ∷ []
 
 -- what `clap` keeps of it
 abbrev pub shape_for : Subcommand → Shape

@@ -1,5 +1,7 @@
 -- What a command line means: the program's own words, after clap's definition of simple commands. It states no standard.
-use Rattle.std.specs.Prelude.{◌≡◌, ◌⊎◌, ◌≤◌, ℕ, ◌&&◌, ◌||◌, not, is_some, nat_le, ◌^◌, ◌-◌, Bool, List, Option, Some, None, IsSome, IsSomeAnd, codes, count_by, option_and_then, option_map, unwrap_or, if◌then◌else◌, ⊤, true, false, [], ◌∷◌}
+use Rattle.std.specs.Prelude.{◌≡◌, ◌⊎◌, ◌≤◌, ℕ, ◌&&◌, ◌||◌, not, is_some, nat_le, ◌^◌, ◌-◌, Bool, List}
+use Rattle.std.specs.Prelude.{Option, Some, None, IsSome, IsSomeAnd, codes, count_by, option_and_then}
+use Rattle.std.specs.Prelude.{option_map, unwrap_or, if◌then◌else◌, ⊤, true, false, [], ◌∷◌}
 use Rattle.std.specs.Str.{bytes_eq}
 use Rattle.std.specs.Str.Parse.{digits_value, without_leading_plus}
 use Rattle.clap.specs.ValueTests.{is_unsigned_in}
@@ -22,8 +24,9 @@ use Rattle.command_line.specs.declared.line.LineFault.TheVariants as fault
 -- of `explain` the settings, the depth, whether values are told, and the capture; of `migrate` the settings; of `digest` the
 -- underlay and the ports; of `merge` the folder, those of the parts, whether the tables are told, and whether the counts are; of
 -- `split` the folder and the capture; of `compare` what was sent, what was received, how much later a record may be, and how far
--- the clock of what was received is ahead; of the other `compare` the folder that a run wrote into, what was captured at the
--- underlay and at the ports, and the same two
+-- the clock of what was received is ahead, whether what is alone is listed, and what a table is by; of the other `compare` the
+-- folder that a run wrote into, what was captured at the underlay and at the ports, the same two, the settings if there are some,
+-- whether all octets are compared at the underlay, and the last two
 pub data Meaning : Type 0 where
   sample : Meaning
   run : Text → Option Text → Text → Option Text → List Text → Bool
@@ -34,8 +37,8 @@ pub data Meaning : Type 0 where
   digest : Text → List Text → Meaning
   merge : Text → List Text → Bool → Bool → Meaning
   split : Text → Text → Meaning
-  compare : Text → Text → Option Text → Option Text → Meaning
-  compare_worked : Text → Text → List Text → Option Text → Option Text → Meaning
+  compare : Text → Text → Option Text → Option Text → Bool → Option Text → Meaning
+  compare_worked : Text → Text → List Text → Option Text → Option Text → Option Text → Bool → Bool → Option Text → Meaning
 
 -- what a command line is as such a meaning
 abbrev pub meaning_of : Line → Meaning
@@ -51,10 +54,11 @@ meaning_of (line.Migrate settings) = migrate settings.now
 meaning_of (line.Digest underlay ports) = digest underlay.now (texts ports.items)
 meaning_of (line.Merge out parts tables summary) = merge out.now (texts parts.items) tables summary
 meaning_of (line.Split out capture) = split out.now capture.now
-meaning_of (line.Compare sent received within shift) =
-    compare sent.now received.now (option_map (λ t. t.now) within) (option_map (λ t. t.now) shift)
-meaning_of (line.CompareWorked worked underlay ports within shift) =
+meaning_of (line.Compare sent received within shift lists by) =
+    compare sent.now received.now (option_map (λ t. t.now) within) (option_map (λ t. t.now) shift) lists (option_map (λ t. t.now) by)
+meaning_of (line.CompareWorked worked underlay ports within shift settings strict lists by) =
     compare_worked worked.now underlay.now (texts ports.items) (option_map (λ t. t.now) within) (option_map (λ t. t.now) shift)
+    (option_map (λ t. t.now) settings) strict lists (option_map (λ t. t.now) by)
 
 -- a depth is 1 to 4
 abbrev pub HasDepth : Line → Type 0
@@ -66,8 +70,8 @@ HasDepth (line.Migrate settings) = ⊤
 HasDepth (line.Digest underlay ports) = ⊤
 HasDepth (line.Merge out parts tables summary) = ⊤
 HasDepth (line.Split out capture) = ⊤
-HasDepth (line.Compare sent received within shift) = ⊤
-HasDepth (line.CompareWorked worked underlay ports within shift) = ⊤
+HasDepth (line.Compare sent received within shift lists by) = ⊤
+HasDepth (line.CompareWorked worked underlay ports within shift settings strict lists by) = ⊤
 
 -- ---- what matches mean: nothing, where a required value is missing
 
@@ -153,25 +157,35 @@ split_meant rows =
     option_and_then (λ o. option_map (λ c. split o c) (first_of (codes "capture") rows)) (first_of (codes "out") rows)
 
 -- what `compare` is asked to do with two captures, and with no others
-abbrev pub pair_meant : List Text → Option Text → Option Text → Option Meaning
-pair_meant [] within shift = None
-pair_meant (sent ∷ []) within shift = None
-pair_meant (sent ∷ received ∷ []) within shift = Some (compare sent received within shift)
-pair_meant (sent ∷ received ∷ another ∷ more) within shift = None
+abbrev pub pair_meant : List Text → Option Text → Option Text → Bool → Option Text → Option Meaning
+pair_meant [] within shift lists by = None
+pair_meant (sent ∷ []) within shift lists by = None
+pair_meant (sent ∷ received ∷ []) within shift lists by = Some (compare sent received within shift lists by)
+pair_meant (sent ∷ received ∷ another ∷ more) within shift lists by = None
+
+-- and neither with settings nor strictly
+abbrev pub plain_pair_meant : Option Text → Bool → List Text → Option Text → Option Text → Bool → Option Text → Option Meaning
+plain_pair_meant None false captures within shift lists by = pair_meant captures within shift lists by
+plain_pair_meant None true captures within shift lists by = None
+plain_pair_meant (Some settings) strict captures within shift lists by = None
 
 -- by the folder of a run and what was captured at the underlay: with both of them each capture is one of a port, with neither
 -- there are two
-abbrev pub captures_meant : Option Text → Option Text → List Text → Option Text → Option Text → Option Meaning
-captures_meant None None captures within shift = pair_meant captures within shift
-captures_meant None (Some underlay) captures within shift = None
-captures_meant (Some worked) None captures within shift = None
-captures_meant (Some worked) (Some underlay) captures within shift = Some (compare_worked worked underlay captures within shift)
+abbrev pub captures_meant : Option Text → Option Text → List Text → Option Text → Option Text → Option Text → Bool → Bool
+    → Option Text → Option Meaning
+captures_meant None None captures within shift settings strict lists by =
+    plain_pair_meant settings strict captures within shift lists by
+captures_meant None (Some underlay) captures within shift settings strict lists by = None
+captures_meant (Some worked) None captures within shift settings strict lists by = None
+captures_meant (Some worked) (Some underlay) captures within shift settings strict lists by =
+    Some (compare_worked worked underlay captures within shift settings strict lists by)
 
 -- what `compare` is asked to do
 abbrev pub compare_meant : List Row → Option Meaning
 compare_meant rows =
     option_and_then (λ captures. captures_meant (first_of (codes "worked") rows) (first_of (codes "underlay") rows) captures
-    (first_of (codes "within") rows) (first_of (codes "shift") rows)) (all_of (codes "captures") rows)
+    (first_of (codes "within") rows) (first_of (codes "shift") rows) (settings_in rows) (is_set (codes "strict") rows)
+    (is_set (codes "list") rows) (first_of (codes "by") rows)) (all_of (codes "captures") rows)
 
 -- what a subcommand of this name is asked to do
 abbrev pub command_meant : Text → List Row → Option Meaning
@@ -237,7 +251,8 @@ inputs_among names = count_by (λ name. bytes_eq (file_of name) (codes "-")) nam
 -- how many captures are standard input; texts are files, whatever their names, and beside what a run wrote '-' is no capture
 abbrev pub input_uses : Meaning → ℕ
 input_uses sample = 0
-input_uses (run settings changes underlay out ports tables tables_at why summary talkers segments digests both within) = inputs_among (underlay ∷ ports)
+input_uses (run settings changes underlay out ports tables tables_at why summary talkers segments digests both within) =
+    inputs_among (underlay ∷ ports)
 input_uses (check settings changes None ports) = inputs_among ports
 input_uses (check settings changes (Some underlay) ports) = inputs_among (underlay ∷ ports)
 input_uses (explain settings depth values capture) = inputs_among (capture ∷ [])
@@ -245,8 +260,8 @@ input_uses (migrate settings) = 0
 input_uses (digest underlay ports) = inputs_among (underlay ∷ ports)
 input_uses (merge out parts tables summary) = 0
 input_uses (split out capture) = inputs_among (capture ∷ [])
-input_uses (compare sent received within shift) = inputs_among (sent ∷ received ∷ [])
-input_uses (compare_worked worked underlay ports within shift) = 0
+input_uses (compare sent received within shift lists by) = inputs_among (sent ∷ received ∷ [])
+input_uses (compare_worked worked underlay ports within shift settings strict lists by) = 0
 
 -- it is read once at most
 abbrev pub ReadsInputOnce : Meaning → Type 0
@@ -264,6 +279,22 @@ lends_to_a_whole _ = false
 abbrev pub LendsToParts : Meaning → Type 0
 LendsToParts meaning = lends_to_a_whole meaning ≡ false
 
+-- ---- comparisons of nothing
+
+-- each of some names says that there is no capture
+abbrev pub are_no_captures : List Text → Bool
+are_no_captures [] = true
+are_no_captures (name ∷ names) = bytes_eq name (codes "-") && are_no_captures names
+
+-- what a run wrote is compared with no capture at all
+abbrev pub compares_nothing : Meaning → Bool
+compares_nothing (compare_worked worked underlay ports within shift settings strict lists by) = are_no_captures (underlay ∷ ports)
+compares_nothing _ = false
+
+-- there is something to compare where captures are compared
+abbrev pub ComparesSomething : Meaning → Type 0
+ComparesSomething meaning = compares_nothing meaning ≡ false
+
 -- ---- when each fault is answered
 
 -- the program refuses the words with this error, which may be that of memory
@@ -272,16 +303,20 @@ RefusesAsWhole words e = (kind_of e ≡ OutOfMemory) ⊎ ((takes tep_app words �
 
 -- Refused where that definition takes the words neither as the program's nor as those of a run of which something is told, and
 -- then as the program's are; NoValue where it takes them as the program's and its matches lack a required value; Unpaired where
--- its matches have one, but are of `compare` with captures as it doesn't take them; InputTwice where it takes them and they ask
--- for standard input more than once, NoSegments where it takes them and they lend digests to a run that is no part
+-- its matches have one, but are of `compare` with captures as it doesn't take them, and NoFolder with captures that were worked
+-- out by no run but settings, or strictly; InputTwice where it takes them and they ask for standard input more than once,
+-- NoSegments where it takes them and they lend digests to a run that is no part, NoCapture where it takes them and they compare
+-- what a run wrote with no capture
 abbrev pub Explains : List Text → LineFault → Type 0
 Explains words fault.OutOfMemory = ⊤
 Explains words (fault.Refused e) = (takes tep_app words ≡ false)
     × IsAmong (kind_of e) (fault_of tep_app words) × (telling_meant words ≡ None)
 Explains words fault.NoValue = (fault_of tep_app words ≡ []) × (words_meant words ≡ None)
 Explains words fault.Unpaired = (fault_of tep_app words ≡ []) × (words_meant words ≡ None)
+Explains words fault.NoFolder = (fault_of tep_app words ≡ []) × (words_meant words ≡ None)
 Explains words fault.InputTwice = AreTaken words × IsSomeAnd (words_meant words) (λ meaning. 2 ≤ input_uses meaning)
 Explains words fault.NoSegments = AreTaken words × IsSomeAnd (words_meant words) (λ meaning. lends_to_a_whole meaning ≡ true)
+Explains words fault.NoCapture = AreTaken words × IsSomeAnd (words_meant words) (λ meaning. compares_nothing meaning ≡ true)
 
 -- the same of what is read before it's known what the words ask for
 abbrev pub ExplainsWords : List Text → LineFault → Type 0
@@ -289,8 +324,10 @@ ExplainsWords words fault.OutOfMemory = ⊤
 ExplainsWords words (fault.Refused e) = Explains words (fault.Refused e)
 ExplainsWords words fault.NoValue = Explains words fault.NoValue
 ExplainsWords words fault.Unpaired = Explains words fault.Unpaired
+ExplainsWords words fault.NoFolder = Explains words fault.NoFolder
 ExplainsWords words fault.InputTwice = ⊥
 ExplainsWords words fault.NoSegments = ⊥
+ExplainsWords words fault.NoCapture = ⊥
 
 -- the same of the part behind the parse, which refuses nothing but captures that `compare` doesn't take
 abbrev pub LacksValue : Option Meaning → LineFault → Type 0
@@ -298,5 +335,7 @@ LacksValue meant fault.OutOfMemory = ⊤
 LacksValue meant (fault.Refused e) = ⊥
 LacksValue meant fault.NoValue = meant ≡ None
 LacksValue meant fault.Unpaired = meant ≡ None
+LacksValue meant fault.NoFolder = meant ≡ None
 LacksValue meant fault.InputTwice = ⊥
 LacksValue meant fault.NoSegments = ⊥
+LacksValue meant fault.NoCapture = ⊥

@@ -72,6 +72,14 @@ pub enum Argument {
     Later,
     /// How far the clock of what was received is ahead.
     Shift,
+    /// The settings of a run whose outputs are compared.
+    WorkedSettings,
+    /// Whether what each sender chooses is compared, too.
+    Strict,
+    /// Whether what is of one capture alone is listed.
+    Lists,
+    /// What a table of what is compared is by.
+    By,
 }
 
 impl Argument {
@@ -243,6 +251,29 @@ impl Argument {
                 "shift",
                 "TIME",
                 "How far RECEIVED's clock is ahead, or behind as in --shift=-2ms; records may then be early, too",
+            ),
+            Argument::WorkedSettings => option(
+                alloc,
+                "settings",
+                FILE,
+                "With --worked the settings text, for the ports of tunnels and the options that are known",
+            )
+            .short('s'),
+            Argument::Strict => flag(
+                alloc,
+                "strict",
+                "With --worked all octets are compared at the underlay, too",
+            ),
+            Argument::Lists => flag(
+                alloc,
+                "list",
+                "Prints a line for each record that is of one capture alone",
+            ),
+            Argument::By => option(
+                alloc,
+                "by",
+                "WHAT",
+                "Prints a table of what was compared: by 'length'",
             ),
         }
     }

@@ -11,6 +11,9 @@ ghost use Rattle.command_line.specs.Capture.{file_of, interface_of};
 /// The name by which standard input is asked for, where a capture's file is named.
 pub const STANDARD_INPUT: &str = "-";
 
+/// What stands for a capture of which there is none, where what a run wrote is compared.
+pub const NO_CAPTURE: &str = "-";
+
 /// What the name of a capture asks for: `FILE`, or `FILE#INTERFACE`.
 #[derive(Clone, Copy, Debug)]
 pub struct CaptureName<'a> {

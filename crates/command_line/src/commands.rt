@@ -2,7 +2,8 @@
 ghost use Rattle.std.specs.Prelude.{◌≡◌, IfOk, false};
 ghost use Rattle.clap.specs.Words.{app_of, shape_of};
 ghost use Rattle.clap.specs.declared.builder.Command.TheViews.{out-Command as fields_of};
-ghost use Rattle.command_line.specs.App.{arguments_of, name_of, shape_for, tep_app, telling_app, versioned_app, with_arguments, with_commands};
+ghost use Rattle.command_line.specs.App.{arguments_of, name_of, shape_for, tep_app, telling_app};
+ghost use Rattle.command_line.specs.App.{versioned_app, with_arguments, with_commands};
 
 use crate::arguments::Argument;
 use clap::Command;
@@ -45,15 +46,19 @@ const SPLIT_EXAMPLE: &str =
 
 /// What stands below the help of `compare`.
 const COMPARE_EXAMPLE: &str =
-    "Captures are pcap or pcapng. FILE#INTERFACE takes one interface of a pcapng capture, by number or name.\nWith --worked packets of tunnels are the same where what they carry and their addresses are.\nThe exit status is 0 where all is the same, and 1 where it isn't.\n\nExamples:\n  tep compare sent.pcap received.pcap\n  tep compare --within 5ms --shift=-1200ns out/port2.pcap switch.pcapng#eth2\n  tep compare --worked out -u seen_u.pcap seen_1.pcap -";
+    "Captures are pcap or pcapng. FILE#INTERFACE takes one interface of a pcapng capture, by number or name.\nWith --worked packets of tunnels are the same where what they carry and their addresses are.\nThe exit status is 0 where all is the same, and 1 where it isn't.\n\nExamples:\n  tep compare sent.pcap received.pcap\n  tep compare --within 5ms --shift=-1200ns out/port2.pcap switch.pcapng#eth2\n  tep compare --worked out -u seen_u.pcap seen_1.pcap -\n  tep compare --worked out -s settings.toml -u seen_u.pcap seen_1.pcap seen_2.pcap";
 
 /// What `compare` takes.
-const COMPARE: [Argument; 5] = [
+const COMPARE: [Argument; 9] = [
     Argument::Compared,
     Argument::Worked,
     Argument::WorkedUnderlay,
+    Argument::WorkedSettings,
+    Argument::Strict,
     Argument::Later,
     Argument::Shift,
+    Argument::Lists,
+    Argument::By,
 ];
 
 /// A command of the program.

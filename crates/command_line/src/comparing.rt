@@ -2,6 +2,7 @@
 ghost use Rattle.std.specs.Prelude.{◌≡◌, IfErr, IfOk, None, Some, option_map};
 ghost use Rattle.clap.specs.Walk.{texts};
 ghost use Rattle.command_line.specs.Meaning.{HasDepth, LacksValue, captures_meant, meaning_of, pair_meant};
+ghost use Rattle.command_line.specs.Meaning.{plain_pair_meant};
 ghost use Rattle.command_line.specs.declared.line.LineFault.TheVariants.{OutOfMemory};
 
 use crate::line::{Line, LineFault};
@@ -18,6 +19,14 @@ pub(crate) struct Comparing<'a> {
     pub(crate) within: Option<&'a str>,
     /// How far the clock of what was received is ahead.
     pub(crate) shift: Option<&'a str>,
+    /// The settings of the run.
+    pub(crate) settings: Option<&'a str>,
+    /// Whether all octets are compared at the underlay.
+    pub(crate) strict: bool,
+    /// Whether what is of one alone is listed.
+    pub(crate) lists: bool,
+    /// What a table is by.
+    pub(crate) by: Option<&'a str>,
 }
 
 /// The line that asks for this comparison of these captures.
@@ -26,14 +35,20 @@ pub(crate) fn comparison_line<'a>(
     asked: Comparing<'a>,
     captures: &[&'a str],
 ) -> Result<Line<'a>, LineFault>
-    ensures ok { IfOk result (λ line. captures_meant (option_map (λ t. t.now) asked.entry.worked) (option_map (λ t. t.now) asked.entry.underlay) (texts captures.now)
-        (option_map (λ t. t.now) asked.entry.within) (option_map (λ t. t.now) asked.entry.shift) ≡ Some (meaning_of line)) }
+    ensures ok { IfOk result (λ line. captures_meant (option_map (λ t. t.now) asked.entry.worked)
+        (option_map (λ t. t.now) asked.entry.underlay) (texts captures.now)
+        (option_map (λ t. t.now) asked.entry.within) (option_map (λ t. t.now) asked.entry.shift)
+        (option_map (λ t. t.now) asked.entry.settings) asked.entry.strict asked.entry.lists
+        (option_map (λ t. t.now) asked.entry.by) ≡ Some (meaning_of line)) }
     ensures depth { IfOk result HasDepth }
-    ensures fault { IfErr result (LacksValue (captures_meant (option_map (λ t. t.now) asked.entry.worked) (option_map (λ t. t.now) asked.entry.underlay)
-        (texts captures.now) (option_map (λ t. t.now) asked.entry.within) (option_map (λ t. t.now) asked.entry.shift))) }
+    ensures fault { IfErr result (LacksValue
+        (captures_meant (option_map (λ t. t.now) asked.entry.worked) (option_map (λ t. t.now) asked.entry.underlay)
+        (texts captures.now) (option_map (λ t. t.now) asked.entry.within) (option_map (λ t. t.now) asked.entry.shift)
+        (option_map (λ t. t.now) asked.entry.settings) asked.entry.strict asked.entry.lists
+        (option_map (λ t. t.now) asked.entry.by))) }
 {
     match (asked.worked, asked.underlay) {
-        (None, None) => pair(asked.within, asked.shift, captures),
+        (None, None) => plain_pair(asked, captures),
         (Some(worked), Some(underlay)) => match Vec::from_slice(alloc, captures) {
             Ok(ports) => Ok(Line::CompareWorked {
                 worked,
@@ -41,6 +56,10 @@ pub(crate) fn comparison_line<'a>(
                 ports,
                 within: asked.within,
                 shift: asked.shift,
+                settings: asked.settings,
+                strict: asked.strict,
+                lists: asked.lists,
+                by: asked.by,
             }),
             Err(_) => Err(LineFault::OutOfMemory),
         },
@@ -48,22 +67,40 @@ pub(crate) fn comparison_line<'a>(
     }
 }
 
-/// The line that asks for two captures to be compared.
-fn pair<'a>(
-    within: Option<&'a str>,
-    shift: Option<&'a str>,
-    captures: &[&'a str],
-) -> Result<Line<'a>, LineFault>
-    ensures ok { IfOk result (λ line. pair_meant (texts captures.now) (option_map (λ t. t.now) within.entry) (option_map (λ t. t.now) shift.entry) ≡ Some (meaning_of line)) }
+/// The line that asks for two captures to be compared, with no settings and not strictly.
+fn plain_pair<'a>(asked: Comparing<'a>, captures: &[&'a str]) -> Result<Line<'a>, LineFault>
+    ensures ok { IfOk result (λ line. plain_pair_meant (option_map (λ t. t.now) asked.entry.settings) asked.entry.strict
+        (texts captures.now) (option_map (λ t. t.now) asked.entry.within) (option_map (λ t. t.now) asked.entry.shift)
+        asked.entry.lists (option_map (λ t. t.now) asked.entry.by) ≡ Some (meaning_of line)) }
     ensures depth { IfOk result HasDepth }
-    ensures fault { IfErr result (LacksValue (pair_meant (texts captures.now) (option_map (λ t. t.now) within.entry) (option_map (λ t. t.now) shift.entry))) }
+    ensures fault { IfErr result (LacksValue
+        (plain_pair_meant (option_map (λ t. t.now) asked.entry.settings) asked.entry.strict (texts captures.now)
+        (option_map (λ t. t.now) asked.entry.within) (option_map (λ t. t.now) asked.entry.shift) asked.entry.lists
+        (option_map (λ t. t.now) asked.entry.by))) }
+{
+    match (asked.settings, asked.strict) {
+        (None, false) => pair(asked, captures),
+        _ => Err(LineFault::NoFolder),
+    }
+}
+
+/// The line that asks for two captures to be compared.
+fn pair<'a>(asked: Comparing<'a>, captures: &[&'a str]) -> Result<Line<'a>, LineFault>
+    ensures ok { IfOk result (λ line. pair_meant (texts captures.now) (option_map (λ t. t.now) asked.entry.within)
+        (option_map (λ t. t.now) asked.entry.shift) asked.entry.lists (option_map (λ t. t.now) asked.entry.by)
+        ≡ Some (meaning_of line)) }
+    ensures depth { IfOk result HasDepth }
+    ensures fault { IfErr result (LacksValue (pair_meant (texts captures.now) (option_map (λ t. t.now) asked.entry.within)
+        (option_map (λ t. t.now) asked.entry.shift) asked.entry.lists (option_map (λ t. t.now) asked.entry.by))) }
 {
     match captures {
         [sent, received] => Ok(Line::Compare {
             sent: *sent,
             received: *received,
-            within,
-            shift,
+            within: asked.within,
+            shift: asked.shift,
+            lists: asked.lists,
+            by: asked.by,
         }),
         _ => Err(LineFault::Unpaired),
     }

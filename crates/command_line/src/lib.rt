@@ -7,9 +7,9 @@
 //!
 //! Proved: where `line_of` answers a line, its command and values are those that `clap`'s own definition of simple commands
 //! gives for the words, or where it doesn't take them, those that it gives of a run which may leave its folder out and of which
-//! something is told. Refused, NoValue, InputTwice and NoSegments come only where that definition says so of the words. A line
-//! has no empty name, at most one capture that is standard input, digests for a part alone, and a depth of 1 to 4. A capture's
-//! name is parted at its last `#`. A text is a time exactly where it is a number without leading zeros, below 2^64, and one of
+//! something is told. Each fault but OutOfMemory comes only where that definition says so of the words. A line has no empty
+//! name, at most one capture that is standard input, digests for a part alone, something to compare, and a depth of 1 to 4. A
+//! capture's name is parted at its last `#`. A text is a time exactly where it is a number without leading zeros, below 2^64, and one of
 //! four units, of less than 2^64 nanoseconds.
 //!
 //! Why it is so: the words are read in a crate of their own over `clap`, whose own definition says what they mean. Standard
@@ -27,6 +27,6 @@ mod matches;
 mod time;
 mod words;
 
-pub use capture::{CaptureName, STANDARD_INPUT, capture_name};
+pub use capture::{CaptureName, NO_CAPTURE, STANDARD_INPUT, capture_name};
 pub use line::{Line, LineFault, line_of};
 pub use time::time_of;

@@ -1,9 +1,12 @@
 //! The lines that the program takes.
-ghost use Rattle.std.specs.Prelude.{◌≡◌, ◌≤◌, IfOk, IfErr, OnOk, Some, length};
+ghost use Rattle.std.specs.Prelude.{◌≡◌, ◌≤◌, IfOk, IfErr, OnOk, Some, codes, length};
 ghost use Rattle.clap.specs.Walk.{texts};
-ghost use Rattle.command_line.specs.Meaning.{AreTaken, Explains, HasDepth, LendsToParts, ReadsInputOnce, input_uses, inputs_among, lends_to_a_whole, meaning_of, words_meant};
+ghost use Rattle.std.specs.Str.{bytes_eq};
+ghost use Rattle.command_line.specs.Meaning.{AreTaken, ComparesSomething, Explains, HasDepth, LendsToParts, ReadsInputOnce};
+ghost use Rattle.command_line.specs.Meaning.{are_no_captures, compares_nothing, input_uses, inputs_among};
+ghost use Rattle.command_line.specs.Meaning.{lends_to_a_whole, meaning_of, words_meant};
 
-use crate::capture::{STANDARD_INPUT, capture_name};
+use crate::capture::{NO_CAPTURE, STANDARD_INPUT, capture_name};
 use crate::words::line_in;
 use std::alloc::Global;
 use thiserror::Error;
@@ -107,6 +110,10 @@ pub enum Line<'a> {
         within: Option<&'a str>,
         /// How far the clock of what was received is ahead.
         shift: Option<&'a str>,
+        /// Whether what is of one alone is listed.
+        lists: bool,
+        /// What a table is by: `length`.
+        by: Option<&'a str>,
     },
     /// What a run wrote compared with what was captured of what went out.
     CompareWorked {
@@ -120,6 +127,14 @@ pub enum Line<'a> {
         within: Option<&'a str>,
         /// How far the clock of what was captured is ahead.
         shift: Option<&'a str>,
+        /// The settings text's file, where the tunnels are those of settings.
+        settings: Option<&'a str>,
+        /// Whether all octets are compared at the underlay, too.
+        strict: bool,
+        /// Whether what is of one alone is listed.
+        lists: bool,
+        /// What a table is by: `length`.
+        by: Option<&'a str>,
     },
 }
 
@@ -138,12 +153,18 @@ pub enum LineFault {
     /// `compare` is given neither two captures, nor a folder of a run with what was captured at the underlay and at ports.
     #[error("error: compare takes SENT and RECEIVED, or --worked DIR, --underlay FILE and a capture for each port")]
     Unpaired,
+    /// `compare` is given settings, or is asked to be strict, and no folder of a run.
+    #[error("error: --settings and --strict go with --worked DIR")]
+    NoFolder,
     /// More captures than one are standard input.
     #[error("error: standard input '-' can be one capture only")]
     InputTwice,
     /// Digests are lent to a run that is no part.
     #[error("error: --digests lends digests to a part of a run, and there is no --segments")]
     NoSegments,
+    /// What a run wrote is compared with no capture.
+    #[error("error: each capture is '-', so nothing is compared")]
+    NoCapture,
 }
 
 /// Reads all words, the program's name first.
@@ -152,6 +173,7 @@ pub fn line_of<'a>(alloc: Global, words: &'a [&'a str]) -> Result<Line<'a>, Line
     ensures depth { IfOk result HasDepth }
     ensures once { IfOk result (λ line. ReadsInputOnce (meaning_of line)) }
     ensures lends { IfOk result (λ line. LendsToParts (meaning_of line)) }
+    ensures compares { IfOk result (λ line. ComparesSomething (meaning_of line)) }
     ensures taken { OnOk result (AreTaken (texts words.entry.now)) }
     ensures fault { IfErr result (Explains (texts words.entry.now)) }
 {
@@ -164,6 +186,9 @@ pub fn line_of<'a>(alloc: Global, words: &'a [&'a str]) -> Result<Line<'a>, Line
     }
     if lends_to_a_whole(&line) {
         return Err(LineFault::NoSegments);
+    }
+    if compares_nothing(&line) {
+        return Err(LineFault::NoCapture);
     }
     Ok(line)
 }
@@ -205,6 +230,39 @@ fn lends_to_a_whole(line: &Line<'_>) -> bool
         } => digests.is_some() && segments.is_none(),
         _ => false,
     }
+}
+
+/// Whether a line compares what a run wrote with no capture.
+fn compares_nothing(line: &Line<'_>) -> bool
+    ensures { result ≡ compares_nothing (meaning_of line.now) }
+{
+    match line {
+        Line::CompareWorked {
+            underlay,
+            ports,
+            ..
+        } => is_no_capture(*underlay) && are_no_captures(ports.as_slice()),
+        _ => false,
+    }
+}
+
+/// Whether each of some names says that there is no capture.
+fn are_no_captures(names: &[&str]) -> bool
+    ensures { result ≡ are_no_captures (texts names.now) }
+{
+    for name in names {
+        if !is_no_capture(*name) {
+            return false;
+        }
+    }
+    true
+}
+
+/// Whether a name says that there is no capture.
+fn is_no_capture(name: &str) -> bool
+    ensures { result ≡ bytes_eq name.now (codes "-") }
+{
+    name == NO_CAPTURE
 }
 
 /// How many captures of some names are standard input.

@@ -2,7 +2,9 @@
 ghost use Rattle.std.specs.Prelude.{◌≡◌, ◌≤◌, IfOk, IfErr, IfSome, Some, option_and_then, option_map};
 ghost use Rattle.clap.specs.Words.{all_of, first_of, found_of, rows_of, subcommand_rows_of};
 ghost use Rattle.clap.specs.Walk.{texts};
-ghost use Rattle.command_line.specs.Meaning.{HasDepth, LacksValue, check_meant, compare_meant, depth_in, digest_meant, explain_meant, is_set, line_meant, meaning_of, merge_meant, migrate_meant, moment_in, run_meant, small_depth, split_meant};
+ghost use Rattle.command_line.specs.Meaning.{HasDepth, LacksValue, check_meant, compare_meant, depth_in, digest_meant};
+ghost use Rattle.command_line.specs.Meaning.{explain_meant, is_set, line_meant, meaning_of, merge_meant};
+ghost use Rattle.command_line.specs.Meaning.{migrate_meant, moment_in, run_meant, small_depth, split_meant};
 ghost use Rattle.command_line.specs.declared.line.LineFault.TheVariants.{OutOfMemory};
 
 use crate::comparing::{Comparing, comparison_line};
@@ -221,6 +223,10 @@ fn compare_from<'a>(alloc: Global, inner: &ArgMatches<'a>) -> Result<Line<'a>, L
         underlay: text(inner, "underlay"),
         within: text(inner, "within"),
         shift: text(inner, "shift"),
+        settings: text(inner, "settings"),
+        strict: is_set(inner, "strict"),
+        lists: is_set(inner, "list"),
+        by: text(inner, "by"),
     };
     comparison_line(alloc, asked, captures)
 }

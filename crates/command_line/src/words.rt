@@ -4,7 +4,8 @@ ghost use Rattle.clap.specs.Kinds.{IsAmong};
 ghost use Rattle.clap.specs.Walk.{texts};
 ghost use Rattle.clap.specs.Words.{fault_of, kind_of, subcommand_rows_of, takes};
 ghost use Rattle.command_line.specs.App.{tep_app};
-ghost use Rattle.command_line.specs.Meaning.{AreTaken, ExplainsWords, HasDepth, RefusesAsWhole, is_telling, line_meant, meaning_of, telling, telling_meant, words_meant};
+ghost use Rattle.command_line.specs.Meaning.{AreTaken, ExplainsWords, HasDepth, RefusesAsWhole, is_telling};
+ghost use Rattle.command_line.specs.Meaning.{line_meant, meaning_of, telling, telling_meant, words_meant};
 
 use crate::commands;
 use crate::line::{Line, LineFault};

@@ -1,6 +1,7 @@
 -- The texts of addresses: MAC addresses as six pairs of hexadecimal digits, IPv4 addresses as four decimals (RFC 3986,
 -- 3.2.2), IPv6 addresses in groups of hexadecimal digits (RFC 4291, 2.2, forms 1 and 2).
-use Rattle.std.specs.Prelude.{ℕ, zero, suc, ◌+◌, ◌-◌, ◌*◌, List, [], ◌∷◌, ◌++◌, length, replicate, nat_le, nat_lt, Bool, ◌&&◌, false, ◌==◌, Option, Some, None, option_map, option_and_then, if◌then◌else◌}
+use Rattle.std.specs.Prelude.{ℕ, zero, suc, ◌+◌, ◌-◌, ◌*◌, List, [], ◌∷◌, ◌++◌, length, replicate, nat_le, nat_lt}
+use Rattle.std.specs.Prelude.{Bool, ◌&&◌, false, ◌==◌, Option, Some, None, option_map, option_and_then, if◌then◌else◌}
 use Rattle.std.specs.List.{flat_map}
 use Rattle.std.specs.Int.{w16, to_be_bytes}
 use Rattle.ip_udp_view.specs.declared.addr.Addr.{Addr}

@@ -1,5 +1,6 @@
 -- Columns: what the value of a key means, or nothing where its type or its range is wrong. It states no standard.
-use Rattle.std.specs.Prelude.{ℕ, ℤ, pos, negsuc, List, [], ◌∷◌, Bool, ◌&&◌, not, nat_eq, Option, Some, None, nat_le, if◌then◌else◌, option_and_then}
+use Rattle.std.specs.Prelude.{ℕ, ℤ, pos, negsuc, List, [], ◌∷◌, Bool, ◌&&◌, not, nat_eq}
+use Rattle.std.specs.Prelude.{Option, Some, None, nat_le, if◌then◌else◌, option_and_then}
 use Rattle.std.specs.Cmp.Lexicographic.{pointwise}
 use Rattle.toml.specs.Data.{Data, as_integer, as_bool, as_str}
 use Rattle.frame_view.specs.Address.{is_group as is_group_mac}

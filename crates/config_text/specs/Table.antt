@@ -1,5 +1,6 @@
 -- The keys of a table, each with its column, and lists of tables. It states no standard.
-use Rattle.std.specs.Prelude.{ℕ, ◌≤◌, List, [], ◌∷◌, ◌++◌, length, nat_eq, nat_lt, Bool, true, ◌&&◌, Option, Some, None, is_some, option_map, Ok, Err, codes, decimal, ◌+◌, if◌then◌else◌}
+use Rattle.std.specs.Prelude.{ℕ, ◌≤◌, List, [], ◌∷◌, ◌++◌, length, nat_eq, nat_lt, Bool, true, ◌&&◌, Option}
+use Rattle.std.specs.Prelude.{Some, None, is_some, option_map, Ok, Err, codes, decimal, ◌+◌, if◌then◌else◌}
 use Rattle.std.specs.List.{list_any}
 use Rattle.std.specs.Cmp.Lexicographic.{pointwise}
 use Rattle.toml.specs.Data.{Data, Items, no_items, item, Members, no_members, member, get_member, as_table, as_array}

@@ -29,7 +29,8 @@ impl<'a> Reader<'a> {
     ghost use Rattle.toml.specs.Data.{get_member};
     ghost use Rattle.toml.specs.View.{view, table_view};
     ghost use Rattle.config_text.specs.Fault.{seen};
-    ghost use Rattle.config_text.specs.Table.{top, path, fits, absent, required, defaulted, optional, only, items, limited_items, required_items, listed, row_place, subtable};
+    ghost use Rattle.config_text.specs.Table.{top, path, fits, absent, required, defaulted, optional, only};
+    ghost use Rattle.config_text.specs.Table.{items, limited_items, required_items, listed, row_place, subtable};
     ghost use Rattle.config_text.specs.Reader.{place_of};
 
     /// At a document's table.

@@ -2,7 +2,9 @@
 --     outer_reasons, inner_reasons      why nothing arrives, in the order of the checks
 --     arrival      what arrives, or the first of the reasons
 --     Arrives      the same in whole texts
-use Rattle.std.specs.Prelude.{◌≡◌, ◌≢◌, ◌↔◌, ◌<◌, ◌⊎◌, ℕ, ◌+◌, ◌==◌, ◌&&◌, ◌||◌, nat_lt, Bool, true, false, not, IsTrue, if◌then◌else◌, List, [], ◌∷◌, ◌++◌, length, drop, map, Option, Some, None, is_none, Result, Ok, Err}
+use Rattle.std.specs.Prelude.{◌≡◌, ◌≢◌, ◌↔◌, ◌<◌, ◌⊎◌, ℕ, ◌+◌, ◌==◌, ◌&&◌, ◌||◌, nat_lt, Bool}
+use Rattle.std.specs.Prelude.{true, false, not, IsTrue, if◌then◌else◌, List, [], ◌∷◌, ◌++◌}
+use Rattle.std.specs.Prelude.{length, drop, map, Option, Some, None, is_none, Result, Ok, Err}
 use Rattle.header_octets.specs.Octets.{IsText}
 use Rattle.header_octets.specs.Sum.{total, folded}
 use Rattle.frame_view.specs.Address.{is_group as is_group_mac, is_reserved}
@@ -12,7 +14,10 @@ use Rattle.frame_view.specs.Frame.{IsFrame, plain, frame_of}
 use Rattle.frame_view.specs.Refusal.{as_refused}
 use Rattle.frame_view.specs.Tag.{begins_tag}
 use Rattle.frame_view.specs.declared.reason.Reason.{Reason}
-use Rattle.frame_view.specs.declared.reason.Reason.TheVariants.{TooLong, Sliced, Runt, BadSource, Reserved, NotIp, BadIp, BadIpSum, BadOuterSource, NotForUs, Fragment, NotUdp, BadUdp, NotTunnel, ZeroSum, BadUdpSum, UnknownVni, WrongGroup, UnknownPeer, InnerRunt, InnerTag}
+use Rattle.frame_view.specs.declared.reason.Reason.TheVariants.{TooLong, Sliced, Runt, BadSource, Reserved, NotIp, BadIp}
+use Rattle.frame_view.specs.declared.reason.Reason.TheVariants.{BadIpSum, BadOuterSource, NotForUs, Fragment, NotUdp}
+use Rattle.frame_view.specs.declared.reason.Reason.TheVariants.{BadUdp, NotTunnel, ZeroSum, BadUdpSum, UnknownVni}
+use Rattle.frame_view.specs.declared.reason.Reason.TheVariants.{WrongGroup, UnknownPeer, InnerRunt, InnerTag}
 use Rattle.frame_view.specs.declared.reason.Refused.{Refused}
 use Rattle.ip_udp_view.specs.declared.addr.Addr.{Addr}
 use Rattle.ip_udp_view.specs.declared.addr.Addr.TheVariants.{V4, V6}
@@ -22,7 +27,8 @@ use Rattle.ip_udp_view.specs.declared.udp_view.SumState.{SumState}
 use Rattle.ip_udp_view.specs.declared.udp_view.SumState.TheVariants.{Zero, Right, Partial, Wrong}
 use Rattle.ip_udp_view.specs.Addr.{is_group, is_usable}
 use Rattle.ip_udp_view.specs.Parts.{Parts}
-use Rattle.ip_udp_view.specs.Ip.{Family, Ip4, Ip6, header_length, is_bad_ip, is_bad_ip_sum, is_fragment, protocol, source, destination, payload}
+use Rattle.ip_udp_view.specs.Ip.{Family, Ip4, Ip6, header_length, is_bad_ip, is_bad_ip_sum}
+use Rattle.ip_udp_view.specs.Ip.{is_fragment, protocol, source, destination, payload}
 use Rattle.ip_udp_view.specs.Udp.{dport, udp_header, datagram, data_of, is_bad_udp, pseudo, partial_sum, sum_state}
 use Rattle.ip_udp_view.specs.Datagram.{Datagram, has_type, is_ip, family, ip_text, tags_text}
 use Rattle.vxlan_head.specs.Vxlan.{IsVxlan}
@@ -69,11 +75,23 @@ pub record Packet : Type 0 where
 
 -- the packet of a family that a text begins with
 abbrev pub packet_at : Family → List ℕ → Packet
-packet_at f r = record { source = source f r; destination = destination f r; is_fragment = is_fragment f r; protocol = protocol f r; payload = payload f r }
+packet_at f r = record {
+  source = source f r;
+  destination = destination f r;
+  is_fragment = is_fragment f r;
+  protocol = protocol f r;
+  payload = payload f r;
+}
 
 -- the same of a packet of a family in its parts
 abbrev pub packet_of : Family → Parts → Packet
-packet_of f v = record { source = source f v.head; destination = destination f v.head; is_fragment = is_fragment f v.head; protocol = protocol f v.head; payload = v.payload }
+packet_of f v = record {
+  source = source f v.head;
+  destination = destination f v.head;
+  is_fragment = is_fragment f v.head;
+  protocol = protocol f v.head;
+  payload = v.payload;
+}
 
 -- the packet in a frame
 abbrev pub packet_in : List ℕ → Packet

@@ -1,7 +1,7 @@
 //! The front and the end of a decision line.
 ghost use Rattle.std.specs.Prelude.{◌≡◌, ◌≤◌, ◌<◌, ◌+◌, ◌++◌, ◌∷◌, [], length, codes, decimal};
 ghost use Rattle.timeline.specs.Words.{source_word, tap_word};
-ghost use Rattle.decision_lines.specs.Lines.{front_text, line_front, segment_text};
+ghost use Rattle.decision_lines.specs.Lines.{line_front, segment_text};
 
 use crate::counter::Counter;
 use crate::line::Line;
@@ -18,23 +18,6 @@ impl Line {
     {
         self.put_origin(number, event.moment, event.source());
         self.put_number(event.number);
-        self.put_segment(segment);
-    }
-
-    /// The same of an event that is told by its parts, its number in its source counted too.
-    pub fn begin_counted(
-        &mut self,
-        number: &Counter,
-        moment: u64,
-        source: Source,
-        own: &Counter,
-        segment: Option<Vid>,
-    )
-        ensures text { self.new ≡ front_text number.now moment source own.now ++ (segment_text segment ++ codes " ") }
-        ensures len { length self.new ≤ 74 }
-    {
-        self.put_origin(number, moment, source);
-        self.put_counter(own);
         self.put_segment(segment);
     }
 

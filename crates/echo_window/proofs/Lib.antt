@@ -5,4 +5,5 @@ mod Laying
 mod Showing
 mod Texts
 mod Recent
+mod Rows
 mod Searching

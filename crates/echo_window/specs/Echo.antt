@@ -6,7 +6,8 @@
 --     echo_of      where the frame came in that a record is an echo of
 --     after        the frames that came in, once a record was met
 --     echoes       the same for records in a row
-use Rattle.std.specs.Prelude.{ℕ, ◌+◌, nat_eq, nat_lt, nat_le, ◌&&◌, not, if◌then◌else◌, Bool, List, [], ◌∷◌, ◌++◌, length, Option, Some, None, option_map, set, slice_index_or}
+use Rattle.std.specs.Prelude.{ℕ, ◌+◌, nat_eq, nat_lt, nat_le, ◌&&◌, not, if◌then◌else◌, Bool, List, []}
+use Rattle.std.specs.Prelude.{◌∷◌, ◌++◌, length, Option, Some, None, option_map, set, slice_index_or}
 use Rattle.std.specs.List.{find, flat_map, list_any, position}
 use Rattle.header_octets.specs.Octets.{is_same}
 
@@ -75,7 +76,8 @@ echo_of within came r = option_map (λ c. c.place) (find (is_echo_of within r) c
 
 -- what is kept of recent frames once a record was met: an echo's place with its frame; what is no echo as the latest frame
 abbrev pub with_met : ℕ → List Came → Record → List Came
-with_met within came r = elim (position (is_echo_of within r) came) [ Some i ↦ met_again r came i | None ↦ newest (came ++ first_met r ∷ []) ]
+with_met within came r = elim (position (is_echo_of within r) came)
+    [ Some i ↦ met_again r came i | None ↦ newest (came ++ first_met r ∷ []) ]
 
 -- what is kept of all frames: those in front that came in too early for an echo at the record's moment are forgotten
 abbrev pub after : ℕ → List Came → Record → List Came

@@ -29,6 +29,7 @@ pub(crate) struct Kept {
 
 impl Kept {
     /// Whether a record is an echo of the frame, whose octets these are. Most frames are of another length, which is seen first.
+    #[inline(always)]
     #[tactic(auto, using(crate::proofs::Texts::never_same))]
     pub(crate) fn is_met_by(&self, octets: &[u8], within: u64, met: &Record) -> bool
         ensures { result ≡ is_echo_of within (told met.now) (came_of self.now octets.now) }

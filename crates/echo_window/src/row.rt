@@ -1,5 +1,5 @@
 //! Octets in a row.
-ghost use Rattle.std.specs.Prelude.{◌≡◌, ◌≤◌, ◌+◌, ◌-◌, ◌*◌, [], ◌++◌, IfOk, drop, length, take, vec_capacity};
+ghost use Rattle.std.specs.Prelude.{◌≡◌, ◌≤◌, ◌+◌, ◌-◌, [], ◌++◌, IfOk, drop, length, replicate, take};
 
 use std::alloc::{AllocError, Global};
 use std::marker::Model;
@@ -14,19 +14,22 @@ const ROOM: usize = 2 * MOST_OCTETS;
 /// [`Row::new`] takes memory.
 #[derive(Drop)]
 pub(crate) struct Row {
+    /// As many as there is room for: what stands behind the end is nothing yet.
     octets: Vec<u8>,
     /// How many of them are forgotten.
     forgotten: usize,
+    /// Where the last one that it holds ends.
+    end: usize,
 }
 
 impl Model for Row {
-    ghost use Rattle.std.specs.Prelude.{ℕ, ◌≤◌, List, drop, length, vec_capacity};
+    ghost use Rattle.std.specs.Prelude.{ℕ, ◌≤◌, ◌≡◌, List, drop, length, take};
 
     ghost Value = { List ℕ };
 
-    ghost view = { λ r. drop r.forgotten r.octets.items };
+    ghost view = { λ r. drop r.forgotten (take r.end r.octets.items) };
 
-    ghost invariant = { λ r. (r.forgotten ≤ length r.octets.items) × ((length r.octets.items ≤ 8388608) × (8388608 ≤ vec_capacity r.octets)) };
+    ghost invariant = { λ r. (r.forgotten ≤ r.end) × ((r.end ≤ length r.octets.items) × (length r.octets.items ≡ 8388608)) };
 }
 
 impl Row {
@@ -35,8 +38,9 @@ impl Row {
         ensures { IfOk result (λ row. row ≡ []) }
     {
         Ok(Row {
-            octets: Vec::with_capacity(alloc, ROOM)?,
+            octets: zeros(alloc, room())?,
             forgotten: 0,
+            end: 0,
         })
     }
 
@@ -44,7 +48,8 @@ impl Row {
     pub(crate) fn held(&self) -> &[u8]
         ensures { result.now ≡ self.now }
     {
-        &self.octets[self.forgotten..]
+        let (begun, _) = self.octets.split_at(self.end);
+        &begun[self.forgotten..]
     }
 
     /// Forgets the first octets.
@@ -60,46 +65,65 @@ impl Row {
         requires { length self.old + length first.now + length second.now ≤ 4194304 }
         ensures { self.new ≡ self.old ++ (first.now ++ second.now) }
     {
-        if self.octets.len() + first.len() + second.len() > ROOM {
-            close_up(&mut self.octets, self.forgotten);
+        if self.end + first.len() + second.len() > ROOM {
+            close_up(self.octets.as_mut_slice(), self.forgotten, self.end);
+            self.end -= self.forgotten;
             self.forgotten = 0;
         }
-        append(&mut self.octets, first);
-        append(&mut self.octets, second);
+        append(self.octets.as_mut_slice(), self.end, first);
+        append(self.octets.as_mut_slice(), self.end + first.len(), second);
+        self.end += first.len() + second.len();
     }
 }
 
-/// Moves all but the first octets to the front.
-fn close_up(octets: &mut Vec<u8>, count: usize)
-    requires { count ≤ length octets.old.items }
-    ensures items { octets.new.items ≡ drop count octets.old.items }
-    ensures capacity { vec_capacity octets.new ≡ vec_capacity octets.old }
+/// For how many octets there is room.
+fn room() -> usize
+    ensures { result ≡ 8388608 }
 {
-    let held = octets.len();
-    shift(octets.as_mut_slice(), count, held);
-    octets.truncate(held - count);
+    ROOM
 }
 
-/// Moves the octets from `count` to `held` to the front.
+/// So many zeros.
+fn zeros(alloc: Global, count: usize) -> Result<Vec<u8>, AllocError>
+    ensures { IfOk result (λ octets. octets.items ≡ replicate count 0) }
+{
+    vec![in alloc; 0; count]
+}
+
+/// Moves the octets up to `end` but for the first to the front, which are no more than those.
+fn close_up(octets: &mut [u8], count: usize, end: usize)
+    requires order { count ≤ end }
+    requires whole { end ≤ length octets.old }
+    requires apart { end ≤ count + count }
+    ensures front { take (end - count) octets.new ≡ drop count (take end octets.old) }
+    ensures size { length octets.new ≡ length octets.old }
+{
+    let (begun, _) = octets.split_at_mut(end);
+    shift(begun, count, end);
+}
+
+/// Moves the octets from `count` to `held` to the front, as far as `count` at most.
 fn shift(octets: &mut [u8], count: usize, held: usize)
     requires order { count ≤ held }
+    requires apart { held ≤ count + count }
     requires whole { held ≡ length octets.old }
     ensures front { take (held - count) octets.new ≡ drop count octets.old }
     ensures size { length octets.new ≡ length octets.old }
 {
-    octets.copy_within(count..held, 0);
+    let (front, back) = octets.split_at_mut(count);
+    front[..held - count].copy_from_slice(back);
 }
 
-/// Puts octets behind others where there is room for them.
+/// Puts a text behind the first octets.
 #[inline(always)]
-fn append(octets: &mut Vec<u8>, text: &[u8])
-    requires { length octets.old.items + length text.now ≤ vec_capacity octets.old }
-    ensures items { octets.new.items ≡ octets.old.items ++ text.now }
-    ensures capacity { vec_capacity octets.old ≤ vec_capacity octets.new }
+fn append(octets: &mut [u8], end: usize, text: &[u8])
+    requires { end + length text.now ≤ length octets.old }
+    ensures items { take (end + length text.now) octets.new ≡ take end octets.old ++ text.now }
+    ensures size { length octets.new ≡ length octets.old }
 {
     if text.is_empty() {
         return;
     }
-    // There is room: nothing is taken.
-    let _ = octets.extend_from_slice(text);
+    let (_, rest) = octets.split_at_mut(end);
+    rest[..text.len()].copy_from_slice(text);
 }

@@ -184,8 +184,7 @@ impl Window {
             echoed: ArrayVec::new(),
         };
         self.row.put(met.addresses, met.rest);
-        // There is room: nothing is taken.
-        let _ = self.frames.push_back(kept);
+        self.frames.push_back_reserved(kept);
     }
 }
 

@@ -4,7 +4,8 @@
 --     accepted, changed      the settings after it
 --     table_fault, entries_changed      why a table refuses it, and the table after it
 -- What it does to both is its effect (Effect).
-use Rattle.std.specs.Prelude.{◌≡◌, ℕ, ◌+◌, Bool, not, ◌||◌, ◌&&◌, nat_lt, List, [], ◌∷◌, length, is_some, is_none, if◌then◌else◌, IfSome, Option, Some, None, true}
+use Rattle.std.specs.Prelude.{◌≡◌, ℕ, ◌+◌, Bool, not, ◌||◌, ◌&&◌, nat_lt, List, [], ◌∷◌, length}
+use Rattle.std.specs.Prelude.{is_some, is_none, if◌then◌else◌, IfSome, Option, Some, None, true}
 use Rattle.std.specs.Option.{option_map, option_map_or}
 use Rattle.frame_view.specs.First.{first}
 use Rattle.frame_view.specs.Address.{is_group as is_group_mac}
@@ -26,13 +27,18 @@ use Rattle.overlay_settings.specs.declared.change.Target.{Target}
 use Rattle.overlay_settings.specs.declared.change.Target.TheVariants as target
 use Rattle.overlay_settings.specs.declared.change.NewSegment.{NewSegment}
 use Rattle.overlay_settings.specs.declared.change.Change.{Change}
-use Rattle.overlay_settings.specs.declared.change.Change.TheVariants.{AddFlood, RemoveFlood, Fix, Unfix, SetAgeing, SetLearning, SetMember, PortUp, PortDown, Flush, AddSegment, RemoveSegment, SetLimit}
+use Rattle.overlay_settings.specs.declared.change.Change.TheVariants.{AddFlood, RemoveFlood, Fix, Unfix, SetAgeing}
+use Rattle.overlay_settings.specs.declared.change.Change.TheVariants.{SetLearning, SetMember, PortUp, PortDown}
+use Rattle.overlay_settings.specs.declared.change.Change.TheVariants.{Flush, AddSegment, RemoveSegment, SetLimit}
 pub use Rattle.overlay_settings.specs.Change.{named, is_about}
 use Rattle.endpoint_state.specs.declared.fault.ChangeFault.{ChangeFault}
-use Rattle.endpoint_state.specs.declared.fault.ChangeFault.TheVariants.{NoSegment, NoPort, NotThere, TableFull, GroupAddress, OutOfRange, NoFamily, OwnAddress, SegmentThere, PoolFull, SegmentsFull, NoTunnel}
+use Rattle.endpoint_state.specs.declared.fault.ChangeFault.TheVariants.{NoSegment, NoPort, NotThere, TableFull}
+use Rattle.endpoint_state.specs.declared.fault.ChangeFault.TheVariants.{GroupAddress, OutOfRange, NoFamily, OwnAddress}
+use Rattle.endpoint_state.specs.declared.fault.ChangeFault.TheVariants.{SegmentThere, PoolFull, SegmentsFull, NoTunnel}
 use Rattle.endpoint_state.specs.Fault.{of_flood}
 use Rattle.endpoint_state.specs.Settings.{Settings, SegmentSettings, tables_asked, segment_at, kind_named}
-use Rattle.endpoint_state.specs.Effect.{effect, applied, TableEffect, Fixes, Unfixes, Forgets, ForgetsAll, Ages, Limits, Empties, KeepsAll, table_effect, table_applied}
+use Rattle.endpoint_state.specs.Effect.{effect, applied, TableEffect, Fixes, Unfixes, Forgets, ForgetsAll}
+use Rattle.endpoint_state.specs.Effect.{Ages, Limits, Empties, KeepsAll, table_effect, table_applied}
 pub use Rattle.endpoint_state.specs.Effect.{kind_in, place_of}
 
 -- ---- why the settings refuse a change
@@ -51,9 +57,9 @@ at_tunnel (Some kind) next = next kind
 abbrev pub is_ageing : ℕ → Bool
 is_ageing seconds = not (nat_lt seconds 10 || nat_lt 1000000 seconds)
 
--- limits are 1 to 8,192
-abbrev pub is_limit : ℕ → Bool
-is_limit limit = not (nat_lt limit 1 || nat_lt 8192 limit)
+-- limits are 1 to the most entries of a segment
+abbrev pub is_limit : ℕ → ℕ → Bool
+is_limit most limit = not (nat_lt limit 1 || nat_lt most limit)
 
 -- VNIs have 24 bits (RFC 7348, 5; RFC 8926, 3.4)
 abbrev pub is_vni : ℕ → Bool
@@ -117,14 +123,14 @@ refused S (PortDown port) = port_fault (length S.ports.ports) port
 refused S (Flush vid) = in_segment (segment_at S vid) (λ s. None)
 refused S (AddSegment new) =
     first
-    ((OutOfRange, not (is_limit new.limit && is_ageing new.ageing && are_vnis new.tunnels))
+    ((OutOfRange, not (is_limit S.overlay.underlay.limits.entries new.limit && is_ageing new.ageing && are_vnis new.tunnels))
     ∷ (SegmentThere, is_taken S new)
     ∷ (SegmentsFull, not (nat_lt (segment_count (tables_asked S)) S.overlay.underlay.limits.segments))
     ∷ (PoolFull, is_too_much S new.limit)
     ∷ [])
 refused S (RemoveSegment vid) = in_segment (segment_at S vid) (λ s. None)
 refused S (SetLimit vid limit) =
-    in_segment (segment_at S vid) (λ s. first ((OutOfRange, not (is_limit limit))
+    in_segment (segment_at S vid) (λ s. first ((OutOfRange, not (is_limit S.overlay.underlay.limits.entries limit))
     ∷ (PoolFull, nat_lt (S.pool + s.limit) (sum_of_limits (tables_asked S) + limit)) ∷ []))
 
 -- ---- the settings after a change

@@ -21,7 +21,9 @@ use Rattle.overlay_settings.specs.declared.change.Target.{Target}
 use Rattle.overlay_settings.specs.declared.change.Target.TheVariants as target
 use Rattle.overlay_settings.specs.declared.change.NewSegment.{NewSegment}
 use Rattle.overlay_settings.specs.declared.change.Change.{Change}
-use Rattle.overlay_settings.specs.declared.change.Change.TheVariants.{AddFlood, RemoveFlood, Fix, Unfix, SetAgeing, SetLearning, SetMember, PortUp, PortDown, Flush, AddSegment, RemoveSegment, SetLimit}
+use Rattle.overlay_settings.specs.declared.change.Change.TheVariants.{AddFlood, RemoveFlood, Fix, Unfix, SetAgeing}
+use Rattle.overlay_settings.specs.declared.change.Change.TheVariants.{SetLearning, SetMember, PortUp, PortDown}
+use Rattle.overlay_settings.specs.declared.change.Change.TheVariants.{Flush, AddSegment, RemoveSegment, SetLimit}
 use Rattle.endpoint_state.specs.Settings.{Settings, BridgeSettings, SegmentSettings, segment_at, kind_named}
 
 -- the kind of the tunnel that a change means, where there is one

@@ -3,7 +3,10 @@ use Rattle.std.specs.Prelude.{ℕ, List, codes}
 use Rattle.flood_lists.specs.declared.fault.FloodFault.{FloodFault}
 use Rattle.flood_lists.specs.declared.fault.FloodFault.TheVariants as flood
 use Rattle.endpoint_state.specs.declared.fault.ChangeFault.{ChangeFault}
-use Rattle.endpoint_state.specs.declared.fault.ChangeFault.TheVariants.{NoSegment, NoPort, AlreadyThere, NotThere, FloodFull, TableFull, GroupAddress, OutOfRange, NoFamily, OwnAddress, SegmentThere, PoolFull, SegmentsFull, NoTunnel}
+use Rattle.endpoint_state.specs.declared.fault.ChangeFault.TheVariants.{NoSegment, NoPort, AlreadyThere, NotThere}
+use Rattle.endpoint_state.specs.declared.fault.ChangeFault.TheVariants.{FloodFull, TableFull, GroupAddress, OutOfRange}
+use Rattle.endpoint_state.specs.declared.fault.ChangeFault.TheVariants.{NoFamily, OwnAddress, SegmentThere, PoolFull}
+use Rattle.endpoint_state.specs.declared.fault.ChangeFault.TheVariants.{SegmentsFull, NoTunnel}
 
 -- the number of a fault in decision lines
 abbrev pub number_of : ChangeFault → ℕ

@@ -22,7 +22,7 @@ pub enum ChangeFault {
     TableFull,
     /// A group address where an individual one is asked for.
     GroupAddress,
-    /// An ageing outside 10 to 1,000,000 seconds, a limit outside 1 to 8,192, or the address 0.0.0.0, 255.255.255.255 or
+    /// An ageing outside 10 to 1,000,000 seconds, a limit outside 1 to what the limits in force say, or the address 0.0.0.0, 255.255.255.255 or
     /// ::.
     OutOfRange,
     /// The endpoint has no own address of this family.

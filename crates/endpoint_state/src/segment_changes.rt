@@ -28,14 +28,11 @@ use ip_udp_view::Tunnel;
 use overlay_settings::NewSegment;
 use underlay::{TunnelRule, Tunnels};
 
-/// The most entries that a segment's table may have.
-const MOST_ENTRIES: u32 = 8192;
-
-/// Whether a table may have this limit, in entries: 1 to 8,192.
-pub fn is_limit(limit: u32) -> bool
-    ensures { result ≡ is_limit limit }
+/// Whether a table may have this limit, in entries: 1 to the most that one may have.
+pub fn is_limit(most: u32, limit: u32) -> bool
+    ensures { result ≡ is_limit most limit }
 {
-    limit >= 1 && limit <= MOST_ENTRIES
+    limit >= 1 && limit <= most
 }
 
 /// The VNI of the tunnel of a kind, where there is one.
@@ -83,6 +80,13 @@ impl<T: PoolTables> Parts<T> {
         u32::from(self.under.settings().limits.segments)
     }
 
+    /// The most entries that a segment's table may have.
+    fn most_entries(&self) -> u32
+        ensures { result ≡ self.now.under.underlay.limits.entries }
+    {
+        self.under.settings().limits.entries
+    }
+
     /// What is left of the pool: the most that the limit of another segment may be.
     pub(crate) fn room(&self) -> u32
         ensures settings { result + sum_of_limits (tables_asked (settings_of T.segments T.pool self.now)) ≡ T.pool self.now.tables }
@@ -99,13 +103,13 @@ impl<T: PoolTables> Parts<T> {
         ensures absent { IfOk result (λ done. T.segments self.now.tables new.now.vid ≡ None) }
         ensures free { IfOk result (λ done. IsTrue (are_free self.now.under new.now.tunnels)) }
         ensures few { IfOk result (λ done. segment_count (T.segments self.now.tables) < self.now.under.underlay.limits.segments) }
-        ensures limit { IfOk result (λ done. (1 ≤ new.now.limit) × (new.now.limit ≤ 8192)) }
+        ensures limit { IfOk result (λ done. (1 ≤ new.now.limit) × (new.now.limit ≤ self.now.under.underlay.limits.entries)) }
         ensures ageing { IfOk result (λ done. (10 ≤ new.now.ageing) × (new.now.ageing ≤ 1000000)) }
         ensures room { IfOk result (λ done. sum_of_limits (T.segments self.now.tables) + new.now.limit ≤ T.pool self.now.tables) }
     {
         // In range by their types.
         let _numbers = numbers_of(new);
-        if !is_limit(new.limit) || !is_ageing(new.ageing) {
+        if !is_limit(self.most_entries(), new.limit) || !is_ageing(new.ageing) {
             return Err(ChangeFault::OutOfRange);
         }
         if self.is_taken(new) {
@@ -149,11 +153,7 @@ impl<T: PoolTables> Parts<T> {
             tags,
         });
         self.learning.set(vid, learning);
-        let rule = TableRule {
-            vid,
-            limit: limit as u16,
-            ageing,
-        };
+        let rule = TableRule { vid, limit, ageing };
         self.tables.add(rule, now);
         Ok(())
     }
@@ -180,12 +180,12 @@ impl<T: PoolTables> Parts<T> {
         requires sound { IsSound T.segments self.now }
         ensures fault { fault_of result ≡ refused (settings_of T.segments T.pool self.now) (SetLimit vid limit) }
         ensures there { IfOk result (λ done. IsSome (T.segments self.now.tables vid)) }
-        ensures limit { IfOk result (λ done. (1 ≤ limit) × (limit ≤ 8192)) }
+        ensures limit { IfOk result (λ done. (1 ≤ limit) × (limit ≤ self.now.under.underlay.limits.entries)) }
         ensures room { IfOk result (λ done. sum_of_limits (T.segments self.now.tables) + limit
             ≤ T.pool self.now.tables + (table_of vid (T.segments self.now.tables)).limit) }
     {
         self.check_segment(vid)?;
-        if !is_limit(limit) {
+        if !is_limit(self.most_entries(), limit) {
             return Err(ChangeFault::OutOfRange);
         }
         let room = u64::from(self.room()) + u64::from(self.tables.limit(vid));
@@ -206,7 +206,7 @@ impl<T: PoolTables> Parts<T> {
         ensures time { T.moment self.new.tables ≤ now }
     {
         self.check_limit(vid, limit)?;
-        self.tables.set_limit(vid, limit as u16, now);
+        self.tables.set_limit(vid, limit, now);
         Ok(())
     }
 }

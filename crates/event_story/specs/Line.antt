@@ -11,7 +11,8 @@ use Rattle.filter_db.specs.declared.entry.Entry.{Entry}
 use Rattle.filter_db.specs.declared.place.Place.{Place}
 use Rattle.filter_db.specs.declared.place.Place.TheVariants.{Remote}
 use Rattle.endpoint_core.specs.Text.{addr_text}
-use Rattle.story_words.specs.Words.{mac_text, place_text, port_text, up_word, tunnel_word, group_word, destination_word, origin_word, member_word, egress_word, receiver_word, sum_word, listed_word, stood_text}
+use Rattle.story_words.specs.Words.{mac_text, place_text, port_text, up_word, tunnel_word, group_word, destination_word}
+use Rattle.story_words.specs.Words.{origin_word, member_word, egress_word, receiver_word, sum_word, listed_word, stood_text}
 use Rattle.event_story.specs.declared.fact.Fact.{Fact}
 use Rattle.event_story.specs.declared.fact.Fact.TheVariants as facts
 

@@ -2,7 +2,8 @@
 use Rattle.std.specs.Prelude.{ℕ, not, if◌then◌else◌, List, ◌∷◌, length, Option, Some, None, Result}
 use Rattle.std.specs.Option.{option_map}
 use Rattle.frame_view.specs.declared.reason.Reason.{Reason}
-use Rattle.frame_view.specs.declared.reason.Reason.TheVariants.{TooLong, Sliced, Runt, PortDown, BadSource, Reserved, CutTag, BadVid, FrameType, NoSegment, NotMember}
+use Rattle.frame_view.specs.declared.reason.Reason.TheVariants.{TooLong, Sliced, Runt, PortDown, BadSource, Reserved}
+use Rattle.frame_view.specs.declared.reason.Reason.TheVariants.{CutTag, BadVid, FrameType, NoSegment, NotMember}
 use Rattle.frame_view.specs.declared.reason.Refused.{Refused}
 use Rattle.vlan_ports.specs.Ingress.{local_reasons, segment_vid}
 use Rattle.vlan_ports.specs.Ports.{Ports, port_at, is_up, egress_at}

@@ -3,7 +3,11 @@ use Rattle.std.specs.Prelude.{ℕ, not, is_none, if◌then◌else◌, List, [], 
 use Rattle.std.specs.Option.{option_map, option_and_then}
 use Rattle.frame_view.specs.First.{first}
 use Rattle.frame_view.specs.declared.reason.Reason.{Reason}
-use Rattle.frame_view.specs.declared.reason.Reason.TheVariants.{TooLong, Sliced, Runt, NotIp, BadIp, BadIpSum, BadOuterSource, NotForUs, Fragment, NotUdp, BadUdp, NotTunnel, ZeroSum, BadUdpSum, ShortTunnel, NoVniFlag, BadVersion, Control, NotEthernet, BadOptions, CriticalOption, UnknownVni, WrongGroup, UnknownPeer, InnerRunt, BadSource, Reserved, InnerTag}
+use Rattle.frame_view.specs.declared.reason.Reason.TheVariants.{TooLong, Sliced, Runt, NotIp, BadIp, BadIpSum, BadOuterSource}
+use Rattle.frame_view.specs.declared.reason.Reason.TheVariants.{NotForUs, Fragment, NotUdp, BadUdp, NotTunnel, ZeroSum}
+use Rattle.frame_view.specs.declared.reason.Reason.TheVariants.{BadUdpSum, ShortTunnel, NoVniFlag, BadVersion, Control}
+use Rattle.frame_view.specs.declared.reason.Reason.TheVariants.{NotEthernet, BadOptions, CriticalOption, UnknownVni, WrongGroup}
+use Rattle.frame_view.specs.declared.reason.Reason.TheVariants.{UnknownPeer, InnerRunt, BadSource, Reserved, InnerTag}
 use Rattle.frame_view.specs.declared.reason.Refused.{Refused}
 use Rattle.ip_udp_view.specs.declared.addr.Tunnel.{Tunnel}
 use Rattle.ip_udp_view.specs.declared.addr.Tunnel.TheVariants.{Vxlan, Geneve}

@@ -23,7 +23,7 @@ use endpoint_core::Endpoint;
 use frame_view::Reason;
 use layer_values::Lines;
 use overlay_config::{Settings, settings_of};
-use packet_layers::{Layers, Stop, dissect_into};
+use packet_layers::{Layers, Stop, dissect};
 use std::alloc::{AllocError, Global};
 use timeline::{Cut, Event, Happening, Tap, Timeline};
 use underlay::Under;
@@ -147,7 +147,7 @@ fn put_packet<'a>(
         (dissection (state_of endpoint.old).bridges.settings.overlay depth octets.now).stop)))) }
     ensures number { desk.new.number ≡ desk.old.number }
 {
-    dissect_into(&mut sheet.layers, octets, endpoint.under(), depth);
+    dissect(&mut sheet.layers, octets, endpoint.under(), depth);
     let is_left = is_left_at(sheet.layers.stop(), endpoint.under(), octets);
     let course = endpoint.take_packet(event.moment, original, octets, &mut desk.places);
     desk.write_course(event, endpoint, &course);

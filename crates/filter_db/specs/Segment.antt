@@ -75,7 +75,6 @@ set_ageing_in t seconds s = aged t (record s { ageing = seconds })
 -- the limits and ageings that a table may have (802.1Q, 8.8.3, has the ageings)
 pub record IsRule (rule : TableRule) : Type 0 where
   pub some_entries : 1 ≤ rule.limit
-  pub at_most : rule.limit ≤ 8192
   pub long_enough : 10 ≤ rule.ageing
   pub not_too_long : rule.ageing ≤ 1000000
 

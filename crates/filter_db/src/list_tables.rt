@@ -56,7 +56,7 @@ fn no_tables(alloc: Global) -> Result<Vec<Option<Table>>, AllocError>
 impl ListTables {
     ghost use Rattle.filter_db.specs.Database.{segments_of};
 
-    /// Empty tables, one for each rule, at moment 0. The rules are for distinct VIDs, with limits of 1 to 8,192 and
+    /// Empty tables, one for each rule, at moment 0. The rules are for distinct VIDs, with limits of 1 or more and
     /// ageings of 10 to 1,000,000 seconds. `AllocError`: a growth was refused.
     pub fn open(alloc: Global, rules: &[TableRule]) -> Result<ListTables, AllocError>
         requires distinct { AreForDistinctVids rules.now }

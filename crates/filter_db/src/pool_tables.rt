@@ -26,7 +26,7 @@ pub trait PoolTables: Tables {
         ensures { result ≡ (segment_at vid (Self.segments self.now)).limit };
 
     /// Adds a segment, without entries: whatever a segment of the same VID kept before is forgotten. There is none of
-    /// this VID now, and room for its limit of 1 to 8,192.
+    /// this VID now, and room for its limit, which is 1 or more.
     fn add(&mut self, rule: TableRule, now: u64)
         requires absent { Self.segments self.old rule.vid ≡ None }
         requires in_range { IsRule rule }
@@ -44,12 +44,11 @@ pub trait PoolTables: Tables {
         ensures moment { Self.moment self.new ≡ now }
         ensures pool { Self.pool self.new ≡ Self.pool self.old };
 
-    /// Gives a segment another limit, 1 to 8,192, for which there is room once its own so far is given back. If more
+    /// Gives a segment another limit, 1 or more, for which there is room once its own so far is given back. If more
     /// entries are live then, all entries of the segment go first, fixed ones too.
-    fn set_limit(&mut self, vid: Vid, limit: u16, now: u64)
+    fn set_limit(&mut self, vid: Vid, limit: u32, now: u64)
         requires has { IsSome (Self.segments self.old vid) }
         requires some_entries { 1 ≤ limit }
-        requires at_most { limit ≤ 8192 }
         requires room { let s = segment_at vid (Self.segments self.old) in
             sum_of_limits (Self.segments self.old) + limit ≤ Self.pool self.old + s.limit }
         requires time { Self.moment self.old ≤ now }

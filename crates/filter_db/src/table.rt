@@ -13,7 +13,7 @@ use std::marker::Model;
 /// One segment's table, seen by contracts as the segment. The memory of all its rows is taken when it is made.
 #[derive(Drop)]
 pub struct Table {
-    limit: u16,
+    limit: u32,
     ageing: u32,
     rows: Vec<(Mac, Entry)>,
 }
@@ -42,7 +42,7 @@ impl Table {
         Ok(Table {
             limit: rule.limit,
             ageing: rule.ageing,
-            rows: Vec::with_capacity(alloc, usize::from(rule.limit))?,
+            rows: Vec::with_capacity(alloc, rule.limit as usize)?,
         })
     }
 
@@ -171,7 +171,7 @@ impl Table {
     fn is_at_limit(&self) -> bool
         ensures { result ≡ nat_le self.now.limit (map.len self.now.entries) }
     {
-        usize::from(self.limit) <= self.rows.len()
+        self.limit as usize <= self.rows.len()
     }
 
     /// Puts an entry in place of an earlier one of its address, or behind the others.

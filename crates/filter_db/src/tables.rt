@@ -6,7 +6,8 @@
 ghost use Rattle.std.specs.Prelude.{◌≡◌, ◌↔◌, ◌≤◌, ℕ, IsTrue, IsSome, IsErr, IsOk};
 ghost use Rattle.std.specs.FinMap.{len};
 ghost use Rattle.filter_db.specs.Table.{stands, learned_as, is_full, has_fixed};
-ghost use Rattle.filter_db.specs.Segment.{Segments, aged_all, segment_at, adjusted, learn_in, fix_in, unfix_in, flush_place_in, flush_in, set_ageing_in};
+ghost use Rattle.filter_db.specs.Segment.{Segments, aged_all, segment_at, adjusted, learn_in};
+ghost use Rattle.filter_db.specs.Segment.{fix_in, unfix_in, flush_place_in, flush_in, set_ageing_in};
 
 use crate::Place;
 use frame_view::{Mac, Vid};
@@ -17,8 +18,8 @@ use thiserror::Error;
 pub struct TableRule {
     /// The segment's VLAN identifier.
     pub vid: Vid,
-    /// The most entries that it may have, 1 to 8,192.
-    pub limit: u16,
+    /// The most entries that it may have, 1 or more.
+    pub limit: u32,
     /// For how many seconds a learned entry is live, 10 to 1,000,000.
     pub ageing: u32,
 }

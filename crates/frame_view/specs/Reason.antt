@@ -1,7 +1,13 @@
 -- The reasons of a drop, with their numbers and names. It states no standard.
 use Rattle.std.specs.Prelude.{ℕ, List, codes}
 use Rattle.frame_view.specs.declared.reason.Reason.{Reason}
-use Rattle.frame_view.specs.declared.reason.Reason.TheVariants.{TooLong, Sliced, Runt, PortDown, BadSource, Reserved, CutTag, BadVid, FrameType, NoSegment, NotMember, NotIp, BadIp, BadIpSum, BadOuterSource, NotForUs, Fragment, NotUdp, BadUdp, NotTunnel, ZeroSum, BadUdpSum, ShortTunnel, NoVniFlag, BadVersion, Control, NotEthernet, BadOptions, CriticalOption, UnknownVni, WrongGroup, UnknownPeer, InnerRunt, InnerTag, SamePlace, Horizon, Unreachable, NoOutlet, TooBig, InnerTagOut}
+use Rattle.frame_view.specs.declared.reason.Reason.TheVariants.{TooLong, Sliced, Runt, PortDown, BadSource, Reserved, CutTag}
+use Rattle.frame_view.specs.declared.reason.Reason.TheVariants.{BadVid, FrameType, NoSegment, NotMember, NotIp, BadIp}
+use Rattle.frame_view.specs.declared.reason.Reason.TheVariants.{BadIpSum, BadOuterSource, NotForUs, Fragment, NotUdp, BadUdp}
+use Rattle.frame_view.specs.declared.reason.Reason.TheVariants.{NotTunnel, ZeroSum, BadUdpSum, ShortTunnel, NoVniFlag}
+use Rattle.frame_view.specs.declared.reason.Reason.TheVariants.{BadVersion, Control, NotEthernet, BadOptions, CriticalOption}
+use Rattle.frame_view.specs.declared.reason.Reason.TheVariants.{UnknownVni, WrongGroup, UnknownPeer, InnerRunt, InnerTag}
+use Rattle.frame_view.specs.declared.reason.Reason.TheVariants.{SamePlace, Horizon, Unreachable, NoOutlet, TooBig, InnerTagOut}
 
 -- its number, from 1
 abbrev pub number_of : Reason → ℕ

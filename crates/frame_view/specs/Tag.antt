@@ -1,6 +1,7 @@
 -- VLAN tags (IEEE 802.1Q, 9.6): behind the type 8100 stand 16 bits of control, which are a priority (PCP) of 3 bits,
 -- the drop eligible bit (DEI) and a VLAN identifier (VID) of 12 bits.
-use Rattle.std.specs.Prelude.{◌≡◌, ◌⊎◌, ℕ, zero, suc, Bool, true, false, IsTrue, ◌+◌, ◌*◌, ◌/◌, ◌%◌, ◌≤◌, ◌==◌, ◌&&◌, ◌||◌, nat_le, if◌then◌else◌, List, [], ◌∷◌, ◌++◌, length, drop}
+use Rattle.std.specs.Prelude.{◌≡◌, ◌⊎◌, ℕ, zero, suc, Bool, true, false, IsTrue, ◌+◌, ◌*◌, ◌/◌, ◌%◌, ◌≤◌}
+use Rattle.std.specs.Prelude.{◌==◌, ◌&&◌, ◌||◌, nat_le, if◌then◌else◌, List, [], ◌∷◌, ◌++◌, length, drop}
 use Rattle.std.specs.List.{concat, AllByRecursion}
 use Rattle.header_octets.specs.Octets.{octets, begins}
 

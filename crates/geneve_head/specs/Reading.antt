@@ -1,6 +1,7 @@
 -- What stands at the places of a Geneve packet, and why a text is none or isn't taken (RFC 8926, 3.4 and
 -- 3.5).
-use Rattle.std.specs.Prelude.{◌≡◌, ℕ, ◌+◌, ◌*◌, ◌/◌, ◌%◌, ◌==◌, nat_lt, nat_le, Bool, false, not, IsTrue, if◌then◌else◌, List, [], ◌∷◌, ◌++◌, length, drop, Option, Some, None, is_none}
+use Rattle.std.specs.Prelude.{◌≡◌, ℕ, ◌+◌, ◌*◌, ◌/◌, ◌%◌, ◌==◌, nat_lt, nat_le, Bool, false, not, IsTrue}
+use Rattle.std.specs.Prelude.{if◌then◌else◌, List, [], ◌∷◌, ◌++◌, length, drop, Option, Some, None, is_none}
 use Rattle.header_octets.specs.Octets.{IsText, octet, field, part}
 use Rattle.frame_view.specs.First.{first}
 use Rattle.frame_view.specs.declared.reason.Reason.{Reason}

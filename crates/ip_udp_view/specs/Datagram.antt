@@ -1,13 +1,15 @@
 -- A UDP datagram in an IP packet in an Ethernet frame, as one text of parts side by side
 -- (RFC 768; RFC 791, 3.1; RFC 8200, 3; over Ethernet RFC 894 and RFC 2464, 3).
-use Rattle.std.specs.Prelude.{◌≡◌, ◌<◌, ◌≤◌, ℕ, ◌+◌, ◌-◌, ◌^◌, ◌==◌, ◌||◌, nat_lt, Bool, false, not, if◌then◌else◌, List, [], ◌∷◌, ◌++◌, length, take, drop}
+use Rattle.std.specs.Prelude.{◌≡◌, ◌<◌, ◌≤◌, ℕ, ◌+◌, ◌-◌, ◌^◌, ◌==◌, ◌||◌, nat_lt, Bool, false}
+use Rattle.std.specs.Prelude.{not, if◌then◌else◌, List, [], ◌∷◌, ◌++◌, length, take, drop}
 use Rattle.std.specs.List.{concat, AllByRecursion}
 use Rattle.header_octets.specs.Octets.{begins}
 use Rattle.frame_view.specs.Tag.{IsOuterTag, without_tags}
 use Rattle.frame_view.specs.declared.reason.Reason.{Reason}
 use Rattle.frame_view.specs.declared.reason.Reason.TheVariants.{Runt, NotIp, BadIp, BadIpSum, Fragment, NotUdp, BadUdp}
 use Rattle.ip_udp_view.specs.declared.addr.Addr.{Addr}
-use Rattle.ip_udp_view.specs.Ip.{Family, Ip4, Ip6, IsHeader, IsSumRight, is_fragment, protocol, source, destination, packet_parts, payload, is_bad_ip, is_bad_ip_sum}
+use Rattle.ip_udp_view.specs.Ip.{Family, Ip4, Ip6, IsHeader, IsSumRight, is_fragment, protocol}
+use Rattle.ip_udp_view.specs.Ip.{source, destination, packet_parts, payload, is_bad_ip, is_bad_ip_sum}
 use Rattle.ip_udp_view.specs.Udp.{sport, dport, udp_sum, udp_length, udp_header, udp_parts, datagram, data_of, is_bad_udp}
 
 -- the type of a frame with an IPv4 packet (RFC 894), and with an IPv6 packet (RFC 2464, 3)

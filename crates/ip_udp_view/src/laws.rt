@@ -1,5 +1,6 @@
 //! Laws about the definitions: each is the contract of a function that does nothing.
-ghost use Rattle.ip_udp_view.specs.Laws.{IpSplitIsFound, IpSplitIsOnly, BadIpHasNoSplit, UdpSplitIsFound, UdpSplitIsOnly, BadUdpHasNoSplit, DatagramIsFound, DatagramIsOnly};
+ghost use Rattle.ip_udp_view.specs.Laws.{IpSplitIsFound, IpSplitIsOnly, BadIpHasNoSplit, UdpSplitIsFound};
+ghost use Rattle.ip_udp_view.specs.Laws.{UdpSplitIsOnly, BadUdpHasNoSplit, DatagramIsFound, DatagramIsOnly};
 
 /// A text is an IP packet and a trailer exactly where it isn't `BadIp`, and in one way.
 pub fn ip_split()

@@ -4,7 +4,8 @@
 use Rattle.std.specs.Prelude.{ℕ, ◌*◌, nat_le, if◌then◌else◌, List, [], ◌++◌, length, codes, decimal}
 use Rattle.header_octets.specs.Octets.{octet, field, part}
 use Rattle.frame_view.specs.Tag.{pcp_of, dei_of, vid_of, bit}
-use Rattle.ip_udp_view.specs.Ip.{Ip4 as family_4, Ip6 as family_6, total_length, payload_length, protocol, is_fragment, fragment_offset, has_more_fragments}
+use Rattle.ip_udp_view.specs.Ip.{Ip4 as family_4, Ip6 as family_6, total_length, payload_length}
+use Rattle.ip_udp_view.specs.Ip.{protocol, is_fragment, fragment_offset, has_more_fragments}
 use Rattle.ip_udp_view.specs.Udp.{sport, dport, udp_length}
 use Rattle.vxlan_head.specs.Reading.{vxlan_vni}
 use Rattle.geneve_head.specs.Reading.{geneve_vni, options_length}

@@ -1,7 +1,9 @@
 //! The values of headers in lines.
 ghost use Rattle.std.specs.Prelude.{◌≡◌, ◌≤◌, ◌+◌, ◌++◌, length, codes, decimal};
 ghost use Rattle.header_octets.specs.Octets.{field};
-ghost use Rattle.layer_values.specs.Values.{values_of, ether_values, tag_values, kind_values, fragment_values, ip4_ends, ip4_fields, ip4_values, ip6_ends, ip6_fields, ip6_values, udp_values, vxlan_values, geneve_values};
+ghost use Rattle.layer_values.specs.Values.{values_of, ether_values, tag_values, kind_values};
+ghost use Rattle.layer_values.specs.Values.{fragment_values, ip4_ends, ip4_fields, ip4_values, ip6_ends};
+ghost use Rattle.layer_values.specs.Values.{ip6_fields, ip6_values, udp_values, vxlan_values, geneve_values};
 
 use crate::lines::Lines;
 use crate::spelling::array_at;

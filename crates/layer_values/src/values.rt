@@ -1,6 +1,8 @@
 //! The values of headers.
 ghost use Rattle.std.specs.Prelude.{◌≡◌, ◌≤◌, ◌++◌, OnOk, length, string_bytes};
-ghost use Rattle.layer_values.specs.Values.{values_of, least, ether_values, tag_values, kind_values, fragment_values, ip4_ends, ip4_fields, ip4_values, ip6_ends, ip6_fields, ip6_values, udp_values, vxlan_values, geneve_values};
+ghost use Rattle.layer_values.specs.Values.{values_of, least, ether_values, tag_values, kind_values};
+ghost use Rattle.layer_values.specs.Values.{fragment_values, ip4_ends, ip4_fields, ip4_values, ip6_ends};
+ghost use Rattle.layer_values.specs.Values.{ip6_fields, ip6_values, udp_values, vxlan_values, geneve_values};
 
 use crate::spelling::{put_hex, put_ip4_at, put_ip6_at, put_mac};
 use byteorder::{BigEndian, ByteOrder};

@@ -1,5 +1,6 @@
 -- The format of numbers in lines of text: decimal digits without leading zeros, below 2 ^ 64. It states no standard.
-use Rattle.std.specs.Prelude.{◌≡◌, ◌<◌, ℕ, ◌+◌, ◌-◌, ◌*◌, ◌^◌, ◌==◌, nat_le, nat_lt, Bool, ◌&&◌, List, [], ◌∷◌, length, decimal, if◌then◌else◌, Option, Some, None}
+use Rattle.std.specs.Prelude.{◌≡◌, ◌<◌, ℕ, ◌+◌, ◌-◌, ◌*◌, ◌^◌, ◌==◌, nat_le, nat_lt, Bool, ◌&&◌}
+use Rattle.std.specs.Prelude.{List, [], ◌∷◌, length, decimal, if◌then◌else◌, Option, Some, None}
 
 -- '0' to '9'
 abbrev pub is_digit : ℕ → Bool

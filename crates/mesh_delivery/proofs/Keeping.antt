@@ -141,7 +141,7 @@ not_some (Some s) h = absurd (false≢true (sym h))
 
 abbrev refusals : Settings → NewSegment → List (ChangeFault × Bool)
 refusals S new =
-    (OutOfRange, not (is_limit new.limit && is_ageing new.ageing && are_vnis new.tunnels))
+    (OutOfRange, not (is_limit S.overlay.underlay.limits.entries new.limit && is_ageing new.ageing && are_vnis new.tunnels))
     ∷ (SegmentThere, is_taken S new)
     ∷ (SegmentsFull, not (nat_lt (segment_count (tables_asked S)) S.overlay.underlay.limits.segments))
     ∷ (PoolFull, is_too_much S new.limit)
@@ -153,7 +153,7 @@ new-absent S new none = not_some (segment_at S new.vid) (or_parts (is_some (segm
 
 -- its VNIs have 24 bits
 new-vnis : (S : Settings) (new : NewSegment) → refused S (AddSegment new) ≡ None → are_vnis new.tunnels ≡ true
-new-vnis S new none = third_true (is_limit new.limit) (is_ageing new.ageing) (are_vnis new.tunnels) (NothingHolds-from (refusals S new) none).0
+new-vnis S new none = third_true (is_limit S.overlay.underlay.limits.entries new.limit) (is_ageing new.ageing) (are_vnis new.tunnels) (NothingHolds-from (refusals S new) none).0
 
 abbrev AddsVnis : Effect → Type 0
 AddsVnis (Comes new) = are_vnis new.tunnels ≡ true

@@ -16,7 +16,7 @@ use Rattle.overlay_settings.specs.Settings.{Settings, sum_of_limits}
 use Rattle.overlay_config.specs.declared.version.Version.{Version}
 use Rattle.overlay_config.specs.declared.version.Version.TheVariants.{One, Two, Three}
 use Rattle.overlay_config.specs.Version.{version_named}
-use Rattle.overlay_config.specs.Limits.{usual_limits, limits_in, limits_of}
+use Rattle.overlay_config.specs.Limits.{addresses_in, usual_limits, limits_in, limits_of}
 use Rattle.overlay_config.specs.Port.{port_of}
 use Rattle.overlay_config.specs.Underlay.{underlay_of, underlay_keys, partial_of}
 use Rattle.overlay_config.specs.Segment.{segment_of, rules_of}
@@ -144,7 +144,7 @@ absent_limits Three ms none = ap limits_from none
 -- what stands behind the version, by the limits
 abbrev behind : Members → Version → Meaning Limits → Meaning Settings
 behind ms v m =
-    given_pool_of (top ms) >>= λ given. m >>= λ limits. subtable (top ms) (codes "underlay") >>= λ below.
+    given_pool_of (addresses_in m) (top ms) >>= λ given. m >>= λ limits. subtable (top ms) (codes "underlay") >>= λ below.
     underlay_of v limits below >>= λ underlay. required_items (top ms) (codes "port") 16 >>= λ tables.
     each (λ earlier at. port_of at) (codes "port") [] tables >>= λ ports.
     segments_of v limits (own underlay) (length ports) (top ms) >>= λ segments. pool_for given segments >>= λ pool.
@@ -213,8 +213,8 @@ underlay_third limits below u e =
 
 abbrev segments_from : Version → Limits → Own → ℕ → Option Data → Meaning (List SegmentRule)
 segments_from v limits own ports o =
-    required_from (codes "segment") limits.segments o >>= λ tables. each (segment_of v own ports) (codes "segment") [] tables >>= λ segments.
-    refuse_if (nat_lt 65536 (sum_of_limits segments)) (OverLimit (codes "limit")) >>= λ total. Ok segments
+    required_from (codes "segment") limits.segments o >>= λ tables. each (segment_of v own limits.entries ports) (codes "segment") [] tables >>= λ segments.
+    refuse_if (nat_lt limits.addresses (sum_of_limits segments)) (OverLimit (codes "limit")) >>= λ total. Ok segments
 
 segments_third : (limits : Limits) (own : Own) (ports : ℕ) (o : Option Data) → segments_from Three limits own ports o ≡ segments_from Two limits own ports o
 unfolding segment_of rules_of
@@ -235,7 +235,7 @@ third_means ms s two e =
     let other : (k : List ℕ) → same_key k (codes "version") ≡ false → get_member k (version_3 ms) ≡ get_member k ms = λ k apart. get_other k (codes "version") (integer (pos 3)) ms apart in
     let none = unknown_gone (top_keys false) (codes "limits") ms refl (keys_of (top ms) Two two) in
     bind_then (version_of (top ms)) _ s e (λ version version-is e0.
-    bind_then (given_pool_of (top ms)) _ s e0 (λ given given-is e1.
+    bind_then (given_pool_of (addresses_in (limits_of version (top ms))) (top ms)) _ s e0 (λ given given-is e1.
     bind_then (limits_of version (top ms)) _ s e1 (λ limits limits-is e2.
     bind_then (subtable (top ms) (codes "underlay")) _ s e2 (λ below below-is e3.
     bind_then (underlay_of version limits below) _ s e3 (λ underlay underlay-is e4.
@@ -246,9 +246,12 @@ third_means ms s two e =
     let underlay-two : underlay_of Two limits below ≡ Ok underlay = subst (λ (v : Version). underlay_of v limits below ≡ Ok underlay) is underlay-is in
     let segments-two : segments_of Two limits (own underlay) (length ports) (top ms) ≡ Ok segments =
     subst (λ (v : Version). segments_of v limits (own underlay) (length ports) (top ms) ≡ Ok segments) is segments-is in
+    let same-limits : limits_of Three new ≡ limits_of version (top ms) = absent_limits Three (version_3 ms) (other (codes "limits") refl ∙ none) ∙ sym (absent_limits version ms none) in
     gives (version_of new) _ Three s (version_three ms two)
-    (gives (given_pool_of new) _ given s (ap (optional_value (codes "pool") (range 1 65536)) (other (codes "pool") refl) ∙ given-is)
-    (gives (limits_of Three new) _ limits s (absent_limits Three (version_3 ms) (other (codes "limits") refl ∙ none) ∙ sym (absent_limits version ms none) ∙ limits-is)
+    (gives (given_pool_of (addresses_in (limits_of Three new)) new) _ given s
+    (ap (λ (m : Meaning Limits). given_pool_of (addresses_in m) new) same-limits
+    ∙ ap (optional_value (codes "pool") (range 1 (addresses_in (limits_of version (top ms))))) (other (codes "pool") refl) ∙ given-is)
+    (gives (limits_of Three new) _ limits s (same-limits ∙ limits-is)
     (gives (subtable new (codes "underlay")) _ below s (ap (subtable_from (codes "underlay")) (other (codes "underlay") refl) ∙ below-is)
     (gives (underlay_of Three limits below) _ underlay s (underlay_third limits below underlay underlay-two)
     (gives (required_items new (codes "port") 16) _ tables s (ap (required_from (codes "port") 16) (other (codes "port") refl) ∙ tables-is)

@@ -18,7 +18,7 @@ use Rattle.overlay_settings.specs.Settings.{Settings}
 use Rattle.overlay_config.specs.declared.version.Version.{Version}
 use Rattle.overlay_config.specs.declared.version.Version.TheVariants.{One, Two, Three}
 use Rattle.overlay_config.specs.Port.{port_of}
-use Rattle.overlay_config.specs.Limits.{usual_limits, limits_of}
+use Rattle.overlay_config.specs.Limits.{addresses_in, usual_limits, limits_of}
 use Rattle.overlay_config.specs.Underlay.{underlay_of}
 use Rattle.overlay_config.specs.Segment.{segment_of}
 use Rattle.overlay_config.specs.Settings.{top_keys, segments_of, version_of, given_pool_of, settings_of, settings_in}
@@ -41,17 +41,17 @@ row_table name k (datetime x) at e = absurd cc
 row_table name k (array x) at e = absurd cc
 row_table name k (table m) at e = (m, refl, sym (ok_is (place (numbered name k ++ codes ".") m) at e))
 
-each_kept : (own : Own) (ports : ℕ) (name : List ℕ) (earlier : List SegmentRule) (ds : List Data) (all : List SegmentRule) → each (segment_of One own ports) name earlier ds ≡ Ok all → each (segment_of Two own ports) name earlier (map migrated_item ds) ≡ Ok all
-each_kept own ports name earlier [] all e = e
-each_kept own ports name earlier (d ∷ ds) all e =
+each_kept : (own : Own) (entries ports : ℕ) (name : List ℕ) (earlier : List SegmentRule) (ds : List Data) (all : List SegmentRule) → each (segment_of One own entries ports) name earlier ds ≡ Ok all → each (segment_of Two own entries ports) name earlier (map migrated_item ds) ≡ Ok all
+each_kept own entries ports name earlier [] all e = e
+each_kept own entries ports name earlier (d ∷ ds) all e =
     let n : ℕ = length earlier + 1 in
     let q : List ℕ = numbered name n ++ codes "." in
     bind_then (row_place name n d) _ all e (λ at at-is e0.
-    bind_then (segment_of One own ports earlier at) _ all e0 (λ x x-is e1.
+    bind_then (segment_of One own entries ports earlier at) _ all e0 (λ x x-is e1.
     let r = row_table name n d at at-is in
     gives (row_place name n (migrated_item d)) _ (place q (migrated_segment r.0)) all (ap (λ y. row_place name n (migrated_item y)) r.1)
-    (gives (segment_of Two own ports earlier (place q (migrated_segment r.0))) _ x all (segment_kept own ports earlier q r.0 x (subst (λ a. segment_of One own ports earlier a ≡ Ok x) r.2 x-is))
-    (each_kept own ports name (earlier ++ x ∷ []) ds all e1))))
+    (gives (segment_of Two own entries ports earlier (place q (migrated_segment r.0))) _ x all (segment_kept own entries ports earlier q r.0 x (subst (λ a. segment_of One own entries ports earlier a ≡ Ok x) r.2 x-is))
+    (each_kept own entries ports name (earlier ++ x ∷ []) ds all e1))))
 
 list_of_migrated : (ds : Items) → list_of (migrated_items ds) ≡ map migrated_item (list_of ds)
 list_of_migrated no_items = refl
@@ -107,10 +107,10 @@ segments_kept : (limits : Limits) (own : Own) (ports : ℕ) (ms : Members) (segm
 unfolding segments_of
 segments_kept limits own ports ms segments e =
     bind_then (required_items (top ms) (codes "segment") limits.segments) _ segments e (λ tables tables-is e0.
-    bind_then (each (segment_of One own ports) (codes "segment") [] tables) _ segments e0 (λ rows rows-is e1.
+    bind_then (each (segment_of One own limits.entries ports) (codes "segment") [] tables) _ segments e0 (λ rows rows-is e1.
     gives (required_items (top (version_2 ms)) (codes "segment") limits.segments) _ (map migrated_item tables) segments
     (ap (required_from (codes "segment") limits.segments) (segment_there ms) ∙ list_kept (codes "segment") limits.segments (get_member (codes "segment") ms) tables tables-is)
-    (gives (each (segment_of Two own ports) (codes "segment") [] (map migrated_item tables)) _ rows segments (each_kept own ports (codes "segment") [] tables rows rows-is) e1)))
+    (gives (each (segment_of Two own limits.entries ports) (codes "segment") [] (map migrated_item tables)) _ rows segments (each_kept own limits.entries ports (codes "segment") [] tables rows rows-is) e1)))
 
 top_known : (ms : Members) → all_known (top_keys false) ms ≡ true → all_known (top_keys false) (version_2 ms) ≡ true
 top_known ms all =
@@ -137,7 +137,7 @@ unfolding settings_of
 version_2_means ms s one e =
     let new : Place = top (version_2 ms) in
     bind_then (version_of (top ms)) _ s e (λ version version-is e0.
-    bind_then (given_pool_of (top ms)) _ s e0 (λ given given-is e1.
+    bind_then (given_pool_of (addresses_in (limits_of version (top ms))) (top ms)) _ s e0 (λ given given-is e1.
     bind_then (limits_of version (top ms)) _ s e1 (λ limits limits-is el.
     bind_then (subtable (top ms) (codes "underlay")) _ s el (λ below below-is e2.
     bind_then (underlay_of version limits below) _ s e2 (λ underlay underlay-is e3.
@@ -151,8 +151,9 @@ version_2_means ms s one e =
     (subst (λ v. segments_of v limits (own underlay) (length ports) (top ms) ≡ Ok segments) is segments-is) in
     let underlay-one : underlay_of One usual_limits below ≡ Ok underlay =
     subst (λ l. underlay_of One l below ≡ Ok underlay) usual (subst (λ v. underlay_of v limits below ≡ Ok underlay) is underlay-is) in
+    let given-usual : given_pool_of 65536 (top ms) ≡ Ok given = subst (λ v. given_pool_of (addresses_in (limits_of v (top ms))) (top ms) ≡ Ok given) is given-is in
     gives (version_of new) _ Two s (version_two ms one)
-    (gives (given_pool_of new) _ given s (ap (optional_value (codes "pool") (range 1 65536)) (top_key (codes "pool") ms refl refl) ∙ given-is)
+    (gives (given_pool_of 65536 new) _ given s (ap (optional_value (codes "pool") (range 1 65536)) (top_key (codes "pool") ms refl refl) ∙ given-usual)
     (gives (subtable new (codes "underlay")) _ below s (ap (subtable_from (codes "underlay")) (top_key (codes "underlay") ms refl refl) ∙ below-is)
     (gives (underlay_of Two usual_limits below) _ underlay s (underlay_kept usual_limits below ∙ underlay-one)
     (gives (required_items new (codes "port") 16) _ tables s (ap (required_from (codes "port") 16) (top_key (codes "port") ms refl refl) ∙ tables-is)

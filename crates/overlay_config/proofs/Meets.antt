@@ -1,5 +1,5 @@
 -- Settings that are read keep to the rules.
-use Rattle.std.proofs.Common.{◌≡◌, ℕ, ◌≤◌, ◌+◌, ◌++◌, ◌∷◌, [], Bool, true, false, cond, ◌&&◌, ◌||◌, not, nat_lt, List, length, map, Option, Some, None, option_map, is_some, is_none, Ok, codes, refl, sym, subst, lit≤, arith}
+use Rattle.std.proofs.Common.{◌≡◌, ℕ, min, ◌≤◌, ◌+◌, ◌++◌, ◌∷◌, [], Bool, true, false, cond, ◌&&◌, ◌||◌, not, nat_lt, List, length, map, Option, Some, None, option_map, is_some, is_none, Ok, codes, refl, sym, subst, lit≤, arith}
 use Rattle.std.specs.Prelude.{IsTrue, IsFalse, IfSome, ◌==◌}
 use Rattle.std.specs.List.{list_any}
 use Rattle.std.proofs.lemmas.Bool.{ltb-false, and_parts, false≢true}
@@ -19,6 +19,7 @@ use Rattle.underlay.specs.declared.segment.TagRule.TheVariants.{Drop}
 use Rattle.underlay.specs.declared.limits.Limits.{Limits}
 use Rattle.underlay.specs.declared.settings.Underlay.{Underlay}
 use Rattle.underlay.specs.Settings.{own}
+use Rattle.config_text.specs.Fault.{Meaning}
 use Rattle.config_text.specs.declared.fault.SettingsFault.TheVariants.{Missing, BadValue, TwoSegments, OverLimit}
 use Rattle.config_text.specs.Address.{mac_of, ip4_of, ip6_of, addr_of}
 use Rattle.config_text.specs.Column.{range, truth, text, one_of, gathered, individual_mac, is_individual, is_endpoint, endpoint_addr, own_ip4, own_ip6}
@@ -41,8 +42,8 @@ use Rattle.overlay_config.specs.Segment.{tables_of, rules_of, segment_of, segmen
 use Rattle.overlay_settings.specs.Settings.{Settings, sum_of_limits}
 use Rattle.overlay_config.specs.Settings.{version_of, given_pool_of, pool_for, segments_of, settings_of, settings_in}
 use Rattle.overlay_config.specs.Document.{document}
-use Rattle.overlay_config.specs.Limits.{usual_limits, limit_keys, limits_in, limits_of}
-use Rattle.overlay_settings.specs.Rules.{IsWithin, EachBehind, IsKnown, IsEndpoint, IsIndividual, IsHop, AreHops, IsUnderlay, IsPort, IsMember, IsSegment, MeetsRules}
+use Rattle.overlay_config.specs.Limits.{addresses_in, usual_limits, limit_keys, limits_in, limits_of}
+use Rattle.overlay_settings.specs.Rules.{IsWithin, EachBehind, IsKnown, IsEndpoint, IsIndividual, IsHop, AreHops, IsUnderlay, IsPort, IsMember, IsSegment, HasEntries, MeetsRules}
 use Rattle.overlay_config.proofs.Hops.{all_size, none_size, hops_are}
 use Rattle.overlay_config.proofs.Readings.{bind_then, ok_is, fits_ok, refuse_ok, range_meets, required_meets, optional_meets, required_range, defaulted_range, limited_items_ok, required_items_ok, Longer, from_none, each_meets, gathered_meets, listed_meets, some_is, unless_ok, when_ok}
 use Rattle.overlay_config.proofs.Tunnels.{addr_meets, AreTunnels, tunnel_meets, one_meets, tunnels_meet}
@@ -196,19 +197,36 @@ default_ttl = (lit≤ tt, lit≤ tt)
 usual_segments : IsWithin 1 4094 256
 usual_segments = (lit≤ tt, lit≤ tt)
 
-abbrev AreLimits : Limits → Type 0
-AreLimits l = IsWithin 1 4094 l.segments
+usual_entries : IsWithin 1 131072 8192
+usual_entries = (lit≤ tt, lit≤ tt)
+
+usual_addresses : IsWithin 1 262144 65536
+usual_addresses = (lit≤ tt, lit≤ tt)
+
+record AreLimits (l : Limits) : Type 0 where
+  segments : IsWithin 1 4094 l.segments
+  entries : IsWithin 1 131072 l.entries
+  addresses : IsWithin 1 262144 l.addresses
+
+usual_are : AreLimits usual_limits
+usual_are = record { segments = usual_segments; entries = usual_entries; addresses = usual_addresses }
 
 limits_in_meet : (at : Place) (l : Limits) → limits_in at ≡ Ok l → AreLimits l
 unfolding limits_in
 limits_in_meet at l e =
     bind_then (only at limit_keys) _ l e (λ known known-is e0.
     bind_then (defaulted at (codes "segments") (range 1 4094) 256) _ l e0 (λ segments segments-is e1.
-    subst AreLimits (ok_is _ l e1) (defaulted_range at (codes "segments") 1 4094 256 segments usual_segments segments-is)))
+    bind_then (defaulted at (codes "entries") (range 1 131072) 8192) _ l e1 (λ entries entries-is e2.
+    bind_then (defaulted at (codes "addresses") (range 1 262144) 65536) _ l e2 (λ addresses addresses-is e3.
+    subst AreLimits (ok_is _ l e3) (record {
+      segments = defaulted_range at (codes "segments") 1 4094 256 segments usual_segments segments-is;
+      entries = defaulted_range at (codes "entries") 1 131072 8192 entries usual_entries entries-is;
+      addresses = defaulted_range at (codes "addresses") 1 262144 65536 addresses usual_addresses addresses-is;
+    })))))
 
 limits_meet : (version : Version) (at : Place) (l : Limits) → limits_of version at ≡ Ok l → AreLimits l
-limits_meet One at l e = subst AreLimits (ok_is usual_limits l e) usual_segments
-limits_meet Two at l e = subst AreLimits (ok_is usual_limits l e) usual_segments
+limits_meet One at l e = subst AreLimits (ok_is usual_limits l e) usual_are
+limits_meet Two at l e = subst AreLimits (ok_is usual_limits l e) usual_are
 limits_meet Three at l e = bind_then (subtable at (codes "limits")) limits_in l e (λ table table-is e0. limits_in_meet table l e0)
 
 underlay_meets : (version : Version) (limits : Limits) (at : Place) (u : Underlay) → AreLimits limits → underlay_of version limits at ≡ Ok u → IsUnderlay u × (limits ≡ u.limits)
@@ -247,7 +265,9 @@ underlay_meets version limits at u are e =
         known = k.1;
         hop_count = h.0;
         hops = h.1;
-        limits = are;
+        limits = are.segments;
+        entries = are.entries;
+        addresses = are.addresses;
       },
       refl,
     ))))))))))))))
@@ -271,126 +291,136 @@ members_meet at key ports other all e =
     bind_then (items at key) _ all e (λ ds ds-is e0.
     (from_none (IsMember ports other) (length ds) all (gathered_meets (IsMember ports other) (put_member ports other) (member_meets ports other) [] ds all (fits_ok (path at key) (gathered (put_member ports other) [] ds) all e0))).0)
 
-default_limit : IsWithin 1 8192 256
-default_limit = (lit≤ tt, lit≤ tt)
+default_limit : (entries : ℕ) → 1 ≤ entries → IsWithin 1 entries (min 256 entries)
+default_limit entries some = (omega (arith, some), omega arith)
 
 default_ageing : IsWithin 10 1000000 300
 default_ageing = (lit≤ tt, lit≤ tt)
 
 -- the rules that say nothing of tunnels
-record AreLocal (ports : ℕ) (x : LocalRules) : Type 0 where
-  limit : IsWithin 1 8192 x.limit
+record AreLocal (entries ports : ℕ) (x : LocalRules) : Type 0 where
+  limit : IsWithin 1 entries x.limit
   ageing : IsWithin 10 1000000 x.ageing
   untagged : EachBehind (IsMember ports []) [] x.untagged
   tagged : EachBehind (IsMember ports x.untagged) [] x.tagged
 
 -- the limit and the ageing of a segment of settings
-abbrev AreCommon : CommonRules → Type 0
-AreCommon x = IsWithin 1 8192 x.limit × IsWithin 10 1000000 x.ageing
+abbrev AreCommon : ℕ → CommonRules → Type 0
+AreCommon entries x = IsWithin 1 entries x.limit × IsWithin 10 1000000 x.ageing
 
-pub common_meets : (at : Place) (x : CommonRules) → common_of (range 1 8192) (range 10 1000000) at ≡ Ok x → AreCommon x
+common_meets : (entries : ℕ) (some : 1 ≤ entries) (at : Place) (x : CommonRules) → common_of (min 256 entries) (range 1 entries) (range 10 1000000) at ≡ Ok x → AreCommon entries x
 unfolding common_of
-common_meets at x e =
-    bind_then (defaulted at (codes "limit") (range 1 8192) 256) _ x e (λ limit limit-is e0.
+common_meets entries some at x e =
+    bind_then (defaulted at (codes "limit") (range 1 entries) (min 256 entries)) _ x e (λ limit limit-is e0.
     bind_then (defaulted at (codes "ageing") (range 10 1000000) 300) _ x e0 (λ ageing ageing-is e1.
     bind_then (defaulted at (codes "learn") truth true) _ x e1 (λ learning learning-is e2.
     bind_then (defaulted at (codes "peers") (one_of peer_words) Any) _ x e2 (λ peers peers-is e3.
     bind_then (defaulted at (codes "tags") (one_of tag_words) Drop) _ x e3 (λ tags tags-is e4.
-    subst AreCommon (ok_is _ x e4) (
-      defaulted_range at (codes "limit") 1 8192 256 limit default_limit limit-is,
+    subst (AreCommon entries) (ok_is _ x e4) (
+      defaulted_range at (codes "limit") 1 entries (min 256 entries) limit (default_limit entries some) limit-is,
       defaulted_range at (codes "ageing") 10 1000000 300 ageing default_ageing ageing-is,
     ))))))
 
-local_meets : (ports : ℕ) (at : Place) (x : LocalRules) → local_of ports at ≡ Ok x → AreLocal ports x
+local_meets : (entries ports : ℕ) (some : 1 ≤ entries) (at : Place) (x : LocalRules) → local_of entries ports at ≡ Ok x → AreLocal entries ports x
 unfolding local_of
-local_meets ports at x e =
-    bind_then (common_of (range 1 8192) (range 10 1000000) at) _ x e (λ common common-is e0.
+local_meets entries ports some at x e =
+    bind_then (common_of (min 256 entries) (range 1 entries) (range 10 1000000) at) _ x e (λ common common-is e0.
     bind_then (members_of at (codes "untagged") ports []) _ x e0 (λ untagged untagged-is e1.
     bind_then (members_of at (codes "tagged") ports untagged) _ x e1 (λ tagged tagged-is e2.
-    let c = common_meets at common common-is in
-    subst (AreLocal ports) (ok_is _ x e2) (record {
+    let c = common_meets entries some at common common-is in
+    subst (AreLocal entries ports) (ok_is _ x e2) (record {
       limit = c.0;
       ageing = c.1;
       untagged = members_meet at (codes "untagged") ports [] untagged untagged-is;
       tagged = members_meet at (codes "tagged") ports untagged tagged tagged-is;
     }))))
 
-tables_meet : (own : Own) (ports : ℕ) (at : Place) (x : TunnelRules × LocalRules) → tables_of own ports at ≡ Ok x → AreTunnels own x.0 × AreLocal ports x.1
-tables_meet own ports at x e =
+tables_meet : (own : Own) (entries ports : ℕ) (some : 1 ≤ entries) (at : Place) (x : TunnelRules × LocalRules) → tables_of own entries ports at ≡ Ok x → AreTunnels own x.0 × AreLocal entries ports x.1
+tables_meet own entries ports some at x e =
     bind_then (tunnels_of own at) _ x e (λ tunnels tunnels-is e0.
-    bind_then (local_of ports at) _ x e0 (λ local local-is e1.
-    subst (λ r. AreTunnels own r.0 × AreLocal ports r.1) (ok_is _ x e1)
-    (tunnels_meet own at tunnels tunnels-is, local_meets ports at local local-is)))
+    bind_then (local_of entries ports at) _ x e0 (λ local local-is e1.
+    subst (λ r. AreTunnels own r.0 × AreLocal entries ports r.1) (ok_is _ x e1)
+    (tunnels_meet own at tunnels tunnels-is, local_meets entries ports some at local local-is)))
 
-rules_meet : (version : Version) (own : Own) (ports : ℕ) (at : Place) (x : TunnelRules × LocalRules) → rules_of version own ports at ≡ Ok x → AreTunnels own x.0 × AreLocal ports x.1
+rules_meet : (version : Version) (own : Own) (entries ports : ℕ) (some : 1 ≤ entries) (at : Place) (x : TunnelRules × LocalRules) → rules_of version own entries ports at ≡ Ok x → AreTunnels own x.0 × AreLocal entries ports x.1
 unfolding rules_of
-rules_meet One own ports at x e =
+rules_meet One own entries ports some at x e =
     bind_then (tunnel_of at) _ x e (λ tunnel tunnel-is e0.
-    bind_then (local_of ports at) _ x e0 (λ local local-is e1.
+    bind_then (local_of entries ports at) _ x e0 (λ local local-is e1.
     bind_then (flood_of own tunnel.kind at) _ x e1 (λ flood flood-is e2.
-    subst (λ r. AreTunnels own r.0 × AreLocal ports r.1) (ok_is _ x e2)
-    (one_meets own at tunnel flood (tunnel_meets at tunnel tunnel-is) flood-is, local_meets ports at local local-is))))
-rules_meet Two own ports at x e = tables_meet own ports at x e
-rules_meet Three own ports at x e = tables_meet own ports at x e
+    subst (λ r. AreTunnels own r.0 × AreLocal entries ports r.1) (ok_is _ x e2)
+    (one_meets own at tunnel flood (tunnel_meets at tunnel tunnel-is) flood-is, local_meets entries ports some at local local-is))))
+rules_meet Two own entries ports some at x e = tables_meet own entries ports some at x e
+rules_meet Three own entries ports some at x e = tables_meet own entries ports some at x e
 
-segment_meets : (version : Version) (own : Own) (ports : ℕ) (earlier : List SegmentRule) (at : Place) (s : SegmentRule) → segment_of version own ports earlier at ≡ Ok s → IsSegment own ports earlier s
+segment_meets : (version : Version) (own : Own) (entries ports : ℕ) (some : 1 ≤ entries) (earlier : List SegmentRule) (at : Place) (s : SegmentRule) → segment_of version own entries ports earlier at ≡ Ok s
+    → IsSegment own ports earlier s × HasEntries entries earlier s
 unfolding segment_of
-segment_meets version own ports earlier at s e =
+segment_meets version own entries ports some earlier at s e =
     bind_then (only at (segment_keys version)) _ s e (λ known known-is e0.
     bind_then (required at (codes "vid") (range 1 4094)) _ s e0 (λ vid vid-is e1.
-    bind_then (rules_of version own ports at) _ s e1 (λ rules rules-is e2.
+    bind_then (rules_of version own entries ports at) _ s e1 (λ rules rules-is e2.
     bind_then (refuse_if (is_taken vid rules.0.0 earlier) (TwoSegments (numbered (codes "segment") (length earlier + 1)))) _ s e2 (λ apart apart-is e3.
-    let r = rules_meet version own ports at rules rules-is in
-    subst (IsSegment own ports earlier) (ok_is _ s e3) (record {
-      vid = required_range at (codes "vid") 1 4094 vid vid-is;
-      tunnel_count = r.0.tunnel_count;
-      tunnels = r.0.tunnels;
-      flood_count = r.0.flood_count;
-      flood = r.0.flood;
-      limit = r.1.limit;
-      ageing = r.1.ageing;
-      untagged = r.1.untagged;
-      tagged = r.1.tagged;
-      apart = refuse_ok _ _ apart apart-is;
-    })))))
+    let r = rules_meet version own entries ports some at rules rules-is in
+    subst (λ x. IsSegment own ports earlier x × HasEntries entries earlier x) (ok_is _ s e3) (
+      record {
+        vid = required_range at (codes "vid") 1 4094 vid vid-is;
+        tunnel_count = r.0.tunnel_count;
+        tunnels = r.0.tunnels;
+        flood_count = r.0.flood_count;
+        flood = r.0.flood;
+        limit = r.1.limit.0;
+        ageing = r.1.ageing;
+        untagged = r.1.untagged;
+        tagged = r.1.tagged;
+        apart = refuse_ok _ _ apart apart-is;
+      },
+      r.1.limit.1,
+    )))))
 
 -- ---- all
 
-segments_meet : (version : Version) (limits : Limits) (own : Own) (ports : ℕ) (at : Place) (segments : List SegmentRule) → segments_of version limits own ports at ≡ Ok segments
-    → IsWithin 1 limits.segments (length segments) × EachBehind (IsSegment own ports) [] segments × (sum_of_limits segments ≤ 65536)
+-- a number of segments, each by its rules and with its limit within the most, and the sum of their limits within the addresses
+abbrev AreSegments : Limits → Own → ℕ → List SegmentRule → Type 0
+AreSegments limits own ports segments =
+    IsWithin 1 limits.segments (length segments) × EachBehind (IsSegment own ports) [] segments × EachBehind (HasEntries limits.entries) [] segments × (sum_of_limits segments ≤ limits.addresses)
+
+segments_meet : (version : Version) (limits : Limits) (some : 1 ≤ limits.entries) (own : Own) (ports : ℕ) (at : Place) (segments : List SegmentRule) → segments_of version limits own ports at ≡ Ok segments → AreSegments limits own ports segments
 unfolding segments_of
-segments_meet version limits own ports at segments e =
+segments_meet version limits some own ports at segments e =
     bind_then (required_items at (codes "segment") limits.segments) _ segments e (λ tables tables-is e0.
-    bind_then (each (segment_of version own ports) (codes "segment") [] tables) _ segments e0 (λ all all-is e1.
-    bind_then (refuse_if (nat_lt 65536 (sum_of_limits all)) (OverLimit (codes "limit"))) _ segments e1 (λ total total-is e2.
-    let q = from_none (IsSegment own ports) (length tables) all (each_meets (IsSegment own ports) (segment_of version own ports) (codes "segment") (segment_meets version own ports) [] tables all all-is) in
+    bind_then (each (segment_of version own limits.entries ports) (codes "segment") [] tables) _ segments e0 (λ all all-is e1.
+    bind_then (refuse_if (nat_lt limits.addresses (sum_of_limits all)) (OverLimit (codes "limit"))) _ segments e1 (λ total total-is e2.
+    let means = segment_meets version own limits.entries ports some in
+    let q = from_none (IsSegment own ports) (length tables) all (each_meets (IsSegment own ports) (segment_of version own limits.entries ports) (codes "segment") (λ earlier at s is. (means earlier at s is).0) [] tables all all-is) in
+    let r = from_none (HasEntries limits.entries) (length tables) all (each_meets (HasEntries limits.entries) (segment_of version own limits.entries ports) (codes "segment") (λ earlier at s is. (means earlier at s is).1) [] tables all all-is) in
     let few = required_items_ok at (codes "segment") limits.segments tables tables-is in
-    subst (λ l. IsWithin 1 limits.segments (length l) × EachBehind (IsSegment own ports) [] l × (sum_of_limits l ≤ 65536)) (ok_is all segments e2)
-    (subst (IsWithin 1 limits.segments) (sym q.1) few, q.0, ltb-false 65536 (sum_of_limits all) (refuse_ok _ _ total total-is)))))
+    subst (AreSegments limits own ports) (ok_is all segments e2)
+    (subst (IsWithin 1 limits.segments) (sym q.1) few, q.0, r.0, ltb-false limits.addresses (sum_of_limits all) (refuse_ok _ _ total total-is)))))
 
 -- segments of which there is one have limits that sum to 1 at least
 some_entries : (own : Own) (ports : ℕ) (segments : List SegmentRule) → 1 ≤ length segments → EachBehind (IsSegment own ports) [] segments → 1 ≤ sum_of_limits segments
 some_entries addrs ports [] some are = absurd (omega (arith, some))
 some_entries addrs ports (s ∷ segments) some are =
     let sums : sum_of_limits (s ∷ segments) ≡ s.limit + sum_of_limits segments = sum_by-cons (λ (n : ℕ). n) s.limit (map (λ (r : SegmentRule). r.limit) segments) in
-    omega (arith, sums, are.0.limit.0)
+    omega (arith, sums, are.0.limit)
 
-pool_meets : (given : Option ℕ) (segments : List SegmentRule) (pool : ℕ) → pool_for given segments ≡ Ok pool → IfSome given (IsWithin 1 65536)
-    → IsWithin 1 65536 (sum_of_limits segments) → IsWithin 1 65536 pool × (sum_of_limits segments ≤ pool)
-pool_meets None segments pool e is sums = subst (λ n. IsWithin 1 65536 n × (sum_of_limits segments ≤ n)) (ok_is (sum_of_limits segments) pool e) (sums, omega arith)
-pool_meets (Some given) segments pool e is sums =
+pool_meets : (most : ℕ) (given : Option ℕ) (segments : List SegmentRule) (pool : ℕ) → pool_for given segments ≡ Ok pool → IfSome given (IsWithin 1 most)
+    → IsWithin 1 most (sum_of_limits segments) → IsWithin 1 most pool × (sum_of_limits segments ≤ pool)
+pool_meets most None segments pool e is sums = subst (λ n. IsWithin 1 most n × (sum_of_limits segments ≤ n)) (ok_is (sum_of_limits segments) pool e) (sums, omega arith)
+pool_meets most (Some given) segments pool e is sums =
     bind_then (refuse_if (nat_lt given (sum_of_limits segments)) (OverLimit (codes "pool"))) _ pool e (λ enough enough-is e0.
-    subst (λ n. IsWithin 1 65536 n × (sum_of_limits segments ≤ n)) (ok_is given pool e0) (is, ltb-false given (sum_of_limits segments) (refuse_ok _ _ enough enough-is)))
+    subst (λ n. IsWithin 1 most n × (sum_of_limits segments ≤ n)) (ok_is given pool e0) (is, ltb-false given (sum_of_limits segments) (refuse_ok _ _ enough enough-is)))
 
-given_meets : (at : Place) (given : Option ℕ) → given_pool_of at ≡ Ok given → IfSome given (IsWithin 1 65536)
-given_meets at given e = optional_meets (IsWithin 1 65536) (range 1 65536) (range_meets 1 65536) at (codes "pool") given e
+given_meets : (most : ℕ) (at : Place) (given : Option ℕ) → given_pool_of most at ≡ Ok given → IfSome given (IsWithin 1 most)
+given_meets most at given e = optional_meets (IsWithin 1 most) (range 1 most) (range_meets 1 most) at (codes "pool") given e
 
 -- settings that are read keep to the rules
 pub settings_meet : (members : Members) (s : Settings) → settings_of members ≡ Ok s → MeetsRules s
 unfolding settings_of
 settings_meet members s e =
     bind_then (version_of (top members)) _ s e (λ version version-is ev.
-    bind_then (given_pool_of (top members)) _ s ev (λ given given-is e0.
+    bind_then (given_pool_of (addresses_in (limits_of version (top members))) (top members)) _ s ev (λ given given-is e0.
     bind_then (limits_of version (top members)) _ s e0 (λ limits limits-is el.
     bind_then (subtable (top members) (codes "underlay")) _ s el (λ below below-is e1.
     bind_then (underlay_of version limits below) _ s e1 (λ underlay underlay-is e2.
@@ -398,18 +428,21 @@ settings_meet members s e =
     bind_then (each (λ earlier at. port_of at) (codes "port") [] tables) _ s e3 (λ ports ports-is e4.
     bind_then (segments_of version limits (own underlay) (length ports) (top members)) _ s e4 (λ segments segments-is e5.
     bind_then (pool_for given segments) _ s e5 (λ pool pool-is e6.
-    let u = underlay_meets version limits below underlay (limits_meet version (top members) limits limits-is) underlay-is in
+    let are = limits_meet version (top members) limits limits-is in
+    let u = underlay_meets version limits below underlay are underlay-is in
     let p = from_none IsPort (length tables) ports (each_meets IsPort (λ earlier at. port_of at) (codes "port") port_meets [] tables ports ports-is) in
     let few = required_items_ok (top members) (codes "port") 16 tables tables-is in
-    let q = segments_meet version limits (own underlay) (length ports) (top members) segments segments-is in
-    let l = pool_meets given segments pool pool-is (given_meets (top members) given given-is) (some_entries (own underlay) (length ports) segments q.0.0 q.1, q.2) in
+    let q = segments_meet version limits are.entries.0 (own underlay) (length ports) (top members) segments segments-is in
+    let below-most : IfSome given (IsWithin 1 limits.addresses) = subst (λ (m : Meaning Limits). IfSome given (IsWithin 1 (addresses_in m))) limits-is (given_meets _ (top members) given given-is) in
+    let l = pool_meets limits.addresses given segments pool pool-is below-most (some_entries (own underlay) (length ports) segments q.0.0 q.1, q.3) in
     subst MeetsRules (ok_is _ s e6) (record {
       underlay = u.0;
       port_count = subst (IsWithin 1 16) (sym p.1) few;
       ports = p.0;
       segment_count = subst (λ (l : Limits). IsWithin 1 l.segments (length segments)) u.1 q.0;
       segments = q.1;
-      pool = l.0;
+      entries = subst (λ (l : Limits). EachBehind (HasEntries l.entries) [] segments) u.1 q.2;
+      pool = subst (λ (l : Limits). IsWithin 1 l.addresses pool) u.1 l.0;
       limits = l.1;
     }))))))))))
 

@@ -1,5 +1,5 @@
 -- A segment of version 1 means the same in version 2.
-use Rattle.std.proofs.Common.{◌≡◌, ℕ, codes, Bool, true, false, ◌&&◌, ◌||◌, nat_eq, nat_lt, List, [], ◌∷◌, ◌++◌, length, Option, Some, None, Ok, Err, nat_cmp, is_eq, Ordering, Less, Equal, Greater, refl, sym, ap, subst, ◌∙◌, inl, inr}
+use Rattle.std.proofs.Common.{◌≡◌, ℕ, min, codes, Bool, true, false, ◌&&◌, ◌||◌, nat_eq, nat_lt, List, [], ◌∷◌, ◌++◌, length, Option, Some, None, Ok, Err, nat_cmp, is_eq, Ordering, Less, Equal, Greater, refl, sym, ap, subst, ◌∙◌, inl, inr}
 use Rattle.std.proofs.lemmas.Bool.{cases_Bool, and_parts, false≢true}
 use Rattle.std.proofs.lemmas.Cmp.{nat_list_cmp_total}
 use Rattle.std.specs.Cmp.{tied_itself}
@@ -262,12 +262,12 @@ default_kept : {A : Type 0} (p : List ℕ) (m : Members) (k : List ℕ) (column 
     → defaulted (place p (migrated_segment m)) k column default ≡ defaulted (place p m) k column default
 default_kept p m k column default same = ap (default_value (p ++ k) column default) same
 
-common_kept : (limits ageings : Data → Option ℕ) (p : List ℕ) (m : Members) → common_of limits ageings (place p (migrated_segment m)) ≡ common_of limits ageings (place p m)
+common_kept : (usual : ℕ) (limits ageings : Data → Option ℕ) (p : List ℕ) (m : Members) → common_of usual limits ageings (place p (migrated_segment m)) ≡ common_of usual limits ageings (place p m)
 unfolding common_of
-common_kept limits ageings p m =
+common_kept usual limits ageings p m =
     let at : Place = place p (migrated_segment m) in
     let old : Place = place p m in
-    same_bind (defaulted at (codes "limit") limits 256) (defaulted old (codes "limit") limits 256) _ _ (default_kept p m (codes "limit") limits 256 (segment_key (codes "limit") m refl refl refl)) (λ a.
+    same_bind (defaulted at (codes "limit") limits usual) (defaulted old (codes "limit") limits usual) _ _ (default_kept p m (codes "limit") limits usual (segment_key (codes "limit") m refl refl refl)) (λ a.
     same_bind (defaulted at (codes "ageing") ageings 300) (defaulted old (codes "ageing") ageings 300) _ _ (default_kept p m (codes "ageing") ageings 300 (segment_key (codes "ageing") m refl refl refl)) (λ b.
     same_bind (defaulted at (codes "learn") truth true) (defaulted old (codes "learn") truth true) _ _ (default_kept p m (codes "learn") truth true (segment_key (codes "learn") m refl refl refl)) (λ c.
     same_bind (defaulted at (codes "peers") (one_of peer_words) Any) (defaulted old (codes "peers") (one_of peer_words) Any) _ _ (default_kept p m (codes "peers") (one_of peer_words) Any (segment_key (codes "peers") m refl refl refl)) (λ d.
@@ -278,39 +278,39 @@ members_kept : (p : List ℕ) (m : Members) (k : List ℕ) (ports : ℕ) (other 
 unfolding members_of
 members_kept p m k ports other same = ap (λ o. items_value (p ++ k) o >>= λ ds. fits (p ++ k) (gathered (put_member ports other) [] ds)) same
 
-local_kept : (ports : ℕ) (p : List ℕ) (m : Members) → local_of ports (place p (migrated_segment m)) ≡ local_of ports (place p m)
+local_kept : (entries ports : ℕ) (p : List ℕ) (m : Members) → local_of entries ports (place p (migrated_segment m)) ≡ local_of entries ports (place p m)
 unfolding local_of
-local_kept ports p m =
+local_kept entries ports p m =
     let at : Place = place p (migrated_segment m) in
     let old : Place = place p m in
-    same_bind (common_of (range 1 8192) (range 10 1000000) at) (common_of (range 1 8192) (range 10 1000000) old) _ _ (common_kept (range 1 8192) (range 10 1000000) p m) (λ c.
+    same_bind (common_of (min 256 entries) (range 1 entries) (range 10 1000000) at) (common_of (min 256 entries) (range 1 entries) (range 10 1000000) old) _ _ (common_kept (min 256 entries) (range 1 entries) (range 10 1000000) p m) (λ c.
     same_bind (members_of at (codes "untagged") ports []) (members_of old (codes "untagged") ports []) _ _ (members_kept p m (codes "untagged") ports [] (segment_key (codes "untagged") m refl refl refl)) (λ untagged.
     same_bind (members_of at (codes "tagged") ports untagged) (members_of old (codes "tagged") ports untagged) _ _ (members_kept p m (codes "tagged") ports untagged (segment_key (codes "tagged") m refl refl refl)) (λ tagged. refl)))
 
-rules_kept : (own : Own) (ports : ℕ) (p : List ℕ) (m : Members) (rules : TunnelRules × LocalRules) → rules_of One own ports (place p m) ≡ Ok rules → rules_of Two own ports (place p (migrated_segment m)) ≡ Ok rules
+rules_kept : (own : Own) (entries ports : ℕ) (p : List ℕ) (m : Members) (rules : TunnelRules × LocalRules) → rules_of One own entries ports (place p m) ≡ Ok rules → rules_of Two own entries ports (place p (migrated_segment m)) ≡ Ok rules
 unfolding rules_of tunnel_of
-rules_kept own ports p m rules e =
+rules_kept own entries ports p m rules e =
     let old : Place = place p m in
     let at : Place = place p (migrated_segment m) in
     bind_then (tunnel_of old) _ rules e (λ tunnel tunnel-is e0.
     bind_then (required old (codes "vni") vni_number) _ tunnel tunnel-is (λ vni vni-is t0.
     bind_then (required old (codes "tunnel") (one_of tunnel_words)) _ tunnel t0 (λ kind kind-is t1.
-    bind_then (local_of ports old) _ rules e0 (λ local local-is e1.
+    bind_then (local_of entries ports old) _ rules e0 (λ local local-is e1.
     bind_then (flood_of own tunnel.kind old) _ rules e1 (λ flood flood-is e2.
     let is : tunnel_as kind vni ≡ tunnel = ok_is (tunnel_as kind vni) tunnel t1 in
     let flood-of : flood_of own kind old ≡ Ok flood = subst (λ t. flood_of own t.kind old ≡ Ok flood) (sym is) flood-is in
     gives (tunnels_of own at) _ (tunnel_as kind vni ∷ [], flood) rules (tunnels_kept own p m kind vni flood vni-is kind-is flood-of)
-    (gives (local_of ports at) _ local rules (local_kept ports p m ∙ local-is)
+    (gives (local_of entries ports at) _ local rules (local_kept entries ports p m ∙ local-is)
     (ap (λ t. Ok ((t ∷ [], flood), local)) is ∙ e2)))))))
 
-pub segment_kept : (own : Own) (ports : ℕ) (earlier : List SegmentRule) (p : List ℕ) (m : Members) (x : SegmentRule) → segment_of One own ports earlier (place p m) ≡ Ok x → segment_of Two own ports earlier (place p (migrated_segment m)) ≡ Ok x
+pub segment_kept : (own : Own) (entries ports : ℕ) (earlier : List SegmentRule) (p : List ℕ) (m : Members) (x : SegmentRule) → segment_of One own entries ports earlier (place p m) ≡ Ok x → segment_of Two own entries ports earlier (place p (migrated_segment m)) ≡ Ok x
 unfolding segment_of
-segment_kept own ports earlier p m x e =
+segment_kept own entries ports earlier p m x e =
     let old : Place = place p m in
     let at : Place = place p (migrated_segment m) in
     bind_then (only old (segment_keys One)) _ x e (λ known known-is e0.
     bind_then (required old (codes "vid") (range 1 4094)) _ x e0 (λ vid vid-is e1.
-    bind_then (rules_of One own ports old) _ x e1 (λ rules rules-is e2.
+    bind_then (rules_of One own entries ports old) _ x e1 (λ rules rules-is e2.
     gives (only at (segment_keys Two)) _ known x (known_only at (segment_keys Two) known (segment_known m (only_known old (segment_keys One) known known-is)))
     (gives (required at (codes "vid") (range 1 4094)) _ vid x (ap (required_value (p ++ codes "vid") (range 1 4094)) (segment_key (codes "vid") m refl refl refl) ∙ vid-is)
-    (gives (rules_of Two own ports at) _ rules x (rules_kept own ports p m rules rules-is) e2)))))
+    (gives (rules_of Two own entries ports at) _ rules x (rules_kept own entries ports p m rules rules-is) e2)))))

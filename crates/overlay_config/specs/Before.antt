@@ -1,5 +1,5 @@
--- What settings meant before limits could be asked for: of each version at most 256 segments, and no key `limits`. It states no
--- standard.
+-- What settings meant before limits could be asked for: of each version at most 256 segments, at most 8,192 entries of each and
+-- 65,536 of all, and no key `limits`. It states no standard.
 use Rattle.std.specs.Prelude.{ℕ, nat_lt, List, [], ◌∷◌, length, Ok, codes}
 use Rattle.toml.specs.Data.{Members}
 use Rattle.flood_lists.specs.declared.own.Own.{Own}
@@ -24,7 +24,7 @@ top_keys = codes "version" ∷ codes "pool" ∷ codes "underlay" ∷ codes "port
 unfoldable pub segments_of : Version → Own → ℕ → Place → Meaning (List SegmentRule)
 segments_of version own ports at = do
   tables ← required_items at (codes "segment") 256
-  segments ← each (segment_of version own ports) (codes "segment") [] tables
+  segments ← each (segment_of version own 8192 ports) (codes "segment") [] tables
   total ← refuse_if (nat_lt 65536 (sum_of_limits segments)) (OverLimit (codes "limit"))
   Ok segments
 
@@ -39,9 +39,9 @@ version_of at = do
 unfoldable pub settings_of : Members → Meaning Settings
 settings_of members = do
   version ← version_of (top members)
-  given ← given_pool_of (top members)
+  given ← given_pool_of 65536 (top members)
   below ← subtable (top members) (codes "underlay")
-  underlay ← underlay_of version (record { segments = 256 }) below
+  underlay ← underlay_of version (record { segments = 256; entries = 8192; addresses = 65536 }) below
   tables ← required_items (top members) (codes "port") 16
   ports ← each (λ earlier at. port_of at) (codes "port") [] tables
   segments ← segments_of version (own underlay) (length ports) (top members)

@@ -132,8 +132,16 @@ unfoldable pub new_segment_of : Place → Meaning NewSegment
 new_segment_of at = do
   vid ← vid_at at
   tunnels ← new_tunnels_of at
-  common ← common_of any_number any_number at
-  Ok (record { vid = vid; tunnels = tunnels; limit = common.limit; ageing = common.ageing; learning = common.learning; peers = common.peers; tags = common.tags })
+  common ← common_of 256 any_number any_number at
+  Ok (record {
+    vid = vid;
+    tunnels = tunnels;
+    limit = common.limit;
+    ageing = common.ageing;
+    learning = common.learning;
+    peers = common.peers;
+    tags = common.tags;
+  })
 
 -- the keys of each kind behind `at`, in order
 unfoldable pub change_in : Kind → Place → Meaning Change

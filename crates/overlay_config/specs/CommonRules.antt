@@ -18,10 +18,11 @@ peer_words = (codes "any", Any) ∷ (codes "listed", Listed) ∷ []
 abbrev pub tag_words : List (List ℕ × TagRule)
 tag_words = (codes "drop", Drop) ∷ (codes "pass", Pass) ∷ []
 
--- beside the columns of limits and of ageings, of which settings have narrower ones than changes
-unfoldable pub common_of : (Data → Option ℕ) → (Data → Option ℕ) → Place → Meaning CommonRules
-common_of limits ageings at = do
-  limit ← defaulted at (codes "limit") limits 256
+-- beside the limit where none is given, and the columns of limits and of ageings, of which settings have narrower ones than
+-- changes
+unfoldable pub common_of : ℕ → (Data → Option ℕ) → (Data → Option ℕ) → Place → Meaning CommonRules
+common_of usual limits ageings at = do
+  limit ← defaulted at (codes "limit") limits usual
   ageing ← defaulted at (codes "ageing") ageings 300
   learning ← defaulted at (codes "learn") truth true
   peers ← defaulted at (codes "peers") (one_of peer_words) Any

@@ -1,5 +1,5 @@
 -- The limits of settings: how much of each kind an endpoint has room for. It states no standard.
-use Rattle.std.specs.Prelude.{ℕ, List, [], ◌∷◌, Ok, codes}
+use Rattle.std.specs.Prelude.{ℕ, List, [], ◌∷◌, Ok, Err, codes}
 use Rattle.underlay.specs.declared.limits.Limits.{Limits}
 use Rattle.config_text.specs.Fault.{Meaning, ◌>>=◌}
 use Rattle.config_text.specs.Column.{range}
@@ -9,21 +9,28 @@ use Rattle.overlay_config.specs.declared.version.Version.TheVariants.{One, Two, 
 
 -- the limits where nothing else is asked for, which versions before the third always have
 abbrev pub usual_limits : Limits
-usual_limits = record { segments = 256 }
+usual_limits = record { segments = 256; entries = 8192; addresses = 65536 }
 
 -- the keys of the table `limits`
 abbrev pub limit_keys : List (List ℕ)
-limit_keys = codes "segments" ∷ []
+limit_keys = codes "segments" ∷ codes "entries" ∷ codes "addresses" ∷ []
 
 -- what the table means: a key that is absent stands for the usual limit
 unfoldable pub limits_in : Place → Meaning Limits
 limits_in at = do
   known ← only at limit_keys
   segments ← defaulted at (codes "segments") (range 1 4094) 256
-  Ok (record { segments = segments })
+  entries ← defaulted at (codes "entries") (range 1 131072) 8192
+  addresses ← defaulted at (codes "addresses") (range 1 262144) 65536
+  Ok (record { segments = segments; entries = entries; addresses = addresses })
 
 -- the limits in force, from what stands at the top; an absent table counts as empty
 abbrev pub limits_of : Version → Place → Meaning Limits
 limits_of One top = Ok usual_limits
 limits_of Two top = Ok usual_limits
 limits_of Three top = subtable top (codes "limits") >>= limits_in
+
+-- the most addresses that the limits say, or the most that limits may say where they mean nothing
+abbrev pub addresses_in : Meaning Limits → ℕ
+addresses_in (Ok limits) = limits.addresses
+addresses_in (Err fault) = 262144

@@ -36,27 +36,27 @@ segment_keys Two = codes "vid" ∷ codes "tunnel" ∷ local_keys
 segment_keys Three = codes "vid" ∷ codes "tunnel" ∷ local_keys
 
 -- the keys behind `vid` where each tunnel has a table of its own
-abbrev pub tables_of : Own → ℕ → Place → Meaning (TunnelRules × LocalRules)
-tables_of own ports at = do
+abbrev pub tables_of : Own → ℕ → ℕ → Place → Meaning (TunnelRules × LocalRules)
+tables_of own entries ports at = do
   tunnels ← tunnels_of own at
-  local ← local_of ports at
+  local ← local_of entries ports at
   Ok (tunnels, local)
 
 -- the keys behind `vid`: the tunnels with the flood list, and the rules that say nothing of them
-unfoldable pub rules_of : Version → Own → ℕ → Place → Meaning (TunnelRules × LocalRules)
-rules_of One own ports at = do
+unfoldable pub rules_of : Version → Own → ℕ → ℕ → Place → Meaning (TunnelRules × LocalRules)
+rules_of One own entries ports at = do
   tunnel ← tunnel_of at
-  local ← local_of ports at
+  local ← local_of entries ports at
   flood ← flood_of own tunnel.kind at
   Ok ((tunnel ∷ [], flood), local)
-rules_of Two own ports at = tables_of own ports at
-rules_of Three own ports at = tables_of own ports at
+rules_of Two own entries ports at = tables_of own entries ports at
+rules_of Three own entries ports at = tables_of own entries ports at
 
--- beside the endpoint's own addresses, the number of its ports, and the segments before this one
-unfoldable pub segment_of : Version → Own → ℕ → List SegmentRule → Place → Meaning SegmentRule
-segment_of version own ports earlier at = do
+-- beside the endpoint's own addresses, the most entries of a segment, the number of the ports, and the segments before this one
+unfoldable pub segment_of : Version → Own → ℕ → ℕ → List SegmentRule → Place → Meaning SegmentRule
+segment_of version own entries ports earlier at = do
   known ← only at (segment_keys version)
   vid ← required at (codes "vid") (range 1 4094)
-  rules ← rules_of version own ports at
+  rules ← rules_of version own entries ports at
   apart ← refuse_if (is_taken vid rules.0.0 earlier) (TwoSegments (numbered (codes "segment") (length earlier + 1)))
   Ok (with_tunnels vid rules.0.0 rules.0.1 rules.1)

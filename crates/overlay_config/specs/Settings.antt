@@ -1,6 +1,7 @@
 -- What a settings text means. It states no standard.
 pub use Rattle.overlay_settings.specs.Settings.{Settings}
-use Rattle.std.specs.Prelude.{ℕ, nat_lt, List, [], ◌∷◌, ◌++◌, length, Bool, true, false, Option, Some, None, is_some, option_and_then, Ok, codes}
+use Rattle.std.specs.Prelude.{ℕ, nat_lt, List, [], ◌∷◌, ◌++◌, length, Bool, true, false}
+use Rattle.std.specs.Prelude.{Option, Some, None, is_some, option_and_then, Ok, codes}
 use Rattle.toml.specs.Data.{Members, get_member}
 use Rattle.flood_lists.specs.declared.own.Own.{Own}
 use Rattle.underlay.specs.declared.limits.Limits.{Limits}
@@ -12,7 +13,7 @@ use Rattle.config_text.specs.Table.{Place, top, only, required, optional, subtab
 use Rattle.overlay_settings.specs.declared.segment.SegmentRule.{SegmentRule}
 use Rattle.overlay_settings.specs.Settings.{sum_of_limits}
 use Rattle.overlay_config.specs.Document.{document}
-use Rattle.overlay_config.specs.Limits.{limits_of}
+use Rattle.overlay_config.specs.Limits.{addresses_in, limits_of}
 use Rattle.overlay_config.specs.Underlay.{underlay_of}
 use Rattle.overlay_config.specs.Port.{port_of}
 use Rattle.overlay_config.specs.Segment.{segment_of}
@@ -35,8 +36,8 @@ top_keys third = codes "version" ∷ codes "pool" ∷ key_added third ++ codes "
 unfoldable pub segments_of : Version → Limits → Own → ℕ → Place → Meaning (List SegmentRule)
 segments_of version limits own ports at = do
   tables ← required_items at (codes "segment") limits.segments
-  segments ← each (segment_of version own ports) (codes "segment") [] tables
-  total ← refuse_if (nat_lt 65536 (sum_of_limits segments)) (OverLimit (codes "limit"))
+  segments ← each (segment_of version own limits.entries ports) (codes "segment") [] tables
+  total ← refuse_if (nat_lt limits.addresses (sum_of_limits segments)) (OverLimit (codes "limit"))
   Ok segments
 
 -- the pool that is given, which the limits may not sum to more than; or else their sum
@@ -51,15 +52,15 @@ version_of at = do
   number ← required at (codes "version") (range 1 3)
   Ok (version_named number)
 
--- the pool, where it is given
-abbrev pub given_pool_of : Place → Meaning (Option ℕ)
-given_pool_of at = optional at (codes "pool") (range 1 65536)
+-- the pool, where it is given, beside the most that it may be
+abbrev pub given_pool_of : ℕ → Place → Meaning (Option ℕ)
+given_pool_of most at = optional at (codes "pool") (range 1 most)
 
 -- what the table of a text of settings means
 unfoldable pub settings_of : Members → Meaning Settings
 settings_of members = do
   version ← version_of (top members)
-  given ← given_pool_of (top members)
+  given ← given_pool_of (addresses_in (limits_of version (top members))) (top members)
   limits ← limits_of version (top members)
   below ← subtable (top members) (codes "underlay")
   underlay ← underlay_of version limits below

@@ -1,5 +1,6 @@
 -- The keys of `underlay` and of `underlay.hop.k`. It states no standard.
-use Rattle.std.specs.Prelude.{ℕ, List, [], ◌∷◌, ◌++◌, length, Bool, true, false, ◌==◌, ◌&&◌, nat_lt, if◌then◌else◌, Option, Some, None, is_none, option_map, option_and_then, Ok, codes}
+use Rattle.std.specs.Prelude.{ℕ, List, [], ◌∷◌, ◌++◌, length, Bool, true, false, ◌==◌, ◌&&◌, nat_lt}
+use Rattle.std.specs.Prelude.{if◌then◌else◌, Option, Some, None, is_none, option_map, option_and_then, Ok, codes}
 use Rattle.std.specs.List.{list_any}
 use Rattle.std.specs.FinMap.{empty, get, insert}
 use Rattle.toml.specs.Data.{Data, Items, no_items, item, as_array}
@@ -113,4 +114,20 @@ underlay_of version limits at = do
   partial ← partial_of version at
   known ← listed at (codes "known") 16 put_known []
   hops ← hops_of at
-  Ok (record { mac = mac; next_hop = next_hop; ip4 = own.0; ip6 = own.1; mtu = mtu; ttl = ttl; vxlan_port = ports.0; geneve_port = ports.1; sum4 = sum4; sum6 = sum6; zero6 = zero6; partial = partial; known = known; hops = hops; limits = limits })
+  Ok (record {
+    mac = mac;
+    next_hop = next_hop;
+    ip4 = own.0;
+    ip6 = own.1;
+    mtu = mtu;
+    ttl = ttl;
+    vxlan_port = ports.0;
+    geneve_port = ports.1;
+    sum4 = sum4;
+    sum6 = sum6;
+    zero6 = zero6;
+    partial = partial;
+    known = known;
+    hops = hops;
+    limits = limits;
+  })

@@ -3,10 +3,11 @@ ghost use Rattle.std.specs.Prelude.{◌≡◌, IfOk, []};
 ghost use Rattle.toml.specs.View.{table_view};
 ghost use Rattle.overlay_config.specs.Fault.{GivesAs};
 ghost use Rattle.config_text.specs.Reader.{place_of};
-ghost use Rattle.overlay_config.specs.Change.{moment_before, target_of, remote_of, other_kind, new_tunnels_of, new_segment_of, change_in, change_of, changes_in, changes_of, IsRising};
+ghost use Rattle.overlay_config.specs.Change.{moment_before, target_of, remote_of, other_kind, new_tunnels_of};
+ghost use Rattle.overlay_config.specs.Change.{new_segment_of, change_in, change_of, changes_in, changes_of, IsRising};
 ghost use Rattle.overlay_settings.specs.Rules.{EachBehind};
 
-use crate::common_rules::read_common;
+use crate::common_rules::{USUAL_LIMIT, read_common};
 use crate::document::read_document;
 use crate::kind::{KINDS, Kind};
 use crate::tunnel::{GROUP, TUNNELS, VniNumber, read_tunnel};
@@ -112,7 +113,7 @@ fn read_new_segment(at: &Reader) -> Result<NewSegment, SettingsFault>
 {
     let vid = at.required("vid", &VidNumber)?;
     let tunnels = read_new_tunnels(at)?;
-    let common = read_common(at, &ANY_NUMBER, &ANY_NUMBER)?;
+    let common = read_common(at, USUAL_LIMIT, &ANY_NUMBER, &ANY_NUMBER)?;
     Ok(NewSegment {
         vid,
         tunnels,

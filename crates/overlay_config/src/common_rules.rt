@@ -13,6 +13,9 @@ const PEERS: [(&str, PeerRule); 2] = [("any", PeerRule::Any), ("listed", PeerRul
 
 const TAGS: [(&str, TagRule); 2] = [("drop", TagRule::Drop), ("pass", TagRule::Pass)];
 
+/// The most entries of a segment where no limit is given.
+pub(crate) const USUAL_LIMIT: u32 = 256;
+
 /// What a segment goes by, whatever its tunnels and its member ports are.
 #[derive(Clone, Copy)]
 pub(crate) struct CommonRules {
@@ -23,16 +26,17 @@ pub(crate) struct CommonRules {
     pub(crate) tags: TagRule,
 }
 
-/// The keys from `limit` to `tags`, the first two within these ranges.
+/// The keys from `limit` to `tags`, the first two within these ranges; this limit where none is given.
 #[tactic(auto, unfolding(crate::specs::CommonRules::common_of))]
 pub(crate) fn read_common(
     at: &Reader,
+    usual: u32,
     limits: &U32Range,
     ageings: &U32Range,
 ) -> Result<CommonRules, SettingsFault>
-    ensures { result ≡ common_of (range limits.now.low limits.now.high) (range ageings.now.low ageings.now.high) (place_of at.now) }
+    ensures { result ≡ common_of usual (range limits.now.low limits.now.high) (range ageings.now.low ageings.now.high) (place_of at.now) }
 {
-    let limit = at.defaulted("limit", limits, 256)?;
+    let limit = at.defaulted("limit", limits, usual)?;
     let ageing = at.defaulted("ageing", ageings, 300)?;
     let learning = at.defaulted("learn", &Truth, true)?;
     let peers = at.defaulted("peers", &Words { words: &PEERS }, PeerRule::Any)?;

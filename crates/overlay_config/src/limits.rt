@@ -1,19 +1,35 @@
 //! The table of the limits.
 ghost use Rattle.std.specs.Prelude.{◌≡◌, ◌≤◌, length, IfOk};
 ghost use Rattle.config_text.specs.Reader.{place_of};
-ghost use Rattle.overlay_config.specs.Limits.{limits_in, limits_of};
+ghost use Rattle.overlay_config.specs.Limits.{addresses_in, limits_in, limits_of};
 
 use crate::version::Version;
-use config_text::{Reader, SettingsFault, U16Range};
+use config_text::{Reader, SettingsFault, U16Range, U32Range};
 use underlay::Limits;
 
-const KEYS: [&str; 1] = ["segments"];
+const KEYS: [&str; 3] = ["segments", "entries", "addresses"];
 
 /// The limits where nothing else is asked for, which versions before the third always have.
-const USUAL: Limits = Limits { segments: 256 };
+const USUAL: Limits = Limits {
+    segments: 256,
+    entries: 8192,
+    addresses: 65536,
+};
 
 /// The most segments, one for each VID.
 const SEGMENTS: U16Range = U16Range { low: 1, high: 4094 };
+
+/// The most entries of a segment's table.
+const ENTRIES: U32Range = U32Range {
+    low: 1,
+    high: 131_072,
+};
+
+/// The most entries of all tables together.
+const ADDRESSES: U32Range = U32Range {
+    low: 1,
+    high: 262_144,
+};
 
 /// The table of the limits.
 #[tactic(auto, unfolding(crate::specs::Limits::limits_in))]
@@ -23,7 +39,23 @@ fn read_table(at: &Reader) -> Result<Limits, SettingsFault>
 {
     at.only(&KEYS)?;
     let segments = at.defaulted("segments", &SEGMENTS, USUAL.segments)?;
-    Ok(Limits { segments })
+    let entries = at.defaulted("entries", &ENTRIES, USUAL.entries)?;
+    let addresses = at.defaulted("addresses", &ADDRESSES, USUAL.addresses)?;
+    Ok(Limits {
+        segments,
+        entries,
+        addresses,
+    })
+}
+
+/// The most addresses that the limits say, or the most that limits may say where they mean nothing.
+pub(crate) fn addresses_in(limits: &Result<Limits, SettingsFault>) -> u32
+    ensures { result ≡ addresses_in limits.now }
+{
+    match limits {
+        Ok(limits) => limits.addresses,
+        Err(_) => ADDRESSES.high,
+    }
 }
 
 /// The limits in force, in settings of a version. Those before the third have no table of them.

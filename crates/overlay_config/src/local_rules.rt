@@ -1,9 +1,9 @@
 //! The keys of a segment that say nothing of its tunnels.
-ghost use Rattle.std.specs.Prelude.{◌≡◌, ◌≤◌, length};
+ghost use Rattle.std.specs.Prelude.{◌≡◌, ◌≤◌, length, min};
 ghost use Rattle.config_text.specs.Reader.{place_of};
 ghost use Rattle.overlay_config.specs.LocalRules.{local_of, members_of};
 
-use crate::common_rules::read_common;
+use crate::common_rules::{USUAL_LIMIT, read_common};
 use crate::members::{MemberList, MemberPorts};
 use config_text::{Reader, SettingsFault, U32Range, gather};
 use flood_lists::FloodList;
@@ -11,8 +11,6 @@ use frame_view::Vid;
 use overlay_settings::SegmentRule;
 use underlay::{PeerRule, TagRule, Tunnels};
 use vlan_ports::PortList;
-
-const LIMIT: U32Range = U32Range { low: 1, high: 8192 };
 
 const AGEING: U32Range = U32Range {
     low: 10,
@@ -22,7 +20,7 @@ const AGEING: U32Range = U32Range {
 /// What a segment goes by at this endpoint, whatever its tunnels are.
 #[derive(Drop)]
 pub(crate) struct LocalRules {
-    limit: u16,
+    limit: u32,
     ageing: u32,
     learning: bool,
     peers: PeerRule,
@@ -68,17 +66,28 @@ fn read_members(at: &Reader, key: &str, ports: u8, other: &[u8]) -> Result<PortL
     }
 }
 
-/// The keys from `limit` to `tagged`, for so many ports, which are 16 at most.
-#[tactic(auto, unfolding(crate::specs::LocalRules::local_of))]
-pub(crate) fn read_local(at: &Reader, ports: u8) -> Result<LocalRules, SettingsFault>
-    requires { ports ≤ 16 }
-    ensures { result ≡ local_of ports (place_of at.now) }
+/// The limit where none is given: the usual one, or the most where that is less.
+fn usual_limit(entries: u32) -> u32
+    ensures { result ≡ min 256 entries }
 {
-    let common = read_common(at, &LIMIT, &AGEING)?;
+    USUAL_LIMIT.min(entries)
+}
+
+/// The keys from `limit` to `tagged`, for segments of so many entries at most and so many ports, which are 16 at most.
+#[tactic(auto, unfolding(crate::specs::LocalRules::local_of))]
+pub(crate) fn read_local(at: &Reader, entries: u32, ports: u8) -> Result<LocalRules, SettingsFault>
+    requires { ports ≤ 16 }
+    ensures { result ≡ local_of entries ports (place_of at.now) }
+{
+    let limits = U32Range {
+        low: 1,
+        high: entries,
+    };
+    let common = read_common(at, usual_limit(entries), &limits, &AGEING)?;
     let untagged = read_members(at, "untagged", ports, &[])?;
     let tagged = read_members(at, "tagged", ports, untagged.as_slice())?;
     Ok(LocalRules {
-        limit: common.limit as u16,
+        limit: common.limit,
         ageing: common.ageing,
         learning: common.learning,
         peers: common.peers,

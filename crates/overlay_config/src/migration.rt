@@ -8,7 +8,8 @@ ghost use Rattle.config_text.specs.Fault.{GivesAs, seen};
 ghost use Rattle.config_text.specs.Table.{top};
 ghost use Rattle.overlay_config.specs.Settings.{settings_in, version_of};
 ghost use Rattle.overlay_config.specs.Document.{document};
-ghost use Rattle.overlay_config.specs.Migrate.{is_one, migrated, migrated_item, migrated_list, migrated_segment, migrated_segments, with_option, with_value, without};
+ghost use Rattle.overlay_config.specs.Migrate.{is_one, migrated, migrated_item, migrated_list, migrated_segment};
+ghost use Rattle.overlay_config.specs.Migrate.{migrated_segments, with_option, with_value, without};
 
 use crate::document::read_document;
 use crate::nesting::nests_within;

@@ -32,33 +32,35 @@ fn is_taken(segments: &[SegmentRule], vid: Vid, tunnels: &TunnelRules) -> bool
 fn read_rules(
     version: Version,
     own: Own,
+    entries: u32,
     ports: u8,
     at: &Reader,
 ) -> Result<(TunnelRules, LocalRules), SettingsFault>
     requires few { ports ≤ 16 }
     requires short { length (place_of at.now).prefix ≤ 13 }
-    ensures { result ≡ rules_of version own ports (place_of at.now) }
+    ensures { result ≡ rules_of version own entries ports (place_of at.now) }
 {
     match version {
         Version::One => {
             let tunnel = read_tunnel(at)?;
-            let local = read_local(at, ports)?;
+            let local = read_local(at, entries, ports)?;
             let flood = read_flood(at, own, tunnel.kind)?;
             Ok((TunnelRules::one(tunnel, flood), local))
         }
         Version::Two | Version::Three => {
             let tunnels = read_tunnels(at, own)?;
-            let local = read_local(at, ports)?;
+            let local = read_local(at, entries, ports)?;
             Ok((tunnels, local))
         }
     }
 }
 
-/// The table of a segment, beside the endpoint's own addresses and the number of its ports.
+/// The table of a segment, beside the endpoint's own addresses, the most entries of a segment and the number of the ports.
 #[derive(Clone, Copy)]
 pub(crate) struct SegmentRow {
     pub(crate) version: Version,
     pub(crate) own: Own,
+    pub(crate) entries: u32,
     pub(crate) ports: u8,
     ghost few: { ports ≤ 16 },
 }
@@ -66,7 +68,7 @@ pub(crate) struct SegmentRow {
 impl Row for SegmentRow {
     type Out = SegmentRule;
 
-    ghost means = { λ r. segment_of r.version r.own r.ports };
+    ghost means = { λ r. segment_of r.version r.own r.entries r.ports };
 
     // `segment.4094.`, so that there is room for the tables of its tunnels.
     ghost longest = { λ _. 13 };
@@ -75,7 +77,7 @@ impl Row for SegmentRow {
     fn read(&self, earlier: &[SegmentRule], at: &Reader) -> Result<SegmentRule, SettingsFault> {
         at.only(self.version.segment_keys())?;
         let vid = at.required("vid", &VidNumber)?;
-        let (tunnels, local) = read_rules(self.version, self.own, self.ports, at)?;
+        let (tunnels, local) = read_rules(self.version, self.own, self.entries, self.ports, at)?;
         if is_taken(earlier, vid, &tunnels) {
             return Err(SettingsFault::TwoSegments(Key::numbered(
                 "segment",

@@ -7,10 +7,11 @@ ghost use Rattle.toml.specs.View.{table_view};
 ghost use Rattle.overlay_config.specs.Fault.{Gives, GivesAs};
 ghost use Rattle.config_text.specs.Reader.{place_of};
 ghost use Rattle.overlay_settings.specs.Settings.{sum_of_limits};
-ghost use Rattle.overlay_config.specs.Settings.{given_pool_of, is_third, top_keys, pool_for, segments_of, settings_in, settings_of, version_of};
+ghost use Rattle.overlay_config.specs.Settings.{given_pool_of, is_third, top_keys, pool_for};
+ghost use Rattle.overlay_config.specs.Settings.{segments_of, settings_in, settings_of, version_of};
 
 use crate::document::read_document;
-use crate::limits::read_limits;
+use crate::limits::{addresses_in, read_limits};
 use crate::port::PortRow;
 use crate::segment::SegmentRow;
 use crate::underlay_table::read_underlay;
@@ -30,22 +31,14 @@ const KEYS_THREE: [&str; 6] = ["version", "pool", "limits", "underlay", "port", 
 /// The number of version 3.
 const THIRD: U8Range = U8Range { low: 3, high: 3 };
 
-/// The most entries that all tables together may have.
-const LARGEST_POOL: u32 = 65536;
-
-const POOL: U32Range = U32Range {
-    low: 1,
-    high: LARGEST_POOL,
-};
-
 /// The sum of the segments' limits.
-fn sum_of_limits(segments: &[SegmentRule]) -> u32
+fn sum_of_limits(segments: &[SegmentRule]) -> u64
     requires { length segments.now ≤ 4094 }
     ensures { result ≡ sum_of_limits segments.now }
 {
-    let mut total: u32 = 0;
+    let mut total: u64 = 0;
     for segment in segments {
-        total += u32::from(segment.limit);
+        total += u64::from(segment.limit);
     }
     total
 }
@@ -64,15 +57,17 @@ fn read_segments(
     requires limits { limits.segments ≤ 4094 }
     ensures value { GivesAs (λ v. v.items) result (segments_of version limits own ports (place_of top.now)) }
     ensures few { IfOk result (λ v. length v.items ≤ 4094) }
+    ensures sum { IfOk result (λ v. sum_of_limits v.items ≤ limits.addresses) }
 {
     let row = SegmentRow {
         version,
         own,
+        entries: limits.entries,
         ports,
     };
     let tables = top.required_items("segment", usize::from(limits.segments))?;
     let segments = read_rows(alloc, &row, "segment", tables)?;
-    if sum_of_limits(segments.as_slice()) > LARGEST_POOL {
+    if sum_of_limits(segments.as_slice()) > u64::from(limits.addresses) {
         return Err(SettingsFault::OverLimit(Key::of("", "limit")));
     }
     Ok(segments)
@@ -81,10 +76,11 @@ fn read_segments(
 /// The pool for these segments: the one that is given, or else the sum of their limits. `OverLimit`: they sum to more than
 /// is given.
 fn pool_for(given: Option<u32>, segments: &[SegmentRule]) -> Result<u32, SettingsFault>
-    requires { length segments.now ≤ 4094 }
+    requires few { length segments.now ≤ 4094 }
+    requires sum { sum_of_limits segments.now < 2 ^ 32 }
     ensures { result ≡ pool_for given segments.now }
 {
-    let sum = sum_of_limits(segments);
+    let sum = sum_of_limits(segments) as u32;
     match given {
         None => Ok(sum),
         Some(pool) if pool < sum => Err(SettingsFault::OverLimit(Key::of("", "pool"))),
@@ -116,11 +112,11 @@ pub(crate) fn read_version(top: &Reader) -> Result<Version, SettingsFault>
     Ok(Version::named(number))
 }
 
-/// The pool, where it is given.
-fn read_given_pool(top: &Reader) -> Result<Option<u32>, SettingsFault>
-    ensures { result ≡ given_pool_of (place_of top.now) }
+/// The pool, where it is given, beside the most that it may be.
+fn read_given_pool(top: &Reader, most: u32) -> Result<Option<u32>, SettingsFault>
+    ensures { result ≡ given_pool_of most (place_of top.now) }
 {
-    top.optional("pool", &POOL)
+    top.optional("pool", &U32Range { low: 1, high: most })
 }
 
 /// The parts of the settings that a document's table means.
@@ -130,8 +126,9 @@ fn read_parts(alloc: Global, table: &Table) -> Result<Parts, SettingsFault>
 {
     let top = Reader::top(table);
     let version = read_version(&top)?;
-    let given = read_given_pool(&top)?;
-    let limits = read_limits(version, &top)?;
+    let limits = read_limits(version, &top);
+    let given = read_given_pool(&top, addresses_in(&limits))?;
+    let limits = limits?;
     let underlay = read_underlay(alloc, version, limits, &top.subtable("underlay")?)?;
     let tables = top.required_items("port", 16)?;
     let ports = read_rows(alloc, &PortRow, "port", tables)?;

@@ -5,7 +5,8 @@ ghost use Rattle.std.specs.List.{list_any};
 ghost use Rattle.ip_udp_view.specs.Addr.{same_addr};
 ghost use Rattle.config_text.specs.Fault.{Gives};
 ghost use Rattle.config_text.specs.Reader.{place_of};
-ghost use Rattle.overlay_config.specs.Underlay.{exceptions, with_exception, hop_of, hops_of, own_addrs_of, partial_of, tunnel_ports_of, underlay_of};
+ghost use Rattle.overlay_config.specs.Underlay.{exceptions, with_exception, hop_of, hops_of};
+ghost use Rattle.overlay_config.specs.Underlay.{own_addrs_of, partial_of, tunnel_ports_of, underlay_of};
 
 use crate::known::KnownOptions;
 use crate::version::Version;

@@ -67,7 +67,7 @@ are_distinct s rules i j d lt within same =
 
 pub are_rules : (s : Settings) → MeetsRules s → All IsRule (map table_rule s.segments)
 are_rules s rules =
-    all_mapped table_rule (IsSegment (own s.underlay) (length s.ports)) IsRule (λ earlier x is. record { some_entries = is.limit.0; at_most = is.limit.1; long_enough = is.ageing.0; not_too_long = is.ageing.1 }) [] s.segments rules.segments
+    all_mapped table_rule (IsSegment (own s.underlay) (length s.ports)) IsRule (λ earlier x is. record { some_entries = is.limit; long_enough = is.ageing.0; not_too_long = is.ageing.1 }) [] s.segments rules.segments
 
 limits_same : (segments : List SegmentRule) → map (λ (r : TableRule). r.limit) (map table_rule segments) ≡ map (λ (s : SegmentRule). s.limit) segments
 limits_same [] = refl

@@ -71,6 +71,8 @@ pub record IsUnderlay (u : Underlay) : Type 0 where
   pub hops : AreHops u.hops
   -- the most segments: all VIDs (IEEE 802.1Q, 9.6)
   pub limits : IsWithin 1 4094 u.limits.segments
+  pub entries : IsWithin 1 131072 u.limits.entries
+  pub addresses : IsWithin 1 262144 u.limits.addresses
 
 -- ---- ports and segments
 
@@ -99,13 +101,17 @@ pub record IsSegment (own : Own) (ports : ℕ) (earlier : List SegmentRule) (s :
   pub tunnels : EachBehind IsTunnel [] s.tunnels
   pub flood_count : length s.flood ≤ 16
   pub flood : EachBehind (IsRemote own s.tunnels) [] s.flood
-  pub limit : IsWithin 1 8192 s.limit
+  pub limit : 1 ≤ s.limit
   -- in seconds (802.1Q, 8.8.3)
   pub ageing : IsWithin 10 1000000 s.ageing
   pub untagged : EachBehind (IsMember ports []) [] s.untagged
   pub tagged : EachBehind (IsMember ports s.untagged) [] s.tagged
   -- no segment before it has its VID, or a tunnel of the same kind and VNI
   pub apart : IsFalse (list_any (λ e. clash (tunnel_rule e) (tunnel_rule s)) earlier)
+
+-- a segment whose limit is at most this
+abbrev pub HasEntries : ℕ → List SegmentRule → SegmentRule → Type 0
+HasEntries most earlier s = s.limit ≤ most
 
 -- ---- all
 
@@ -116,5 +122,6 @@ pub record MeetsRules (s : Settings) : Type 0 where
   pub ports : EachBehind IsPort [] s.ports
   pub segment_count : IsWithin 1 s.underlay.limits.segments (length s.segments)
   pub segments : EachBehind (IsSegment (own s.underlay) (length s.ports)) [] s.segments
-  pub pool : IsWithin 1 65536 s.pool
+  pub entries : EachBehind (HasEntries s.underlay.limits.entries) [] s.segments
+  pub pool : IsWithin 1 s.underlay.limits.addresses s.pool
   pub limits : sum_of_limits s.segments ≤ s.pool

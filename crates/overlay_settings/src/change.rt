@@ -26,7 +26,7 @@ pub struct NewSegment {
     /// Its VLAN identifier.
     pub vid: Vid,
     pub tunnels: Tunnels,
-    /// The most entries that its table may have. Whether that is 1 to 8,192 shows when the change is made.
+    /// The most entries that its table may have. Whether the limits in force allow it shows when the change is made.
     pub limit: u32,
     /// For how many seconds a learned entry is live. Whether that is 10 to 1,000,000 shows when the change is made.
     pub ageing: u32,

@@ -13,8 +13,8 @@ pub struct SegmentRule {
     pub tunnels: Tunnels,
     /// The remotes that a frame is flooded to.
     pub flood: FloodList,
-    /// The most entries that its table may have, 1 to 8,192.
-    pub limit: u16,
+    /// The most entries that its table may have, 1 to what the limits in force say.
+    pub limit: u32,
     /// For how many seconds a learned entry is live, 10 to 1,000,000.
     pub ageing: u32,
     /// Whether it learns.

@@ -14,7 +14,7 @@ pub struct Parts {
     /// The local ports: the k-th is port k.
     pub ports: Vec<PortRule>,
     pub segments: Vec<SegmentRule>,
-    /// The most entries that all tables together may be given, 1 to 65,536.
+    /// The most entries that all tables together may be given, 1 to what the limits in force say.
     pub pool: u32,
 }
 
@@ -77,8 +77,8 @@ impl Settings {
         self.parts.segments.as_slice()
     }
 
-    /// The most entries that all tables together may be given, 1 to 65,536: what the limits of the segments sum to at most,
-    /// also when segments come, go and get another limit.
+    /// The most entries that all tables together may be given, 1 to what the limits in force say: what the limits of the
+    /// segments sum to at most, also when segments come, go and get another limit.
     pub fn pool(&self) -> u32
         ensures value { result ≡ self.now.pool }
         ensures rules { MeetsRules self.now }

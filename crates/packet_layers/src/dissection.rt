@@ -14,22 +14,9 @@ use crate::{Layers, Stop};
 use frame_view::Reason;
 use underlay::Under;
 
-/// Takes a packet apart, with at most `depth` tunnel headers, 1 to 4. Nothing is copied.
-pub fn dissect<'a>(octets: &'a [u8], under: &Under, depth: usize) -> Layers<'a>
-    requires low { 1 ≤ depth }
-    requires high { depth ≤ 4 }
-    ensures layers { result ≡ dissection under.now depth octets.now }
-    ensures whole { joined result.apart ≡ octets.now }
-    ensures places { AllStand octets.now result.apart }
-    ensures agrees { AgreesWithArrival under.now octets.now result }
-{
-    let mut layers = Layers::empty();
-    dissect_into(&mut layers, octets, under, depth);
-    layers
-}
-
-/// The same into layers that are there, in place of what they were.
-pub fn dissect_into<'a>(layers: &mut Layers<'a>, octets: &'a [u8], under: &Under, depth: usize)
+/// Takes a packet apart into layers that are there, in place of what they were, with at most `depth` tunnel headers, 1 to 4.
+/// Nothing is copied.
+pub fn dissect<'a>(layers: &mut Layers<'a>, octets: &'a [u8], under: &Under, depth: usize)
     requires low { 1 ≤ depth }
     requires high { depth ≤ 4 }
     ensures layers { layers.new ≡ dissection under.now depth octets.now }

@@ -4,7 +4,7 @@
 //! Use first: [`dissect`] takes the headers off the front of a packet and what stands behind each length off its end, as
 //! [`Layers`]: each part is a slice of the packet at its place, and [`Stop`] says why no more is taken off. A layer is read
 //! as [`decapsulate::unwrap`] reads it, with the same reasons in the same order; who sent the packet and for which segment it
-//! is are left aside. [`dissect_into`] does so into layers that are there.
+//! is are left aside.
 //!
 //! Specs to read: `specs/Apart`, then `specs/Dissection`; `specs/Laws`.
 //!
@@ -27,7 +27,7 @@ mod part;
 mod tunnel;
 mod udp;
 
-pub use dissection::{dissect, dissect_into};
+pub use dissection::dissect;
 pub use kind::{HeadKind, Stop};
 pub use layers::Layers;
 pub use part::{Head, Span};

@@ -76,12 +76,14 @@ pub record IsCaptureOf (output : Drain) (source capture : Stream) : Type 0 where
 pub record ReadOver (p : Part) : Type 0 where
   pub lines : p.reader.rest ≡ p.new.decisions.written
   pub many : length p.ports ≡ length p.new.ports
-  pub ports : (d : Drain) (s : Stream) (k : ℕ) → k < length p.new.ports → IsCaptureOf (slice_index_or p.new.ports k d) (slice_index_or p.sources k s) (slice_index_or p.ports k s)
+  pub ports : (d : Drain) (s : Stream) (k : ℕ) → k < length p.new.ports
+      → IsCaptureOf (slice_index_or p.new.ports k d) (slice_index_or p.sources k s) (slice_index_or p.ports k s)
   pub underlay : IsCaptureOf p.new.underlay p.underlay_source p.underlay
 
 -- what comes of opening a part of this number with these lines and captures
 pub record OpensWith (number : ℕ) (p : Part) (result : Result OpenPart (MergeFault × Reader)) : Type 0 where
-  pub opened : (count : ℕ) (pieces : List Piece) (cuts : List (List ℕ)) → HoldsAll count pieces cuts p.reader p.ports p.underlay → UnlessPart result (Holds count pieces cuts)
+  pub opened : (count : ℕ) (pieces : List Piece) (cuts : List (List ℕ)) → HoldsAll count pieces cuts p.reader p.ports p.underlay
+      → UnlessPart result (Holds count pieces cuts)
   pub reads : PartOpens number p.reader p.ports p.underlay result
 
 -- it is opened over what its outputs hold
@@ -111,9 +113,13 @@ opened_parts parts = map (λ (p : Part). p.opened) parts
 
 -- a merge of parts that are opened: of whatever pieces these hold, it puts the texts to its outputs, or tells which is missing;
 -- and it blames a device only where that failed
-pub record Merges (opened opened_now : List OpenPart) (old : List Drain) (old_underlay : Drain) (written : Option (List ℕ)) (failures : ℕ) (new : List Drain) (new_underlay : Drain) (now : Option (List ℕ)) (failures_now : ℕ) (result : Result (Unit {0}) MergeFault) : Type 0 where
+pub record Merges (opened opened_now : List OpenPart) (old : List Drain) (old_underlay : Drain) (written : Option (List ℕ))
+    (failures : ℕ) (new : List Drain) (new_underlay : Drain) (now : Option (List ℕ)) (failures_now : ℕ)
+    (result : Result (Unit {0}) MergeFault) : Type 0 where
   pub puts : (pieces : List (List Piece)) (cuts : List (List Cut)) → AreParts (length old) pieces cuts opened
-      → UnlessMissing result (merged pieces) (Adds (texts_of_pieces (length old) (merged pieces) (side_by_side cuts)) old old_underlay written new new_underlay now)
+      → UnlessMissing result (merged pieces)
+      (Adds (texts_of_pieces (length old) (merged pieces) (side_by_side cuts)) old old_underlay written new new_underlay
+      now)
   pub reads : ReadsWith opened opened_now result
   pub writes : WritesWith old old_underlay failures new new_underlay failures_now result
 
@@ -126,5 +132,6 @@ AreOctets texts text = AllByRecursion (λ (v : Vec ℕ Global). IsText v.items) 
 -- the changes and the records of the captures are fewer than numbers of 64 bits count
 abbrev pub AreCounted : List ℕ → List (Vec ℕ Global) → List ℕ → Type 0
 AreCounted changes texts text =
-    (cs : List TimedChange) (timeline : Timeline) → changes_in changes ≡ Ok cs → told (map (λ (c : TimedChange). c.at) cs) texts text ≡ Ok timeline
+    (cs : List TimedChange) (timeline : Timeline) → changes_in changes ≡ Ok cs
+    → told (map (λ (c : TimedChange). c.at) cs) texts text ≡ Ok timeline
     → length timeline.events < 2 ^ 64

@@ -13,7 +13,8 @@ ghost use Rattle.part_merge.specs.Coming.{OpenPart};
 ghost use Rattle.part_merge.specs.Whole.{Adds};
 ghost use Rattle.part_merge.specs.declared.fault.MergeFault.{MergeFault};
 ghost use Rattle.segment_parts.specs.Pieces.{PartAll};
-ghost use Rattle.part_files.specs.Files.{AreCounted, AreOctets, HoldCaptures, Merges, OpenedOver, OpensWith, Part, RanOver, ReadOver, segments_of, opened_parts};
+ghost use Rattle.part_files.specs.Files.{AreCounted, AreOctets, HoldCaptures, Merges, OpenedOver};
+ghost use Rattle.part_files.specs.Files.{OpensWith, Part, RanOver, ReadOver, segments_of, opened_parts};
 
 /// Parts of a run by texts, of which exactly one is asked for each segment, and exactly one for what comes to none. Where
 /// each part's run stopped at no fault and its outputs were empty before, and where each part is then opened over what its
@@ -25,7 +26,9 @@ ghost use Rattle.part_files.specs.Files.{AreCounted, AreOctets, HoldCaptures, Me
 /// numbers of 64 bits count.
 pub fn merged()
     ensures { (settings changes : List ℕ) (texts : List (AVec ℕ AGlobal)) (text : List ℕ) (parts : List Part)
-        (opened_now : List OpenPart) (old : List Drain) (old_underlay : Drain) (written : Option (List ℕ)) (failures : ℕ) (new : List Drain) (new_underlay : Drain) (now : Option (List ℕ)) (failures_now : ℕ) (result : Result (Unit {0}) MergeFault) →
+        (opened_now : List OpenPart) (old : List Drain) (old_underlay : Drain) (written : Option (List ℕ)) (failures : ℕ)
+        (new : List Drain) (new_underlay : Drain) (now : Option (List ℕ)) (failures_now : ℕ)
+        (result : Result (Unit {0}) MergeFault) →
         PartAll (segments_of parts) →
         AllByRecursion (RanOver settings changes texts text) parts →
         AllByRecursion OpenedOver parts →
@@ -34,7 +37,8 @@ pub fn merged()
         length old ≡ length texts →
         Merges (opened_parts parts) opened_now old old_underlay written failures new new_underlay now failures_now result →
         (o : Outputs) × (run (settings_in settings) (changes_in changes) texts text ≡ Ok o)
-        × UnlessBlamed (opened_parts parts) opened_now old old_underlay failures new new_underlay failures_now result (Adds o old old_underlay written new new_underlay now) }
+        × UnlessBlamed (opened_parts parts) opened_now old old_underlay failures new new_underlay failures_now result
+        (Adds o old old_underlay written new new_underlay now) }
 {}
 
 /// A part whose run stopped at no fault, over outputs that were empty before. Each of its captures is the header of one and
@@ -44,7 +48,8 @@ pub fn merged()
 pub fn opened()
     ensures captures { (settings changes : List ℕ) (texts : List (AVec ℕ AGlobal)) (text : List ℕ) (p : Part) →
         RanOver settings changes texts text p → HoldCaptures p.new }
-    ensures part { (settings changes : List ℕ) (texts : List (AVec ℕ AGlobal)) (text : List ℕ) (number : ℕ) (p : Part) (result : Result OpenPart (MergeFault × Reader)) →
+    ensures part { (settings changes : List ℕ) (texts : List (AVec ℕ AGlobal)) (text : List ℕ) (number : ℕ) (p : Part)
+        (result : Result OpenPart (MergeFault × Reader)) →
         RanOver settings changes texts text p →
         ReadOver p →
         AreOctets texts text →

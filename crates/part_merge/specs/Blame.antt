@@ -134,20 +134,24 @@ module _ {T : Type 0} where
 
   -- the same as an answer of the merge, of a capture of the part of this number
   abbrev pub SourceReads : ℕ → Stream → Stream → Result T MergeFault → Type 0
-  SourceReads part old new result = MatchRead result (λ blamed. (blamed ≡ part) × SourceStops old new) (source_health new ≡ source_health old)
+  SourceReads part old new result = MatchRead result (λ blamed. (blamed ≡ part) × SourceStops old new)
+      (source_health new ≡ source_health old)
 
   -- and of an output
   abbrev pub SinkWrites : Tap → Drain → Drain → Result T MergeFault → Type 0
-  SinkWrites tap old new result = MatchWrite result (λ blamed. (blamed ≡ targets.Capture tap) × SinkStops old new) (sink_health new ≡ sink_health old)
+  SinkWrites tap old new result = MatchWrite result (λ blamed. (blamed ≡ targets.Capture tap) × SinkStops old new)
+      (sink_health new ≡ sink_health old)
 
   -- the captures of the part of this number: one of them gave up where that is blamed, and none did at any other answer
   abbrev pub CapturesRead : ℕ → List Stream → Stream → List Stream → Stream → Result T MergeFault → Type 0
   CapturesRead part old old_underlay new new_underlay result =
-      MatchRead result (λ blamed. (blamed ≡ part) × CaptureStops old old_underlay new new_underlay) (captures_health new new_underlay ≡ captures_health old old_underlay)
+      MatchRead result (λ blamed. (blamed ≡ part) × CaptureStops old old_underlay new new_underlay)
+      (captures_health new new_underlay ≡ captures_health old old_underlay)
 
   -- the lines of the part of this number
   abbrev pub LinesRead : ℕ → Reader → Reader → Result T MergeFault → Type 0
-  LinesRead part old new result = MatchRead result (λ blamed. (blamed ≡ part) × GoesOnBy 1 old.failures new.failures) (new.failures ≡ old.failures)
+  LinesRead part old new result = MatchRead result (λ blamed. (blamed ≡ part) × GoesOnBy 1 old.failures new.failures)
+      (new.failures ≡ old.failures)
 
   -- all inputs of the part of this number
   abbrev pub PartReads : ℕ → OpenPart → OpenPart → Result T MergeFault → Type 0
@@ -174,10 +178,13 @@ module _ {T : Type 0} where
   BlamesNoWrite result = MatchWrite result (λ target. ⊥) ⊤
 
   -- a merge comes to its end and this holds, or it is stopped by the device that it blames
-  abbrev pub UnlessBlamed : List OpenPart → List OpenPart → List Drain → Drain → ℕ → List Drain → Drain → ℕ → Result T MergeFault → Type 0 → Type 0
+  abbrev pub UnlessBlamed : List OpenPart → List OpenPart → List Drain → Drain → ℕ → List Drain → Drain → ℕ
+      → Result T MergeFault → Type 0 → Type 0
   UnlessBlamed parts parts_now old old_underlay failures new new_underlay failures_now (Ok x) P = P
-  UnlessBlamed parts parts_now old old_underlay failures new new_underlay failures_now (Err (faults.Read part)) P = PartStopsAt part parts parts_now
-  UnlessBlamed parts parts_now old old_underlay failures new new_underlay failures_now (Err (faults.Write target)) P = OutputStops target old old_underlay failures new new_underlay failures_now
+  UnlessBlamed parts parts_now old old_underlay failures new new_underlay failures_now (Err (faults.Read part)) P =
+      PartStopsAt part parts parts_now
+  UnlessBlamed parts parts_now old old_underlay failures new new_underlay failures_now (Err (faults.Write target)) P =
+      OutputStops target old old_underlay failures new new_underlay failures_now
   UnlessBlamed parts parts_now old old_underlay failures new new_underlay failures_now (Err (faults.Missing number)) P = ⊥
   UnlessBlamed parts parts_now old old_underlay failures new new_underlay failures_now (Err (faults.Part part fault)) P = ⊥
 
@@ -199,7 +206,8 @@ OpenReads old (Err back) = SourceBack back.0 old back.1
 -- the part of this number is opened, and no read failed; or its lines are handed back, of which a read failed where one is blamed
 abbrev pub PartOpens : ℕ → Reader → List Stream → Stream → Result OpenPart (MergeFault × Reader) → Type 0
 PartOpens part old ports underlay (Ok s) = part_health s ≡ record { lines = old.failures; captures = captures_health ports underlay }
-PartOpens part old ports underlay (Err back) = LinesRead {T = Unit {0}} part old back.1 (Err back.0) × BlamesNoWrite {T = Unit {0}} (Err back.0)
+PartOpens part old ports underlay (Err back) = LinesRead {T = Unit {0}} part old back.1 (Err back.0)
+    × BlamesNoWrite {T = Unit {0}} (Err back.0)
 
 -- a part is opened, or a read of its lines failed and is blamed
 abbrev pub UnlessLines : ℕ → Reader → Result OpenPart (MergeFault × Reader) → Type 0

@@ -1,7 +1,8 @@
 -- A part of a run: what its next line is of, and what it holds. It states no standard.
 --     OpenPart      a part as it stands between two lines
 --     Holds      it holds the texts of some pieces and the lines of some cut captures
-use Rattle.std.specs.Prelude.{◌≡◌, ◌≢◌, ◌<◌, ◌≤◌, ℕ, Bool, false, true, if◌then◌else◌, List, [], ◌∷◌, ◌++◌, length, slice_index, Some, Result, Ok, Err}
+use Rattle.std.specs.Prelude.{◌≡◌, ◌≢◌, ◌<◌, ◌≤◌, ℕ, Bool, false, true, if◌then◌else◌, List}
+use Rattle.std.specs.Prelude.{[], ◌∷◌, ◌++◌, length, slice_index, Some, Result, Ok, Err}
 use Rattle.std.specs.List.{AllByRecursion, concat}
 use Rattle.line_stream.specs.Lines.{Reader, longest_line}
 use Rattle.line_stream.specs.declared.fault.LinesFault.{LinesFault}
@@ -31,7 +32,8 @@ pub record IsLine (line : List ℕ) : Type 0 where
 
 -- by what a line of a part tells; no event's line stands behind that of a cut capture
 abbrev pub coming_by : ℕ → Bool → Result LineFacts LineFault → Result Coming MergeFault
-coming_by part was_cut (Ok (told.Event number places)) = if was_cut then Err (faults.Part part part_faults.Late) else Ok (coming.Event number)
+coming_by part was_cut (Ok (told.Event number places)) =
+    if was_cut then Err (faults.Part part part_faults.Late) else Ok (coming.Event number)
 coming_by part was_cut (Ok told.Cut) = Ok coming.Cut
 coming_by part was_cut (Err fault) = Err (faults.Part part (part_faults.Line fault))
 
@@ -121,7 +123,8 @@ pub record Holds (ports : ℕ) (pieces : List Piece) (cuts : List (List ℕ)) (s
   pub left : AreLeft (λ tap. capture_at tap pieces) s.ports s.underlay
 
 -- the same of lines of which none was read, and of captures of which only the headers were
-pub record HoldsAll (ports : ℕ) (pieces : List Piece) (cuts : List (List ℕ)) (reader : Reader) (captures : List Stream) (underlay : Stream) : Type 0 where
+pub record HoldsAll (ports : ℕ) (pieces : List Piece) (cuts : List (List ℕ)) (reader : Reader) (captures : List Stream)
+    (underlay : Stream) : Type 0 where
   pub texts : AreTexts ports pieces cuts
   pub few : length cuts ≤ 256
   pub many : length captures ≡ ports

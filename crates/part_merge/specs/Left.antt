@@ -50,11 +50,13 @@ IsAdded text old new = Appends old.written new.written text
 
 -- each capture of the outputs does
 abbrev pub AreAdded : (Tap → List ℕ) → List Drain → Drain → List Drain → Drain → Type 0
-AreAdded text old old_underlay new new_underlay = (tap : Tap) → IsTap (length old) tap → IsAdded (text tap) (of_tap old old_underlay tap) (of_tap new new_underlay tap)
+AreAdded text old old_underlay new new_underlay = (tap : Tap) → IsTap (length old) tap
+    → IsAdded (text tap) (of_tap old old_underlay tap) (of_tap new new_underlay tap)
 
 -- no capture of the outputs holds anything else
 abbrev pub AreKept : List Drain → Drain → List Drain → Drain → Type 0
-AreKept old old_underlay new new_underlay = (tap : Tap) → IsTap (length old) tap → Keeps (of_tap old old_underlay tap).written (of_tap new new_underlay tap).written
+AreKept old old_underlay new new_underlay = (tap : Tap) → IsTap (length old) tap
+    → Keeps (of_tap old old_underlay tap).written (of_tap new new_underlay tap).written
 
 -- nothing is wrong with what was read: at most a device failed
 abbrev pub IsDeviceFault : MergeFault → Type 0

@@ -32,6 +32,8 @@ AreRecords ports records = AllByRecursion (IsRecord ports) records
 
 module _ {T : Type 0} where
   -- this is left of each capture and that was added to each output, or a device failed
-  abbrev pub Moves : (Tap → List ℕ) → (Tap → List ℕ) → List Stream → Stream → List Drain → Drain → List Drain → Drain → Result T MergeFault → Type 0
-  Moves rest added ports underlay old old_underlay new new_underlay (Ok x) = AreLeft rest ports underlay × AreAdded added old old_underlay new new_underlay
+  abbrev pub Moves : (Tap → List ℕ) → (Tap → List ℕ) → List Stream → Stream → List Drain → Drain → List Drain → Drain
+      → Result T MergeFault → Type 0
+  Moves rest added ports underlay old old_underlay new new_underlay (Ok x) =
+      AreLeft rest ports underlay × AreAdded added old old_underlay new new_underlay
   Moves rest added ports underlay old old_underlay new new_underlay (Err fault) = IsDeviceFault fault

@@ -55,7 +55,8 @@ impl<R: Input> Capture<R> {
 
     /// Copies the next record into a sink, as a run writes it.
     pub(crate) fn copy<W: Output>(&mut self, sink: &mut Sink<W>) -> Result<(), Stop>
-        ensures copied { (text rest : List ℕ) → IsWritten text → IsLeft (text ++ rest) self.old → Copies text rest self.new sink.old sink.new result }
+        ensures copied { (text rest : List ℕ) → IsWritten text → IsLeft (text ++ rest) self.old
+            → Copies text rest self.new sink.old sink.new result }
         ensures told { TellsStop self.new result }
         ensures reads { CopyReads self.old self.new result }
         ensures writes { CopyWrites sink.old sink.new result }

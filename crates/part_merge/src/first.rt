@@ -26,7 +26,8 @@ pub(crate) fn find_first<R: Input>(parts: &[Part<R>]) -> Option<First>
 
 /// The first of some events and of what comes in one part more, behind theirs.
 fn earlier(first: Option<First>, index: usize, coming: Coming) -> Option<First>
-    ensures { (parts : List OpenPart) → FindsFirst parts index first → ((s : OpenPart) → (slice_index_or parts index s).coming ≡ coming) → FindsFirst parts (index + 1) result }
+    ensures { (parts : List OpenPart) → FindsFirst parts index first
+        → ((s : OpenPart) → (slice_index_or parts index s).coming ≡ coming) → FindsFirst parts (index + 1) result }
 {
     match (first, coming) {
         (None, Coming::Event(number)) => Some(First { index, number }),

@@ -23,7 +23,8 @@ const MOST_PORTS: usize = 255;
 fn hand_on_ports<W: Output>(port_sinks: &mut [Sink<W>]) -> Result<(), MergeFault>
     ensures kept { UnlessDevice result ((underlay_sink : Drain) → AreKept port_sinks.old underlay_sink port_sinks.new underlay_sink) }
     ensures no_read { BlamesNoRead result }
-    ensures writes { (underlay_sink : Drain) (failures : ℕ) → WritesWith port_sinks.old underlay_sink failures port_sinks.new underlay_sink failures result }
+    ensures writes { (underlay_sink : Drain) (failures : ℕ)
+        → WritesWith port_sinks.old underlay_sink failures port_sinks.new underlay_sink failures result }
 {
     for i in 0..port_sinks.len().min(MOST_PORTS) {
         if let Err(_) = port_sinks[i].hand_on_held() {
@@ -37,7 +38,8 @@ fn hand_on_ports<W: Output>(port_sinks: &mut [Sink<W>]) -> Result<(), MergeFault
 fn hand_on_underlay<W: Output>(underlay_sink: &mut Sink<W>) -> Result<(), MergeFault>
     ensures kept { UnlessDevice result (Keeps underlay_sink.old.written underlay_sink.new.written) }
     ensures no_read { BlamesNoRead result }
-    ensures writes { (sinks : List Drain) (failures : ℕ) → WritesWith sinks underlay_sink.old failures sinks underlay_sink.new failures result }
+    ensures writes { (sinks : List Drain) (failures : ℕ)
+        → WritesWith sinks underlay_sink.old failures sinks underlay_sink.new failures result }
 {
     match underlay_sink.hand_on_held() {
         Ok(()) => Ok(()),
@@ -49,7 +51,8 @@ fn hand_on_underlay<W: Output>(underlay_sink: &mut Sink<W>) -> Result<(), MergeF
 fn hand_on_lines<W: Output>(decisions: &mut W) -> Result<(), MergeFault>
     ensures kept { UnlessDevice result (Keeps (W.written decisions.old) (W.written decisions.new)) }
     ensures no_read { BlamesNoRead result }
-    ensures writes { (sinks : List Drain) (underlay_sink : Drain) → WritesWith sinks underlay_sink (W.failures decisions.old) sinks underlay_sink (W.failures decisions.new) result }
+    ensures writes { (sinks : List Drain) (underlay_sink : Drain)
+        → WritesWith sinks underlay_sink (W.failures decisions.old) sinks underlay_sink (W.failures decisions.new) result }
 {
     match decisions.hand_on_held() {
         Ok(()) => Ok(()),
@@ -63,9 +66,11 @@ pub(crate) fn hand_on_all<W: Output>(
     underlay_sink: &mut Sink<W>,
     decisions: &mut W,
 ) -> Result<(), MergeFault>
-    ensures kept { UnlessDevice result (AreKept port_sinks.old underlay_sink.old port_sinks.new underlay_sink.new × Keeps (W.written decisions.old) (W.written decisions.new)) }
+    ensures kept { UnlessDevice result (AreKept port_sinks.old underlay_sink.old port_sinks.new underlay_sink.new
+        × Keeps (W.written decisions.old) (W.written decisions.new)) }
     ensures no_read { BlamesNoRead result }
-    ensures writes { WritesWith port_sinks.old underlay_sink.old (W.failures decisions.old) port_sinks.new underlay_sink.new (W.failures decisions.new) result }
+    ensures writes { WritesWith port_sinks.old underlay_sink.old (W.failures decisions.old) port_sinks.new underlay_sink.new
+        (W.failures decisions.new) result }
 {
     if let Err(fault) = hand_on_ports(port_sinks) {
         return Err(fault);

@@ -44,11 +44,14 @@ pub fn merge_streams<R: Input, W: Output>(
 ) -> Result<(), MergeFault>
     requires few { length port_sinks.old ≤ 255 }
     ensures merged { (pieces : List (List Piece)) (cuts : List (List Cut)) → AreParts (length port_sinks.old) pieces cuts parts.old
-        → UnlessMissing result (merged pieces) (Adds (texts_of_pieces (length port_sinks.old) (merged pieces) (side_by_side cuts)) port_sinks.old underlay_sink.old (W.written decisions.old) port_sinks.new underlay_sink.new (W.written decisions.new)) }
+        → UnlessMissing result (merged pieces)
+        (Adds (texts_of_pieces (length port_sinks.old) (merged pieces) (side_by_side cuts)) port_sinks.old underlay_sink.old
+        (W.written decisions.old) port_sinks.new underlay_sink.new (W.written decisions.new)) }
     ensures numbered { OnOk result (AddsNumbered (W.written decisions.old) (W.written decisions.new)) }
     ensures read { OnOk result (AreRead parts.new) }
     ensures reads { ReadsWith parts.old parts.new result }
-    ensures writes { WritesWith port_sinks.old underlay_sink.old (W.failures decisions.old) port_sinks.new underlay_sink.new (W.failures decisions.new) result }
+    ensures writes { WritesWith port_sinks.old underlay_sink.old (W.failures decisions.old) port_sinks.new underlay_sink.new
+        (W.failures decisions.new) result }
 {
     if let Err(fault) = see_counts(parts, port_sinks.len()) {
         return Err(fault);
@@ -83,9 +86,11 @@ fn begin_all<W: Output>(
     underlay_sink: &mut Sink<W>,
 ) -> Result<(), MergeFault>
     requires { length port_sinks.old ≤ 255 }
-    ensures begun { UnlessDevice result (AreAdded (λ tap. written_header) port_sinks.old underlay_sink.old port_sinks.new underlay_sink.new) }
+    ensures begun { UnlessDevice result (AreAdded (λ tap. written_header) port_sinks.old underlay_sink.old port_sinks.new
+        underlay_sink.new) }
     ensures no_read { BlamesNoRead result }
-    ensures writes { (failures : ℕ) → WritesWith port_sinks.old underlay_sink.old failures port_sinks.new underlay_sink.new failures result }
+    ensures writes { (failures : ℕ) → WritesWith port_sinks.old underlay_sink.old failures port_sinks.new underlay_sink.new
+        failures result }
 {
     for i in 0..port_sinks.len() {
         if let Err(_) = port_sinks[i].begin() {
@@ -108,10 +113,13 @@ fn put_at<R: Input, W: Output>(
 ) -> Result<(), MergeFault>
     requires there { index < length parts.old }
     requires count { (s : OpenPart) → length port_sinks.old ≡ length (slice_index_or parts.old index s).ports }
-    ensures put { (s : OpenPart) → PutsAt parts.old index s parts.new port_sinks.old underlay_sink.old (W.written decisions.old) port_sinks.new underlay_sink.new (W.written decisions.new) result }
-    ensures line { (s : OpenPart) → OnOk result (AddsLine (slice_index_or parts.old index s).coming (W.written decisions.old) (W.written decisions.new)) }
+    ensures put { (s : OpenPart) → PutsAt parts.old index s parts.new port_sinks.old underlay_sink.old (W.written decisions.old)
+        port_sinks.new underlay_sink.new (W.written decisions.new) result }
+    ensures line { (s : OpenPart) → OnOk result
+        (AddsLine (slice_index_or parts.old index s).coming (W.written decisions.old) (W.written decisions.new)) }
     ensures reads { ReadsWith parts.old parts.new result }
-    ensures writes { WritesWith port_sinks.old underlay_sink.old (W.failures decisions.old) port_sinks.new underlay_sink.new (W.failures decisions.new) result }
+    ensures writes { WritesWith port_sinks.old underlay_sink.old (W.failures decisions.old) port_sinks.new underlay_sink.new
+        (W.failures decisions.new) result }
 {
     parts[index].put_event(index, port_sinks, underlay_sink, decisions)
 }
@@ -127,10 +135,13 @@ fn put_and_hand_on<R: Input, W: Output>(
 ) -> Result<(), MergeFault>
     requires there { index < length parts.old }
     requires count { (s : OpenPart) → length port_sinks.old ≡ length (slice_index_or parts.old index s).ports }
-    ensures put { (s : OpenPart) → PutsAt parts.old index s parts.new port_sinks.old underlay_sink.old (W.written decisions.old) port_sinks.new underlay_sink.new (W.written decisions.new) result }
-    ensures line { (s : OpenPart) → OnOk result (AddsLine (slice_index_or parts.old index s).coming (W.written decisions.old) (W.written decisions.new)) }
+    ensures put { (s : OpenPart) → PutsAt parts.old index s parts.new port_sinks.old underlay_sink.old (W.written decisions.old)
+        port_sinks.new underlay_sink.new (W.written decisions.new) result }
+    ensures line { (s : OpenPart) → OnOk result
+        (AddsLine (slice_index_or parts.old index s).coming (W.written decisions.old) (W.written decisions.new)) }
     ensures reads { ReadsWith parts.old parts.new result }
-    ensures writes { WritesWith port_sinks.old underlay_sink.old (W.failures decisions.old) port_sinks.new underlay_sink.new (W.failures decisions.new) result }
+    ensures writes { WritesWith port_sinks.old underlay_sink.old (W.failures decisions.old) port_sinks.new underlay_sink.new
+        (W.failures decisions.new) result }
 {
     if let Err(fault) = put_at(parts, index, port_sinks, underlay_sink, decisions) {
         return Err(fault);
@@ -150,12 +161,16 @@ fn put_events<R: Input, W: Output>(
 ) -> Result<(), MergeFault>
     requires { HaveAll (length port_sinks.old) parts.old }
     ensures counts { HaveAll (length port_sinks.old) parts.new }
-    ensures events { (pieces : List (List Piece)) (cuts : List (List (List ℕ))) → AllHold (length port_sinks.old) pieces cuts parts.old → AllRise pieces → IsRising 0 (merged pieces)
-        → UnlessMissing result (merged pieces) (PutsAll (length port_sinks.old) (merged pieces) cuts parts.new port_sinks.old underlay_sink.old (W.written decisions.old) port_sinks.new underlay_sink.new (W.written decisions.new)) }
+    ensures events { (pieces : List (List Piece)) (cuts : List (List (List ℕ)))
+        → AllHold (length port_sinks.old) pieces cuts parts.old → AllRise pieces → IsRising 0 (merged pieces)
+        → UnlessMissing result (merged pieces)
+        (PutsAll (length port_sinks.old) (merged pieces) cuts parts.new port_sinks.old underlay_sink.old
+        (W.written decisions.old) port_sinks.new underlay_sink.new (W.written decisions.new)) }
     ensures numbered { OnOk result ((count : ℕ) × AddsEvents count (W.written decisions.old) (W.written decisions.new)) }
     ensures over { OnOk result (HaveNoEvent parts.new) }
     ensures reads { ReadsWith parts.old parts.new result }
-    ensures writes { WritesWith port_sinks.old underlay_sink.old (W.failures decisions.old) port_sinks.new underlay_sink.new (W.failures decisions.new) result }
+    ensures writes { WritesWith port_sinks.old underlay_sink.old (W.failures decisions.old) port_sinks.new underlay_sink.new
+        (W.failures decisions.new) result }
 {
     let mut last = 0;
     while let Some(first) = find_first(parts) {
@@ -201,11 +216,13 @@ fn finish_all<R: Input, W: Output>(
 ) -> Result<(), MergeFault>
     requires few { count ≤ 255 }
     requires counts { HaveAll count parts.old }
-    ensures cuts { (cuts : List (List (List ℕ))) → OnlyCuts count cuts parts.old → UnlessDevice result (Appends (W.written decisions.old) (W.written decisions.new) (concat (side_by_side cuts))) }
+    ensures cuts { (cuts : List (List (List ℕ))) → OnlyCuts count cuts parts.old
+        → UnlessDevice result (Appends (W.written decisions.old) (W.written decisions.new) (concat (side_by_side cuts))) }
     ensures put { OnOk result (AddsCuts (W.written decisions.old) (W.written decisions.new)) }
     ensures over { OnOk result (HaveNoEvent parts.old → AreRead parts.new) }
     ensures reads { ReadsWith parts.old parts.new result }
-    ensures writes { (sinks : List Drain) (underlay_sink : Drain) → WritesWith sinks underlay_sink (W.failures decisions.old) sinks underlay_sink (W.failures decisions.new) result }
+    ensures writes { (sinks : List Drain) (underlay_sink : Drain)
+        → WritesWith sinks underlay_sink (W.failures decisions.old) sinks underlay_sink (W.failures decisions.new) result }
 {
     for index in 0..parts.len() {
         if let Err(fault) = parts[index].finish(index, decisions) {

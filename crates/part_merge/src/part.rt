@@ -146,11 +146,14 @@ fn copy_event<R: Input, W: Output>(
 ) -> Result<(), MergeFault>
     requires placed { IfSome begins (IsPlaced line.now) }
     requires count { length port_sinks.old ≡ length ports.old }
-    ensures copied { (number : ℕ) (records : List (ATap × List ℕ)) (rest : ATap → List ℕ) → facts_of line.now ≡ Ok (Event number (taps records)) → AreRecords (length ports.old) records
+    ensures copied { (number : ℕ) (records : List (ATap × List ℕ)) (rest : ATap → List ℕ)
+        → facts_of line.now ≡ Ok (Event number (taps records)) → AreRecords (length ports.old) records
         → AreLeft (λ t. records_at t records ++ rest t) ports.old underlay.old
-        → Moves rest (λ t. records_at t records) ports.new underlay.new port_sinks.old underlay_sink.old port_sinks.new underlay_sink.new result }
+        → Moves rest (λ t. records_at t records) ports.new underlay.new port_sinks.old underlay_sink.old port_sinks.new
+        underlay_sink.new result }
     ensures reads { CapturesRead part ports.old underlay.old ports.new underlay.new result }
-    ensures writes { (failures : ℕ) → WritesWith port_sinks.old underlay_sink.old failures port_sinks.new underlay_sink.new failures result }
+    ensures writes { (failures : ℕ) → WritesWith port_sinks.old underlay_sink.old failures port_sinks.new underlay_sink.new
+        failures result }
 {
     if let Some(at) = begins {
         let places = Places::behind(line, at);
@@ -169,7 +172,8 @@ fn copy_event<R: Input, W: Output>(
 fn put_line<W: Output>(decisions: &mut W, line: &[u8]) -> Result<(), MergeFault>
     ensures put { UnlessDevice result (Appends (W.written decisions.old) (W.written decisions.new) line.now) }
     ensures no_read { BlamesNoRead result }
-    ensures writes { (sinks : List Drain) (underlay_sink : Drain) → WritesWith sinks underlay_sink (W.failures decisions.old) sinks underlay_sink (W.failures decisions.new) result }
+    ensures writes { (sinks : List Drain) (underlay_sink : Drain)
+        → WritesWith sinks underlay_sink (W.failures decisions.old) sinks underlay_sink (W.failures decisions.new) result }
 {
     match decisions.write_all(line) {
         Ok(()) => Ok(()),
@@ -188,7 +192,8 @@ impl<R: Input> Part<R> {
     ) -> Result<Part<R>, (MergeFault, Lines<R>)>
     where
         R: Drop,
-        ensures opened { (count : ℕ) (pieces : List Piece) (cuts : List (List ℕ)) → HoldsAll count pieces cuts lines ports.items underlay → UnlessPart result (Holds count pieces cuts) }
+        ensures opened { (count : ℕ) (pieces : List Piece) (cuts : List (List ℕ))
+            → HoldsAll count pieces cuts lines ports.items underlay → UnlessPart result (Holds count pieces cuts) }
         ensures reads { PartOpens part lines ports.items underlay result }
     {
         let coming = Coming::Nothing;
@@ -231,7 +236,8 @@ impl<R: Input> Part<R> {
     fn next(&mut self, part: usize) -> Result<(), MergeFault>
         ensures ports { self.new.ports ≡ self.old.ports }
         ensures underlay { self.new.underlay ≡ self.old.underlay }
-        ensures next { (count : ℕ) (pieces : List Piece) (cuts : List (List ℕ)) → StandBehind count pieces cuts self.old → UnlessDevice result (ComesNext pieces cuts self.new) }
+        ensures next { (count : ℕ) (pieces : List Piece) (cuts : List (List ℕ)) → StandBehind count pieces cuts self.old
+            → UnlessDevice result (ComesNext pieces cuts self.new) }
         ensures behind_cut { OnOk result (is_cut self.old.coming ≡ true → IsNone self.new.coming) }
         ensures reads { LinesRead part self.old.reader self.new.reader result }
         ensures no_write { BlamesNoWrite result }
@@ -263,11 +269,14 @@ impl<R: Input> Part<R> {
         ensures reader { self.new.reader ≡ self.old.reader }
         ensures coming { self.new.coming ≡ self.old.coming }
         ensures ports { length self.new.ports ≡ length self.old.ports }
-        ensures copied { (number : ℕ) (records : List (ATap × List ℕ)) (rest : ATap → List ℕ) → facts_of self.old.reader.line ≡ Ok (Event number (taps records)) → AreRecords (length self.old.ports) records
+        ensures copied { (number : ℕ) (records : List (ATap × List ℕ)) (rest : ATap → List ℕ)
+            → facts_of self.old.reader.line ≡ Ok (Event number (taps records)) → AreRecords (length self.old.ports) records
             → AreLeft (λ t. records_at t records ++ rest t) self.old.ports self.old.underlay
-            → Moves rest (λ t. records_at t records) self.new.ports self.new.underlay port_sinks.old underlay_sink.old port_sinks.new underlay_sink.new result }
+            → Moves rest (λ t. records_at t records) self.new.ports self.new.underlay port_sinks.old underlay_sink.old
+            port_sinks.new underlay_sink.new result }
         ensures reads { PartReads part self.old self.new result }
-        ensures writes { (failures : ℕ) → WritesWith port_sinks.old underlay_sink.old failures port_sinks.new underlay_sink.new failures result }
+        ensures writes { (failures : ℕ) → WritesWith port_sinks.old underlay_sink.old failures port_sinks.new underlay_sink.new
+            failures result }
     {
         copy_event(
             part,
@@ -291,10 +300,13 @@ impl<R: Input> Part<R> {
         requires { length port_sinks.old ≡ length self.old.ports }
         ensures ports { length self.new.ports ≡ length self.old.ports }
         ensures event { (count : ℕ) (p : Piece) (ps : List Piece) (cuts : List (List ℕ)) → Holds count (p ∷ ps) cuts self.old
-            → UnlessDevice result (Holds count ps cuts self.new × AreAdded (λ t. records_at t p.records) port_sinks.old underlay_sink.old port_sinks.new underlay_sink.new × Appends (W.written decisions.old) (W.written decisions.new) p.line) }
+            → UnlessDevice result (Holds count ps cuts self.new
+            × AreAdded (λ t. records_at t p.records) port_sinks.old underlay_sink.old port_sinks.new underlay_sink.new
+            × Appends (W.written decisions.old) (W.written decisions.new) p.line) }
         ensures put { OnOk result (AddsLine self.old.coming (W.written decisions.old) (W.written decisions.new)) }
         ensures reads { PartReads part self.old self.new result }
-        ensures writes { WritesWith port_sinks.old underlay_sink.old (W.failures decisions.old) port_sinks.new underlay_sink.new (W.failures decisions.new) result }
+        ensures writes { WritesWith port_sinks.old underlay_sink.old (W.failures decisions.old) port_sinks.new underlay_sink.new
+            (W.failures decisions.new) result }
     {
         if let Err(fault) = self.copy_records(part, port_sinks, underlay_sink) {
             return Err(fault);
@@ -307,11 +319,13 @@ impl<R: Input> Part<R> {
         ensures ports { self.new.ports ≡ self.old.ports }
         ensures underlay { self.new.underlay ≡ self.old.underlay }
         ensures line { (count : ℕ) (pieces : List Piece) (cuts : List (List ℕ)) → StandBehind count pieces cuts self.old
-            → UnlessDevice result (ComesNext pieces cuts self.new × Appends (W.written decisions.old) (W.written decisions.new) self.old.reader.line) }
+            → UnlessDevice result (ComesNext pieces cuts self.new
+            × Appends (W.written decisions.old) (W.written decisions.new) self.old.reader.line) }
         ensures put { OnOk result (AddsLine self.old.coming (W.written decisions.old) (W.written decisions.new)) }
         ensures behind_cut { OnOk result (is_cut self.old.coming ≡ true → IsNone self.new.coming) }
         ensures reads { PartReads part self.old self.new result }
-        ensures writes { (sinks : List Drain) (underlay_sink : Drain) → WritesWith sinks underlay_sink (W.failures decisions.old) sinks underlay_sink (W.failures decisions.new) result }
+        ensures writes { (sinks : List Drain) (underlay_sink : Drain)
+            → WritesWith sinks underlay_sink (W.failures decisions.old) sinks underlay_sink (W.failures decisions.new) result }
     {
         if let Err(fault) = put_line(decisions, self.line()) {
             return Err(fault);
@@ -322,11 +336,14 @@ impl<R: Input> Part<R> {
     /// Puts the lines of the cut captures that come next to the decisions.
     fn put_cuts<W: Output>(&mut self, part: usize, decisions: &mut W) -> Result<(), MergeFault>
         ensures ports { length self.new.ports ≡ length self.old.ports }
-        ensures cuts { (count : ℕ) (cuts : List (List ℕ)) → Holds count [] cuts self.old → UnlessDevice result (Holds count [] [] self.new × Appends (W.written decisions.old) (W.written decisions.new) (concat cuts)) }
+        ensures cuts { (count : ℕ) (cuts : List (List ℕ)) → Holds count [] cuts self.old
+            → UnlessDevice result (Holds count [] [] self.new
+            × Appends (W.written decisions.old) (W.written decisions.new) (concat cuts)) }
         ensures put { OnOk result (AddsCuts (W.written decisions.old) (W.written decisions.new)) }
         ensures over { OnOk result (IsNone self.old.coming → self.new.coming ≡ Nothing) }
         ensures reads { PartReads part self.old self.new result }
-        ensures writes { (sinks : List Drain) (underlay_sink : Drain) → WritesWith sinks underlay_sink (W.failures decisions.old) sinks underlay_sink (W.failures decisions.new) result }
+        ensures writes { (sinks : List Drain) (underlay_sink : Drain)
+            → WritesWith sinks underlay_sink (W.failures decisions.old) sinks underlay_sink (W.failures decisions.new) result }
     {
         for _count in 0..MOST_CUTS + 1 {
             if is_over(self.coming()) {
@@ -346,11 +363,13 @@ impl<R: Input> Part<R> {
         decisions: &mut W,
     ) -> Result<(), MergeFault>
         requires { length self.old.ports ≤ 255 }
-        ensures cuts { (count : ℕ) (cuts : List (List ℕ)) → Holds count [] cuts self.old → UnlessDevice result (Appends (W.written decisions.old) (W.written decisions.new) (concat cuts)) }
+        ensures cuts { (count : ℕ) (cuts : List (List ℕ)) → Holds count [] cuts self.old
+            → UnlessDevice result (Appends (W.written decisions.old) (W.written decisions.new) (concat cuts)) }
         ensures put { OnOk result (AddsCuts (W.written decisions.old) (W.written decisions.new)) }
         ensures over { OnOk result (IsNone self.old.coming → self.new.coming ≡ Nothing) }
         ensures reads { PartReads part self.old self.new result }
-        ensures writes { (sinks : List Drain) (underlay_sink : Drain) → WritesWith sinks underlay_sink (W.failures decisions.old) sinks underlay_sink (W.failures decisions.new) result }
+        ensures writes { (sinks : List Drain) (underlay_sink : Drain)
+            → WritesWith sinks underlay_sink (W.failures decisions.old) sinks underlay_sink (W.failures decisions.new) result }
     {
         if let Err(fault) = self.put_cuts(part, decisions) {
             return Err(fault);

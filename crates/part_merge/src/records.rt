@@ -33,7 +33,8 @@ fn copy_record<R: Input, W: Output>(
     capture: &mut Capture<R>,
     sink: &mut Sink<W>,
 ) -> Result<(), MergeFault>
-    ensures copied { (text rest : List ℕ) → IsWritten text → IsLeft (text ++ rest) capture.old → UnlessDevice result (IsLeft rest capture.new × IsAdded text sink.old sink.new) }
+    ensures copied { (text rest : List ℕ) → IsWritten text → IsLeft (text ++ rest) capture.old
+        → UnlessDevice result (IsLeft rest capture.new × IsAdded text sink.old sink.new) }
     ensures reads { SourceReads part capture.old capture.new result }
     ensures writes { SinkWrites tap sink.old sink.new result }
 {
@@ -51,11 +52,13 @@ fn copy_port<R: Input, W: Output>(
     port_sinks: &mut [Sink<W>],
 ) -> Result<(), MergeFault>
     requires { length port_sinks.old ≡ length ports.old }
-    ensures copied { (text : List ℕ) (rest : ATap → List ℕ) (underlay : Stream) (underlay_sink : Drain) → IsTap (length ports.old) (Port port) → IsWritten text
+    ensures copied { (text : List ℕ) (rest : ATap → List ℕ) (underlay : Stream) (underlay_sink : Drain)
+        → IsTap (length ports.old) (Port port) → IsWritten text
         → AreLeft (λ t. at_tap t (Port port) text ++ rest t) ports.old underlay
         → Moves rest (λ t. at_tap t (Port port) text) ports.new underlay port_sinks.old underlay_sink port_sinks.new underlay_sink result }
     ensures reads { (underlay : Stream) → CapturesRead part ports.old underlay ports.new underlay result }
-    ensures writes { (underlay_sink : Drain) (failures : ℕ) → WritesWith port_sinks.old underlay_sink failures port_sinks.new underlay_sink failures result }
+    ensures writes { (underlay_sink : Drain) (failures : ℕ)
+        → WritesWith port_sinks.old underlay_sink failures port_sinks.new underlay_sink failures result }
 {
     let index = usize::from(port);
     if index == 0 || index > ports.len() {
@@ -81,9 +84,11 @@ fn copy_at<R: Input, W: Output>(
     requires { length port_sinks.old ≡ length ports.old }
     ensures copied { (text : List ℕ) (rest : ATap → List ℕ) → IsTap (length ports.old) tap → IsWritten text
         → AreLeft (λ t. at_tap t tap text ++ rest t) ports.old underlay.old
-        → Moves rest (λ t. at_tap t tap text) ports.new underlay.new port_sinks.old underlay_sink.old port_sinks.new underlay_sink.new result }
+        → Moves rest (λ t. at_tap t tap text) ports.new underlay.new port_sinks.old underlay_sink.old port_sinks.new
+        underlay_sink.new result }
     ensures reads { CapturesRead part ports.old underlay.old ports.new underlay.new result }
-    ensures writes { (failures : ℕ) → WritesWith port_sinks.old underlay_sink.old failures port_sinks.new underlay_sink.new failures result }
+    ensures writes { (failures : ℕ) → WritesWith port_sinks.old underlay_sink.old failures port_sinks.new underlay_sink.new
+        failures result }
 {
     match tap {
         Tap::Port(port) => copy_port(part, port, ports, port_sinks),
@@ -101,11 +106,14 @@ pub(crate) fn copy_all<R: Input, W: Output>(
     underlay_sink: &mut Sink<W>,
 ) -> Result<(), MergeFault>
     requires { length port_sinks.old ≡ length ports.old }
-    ensures copied { (records : List (ATap × List ℕ)) (rest : ATap → List ℕ) → places.entry ≡ taps records → AreRecords (length ports.old) records
+    ensures copied { (records : List (ATap × List ℕ)) (rest : ATap → List ℕ) → places.entry ≡ taps records
+        → AreRecords (length ports.old) records
         → AreLeft (λ t. records_at t records ++ rest t) ports.old underlay.old
-        → Moves rest (λ t. records_at t records) ports.new underlay.new port_sinks.old underlay_sink.old port_sinks.new underlay_sink.new result }
+        → Moves rest (λ t. records_at t records) ports.new underlay.new port_sinks.old underlay_sink.old port_sinks.new
+        underlay_sink.new result }
     ensures reads { CapturesRead part ports.old underlay.old ports.new underlay.new result }
-    ensures writes { (failures : ℕ) → WritesWith port_sinks.old underlay_sink.old failures port_sinks.new underlay_sink.new failures result }
+    ensures writes { (failures : ℕ) → WritesWith port_sinks.old underlay_sink.old failures port_sinks.new underlay_sink.new
+        failures result }
 {
     let mut places = places;
     while let Some(tap) = places.next_place() {

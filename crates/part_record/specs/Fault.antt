@@ -1,7 +1,9 @@
 -- What stands where a fault says that a text is none of a record's. It states no standard.
 use Rattle.std.specs.Prelude.{◌≡◌, ◌≢◌, ◌<◌, ◌⊎◌, ℕ, ◌+◌, ◌^◌, Bool, true, List, [], ◌++◌, length, codes, All, None, Some, is_some}
 use Rattle.timeline.specs.declared.source.Tap.TheVariants as taps
-use Rattle.part_record.specs.Record.{Facts, IsOneLine, IsRecord, before_events, before_underlay, both_line, capture_line, changes_line, events_line, facts_text, first_line, older_line, segments_line, settings_line, text_of, with_captures}
+use Rattle.part_record.specs.Record.{Facts, IsOneLine, IsRecord, before_events, before_underlay, both_line}
+use Rattle.part_record.specs.Record.{capture_line, changes_line, events_line, facts_text, first_line}
+use Rattle.part_record.specs.Record.{older_line, segments_line, settings_line, text_of, with_captures}
 use Rattle.part_record.specs.Outputs.{AreOutputs, IsOutput, output_line, output_lines}
 use Rattle.part_record.specs.Sum.{IsSum}
 use Rattle.part_record.specs.declared.outputs.OutputFacts.{OutputFacts}

@@ -1,8 +1,10 @@
 //! The record of a text.
-ghost use Rattle.std.specs.Prelude.{◌≡◌, ◌≢◌, ◌<◌, ◌^◌, Bool, List, ℕ, ◌++◌, Some, codes, is_some, true, length, IfOk, IfErr, IfNone, IfSome, OnErr, MatchOption};
+ghost use Rattle.std.specs.Prelude.{◌≡◌, ◌≢◌, ◌<◌, ◌^◌, Bool, List, ℕ, ◌++◌, Some, codes, is_some};
+ghost use Rattle.std.specs.Prelude.{true, length, IfOk, IfErr, IfNone, IfSome, OnErr, MatchOption};
 ghost use Rattle.part_record.specs.Fault.{IsFaultIn, IsNoCapture};
 ghost use Rattle.part_record.specs.Outputs.{AreOutputs};
-ghost use Rattle.part_record.specs.Record.{Facts, IsOneLine, IsRecord, IsTime, both_line, changes_line, facts_of, facts_text, first_line, segments_line, sum_line, text_of};
+ghost use Rattle.part_record.specs.Record.{Facts, IsOneLine, IsRecord, IsTime, both_line, changes_line};
+ghost use Rattle.part_record.specs.Record.{facts_of, facts_text, first_line, segments_line, sum_line, text_of};
 ghost use Rattle.part_record.specs.Sum.{IsSum};
 ghost use Rattle.part_record.specs.declared.outputs.OutputFacts.{OutputFacts as AnOutput};
 
@@ -93,7 +95,8 @@ fn head_of(text: &str) -> Option<(bool, &str)>
 
 /// The time on the line of `both`, where there is to be one, and what stands behind it.
 fn both_of(text: &str, has_both: bool) -> Option<(Option<u64>, &str)>
-    ensures { MatchOption result ((has_both ≡ true) × ((within : ℕ) (rest : List ℕ) → within < 2 ^ 64 → text.now ≢ both_line (Some within) ++ rest))
+    ensures { MatchOption result ((has_both ≡ true)
+        × ((within : ℕ) (rest : List ℕ) → within < 2 ^ 64 → text.now ≢ both_line (Some within) ++ rest))
         (λ found. (is_some found.0 ≡ has_both) × IsTime found.0 × (text.now ≡ both_line found.0 ++ found.1.now)) }
 {
     if !has_both {

@@ -1,7 +1,8 @@
 //! The text of a record.
 ghost use Rattle.std.specs.Prelude.{◌≡◌, ◌≤◌, ◌++◌, length, IfOk, OnOk};
 ghost use Rattle.std.specs.Option.{option_copied};
-ghost use Rattle.part_record.specs.Record.{both_line, capture_line, capture_word, changes_line, facts_of, facts_text, first_line, line, port_lines, sum_line, text_of};
+ghost use Rattle.part_record.specs.Record.{both_line, capture_line, capture_word, changes_line, facts_of};
+ghost use Rattle.part_record.specs.Record.{facts_text, first_line, line, port_lines, sum_line, text_of};
 ghost use Rattle.timeline.specs.declared.source.Tap.TheVariants.{Port};
 
 use crate::facts::PartRecord;

@@ -118,17 +118,32 @@ with_row t (Count segment number count) = record {
 }
 with_row t (Refused number count) = record {
   counts = t.counts;
-  totals = record { came = t.totals.came; left = t.totals.left; refused = λ fault. if fault_number fault == number then count else t.totals.refused fault; partial = t.totals.partial };
+  totals = record {
+    came = t.totals.came;
+    left = t.totals.left;
+    refused = λ fault. if fault_number fault == number then count else t.totals.refused fault;
+    partial = t.totals.partial;
+  };
   cut = t.cut;
 }
 with_row t (Came tap flow) = record {
   counts = t.counts;
-  totals = record { came = λ at. if same_tap at tap then flow else t.totals.came at; left = t.totals.left; refused = t.totals.refused; partial = t.totals.partial };
+  totals = record {
+    came = λ at. if same_tap at tap then flow else t.totals.came at;
+    left = t.totals.left;
+    refused = t.totals.refused;
+    partial = t.totals.partial;
+  };
   cut = t.cut;
 }
 with_row t (Left tap flow) = record {
   counts = t.counts;
-  totals = record { came = t.totals.came; left = λ at. if same_tap at tap then flow else t.totals.left at; refused = t.totals.refused; partial = t.totals.partial };
+  totals = record {
+    came = t.totals.came;
+    left = λ at. if same_tap at tap then flow else t.totals.left at;
+    refused = t.totals.refused;
+    partial = t.totals.partial;
+  };
   cut = t.cut;
 }
 with_row t (Partial count) = record {

@@ -1,6 +1,7 @@
 //! What the lines of a summary tell, one by one.
 ghost use Rattle.std.specs.Prelude.{◌≡◌};
-ghost use Rattle.part_reports.specs.Rows.{byte_of, count_in, count_of, cut_in, dropped_in, flow_by, flow_in, partial_in, refused_in, row_in, segment_of, small, tap_of, vid_of};
+ghost use Rattle.part_reports.specs.Rows.{byte_of, count_in, count_of, cut_in, dropped_in, flow_by, flow_in};
+ghost use Rattle.part_reports.specs.Rows.{partial_in, refused_in, row_in, segment_of, small, tap_of, vid_of};
 
 use frame_view::Vid;
 use line_words::{behind_word, first_word, number_of};

@@ -1,6 +1,7 @@
 -- The global header of a capture (pcap-savefile(5)): a magic number of 32 bits, the version 2.4 in twice 16 bits, the
 -- time zone, the accuracy and the snapshot length, which are ignored, and the link type, 32 bits each.
-use Rattle.std.specs.Prelude.{ℕ, ◌==◌, ◌&&◌, nat_lt, if◌then◌else◌, Bool, List, [], ◌∷◌, ◌++◌, length, drop, Option, Some, None, Result, Ok, Err}
+use Rattle.std.specs.Prelude.{ℕ, ◌==◌, ◌&&◌, nat_lt, if◌then◌else◌, Bool, List, [], ◌∷◌}
+use Rattle.std.specs.Prelude.{◌++◌, length, drop, Option, Some, None, Result, Ok, Err}
 use Rattle.std.specs.List.{find}
 use Rattle.pcap_io.specs.Style.{magic_of, number_of, octets_of, styles}
 use Rattle.pcap_io.specs.declared.style.Order.{Order}

@@ -1,5 +1,5 @@
 -- A next record that was read ahead whole takes no read.
-use Rattle.std.proofs.Common.{◌≡◌, ◌∙◌, true, false, refl, sym, ap, ℕ, ◌+◌, ◌≤◌, Bool, List, length, take, drop, arith, length-take, length-drop, Ok}
+use Rattle.std.proofs.Common.{◌≡◌, ◌∙◌, true, false, refl, sym, ap, ℕ, ◌+◌, ◌<◌, ◌≤◌, Bool, List, length, take, drop, arith, length-take, length-drop, Ok}
 use Rattle.std.specs.Prelude.{nat_lt}
 use Rattle.std.proofs.lemmas.Bool.{ltb-true, ltb-false}
 use Rattle.std.proofs.lemmas.List.{take-append-drop}
@@ -38,3 +38,15 @@ another_whole style text front header is front_is readable_is = by (nat_lt (leng
     by : (b : Bool) → nat_lt (length text) (16 + header.captured) ≡ b → header.captured ≤ length (drop 16 text)
     by true short = let never : false ≡ true = sym (ap is_another (next_of-cut style text header long header_is (ltb-true _ _ short))) ∙ is in absurd cc
     by false fits = omega (arith, length-drop 16 text, ltb-false _ _ fits)
+
+-- where its octets lack, no record was read ahead whole
+pub another_lacks : (style : Style) (text front left : List ℕ) (header : RecordHeader) → (16 ≤ length text → (front ≡ take 16 text) × (left ≡ drop 16 text))
+    → Ok header ≡ readable style (record_header_in style.order front) → length left < header.captured → is_another (next_of style text) ≡ false
+another_lacks style text front left header there readable_is short = by (is_another (next_of style text)) refl
+  where
+    by : (b : Bool) → is_another (next_of style text) ≡ b → is_another (next_of style text) ≡ false
+    by false is = is
+    by true is =
+        let at = there (another_long style text is) in
+        let whole = another_whole style text front header is at.0 readable_is in
+        absurd (omega (arith, short, ap length at.1, whole))

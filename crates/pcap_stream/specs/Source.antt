@@ -1,5 +1,6 @@
 -- A source of records, and what its calls make of it. It states no standard.
-use Rattle.std.specs.Prelude.{◌≡◌, ◌<◌, ◌≤◌, ◌+◌, ℕ, max, Bool, true, false, List, [], length, drop, Option, Some, None, Result, Ok, Err, IfSome, option_map, ⊤}
+use Rattle.std.specs.Prelude.{◌≡◌, ◌<◌, ◌≤◌, ◌+◌, ℕ, max, Bool, true, false, List, [], length}
+use Rattle.std.specs.Prelude.{drop, Option, Some, None, Result, Ok, Err, IfSome, option_map, ⊤}
 use Rattle.pcap_io.specs.Header.{style_of}
 use Rattle.pcap_io.specs.Next.{End, Whole, Cut, Faulty, Next, Another, Ends, next_of}
 use Rattle.pcap_io.specs.Record.{Record}

@@ -159,7 +159,8 @@ impl<R: Input> ReadAhead<R> {
         ensures lacks { IfOk result (λ n. wanted ≤ n
             → self.old.input.reads + length self.old.ahead ≤ self.new.input.reads + max wanted (length self.old.ahead)) }
         ensures there { wanted ≤ length self.old.ahead
-            → (self.new.input ≡ self.old.input) × (self.new.taken ≡ take wanted self.old.ahead) × (self.new.ahead ≡ drop wanted self.old.ahead) }
+            → (self.new.input ≡ self.old.input) × (self.new.taken ≡ take wanted self.old.ahead)
+            × (self.new.ahead ≡ drop wanted self.old.ahead) }
         ensures behind { wanted ≤ length self.old.ahead → length self.new.ahead + wanted ≡ length self.old.ahead }
         ensures brings { IfOk result (λ n. n + most_in self.new ≤ most_in self.old) }
         ensures most { most_in self.new ≤ most_in self.old }
@@ -171,6 +172,7 @@ impl<R: Input> ReadAhead<R> {
         ensures gives_up { OnErr result (GivesUp (left_of self.old) (left_of self.new)) }
         ensures short { OnErr result
             (StopsShort (λ taken. length taken < wanted) (length self.old.ahead) (left_of self.old) (left_of self.new)) }
+        ensures lacked { OnErr result (length self.old.ahead < wanted) }
     {
         if self.held() < wanted {
             self.bring(wanted)?;

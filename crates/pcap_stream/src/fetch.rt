@@ -1,5 +1,5 @@
 //! The global header and the records of a capture, from an input.
-ghost use Rattle.std.specs.Prelude.{◌≡◌, ◌≤◌, ◌+◌, ℕ, List, IfOk, IsSome, OnErr, length, true};
+ghost use Rattle.std.specs.Prelude.{◌≡◌, ◌≤◌, ◌+◌, ℕ, List, IfOk, IsSome, OnErr, false, length, true};
 ghost use Rattle.pcap_io.specs.Next.{next_of};
 ghost use Rattle.pcap_stream.specs.Ahead.{left_of, most_in};
 ghost use Rattle.pcap_stream.specs.Source.{IsShortHeader, IsShortRecord, ReadsHeader, ReadsNext, ReadsWhatLacks, is_another, lent};
@@ -61,6 +61,7 @@ pub fn fetch<R: Input>(style: Style, ahead: &mut ReadAhead<R>) -> Result<State, 
         ReadsWhatLacks ahead.old.ahead (left_of ahead.old) (left_of ahead.new) (standing_of state ahead.new.taken)) }
     ensures gives_up { OnErr result (GivesUp (left_of ahead.old) (left_of ahead.new)) }
     ensures short { OnErr result (StopsShort (IsShortRecord style) (length ahead.old.ahead) (left_of ahead.old) (left_of ahead.new)) }
+    ensures lacked { OnErr result (is_another (next_of style ahead.old.ahead) ≡ false) }
 {
     let got = ahead.pass(RECORD_HEADER_LENGTH)?;
     if got < RECORD_HEADER_LENGTH {

@@ -1,9 +1,10 @@
 //! The records of a capture, one after another.
-ghost use Rattle.std.specs.Prelude.{◌≡◌, ◌≢◌, ◌≤◌, ◌+◌, ℕ, List, [], IfOk, IfSome, IsSome, true};
+ghost use Rattle.std.specs.Prelude.{◌≡◌, ◌≢◌, ◌≤◌, ◌+◌, ⊤, ℕ, List, [], IfOk, IfSome, IsSome, false, true};
 ghost use Rattle.std.specs.Io.KnownBytes.{prepend_known};
 ghost use Rattle.pcap_io.specs.Next.{next_of};
 ghost use Rattle.pcap_io.specs.Record.{IsWithinLimits};
-ghost use Rattle.pcap_stream.specs.Source.{FillsToTheBound, IsFilled, IsOpened, New, OpensToTheBound, ReadsWhatLacks, answer, below, ends_cut, holds_next, is_another, lent, most_left, style_at};
+ghost use Rattle.pcap_stream.specs.Source.{FillsToTheBound, IsFilled, IsOpened, MatchRead, New, OpensToTheBound, ReadsWhatLacks};
+ghost use Rattle.pcap_stream.specs.Source.{answer, below, ends_cut, holds_next, is_another, lent, most_left, style_at};
 ghost use Rattle.pcap_stream.specs.State.{standing_of};
 ghost use Rattle.pcap_stream.specs.Supply.{IsThrifty, Spends, untouched};
 
@@ -88,7 +89,8 @@ impl<R: Input> Source<R> {
         }
     }
 
-    /// Fetches the next record. At the end it answers `Ok` and there is no record; after a fault it answers that fault.
+    /// Fetches the next record. At the end it answers `Ok` and there is no record; after a fault it answers that fault. It
+    /// answers `Read` only where the record wasn't read ahead whole.
     pub fn fill(&mut self) -> Result<(), SourceFault>
         requires { self.old.standing ≢ New }
         ensures filled { IsFilled self.old self.new result }
@@ -101,6 +103,7 @@ impl<R: Input> Source<R> {
         ensures lacks { ReadsWhatLacks self.old.ahead self.old.supply self.new.supply self.new.standing }
         ensures lends { IsSome (lent self.new.standing) → 16 + most_left self.new ≤ most_left self.old }
         ensures held { holds_next self.old ≡ true → self.new.supply.calls ≡ self.old.supply.calls }
+        ensures lacked { MatchRead result (holds_next self.old ≡ false) ⊤ }
     {
         let style = match self.state {
             State::Open(style, _) => style,

@@ -1,12 +1,14 @@
 -- What an input of a capture tells: a pcapng text (draft-ietf-opsawg-pcapng) as a classic one, and any other as it is.
-use Rattle.std.specs.Prelude.{◌≡◌, ℕ, ◌+◌, ◌==◌, ◌&&◌, ◌||◌, nat_le, nat_lt, if◌then◌else◌, Bool, true, false, List, [], ◌∷◌, ◌++◌, length, drop, Option, Some, None, Result, Ok, Err}
+use Rattle.std.specs.Prelude.{◌≡◌, ℕ, ◌+◌, ◌==◌, ◌&&◌, ◌||◌, nat_le, nat_lt, if◌then◌else◌, Bool, true}
+use Rattle.std.specs.Prelude.{false, List, [], ◌∷◌, ◌++◌, length, drop, Option, Some, None, Result, Ok, Err}
 use Rattle.std.specs.List.{flat_map}
 use Rattle.pcap_io.specs.Style.{number_of}
 use Rattle.pcap_io.specs.Written.{written_header, written_record}
 use Rattle.pcap_io.specs.declared.style.Order.{Order}
 use Rattle.pcapng_input.specs.Block.{is_section}
 use Rattle.pcapng_input.specs.Classic.{classic_text}
-use Rattle.pcapng_input.specs.Reading.{Context, EndsCut, EndsFaulty, EndsWhole, PacketReading, TextEnd, block_fault_at, ended, packets_in, packets_of}
+use Rattle.pcapng_input.specs.Reading.{Context, EndsCut, EndsFaulty, EndsWhole, PacketReading}
+use Rattle.pcapng_input.specs.Reading.{TextEnd, block_fault_at, ended, packets_in, packets_of}
 use Rattle.pcapng_input.specs.declared.fault.BlockFault.TheVariants.{BadLength}
 use Rattle.pcapng_input.specs.declared.fault.PcapngFault.{PcapngFault}
 use Rattle.pcapng_input.specs.declared.interface.Selection.{Selection}

@@ -1,6 +1,7 @@
 -- Blocks (draft-ietf-opsawg-pcapng, 3.1 and 4.1): a type and a length of 32 bits each, the body, and the length again, in
 -- the byte order that the header of their section tells.
-use Rattle.std.specs.Prelude.{ℕ, ◌-◌, ◌%◌, ◌==◌, ◌&&◌, ◌||◌, not, nat_lt, if◌then◌else◌, Bool, List, [], ◌∷◌, length, drop, Option, Some, None}
+use Rattle.std.specs.Prelude.{ℕ, ◌-◌, ◌%◌, ◌==◌, ◌&&◌, ◌||◌, not, nat_lt, if◌then◌else◌}
+use Rattle.std.specs.Prelude.{Bool, List, [], ◌∷◌, length, drop, Option, Some, None}
 use Rattle.std.specs.List.{find}
 use Rattle.header_octets.specs.Octets.{part}
 use Rattle.pcap_io.specs.Style.{number_of}

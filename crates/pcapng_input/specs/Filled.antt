@@ -1,10 +1,12 @@
 -- The blocks of an input, one after another (draft-ietf-opsawg-pcapng, 3), without what they mean.
-use Rattle.std.specs.Prelude.{◌≡◌, ◌<◌, ◌≤◌, ℕ, ◌+◌, ◌-◌, ◌*◌, ◌==◌, Bool, true, false, List, [], ◌++◌, length, drop, Option, Some, None, option_map, IfSome, ⊤}
+use Rattle.std.specs.Prelude.{◌≡◌, ◌<◌, ◌≤◌, ℕ, ◌+◌, ◌-◌, ◌*◌, ◌==◌, Bool, true, false, List}
+use Rattle.std.specs.Prelude.{[], ◌++◌, length, drop, Option, Some, None, option_map, IfSome, ⊤}
 use Rattle.std.specs.Io.KnownBytes.{Consumes}
 use Rattle.pcap_io.specs.Style.{number_of}
 use Rattle.pcap_io.specs.declared.style.Order.{Order}
 use Rattle.pcapng_input.specs.Adapter.{Gathered}
-use Rattle.pcapng_input.specs.Block.{AnotherBlock, Block, CutShort, NextBlock, NoBlock, Refused, is_no_length, is_read, longest_block, next_block, order_at}
+use Rattle.pcapng_input.specs.Block.{AnotherBlock, Block, CutShort, NextBlock, NoBlock, Refused}
+use Rattle.pcapng_input.specs.Block.{is_no_length, is_read, longest_block, next_block, order_at}
 use Rattle.pcapng_input.specs.declared.fault.BlockFault.TheVariants.{BadLength}
 use Rattle.pcapng_input.specs.declared.filling.Filled.{Filled}
 use Rattle.pcapng_input.specs.declared.filling.Filled.TheVariants as filled

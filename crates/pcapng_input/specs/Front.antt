@@ -1,5 +1,6 @@
 -- The packets that a text of blocks begins with, and the records that are given of them. It serves proofs.
-use Rattle.std.specs.Prelude.{◌≡◌, ◌<◌, ◌≤◌, ℕ, ◌+◌, ◌-◌, ◌%◌, nat_lt, if◌then◌else◌, not, Bool, true, false, List, ◌++◌, length, drop, slice_get, Option, Some, None, Ok, ⊤}
+use Rattle.std.specs.Prelude.{◌≡◌, ◌<◌, ◌≤◌, ℕ, ◌+◌, ◌-◌, ◌%◌, nat_lt, if◌then◌else◌, not, Bool, true}
+use Rattle.std.specs.Prelude.{false, List, ◌++◌, length, drop, slice_get, Option, Some, None, Ok, ⊤}
 use Rattle.header_octets.specs.Octets.{part}
 use Rattle.pcap_io.specs.Record.{IsWithinLimits, Record}
 use Rattle.pcap_io.specs.Style.{number_of}

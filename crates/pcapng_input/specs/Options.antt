@@ -1,5 +1,6 @@
 -- Options of a block (draft-ietf-opsawg-pcapng, 3.5): a code and a length of 16 bits each, and a value, padded to 32 bits.
-use Rattle.std.specs.Prelude.{ℕ, zero, suc, ◌+◌, ◌*◌, ◌/◌, ◌==◌, nat_lt, if◌then◌else◌, Bool, true, false, List, [], ◌∷◌, length, drop, Option, option_map}
+use Rattle.std.specs.Prelude.{ℕ, zero, suc, ◌+◌, ◌*◌, ◌/◌, ◌==◌, nat_lt, if◌then◌else◌, Bool}
+use Rattle.std.specs.Prelude.{true, false, List, [], ◌∷◌, length, drop, Option, option_map}
 use Rattle.std.specs.List.{find}
 use Rattle.header_octets.specs.Octets.{part}
 use Rattle.pcap_io.specs.Style.{number_of}

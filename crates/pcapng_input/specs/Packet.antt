@@ -1,5 +1,6 @@
 -- Packets (draft-ietf-opsawg-pcapng, 4.3, 4.4 and A.1), as records of a classic capture.
-use Rattle.std.specs.Prelude.{ℕ, ◌+◌, ◌*◌, ◌%◌, ◌==◌, ◌&&◌, nat_lt, not, if◌then◌else◌, Bool, false, min, List, length, take, drop, Option, Some, None, unwrap_or, Result, Ok, Err, slice_get}
+use Rattle.std.specs.Prelude.{ℕ, ◌+◌, ◌*◌, ◌%◌, ◌==◌, ◌&&◌, nat_lt, not, if◌then◌else◌, Bool, false, min, List}
+use Rattle.std.specs.Prelude.{length, take, drop, Option, Some, None, unwrap_or, Result, Ok, Err, slice_get}
 use Rattle.pcap_io.specs.Header.{ethernet}
 use Rattle.pcap_io.specs.Record.{Record, longest}
 use Rattle.pcap_io.specs.Style.{number_of}

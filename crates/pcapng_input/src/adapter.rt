@@ -4,7 +4,8 @@ ghost use Rattle.std.specs.Io.{ReadsAtMost};
 ghost use Rattle.std.specs.Io.KnownBytes.{ReadConsumes};
 ghost use Rattle.pcap_stream.specs.Supply.{Spends};
 ghost use Rattle.pcapng_input.specs.Adapted.{is_of_one, told_text};
-ghost use Rattle.pcapng_input.specs.Adapter.{IsAllTold, KeepsFault, KeepsTold, TellsBehind, left_out_by, met_fault, told, told_fault, told_octets};
+ghost use Rattle.pcapng_input.specs.Adapter.{IsAllTold, KeepsFault, KeepsTold, TellsBehind};
+ghost use Rattle.pcapng_input.specs.Adapter.{left_out_by, met_fault, told, told_fault, told_octets};
 ghost use Rattle.pcapng_input.specs.State.{steps_at};
 ghost use Rattle.pcapng_input.specs.Stops.{StopsFor};
 

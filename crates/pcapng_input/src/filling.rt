@@ -3,7 +3,8 @@ ghost use Rattle.std.specs.Prelude.{◌≡◌, ◌≤◌, ◌+◌, [], drop, len
 ghost use Rattle.pcap_io.specs.Style.{number_of};
 ghost use Rattle.pcap_stream.specs.Supply.{Spends};
 ghost use Rattle.pcapng_input.specs.Block.{longest_block};
-ghost use Rattle.pcapng_input.specs.Filled.{HasFewer, IsFilled, IsLacking, IsNumberNext, IsPassedOver, PassesBlock, PassesBody, octets_left, octets_passed};
+ghost use Rattle.pcapng_input.specs.Filled.{HasFewer, IsFilled, IsLacking, IsNumberNext, IsPassedOver};
+ghost use Rattle.pcapng_input.specs.Filled.{PassesBlock, PassesBody, octets_left, octets_passed};
 ghost use Rattle.pcapng_input.specs.Stops.{StopsFor};
 
 use crate::block::{EMPTY_BLOCK, LONGEST_BLOCK, NextBlock, next_block, order_at};

@@ -5,7 +5,9 @@
 //! one that is taken, in any section.
 ghost use Rattle.std.specs.Prelude.{◌≡◌, ◌≤◌, length, drop, IfOk, IfSome};
 ghost use Rattle.pcap_io.specs.Record.{IsWithinLimits, last_moment, longest};
-ghost use Rattle.pcapng_input.specs.Meaning.{IsMeantWithinLimits, behind_octets, block_meaning, head_in, head_size, interface_in, interface_named, is_outbound, packet_in, packet_meaning, record_meaning, section_in};
+ghost use Rattle.pcapng_input.specs.Meaning.{IsMeantWithinLimits, behind_octets, block_meaning, head_in};
+ghost use Rattle.pcapng_input.specs.Meaning.{head_size, interface_in, interface_named, is_outbound};
+ghost use Rattle.pcapng_input.specs.Meaning.{packet_in, packet_meaning, record_meaning, section_in};
 
 use crate::block::{
     Block, INTERFACE_DESCRIPTION, OBSOLETE_PACKET, SECTION_HEADER, SIMPLE_PACKET, is_of_packet,

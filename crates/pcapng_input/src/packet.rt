@@ -7,7 +7,8 @@
 //! tells, and a run doesn't: what it writes is of the packets that are taken.
 ghost use Rattle.std.specs.Prelude.{◌≡◌, ◌≤◌, length, option_map, IfOk, IfSome};
 ghost use Rattle.pcap_io.specs.Record.{IsWithinLimits, last_moment};
-ghost use Rattle.pcapng_input.specs.Packet.{enhanced_head, is_outbound_by, is_outbound_in, moment_by, obsolete_head, packet_record, selected_record, simple_head, timed_head};
+ghost use Rattle.pcapng_input.specs.Packet.{enhanced_head, is_outbound_by, is_outbound_in, moment_by};
+ghost use Rattle.pcapng_input.specs.Packet.{obsolete_head, packet_record, selected_record, simple_head, timed_head};
 
 use crate::fault::BlockFault;
 use crate::interface::Interface;

@@ -3,7 +3,8 @@ ghost use Rattle.std.specs.Prelude.{◌≡◌, ◌≤◌, ◌<◌, ◌+◌, ◌-
 ghost use Rattle.std.specs.Io.KnownBytes.{Keeps};
 ghost use Rattle.pcap_stream.specs.Supply.{Spends};
 ghost use Rattle.pcapng_input.specs.Adapted.{Begun, Passing, Within, is_of_one};
-ghost use Rattle.pcapng_input.specs.State.{IsLess, IsLongIn, IsPart, IsPlaced, IsSound, IsTaken, Leads, held_settled, stand_of, state_settled, wanted_size};
+ghost use Rattle.pcapng_input.specs.State.{IsLess, IsLongIn, IsPart, IsPlaced, IsSound, IsTaken};
+ghost use Rattle.pcapng_input.specs.State.{Leads, held_settled, stand_of, state_settled, wanted_size};
 ghost use Rattle.pcapng_input.specs.Stops.{StopsFor};
 ghost use Rattle.pcapng_input.specs.declared.interface.Selection.{Selection};
 ghost use Rattle.pcapng_input.specs.declared.state.State.TheVariants as state;

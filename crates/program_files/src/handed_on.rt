@@ -150,7 +150,8 @@ fn hand_on_ports<F: Write + Drop>(
 ) -> Option<Vec<Written<F>>>
     ensures count { IfSome result (λ files. length files.items ≡ length ports.items) }
     ensures all { IfSome result (λ files. All (λ (b : Block). b.held ≡ []) files.items) }
-    ensures kept { IfSome result (λ files. AllZip Keeps (map (λ (d : Drain). d.written) ports.items) (map (λ (b : Block). b.written) files.items)) }
+    ensures kept { IfSome result (λ files. AllZip Keeps (map (λ (d : Drain). d.written) ports.items)
+        (map (λ (b : Block). b.written) files.items)) }
     ensures in_files { IfSome result (λ files. All (IsHeld F.contents) (map (λ (b : Block). b.written) files.items)) }
 {
     let count = ports.len();

@@ -2,7 +2,8 @@
 --     with_counts, all_counts      what is counted of all keys, as a finite map in the order of their ranks
 --     Rows, shown      its first rows, and what the others come to
 --     counted      the same with more of a key
-use Rattle.std.specs.Prelude.{◌<◌, ◌≤◌, ℕ, suc, nat_lt, if◌then◌else◌, ⊤, List, [], ◌∷◌, length, take, drop, slice_index_or, Option, None, Some}
+use Rattle.std.specs.Prelude.{◌<◌, ◌≤◌, ℕ, suc, nat_lt, if◌then◌else◌, ⊤, List, [], ◌∷◌}
+use Rattle.std.specs.Prelude.{length, take, drop, slice_index_or, Option, None, Some}
 use Rattle.ranked_rows.specs.declared.row.Row.{Row}
 
 -- ---- finite maps, as lists in the order of the ranks of their keys

@@ -9,6 +9,8 @@ use crate::key::Ranked;
 /// A table shows the first rows of all that was counted, whatever came first, and what all others come to.
 pub fn shows_the_first<K: Ranked, C: Counts>()
     ensures one { (most : ℕ) (rows : List (ARow K C)) (key : K) (counts : C)
-        → counted_in K.rank C.joined C.none most (shown C.joined C.none most rows) key counts ≡ shown C.joined C.none most (with_counts K.rank C.joined key counts rows) }
-    ensures all { (rows : List (ARow K C)) → counted_all K.rank C.joined C.none (no_rows C.none) rows ≡ shown C.joined C.none 4096 (all_counts K.rank C.joined [] rows) }
+        → counted_in K.rank C.joined C.none most (shown C.joined C.none most rows) key counts
+        ≡ shown C.joined C.none most (with_counts K.rank C.joined key counts rows) }
+    ensures all { (rows : List (ARow K C)) → counted_all K.rank C.joined C.none (no_rows C.none) rows
+        ≡ shown C.joined C.none 4096 (all_counts K.rank C.joined [] rows) }
 {}

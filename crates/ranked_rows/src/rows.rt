@@ -34,7 +34,8 @@ impl<K: Ranked + Copy, C: Counts + Copy> Model for RankedRows<K, C> {
 
     ghost view = { λ r. record { rows = r.rows.items; others = r.others } };
 
-    ghost invariant = { λ r. AreRising K.rank r.rows.items × (length r.rows.items ≤ 4096) × (4096 ≤ vec_capacity r.rows) × (C.joined r.others C.none ≡ r.others) };
+    ghost invariant = { λ r. AreRising K.rank r.rows.items × (length r.rows.items ≤ 4096) × (4096 ≤ vec_capacity r.rows)
+        × (C.joined r.others C.none ≡ r.others) };
 }
 
 impl<K: Ranked + Copy, C: Counts + Copy> RankedRows<K, C> {
@@ -83,8 +84,10 @@ fn put<K: Ranked + Copy, C: Counts + Copy>(
     counts: C,
 ) -> Option<C>
     requires place { IsPlaceOf K.rank (K.rank key) rows.old.items at }
-    requires there { has_row ≡ true → (at < length rows.old.items) × ((d : ARow K C) → K.rank (slice_index_or rows.old.items at d).key ≤ K.rank key) }
-    requires behind { has_row ≡ false → (d : ARow K C) → at < length rows.old.items → K.rank key < K.rank (slice_index_or rows.old.items at d).key }
+    requires there { has_row ≡ true → (at < length rows.old.items)
+        × ((d : ARow K C) → K.rank (slice_index_or rows.old.items at d).key ≤ K.rank key) }
+    requires behind { has_row ≡ false → (d : ARow K C) → at < length rows.old.items
+        → K.rank key < K.rank (slice_index_or rows.old.items at d).key }
     requires few { length rows.old.items ≤ 4096 }
     requires room { 4096 ≤ vec_capacity rows.old }
     ensures rows { rows.new.items ≡ take 4096 (with_counts K.rank C.joined key counts rows.old.items) }
@@ -161,8 +164,10 @@ fn total_of_one<K: Copy, C: Counts + Copy>(row: Row<K, C>) -> C
 fn place_by<K: Ranked, C>(rows: &[Row<K, C>], stood: &mut [u16], key: &K) -> (usize, bool)
     requires { AreRising K.rank rows.now }
     ensures place { IsPlaceOf K.rank (K.rank key.now) rows.now result.0 }
-    ensures there { result.1 ≡ true → (result.0 < length rows.now) × ((d : ARow K C) → K.rank (slice_index_or rows.now result.0 d).key ≤ K.rank key.now) }
-    ensures behind { result.1 ≡ false → (d : ARow K C) → result.0 < length rows.now → K.rank key.now < K.rank (slice_index_or rows.now result.0 d).key }
+    ensures there { result.1 ≡ true → (result.0 < length rows.now)
+        × ((d : ARow K C) → K.rank (slice_index_or rows.now result.0 d).key ≤ K.rank key.now) }
+    ensures behind { result.1 ≡ false → (d : ARow K C) → result.0 < length rows.now
+        → K.rank key.now < K.rank (slice_index_or rows.now result.0 d).key }
 {
     let Some(last) = stood.get_mut(usize::from(key.mix()) % PLACES) else {
         return looked_up(rows, key);
@@ -187,8 +192,10 @@ fn is_at<K: Ranked, C>(rows: &[Row<K, C>], at: usize, key: &K) -> bool
 fn looked_up<K: Ranked, C>(rows: &[Row<K, C>], key: &K) -> (usize, bool)
     requires { AreRising K.rank rows.now }
     ensures place { IsPlaceOf K.rank (K.rank key.now) rows.now result.0 }
-    ensures there { result.1 ≡ true → (result.0 < length rows.now) × ((d : ARow K C) → K.rank (slice_index_or rows.now result.0 d).key ≤ K.rank key.now) }
-    ensures behind { result.1 ≡ false → (d : ARow K C) → result.0 < length rows.now → K.rank key.now < K.rank (slice_index_or rows.now result.0 d).key }
+    ensures there { result.1 ≡ true → (result.0 < length rows.now)
+        × ((d : ARow K C) → K.rank (slice_index_or rows.now result.0 d).key ≤ K.rank key.now) }
+    ensures behind { result.1 ≡ false → (d : ARow K C) → result.0 < length rows.now
+        → K.rank key.now < K.rank (slice_index_or rows.now result.0 d).key }
 {
     let at = place_of(rows, key);
     (at, has_row(rows, at, key))

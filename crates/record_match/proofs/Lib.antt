@@ -4,3 +4,4 @@ pub mod Sound
 pub mod Showing
 pub mod Meeting
 pub mod Comparing
+pub mod Looking

@@ -1,12 +1,19 @@
 -- Records that are received.
-use Rattle.std.proofs.Common.{◌≡◌, ℕ, zero, suc, ◌+◌, ◌<◌, ◌≤◌, Bool, true, false, not, ◌&&◌, ◌||◌, nat_le, nat_lt, List, [], ◌∷◌, ◌++◌, length, map, get_or, set, refl, sym, ap, ◌∙◌, arith}
+use Rattle.std.proofs.Common.{◌≡◌, ℕ, zero, suc, ◌+◌, ◌<◌, ◌≤◌, Bool, true, false, not, ◌&&◌, ◌||◌, nat_le, nat_lt, List, [], ◌∷◌, ◌++◌, length, map, get_or, set, refl, sym, ap, ◌∙◌, arith, Option, Some, None}
 use borrow.Author.Tests.{leb-false, leb-true, ltb-true}
 use Rattle.header_octets.proofs.OctetsLemmas.{is_same-refl}
 use Rattle.record_match.specs.Laws.{AreLater, EachIsTold, HeldIsEnough, ItselfIsWhole, NoneIsLeft, is_any_known}
 use Rattle.record_match.specs.Match.{Record, Sent, as_sent, is_known, is_met_by, is_within, lonely_among, met, met_all, received_count, taken}
+use Rattle.record_match.specs.Settled.{sent_moment}
 use Rattle.record_match.specs.Window.{is_over}
 
 -- ---- the first that a record is
+
+abbrev pub some-moment : ℕ → Option ℕ
+some-moment m = Some m
+
+abbrev pub no-moment : Option ℕ
+no-moment = None
 
 pub met-at : (within : ℕ) (r : Record) (sent : List Sent) (i : ℕ) (d : Sent) → i < length sent → ((k : ℕ) → k < i → is_met_by within r (get_or sent k d) ≡ false) → is_met_by within r (get_or sent i d) ≡ true
     → met within r sent ≡ set sent i (taken (get_or sent i d))
@@ -23,6 +30,21 @@ known-at within r (s ∷ sent) zero d h before here = rw here refl
 known-at within r (s ∷ sent) (suc i) d h before here =
     let first : is_met_by within r s ≡ false = before 0 (omega arith) in
     rw first (known-at within r sent i d (omega (arith, h)) (λ k l. before (suc k) (omega (arith, l))) here)
+
+-- when the one was sent that it is
+pub moment-at : (within : ℕ) (r : Record) (sent : List Sent) (i : ℕ) (d : Sent) → i < length sent → ((k : ℕ) → k < i → is_met_by within r (get_or sent k d) ≡ false) → is_met_by within r (get_or sent i d) ≡ true
+    → some-moment (get_or sent i d).moment ≡ sent_moment within r sent
+moment-at within r [] i d h before here = absurd (omega (arith, h))
+moment-at within r (s ∷ sent) zero d h before here = rw here refl
+moment-at within r (s ∷ sent) (suc i) d h before here =
+    let first : is_met_by within r s ≡ false = before 0 (omega arith) in
+    rw first (moment-at within r sent i d (omega (arith, h)) (λ k l. before (suc k) (omega (arith, l))) here)
+
+pub moment-none : (within : ℕ) (r : Record) (sent : List Sent) (d : Sent) → ((k : ℕ) → k < length sent → is_met_by within r (get_or sent k d) ≡ false) → no-moment ≡ sent_moment within r sent
+moment-none within r [] d none = refl
+moment-none within r (s ∷ sent) d none =
+    let first : is_met_by within r s ≡ false = none 0 (omega arith) in
+    rw first (moment-none within r sent d (λ k l. none (suc k) (omega (arith, l))))
 
 pub met-none : (within : ℕ) (r : Record) (sent : List Sent) (d : Sent) → ((k : ℕ) → k < length sent → is_met_by within r (get_or sent k d) ≡ false) → (met within r sent ≡ sent) × (false ≡ is_known within r sent)
 met-none within r [] d none = (refl, refl)
@@ -184,7 +206,7 @@ over-not within r s h = by s.is_taken refl
         let past : nat_lt (s.moment + within) r.moment ≡ true = rw g at h in
         not-within within r s (and-false (nat_le s.moment r.moment) (nat_le r.moment (s.moment + within)) (le-not r.moment (s.moment + within) (ltb-true (s.moment + within) r.moment past)))
 
-later-not : (within : ℕ) (r : Record) (s : Sent) → r.moment < s.moment → is_met_by within r s ≡ false
+pub later-not : (within : ℕ) (r : Record) (s : Sent) → r.moment < s.moment → is_met_by within r s ≡ false
 later-not within r s h = not-within within r s (rw (le-not s.moment r.moment h) refl)
 
 none-later : (within : ℕ) (r : Record) (later : List Sent) → AreLater r.moment later → met within r later ≡ later

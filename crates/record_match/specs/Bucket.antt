@@ -5,7 +5,8 @@ use Rattle.octet_sum.specs.Sums.{first_sum, second_sum}
 -- the bucket of so many octets with these sums, of 262,144
 abbrev pub bucket_by : ℕ → ℕ → ℕ → ℕ
 bucket_by first second count =
-    ((((first + second) % 18446744073709551616 + count) % 18446744073709551616) * 11400714819323198485) % 18446744073709551616 / 70368744177664
+    ((((first + second) % 18446744073709551616 + count) % 18446744073709551616) * 11400714819323198485) % 18446744073709551616 /
+    70368744177664
 
 -- the bucket of octets
 unfoldable pub bucket_of : List ℕ → ℕ

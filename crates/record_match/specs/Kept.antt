@@ -1,6 +1,7 @@
 -- How a window keeps records: their octets one behind the other in one row, and numbers that say where to look. It serves
 -- proofs.
-use Rattle.std.specs.Prelude.{◌≡◌, ◌<◌, ◌≤◌, ◌==◌, ℕ, ◌+◌, ◌-◌, max, min, nat_lt, nat_le, ◌&&◌, if◌then◌else◌, true, List, [], ◌∷◌, drop, get_or, length, take, slice_get, set, Some, None}
+use Rattle.std.specs.Prelude.{◌≡◌, ◌<◌, ◌≤◌, ◌==◌, ℕ, ◌+◌, ◌-◌, max, min, nat_lt, nat_le, ◌&&◌, if◌then◌else◌}
+use Rattle.std.specs.Prelude.{true, List, [], ◌∷◌, drop, get_or, length, take, slice_get, set, Some, None}
 use Rattle.record_match.specs.Bucket.{bucket_of}
 use Rattle.record_match.specs.Match.{Record, Sent}
 use Rattle.record_match.specs.declared.kept.Ends.{Ends}
@@ -35,7 +36,8 @@ IsLaid at (k ∷ ks) row = IsFirst at k row × IsLaid (at + k.length) ks (drop k
 -- of a bucket's records between two numbers, all were received; so many went before the first of these
 abbrev pub NoneBetween : ℕ → List Kept → ℕ → ℕ → ℕ → Type 0
 NoneBetween gone ks bucket low high =
-    (i : ℕ) (d : Kept) → i < length ks → low < gone + i + 1 → gone + i + 1 < high → (get_or ks i d).bucket ≡ bucket → (get_or ks i d).is_taken ≡ true
+    (i : ℕ) (d : Kept) → i < length ks → low < gone + i + 1 → gone + i + 1 < high → (get_or ks i d).bucket ≡ bucket
+    → (get_or ks i d).is_taken ≡ true
 
 -- and of those behind a number
 abbrev pub NoneBehind : ℕ → List Kept → ℕ → ℕ → Type 0
@@ -77,7 +79,8 @@ pub record IsSound (gone passed : ℕ) (ks : List Kept) (row : List ℕ) (ends :
 
 -- records of which that at an index, where there is one and it is of this bucket, has this number as the next
 abbrev pub linked_at : ℕ → ℕ → List Kept → ℕ → List Kept
-linked_at bucket number ks i = elim (slice_get ks i) [ Some k ↦ (if k.bucket == bucket then set ks i (record k { next = number }) else ks) | None ↦ ks ]
+linked_at bucket number ks i = elim (slice_get ks i)
+    [ Some k ↦ (if k.bucket == bucket then set ks i (record k { next = number }) else ks) | None ↦ ks ]
 
 -- the same of the last record of a bucket, by its number
 abbrev pub linked : ℕ → ℕ → ℕ → ℕ → List Kept → List Kept

@@ -19,7 +19,8 @@ is_any_known within (r ∷ rs) sent = is_known within r sent || is_any_known wit
 
 -- none that is lonely is one that was sent and wasn't received
 abbrev pub NoneIsLeft : Type 0
-NoneIsLeft = (within : ℕ) (sent received : List Record) → is_any_known within (lonely within sent received) (matched within sent received) ≡ false
+NoneIsLeft = (within : ℕ) (sent received : List Record)
+    → is_any_known within (lonely within sent received) (matched within sent received) ≡ false
 
 -- records that are over at a moment, and records that are later
 abbrev pub AreOver : ℕ → ℕ → List Sent → Type 0

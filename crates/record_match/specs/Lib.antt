@@ -5,3 +5,4 @@ pub mod Kept
 pub mod Laws
 pub mod Match
 pub mod Window
+pub mod Settled

@@ -1,5 +1,6 @@
 -- What a window knows, and what its calls make of it. It states no standard.
-use Rattle.std.specs.Prelude.{◌≡◌, ◌<◌, ℕ, ◌+◌, nat_le, nat_lt, ◌&&◌, ◌||◌, if◌then◌else◌, Bool, true, false, List, [], ◌∷◌, ◌++◌, length, Option, Some, None, set, slice_index_or}
+use Rattle.std.specs.Prelude.{◌≡◌, ◌<◌, ℕ, ◌+◌, nat_le, nat_lt, ◌&&◌, ◌||◌, if◌then◌else◌, Bool, true}
+use Rattle.std.specs.Prelude.{false, List, [], ◌∷◌, ◌++◌, length, Option, Some, None, set, slice_index_or}
 use Rattle.std.specs.List.{flat_map}
 use Rattle.record_match.specs.Match.{Record, Sent, as_sent, is_met_by, met, taken}
 

@@ -33,7 +33,8 @@ impl Clock {
     pub fn shifted(within: u64, shift: u64, is_behind: bool) -> Clock
         requires within { within ≤ 1000000000000000000 }
         requires shift { shift ≤ 1000000000000000000 }
-        ensures near { (s r : ℕ) → IsNear within shift is_behind s r (is_within result.within (s + result.sent_delay) (r + result.received_delay)) }
+        ensures near { (s r : ℕ) → IsNear within shift is_behind s r
+            (is_within result.within (s + result.sent_delay) (r + result.received_delay)) }
         ensures sent { result.sent_delay ≤ 1000000000000000000 }
         ensures received { result.received_delay ≤ 2000000000000000000 }
     {

@@ -29,7 +29,8 @@ impl Model for Row {
 
     ghost view = { λ r. drop r.forgotten r.octets.items };
 
-    ghost invariant = { λ r. (r.forgotten ≤ length r.octets.items) × ((length r.octets.items ≤ 536870912) × (536870912 ≤ vec_capacity r.octets)) };
+    ghost invariant = { λ r. (r.forgotten ≤ length r.octets.items)
+        × ((length r.octets.items ≤ 536870912) × (536870912 ≤ vec_capacity r.octets)) };
 }
 
 impl Row {

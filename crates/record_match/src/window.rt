@@ -1,12 +1,17 @@
 //! The records that were sent and may still be received.
-ghost use Rattle.std.specs.Prelude.{◌≡◌, ◌≤◌, ◌<◌, ◌+◌, ◌&&◌, [], ◌∷◌, ◌++◌, ◌==◌, IfOk, drop, length, if◌then◌else◌, slice_index_or, replicate, true};
+ghost use Rattle.std.specs.Prelude.{◌≡◌, ◌≤◌, ◌<◌, ◌+◌, ◌&&◌, [], ◌∷◌, ◌++◌, ◌==◌, IfOk, drop, is_some};
+ghost use Rattle.std.specs.Prelude.{length, if◌then◌else◌, slice_index_or, replicate, true};
 ghost use Rattle.std.specs.VecDeque.{deque_capacity};
 ghost use Rattle.record_match.specs.Kept.{behind, linked, told};
 ghost use Rattle.record_match.specs.Match.{as_sent, is_known, is_met_by};
-ghost use Rattle.record_match.specs.Window.{FindsFirst, at_moment, has_room, has_space, is_counted, is_first_over, sent_to, taken_at, with_received, with_sent};
+ghost use Rattle.std.specs.List.{FoldsTo};
+ghost use Rattle.record_match.specs.Settled.{first_alone, gone_alone, held_alone, sent_moment};
+ghost use Rattle.record_match.specs.Window.{FindsFirst, at_moment, has_room, has_space, is_counted};
+ghost use Rattle.record_match.specs.Window.{is_first_over, sent_to, taken_at, with_received, with_sent};
 
 use crate::bucket::{BUCKETS, bucket_of};
 use crate::kept::{Ends, Kept, behind};
+use crate::onlooker::Onlooker;
 use crate::row::{MOST_OCTETS, Row};
 use crate::seen::Seen;
 use std::alloc::{AllocError, Global};
@@ -72,11 +77,12 @@ impl Window {
 
     /// Takes the next record that was sent; those that are over at its moment go before. Says whether there was room for it:
     /// where there is none, it isn't held.
-    pub fn send(&mut self, sent: &Seen) -> bool
+    pub fn send<W: Onlooker>(&mut self, sent: &Seen, onlooker: &mut W) -> bool
         ensures answer { result ≡ has_room (at_moment sent.now.moment self.old) (length sent.now.octets.now) }
         ensures window { self.new ≡ sent_to (told sent.now) (at_moment sent.now.moment self.old) }
+        ensures seen { FoldsTo W.sees onlooker.old (gone_alone sent.now.moment self.old) onlooker.new }
     {
-        self.pass(sent.moment);
+        self.pass(sent.moment, onlooker);
         if !self.has_room(sent.octets.len()) {
             return false;
         }
@@ -84,28 +90,73 @@ impl Window {
         true
     }
 
-    /// Takes the next record that was received; those that are over at its moment go before. Says whether it is one that was sent.
-    pub fn receive(&mut self, received: &Seen) -> bool
-        ensures answer { result ≡ is_known self.old.within (told received.now) (at_moment received.now.moment self.old).held }
+    /// Takes the next record that was received; those that are over at its moment go before. Says whether it is one that was
+    /// sent, and when that was sent.
+    pub fn receive<W: Onlooker>(&mut self, received: &Seen, onlooker: &mut W) -> Option<u64>
+        ensures answer { is_some result ≡ is_known self.old.within (told received.now)
+            (at_moment received.now.moment self.old).held }
+        ensures moment { result ≡ sent_moment self.old.within (told received.now) (at_moment received.now.moment self.old).held }
         ensures window { self.new ≡ with_received (told received.now) (at_moment received.now.moment self.old) }
+        ensures seen { FoldsTo W.sees onlooker.old (gone_alone received.now.moment self.old) onlooker.new }
     {
-        self.pass(received.moment);
+        self.pass(received.moment, onlooker);
         match self.search(received) {
-            Some(i) => {
-                self.take(i, received);
-                true
-            }
-            None => false,
+            Some(i) => Some(self.take(i, received)),
+            None => None,
         }
     }
 
-    /// Lets those go that are over at a moment, up to the first that isn't.
-    fn pass(&mut self, now: u64)
-        ensures { self.new ≡ at_moment now self.old }
+    /// Lets all records go, and tells those that weren't received.
+    pub fn finish<W: Onlooker>(&mut self, onlooker: &mut W)
+        ensures window { self.new ≡ record self.old { held = [] } }
+        ensures seen { FoldsTo W.sees onlooker.old (held_alone self.old.records self.old.held) onlooker.new }
+    {
+        while !self.is_empty() {
+            self.settle_first(onlooker);
+        }
+    }
+
+    /// Lets those go that are over at a moment, up to the first that isn't, and tells those that weren't received.
+    fn pass<W: Onlooker>(&mut self, now: u64, onlooker: &mut W)
+        ensures window { self.new ≡ at_moment now self.old }
+        ensures seen { FoldsTo W.sees onlooker.old (gone_alone now self.old) onlooker.new }
     {
         while self.is_first_over(now) {
-            self.forget_first();
+            self.settle_first(onlooker);
         }
+    }
+
+    /// Lets the first record go, and tells it where it wasn't received.
+    fn settle_first<W: Onlooker>(&mut self, onlooker: &mut W)
+        requires { 0 < length self.old.held }
+        ensures window { self.new ≡ record self.old { held = drop 1 self.old.held } }
+        ensures seen { FoldsTo W.sees onlooker.old (first_alone self.old.records self.old.held) onlooker.new }
+    {
+        self.tell_first(onlooker);
+        self.forget_first();
+    }
+
+    /// Tells the first record where it wasn't received.
+    fn tell_first<W: Onlooker>(&self, onlooker: &mut W)
+        requires { 0 < length self.now.held }
+        ensures { FoldsTo W.sees onlooker.old (first_alone self.now.records self.now.held) onlooker.new }
+    {
+        let kept = &self.kept[0];
+        if kept.is_taken {
+            return;
+        }
+        let seen = Seen {
+            moment: kept.moment,
+            octets: &self.row.held()[..kept.length],
+        };
+        onlooker.see_sent(self.gone + 1, &seen);
+    }
+
+    /// Whether it holds none.
+    fn is_empty(&self) -> bool
+        ensures { result ≡ (length self.now.held == 0) }
+    {
+        self.kept.is_empty()
     }
 
     /// Whether the first record is over.
@@ -201,17 +252,19 @@ impl Window {
         kept.is_met_by(&self.row.held()[begin..end], self.within, received)
     }
 
-    /// Notes that a record was received.
-    fn take(&mut self, i: usize, received: &Seen)
+    /// Notes that a record was received, and says when it was sent.
+    fn take(&mut self, i: usize, received: &Seen) -> u64
         requires { i < length self.old.held }
-        ensures { self.new ≡ record self.old { held = taken_at (told received.now) self.old.held i } }
+        ensures window { self.new ≡ record self.old { held = taken_at (told received.now) self.old.held i } }
+        ensures moment { result ≡ (slice_index_or self.old.held i (as_sent (told received.now))).moment }
     {
         let kept = &mut self.kept[i];
         kept.is_taken = true;
         let number = self.gone + i as u64 + 1;
-        let (next, bucket) = (kept.next, kept.bucket);
+        let (next, bucket, moment) = (kept.next, kept.bucket, kept.moment);
         let ends = &mut self.ends[bucket as usize];
         *ends = ends.without(self.gone, number, next);
+        moment
     }
 }
 

@@ -5,7 +5,13 @@ use Rattle.std.specs.Prelude.{ℕ, ◌==◌, if◌then◌else◌, List, [], ◌�
 use Rattle.std.specs.List.{flat_map, range_with_len}
 use Rattle.frame_view.specs.Reason.{name_of, number_of}
 use Rattle.frame_view.specs.declared.reason.Reason.{Reason}
-use Rattle.frame_view.specs.declared.reason.Reason.TheVariants.{TooLong, Sliced, Runt, PortDown, BadSource, Reserved, CutTag, BadVid, FrameType, NoSegment, NotMember, NotIp, BadIp, BadIpSum, BadOuterSource, NotForUs, Fragment, NotUdp, BadUdp, NotTunnel, ZeroSum, BadUdpSum, ShortTunnel, NoVniFlag, BadVersion, Control, NotEthernet, BadOptions, CriticalOption, UnknownVni, WrongGroup, UnknownPeer, InnerRunt, InnerTag, SamePlace, Horizon, Unreachable, NoOutlet, TooBig, InnerTagOut}
+use Rattle.frame_view.specs.declared.reason.Reason.TheVariants.{TooLong, Sliced, Runt, PortDown, BadSource, Reserved, CutTag}
+use Rattle.frame_view.specs.declared.reason.Reason.TheVariants.{BadVid, FrameType, NoSegment, NotMember, NotIp, BadIp}
+use Rattle.frame_view.specs.declared.reason.Reason.TheVariants.{BadIpSum, BadOuterSource, NotForUs, Fragment, NotUdp, BadUdp}
+use Rattle.frame_view.specs.declared.reason.Reason.TheVariants.{NotTunnel, ZeroSum, BadUdpSum, ShortTunnel, NoVniFlag}
+use Rattle.frame_view.specs.declared.reason.Reason.TheVariants.{BadVersion, Control, NotEthernet, BadOptions, CriticalOption}
+use Rattle.frame_view.specs.declared.reason.Reason.TheVariants.{UnknownVni, WrongGroup, UnknownPeer, InnerRunt, InnerTag}
+use Rattle.frame_view.specs.declared.reason.Reason.TheVariants.{SamePlace, Horizon, Unreachable, NoOutlet, TooBig, InnerTagOut}
 use Rattle.timeline.specs.Words.{tap_word}
 use Rattle.timeline.specs.declared.source.Tap.{Tap}
 use Rattle.timeline.specs.declared.source.Tap.TheVariants.{Port, Underlay}

@@ -5,7 +5,8 @@
 --     refusals      the changes that were refused for a cause
 --     partial_in      the packets whose checksums were left to the card
 --     Totals, totals_of      all of it
-use Rattle.std.specs.Prelude.{ℕ, ◌+◌, ◌==◌, Bool, true, false, if◌then◌else◌, min, List, [], ◌∷◌, length, count_by, Option, Some, None, Ok, Err}
+use Rattle.std.specs.Prelude.{ℕ, ◌+◌, ◌==◌, Bool, true, false, if◌then◌else◌, min, List}
+use Rattle.std.specs.Prelude.{[], ◌∷◌, length, count_by, Option, Some, None, Ok, Err}
 use Rattle.std.specs.List.{filter_map, flat_map, sum}
 use Rattle.decapsulate.specs.Card.{is_left_to_card}
 use Rattle.filter_db.specs.declared.place.Place.{Place}

@@ -3,7 +3,8 @@ ghost use Rattle.std.specs.Prelude.{◌≡◌, ◌++◌, OnOk, codes, string_byt
 ghost use Rattle.std.specs.List.{flat_map};
 ghost use Rattle.decision_lines.specs.Lines.{cut_line};
 ghost use Rattle.run_counts.specs.Keeping.{flow_in, passed, refusals_in};
-ghost use Rattle.run_counts.specs.Summary.{changes_text, cuts_text, dropped_line, flow_line, partial_line, place_lines, places_text, refused_line, segment_lines, segment_word, segments_text, sent_line};
+ghost use Rattle.run_counts.specs.Summary.{changes_text, cuts_text, dropped_line, flow_line, partial_line, place_lines};
+ghost use Rattle.run_counts.specs.Summary.{places_text, refused_line, segment_lines, segment_word, segments_text, sent_line};
 
 use crate::counted::Counted;
 use crate::flow::{Flow, Flows};

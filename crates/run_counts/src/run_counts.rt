@@ -1,5 +1,6 @@
 //! What a run counts.
-ghost use Rattle.std.specs.Prelude.{◌≡◌, ◌+◌, ◌++◌, [], if◌then◌else◌, IfOk, IsSome, IsTrue, List, ℕ, OnOk, false, length, map, min, string_bytes};
+ghost use Rattle.std.specs.Prelude.{◌≡◌, ◌+◌, ◌++◌, [], if◌then◌else◌, IfOk, IsSome, IsTrue};
+ghost use Rattle.std.specs.Prelude.{List, ℕ, OnOk, false, length, map, min, string_bytes};
 ghost use Rattle.std.specs.List.{filter_map, list_all};
 ghost use Rattle.timeline.specs.declared.source.Tap.{Tap as ATap};
 ghost use Rattle.frame_view.specs.First.{fault_of};

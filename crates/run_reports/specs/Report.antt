@@ -1,5 +1,6 @@
 -- What a run tells besides its outputs, to whom asks. It states no standard.
-use Rattle.std.specs.Prelude.{◌≡◌, ◌⊎◌, ℕ, nat_eq, ◌&&◌, ◌||◌, Bool, true, false, List, [], ◌++◌, length, map, replicate, nat_lt, slice_index_or, Option, Some, None, if◌then◌else◌}
+use Rattle.std.specs.Prelude.{◌≡◌, ◌⊎◌, ℕ, nat_eq, ◌&&◌, ◌||◌, Bool, true, false, List, [], ◌++◌, length}
+use Rattle.std.specs.Prelude.{map, replicate, nat_lt, slice_index_or, Option, Some, None, if◌then◌else◌}
 use Rattle.std.specs.List.{list_any, zip}
 use Rattle.segment_set.specs.Segments.{Segments}
 use Rattle.endpoint_core.specs.Step.{Answer, State}
@@ -38,7 +39,20 @@ pub record Telling : Type 0 where
 
 -- nothing is told yet
 abbrev pub asked : List (List ℕ) → List TimedChange → Segments → Option ℕ → Bool → Telling
-asked names changes segments due tables = record { names = names; changes = changes; segments = segments; due = due; tables = tables; text = []; last = []; found = replicate (length names) false; reasons = reasons_sought 0 names; addresses = addresses_sought 0 names; is_lost = false }
+asked names changes segments due tables =
+    record {
+      names = names;
+      changes = changes;
+      segments = segments;
+      due = due;
+      tables = tables;
+      text = [];
+      last = [];
+      found = replicate (length names) false;
+      reasons = reasons_sought 0 names;
+      addresses = addresses_sought 0 names;
+      is_lost = false;
+    }
 
 -- ---- an event
 

@@ -4,7 +4,8 @@
 --     foreseen      what is decided of an event
 --     passing_of      where the frame of an event came, and its addresses
 --     is_first      an event is the first of what is sought
-use Rattle.std.specs.Prelude.{ℕ, zero, suc, not, nat_le, nat_eq, ◌==◌, ◌&&◌, ◌||◌, Bool, true, false, if◌then◌else◌, List, [], ◌∷◌, ◌++◌, codes, length, map, take, nat_lt, Option, Some, None, option_and_then, Result, Ok, Err}
+use Rattle.std.specs.Prelude.{ℕ, zero, suc, not, nat_le, nat_eq, ◌==◌, ◌&&◌, ◌||◌, Bool, true, false, if◌then◌else◌, List, []}
+use Rattle.std.specs.Prelude.{◌∷◌, ◌++◌, codes, length, map, take, nat_lt, Option, Some, None, option_and_then, Result, Ok, Err}
 use Rattle.std.specs.List.{list_any}
 use Rattle.std.specs.Ordering.{eq_by_cmp}
 use Rattle.std.specs.Str.{bytes_eq}

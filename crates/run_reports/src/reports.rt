@@ -46,7 +46,19 @@ impl<'n, 'a> Model for Reports<'n, 'a> {
 
     ghost Value = { Telling };
 
-    ghost view = { λ r. record { names = r.names; changes = r.changes.now; segments = r.segments.now; due = r.due; tables = r.tables; text = r.text.items; last = r.last.items; found = r.found.items; reasons = r.sought.reasons.items; addresses = r.sought.addresses.items; is_lost = r.is_lost } };
+    ghost view = { λ r. record {
+      names = r.names;
+      changes = r.changes.now;
+      segments = r.segments.now;
+      due = r.due;
+      tables = r.tables;
+      text = r.text.items;
+      last = r.last.items;
+      found = r.found.items;
+      reasons = r.sought.reasons.items;
+      addresses = r.sought.addresses.items;
+      is_lost = r.is_lost;
+    } };
 
     ghost invariant = { λ r. length r.found.items ≡ length r.names };
 }

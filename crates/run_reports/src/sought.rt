@@ -3,7 +3,9 @@ ghost use Rattle.std.specs.Prelude.{◌≡◌, ◌++◌, ◌&&◌, ◌||◌, IfO
 ghost use Rattle.std.specs.List.{list_any};
 ghost use Rattle.endpoint_core.specs.Decision.{octets_of};
 ghost use Rattle.endpoint_core.specs.Kept.{state_of};
-ghost use Rattle.run_reports.specs.Sought.{address_at, address_met, addresses_at, addresses_sought, every_tap, foreseen, is_first, is_new_address, is_new_reason, is_with, numbers_from, numbers_in, passing_of, reason_at, reason_met, reasons_sought};
+ghost use Rattle.run_reports.specs.Sought.{address_at, address_met, addresses_at, addresses_sought, every_tap};
+ghost use Rattle.run_reports.specs.Sought.{foreseen, is_first, is_new_address, is_new_reason, is_with, numbers_from};
+ghost use Rattle.run_reports.specs.Sought.{numbers_in, passing_of, reason_at, reason_met, reasons_sought};
 
 use crate::passing::{Passing, foreseen, is_for, passing_of, same_address, same_tap};
 use crate::wanted::{Reasons, address_in, reasons_in};

@@ -52,7 +52,9 @@ module _ {F I : Type 0} (files : F → Option (List ℕ)) (input : I → Option 
 
   -- captures of these names had these texts, the files of the run held these octets before it, and behind it they hold what comes
   -- out of the run of all texts more, each its own
-  pub record LeavesRun (contents : F → Option (List ℕ)) (taken : List Event → List Event) (segments : Segments) (settings : Meaning Settings) (changes : Meaning (List TimedChange)) (port_names : List (Bor (List ℕ))) (underlay_name : List ℕ) : Type 0 where
+  pub record LeavesRun (contents : F → Option (List ℕ)) (taken : List Event → List Event) (segments : Segments)
+      (settings : Meaning Settings) (changes : Meaning (List TimedChange)) (port_names : List (Bor (List ℕ)))
+      (underlay_name : List ℕ) : Type 0 where
     pub texts : List (List ℕ)
     pub text : List ℕ
     pub ports : AllZip (λ (name : Bor (List ℕ)) (capture : List ℕ). IsTextOf name.now capture) port_names texts

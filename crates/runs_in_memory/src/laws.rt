@@ -19,7 +19,8 @@ use std::rt::Files;
 /// on files says is that captures of its names had texts, and that what its files hold more than before is what comes out of
 /// the run of all these texts.
 pub fn left<R: Files + Input>()
-    ensures { (taken : List Event → List Event) (segments : Segments) (settings : Meaning Settings) (changes : Meaning (List TimedChange)) (ports : List (Bor (List ℕ))) (underlay : List ℕ) →
+    ensures { (taken : List Event → List Event) (segments : Segments) (settings : Meaning Settings)
+        (changes : Meaning (List TimedChange)) (ports : List (Bor (List ℕ))) (underlay : List ℕ) →
         AlwaysTells R.File.remaining → AlwaysTells R.Reader.remaining → AlwaysTells R.File.contents →
         IsRunOnFiles R.File.remaining R.Reader.remaining R.File.contents taken segments settings changes ports underlay →
         LeavesRun R.File.remaining R.Reader.remaining R.File.contents taken segments settings changes ports underlay }
@@ -36,7 +37,8 @@ pub fn digested<R: Files + Input>()
 
 /// Files in memory are such files: of a run over them this holds without a condition.
 pub fn left_in_memory()
-    ensures { (taken : List Event → List Event) (segments : Segments) (settings : Meaning Settings) (changes : Meaning (List TimedChange)) (ports : List (Bor (List ℕ))) (underlay : List ℕ) →
+    ensures { (taken : List Event → List Event) (segments : Segments) (settings : Meaning Settings)
+        (changes : Meaning (List TimedChange)) (ports : List (Bor (List ℕ))) (underlay : List ℕ) →
         IsRunOnFiles file_left input_left file_holds taken segments settings changes ports underlay →
         LeavesRun file_left input_left file_holds taken segments settings changes ports underlay }
 {}

@@ -21,7 +21,9 @@ segments_run Whole = All
 segments_run (Part segments) = segments.now
 
 -- by what a file tells of what it holds: there are files that held something, and hold what a run on these captures adds
-pub record IsRunInFiles {F : Type 0} (contents : F → Option (List ℕ)) (taken : List Event → List Event) (segments : Segments) (settings : Meaning Settings) (changes : Meaning (List TimedChange)) (ports : List Stream) (underlay : Stream) (new_ports : List Stream) (new_underlay : Stream) : Type 0 where
+pub record IsRunInFiles {F : Type 0} (contents : F → Option (List ℕ)) (taken : List Event → List Event) (segments : Segments)
+    (settings : Meaning Settings) (changes : Meaning (List TimedChange)) (ports : List Stream) (underlay : Stream)
+    (new_ports : List Stream) (new_underlay : Stream) : Type 0 where
   pub before : Held
   pub behind : Held
   pub stood : AreHeld contents before
@@ -30,7 +32,9 @@ pub record IsRunInFiles {F : Type 0} (contents : F → Option (List ℕ)) (taken
 
 -- by what files and standard input tell: captures of these names were opened, of the ports and of the underlay, and the run on them is
 -- in files
-pub record IsRunOnFiles {F I : Type 0} (files : F → Option (List ℕ)) (input : I → Option (List ℕ)) (contents : F → Option (List ℕ)) (taken : List Event → List Event) (segments : Segments) (settings : Meaning Settings) (changes : Meaning (List TimedChange)) (port_names : List (Bor (List ℕ))) (underlay_name : List ℕ) : Type 0 where
+pub record IsRunOnFiles {F I : Type 0} (files : F → Option (List ℕ)) (input : I → Option (List ℕ))
+    (contents : F → Option (List ℕ)) (taken : List Event → List Event) (segments : Segments) (settings : Meaning Settings)
+    (changes : Meaning (List TimedChange)) (port_names : List (Bor (List ℕ))) (underlay_name : List ℕ) : Type 0 where
   pub ports : List Stream
   pub underlay : Stream
   pub new_ports : List Stream

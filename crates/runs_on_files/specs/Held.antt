@@ -26,7 +26,8 @@ use Rattle.program_files.specs.Held.{Held}
 pub record HoldMore (old new : Held) (texts : Outputs) : Type 0 where
   pub many : length new.ports ≡ length old.ports
   pub many_texts : length texts.ports ≡ length old.ports
-  pub ports : (k : ℕ) → k < length old.ports → Appends (slice_index_or old.ports k None) (slice_index_or new.ports k None) (slice_index_or texts.ports k [])
+  pub ports : (k : ℕ) → k < length old.ports
+      → Appends (slice_index_or old.ports k None) (slice_index_or new.ports k None) (slice_index_or texts.ports k [])
   pub underlay : Appends old.underlay new.underlay texts.underlay
   pub decisions : Appends old.decisions new.decisions texts.decisions
 
@@ -44,7 +45,8 @@ module _ (taken : List Event → List Event) (segments : Segments) (settings : M
 
   -- of captures with these octets: the run of all these texts tells outputs; the files hold the texts of what is taken in of all
   -- events, which are those outputs where each is; and each capture was read to its end
-  pub record HoldsRun (texts : List (Vec ℕ Global)) (text : List ℕ) (ports : List Stream) (underlay : Stream) (old new : Held) : Type 0 where
+  pub record HoldsRun (texts : List (Vec ℕ Global)) (text : List ℕ) (ports : List Stream) (underlay : Stream) (old new : Held) :
+      Type 0 where
     pub asked : Settings
     pub told : List TimedChange
     pub settings_are : settings ≡ Ok asked
@@ -54,6 +56,8 @@ module _ (taken : List Event → List Event) (segments : Segments) (settings : M
     pub read : AreReadBehind {T = Unit {0}} (texts_octets texts) text (whole_records told texts text).events ports underlay (Ok tt)
 
   -- a run on captures that were unread, and are left so; what its files hold before and behind it
-  pub record IsRunInto (ports : List Stream) (underlay : Stream) (new_ports : List Stream) (new_underlay : Stream) (old new : Held) : Type 0 where
+  pub record IsRunInto (ports : List Stream) (underlay : Stream) (new_ports : List Stream) (new_underlay : Stream)
+      (old new : Held) : Type 0 where
     pub some : HoldsSome old new
-    pub over : (texts : List (Vec ℕ Global)) (text : List ℕ) → Tells ports underlay texts text → HoldsRun texts text new_ports new_underlay old new
+    pub over : (texts : List (Vec ℕ Global)) (text : List ℕ) → Tells ports underlay texts text
+        → HoldsRun texts text new_ports new_underlay old new

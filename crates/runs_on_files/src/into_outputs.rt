@@ -38,7 +38,8 @@ pub(crate) fn run_into<'a, F: Read + Drop, I: Read + Drop, O: Write + Drop, S: S
     ensures handed_ports { IfOk result (λ files. All (λ (b : Block). b.held ≡ []) files.ports.items) }
     ensures handed_underlay { IfOk result (λ files. files.underlay.held ≡ []) }
     ensures handed_decisions { IfOk result (λ files. files.decisions.held ≡ []) }
-    ensures run { IfOk result (λ files. IsRunInto (S.taken sieve.old) segments.now (settings_in read.entry.settings_text.now) (changes_in read.entry.changes_text.now)
+    ensures run { IfOk result (λ files. IsRunInto (S.taken sieve.old) segments.now (settings_in read.entry.settings_text.now)
+        (changes_in read.entry.changes_text.now)
         captures.old.ports.items captures.old.underlay captures.new.ports.items captures.new.underlay
         (written outputs.ports.items outputs.underlay outputs.decisions) (handed_on files.ports.items files.underlay files.decisions)) }
     ensures in_files { IfOk result (λ files. AreHeld O.contents (handed_on files.ports.items files.underlay files.decisions)) }

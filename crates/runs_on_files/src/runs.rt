@@ -80,7 +80,8 @@ pub fn run_on_files<'a, R: Files + Input + AllocGlobal, S: Sieve, T: Watch>(
 ) -> Result<Done<R::File>, Failure<'a>>
     requires told { IfSome told (λ t. changes_in texts.now.changes.items ≡ Ok t.now) }
     requires rising { IfSome told (λ t. EachBehind IsRising [] t.now) }
-    ensures run { IfOk result (λ _. IfSome folder.entry (λ _. IsRunOnFiles R.File.remaining R.Reader.remaining R.File.contents (S.taken sieve.old)
+    ensures run { IfOk result (λ _. IfSome folder.entry
+        (λ _. IsRunOnFiles R.File.remaining R.Reader.remaining R.File.contents (S.taken sieve.old)
         (segments_run scope.entry) (settings_in texts.now.settings.items) (changes_in texts.now.changes.items)
         names.entry.ports.now names.entry.underlay.now)) }
 {

@@ -24,7 +24,8 @@ impl Texts {
         rt: &R,
         names: Names<'_, 'a>,
     ) -> Result<Texts, Failure<'a>>
-        ensures settings { IfOk result (λ texts. (file : R.File) × IfSome (R.File.remaining file) (λ octets. texts.settings.items ≡ octets)) }
+        ensures settings { IfOk result (λ texts. (file : R.File)
+            × IfSome (R.File.remaining file) (λ octets. texts.settings.items ≡ octets)) }
         ensures changes { IfOk result (λ texts. IfSome names.entry.changes (λ _. (file : R.File)
             × IfSome (R.File.remaining file) (λ octets. texts.changes.items ≡ octets))) }
         ensures unnamed { IfOk result (λ texts. names.entry.changes ≡ None → texts.changes.items ≡ []) }

@@ -111,25 +111,27 @@ comes-same vid S T h new =
     let pool : S.pool ≡ T.pool = ap (λ (x : Seen). x.pool) h in
     let sum : sum_of_limits (tables_asked S) ≡ sum_of_limits (tables_asked T) = sum-same vid S T h in
     let count : segment_count (tables_asked S) ≡ segment_count (tables_asked T) = count-same vid S T h in
+    let entries : S.overlay.underlay.limits.entries ≡ T.overlay.underlay.limits.entries = ap (λ (x : Seen). x.underlay.limits.entries) h in
     let most : S.overlay.underlay.limits.segments ≡ T.overlay.underlay.limits.segments = ap (λ (x : Seen). x.underlay.limits.segments) h in
     λ i. first
-    ((OutOfRange, not (is_limit new.limit && is_ageing new.ageing && are_vnis new.tunnels))
+    ((OutOfRange, not (is_limit (entries i) new.limit && is_ageing new.ageing && are_vnis new.tunnels))
     ∷ (SegmentThere, there i || not (free i))
     ∷ (SegmentsFull, not (nat_lt (count i) (most i)))
     ∷ (PoolFull, nat_lt (pool i) (sum i + new.limit))
     ∷ [])
 
--- what SetLimit asks, of the pool, of the limits of all and of its segment's own
-abbrev limit_asked : ℕ → ℕ → ℕ → ℕ → Option ChangeFault
-limit_asked limit pool sum own = first ((OutOfRange, not (is_limit limit)) ∷ (PoolFull, nat_lt (pool + own) (sum + limit)) ∷ [])
+-- what SetLimit asks, of the most entries of a segment, of the pool, of the limits of all and of its segment's own
+abbrev limit_asked : ℕ → ℕ → ℕ → ℕ → ℕ → Option ChangeFault
+limit_asked limit entries pool sum own = first ((OutOfRange, not (is_limit entries limit)) ∷ (PoolFull, nat_lt (pool + own) (sum + limit)) ∷ [])
 
 limited-same : (vid : ℕ) (S T : Settings) → seen vid S ≡ seen vid T → (v limit : ℕ) → refused S (SetLimit v limit) ≡ refused T (SetLimit v limit)
 limited-same vid S T h v limit =
+    let entries : S.overlay.underlay.limits.entries ≡ T.overlay.underlay.limits.entries = ap (λ (x : Seen). x.underlay.limits.entries) h in
     let pool : S.pool ≡ T.pool = ap (λ (x : Seen). x.pool) h in
     let sum : sum_of_limits (tables_asked S) ≡ sum_of_limits (tables_asked T) = sum-same vid S T h in
-    asked-limit (limit_asked limit S.pool (sum_of_limits (tables_asked S))) (segment_at S v)
-    ∙ (λ i. by_limit (limit_asked limit (pool i) (sum i)) (limit-same vid v S T h i))
-    ∙ sym (asked-limit (limit_asked limit T.pool (sum_of_limits (tables_asked T))) (segment_at T v))
+    asked-limit (limit_asked limit S.overlay.underlay.limits.entries S.pool (sum_of_limits (tables_asked S))) (segment_at S v)
+    ∙ (λ i. by_limit (limit_asked limit (entries i) (pool i) (sum i)) (limit-same vid v S T h i))
+    ∙ sym (asked-limit (limit_asked limit T.overlay.underlay.limits.entries T.pool (sum_of_limits (tables_asked T))) (segment_at T v))
 
 goes-same : (vid : ℕ) (S T : Settings) → seen vid S ≡ seen vid T → (v : ℕ) → refused S (RemoveSegment v) ≡ refused T (RemoveSegment v)
 goes-same vid S T h v = asked-limit (λ own. None) (segment_at S v) ∙ ap (by_limit (λ own. None)) (limit-same vid v S T h) ∙ sym (asked-limit (λ own. None) (segment_at T v))

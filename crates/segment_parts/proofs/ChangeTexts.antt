@@ -46,7 +46,7 @@ unfolding new_segment_of
 segment-if at =
     then-if IsVid IsSegment (vid_at at) _ (vid-if at) (λ vid own.
     then-so IsSegment (new_tunnels_of at) _ (λ tunnels.
-    then-so IsSegment (common_of any_number any_number at) _ (λ common. own)))
+    then-so IsSegment (common_of 256 any_number any_number at) _ (λ common. own)))
 
 -- ---- a change of each kind
 

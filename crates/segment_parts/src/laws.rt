@@ -19,7 +19,8 @@ ghost use Rattle.segment_set.specs.Segments.{Segments, holds};
 ghost use Rattle.capture_run.specs.Among.{cuts_among, outputs_among, run_among};
 ghost use Rattle.part_merge.specs.Merged.{IsRising, Piece, texts_of_pieces, side_by_side, merged};
 ghost use Rattle.table_lines.specs.Lines.{shown_at, tables_text};
-ghost use Rattle.segment_parts.specs.Pieces.{pieces_of, all_pieces, pieces_in, IsAsked, PartAll, HasVids, NamesVid, state_among, counted_among};
+ghost use Rattle.segment_parts.specs.Pieces.{pieces_of, all_pieces, pieces_in, IsAsked, PartAll};
+ghost use Rattle.segment_parts.specs.Pieces.{HasVids, NamesVid, state_among, counted_among};
 
 /// What a part of a run writes is the texts of those pieces of the whole run that are told of its segments: it answers
 /// each of these events as the whole run does, octet for octet, and numbers it so. A whole run writes all pieces, which
@@ -102,7 +103,8 @@ pub fn states()
     ensures lines { (segments : Segments) (S : Settings) (es : List Event) →
         tables_text segments (state_among segments (opened S) es) ≡ tables_text segments (state_after (opened S) es) }
     ensures shown { (segments : Segments) (S : Settings) (es : List Event) (at : Option ℕ) →
-        tables_text segments (shown_at at (state_among segments (opened S) es)) ≡ tables_text segments (shown_at at (state_after (opened S) es)) }
+        tables_text segments (shown_at at (state_among segments (opened S) es))
+        ≡ tables_text segments (shown_at at (state_after (opened S) es)) }
     ensures sums { (parts : List Segments) (S : Settings) (es : List Event) → PartAll parts →
         (segment : Option ℕ) (number : ℕ) → IsAsked segment →
         sum (map (λ (part : Segments). (state_among part (opened S) es).counts segment number) parts)

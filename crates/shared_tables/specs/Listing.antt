@@ -1,5 +1,6 @@
 -- The live entries of a segment, as the slots have them. It serves proofs.
-use Rattle.std.specs.Prelude.{◌≡◌, ℕ, ◌+◌, ◌*◌, ◌/◌, ◌%◌, ◌&&◌, Bool, true, false, List, ◌++◌, length, map, Option, Some, None, IsSome, nat_eq, if◌then◌else◌}
+use Rattle.std.specs.Prelude.{◌≡◌, ℕ, ◌+◌, ◌*◌, ◌/◌, ◌%◌, ◌&&◌, Bool, true, false, List, ◌++◌}
+use Rattle.std.specs.Prelude.{length, map, Option, Some, None, IsSome, nat_eq, if◌then◌else◌}
 use Rattle.std.specs.List.{All, filter_map}
 use Rattle.std.specs.Slice.Scan.{big_endian}
 use Rattle.std.specs.FinMap.{from_entries}
@@ -59,13 +60,13 @@ number_of mac = big_endian 0 mac
 abbrev pub IsAddress : List ℕ → Type 0
 IsAddress mac = (length mac ≡ 6) × IsText mac
 
--- the word of a slot's row: the address times 65,536 plus the slot's number
+-- the word of a slot's row: the address times 1,048,576 plus the slot's number
 abbrev pub word_of : ℕ → Option (List ℕ × Entry) → Option ℕ
-word_of slot row = option_map (λ (r : List ℕ × Entry). number_of r.0 * 65536 + slot) row
+word_of slot row = option_map (λ (r : List ℕ × Entry). number_of r.0 * 1048576 + slot) row
 
 -- the row of the slot whose number a word tells
 abbrev pub row_in : List (Option Held) → ℕ → ℕ → ℕ → ℕ → Option (List ℕ × Entry)
-row_in entries vid ageing now word = live_row vid ageing now (entry_at entries (word % 65536))
+row_in entries vid ageing now word = live_row vid ageing now (entry_at entries (word % 1048576))
 
 -- the rows of words
 abbrev pub rows_in : List (Option Held) → ℕ → ℕ → ℕ → List ℕ → Rows
@@ -77,18 +78,18 @@ row_of o = option_map (λ (e : Held). (e.mac, entry_of e)) o
 
 -- the rows of what the slots hold whose numbers words tell
 abbrev pub held_rows : List (Option Held) → List ℕ → Rows
-held_rows entries words = filter_map (λ word. row_of (entry_at entries (word % 65536))) words
+held_rows entries words = filter_map (λ word. row_of (entry_at entries (word % 1048576))) words
 
 -- each of those slots holds an entry
 abbrev pub AreHeld : List (Option Held) → List ℕ → Type 0
-AreHeld entries words = All (λ word. IsSome (entry_at entries (word % 65536))) words
+AreHeld entries words = All (λ word. IsSome (entry_at entries (word % 1048576))) words
 
 -- there is a row, and a word has its address in front
 abbrev pub HasAddress : ℕ → Option (List ℕ × Entry) → Type 0
 HasAddress word None = ⊥
-HasAddress word (Some row) = IsAddress row.0 × (word / 65536 ≡ number_of row.0)
+HasAddress word (Some row) = IsAddress row.0 × (word / 1048576 ≡ number_of row.0)
 
--- a word is the address of a live entry of the segment times 65,536 plus the number of its slot
+-- a word is the address of a live entry of the segment times 1,048,576 plus the number of its slot
 abbrev pub IsWord : List (Option Held) → ℕ → ℕ → ℕ → ℕ → Type 0
 IsWord entries vid ageing now word = HasAddress word (row_in entries vid ageing now word)
 

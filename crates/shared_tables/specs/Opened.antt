@@ -20,7 +20,13 @@ pub record IsNew (share : Share) : Type 0 where
 
 -- the share that a rule begins with
 abbrev pub new_share : TableRule → Share
-new_share rule = record { limit = rule.limit; ageing = rule.ageing; count = 0; queue = record { first = None; last = None }; fixed = record { first = None; last = None } }
+new_share rule = record {
+  limit = rule.limit;
+  ageing = rule.ageing;
+  count = 0;
+  queue = record { first = None; last = None };
+  fixed = record { first = None; last = None };
+}
 
 -- the segment of such a share
 abbrev pub segment_of_new : Share → Segment

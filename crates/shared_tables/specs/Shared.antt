@@ -1,5 +1,6 @@
 -- What contracts see of the tables in one pool. It states no standard.
-use Rattle.std.specs.Prelude.{◌≡◌, ℕ, ◌⊎◌, ◌+◌, ◌<◌, ◌≤◌, Bool, true, false, ◌&&◌, not, List, length, Option, Some, None, nat_eq, is_none, slice_index_or, slice_set, if◌then◌else◌}
+use Rattle.std.specs.Prelude.{◌≡◌, ℕ, ◌⊎◌, ◌+◌, ◌<◌, ◌≤◌, Bool, true, false, ◌&&◌, not, List, length}
+use Rattle.std.specs.Prelude.{Option, Some, None, nat_eq, is_none, slice_index_or, slice_set, if◌then◌else◌}
 use Rattle.std.specs.List.{sum_by}
 use Rattle.std.specs.Option.{option_map}
 use Rattle.shared_tables.specs.Pool.{Held}

@@ -1,5 +1,6 @@
 -- What the slots stand for, and their free list. It serves proofs.
-use Rattle.std.specs.Prelude.{◌≡◌, ◌≢◌, ℕ, ◌-◌, ◌<◌, ◌≤◌, List, [], ◌∷◌, ◌++◌, length, map, replicate, Option, Some, None, slice_index_or, is_some, if◌then◌else◌, vec_capacity}
+use Rattle.std.specs.Prelude.{◌≡◌, ◌≢◌, ℕ, ◌-◌, ◌<◌, ◌≤◌, List, [], ◌∷◌, ◌++◌, length, map, replicate}
+use Rattle.std.specs.Prelude.{Option, Some, None, slice_index_or, is_some, if◌then◌else◌, vec_capacity}
 use Rattle.filter_db.specs.declared.place.Place.{Place}
 use Rattle.filter_db.specs.Place.{no_place}
 use Rattle.shared_tables.specs.declared.slots.Slot.{Slot}
@@ -75,10 +76,10 @@ pub record IsFreeAll (slots : List Slot) (first : Option ℕ) (is : List ℕ) : 
 abbrev pub HasFreeList : Inside → Type 0
 HasFreeList a = (is : List ℕ) × IsFreeAll a.slots.items a.free is
 
--- so many slots were made, of so many, at most 65,536, for which there is room
+-- so many slots were made, of so many, at most 262,144, for which there is room
 pub record IsWithin (made size room : ℕ) : Type 0 where
   pub within : made ≤ size
-  pub few : size ≤ 65536
+  pub few : size ≤ 262144
   pub fits : size ≤ room
 
 -- the slots that were made, and their free list

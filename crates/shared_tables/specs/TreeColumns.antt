@@ -1,5 +1,6 @@
 -- The trees, as they are kept: numbers in three columns. It states no standard.
-use Rattle.std.specs.Prelude.{◌≡◌, ◌≢◌, ℕ, ◌+◌, ◌-◌, ◌*◌, ◌/◌, ◌%◌, ◌<◌, ◌≤◌, List, length, nat_eq, nat_lt, slice_index_or, slice_set, replicate, if◌then◌else◌}
+use Rattle.std.specs.Prelude.{◌≡◌, ◌≢◌, ℕ, ◌+◌, ◌-◌, ◌*◌, ◌/◌, ◌%◌, ◌<◌, ◌≤◌, List, length}
+use Rattle.std.specs.Prelude.{nat_eq, nat_lt, slice_index_or, slice_set, replicate, if◌then◌else◌}
 use Rattle.std.specs.List.{range_with_len}
 use Rattle.shared_tables.specs.declared.trees.Target.{Target}
 use Rattle.shared_tables.specs.declared.trees.Target.TheVariants.{Nothing, Leaf, Fork}
@@ -11,20 +12,20 @@ pub record Trees : Type 0 where
   pub leaves : List ℕ
   pub forks : List ℕ
 
--- what a word says: below 65,536 a slot, the greatest of 32 bits nothing, each other one a fork and a bit
+-- what a word says: below 1,048,576 a slot, the greatest of 32 bits nothing, each other one a fork and a bit
 unfoldable pub target_in : ℕ → Target
 target_in word =
-    if nat_lt word 65536 then Leaf word
+    if nat_lt word 1048576 then Leaf word
     else if nat_eq word 4294967295 then Nothing
-    else Fork ((word - 65536) / 64) ((word - 65536) % 64)
+    else Fork ((word - 1048576) / 64) ((word - 1048576) % 64)
 
 -- a word says that a fork stands there
 abbrev pub IsFork : ℕ → Type 0
-IsFork word = (65536 ≤ word) × (word ≢ 4294967295)
+IsFork word = (1048576 ≤ word) × (word ≢ 4294967295)
 
 -- the word of a fork
 abbrev pub fork_word : ℕ → ℕ → ℕ
-fork_word fork bit = 65536 + fork * 64 + bit
+fork_word fork bit = 1048576 + fork * 64 + bit
 
 -- what stands at a place
 abbrev pub target_at : List ℕ → ℕ → Target
@@ -38,11 +39,11 @@ number_at numbers i = slice_index_or numbers i 0
 abbrev pub child_of : ℕ → ℕ → ℕ
 child_of fork side = 262144 + 2 * fork + side
 
--- there are as many forks as slots, and two places for each behind the roots
+-- there are as many forks as slots, and two places for each behind the roots; so few that no fork's number is a place's there
 pub record HasSizes (w : Trees) : Type 0 where
   pub words : length w.words ≡ 262144 + 2 * length w.forks
   pub leaves : length w.leaves ≡ length w.forks
-  pub few : length w.forks ≤ 65536
+  pub few : length w.forks ≤ 262144
 
 -- a target's number is one of a slot, or of a fork
 abbrev pub Names : Trees → Target → Type 0

@@ -102,7 +102,7 @@ spare_of w target.Nothing = 0
 spare_of w (target.Leaf i) = number_at w.leaves i
 spare_of w (target.Fork n b) = number_at w.forks n
 
--- a fork that no tree has is kept by one keeper alone: a slot, by its number, or a tree, by its number over 65,536
+-- a fork that no tree has is kept by one keeper alone: a slot, by its number, or a tree, by its number over 1,048,576
 pub record Keeps (w : Trees) (keeper : ℕ → ℕ) (fork by : ℕ) : Type 0 where
   pub there : fork < length w.forks
   pub kept : keeper fork ≡ by
@@ -118,4 +118,4 @@ pub record AreTreesOf (entries : List (Option Held)) (w : Trees) : Type 0 where
   pub keeper : ℕ → ℕ
   pub frees : (i : ℕ) → i < length entries → entry_at entries i ≡ None → Keeps w keeper (number_at w.leaves i) i
   pub spares : (c : ℕ) → c < 262144 → target_at w.words c ≢ target.Nothing
-      → Keeps w keeper (spare_of w (target_at w.words c)) (65536 + c)
+      → Keeps w keeper (spare_of w (target_at w.words c)) (1048576 + c)

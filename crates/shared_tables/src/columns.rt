@@ -60,10 +60,10 @@ fn count_up(numbers: &mut Vec<u32>, count: u32)
 }
 
 impl Columns {
-    /// Those of trees without leaves over so many slots, at most 65,536, where each slot keeps the fork of its number.
+    /// Those of trees without leaves over so many slots, at most 262,144, where each slot keeps the fork of its number.
     /// `AllocError`: the growth was refused.
     pub fn new(alloc: Global, size: u32) -> Result<Columns, AllocError>
-        requires { size ≤ 65536 }
+        requires { size ≤ 262144 }
         ensures { IfOk result (λ w. w ≡ bare_trees size) }
     {
         let slots = size as usize;

@@ -61,10 +61,9 @@ impl PoolTables for SharedTables {
         self.end_share(vid);
     }
 
-    fn set_limit(&mut self, vid: Vid, limit: u16, now: u64)
+    fn set_limit(&mut self, vid: Vid, limit: u32, now: u64)
         requires has { IsSome (segments_of self.old vid) }
         requires some_entries { 1 ≤ limit }
-        requires at_most { limit ≤ 8192 }
         requires room { let s = segment_at vid (segments_of self.old) in
             sum_of_limits (segments_of self.old) + limit ≤ length self.old.entries + s.limit }
         requires time { self.old.moment ≤ now }
@@ -80,8 +79,7 @@ impl PoolTables for SharedTables {
     {
         self.begin(now);
         learning::sweep(self, vid);
-        let most = u32::from(limit);
-        learning::fit(self, vid, most);
-        self.set_most(vid, most);
+        learning::fit(self, vid, limit);
+        self.set_most(vid, limit);
     }
 }

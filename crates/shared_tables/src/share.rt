@@ -87,7 +87,7 @@ pub fn open_share(shares: &mut Vec<Option<Share>>, rule: &TableRule)
     ensures in_range { rule.now.vid < 4096 }
 {
     let share = Share {
-        limit: u32::from(rule.limit),
+        limit: rule.limit,
         ageing: rule.ageing,
         count: 0,
         queue: NO_ENDS,

@@ -29,7 +29,7 @@ pub enum Target {
 }
 
 /// The first word of a fork; those below it are slots.
-const FORKS: u32 = 65_536;
+const FORKS: u32 = 1_048_576;
 
 /// The first of the places on the sides of forks, which come behind the roots. A smaller number is no such place.
 const FIRST_SIDE: u32 = TREES as u32;
@@ -64,7 +64,7 @@ pub fn is_fork(word: u32) -> bool
 #[inline(always)]
 pub fn fork_in(word: u32) -> u32
     requires { IsFork word }
-    ensures { result ≡ (word - 65536) / 64 }
+    ensures { result ≡ (word - 1048576) / 64 }
 {
     (word - FORKS) / BITS
 }
@@ -73,7 +73,7 @@ pub fn fork_in(word: u32) -> u32
 #[inline(always)]
 pub fn bit_in(word: u32) -> u32
     requires { IsFork word }
-    ensures { result ≡ (word - 65536) % 64 }
+    ensures { result ≡ (word - 1048576) % 64 }
 {
     (word - FORKS) % BITS
 }
@@ -95,7 +95,7 @@ pub fn read(word: u32) -> Target
 
 /// The word of a fork.
 fn fork_word(fork: u32, bit: u32) -> u32
-    requires fork { fork < 65536 }
+    requires fork { fork < 1048576 }
     requires bit { bit < 64 }
     ensures { result ≡ fork_word fork bit }
 {
@@ -105,7 +105,7 @@ fn fork_word(fork: u32, bit: u32) -> u32
 /// The place on one side of a fork: 0 or 1.
 #[inline(always)]
 fn child(fork: u32, side: u32) -> u32
-    requires fork { fork < 65536 }
+    requires fork { fork < 1048576 }
     requires side { side < 2 }
     ensures { result ≡ child_of fork side }
 {
@@ -126,9 +126,9 @@ fn place_by(tree: usize, number: u32) -> usize
 }
 
 impl Trees {
-    /// Trees without leaves over so many slots, at most 65,536. `AllocError`: a growth was refused.
+    /// Trees without leaves over so many slots, at most 262,144. `AllocError`: a growth was refused.
     pub fn new(alloc: Global, size: u32) -> Result<Trees, AllocError>
-        requires { size ≤ 65536 }
+        requires { size ≤ 262144 }
         ensures { IfOk result (λ w. w ≡ bare_trees size) }
     {
         Ok(Trees {

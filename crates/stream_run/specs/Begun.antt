@@ -44,7 +44,8 @@ pub record IsOpening (place : Tap) (old new : Stream) (result : Result (Unit {0}
   pub header : TellsHeader place old new result
 
 -- the source with this index was, and all else is as before
-pub record OpensAt (index : ℕ) (ports : List Stream) (underlay : Stream) (new : List Stream) (new_underlay : Stream) (result : Result (Unit {0}) StreamFault) : Type 0 where
+pub record OpensAt (index : ℕ) (ports : List Stream) (underlay : Stream) (new : List Stream) (new_underlay : Stream)
+    (result : Result (Unit {0}) StreamFault) : Type 0 where
   pub place : Tap
   pub source : Stream
   pub at : IsAt (length ports) index place
@@ -60,13 +61,15 @@ pub record IsBegun (old new : Stream) : Type 0 where
 
 -- those in front of this index were
 abbrev pub AreBegun : ℕ → List Stream → Stream → List Stream → Stream → Type 0
-AreBegun index ports underlay new new_underlay = (place : Tap) (i : ℕ) → i < index → IsAt (length ports) i place → IsBegun (source_at ports underlay place) (source_at new new_underlay place)
+AreBegun index ports underlay new new_underlay = (place : Tap) (i : ℕ) → i < index → IsAt (length ports) i place
+    → IsBegun (source_at ports underlay place) (source_at new new_underlay place)
 
 -- all were; or those in front of one that can't be, or of which a read failed
 abbrev pub OpensInTurn : List Stream → Stream → List Stream → Stream → Result (Unit {0}) StreamFault → Type 0
 OpensInTurn ports underlay new new_underlay (Ok x) = AreBegun (length ports + 2) ports underlay new new_underlay
 OpensInTurn ports underlay new new_underlay (Err (stream.Run (faults.Capture place fault))) =
-    (index : ℕ) × IsAt (length ports) index place × AreBegun index ports underlay new new_underlay × RefusesHeader (source_at ports underlay place) fault
+    (index : ℕ) × IsAt (length ports) index place × AreBegun index ports underlay new new_underlay
+    × RefusesHeader (source_at ports underlay place) fault
 OpensInTurn ports underlay new new_underlay (Err (stream.Run fault)) = ⊥
 OpensInTurn ports underlay new new_underlay (Err (stream.Read place)) =
     (index : ℕ) × IsAt (length ports) index place × AreBegun index ports underlay new new_underlay
@@ -75,7 +78,8 @@ OpensInTurn ports underlay new new_underlay (Err (stream.Write target)) = ⊥
 -- all captures are at their first records, and they hold these octets
 pub record AreAtFirst (texts : List (List ℕ)) (text : List ℕ) (ports : List Stream) (underlay : Stream) : Type 0 where
   pub many : length texts ≡ length ports
-  pub each : (place : Tap) (index : ℕ) → IsAt (length ports) index place → IsReading (octets_at texts text place) [] (source_at ports underlay place)
+  pub each : (place : Tap) (index : ℕ) → IsAt (length ports) index place
+      → IsReading (octets_at texts text place) [] (source_at ports underlay place)
 
 -- ---- the fetches
 

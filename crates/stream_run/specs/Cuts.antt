@@ -16,7 +16,8 @@ cut_behind tap s done = if ends_cut s.standing then Some (record { tap = tap; wh
 -- those of the ports, rising from this one, and then that of the underlay
 abbrev pub cuts_from : ℕ → List Stream → Stream → List Turn → List Cut
 cuts_from port [] underlay turns = option_to_list (cut_behind Underlay underlay (slice_index_or turns port no_turn).done)
-cuts_from port (s ∷ ports) underlay turns = cons_option (cut_behind (Port port) s (slice_index_or turns port no_turn).done) (cuts_from (port + 1) ports underlay turns)
+cuts_from port (s ∷ ports) underlay turns =
+    cons_option (cut_behind (Port port) s (slice_index_or turns port no_turn).done) (cuts_from (port + 1) ports underlay turns)
 
 -- those of all captures of a run
 abbrev pub cuts_at : List Stream → Stream → List Turn → List Cut

@@ -18,9 +18,11 @@ use Rattle.stream_run.specs.Stage.{Drains}
 use Rattle.stream_run.specs.Watched.{GoesOver, SeesOver, Shows}
 use Rattle.stream_run.specs.declared.fault.StreamFault.{StreamFault}
 
-module _ (segments : Segments) {S T : Type 0} (taken : S → List Event → List Event) (goes : S → Event → S → Type 0) (sees : T → Sight → T → Type 0) (ends : T → State → T → Type 0) where
+module _ (segments : Segments) {S T : Type 0} (taken : S → List Event → List Event) (goes : S → Event → S → Type 0)
+    (sees : T → Sight → T → Type 0) (ends : T → State → T → Type 0) where
   -- what its outputs hold, how far its captures are read, and what was seen, by the octets of the captures
-  pub record IsDoneOver (s : Settings) (changes : List TimedChange) (texts : List (Vec ℕ Global)) (text : List ℕ) (old new : Drains) (ports : List Stream) (underlay : Stream) (old_sieve new_sieve : S) (old_watch new_watch : T)
+  pub record IsDoneOver (s : Settings) (changes : List TimedChange) (texts : List (Vec ℕ Global)) (text : List ℕ)
+      (old new : Drains) (ports : List Stream) (underlay : Stream) (old_sieve new_sieve : S) (old_watch new_watch : T)
       (result : Result (Unit {0}) StreamFault) : Type 0 where
     pub left : LeavesSieved (taken old_sieve) segments s changes texts text old new result
     pub reached : ReachesOver (taken old_sieve) segments s changes texts text old new ports underlay result
@@ -28,7 +30,8 @@ module _ (segments : Segments) {S T : Type 0} (taken : S → List Event → List
     pub went : GoesOver goes (Ok changes) texts text old_sieve new_sieve result
 
   -- what its outputs hold, what was shown, and both by the octets of the captures, where they tell them
-  pub record IsDone (s : Settings) (changes : List TimedChange) (ports : List Stream) (underlay : Stream) (new_ports : List Stream) (new_underlay : Stream) (old new : Drains) (old_sieve new_sieve : S) (old_watch new_watch : T)
+  pub record IsDone (s : Settings) (changes : List TimedChange) (ports : List Stream) (underlay : Stream)
+      (new_ports : List Stream) (new_underlay : Stream) (old new : Drains) (old_sieve new_sieve : S) (old_watch new_watch : T)
       (result : Result (Unit {0}) StreamFault) : Type 0 where
     pub left : Leaves (taken old_sieve) segments s changes (both ports underlay old) (both new_ports new_underlay new) result
     pub shown : Shows (taken old_sieve) segments sees ends s changes old new old_watch new_watch result

@@ -51,4 +51,5 @@ pub record IsFetch (old new : Stream) (tap : Tap) (done latest : ℕ) (result : 
   pub next : IfOk result (λ t. t.next ≡ option_map (λ (r : Record). max r.moment latest) (lent new.standing))
   pub moment : latest ≤ last_moment → IfOk result (λ t. IsMoment t.next)
   pub reads : ReadsOne tap old new result
-  pub told : (octets : List ℕ) (rs : List Record) → IsReading octets rs old → done ≡ length rs → latest ≡ greatest rs → IsFetched octets rs tap new result
+  pub told : (octets : List ℕ) (rs : List Record) → IsReading octets rs old → done ≡ length rs → latest ≡ greatest rs
+      → IsFetched octets rs tap new result

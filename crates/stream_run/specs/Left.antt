@@ -29,16 +29,20 @@ use Rattle.segment_set.specs.Segments.{Segments, All}
 
 -- the headers, the texts of what is taken in of these events one after another, and the lines of these cut captures
 abbrev pub texts_of : (List Event → List Event) → Segments → Settings → List TimedChange → List Event → List Cut → Outputs
-texts_of taken segments s changes es cuts = with_cuts (texts_behind segments changes (opened (settings_told s)) (empty_outputs (length s.ports)) (taken es)) cuts
+texts_of taken segments s changes es cuts =
+    with_cuts (texts_behind segments changes (opened (settings_told s)) (empty_outputs (length s.ports)) (taken es)) cuts
 
 -- texts that stand, and those that come next: the headers; those of one event more, which stand in their order; or the
 -- lines of the cut captures
 abbrev pub AreNext : (List Event → List Event) → Segments → Settings → List TimedChange → Drains → Drains → Outputs → Outputs → Type 0
 AreNext taken segments s changes old new texts next =
     ((texts ≡ no_texts (length s.ports)) × (next ≡ texts_of taken segments s changes [] []))
-    ⊎ ((es : List Event) × (e : Event) × (texts ≡ texts_of taken segments s changes es []) × (next ≡ texts_of taken segments s changes (es ++ e ∷ []) [])
-    × StandsInEvent (changes_of changes) old new (length (taken es) + 1) (state_among segments (changes_of changes) (opened (settings_told s)) (taken es)) texts e)
-    ⊎ ((es : List Event) × (cuts : List Cut) × (texts ≡ texts_of taken segments s changes es []) × (next ≡ texts_of taken segments s changes es cuts))
+    ⊎ ((es : List Event) × (e : Event) × (texts ≡ texts_of taken segments s changes es [])
+    × (next ≡ texts_of taken segments s changes (es ++ e ∷ []) [])
+    × StandsInEvent (changes_of changes) old new (length (taken es) + 1)
+    (state_among segments (changes_of changes) (opened (settings_told s)) (taken es)) texts e)
+    ⊎ ((es : List Event) × (cuts : List Cut) × (texts ≡ texts_of taken segments s changes es [])
+    × (next ≡ texts_of taken segments s changes es cuts))
 
 -- ---- what it leaves
 
@@ -55,14 +59,18 @@ ends ports underlay drains = record { ports = ports; underlay = underlay; drains
 -- the texts of all events and of the cut captures; where a write failed, also a part of what came next; and else the
 -- texts of whole events, with the headers or without them. Memory is refused before anything is read or written; or it is
 -- numbers that are wanting, and then as many events stand as can be numbered
-abbrev pub Leaves : (List Event → List Event) → Segments → Settings → List TimedChange → Ends → Ends → Result (Unit {0}) StreamFault → Type 0
-Leaves taken segments s changes old new (Ok x) = (es : List Event) × (cuts : List Cut) × StandAt old.drains new.drains (texts_of taken segments s changes es cuts)
+abbrev pub Leaves : (List Event → List Event) → Segments → Settings → List TimedChange → Ends → Ends
+    → Result (Unit {0}) StreamFault → Type 0
+Leaves taken segments s changes old new (Ok x) = (es : List Event) × (cuts : List Cut)
+    × StandAt old.drains new.drains (texts_of taken segments s changes es cuts)
 Leaves taken segments s changes old new (Err (stream.Write target)) =
-    (texts : Outputs) × (next : Outputs) × AreNext taken segments s changes old.drains new.drains texts next × StandBetween old.drains new.drains texts next × FailedAt target old.drains new.drains
+    (texts : Outputs) × (next : Outputs) × AreNext taken segments s changes old.drains new.drains texts next
+    × StandBetween old.drains new.drains texts next × FailedAt target old.drains new.drains
 Leaves taken segments s changes old new (Err (stream.Run faults.OutOfMemory)) =
     (new ≡ old) ⊎ ((es : List Event) × (length es ≡ most_events) × StandAt old.drains new.drains (texts_of taken segments s changes es []))
 Leaves taken segments s changes old new (Err fault) =
-    StandAt old.drains new.drains (no_texts (length s.ports)) ⊎ ((es : List Event) × StandAt old.drains new.drains (texts_of taken segments s changes es []))
+    StandAt old.drains new.drains (no_texts (length s.ports))
+    ⊎ ((es : List Event) × StandAt old.drains new.drains (texts_of taken segments s changes es []))
 
 -- an output failed, or none
 abbrev pub WritesWith : Drains → Drains → Result (Unit {0}) StreamFault → Type 0
@@ -76,10 +84,13 @@ abbrev pub Refuses : RunFault → Ends → Ends → Result (Unit {0}) StreamFaul
 Refuses fault old new result = ((result ≡ Err (stream.Run fault)) ⊎ (result ≡ Err (stream.Run faults.OutOfMemory))) × (new ≡ old)
 
 -- by what the texts of settings and changes mean: the settings' fault first, then the changes', then the number of captures
-abbrev pub AnswersSieved : (List Event → List Event) → Segments → Meaning Settings → Meaning (List TimedChange) → Ends → Ends → Result (Unit {0}) StreamFault → Type 0
+abbrev pub AnswersSieved : (List Event → List Event) → Segments → Meaning Settings → Meaning (List TimedChange) → Ends → Ends
+    → Result (Unit {0}) StreamFault → Type 0
 AnswersSieved taken segments (Err fault) c old new result = Refuses (of_settings fault) old new result
 AnswersSieved taken segments (Ok s) (Err fault) old new result = Refuses (of_changes fault) old new result
-AnswersSieved taken segments (Ok s) (Ok changes) old new result = MatchBool (length old.ports == length s.ports) (Leaves taken segments s changes old new result) (Refuses faults.PortCount old new result)
+AnswersSieved taken segments (Ok s) (Ok changes) old new result =
+    MatchBool (length old.ports == length s.ports) (Leaves taken segments s changes old new result)
+    (Refuses faults.PortCount old new result)
 
 -- where each event is taken in
 abbrev pub AnswersAmong : Segments → Meaning Settings → Meaning (List TimedChange) → Ends → Ends → Result (Unit {0}) StreamFault → Type 0

@@ -24,7 +24,8 @@ use Rattle.stream_run.specs.Amidst.{StandsInEvent}
 use Rattle.stream_run.specs.Coming.{EndBefore}
 use Rattle.stream_run.specs.Sights.{state_among}
 use Rattle.stream_run.specs.Sieved.{all_taken}
-use Rattle.stream_run.specs.Stage.{ComesBeforeCuts, ComesNext, Drains, Events, Everything, Nothing, Stage, StandAt, StandBetween, events_at, no_texts, stage_texts}
+use Rattle.stream_run.specs.Stage.{ComesBeforeCuts, ComesNext, Drains, Events, Everything, Nothing}
+use Rattle.stream_run.specs.Stage.{Stage, StandAt, StandBetween, events_at, no_texts, stage_texts}
 use Rattle.stream_run.specs.Steps.{AreRead, IsFaultyAt, StopInFront, changes_of, most_events}
 use Rattle.stream_run.specs.declared.fault.StreamFault.{StreamFault}
 use Rattle.stream_run.specs.declared.fault.StreamFault.TheVariants as stream
@@ -40,7 +41,8 @@ texts_octets texts = map (λ (v : Vec ℕ Global). v.items) texts
 
 -- all inputs tell their octets
 abbrev pub Tells : List Stream → Stream → List (Vec ℕ Global) → List ℕ → Type 0
-Tells ports underlay texts text = (map (λ (s : Stream). s.supply.rest) ports ≡ map (λ (octets : List ℕ). Some octets) (texts_octets texts)) × (underlay.supply.rest ≡ Some text)
+Tells ports underlay texts text = (map (λ (s : Stream). s.supply.rest) ports
+    ≡ map (λ (octets : List ℕ). Some octets) (texts_octets texts)) × (underlay.supply.rest ≡ Some text)
 
 -- the events of the changes and of the whole records of all captures, those in front of each one's first fault, in order;
 -- and the captures that are cut
@@ -68,11 +70,13 @@ AllowStage texts text Everything = CanBeOpened texts text × AreFaultless texts 
 
 -- those of a stage, of what is taken in of its events
 abbrev pub texts_at : (List Event → List Event) → Segments → Settings → List TimedChange → List (Vec ℕ Global) → List ℕ → Stage → Outputs
-texts_at taken segments s changes texts text stage = stage_texts taken segments (settings_told s) (changes_of changes) (length texts) (whole_records changes texts text) stage
+texts_at taken segments s changes texts text stage =
+    stage_texts taken segments (settings_told s) (changes_of changes) (length texts) (whole_records changes texts text) stage
 
 -- the outputs hold the texts of whole events, with the headers or without them; where a capture has a fault, of none
 -- behind its last whole record
-pub record StandsSomewhere (taken : List Event → List Event) (segments : Segments) (s : Settings) (changes : List TimedChange) (texts : List (Vec ℕ Global)) (text : List ℕ) (old new : Drains) : Type 0 where
+pub record StandsSomewhere (taken : List Event → List Event) (segments : Segments) (s : Settings) (changes : List TimedChange)
+    (texts : List (Vec ℕ Global)) (text : List ℕ) (old new : Drains) : Type 0 where
   pub stage : Stage
   pub amidst : ComesBeforeCuts (whole_records changes texts text) stage
   pub captures : AllowStage texts text stage
@@ -88,7 +92,8 @@ LacksMemory old new Everything = ⊥
 
 -- or also a part of what comes next, so that all captures can be opened; lines of cut captures only where all were read to
 -- their ends
-pub record StandsAmong (taken : List Event → List Event) (segments : Segments) (s : Settings) (changes : List TimedChange) (texts : List (Vec ℕ Global)) (text : List ℕ) (old new : Drains) : Type 0 where
+pub record StandsAmong (taken : List Event → List Event) (segments : Segments) (s : Settings) (changes : List TimedChange)
+    (texts : List (Vec ℕ Global)) (text : List ℕ) (old new : Drains) : Type 0 where
   pub stage : Stage
   pub next : Stage
   pub comes : ComesNext (whole_records changes texts text) stage next
@@ -97,11 +102,14 @@ pub record StandsAmong (taken : List Event → List Event) (segments : Segments)
   pub stands : StandBetween old new (texts_at taken segments s changes texts text stage) (texts_at taken segments s changes texts text next)
   -- where an event comes next, the records of its first outlets, and the line behind them all
   pub order : (es rest : List Event) (e : Event) → (whole_records changes texts text).events ≡ es ++ e ∷ rest → stage ≡ Events (length es)
-      → StandsInEvent (changes_of changes) old new (length (taken es) + 1) (state_among segments (changes_of changes) (opened (settings_told s)) (taken es)) (texts_at taken segments s changes texts text stage) e
+      → StandsInEvent (changes_of changes) old new (length (taken es) + 1)
+      (state_among segments (changes_of changes) (opened (settings_told s)) (taken es))
+      (texts_at taken segments s changes texts text stage) e
 
 -- a record has this fault, and the outputs hold the texts of all events up to the record before it, and no more; all
 -- captures can be opened, and no other has a fault sooner
-pub record StandsBefore (taken : List Event → List Event) (segments : Segments) (place : Tap) (n : ℕ) (fault : RecordFault) (s : Settings) (changes : List TimedChange) (texts : List (Vec ℕ Global)) (text : List ℕ) (old new : Drains) : Type 0 where
+pub record StandsBefore (taken : List Event → List Event) (segments : Segments) (place : Tap) (n : ℕ) (fault : RecordFault)
+    (s : Settings) (changes : List TimedChange) (texts : List (Vec ℕ Global)) (text : List ℕ) (old new : Drains) : Type 0 where
   pub k : ℕ
   pub most : k ≤ length (whole_records changes texts text).events
   pub openings : CanBeOpened texts text
@@ -113,44 +121,59 @@ pub record StandsBefore (taken : List Event → List Event) (segments : Segments
 -- ---- the answer
 
 -- with these settings and changes: Ok comes where the run of all events tells outputs, and then those of what is taken in stand
-abbrev pub LeavesSieved : (List Event → List Event) → Segments → Settings → List TimedChange → List (Vec ℕ Global) → List ℕ → Drains → Drains → Result (Unit {0}) StreamFault → Type 0
+abbrev pub LeavesSieved : (List Event → List Event) → Segments → Settings → List TimedChange → List (Vec ℕ Global) → List ℕ
+    → Drains → Drains → Result (Unit {0}) StreamFault → Type 0
 LeavesSieved taken segments s changes texts text old new (Ok x) =
-    (run_among segments (Ok s) (Ok changes) texts text ≡ Ok (texts_at all_taken segments s changes texts text Everything)) × StandAt old new (texts_at taken segments s changes texts text Everything)
-LeavesSieved taken segments s changes texts text old new (Err (stream.Run (faults.Record place n fault))) = StandsBefore taken segments place n fault s changes texts text old new
-LeavesSieved taken segments s changes texts text old new (Err (stream.Run faults.OutOfMemory)) = (at : StandsSomewhere taken segments s changes texts text old new) × LacksMemory old new at.stage
-LeavesSieved taken segments s changes texts text old new (Err (stream.Run fault)) = (run (Ok s) (Ok changes) texts text ≡ Err fault) × StandAt old new (no_texts (length texts))
-LeavesSieved taken segments s changes texts text old new (Err (stream.Read place)) = StandsSomewhere taken segments s changes texts text old new
-LeavesSieved taken segments s changes texts text old new (Err (stream.Write target)) = StandsAmong taken segments s changes texts text old new
+    (run_among segments (Ok s) (Ok changes) texts text ≡ Ok (texts_at all_taken segments s changes texts text Everything))
+    × StandAt old new (texts_at taken segments s changes texts text Everything)
+LeavesSieved taken segments s changes texts text old new (Err (stream.Run (faults.Record place n fault))) =
+    StandsBefore taken segments place n fault s changes texts text old new
+LeavesSieved taken segments s changes texts text old new (Err (stream.Run faults.OutOfMemory)) =
+    (at : StandsSomewhere taken segments s changes texts text old new) × LacksMemory old new at.stage
+LeavesSieved taken segments s changes texts text old new (Err (stream.Run fault)) =
+    (run (Ok s) (Ok changes) texts text ≡ Err fault) × StandAt old new (no_texts (length texts))
+LeavesSieved taken segments s changes texts text old new (Err (stream.Read place)) =
+    StandsSomewhere taken segments s changes texts text old new
+LeavesSieved taken segments s changes texts text old new (Err (stream.Write target)) =
+    StandsAmong taken segments s changes texts text old new
 
 -- where each event is taken in, the outputs that the run tells stand
-abbrev pub LeavesOver : Segments → Settings → List TimedChange → List (Vec ℕ Global) → List ℕ → Drains → Drains → Result (Unit {0}) StreamFault → Type 0
-LeavesOver segments s changes texts text old new (Ok x) = (found : Outputs) × (run_among segments (Ok s) (Ok changes) texts text ≡ Ok found) × StandAt old new found
+abbrev pub LeavesOver : Segments → Settings → List TimedChange → List (Vec ℕ Global) → List ℕ → Drains → Drains
+    → Result (Unit {0}) StreamFault → Type 0
+LeavesOver segments s changes texts text old new (Ok x) = (found : Outputs)
+    × (run_among segments (Ok s) (Ok changes) texts text ≡ Ok found) × StandAt old new found
 LeavesOver segments s changes texts text old new (Err fault) = LeavesSieved all_taken segments s changes texts text old new (Err fault)
 
 -- without them: why, unless memory was refused
-abbrev pub RefusesOver : Meaning Settings → Meaning (List TimedChange) → List (Vec ℕ Global) → List ℕ → Drains → Drains → Result (Unit {0}) StreamFault → Type 0
+abbrev pub RefusesOver : Meaning Settings → Meaning (List TimedChange) → List (Vec ℕ Global) → List ℕ → Drains → Drains
+    → Result (Unit {0}) StreamFault → Type 0
 RefusesOver s c texts text old new (Err (stream.Run faults.OutOfMemory)) = StandAt old new (no_texts (length texts))
 RefusesOver s c texts text old new (Err (stream.Run fault)) = (run s c texts text ≡ Err fault) × StandAt old new (no_texts (length texts))
 RefusesOver s c texts text old new result = ⊥
 
 -- by what the texts of the settings and of the changes mean
-abbrev pub IsRunOverSieved : (List Event → List Event) → Segments → Meaning Settings → Meaning (List TimedChange) → List (Vec ℕ Global) → List ℕ → Drains → Drains → Result (Unit {0}) StreamFault → Type 0
-IsRunOverSieved taken segments (Ok s) (Ok changes) texts text old new result = LeavesSieved taken segments s changes texts text old new result
+abbrev pub IsRunOverSieved : (List Event → List Event) → Segments → Meaning Settings → Meaning (List TimedChange)
+    → List (Vec ℕ Global) → List ℕ → Drains → Drains → Result (Unit {0}) StreamFault → Type 0
+IsRunOverSieved taken segments (Ok s) (Ok changes) texts text old new result =
+    LeavesSieved taken segments s changes texts text old new result
 IsRunOverSieved taken segments (Ok s) (Err fault) texts text old new result = RefusesOver (Ok s) (Err fault) texts text old new result
 IsRunOverSieved taken segments (Err fault) c texts text old new result = RefusesOver (Err fault) c texts text old new result
 
 -- the same where each event is taken in
-abbrev pub IsRunOverAmong : Segments → Meaning Settings → Meaning (List TimedChange) → List (Vec ℕ Global) → List ℕ → Drains → Drains → Result (Unit {0}) StreamFault → Type 0
+abbrev pub IsRunOverAmong : Segments → Meaning Settings → Meaning (List TimedChange) → List (Vec ℕ Global) → List ℕ → Drains
+    → Drains → Result (Unit {0}) StreamFault → Type 0
 IsRunOverAmong segments (Ok s) (Ok changes) texts text old new result = LeavesOver segments s changes texts text old new result
 IsRunOverAmong segments (Ok s) (Err fault) texts text old new result = RefusesOver (Ok s) (Err fault) texts text old new result
 IsRunOverAmong segments (Err fault) c texts text old new result = RefusesOver (Err fault) c texts text old new result
 
 -- the same of the whole run
-abbrev pub IsRunOver : Meaning Settings → Meaning (List TimedChange) → List (Vec ℕ Global) → List ℕ → Drains → Drains → Result (Unit {0}) StreamFault → Type 0
+abbrev pub IsRunOver : Meaning Settings → Meaning (List TimedChange) → List (Vec ℕ Global) → List ℕ → Drains → Drains
+    → Result (Unit {0}) StreamFault → Type 0
 IsRunOver s c texts text old new result = IsRunOverAmong All s c texts text old new result
 
 -- a run that stops at no fault leaves just what comes out of the whole run
-abbrev pub IsWholeRun : Meaning Settings → Meaning (List TimedChange) → List (Vec ℕ Global) → List ℕ → Drains → Drains → Result (Unit {0}) StreamFault → Type 0
+abbrev pub IsWholeRun : Meaning Settings → Meaning (List TimedChange) → List (Vec ℕ Global) → List ℕ → Drains → Drains
+    → Result (Unit {0}) StreamFault → Type 0
 IsWholeRun s c texts text old new (Ok x) = (found : Outputs) × (run s c texts text ≡ Ok found) × StandAt old new found
 IsWholeRun s c texts text old new (Err fault) = ⊤
 

@@ -2,7 +2,8 @@
 --     StandsBehind      so many records of a source were events, and the next one is lent
 --     IsRead      the same, as a turn counts them
 --     ReadsWith      no read failed, or just one, where a source gave up
-use Rattle.std.specs.Prelude.{◌≡◌, ◌≢◌, ◌<◌, ◌≤◌, ℕ, ◌+◌, ◌-◌, max, List, [], ◌∷◌, ◌++◌, length, map, slice_index_or, Option, Some, None, Result, Ok, Err}
+use Rattle.std.specs.Prelude.{◌≡◌, ◌≢◌, ◌<◌, ◌≤◌, ℕ, ◌+◌, ◌-◌, max, List, [], ◌∷◌, ◌++◌}
+use Rattle.std.specs.Prelude.{length, map, slice_index_or, Option, Some, None, Result, Ok, Err}
 use Rattle.pcap_io.specs.Capture.{opened}
 use Rattle.pcap_io.specs.Next.{End, Faulty}
 use Rattle.pcap_io.specs.Record.{Record}
@@ -62,7 +63,8 @@ pub record AreQuiet (old : List Stream) (old_underlay : Stream) (new : List Stre
 -- the source of a capture has given up
 abbrev pub GivesUpAt : Tap → List Stream → Stream → List Stream → Stream → Type 0
 GivesUpAt (taps.Port port) old old_underlay new new_underlay =
-    (d : Stream) → (0 < port) × (port ≤ length old) × GivesUp (slice_index_or old (port - 1) d).supply (slice_index_or new (port - 1) d).supply
+    (d : Stream) → (0 < port) × (port ≤ length old)
+    × GivesUp (slice_index_or old (port - 1) d).supply (slice_index_or new (port - 1) d).supply
 GivesUpAt taps.Underlay old old_underlay new new_underlay = GivesUp old_underlay.supply new_underlay.supply
 
 module _ {T : Type 0} where

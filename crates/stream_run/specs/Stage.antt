@@ -4,7 +4,8 @@
 --     stage_texts      the texts of a stage, of what is taken in of its events
 --     StandBetween      what the outputs hold more than before: at least the one texts, and at most the others
 --     LinesComeLast      no line stands there before all that leaves does
-use Rattle.std.specs.Prelude.{◌≡◌, ◌⊎◌, ◌<◌, ◌≤◌, ℕ, ◌+◌, ◌-◌, ⊤, Bool, false, List, [], length, replicate, take, slice_index_or, map, Option, Result, Ok, Err}
+use Rattle.std.specs.Prelude.{◌≡◌, ◌⊎◌, ◌<◌, ◌≤◌, ℕ, ◌+◌, ◌-◌, ⊤, Bool, false, List, [], length}
+use Rattle.std.specs.Prelude.{replicate, take, slice_index_or, map, Option, Result, Ok, Err}
 use Rattle.std.specs.Io.KnownBytes.{Appends}
 use Rattle.pcap_stream.specs.Counts.{GoesOnBy}
 use Rattle.pcap_stream.specs.Sink.{Drain}
@@ -57,8 +58,10 @@ no_texts ports = record { ports = replicate ports []; underlay = []; decisions =
 -- those of a stage, of what is taken in and told to these segments
 abbrev pub stage_texts : (List Event → List Event) → Segments → Settings → List Change → ℕ → Timeline → Stage → Outputs
 stage_texts taken segments S changes ports t Nothing = no_texts ports
-stage_texts taken segments S changes ports t (Events k) = outputs_among segments S changes ports (record { events = taken (take k t.events); cuts = [] })
-stage_texts taken segments S changes ports t Everything = outputs_among segments S changes ports (record { events = taken t.events; cuts = t.cuts })
+stage_texts taken segments S changes ports t (Events k) =
+    outputs_among segments S changes ports (record { events = taken (take k t.events); cuts = [] })
+stage_texts taken segments S changes ports t Everything =
+    outputs_among segments S changes ports (record { events = taken t.events; cuts = t.cuts })
 
 -- ---- the outputs
 
@@ -88,7 +91,8 @@ pub record PortsBetween (old new : List Drain) (least most : List (List ℕ)) : 
   pub many : length new ≡ length old
   pub many_least : length least ≡ length old
   pub many_most : length most ≡ length old
-  pub each : (d : Drain) (k : ℕ) → k < length old → StandsBetween (slice_index_or old k d) (slice_index_or new k d) (slice_index_or least k []) (slice_index_or most k [])
+  pub each : (d : Drain) (k : ℕ) → k < length old
+      → StandsBetween (slice_index_or old k d) (slice_index_or new k d) (slice_index_or least k []) (slice_index_or most k [])
 
 -- the captures hold just these texts more than before
 pub record CapturesHold (old new : Drains) (texts : Outputs) : Type 0 where
@@ -128,7 +132,8 @@ Failed old new = old.is_failed ≡ false → GoesOnBy 1 old.failures new.failure
 
 -- an output failed
 abbrev pub FailedAt : Target → Drains → Drains → Type 0
-FailedAt (targets.Port port) old new = (d : Drain) → (0 < port) × (port ≤ length old.ports) × Failed (slice_index_or old.ports (port - 1) d) (slice_index_or new.ports (port - 1) d)
+FailedAt (targets.Port port) old new = (d : Drain) → (0 < port) × (port ≤ length old.ports)
+    × Failed (slice_index_or old.ports (port - 1) d) (slice_index_or new.ports (port - 1) d)
 FailedAt targets.Underlay old new = Failed old.underlay new.underlay
 FailedAt targets.Decisions old new = Failed old.decisions new.decisions
 

@@ -4,7 +4,9 @@
 --     AreRead      the same, by the octets of the captures
 --     IsStep      one event, and the fetch behind it
 --     IsRunOn      many of them: by the octets, the first of those that were to come
-use Rattle.std.specs.Prelude.{◌≡◌, ◌≢◌, Bool, true, if◌then◌else◌, ◌<◌, ◌≤◌, ⊤, ℕ, ◌+◌, List, [], ◌∷◌, ◌++◌, length, map, slice_index_or, slice_get, Option, Some, None, option_map, Result, Ok, Err, OnOk, IsSome, slice_set, ◌-◌, ◌^◌, ◌⊎◌}
+use Rattle.std.specs.Prelude.{◌≡◌, ◌≢◌, Bool, true, if◌then◌else◌, ◌<◌, ◌≤◌, ⊤, ℕ, ◌+◌, List, []}
+use Rattle.std.specs.Prelude.{◌∷◌, ◌++◌, length, map, slice_index_or, slice_get, Option, Some, None}
+use Rattle.std.specs.Prelude.{option_map, Result, Ok, Err, OnOk, IsSome, slice_set, ◌-◌, ◌^◌, ◌⊎◌}
 use Rattle.pcap_io.specs.Record.{Record, last_moment}
 use Rattle.pcap_io.specs.declared.record.RecordFault.{RecordFault}
 use Rattle.pcap_stream.specs.Source.{Stream, lent}
@@ -58,7 +60,8 @@ pub record Run : Type 0 where
 
 -- the same, made of what calls are lent
 abbrev pub run_at : List Stream → Stream → List Turn → State → ℕ → Drains → Run
-run_at ports underlay turns state number drains = record { ports = ports; underlay = underlay; turns = turns; state = state; number = number; drains = drains }
+run_at ports underlay turns state number drains =
+    record { ports = ports; underlay = underlay; turns = turns; state = state; number = number; drains = drains }
 
 -- the changes of a run come one after another, and none is behind what a capture can tell
 pub record AreTimely (changes : List TimedChange) : Type 0 where
@@ -98,7 +101,8 @@ pub record AreReady (changes : List TimedChange) (count : ℕ) (r : Run) : Type 
   pub moments : (t : Turn) (k : ℕ) → k < length r.turns → IsMoment (slice_index_or r.turns k t).next
   pub done : (t : Turn) (k : ℕ) → k < length r.turns → (slice_index_or r.turns k t).done ≤ count
   pub change : (t : Turn) → (slice_index_or r.turns 0 t).next ≡ moment_at changes (slice_index_or r.turns 0 t).done
-  pub heads : (place : Tap) (index : ℕ) (t : Turn) → IsAt (length r.ports) index place → LendsWhere (slice_index_or r.turns index t).next (source_at r.ports r.underlay place)
+  pub heads : (place : Tap) (index : ℕ) (t : Turn) → IsAt (length r.ports) index place
+      → LendsWhere (slice_index_or r.turns index t).next (source_at r.ports r.underlay place)
 
 -- ---- the captures
 
@@ -110,7 +114,8 @@ octets_at texts text taps.Underlay = text
 -- the captures hold these octets: so many records of each were events, and the next one is lent
 pub record AreRead (texts : List (List ℕ)) (text : List ℕ) (turns : List Turn) (ports : List Stream) (underlay : Stream) : Type 0 where
   pub many : length texts ≡ length ports
-  pub each : (place : Tap) (index : ℕ) (t : Turn) → IsAt (length ports) index place → IsRead (octets_at texts text place) (slice_index_or turns index t) (source_at ports underlay place)
+  pub each : (place : Tap) (index : ℕ) (t : Turn) → IsAt (length ports) index place
+      → IsRead (octets_at texts text place) (slice_index_or turns index t) (source_at ports underlay place)
 
 -- the record of this number of a capture has this fault
 pub record IsFaultyAt (texts : List (List ℕ)) (text : List ℕ) (place : Tap) (number : ℕ) (fault : RecordFault) : Type 0 where
@@ -134,7 +139,8 @@ module _ {T : Type 0} where
   abbrev pub AreReadBehind : List (List ℕ) → List ℕ → List Event → List Stream → Stream → Result T StreamFault → Type 0
   AreReadBehind texts text es ports underlay result =
       (place : Tap) (index : ℕ) → IsAt (length texts) index place → IsOther place result
-      → (next : Option ℕ) × IsRead (octets_at texts text place) (record { done = records_among place es; next = next }) (source_at ports underlay place)
+      → (next : Option ℕ) × IsRead (octets_at texts text place) (record { done = records_among place es; next = next })
+      (source_at ports underlay place)
 
 -- ---- the events
 
@@ -150,7 +156,8 @@ record_event tap count moment r = record {
 abbrev pub IsNextEvent : List Stream → Stream → ℕ → ℕ → ℕ → Event → Type 0
 IsNextEvent ports underlay index done moment e =
     ((index ≡ 0) × (e ≡ record { moment = moment; number = done + 1; happening = happenings.Change done }))
-    ⊎ ((place : Tap) × (r : Record) × IsAt (length ports) index place × (lent (source_at ports underlay place).standing ≡ Some r) × (e ≡ record_event place done moment r))
+    ⊎ ((place : Tap) × (r : Record) × IsAt (length ports) index place
+    × (lent (source_at ports underlay place).standing ≡ Some r) × (e ≡ record_event place done moment r))
 
 -- ---- taken
 
@@ -159,14 +166,16 @@ abbrev pub changes_of : List TimedChange → List Change
 changes_of changes = map (λ (c : TimedChange). c.change) changes
 
 -- the event was taken by the endpoint, and what comes of it was put to the outputs, where it is told to these segments
-pub record IsTaken (segments : Segments) (changes : List TimedChange) (ports : List Stream) (underlay : Stream) (index done moment number : ℕ) (old new : State) (before behind : Drains) (result : Result (Unit {0}) Target) : Type 0 where
+pub record IsTaken (segments : Segments) (changes : List TimedChange) (ports : List Stream) (underlay : Stream)
+    (index done moment number : ℕ) (old new : State) (before behind : Drains) (result : Result (Unit {0}) Target) : Type 0 where
   pub e : Event
   pub next : IsNextEvent ports underlay index done moment e
   pub state : new ≡ after_among segments old (event_of (changes_of changes) e)
   pub outputs : (start : Drains) (o : Outputs) → StandAt start before o
       → Lead start behind o (with_event_among segments (changes_of changes) number old o e) result
   pub order : (start : Drains) (o : Outputs) → StandAt start before o
-      → PutsInOrder start behind number (named_by (changes_of changes) e.happening) o e (answer old (event_of (changes_of changes) e)) result
+      → PutsInOrder start behind number (named_by (changes_of changes) e.happening) o e
+      (answer old (event_of (changes_of changes) e)) result
 
 -- what comes of an event that names this segment, where it is told
 abbrev pub with_input_among : Segments → ℕ → Option ℕ → State → Outputs → Event → Asked → Outputs
@@ -174,27 +183,33 @@ with_input_among segments number named s o e asked = if is_told segments s asked
 
 -- what is seen of it
 abbrev pub seen_among : Segments → State → ℕ → Event → Asked → Sight
-seen_among segments s number e asked = if is_told segments s asked then answered (due s number e) (answer s asked) else untold (due s number e)
+seen_among segments s number e asked = if is_told segments s asked then answered (due s number e) (answer s asked) else untold
+    (due s number e)
 
 -- ---- fetched
 
 -- the source of a capture is another, and all else as before
 abbrev pub IsChangedAt : Tap → List Stream → Stream → List Stream → Stream → Stream → Type 0
-IsChangedAt (taps.Port port) ports underlay new_ports new_underlay s = (new_ports ≡ slice_set ports (port - 1) s) × (new_underlay ≡ underlay)
+IsChangedAt (taps.Port port) ports underlay new_ports new_underlay s = (new_ports ≡ slice_set ports (port - 1) s)
+    × (new_underlay ≡ underlay)
 IsChangedAt taps.Underlay ports underlay new_ports new_underlay s = (new_ports ≡ ports) × (new_underlay ≡ s)
 
 -- the source with this index was asked for what comes next
 abbrev pub FetchesAt : List TimedChange → ℕ → ℕ → ℕ → List Stream → Stream → List Stream → Stream → Result Turn StreamFault → Type 0
 FetchesAt changes index done latest ports underlay new_ports new_underlay result =
     ((index ≡ 0) × (new_ports ≡ ports) × (new_underlay ≡ underlay) × (result ≡ Ok (record { done = done; next = moment_at changes done })))
-    ⊎ ((place : Tap) × (s : Stream) × IsAt (length ports) index place × IsChangedAt place ports underlay new_ports new_underlay s × IsFetch (source_at ports underlay place) s place done latest result)
+    ⊎ ((place : Tap) × (s : Stream) × IsAt (length ports) index place
+    × IsChangedAt place ports underlay new_ports new_underlay s
+    × IsFetch (source_at ports underlay place) s place done latest result)
 
 -- the same of a source of which so many events came: when the next comes, if there is one, or its own fault
-abbrev pub FetchesFrom : List TimedChange → ℕ → ℕ → ℕ → List Stream → Stream → List Stream → Stream → Option ℕ → Result (Unit {0}) SourceFault → Type 0
+abbrev pub FetchesFrom : List TimedChange → ℕ → ℕ → ℕ → List Stream → Stream → List Stream → Stream → Option ℕ
+    → Result (Unit {0}) SourceFault → Type 0
 FetchesFrom changes index done latest ports underlay new_ports new_underlay next (Ok x) =
     FetchesAt changes index done latest ports underlay new_ports new_underlay (Ok (record { done = done; next = next }))
 FetchesFrom changes index done latest ports underlay new_ports new_underlay next (Err fault) =
-    (tap : Tap) → (index ≢ 0 → IsAt (length ports) index tap) → FetchesAt changes index done latest ports underlay new_ports new_underlay (Err (fault_of tap (done + 1) fault))
+    (tap : Tap) → (index ≢ 0 → IsAt (length ports) index tap)
+    → FetchesAt changes index done latest ports underlay new_ports new_underlay (Err (fault_of tap (done + 1) fault))
 
 -- ---- a step
 
@@ -207,14 +222,17 @@ module _ {T : Type 0} where
 module _ {T : Type 0} where
   -- behind an event its source's next record is lent, or its fault is told; nothing else was wrong with the captures
   abbrev pub Fetches : List TimedChange → List (List ℕ) → List ℕ → List Event → Event → Run → Result T StreamFault → Type 0
-  Fetches changes texts text rest e new (Ok x) = AreRead texts text new.turns new.ports new.underlay × (rest ≡ coming changes texts text new.turns)
-  Fetches changes texts text rest e new (Err (stream.Run (faults.Record place n fault))) = IsFaultyAt texts text place n fault × IsRecordBefore place n e
+  Fetches changes texts text rest e new (Ok x) = AreRead texts text new.turns new.ports new.underlay
+      × (rest ≡ coming changes texts text new.turns)
+  Fetches changes texts text rest e new (Err (stream.Run (faults.Record place n fault))) =
+      IsFaultyAt texts text place n fault × IsRecordBefore place n e
   Fetches changes texts text rest e new (Err (stream.Run fault)) = ⊥
   Fetches changes texts text rest e new (Err (stream.Read place)) = ⊤
   Fetches changes texts text rest e new (Err (stream.Write target)) = ⊤
 
 -- the captures hold these octets: the event is the first of those that were to come, and the fetch goes on behind it
-pub record ComesFirst (changes : List TimedChange) (texts : List (List ℕ)) (text : List ℕ) (old new : Run) (e : Event) (result : Result (Unit {0}) StreamFault) : Type 0 where
+pub record ComesFirst (changes : List TimedChange) (texts : List (List ℕ)) (text : List ℕ) (old new : Run) (e : Event)
+    (result : Result (Unit {0}) StreamFault) : Type 0 where
   pub rest : List Event
   pub first : coming changes texts text old.turns ≡ e ∷ rest
   pub fetched : Fetches changes texts text rest e new result
@@ -224,7 +242,8 @@ module _ {T : Type 0} where
   abbrev pub StayBut : ℕ → Run → Run → Result T StreamFault → Type 0
   StayBut index old new (Ok x) = ⊤
   StayBut index old new (Err (stream.Write target)) = (new.ports ≡ old.ports) × (new.underlay ≡ old.underlay)
-  StayBut index old new (Err (stream.Read place)) = (s : Stream) × IsAt (length old.ports) index place × IsChangedAt place old.ports old.underlay new.ports new.underlay s
+  StayBut index old new (Err (stream.Read place)) = (s : Stream) × IsAt (length old.ports) index place
+      × IsChangedAt place old.ports old.underlay new.ports new.underlay s
   StayBut index old new (Err (stream.Run fault)) =
       (place : Tap) × (s : Stream) × IsAt (length old.ports) index place × IsChangedAt place old.ports old.underlay new.ports new.underlay s
 
@@ -242,7 +261,8 @@ pub record CountsOne (index : ℕ) (old new : List Turn) : Type 0 where
   pub count : (t : Turn) → turn.done ≡ (slice_index_or old index t).done + 1
 
 -- an event came and was taken in, or left out, and the next one of its source was asked for
-pub record IsStep (segments : Segments) (changes : List TimedChange) (old new : Run) (first : First) (result : Result (Unit {0}) StreamFault) : Type 0 where
+pub record IsStep (segments : Segments) (changes : List TimedChange) (old new : Run) (first : First)
+    (result : Result (Unit {0}) StreamFault) : Type 0 where
   pub e : Event
   -- whether it is taken in
   pub takes : Bool
@@ -256,11 +276,13 @@ pub record IsStep (segments : Segments) (changes : List TimedChange) (old new : 
   pub stay : StayBut first.index old new result
   pub outputs : (start : Drains) (o : Outputs) → StandAt start old.drains o
       → StepsTo start new.drains o (with_events_among segments (changes_of changes) old.number old.state o (kept takes e)) result
-  pub order : (start : Drains) (o : Outputs) → StandAt start old.drains o → StepsInOrder (changes_of changes) start new.drains (old.number + 1) old.state o e result
+  pub order : (start : Drains) (o : Outputs) → StandAt start old.drains o
+      → StepsInOrder (changes_of changes) start new.drains (old.number + 1) old.state o e result
   pub ready : (count : ℕ) → AreReady changes count old → OnOk result (AreReady changes (count + 1) new)
   pub later : OnOk result (AreBehind e.moment new.turns)
   pub reads : ReadsWith old.ports old.underlay new.ports new.underlay result
-  pub told : (texts : List (List ℕ)) (text : List ℕ) → AreRead texts text old.turns old.ports old.underlay → ComesFirst changes texts text old new e result
+  pub told : (texts : List (List ℕ)) (text : List ℕ) → AreRead texts text old.turns old.ports old.underlay
+      → ComesFirst changes texts text old new e result
 
 -- ---- many steps
 
@@ -269,18 +291,23 @@ abbrev pub texts_behind : Segments → List TimedChange → State → Outputs �
 texts_behind segments changes s o es = with_events_among segments (changes_of changes) 0 s o es
 
 module _ {T : Type 0} where
-  -- the outputs hold the texts of what is taken in of these events, and where a write failed a part of those of one event more, and the other
+  -- the outputs hold the texts of what is taken in of these events, and where a write failed a part of those of one event
+  -- more, and the other
   -- outputs a part of them too
-  abbrev pub LeadsBehind : (List Event → List Event) → Segments → List TimedChange → State → Drains → Drains → Outputs → List Event → List Event → Result T StreamFault → Type 0
+  abbrev pub LeadsBehind : (List Event → List Event) → Segments → List TimedChange → State → Drains → Drains → Outputs
+      → List Event → List Event → Result T StreamFault → Type 0
   LeadsBehind taken segments changes s start new o es more (Err (stream.Write target)) =
-      StandBetween start new (texts_behind segments changes s o (taken es)) (texts_behind segments changes s o (taken (es ++ more))) × FailedAt target start new
+      StandBetween start new (texts_behind segments changes s o (taken es))
+      (texts_behind segments changes s o (taken (es ++ more))) × FailedAt target start new
   LeadsBehind taken segments changes s start new o es more result = StandAt start new (texts_behind segments changes s o (taken es))
 
   -- of the event of which a part was written, its texts stand in order
-  abbrev pub EndsInOrder : (List Event → List Event) → Segments → List TimedChange → State → Drains → Drains → Outputs → List Event → List Event → Result T StreamFault → Type 0
+  abbrev pub EndsInOrder : (List Event → List Event) → Segments → List TimedChange → State → Drains → Drains → Outputs
+      → List Event → List Event → Result T StreamFault → Type 0
   EndsInOrder taken segments changes s start new o es more (Err (stream.Write target)) =
       (e : Event) → more ≡ e ∷ []
-      → StandsInEvent (changes_of changes) start new (length (taken es) + 1) (state_among segments (changes_of changes) s (taken es)) (texts_behind segments changes s o (taken es)) e
+      → StandsInEvent (changes_of changes) start new (length (taken es) + 1)
+      (state_among segments (changes_of changes) s (taken es)) (texts_behind segments changes s o (taken es)) e
   EndsInOrder taken segments changes s start new o es more result = ⊤
 
   -- a run that ends for want of memory is one for want of numbers: just as many events came as can be numbered
@@ -297,14 +324,16 @@ module _ {T : Type 0} where
   -- behind the record before it; or as a read, a write or the want of memory has it
   abbrev pub EndsIn : List (List ℕ) → List ℕ → List Event → List Event → Run → Result T StreamFault → Type 0
   EndsIn texts text es rest new (Ok x) = (rest ≡ []) × AreRead texts text new.turns new.ports new.underlay
-  EndsIn texts text es rest new (Err (stream.Run (faults.Record place n fault))) = IsFaultyAt texts text place n fault × EndBefore place n es
+  EndsIn texts text es rest new (Err (stream.Run (faults.Record place n fault))) =
+      IsFaultyAt texts text place n fault × EndBefore place n es
   EndsIn texts text es rest new (Err (stream.Run faults.OutOfMemory)) = ⊤
   EndsIn texts text es rest new (Err (stream.Run fault)) = ⊥
   EndsIn texts text es rest new (Err (stream.Read place)) = ⊤
   EndsIn texts text es rest new (Err (stream.Write target)) = ⊤
 
 -- the captures hold these octets: the events are the first of those that were to come
-pub record AreFirst (changes : List TimedChange) (texts : List (List ℕ)) (text : List ℕ) (old new : Run) (es more : List Event) (result : Result (Unit {0}) StreamFault) : Type 0 where
+pub record AreFirst (changes : List TimedChange) (texts : List (List ℕ)) (text : List ℕ) (old new : Run) (es more : List Event)
+    (result : Result (Unit {0}) StreamFault) : Type 0 where
   pub rest : List Event
   pub first : coming changes texts text old.turns ≡ es ++ (more ++ rest)
   pub in_front : StopInFront texts text (es ++ more)
@@ -312,16 +341,20 @@ pub record AreFirst (changes : List TimedChange) (texts : List (List ℕ)) (text
   pub ends : EndsIn texts text es rest new result
 
 -- some events came, one after another, and were taken in or left out
-pub record IsRunOn (taken : List Event → List Event) (segments : Segments) (changes : List TimedChange) (old new : Run) (result : Result (Unit {0}) StreamFault) : Type 0 where
+pub record IsRunOn (taken : List Event → List Event) (segments : Segments) (changes : List TimedChange) (old new : Run)
+    (result : Result (Unit {0}) StreamFault) : Type 0 where
   pub es : List Event
   pub more : List Event
   pub part : IsPart more result
   pub numbered : EndsNumbered es result
   pub rising : IsRising old.state.moment (es ++ more)
-  pub outputs : (start : Drains) (o : Outputs) → StandAt start old.drains o → LeadsBehind taken segments changes old.state start new.drains o es more result
-  pub order : (start : Drains) (o : Outputs) → StandAt start old.drains o → EndsInOrder taken segments changes old.state start new.drains o es more result
+  pub outputs : (start : Drains) (o : Outputs) → StandAt start old.drains o
+      → LeadsBehind taken segments changes old.state start new.drains o es more result
+  pub order : (start : Drains) (o : Outputs) → StandAt start old.drains o
+      → EndsInOrder taken segments changes old.state start new.drains o es more result
   pub reads : ReadsWith old.ports old.underlay new.ports new.underlay result
   -- and none is left
   pub over : OnOk result ((t : Turn) (k : ℕ) → k < length new.turns → (slice_index_or new.turns k t).next ≡ None)
   pub ready : OnOk result (AreReady changes (length es) new)
-  pub told : (texts : List (List ℕ)) (text : List ℕ) → AreRead texts text old.turns old.ports old.underlay → AreFirst changes texts text old new es more result
+  pub told : (texts : List (List ℕ)) (text : List ℕ) → AreRead texts text old.turns old.ports old.underlay
+      → AreFirst changes texts text old new es more result

@@ -29,4 +29,5 @@ FindsFirst turns count (Some first) = IsFirst turns count first
 
 -- as it is found one source after another: until an event is found it stands at a moment that no event has
 abbrev pub IsFirstSoFar : List Turn → ℕ → First → Type 0
-IsFirstSoFar turns count first = ((first.moment ≡ 2 ^ 64 - 1) × FindsFirst turns count None) ⊎ ((first.moment ≤ last_moment) × IsFirst turns count first)
+IsFirstSoFar turns count first = ((first.moment ≡ 2 ^ 64 - 1) × FindsFirst turns count None)
+    ⊎ ((first.moment ≤ last_moment) × IsFirst turns count first)

@@ -28,7 +28,8 @@ fn begin_port<W: Output>(outputs: &mut Outputs<W>, index: usize) -> Result<(), T
     requires there { index < length outputs.old.ports }
     requires few { index < 16 }
     ensures begun { (start : Drains) (o : Texts) → StandAt start outputs.old o
-        → Lead start outputs.new o (record o { ports = slice_set o.ports index (slice_index_or o.ports index [] ++ written_header) }) result }
+        → Lead start outputs.new o (record o
+        { ports = slice_set o.ports index (slice_index_or o.ports index [] ++ written_header) }) result }
     ensures many { length outputs.new.ports ≡ length outputs.old.ports }
 {
     if let Err(_) = outputs.ports[index].begin() {
@@ -39,7 +40,8 @@ fn begin_port<W: Output>(outputs: &mut Outputs<W>, index: usize) -> Result<(), T
 
 /// Writes the header of the underlay's capture.
 fn begin_underlay<W: Output>(outputs: &mut Outputs<W>) -> Result<(), Target>
-    ensures { (start : Drains) (o : Texts) → StandAt start outputs.old o → Lead start outputs.new o (record o { underlay = o.underlay ++ written_header }) result }
+    ensures { (start : Drains) (o : Texts) → StandAt start outputs.old o
+        → Lead start outputs.new o (record o { underlay = o.underlay ++ written_header }) result }
 {
     if let Err(_) = outputs.underlay.begin() {
         return Err(Target::Underlay);
@@ -105,12 +107,16 @@ pub fn fetch_all<R: Input, W: Output>(
 ) -> Result<(), StreamFault>
     requires few { length captures.old.ports.items ≤ 16 }
     requires size { length turns.old ≡ length captures.old.ports.items + 2 }
-    requires open { (place : ATap) (index : ℕ) → IsAt (length captures.old.ports.items) index place → IsOpen (source_at captures.old.ports.items captures.old.underlay place).standing }
+    requires open { (place : ATap) (index : ℕ) → IsAt (length captures.old.ports.items) index place
+        → IsOpen (source_at captures.old.ports.items captures.old.underlay place).standing }
     requires out { captures.old.may_wait ≡ true → AllOut outputs.now }
     ensures may_wait { captures.new.may_wait ≡ captures.old.may_wait }
-    ensures ready { (state : State) (d : Drains) → state.moment ≡ 0 → AreReady changes.now 0 (run_at captures.old.ports.items captures.old.underlay turns.old state 0 d)
+    ensures ready { (state : State) (d : Drains) → state.moment ≡ 0
+        → AreReady changes.now 0 (run_at captures.old.ports.items captures.old.underlay turns.old state 0 d)
         → OnOk result (AreReady changes.now 0 (run_at captures.new.ports.items captures.new.underlay turns.new state 0 d)) }
-    ensures told { (texts : List (List ℕ)) (text : List ℕ) → AreAtFirst texts text captures.old.ports.items captures.old.underlay → BeginsIn texts text turns.new captures.new.ports.items captures.new.underlay result }
+    ensures told { (texts : List (List ℕ)) (text : List ℕ)
+        → AreAtFirst texts text captures.old.ports.items captures.old.underlay
+        → BeginsIn texts text turns.new captures.new.ports.items captures.new.underlay result }
     ensures many { length captures.new.ports.items ≡ length captures.old.ports.items }
     ensures reads { ReadsWith captures.old.ports.items captures.old.underlay captures.new.ports.items captures.new.underlay result }
     ensures only_reads { OnlyReads result }

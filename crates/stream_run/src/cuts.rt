@@ -78,7 +78,8 @@ pub fn put_cuts_among<R: Input, W: Output>(
     requires few { length captures.now.ports.items ≤ 16 }
     requires turns { length turns.now ≡ length captures.now.ports.items + 2 }
     ensures { (start : Drains) (o : Texts) → StandAt start outputs.old o
-        → Lead start outputs.new o (with_cuts o (cuts_among segments.now (cuts_at captures.now.ports.items captures.now.underlay turns.now))) result }
+        → Lead start outputs.new o (with_cuts o
+        (cuts_among segments.now (cuts_at captures.now.ports.items captures.now.underlay turns.now))) result }
 {
     if !segments.has(None) {
         return Ok(());

@@ -1,10 +1,10 @@
 //! The next record of a source.
-ghost use Rattle.std.specs.Prelude.{◌≡◌, ◌≢◌, ◌≤◌, ◌+◌, ℕ, false, length, not};
-ghost use Rattle.pcap_stream.specs.Source.{holds_next};
+ghost use Rattle.std.specs.Prelude.{◌≡◌, ◌≢◌, ◌≤◌, ◌+◌, ⊤, ℕ, false, length, not};
+ghost use Rattle.pcap_stream.specs.Source.{MatchRead, holds_next};
 ghost use Rattle.timeline.specs.declared.source.Tap.{Tap as ATap};
 ghost use Rattle.stream_run.specs.Fetched.{IsFetch, IsOpen, fetched};
 ghost use Rattle.stream_run.specs.Steps.{FetchesFrom, IsAt, moment_at, source_at};
-ghost use Rattle.stream_run.specs.Waiting.{IsOutBefore};
+ghost use Rattle.stream_run.specs.Waiting.{IsOutBefore, TakesRead};
 
 use crate::captures::Captures;
 use crate::outputs::Outputs;
@@ -20,7 +20,8 @@ pub fn fetch<R: Input>(
     next: &mut Option<u64>,
 ) -> Result<(), SourceFault>
     requires { IsOpen source.old.standing }
-    ensures { (tap : ATap) (done : ℕ) → IsFetch source.old source.new tap done latest (fetched tap done next.new result) }
+    ensures fetched { (tap : ATap) (done : ℕ) → IsFetch source.old source.new tap done latest (fetched tap done next.new result) }
+    ensures lacked { MatchRead result (holds_next source.old ≡ false) ⊤ }
 {
     if let Err(fault) = source.fill() {
         return Err(fault);
@@ -45,7 +46,7 @@ pub fn moment_of(changes: &[TimedChange], index: u64) -> Option<u64>
 
 /// Asks the source with this index, of which so many events came, for what comes next, and sets when, if there is more: the
 /// changes, the ports, the underlay. The changes never fail. Where that takes a read which may wait, the outputs hold nothing
-/// back.
+/// back. Where a read failed, it took one.
 pub fn fetch_at<R: Input, W: Output>(
     changes: &[TimedChange],
     captures: &mut Captures<R>,
@@ -57,9 +58,12 @@ pub fn fetch_at<R: Input, W: Output>(
 ) -> Result<(), SourceFault>
     requires index { index ≤ length captures.old.ports.items + 1 }
     requires few { length captures.old.ports.items ≤ 16 }
-    requires open { (place : ATap) → IsAt (length captures.old.ports.items) index place → IsOpen (source_at captures.old.ports.items captures.old.underlay place).standing }
+    requires open { (place : ATap) → IsAt (length captures.old.ports.items) index place
+        → IsOpen (source_at captures.old.ports.items captures.old.underlay place).standing }
     requires out { IsOutBefore captures.old.may_wait captures.old.ports.items captures.old.underlay index _outputs.now }
-    ensures fetched { FetchesFrom changes.now index done latest captures.old.ports.items captures.old.underlay captures.new.ports.items captures.new.underlay next.new result }
+    ensures fetched { FetchesFrom changes.now index done latest captures.old.ports.items captures.old.underlay
+        captures.new.ports.items captures.new.underlay next.new result }
+    ensures lacked { MatchRead result (TakesRead captures.old.ports.items captures.old.underlay index) ⊤ }
     ensures many { length captures.new.ports.items ≡ length captures.old.ports.items }
     ensures may_wait { captures.new.may_wait ≡ captures.old.may_wait }
 {
@@ -79,7 +83,8 @@ pub fn fetch_at<R: Input, W: Output>(
 pub fn takes_read<R: Input>(captures: &Captures<R>, index: usize) -> bool
     requires index { index ≤ length captures.now.ports.items + 1 }
     ensures change { index ≡ 0 → result ≡ false }
-    ensures capture { (place : ATap) → IsAt (length captures.now.ports.items) index place → result ≡ not (holds_next (source_at captures.now.ports.items captures.now.underlay place)) }
+    ensures capture { (place : ATap) → IsAt (length captures.now.ports.items) index place
+        → result ≡ not (holds_next (source_at captures.now.ports.items captures.now.underlay place)) }
 {
     if index == 0 {
         return false;

@@ -10,10 +10,10 @@
 //! whenever a run waits, everything that was decided stands outside, and a pipe that runs full costs this once for each 64 KiB.
 //! Where events may be left out, all goes on behind each that is taken in, since behind one that is left out a write that fails
 //! could not be told as its own.
-ghost use Rattle.std.specs.Prelude.{◌≡◌, ◌≢◌, ◌≤◌, ◌<◌, ◌+◌, ◌^◌, ℕ, [], false, IsSome, OnOk, Some, length, slice_index_or};
+ghost use Rattle.std.specs.Prelude.{◌≡◌, ◌≢◌, ◌≤◌, ◌<◌, ◌+◌, ◌^◌, ℕ, [], false, not, true, IsSome, OnOk, Some, length, slice_index_or};
 ghost use Rattle.pcap_io.specs.Record.{last_moment};
 ghost use Rattle.pcap_stream.specs.Sink.{Drain};
-ghost use Rattle.pcap_stream.specs.Source.{lent};
+ghost use Rattle.pcap_stream.specs.Source.{holds_next, lent};
 ghost use Rattle.timeline.specs.declared.source.Tap.{Tap as ATap};
 ghost use Rattle.endpoint_core.specs.Kept.{state_of};
 ghost use Rattle.capture_run.specs.Outputs.{Outputs as Texts};
@@ -106,8 +106,29 @@ pub fn hand_on_all<W: Output>(outputs: &mut Outputs<W>) -> Result<(), Target>
     hand_on_lines(outputs)
 }
 
+/// Whether a read may wait behind an event of the source with this index: where its next record takes one, or where events may
+/// be left out, since behind one that is nothing is handed on. Of regular files none does.
+#[inline(always)]
+fn may_wait_behind<R: Input>(captures: &Captures<R>, index: usize, takes_all: bool) -> bool
+    requires index { index ≤ length captures.now.ports.items + 1 }
+    ensures files { captures.now.may_wait ≡ false → result ≡ false }
+    ensures some { captures.now.may_wait ≡ true → takes_all ≡ false → result ≡ true }
+    ensures change { takes_all ≡ true → index ≡ 0 → result ≡ false }
+    ensures capture { captures.now.may_wait ≡ true → takes_all ≡ true → (place : ATap)
+        → IsAt (length captures.now.ports.items) index place
+        → result ≡ not (holds_next (source_at captures.now.ports.items captures.now.underlay place)) }
+{
+    if !captures.may_wait {
+        return false;
+    }
+    if !takes_all {
+        return true;
+    }
+    takes_read(captures, index)
+}
+
 /// Whether all that is held back goes on behind an event of the source with this index: where the next line might find no room
-/// beside those that are held back, or where a read may wait, as far as the next record takes one or events may be left out.
+/// beside those that are held back, or where a read may wait.
 #[inline(always)]
 fn has_to_hand_on<R: Input, W: Output>(
     captures: &Captures<R>,
@@ -122,13 +143,7 @@ fn has_to_hand_on<R: Input, W: Output>(
     if outputs.decisions.must_hand_on(MOST_OF_A_LINE) {
         return true;
     }
-    if !captures.may_wait {
-        return false;
-    }
-    if !takes_all {
-        return true;
-    }
-    takes_read(captures, index)
+    may_wait_behind(captures, index, takes_all)
 }
 
 /// Takes the next event as [`take_at`] does, and hands on what is held back where it has to go on.
@@ -149,8 +164,11 @@ pub fn take_and_hand_on<R: Input, W: Output, T: Watch>(
     requires few { length captures.now.ports.items ≤ 16 }
     requires known { length captures.now.ports.items ≡ length (state_of taker.old.endpoint).bridges.settings.ports.ports }
     requires change { next.index ≡ 0 → moment_at part.now.changes.now next.done ≡ Some next.moment }
-    requires lent { (place : ATap) → IsAt (length captures.now.ports.items) next.index place → IsSome (lent (source_at captures.now.ports.items captures.now.underlay place).standing) }
-    ensures taken { IsWatchedTake part.now.segments.now T.sees part.now.changes.now captures.now.ports.items captures.now.underlay next.index next.done next.moment taker.old.desk.number (state_of taker.old.endpoint) (state_of taker.new.endpoint)
+    requires lent { (place : ATap) → IsAt (length captures.now.ports.items) next.index place
+        → IsSome (lent (source_at captures.now.ports.items captures.now.underlay place).standing) }
+    ensures taken { IsWatchedTake part.now.segments.now T.sees part.now.changes.now captures.now.ports.items
+        captures.now.underlay next.index next.done next.moment taker.old.desk.number (state_of taker.old.endpoint)
+        (state_of taker.new.endpoint)
         outputs.old outputs.new watch.old watch.new result }
     ensures number { taker.new.desk.number ≡ taker.old.desk.number }
     ensures before { OnOk result (IsOutBefore captures.now.may_wait captures.now.ports.items captures.now.underlay next.index outputs.new) }

@@ -67,7 +67,8 @@ fn next_event<R: Input>(captures: &Captures<R>, next: Next) -> Event<'_>
     requires count { next.done + 1 < 2 ^ 64 }
     requires index { next.index ≤ length captures.now.ports.items + 1 }
     requires few { length captures.now.ports.items ≤ 16 }
-    requires lent { (place : ATap) → IsAt (length captures.now.ports.items) next.index place → IsSome (lent (source_at captures.now.ports.items captures.now.underlay place).standing) }
+    requires lent { (place : ATap) → IsAt (length captures.now.ports.items) next.index place
+        → IsSome (lent (source_at captures.now.ports.items captures.now.underlay place).standing) }
     ensures { IsNextEvent captures.now.ports.items captures.now.underlay next.index next.done next.moment result }
 {
     if next.index == 0 {
@@ -102,11 +103,13 @@ pub fn let_in<R: Input, W: Output, S: Sieve, T: Watch>(
     requires few { length captures.now.ports.items ≤ 16 }
     requires known { length captures.now.ports.items ≡ length (state_of taker.old.endpoint).bridges.settings.ports.ports }
     requires change { next.index ≡ 0 → moment_at part.now.changes.now next.done ≡ Some next.moment }
-    requires lent { (place : ATap) → IsAt (length captures.now.ports.items) next.index place → IsSome (lent (source_at captures.now.ports.items captures.now.underlay place).standing) }
+    requires lent { (place : ATap) → IsAt (length captures.now.ports.items) next.index place
+        → IsSome (lent (source_at captures.now.ports.items captures.now.underlay place).standing) }
     requires out { IsOutOrAll (S.all sieve.old) captures.now.may_wait outputs.old }
     ensures before { OnOk result (IsOutBefore captures.now.may_wait captures.now.ports.items captures.now.underlay next.index outputs.new) }
     ensures behind { OnOk result (IsOutOrAll (S.all sieve.new) captures.now.may_wait outputs.new) }
-    ensures sieved { IsSieved part.now.segments.now S.taken S.goes T.sees part.now.changes.now captures.now.ports.items captures.now.underlay next.index next.done next.moment taker.old.desk.number taker.new.desk.number
+    ensures sieved { IsSieved part.now.segments.now S.taken S.goes T.sees part.now.changes.now captures.now.ports.items
+        captures.now.underlay next.index next.done next.moment taker.old.desk.number taker.new.desk.number
         (state_of taker.old.endpoint) (state_of taker.new.endpoint) outputs.old outputs.new sieve.old sieve.new watch.old watch.new result }
 {
     let event = next_event(captures, next);

@@ -19,7 +19,9 @@
 //! number of events, behind a failed write with at most a part of what comes next, of an event its line last. A part answers
 //! the same of what is told of its segments, and a run with a sieve of what is taken in, where faults and reads are those of all
 //! events. Whoever looks on is shown the events in order, each as the endpoint finds it. Where reads may wait, no output holds
-//! anything back when a record is asked for that wasn't read ahead ([`fetch_at`]).
+//! anything back when a record is asked for that wasn't read ahead ([`fetch_at`]), nor where a run stops at a failed read: a run
+//! learns nothing of a read before it answers, so that is what stands while one waits. What a whole run leaves is the same
+//! whatever was held back on its way ([`laws`]).
 //!
 //! Why it is so: settings, changes and the number of captures are looked at before anything is read or written; then all
 //! captures are opened, all headers written, and only then records fetched. So a capture that can't be opened leaves no header
@@ -34,6 +36,7 @@ mod cuts;
 mod fault;
 mod fetch;
 mod hand_on;
+pub mod laws;
 mod letting;
 mod opening;
 mod order;

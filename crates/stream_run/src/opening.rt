@@ -33,9 +33,11 @@ fn open_at<R: Input>(captures: &mut Captures<R>, index: usize) -> Result<(), Str
     requires first { 1 ≤ index }
     requires index { index ≤ length captures.old.ports.items + 1 }
     requires few { length captures.old.ports.items ≤ 16 }
-    requires new { (place : ATap) → IsAt (length captures.old.ports.items) index place → IsUnread (source_at captures.old.ports.items captures.old.underlay place) }
+    requires new { (place : ATap) → IsAt (length captures.old.ports.items) index place
+        → IsUnread (source_at captures.old.ports.items captures.old.underlay place) }
     ensures opened { OpensAt index captures.old.ports.items captures.old.underlay captures.new.ports.items captures.new.underlay result }
     ensures many { length captures.new.ports.items ≡ length captures.old.ports.items }
+    ensures may_wait { captures.new.may_wait ≡ captures.old.may_wait }
 {
     if index <= captures.ports.len() {
         return open_capture(&mut captures.ports[index - 1], Tap::Port(index as u8));
@@ -51,6 +53,7 @@ pub fn open_all<R: Input>(captures: &mut Captures<R>) -> Result<(), StreamFault>
     ensures opened { OpensInTurn captures.old.ports.items captures.old.underlay captures.new.ports.items captures.new.underlay result }
     ensures many { length captures.new.ports.items ≡ length captures.old.ports.items }
     ensures reads { ReadsWith captures.old.ports.items captures.old.underlay captures.new.ports.items captures.new.underlay result }
+    ensures may_wait { captures.new.may_wait ≡ captures.old.may_wait }
 {
     for index in 1..captures.ports.len() + 2 {
         if let Err(fault) = open_at(captures, index) {

@@ -29,7 +29,8 @@ pub fn find_first(turns: &[Turn]) -> Option<First>
 #[inline(always)]
 fn earlier(first: First, index: usize, next: Upcoming) -> First
     requires { IsMoment next }
-    ensures { (turns : List Stands) → IsFirstSoFar turns index first → ((t : Stands) → (slice_index_or turns index t).next ≡ next) → IsFirstSoFar turns (index + 1) result }
+    ensures { (turns : List Stands) → IsFirstSoFar turns index first
+        → ((t : Stands) → (slice_index_or turns index t).next ≡ next) → IsFirstSoFar turns (index + 1) result }
 {
     if next.is_before(first.moment) {
         First {

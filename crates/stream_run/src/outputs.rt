@@ -4,7 +4,8 @@ use std::marker::Model;
 
 /// Where a run writes: the captures of the ports, that of port 1 first, the capture of the underlay, and the decision lines.
 ///
-/// Contracts see what was written to each and what it holds back, how often it failed, and whether its sink has given up. The output of the lines is no sink:
+/// Contracts see what was written to each and what it holds back, how often it failed, and whether its sink has given up. The
+/// output of the lines is no sink:
 /// it gives up at no time.
 #[derive(Drop)]
 pub struct Outputs<W: Output> {

@@ -1,5 +1,6 @@
 //! What comes of one event, put to the outputs of a run.
-ghost use Rattle.std.specs.Prelude.{◌≡◌, ◌≤◌, ◌<◌, ◌+◌, ◌++◌, Option, Some, None, [], Bool, IsSome, IsTrue, OnOk, length, map, slice_index_or, unwrap_or};
+ghost use Rattle.std.specs.Prelude.{◌≡◌, ◌≤◌, ◌<◌, ◌+◌, ◌++◌, Option, Some, None, [], Bool};
+ghost use Rattle.std.specs.Prelude.{IsSome, IsTrue, OnOk, length, map, slice_index_or, unwrap_or};
 ghost use Rattle.std.specs.List.{list_all};
 ghost use Rattle.pcap_io.specs.Record.{last_moment, longest};
 ghost use Rattle.pcap_io.specs.Written.{whole_frame, written_record};
@@ -89,7 +90,10 @@ fn put_out<W: Output>(
     requires size { length head.now + length addresses.now + length body.now ≤ longest }
     ensures { (start : Drains) (o : Texts) → StandAt start outputs.old o
         → Lead start outputs.new o
-        (record o { underlay = o.underlay ++ written_record (whole_frame moment (head.now ++ (addresses.now ++ ([] ++ body.now)))) }) result }
+        (record o {
+          underlay = o.underlay
+              ++ written_record (whole_frame moment (head.now ++ (addresses.now ++ ([] ++ body.now))));
+        }) result }
 {
     if let Err(_) = outputs.underlay.put(moment, head, addresses, &[], body) {
         return Err(Target::Underlay);
@@ -112,9 +116,12 @@ fn put_local<W: Output>(
     requires room { length line.old + 77 ≤ 4096 }
     ensures sent { let S = (state_of leaving.now.endpoint.now).bridges.settings in
         (start : Drains) (o : Texts) → StandAt start outputs.old o
-        → Lead start outputs.new o (with_sent leaving.now.moment o (sent_at S leaving.now.came.now.vid leaving.now.came.now.frame (Local port))) result }
+        → Lead start outputs.new o (with_sent leaving.now.moment o
+        (sent_at S leaving.now.came.now.vid leaving.now.came.now.frame (Local port))) result }
     ensures line { let S = (state_of leaving.now.endpoint.now).bridges.settings in
-        (two : Bool) → OnOk result (line.new ≡ line.old ++ (gap is_first ++ outcome_text two (sent_at S leaving.now.came.now.vid leaving.now.came.now.frame (Local port)))) }
+        (two : Bool) → OnOk result (line.new
+        ≡ line.old ++ (gap is_first ++ outcome_text two
+        (sent_at S leaving.now.came.now.vid leaving.now.came.now.frame (Local port)))) }
     ensures len { OnOk result (length line.new ≤ length line.old + 77) }
 {
     let tag = leaving.endpoint.tag_at(leaving.came, port);
@@ -156,9 +163,12 @@ fn put_remote<W: Output>(
     requires room { length line.old + 77 ≤ 4096 }
     ensures sent { let S = (state_of leaving.now.endpoint.now).bridges.settings in
         (start : Drains) (o : Texts) → StandAt start outputs.old o
-        → Lead start outputs.new o (with_sent leaving.now.moment o (sent_at S leaving.now.came.now.vid leaving.now.came.now.frame (Remote kind addr))) result }
+        → Lead start outputs.new o (with_sent leaving.now.moment o
+        (sent_at S leaving.now.came.now.vid leaving.now.came.now.frame (Remote kind addr))) result }
     ensures line { let S = (state_of leaving.now.endpoint.now).bridges.settings in
-        OnOk result (line.new ≡ line.old ++ (gap is_first ++ outcome_text (has_two_tunnels S.overlay leaving.now.came.now.vid) (sent_at S leaving.now.came.now.vid leaving.now.came.now.frame (Remote kind addr)))) }
+        OnOk result (line.new ≡ line.old ++ (gap is_first
+        ++ outcome_text (has_two_tunnels S.overlay leaving.now.came.now.vid)
+        (sent_at S leaving.now.came.now.vid leaving.now.came.now.frame (Remote kind addr)))) }
     ensures len { OnOk result (length line.new ≤ length line.old + 77) }
 {
     let count = match leaving.endpoint.put_head(leaving.came, kind, addr, head) {
@@ -200,9 +210,12 @@ fn put_place<W: Output>(
     requires room { length line.old + 77 ≤ 4096 }
     ensures sent { let S = (state_of leaving.now.endpoint.now).bridges.settings in
         (start : Drains) (o : Texts) → StandAt start outputs.old o
-        → Lead start outputs.new o (with_sent leaving.now.moment o (sent_at S leaving.now.came.now.vid leaving.now.came.now.frame place.now)) result }
+        → Lead start outputs.new o (with_sent leaving.now.moment o
+        (sent_at S leaving.now.came.now.vid leaving.now.came.now.frame place.now)) result }
     ensures line { let S = (state_of leaving.now.endpoint.now).bridges.settings in
-        OnOk result (line.new ≡ line.old ++ (gap is_first ++ outcome_text (has_two_tunnels S.overlay leaving.now.came.now.vid) (sent_at S leaving.now.came.now.vid leaving.now.came.now.frame place.now))) }
+        OnOk result (line.new ≡ line.old ++ (gap is_first
+        ++ outcome_text (has_two_tunnels S.overlay leaving.now.came.now.vid)
+        (sent_at S leaving.now.came.now.vid leaving.now.came.now.frame place.now))) }
     ensures len { OnOk result (length line.new ≤ length line.old + 77) }
 {
     match place {
@@ -223,18 +236,22 @@ fn put_places<W: Output>(
 ) -> Result<(), Target>
     requires moment { leaving.now.moment ≤ last_moment }
     requires there { IsSome (segment_at (state_of leaving.now.endpoint.now).bridges.settings leaving.now.came.now.vid) }
-    requires leave { IsTrue (list_all (can_leave (state_of leaving.now.endpoint.now).bridges.settings leaving.now.came.now.vid) places.now) }
+    requires leave { IsTrue (list_all (can_leave (state_of leaving.now.endpoint.now).bridges.settings leaving.now.came.now.vid)
+        places.now) }
     requires short { length leaving.now.came.now.frame.body ≤ 65549 }
     requires few { length places.now ≤ 32 }
     requires room { length line.old ≤ 74 }
     ensures sent { let S = (state_of leaving.now.endpoint.now).bridges.settings in
         (start : Drains) (o : Texts) → StandAt start outputs.old o
-        → Lead start outputs.new o (with_all_sent leaving.now.moment o (map (sent_at S leaving.now.came.now.vid leaving.now.came.now.frame) places.now)) result }
+        → Lead start outputs.new o (with_all_sent leaving.now.moment o
+        (map (sent_at S leaving.now.came.now.vid leaving.now.came.now.frame) places.now)) result }
     ensures order { let S = (state_of leaving.now.endpoint.now).bridges.settings in
         (start : Drains) (o : Texts) → StandAt start outputs.old o
-        → SendsInOrder start outputs.new leaving.now.moment o (map (sent_at S leaving.now.came.now.vid leaving.now.came.now.frame) places.now) result }
+        → SendsInOrder start outputs.new leaving.now.moment o
+        (map (sent_at S leaving.now.came.now.vid leaving.now.came.now.frame) places.now) result }
     ensures line { let S = (state_of leaving.now.endpoint.now).bridges.settings in
-        LineLeads line.old line.new (outcomes_text (has_two_tunnels S.overlay leaving.now.came.now.vid) (map (sent_at S leaving.now.came.now.vid leaving.now.came.now.frame) places.now)) result }
+        LineLeads line.old line.new (outcomes_text (has_two_tunnels S.overlay leaving.now.came.now.vid)
+        (map (sent_at S leaving.now.came.now.vid leaving.now.came.now.frame) places.now)) result }
 {
     let mut is_first = true;
     for place in places {
@@ -272,7 +289,9 @@ fn put_forwarded<W: Output>(
     ensures outputs { let S = (state_of endpoint.now).bridges.settings in
         (start : Drains) (o : Texts) → StandAt start outputs.old o
         → Lead start outputs.new o
-        (with_input desk.old.number None o event.now (Decided (Rattle.endpoint_core.specs.Step.by_verdict S came.now (Rattle.std.specs.Prelude.Ok desk.old.places.items)))) result }
+        (with_input desk.old.number None o event.now
+        (Decided (Rattle.endpoint_core.specs.Step.by_verdict S came.now
+        (Rattle.std.specs.Prelude.Ok desk.old.places.items)))) result }
     ensures order { let S = (state_of endpoint.now).bridges.settings in
         (start : Drains) (o : Texts) → StandAt start outputs.old o
         → PutsInOrder start outputs.new desk.old.number None o event.now
@@ -313,7 +332,8 @@ pub fn put_course<W: Output>(
     requires leave { CanLeave (state_of endpoint.now).bridges.settings course.now desk.old.places.items }
     ensures outputs { (start : Drains) (o : Texts) → StandAt start outputs.old o
         → Lead start outputs.new o
-        (with_input desk.old.number None o event.now (Decided (decision_of (state_of endpoint.now).bridges.settings course.now desk.old.places.items))) result }
+        (with_input desk.old.number None o event.now
+        (Decided (decision_of (state_of endpoint.now).bridges.settings course.now desk.old.places.items))) result }
     ensures order { (start : Drains) (o : Texts) → StandAt start outputs.old o
         → PutsInOrder start outputs.new desk.old.number None o event.now
         (Decided (decision_of (state_of endpoint.now).bridges.settings course.now desk.old.places.items)) result }

@@ -13,7 +13,9 @@ ghost use Rattle.stream_run.specs.Over.{IsRunOver, IsRunOverAmong, IsRunOverSiev
 ghost use Rattle.stream_run.specs.Reached.{IsReachedOver, IsReachedOverAmong, IsReachedOverSieved};
 ghost use Rattle.stream_run.specs.Read.{ReadsWith};
 ghost use Rattle.stream_run.specs.Steps.{AreTimely};
-ghost use Rattle.stream_run.specs.Watched.{GoesOver, IsShown, IsShownAmong, IsShownSieved, IsWatchedOver, IsWatchedOverAmong, IsWatchedOverSieved};
+ghost use Rattle.stream_run.specs.Waiting.{AllOut, IsOutAtRead};
+ghost use Rattle.stream_run.specs.Watched.{GoesOver, IsShown, IsShownAmong, IsShownSieved};
+ghost use Rattle.stream_run.specs.Watched.{IsWatchedOver, IsWatchedOverAmong, IsWatchedOverSieved};
 
 use crate::begin::{begin_all, fetch_all, first_turns};
 use crate::captures::Captures;
@@ -43,7 +45,8 @@ use std::alloc::Global;
 /// the headers written, and the events taken one after another; the lines of cut captures come last. Where it stops at a
 /// fault, what was written stands: the texts of the events so far, the same events for all outputs, and where a write
 /// failed at most a part of those of one event more. `OutOfMemory` comes before anything is read or written, where memory is
-/// refused, or behind event 2^64 - 3, where no number is left.
+/// refused, or behind event 2^64 - 3, where no number is left. Where reads may wait, all that was written is out before each
+/// that does: so nothing is held back where one fails.
 ///
 /// Whoever looks on is shown each event just before the endpoint takes it and told the answer just behind, and once all
 /// lines are written it is shown the endpoint. Where the run stops at a fault, that was so of the events so far, and where a
@@ -67,12 +70,16 @@ pub fn run_streams<R: Input, W: Output, T: Watch>(
     ensures whole { (texts : List (AVec ℕ AGlobal)) (text : List ℕ) → Tells captures.old.ports.items captures.old.underlay texts text
         → IsWholeRun (settings_in settings.now) (changes_in changes.now) texts text outputs.old outputs.new result }
     ensures reached { (texts : List (AVec ℕ AGlobal)) (text : List ℕ) → Tells captures.old.ports.items captures.old.underlay texts text
-        → IsReachedOver (settings_in settings.now) (changes_in changes.now) texts text outputs.old outputs.new captures.new.ports.items captures.new.underlay result }
-    ensures shown { IsShown T.sees T.ends (settings_in settings.now) (changes_in changes.now) captures.old.ports.items outputs.old outputs.new watch.old watch.new result }
+        → IsReachedOver (settings_in settings.now) (changes_in changes.now) texts text outputs.old outputs.new
+        captures.new.ports.items captures.new.underlay result }
+    ensures shown { IsShown T.sees T.ends (settings_in settings.now) (changes_in changes.now) captures.old.ports.items
+        outputs.old outputs.new watch.old watch.new result }
     ensures watched { (texts : List (AVec ℕ AGlobal)) (text : List ℕ) → Tells captures.old.ports.items captures.old.underlay texts text
-        → IsWatchedOver T.sees T.ends (settings_in settings.now) (changes_in changes.now) texts text outputs.old outputs.new watch.old watch.new result }
+        → IsWatchedOver T.sees T.ends (settings_in settings.now) (changes_in changes.now) texts text outputs.old outputs.new
+        watch.old watch.new result }
     ensures many { length captures.new.ports.items ≡ length captures.old.ports.items }
     ensures reads { ReadsWith captures.old.ports.items captures.old.underlay captures.new.ports.items captures.new.underlay result }
+    ensures waits { AllOut outputs.old → IsOutAtRead captures.old.may_wait outputs.new result }
     ensures writes { WritesWith outputs.old outputs.new result }
 {
     run_segments(
@@ -110,12 +117,16 @@ pub fn run_segments<R: Input, W: Output, T: Watch>(
     ensures over { (texts : List (AVec ℕ AGlobal)) (text : List ℕ) → Tells captures.old.ports.items captures.old.underlay texts text
         → IsRunOverAmong segments.now (settings_in settings.now) (changes_in changes.now) texts text outputs.old outputs.new result }
     ensures reached { (texts : List (AVec ℕ AGlobal)) (text : List ℕ) → Tells captures.old.ports.items captures.old.underlay texts text
-        → IsReachedOverAmong segments.now (settings_in settings.now) (changes_in changes.now) texts text outputs.old outputs.new captures.new.ports.items captures.new.underlay result }
-    ensures shown { IsShownAmong segments.now T.sees T.ends (settings_in settings.now) (changes_in changes.now) captures.old.ports.items outputs.old outputs.new watch.old watch.new result }
+        → IsReachedOverAmong segments.now (settings_in settings.now) (changes_in changes.now) texts text outputs.old outputs.new
+        captures.new.ports.items captures.new.underlay result }
+    ensures shown { IsShownAmong segments.now T.sees T.ends (settings_in settings.now) (changes_in changes.now)
+        captures.old.ports.items outputs.old outputs.new watch.old watch.new result }
     ensures watched { (texts : List (AVec ℕ AGlobal)) (text : List ℕ) → Tells captures.old.ports.items captures.old.underlay texts text
-        → IsWatchedOverAmong segments.now T.sees T.ends (settings_in settings.now) (changes_in changes.now) texts text outputs.old outputs.new watch.old watch.new result }
+        → IsWatchedOverAmong segments.now T.sees T.ends (settings_in settings.now) (changes_in changes.now) texts text
+        outputs.old outputs.new watch.old watch.new result }
     ensures many { length captures.new.ports.items ≡ length captures.old.ports.items }
     ensures reads { ReadsWith captures.old.ports.items captures.old.underlay captures.new.ports.items captures.new.underlay result }
+    ensures waits { AllOut outputs.old → IsOutAtRead captures.old.may_wait outputs.new result }
     ensures writes { WritesWith outputs.old outputs.new result }
 {
     let read = match settings_of(alloc, settings) {
@@ -163,14 +174,19 @@ pub fn run_read<R: Input, W: Output, T: Watch>(
         (ends captures.old.ports.items captures.old.underlay outputs.old)
         (ends captures.new.ports.items captures.new.underlay outputs.new) result }
     ensures over { (texts : List (AVec ℕ AGlobal)) (text : List ℕ) → Tells captures.old.ports.items captures.old.underlay texts text
-        → IsRunOverAmong segments.now (settings_in read.entry.settings_text.now) (changes_in read.entry.changes_text.now) texts text outputs.old outputs.new result }
+        → IsRunOverAmong segments.now (settings_in read.entry.settings_text.now) (changes_in read.entry.changes_text.now) texts
+        text outputs.old outputs.new result }
     ensures reached { (texts : List (AVec ℕ AGlobal)) (text : List ℕ) → Tells captures.old.ports.items captures.old.underlay texts text
-        → IsReachedOverAmong segments.now (settings_in read.entry.settings_text.now) (changes_in read.entry.changes_text.now) texts text outputs.old outputs.new captures.new.ports.items captures.new.underlay result }
-    ensures shown { IsShownAmong segments.now T.sees T.ends (settings_in read.entry.settings_text.now) (changes_in read.entry.changes_text.now) captures.old.ports.items outputs.old outputs.new watch.old watch.new result }
+        → IsReachedOverAmong segments.now (settings_in read.entry.settings_text.now) (changes_in read.entry.changes_text.now)
+        texts text outputs.old outputs.new captures.new.ports.items captures.new.underlay result }
+    ensures shown { IsShownAmong segments.now T.sees T.ends (settings_in read.entry.settings_text.now)
+        (changes_in read.entry.changes_text.now) captures.old.ports.items outputs.old outputs.new watch.old watch.new result }
     ensures watched { (texts : List (AVec ℕ AGlobal)) (text : List ℕ) → Tells captures.old.ports.items captures.old.underlay texts text
-        → IsWatchedOverAmong segments.now T.sees T.ends (settings_in read.entry.settings_text.now) (changes_in read.entry.changes_text.now) texts text outputs.old outputs.new watch.old watch.new result }
+        → IsWatchedOverAmong segments.now T.sees T.ends (settings_in read.entry.settings_text.now)
+        (changes_in read.entry.changes_text.now) texts text outputs.old outputs.new watch.old watch.new result }
     ensures many { length captures.new.ports.items ≡ length captures.old.ports.items }
     ensures reads { ReadsWith captures.old.ports.items captures.old.underlay captures.new.ports.items captures.new.underlay result }
+    ensures waits { AllOut outputs.old → IsOutAtRead captures.old.may_wait outputs.new result }
     ensures writes { WritesWith outputs.old outputs.new result }
 {
     run_sieved(
@@ -203,20 +219,27 @@ pub fn run_sieved<R: Input, W: Output, S: Sieve, T: Watch>(
     requires sinks { length outputs.old.ports ≡ length captures.old.ports.items }
     requires new_ports { All IsUnread captures.old.ports.items }
     requires new_underlay { IsUnread captures.old.underlay }
-    ensures run { AnswersSieved (S.taken sieve.old) segments.now (settings_in read.entry.settings_text.now) (changes_in read.entry.changes_text.now)
+    ensures run { AnswersSieved (S.taken sieve.old) segments.now (settings_in read.entry.settings_text.now)
+        (changes_in read.entry.changes_text.now)
         (ends captures.old.ports.items captures.old.underlay outputs.old)
         (ends captures.new.ports.items captures.new.underlay outputs.new) result }
     ensures over { (texts : List (AVec ℕ AGlobal)) (text : List ℕ) → Tells captures.old.ports.items captures.old.underlay texts text
-        → IsRunOverSieved (S.taken sieve.old) segments.now (settings_in read.entry.settings_text.now) (changes_in read.entry.changes_text.now) texts text outputs.old outputs.new result }
+        → IsRunOverSieved (S.taken sieve.old) segments.now (settings_in read.entry.settings_text.now)
+        (changes_in read.entry.changes_text.now) texts text outputs.old outputs.new result }
     ensures reached { (texts : List (AVec ℕ AGlobal)) (text : List ℕ) → Tells captures.old.ports.items captures.old.underlay texts text
-        → IsReachedOverSieved (S.taken sieve.old) segments.now (settings_in read.entry.settings_text.now) (changes_in read.entry.changes_text.now) texts text outputs.old outputs.new captures.new.ports.items captures.new.underlay result }
-    ensures shown { IsShownSieved (S.taken sieve.old) segments.now T.sees T.ends (settings_in read.entry.settings_text.now) (changes_in read.entry.changes_text.now) captures.old.ports.items outputs.old outputs.new watch.old watch.new result }
+        → IsReachedOverSieved (S.taken sieve.old) segments.now (settings_in read.entry.settings_text.now)
+        (changes_in read.entry.changes_text.now) texts text outputs.old outputs.new captures.new.ports.items
+        captures.new.underlay result }
+    ensures shown { IsShownSieved (S.taken sieve.old) segments.now T.sees T.ends (settings_in read.entry.settings_text.now)
+        (changes_in read.entry.changes_text.now) captures.old.ports.items outputs.old outputs.new watch.old watch.new result }
     ensures watched { (texts : List (AVec ℕ AGlobal)) (text : List ℕ) → Tells captures.old.ports.items captures.old.underlay texts text
-        → IsWatchedOverSieved (S.taken sieve.old) segments.now T.sees T.ends (settings_in read.entry.settings_text.now) (changes_in read.entry.changes_text.now) texts text outputs.old outputs.new watch.old watch.new result }
+        → IsWatchedOverSieved (S.taken sieve.old) segments.now T.sees T.ends (settings_in read.entry.settings_text.now)
+        (changes_in read.entry.changes_text.now) texts text outputs.old outputs.new watch.old watch.new result }
     ensures sieved { (texts : List (AVec ℕ AGlobal)) (text : List ℕ) → Tells captures.old.ports.items captures.old.underlay texts text
         → GoesOver S.goes (changes_in read.entry.changes_text.now) texts text sieve.old sieve.new result }
     ensures many { length captures.new.ports.items ≡ length captures.old.ports.items }
     ensures reads { ReadsWith captures.old.ports.items captures.old.underlay captures.new.ports.items captures.new.underlay result }
+    ensures waits { AllOut outputs.old → IsOutAtRead captures.old.may_wait outputs.new result }
     ensures writes { WritesWith outputs.old outputs.new result }
 {
     let ReadTexts {
@@ -247,9 +270,12 @@ fn run_with<R: Input, W: Output, S: Sieve, T: Watch>(
     requires timely { AreTimely part.now.changes.now }
     requires new_ports { All IsUnread captures.old.ports.items }
     requires new_underlay { IsUnread captures.old.underlay }
-    ensures done { IsDone part.now.segments.now S.taken S.goes T.sees T.ends settings part.now.changes.now captures.old.ports.items captures.old.underlay captures.new.ports.items captures.new.underlay outputs.old outputs.new sieve.old sieve.new watch.old watch.new result }
+    ensures done { IsDone part.now.segments.now S.taken S.goes T.sees T.ends settings part.now.changes.now
+        captures.old.ports.items captures.old.underlay captures.new.ports.items captures.new.underlay outputs.old outputs.new
+        sieve.old sieve.new watch.old watch.new result }
     ensures many { length captures.new.ports.items ≡ length captures.old.ports.items }
     ensures reads { ReadsWith captures.old.ports.items captures.old.underlay captures.new.ports.items captures.new.underlay result }
+    ensures waits { AllOut outputs.old → IsOutAtRead captures.old.may_wait outputs.new result }
 {
     let Ok(mut turns) = first_turns(alloc, part.changes, captures.ports.len() + 1) else {
         return Err(StreamFault::Run(RunFault::OutOfMemory));
@@ -291,9 +317,12 @@ fn run_on<R: Input, W: Output, S: Sieve, T: Watch>(
     requires new_ports { All IsUnread captures.old.ports.items }
     requires new_underlay { IsUnread captures.old.underlay }
     ensures done { (settings : Settings) → IsOpenedWith settings captures.old.ports.items (state_of taker.old.endpoint)
-        → IsDone part.now.segments.now S.taken S.goes T.sees T.ends settings part.now.changes.now captures.old.ports.items captures.old.underlay captures.new.ports.items captures.new.underlay outputs.old outputs.new sieve.old sieve.new watch.old watch.new result }
+        → IsDone part.now.segments.now S.taken S.goes T.sees T.ends settings part.now.changes.now captures.old.ports.items
+        captures.old.underlay captures.new.ports.items captures.new.underlay outputs.old outputs.new sieve.old sieve.new
+        watch.old watch.new result }
     ensures many { length captures.new.ports.items ≡ length captures.old.ports.items }
     ensures reads { ReadsWith captures.old.ports.items captures.old.underlay captures.new.ports.items captures.new.underlay result }
+    ensures waits { AllOut outputs.old → IsOutAtRead captures.old.may_wait outputs.new result }
 {
     if let Err(fault) = open_all(captures) {
         return Err(fault);

@@ -33,7 +33,8 @@ pub trait Sieve {
 
     /// Whether it takes in the next event: a change, or a record by its number in its capture.
     fn takes(&mut self, event: &Event) -> bool
-        ensures taken { (es : List AnEvent) → taken self.old (event.now ∷ es) ≡ (if result then event.now ∷ taken self.new es else taken self.new es) }
+        ensures taken { (es : List AnEvent) → taken self.old (event.now ∷ es)
+            ≡ (if result then event.now ∷ taken self.new es else taken self.new es) }
         ensures goes { goes self.old event.now self.new }
         ensures all { all self.old ≡ true → result ≡ true }
         ensures still { all self.new ≡ all self.old };

@@ -6,7 +6,7 @@ ghost use Rattle.std.specs.Prelude.{◌≡◌, ◌≤◌, ◌<◌, ◌+◌, ◌-
 ghost use Rattle.endpoint_core.specs.Kept.{state_of};
 ghost use Rattle.stream_run.specs.Steps.{AreReady, run_at};
 ghost use Rattle.stream_run.specs.Turns.{IsFirst};
-ghost use Rattle.stream_run.specs.Waiting.{IsOutOrAll};
+ghost use Rattle.stream_run.specs.Waiting.{IsOutAtHalt, IsOutAtRead, IsOutOrAll};
 ghost use Rattle.stream_run.specs.Watched.{IsPut, IsSievedRun};
 
 use crate::captures::Captures;
@@ -35,12 +35,17 @@ fn put_first<R: Input, W: Output, S: Sieve, T: Watch>(
 ) -> Result<(), Halt>
     requires few { taker.old.desk.number + 2 < 2 ^ 64 }
     requires first { IsFirst turns.old (length turns.old) coming.first }
-    requires ready { AreReady coming.part.now.changes.now (2 ^ 64 - 3) (run_at captures.old.ports.items captures.old.underlay turns.old (state_of taker.old.endpoint) taker.old.desk.number outputs.old) }
+    requires ready { AreReady coming.part.now.changes.now (2 ^ 64 - 3)
+        (run_at captures.old.ports.items captures.old.underlay turns.old (state_of taker.old.endpoint) taker.old.desk.number
+        outputs.old) }
     requires out { IsOutOrAll (S.all sieve.old) captures.old.may_wait outputs.old }
     ensures out { OnOk result (IsOutOrAll (S.all sieve.new) captures.new.may_wait outputs.new) }
+    ensures waits { IsOutAtHalt captures.old.may_wait outputs.new result }
+    ensures may_wait { captures.new.may_wait ≡ captures.old.may_wait }
     ensures step { IsPut coming.entry.part.now.segments.now S.taken S.goes T.sees coming.entry.part.now.changes.now
         (run_at captures.old.ports.items captures.old.underlay turns.old (state_of taker.old.endpoint) taker.old.desk.number outputs.old)
-        (run_at captures.new.ports.items captures.new.underlay turns.new (state_of taker.new.endpoint) taker.new.desk.number outputs.new) coming.entry.first sieve.old sieve.new watch.old watch.new result }
+        (run_at captures.new.ports.items captures.new.underlay turns.new (state_of taker.new.endpoint) taker.new.desk.number
+        outputs.new) coming.entry.first sieve.old sieve.new watch.old watch.new result }
     ensures many { length captures.new.ports.items ≡ length captures.old.ports.items }
     ensures turns { OnErr result (turns.new ≡ turns.old) }
 {
@@ -88,10 +93,13 @@ pub fn put_events<R: Input, W: Output, S: Sieve, T: Watch>(
 ) -> Result<(), StreamFault>
     requires none { taker.old.desk.number ≡ 0 }
     requires out { IsOutOrAll (S.all sieve.old) captures.old.may_wait outputs.old }
-    requires ready { AreReady part.now.changes.now 0 (run_at captures.old.ports.items captures.old.underlay turns.old (state_of taker.old.endpoint) 0 outputs.old) }
+    requires ready { AreReady part.now.changes.now 0
+        (run_at captures.old.ports.items captures.old.underlay turns.old (state_of taker.old.endpoint) 0 outputs.old) }
     ensures run { IsSievedRun part.now.segments.now S.taken S.goes T.sees part.now.changes.now
         (run_at captures.old.ports.items captures.old.underlay turns.old (state_of taker.old.endpoint) 0 outputs.old)
-        (run_at captures.new.ports.items captures.new.underlay turns.new (state_of taker.new.endpoint) taker.new.desk.number outputs.new) sieve.old sieve.new watch.old watch.new result }
+        (run_at captures.new.ports.items captures.new.underlay turns.new (state_of taker.new.endpoint) taker.new.desk.number
+        outputs.new) sieve.old sieve.new watch.old watch.new result }
+    ensures waits { IsOutAtRead captures.old.may_wait outputs.new result }
     ensures many { length captures.new.ports.items ≡ length captures.old.ports.items }
 {
     // at an event a nanosecond the numbers last for 584 years

@@ -46,9 +46,11 @@ pub fn take_change<W: Output, T: Watch>(
     ensures state { state_of endpoint.new ≡ after (state_of endpoint.old) (change_at event.now.moment change) }
     ensures outputs { (start : Drains) (o : Texts) → StandAt start outputs.old o
         → Lead start outputs.new o
-        (with_input desk.old.number (named change) o event.now (answer (state_of endpoint.old) (change_at event.now.moment change))) result }
+        (with_input desk.old.number (named change) o event.now
+        (answer (state_of endpoint.old) (change_at event.now.moment change))) result }
     ensures number { desk.new.number ≡ desk.old.number }
-    ensures seen { T.sees watch.old (answered (due (state_of endpoint.old) desk.old.number event.now) (answer (state_of endpoint.old) (change_at event.now.moment change))) watch.new }
+    ensures seen { T.sees watch.old (answered (due (state_of endpoint.old) desk.old.number event.now)
+        (answer (state_of endpoint.old) (change_at event.now.moment change))) watch.new }
 {
     watch.see(endpoint, desk.number.value(), event);
     let asked = change;
@@ -78,7 +80,8 @@ fn take_came<W: Output, T: Watch>(
     ensures outputs { (start : Drains) (o : Texts)
         → StandAt start outputs.old o
         → Lead start outputs.new o
-        (with_input desk.old.number None o event.now (Decided (decided event.now.moment (aged event.now.moment (state_of endpoint.old).bridges) course.old))) result }
+        (with_input desk.old.number None o event.now
+        (Decided (decided event.now.moment (aged event.now.moment (state_of endpoint.old).bridges) course.old))) result }
     ensures order { (start : Drains) (o : Texts)
         → StandAt start outputs.old o
         → PutsInOrder start outputs.new desk.old.number None o event.now
@@ -111,18 +114,22 @@ pub fn take_frame<R: Input, W: Output, T: Watch>(
     requires low { 1 ≤ port }
     requires high { port ≤ length (state_of taker.old.endpoint).bridges.settings.ports.ports }
     requires lent { IsSome (lent source.now.standing) }
-    ensures state { (r : ARecord) → lent source.now.standing ≡ Some r → state_of taker.new.endpoint ≡ after_among segments.now (state_of taker.old.endpoint) (frame_at next.moment port r.original r.octets) }
+    ensures state { (r : ARecord) → lent source.now.standing ≡ Some r → state_of taker.new.endpoint
+        ≡ after_among segments.now (state_of taker.old.endpoint) (frame_at next.moment port r.original r.octets) }
     ensures outputs { (r : ARecord) (start : Drains) (o : Texts) → lent source.now.standing ≡ Some r
         → StandAt start outputs.old o
         → Lead start outputs.new o
-        (with_input_among segments.now taker.old.desk.number None (state_of taker.old.endpoint) o (record_event (Port port) next.done next.moment r) (frame_at next.moment port r.original r.octets)) result }
+        (with_input_among segments.now taker.old.desk.number None (state_of taker.old.endpoint) o
+        (record_event (Port port) next.done next.moment r) (frame_at next.moment port r.original r.octets)) result }
     ensures order { (r : ARecord) (start : Drains) (o : Texts) → lent source.now.standing ≡ Some r
         → StandAt start outputs.old o
         → PutsInOrder start outputs.new taker.old.desk.number None o
-        (record_event (Port port) next.done next.moment r) (answer (state_of taker.old.endpoint) (frame_at next.moment port r.original r.octets)) result }
+        (record_event (Port port) next.done next.moment r)
+        (answer (state_of taker.old.endpoint) (frame_at next.moment port r.original r.octets)) result }
     ensures number { taker.new.desk.number ≡ taker.old.desk.number }
     ensures seen { (r : ARecord) → lent source.now.standing ≡ Some r
-        → T.sees watch.old (seen_among segments.now (state_of taker.old.endpoint) taker.old.desk.number (record_event (Port port) next.done next.moment r) (frame_at next.moment port r.original r.octets)) watch.new }
+        → T.sees watch.old (seen_among segments.now (state_of taker.old.endpoint) taker.old.desk.number
+        (record_event (Port port) next.done next.moment r) (frame_at next.moment port r.original r.octets)) watch.new }
 {
     let record = source.head().unwrap();
     let mut came = nothing_came();
@@ -169,18 +176,22 @@ pub fn take_packet<R: Input, W: Output, T: Watch>(
     requires moment { next.moment ≤ last_moment }
     requires count { next.done + 1 < 2 ^ 64 }
     requires lent { IsSome (lent source.now.standing) }
-    ensures state { (r : ARecord) → lent source.now.standing ≡ Some r → state_of taker.new.endpoint ≡ after_among segments.now (state_of taker.old.endpoint) (packet_at next.moment r.original r.octets) }
+    ensures state { (r : ARecord) → lent source.now.standing ≡ Some r → state_of taker.new.endpoint
+        ≡ after_among segments.now (state_of taker.old.endpoint) (packet_at next.moment r.original r.octets) }
     ensures outputs { (r : ARecord) (start : Drains) (o : Texts) → lent source.now.standing ≡ Some r
         → StandAt start outputs.old o
         → Lead start outputs.new o
-        (with_input_among segments.now taker.old.desk.number None (state_of taker.old.endpoint) o (record_event Underlay next.done next.moment r) (packet_at next.moment r.original r.octets)) result }
+        (with_input_among segments.now taker.old.desk.number None (state_of taker.old.endpoint) o
+        (record_event Underlay next.done next.moment r) (packet_at next.moment r.original r.octets)) result }
     ensures order { (r : ARecord) (start : Drains) (o : Texts) → lent source.now.standing ≡ Some r
         → StandAt start outputs.old o
         → PutsInOrder start outputs.new taker.old.desk.number None o
-        (record_event Underlay next.done next.moment r) (answer (state_of taker.old.endpoint) (packet_at next.moment r.original r.octets)) result }
+        (record_event Underlay next.done next.moment r)
+        (answer (state_of taker.old.endpoint) (packet_at next.moment r.original r.octets)) result }
     ensures number { taker.new.desk.number ≡ taker.old.desk.number }
     ensures seen { (r : ARecord) → lent source.now.standing ≡ Some r
-        → T.sees watch.old (seen_among segments.now (state_of taker.old.endpoint) taker.old.desk.number (record_event Underlay next.done next.moment r) (packet_at next.moment r.original r.octets)) watch.new }
+        → T.sees watch.old (seen_among segments.now (state_of taker.old.endpoint) taker.old.desk.number
+        (record_event Underlay next.done next.moment r) (packet_at next.moment r.original r.octets)) watch.new }
 {
     let record = source.head().unwrap();
     let mut brought = nothing_came();
@@ -230,8 +241,11 @@ pub fn take_at<R: Input, W: Output, T: Watch>(
     requires few { length captures.now.ports.items ≤ 16 }
     requires known { length captures.now.ports.items ≡ length (state_of taker.old.endpoint).bridges.settings.ports.ports }
     requires change { next.index ≡ 0 → moment_at part.now.changes.now next.done ≡ Some next.moment }
-    requires lent { (place : ATap) → IsAt (length captures.now.ports.items) next.index place → IsSome (lent (source_at captures.now.ports.items captures.now.underlay place).standing) }
-    ensures taken { IsWatchedTake part.now.segments.now T.sees part.now.changes.now captures.now.ports.items captures.now.underlay next.index next.done next.moment taker.old.desk.number (state_of taker.old.endpoint) (state_of taker.new.endpoint)
+    requires lent { (place : ATap) → IsAt (length captures.now.ports.items) next.index place
+        → IsSome (lent (source_at captures.now.ports.items captures.now.underlay place).standing) }
+    ensures taken { IsWatchedTake part.now.segments.now T.sees part.now.changes.now captures.now.ports.items
+        captures.now.underlay next.index next.done next.moment taker.old.desk.number (state_of taker.old.endpoint)
+        (state_of taker.new.endpoint)
         outputs.old outputs.new watch.old watch.new result }
     ensures number { taker.new.desk.number ≡ taker.old.desk.number }
 {
@@ -271,7 +285,9 @@ fn take_change_at<W: Output, T: Watch>(
     requires time { (state_of taker.old.endpoint).moment ≤ next.moment }
     requires there { next.done < length part.now.changes.now }
     requires count { next.done + 1 < 2 ^ 64 }
-    ensures taken { (ports : List Stream) (underlay : Stream) → IsWatchedTake part.now.segments.now T.sees part.now.changes.now ports underlay 0 next.done next.moment taker.old.desk.number (state_of taker.old.endpoint) (state_of taker.new.endpoint)
+    ensures taken { (ports : List Stream) (underlay : Stream)
+        → IsWatchedTake part.now.segments.now T.sees part.now.changes.now ports underlay 0 next.done next.moment
+        taker.old.desk.number (state_of taker.old.endpoint) (state_of taker.new.endpoint)
         outputs.old outputs.new watch.old watch.new result }
     ensures number { taker.new.desk.number ≡ taker.old.desk.number }
 {

@@ -1,6 +1,7 @@
 -- The live entries of segments as lines of text: `segment 10 02:00:00:00:00:07 p2 seen 7000000000 age 3.000000000`,
 -- and `segment 10 02:00:00:00:00:09 192.0.2.2 fixed`. It states no standard.
-use Rattle.std.specs.Prelude.{ℕ, max, ◌-◌, ◌/◌, ◌%◌, if◌then◌else◌, Bool, List, [], ◌∷◌, ◌++◌, length, replicate, codes, decimal, Option, Some, None}
+use Rattle.std.specs.Prelude.{ℕ, max, ◌-◌, ◌/◌, ◌%◌, if◌then◌else◌, Bool, List, [], ◌∷◌}
+use Rattle.std.specs.Prelude.{◌++◌, length, replicate, codes, decimal, Option, Some, None}
 use Rattle.std.specs.FinMap.{entries}
 use Rattle.std.specs.List.{flat_map, range_with_len}
 use Rattle.header_octets.specs.Octets.{octet}

@@ -42,7 +42,8 @@ fn put_asked(
     at: Option<u64>,
     vid: Vid,
 ) -> Result<(), AllocError>
-    ensures { OnOk result (string_bytes text.new ≡ string_bytes text.old ++ lines_among segments.now (shown_at at (state_of endpoint.now)) vid) }
+    ensures { OnOk result (string_bytes text.new ≡ string_bytes text.old
+        ++ lines_among segments.now (shown_at at (state_of endpoint.now)) vid) }
 {
     if !segments.has(Some(vid)) {
         return Ok(());

@@ -1,7 +1,8 @@
 //! The ranks of talks.
 ghost use Rattle.std.specs.Prelude.{◌≡◌, ◌<◌, ◌+◌, ◌*◌, ◌^◌};
 ghost use Rattle.header_octets.specs.Octets.{field};
-ghost use Rattle.talk_rows.specs.Talk.{address_number, exit_kind, exit_number, family_number, pair_number, place_kind, place_number, places_number, tunnel_kind};
+ghost use Rattle.talk_rows.specs.Talk.{address_number, exit_kind, exit_number, family_number};
+ghost use Rattle.talk_rows.specs.Talk.{pair_number, place_kind, place_number, places_number, tunnel_kind};
 
 use crate::talk::{Exit, Talk};
 use byteorder::{BigEndian, ByteOrder};

@@ -21,12 +21,14 @@ exit_text Drop = codes "drop"
 -- who sent to whom
 unfoldable pub talk_text : Talk → List ℕ
 talk_text t =
-    decimal t.vid ++ codes " " ++ mac_text t.source ++ codes " " ++ place_text t.from ++ codes " > " ++ mac_text t.destination ++ codes " " ++ exit_text t.to
+    decimal t.vid ++ codes " " ++ mac_text t.source ++ codes " " ++ place_text t.from ++ codes " > " ++ mac_text t.destination
+    ++ codes " " ++ exit_text t.to
 
 -- how much, from when to when
 abbrev pub passed_text : Passed → List ℕ
 passed_text p =
-    codes " " ++ decimal p.frames ++ codes " " ++ decimal p.octets ++ codes " first " ++ decimal p.first ++ codes " last " ++ decimal p.last ++ 10 ∷ []
+    codes " " ++ decimal p.frames ++ codes " " ++ decimal p.octets ++ codes " first " ++ decimal p.first ++ codes " last "
+    ++ decimal p.last ++ 10 ∷ []
 
 -- of one row
 unfoldable pub talk_line : Row Talk Passed → List ℕ

@@ -35,12 +35,21 @@ use Rattle.talkers.specs.declared.coming.Coming.{Coming}
 
 -- a frame that comes to a segment at a moment
 abbrev pub coming_by : ℕ → Result Came Refused → Option Coming
-coming_by moment (Ok x) = Some (record { vid = x.vid; source = x.frame.src; from = x.from; destination = x.frame.dst; octets = size x.frame; moment = moment })
+coming_by moment (Ok x) = Some (record {
+  vid = x.vid;
+  source = x.frame.src;
+  from = x.from;
+  destination = x.frame.dst;
+  octets = size x.frame;
+  moment = moment;
+})
 coming_by moment (Err refused) = None
 
 -- octets at a place; nothing at a port that isn't there
 abbrev pub coming_at : Settings → ℕ → Tap → Captured → Option Coming
-coming_at S moment (Port port) captured = if is_port (length S.ports.ports) port then coming_by moment (came_at S.ports port captured.original captured.octets) else None
+coming_at S moment (Port port) captured =
+    if is_port (length S.ports.ports) port then coming_by moment (came_at S.ports port captured.original captured.octets)
+    else None
 coming_at S moment Underlay captured = coming_by moment (came_by S.overlay captured.original captured.octets)
 
 -- the frame that what happens brings to a segment, where it brings one

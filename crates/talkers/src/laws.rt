@@ -11,6 +11,7 @@ ghost use Rattle.talkers.specs.Talkers.{Talkers};
 
 /// Behind a run of any events, or of a part of it, the table shows what those events and their answers come to.
 pub fn runs()
-    ensures { (segments : Segments) (S : Settings) (cs : List Change) (es : List Event) (begun ended : Talkers) → IsCounted segments S cs es begun ended
+    ensures { (segments : Segments) (S : Settings) (cs : List Change) (es : List Event) (begun ended : Talkers)
+        → IsCounted segments S cs es begun ended
         → ended.rows ≡ talks_of (sights segments cs (opened S) 0 es) }
 {}

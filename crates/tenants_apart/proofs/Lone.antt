@@ -1,5 +1,5 @@
 -- A segment alone wants no room where it wants none among others.
-use Rattle.std.proofs.Common.{◌≡◌, ◌∙◌, refl, sym, ap, ℕ, ◌+◌, ◌≤◌, ◌<◌, arith, ◌==◌, Bool, true, false, cond, not, nat_lt, ◌||◌, ◌&&◌, List, [], ◌∷◌, ◌++◌, Option, Some, None}
+use Rattle.std.proofs.Common.{◌≡◌, ◌∙◌, refl, sym, ap, subst, ℕ, ◌+◌, ◌≤◌, ◌<◌, arith, ◌==◌, Bool, true, false, cond, not, nat_lt, ◌||◌, ◌&&◌, List, [], ◌∷◌, ◌++◌, Option, Some, None}
 use Rattle.std.specs.Prelude.{is_none, is_some}
 use Rattle.std.specs.List.{AllByRecursion}
 use Rattle.std.specs.Option.{option_map, option_map_or}
@@ -123,9 +123,18 @@ module _ (vid : ℕ) (S T : Settings) (h : part_of vid S ≡ part_of vid T) (lon
     segment-same : (v : ℕ) → (vid == v) ≡ true → segment_at S v ≡ segment_at T v
     segment-same v about = ap whole_of (part-named vid v S T h about)
 
+    entries-same : S.overlay.underlay.limits.entries ≡ T.overlay.underlay.limits.entries
+    entries-same = ap (λ (p : Part). p.underlay.limits.entries) h
+
     comes-calm : (new : NewSegment) → (vid == new.vid) ≡ true → wants_room (refused S (AddSegment new)) ≡ false → wants_room (refused T (AddSegment new)) ≡ false
-    comes-calm new about calm = by (not (is_limit new.limit && is_ageing new.ageing && are_vnis new.tunnels)) calm
+    comes-calm new about calm = subst (λ (e : ℕ). wants_room (first (row e ∷ rest)) ≡ false) entries-same (by (row S.overlay.underlay.limits.entries).1 calm)
       where
+        row : ℕ → ChangeFault × Bool
+        row e = (OutOfRange, not (is_limit e new.limit && is_ageing new.ageing && are_vnis new.tunnels))
+
+        rest : List (ChangeFault × Bool)
+        rest = (SegmentThere, is_taken T new) ∷ (SegmentsFull, not (nat_lt (segment_count (tables_asked T)) T.overlay.underlay.limits.segments)) ∷ (PoolFull, is_too_much T new.limit) ∷ []
+
         by : (b : Bool)
             → wants_room (first ((OutOfRange, b) ∷ (SegmentThere, is_taken S new) ∷ (SegmentsFull, not (nat_lt (segment_count (tables_asked S)) S.overlay.underlay.limits.segments)) ∷ (PoolFull, is_too_much S new.limit) ∷ [])) ≡ false
             → wants_room (first ((OutOfRange, b) ∷ (SegmentThere, is_taken T new) ∷ (SegmentsFull, not (nat_lt (segment_count (tables_asked T)) T.overlay.underlay.limits.segments)) ∷ (PoolFull, is_too_much T new.limit) ∷ [])) ≡ false
@@ -141,13 +150,15 @@ module _ (vid : ℕ) (S T : Settings) (h : part_of vid S ≡ part_of vid T) (lon
             λ i. wants_room (first ((SegmentThere, there i || not (free i)) ∷ (SegmentsFull, full i) ∷ (PoolFull, much i) ∷ []))
 
     abbrev asked : Settings → ℕ → Option SegmentSettings → Option ChangeFault
-    asked R limit o = in_segment o (λ s. first ((OutOfRange, not (is_limit limit)) ∷ (PoolFull, nat_lt (R.pool + s.limit) (sum_of_limits (tables_asked R) + limit)) ∷ []))
+    asked R limit o = in_segment o (λ s. first ((OutOfRange, not (is_limit R.overlay.underlay.limits.entries limit)) ∷ (PoolFull, nat_lt (R.pool + s.limit) (sum_of_limits (tables_asked R) + limit)) ∷ []))
 
     limited-calm : (limit : ℕ) (o p : Option SegmentSettings) → o ≡ p → wants_room (asked S limit o) ≡ false → wants_room (asked T limit p) ≡ false
     limited-calm limit None None same calm = refl
     limited-calm limit None (Some s) same calm = absurd (none-some s same)
     limited-calm limit (Some s) None same calm = absurd (none-some s (sym same))
-    limited-calm limit (Some s) (Some r) same calm = by (not (is_limit limit)) calm
+    limited-calm limit (Some s) (Some r) same calm =
+        subst (λ (e : ℕ). wants_room (first ((OutOfRange, not (is_limit e limit)) ∷ (PoolFull, nat_lt (T.pool + r.limit) (sum_of_limits (tables_asked T) + limit)) ∷ [])) ≡ false) entries-same
+        (by (not (is_limit S.overlay.underlay.limits.entries limit)) calm)
       where
         limits : s.limit ≡ r.limit
         limits = ap (λ (x : SegmentSettings). x.limit) (same_Some s r same)

@@ -15,7 +15,7 @@ use Rattle.endpoint_state.specs.Effect.{effect}
 use Rattle.endpoint_core.specs.Event.{Input, FrameAt, Packet, Asks, Event}
 use Rattle.endpoint_core.specs.Run.{settings_after_input}
 use Rattle.endpoint_state.specs.Change.{is_about, in_segment, is_limit, is_ageing, are_vnis, is_taken, is_too_much, refused}
-use Rattle.tenants_apart.specs.Own.{part_of, names_or_concerns, own_events, takes_room, asks_room, room_reply, room_replies, is_want, wants_room}
+use Rattle.tenants_apart.specs.Own.{Part, part_of, names_or_concerns, own_events, takes_room, asks_room, room_reply, room_replies, is_want, wants_room}
 use Rattle.tenants_apart.proofs.Changing.{changed-own, changed-other}
 use Rattle.tenants_apart.proofs.Running.{same-head, same-tail, never-empty, room-none}
 use Rattle.tenants_apart.proofs.Stepping.{AreRoomAlike}
@@ -44,24 +44,28 @@ first-same row rows others all both calm quiet = by row.1 calm quiet
 
 -- ---- the two changes
 
-comes-same : (S T : Settings) (new : NewSegment) → wants_room (refused S (AddSegment new)) ≡ false → wants_room (refused T (AddSegment new)) ≡ false → refused S (AddSegment new) ≡ refused T (AddSegment new)
-comes-same S T new calm quiet =
-    first-same (OutOfRange, not (is_limit new.limit && is_ageing new.ageing && are_vnis new.tunnels))
+comes-same : (S T : Settings) → S.overlay.underlay.limits.entries ≡ T.overlay.underlay.limits.entries → (new : NewSegment) → wants_room (refused S (AddSegment new)) ≡ false → wants_room (refused T (AddSegment new)) ≡ false → refused S (AddSegment new) ≡ refused T (AddSegment new)
+comes-same S T entries new calm quiet =
+    let row : ℕ → ChangeFault × Bool = λ e. (OutOfRange, not (is_limit e new.limit && is_ageing new.ageing && are_vnis new.tunnels)) in
+    let others : List (ChangeFault × Bool) = (SegmentThere, is_taken T new) ∷ (SegmentsFull, not (nat_lt (segment_count (tables_asked T)) T.overlay.underlay.limits.segments)) ∷ (PoolFull, is_too_much T new.limit) ∷ [] in
+    first-same (row S.overlay.underlay.limits.entries)
     ((SegmentThere, is_taken S new) ∷ (SegmentsFull, not (nat_lt (segment_count (tables_asked S)) S.overlay.underlay.limits.segments)) ∷ (PoolFull, is_too_much S new.limit) ∷ [])
-    ((SegmentThere, is_taken T new) ∷ (SegmentsFull, not (nat_lt (segment_count (tables_asked T)) T.overlay.underlay.limits.segments)) ∷ (PoolFull, is_too_much T new.limit) ∷ [])
-    (refl, (refl, (refl, tt))) (refl, (refl, (refl, tt))) calm quiet
+    others (refl, (refl, (refl, tt))) (refl, (refl, (refl, tt))) calm (ap (λ (e : ℕ). wants_room (first (row e ∷ others))) entries ∙ quiet)
+    ∙ ap (λ (e : ℕ). first (row e ∷ others)) entries
 
-limited-same : (S T : Settings) (limit : ℕ) (o p : Option SegmentSettings) → o ≡ p
-    → (let asked : Settings → Option SegmentSettings → Option ChangeFault = λ R q. in_segment q (λ s. first ((OutOfRange, not (is_limit limit)) ∷ (PoolFull, nat_lt (R.pool + s.limit) (sum_of_limits (tables_asked R) + limit)) ∷ [])) in
+limited-same : (S T : Settings) → S.overlay.underlay.limits.entries ≡ T.overlay.underlay.limits.entries → (limit : ℕ) (o p : Option SegmentSettings) → o ≡ p
+    → (let asked : Settings → Option SegmentSettings → Option ChangeFault = λ R q. in_segment q (λ s. first ((OutOfRange, not (is_limit R.overlay.underlay.limits.entries limit)) ∷ (PoolFull, nat_lt (R.pool + s.limit) (sum_of_limits (tables_asked R) + limit)) ∷ [])) in
     wants_room (asked S o) ≡ false → wants_room (asked T p) ≡ false → asked S o ≡ asked T p)
-limited-same S T limit None None same calm quiet = refl
-limited-same S T limit None (Some s) same calm quiet = absurd (none-some s same)
-limited-same S T limit (Some s) None same calm quiet = absurd (none-some s (sym same))
-limited-same S T limit (Some s) (Some r) same calm quiet =
-    first-same (OutOfRange, not (is_limit limit))
+limited-same S T entries limit None None same calm quiet = refl
+limited-same S T entries limit None (Some s) same calm quiet = absurd (none-some s same)
+limited-same S T entries limit (Some s) None same calm quiet = absurd (none-some s (sym same))
+limited-same S T entries limit (Some s) (Some r) same calm quiet =
+    let row : ℕ → ChangeFault × Bool = λ e. (OutOfRange, not (is_limit e limit)) in
+    let others : List (ChangeFault × Bool) = (PoolFull, nat_lt (T.pool + r.limit) (sum_of_limits (tables_asked T) + limit)) ∷ [] in
+    first-same (row S.overlay.underlay.limits.entries)
     ((PoolFull, nat_lt (S.pool + s.limit) (sum_of_limits (tables_asked S) + limit)) ∷ [])
-    ((PoolFull, nat_lt (T.pool + r.limit) (sum_of_limits (tables_asked T) + limit)) ∷ [])
-    (refl, tt) (refl, tt) calm quiet
+    others (refl, tt) (refl, tt) calm (ap (λ (e : ℕ). wants_room (first (row e ∷ others))) entries ∙ quiet)
+    ∙ ap (λ (e : ℕ). first (row e ∷ others)) entries
 
 -- a change of the segment's own or of a port is refused alike, where it isn't for want of room
 pub refused-calm : (vid : ℕ) (S T : Settings) (c : Change) → part_of vid S ≡ part_of vid T → is_about vid c ≡ true → wants_room (refused S c) ≡ false → wants_room (refused T c) ≡ false → refused S c ≡ refused T c
@@ -78,9 +82,9 @@ refused-calm vid S T c h about calm quiet = refused-own vid S T h c about (by c 
     by (PortUp port) is x y asks = absurd (false≢true asks)
     by (PortDown port) is x y asks = absurd (false≢true asks)
     by (Flush v) is x y asks = absurd (false≢true asks)
-    by (AddSegment new) is x y asks = comes-same S T new x y
+    by (AddSegment new) is x y asks = comes-same S T (ap (λ (p : Part). p.underlay.limits.entries) h) new x y
     by (RemoveSegment v) is x y asks = absurd (false≢true asks)
-    by (SetLimit v limit) is x y asks = limited-same S T limit (segment_at S v) (segment_at T v) (ap whole_of (part-named vid v S T h is)) x y
+    by (SetLimit v limit) is x y asks = limited-same S T (ap (λ (p : Part). p.underlay.limits.entries) h) limit (segment_at S v) (segment_at T v) (ap whole_of (part-named vid v S T h is)) x y
 
 -- ---- the settings after an event
 

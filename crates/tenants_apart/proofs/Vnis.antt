@@ -131,7 +131,7 @@ none-is (Some why) h = absurd (false≢true h)
 free-if : (S : Settings) (new : NewSegment) → refused S (AddSegment new) ≡ None → are_free S.overlay new.tunnels ≡ true
 free-if S new none =
     let rows : List (ChangeFault × Bool) =
-    (OutOfRange, not (is_limit new.limit && is_ageing new.ageing && are_vnis new.tunnels))
+    (OutOfRange, not (is_limit S.overlay.underlay.limits.entries new.limit && is_ageing new.ageing && are_vnis new.tunnels))
     ∷ (SegmentThere, is_taken S new)
     ∷ (SegmentsFull, not (nat_lt (segment_count (tables_asked S)) S.overlay.underlay.limits.segments))
     ∷ (PoolFull, is_too_much S new.limit)

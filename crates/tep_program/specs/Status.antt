@@ -3,7 +3,8 @@ use Rattle.std.specs.Prelude.{◌≡◌, ◌≢◌, ◌≤◌, ◌⊎◌, true, 
 use Rattle.clap.specs.Words.{IsAmong, Text, fault_of}
 use Rattle.clap.specs.declared.error.kind.ErrorKind.TheVariants.{DisplayHelp, DisplayVersion}
 use Rattle.command_line.specs.App.{tep_app}
-use Rattle.command_line.specs.Meaning.{AreTaken as AreTakenByClap, LendsToParts, Meaning, ReadsInputOnce, input_uses, lends_to_a_whole, run, telling_meant, words_meant}
+use Rattle.command_line.specs.Meaning.{AreTaken as AreTakenByClap, ComparesSomething, LendsToParts, Meaning, ReadsInputOnce}
+use Rattle.command_line.specs.Meaning.{compares_nothing, input_uses, lends_to_a_whole, run, telling_meant, words_meant}
 use Rattle.run_reports.specs.Names.{is_event_name}
 
 -- the first of these names that can be no event's
@@ -20,17 +21,21 @@ abbrev pub NamesEvents : Meaning → Type 0
 NamesEvents meaning = no_event_in meaning ≡ None
 
 -- words that `clap` doesn't take, also not as a run of which something is told, among them those that ask for help, that lack a
--- value, that ask for standard input more than once, that lend digests to a run that is no part, or that name an event as none
--- can be named
+-- value, that ask for standard input more than once, that lend digests to a run that is no part, that compare what a run wrote
+-- with no capture, or that name an event as none can be named
 abbrev pub AreRefused : List Text → Type 0
-AreRefused words = ((fault_of tep_app words ≢ []) × (telling_meant words ≡ None)) ⊎ (words_meant words ≡ None)
-    ⊎ IsSomeAnd (words_meant words) (λ meaning. 2 ≤ input_uses meaning)
-    ⊎ IsSomeAnd (words_meant words) (λ meaning. lends_to_a_whole meaning ≡ true)
-    ⊎ IsSomeAnd (words_meant words) (λ meaning. is_some (no_event_in meaning) ≡ true)
+AreRefused words =
+    ((((fault_of tep_app words ≢ []) × (telling_meant words ≡ None)) ⊎ (words_meant words ≡ None))
+    ⊎ IsSomeAnd (words_meant words) (λ meaning. 2 ≤ input_uses meaning))
+    ⊎ (IsSomeAnd (words_meant words) (λ meaning. lends_to_a_whole meaning ≡ true)
+    ⊎ (IsSomeAnd (words_meant words) (λ meaning. compares_nothing meaning ≡ true)
+    ⊎ IsSomeAnd (words_meant words) (λ meaning. is_some (no_event_in meaning) ≡ true)))
 
--- words that are taken, ask for standard input once at most, lend digests to parts alone, and name events as they can be named
+-- words that are taken, ask for standard input once at most, lend digests to parts alone, compare something where they compare,
+-- and name events as they can be named
 abbrev pub AreTaken : List Text → Type 0
-AreTaken words = AreTakenByClap words × IsSomeAnd (words_meant words) (λ meaning. ReadsInputOnce meaning × LendsToParts meaning × NamesEvents meaning)
+AreTaken words = AreTakenByClap words × IsSomeAnd (words_meant words) (λ meaning. ReadsInputOnce meaning × LendsToParts meaning
+    × ComparesSomething meaning × NamesEvents meaning)
 
 -- words that ask for help or for the version, which `clap` tells as a fault
 abbrev pub AskForText : List Text → Type 0

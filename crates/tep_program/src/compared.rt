@@ -1,14 +1,14 @@
 //! What was sent, compared with what was received.
 ghost use Rattle.std.specs.Prelude.{◌≤◌, IfOk, IfSome};
 
-use capture_compare::{CompareFault, Side, compare_captures};
-use carried_key::{KeyRoom, Manner};
+use crate::paired::{Outcome, Pairing, compare_told};
+use crate::report::{Report, Told};
+use carried_key::Manner;
 use command_line::time_of;
 use program_faults::Failure;
-use program_files::{SeenCapture, open_seen, print_text};
-use record_match::{Clock, Comparison};
-use std::fmt::Write;
-use std::io::{Input, Read};
+use program_files::open_seen;
+use record_match::Clock;
+use std::io::Input;
 use std::rt::Files;
 
 /// How much later a record may be received, in nanoseconds, where no other time is asked for.
@@ -28,6 +28,10 @@ pub struct Compared<'a> {
     pub within: Option<&'a str>,
     /// How far the clock of what was received is ahead.
     pub shift: Option<&'a str>,
+    /// Whether what is of one alone is listed.
+    pub lists: bool,
+    /// What a table is by.
+    pub by: Option<&'a str>,
 }
 
 /// Compares two captures, and prints how many records were sent, were received, are both, and are of one alone. What was
@@ -36,31 +40,30 @@ pub fn compare<'a, R: Files + Input + AllocGlobal + Print>(
     rt: &R,
     asked: Compared<'a>,
 ) -> Result<(), Failure<'a>> {
-    let clock = clock_of(asked.within, asked.shift)?;
+    let told = Told::of(asked.lists, asked.by)?;
+    let pairing = Pairing {
+        at: None,
+        sent: asked.sent,
+        received: asked.received,
+        clock: clock_of(asked.within, asked.shift)?,
+    };
     let (_, mut sent) = open_seen(rt, asked.sent)?;
     let (_, mut received) = open_seen(rt, asked.received)?;
-    let mut comparison = Comparison::new(rt.alloc(), clock.within)?;
-    let mut room = KeyRoom::new(rt.alloc())?;
-    let compared = compare_captures(
+    let mut report = Report::new(rt, told, None, pairing.clock)?;
+    let Outcome { counts, end } = compare_told(
+        rt.alloc(),
+        &pairing,
+        &Manner::Whole,
         &mut sent,
         &mut received,
-        clock,
-        Manner::Whole,
-        &mut room,
-        &mut comparison,
-    );
-    let told = print_counts(rt, &comparison);
-    if let Err(fault) = compared {
-        return Err(match fault {
-            CompareFault::Read(Side::Sent) => failure_of(Side::Sent, asked.sent, &sent),
-            CompareFault::Read(Side::Received) => {
-                failure_of(Side::Received, asked.received, &received)
-            }
-            _ => Failure::Compared(fault),
-        });
-    }
-    told?;
-    if is_same(&comparison) {
+        &mut report,
+    )?;
+    let printed = counts.print(rt, "", "\n");
+    let reported = report.finish();
+    end?;
+    printed?;
+    reported?;
+    if counts.is_same() {
         Ok(())
     } else {
         Err(Failure::Differs)
@@ -124,38 +127,4 @@ fn bounded(text: &str) -> Option<u64>
         Some(time) if time <= LONGEST => Some(time),
         _ => None,
     }
-}
-
-/// Why a capture couldn't be read.
-fn failure_of<'a, F: Read + Drop, I: Read + Drop>(
-    side: Side,
-    name: &'a str,
-    capture: &SeenCapture<'_, F, I>,
-) -> Failure<'a> {
-    match capture.input().fault() {
-        Some(fault) => Failure::ComparedPcapng(side, fault),
-        None => Failure::Read(name),
-    }
-}
-
-/// Whether each record that was sent was received, and no other.
-fn is_same(comparison: &Comparison) -> bool {
-    comparison.sent() == comparison.both() && comparison.received() == comparison.both()
-}
-
-/// Prints the counts.
-fn print_counts<R: AllocGlobal + Print>(
-    rt: &R,
-    comparison: &Comparison,
-) -> Result<(), Failure<'static>> {
-    let (sent, received, both) = (comparison.sent(), comparison.received(), comparison.both());
-    let mut text = String::new(rt.alloc());
-    writeln!(text, "sent {sent}")?;
-    writeln!(text, "received {received}")?;
-    writeln!(text, "both {both}")?;
-    let sent_alone = sent.saturating_sub(both);
-    writeln!(text, "sent alone {sent_alone}")?;
-    let received_alone = received.saturating_sub(both);
-    writeln!(text, "received alone {received_alone}")?;
-    print_text(rt, text.as_bytes())
 }

@@ -9,7 +9,8 @@
 //! Proved: each function is safe and ends. The exit status is 0, 1, 2 or 3: 0 only for words that are taken or that ask for
 //! help or the version, 1 only for words that are taken, 2 only for words that `clap`'s definition takes neither as the
 //! program's nor as a run's of which something is told, that lack a value, ask for standard input more than once, lend digests
-//! to a run that is no part, or name an event as none can be named. What a file, a pipe or a terminal holds isn't proved.
+//! to a run that is no part, compare what a run wrote with no capture, or name an event as none can be named. What a file, a pipe
+//! or a terminal holds isn't proved.
 //!
 //! Why it is so: what a file holds no contract can say, so this one says which statuses come. A word of the command line that
 //! isn't text is refused as `words`, status 2; so is one that `clap` refuses, also where standard error can't be written.
@@ -18,6 +19,7 @@
 mod causes;
 mod checks;
 mod compared;
+mod counts;
 mod directions;
 mod echoes;
 mod interfaces;
@@ -27,10 +29,13 @@ mod next_steps;
 mod nobody;
 mod notes;
 mod outbound;
+mod paired;
 mod program;
 mod refusals;
+mod report;
 mod swapped;
 mod told_runs;
+mod tunnels;
 mod worked;
 
 pub use program::{run, start};

@@ -68,6 +68,7 @@ pub fn settings_of_line<'a>(line: &Line<'a>) -> Option<&'a str> {
     match line {
         Line::Run { settings, .. } | Line::Explain { settings, .. } | Line::Migrate { settings } =>
             { Some(*settings) }
+        Line::CompareWorked { settings, .. } => *settings,
         _ => None,
     }
 }
@@ -95,6 +96,7 @@ pub fn is_text(line: &Line<'_>, name: &str) -> bool {
             ..
         } => *settings == name || *changes == Some(name),
         Line::Explain { settings, .. } | Line::Migrate { settings } => *settings == name,
+        Line::CompareWorked { settings, .. } => *settings == Some(name),
         _ => false,
     }
 }

@@ -70,6 +70,8 @@ pub fn run<'a, R: Files + Input + AllocGlobal + Print + Eprint>(rt: &R, words: &
         Err(LineFault::OutOfMemory) => stopped(rt, &Failure::Run(RunFault::OutOfMemory)),
         Err(LineFault::NoValue) => words_refused(rt, &LineFault::NoValue),
         Err(LineFault::Unpaired) => words_refused(rt, &LineFault::Unpaired),
+        Err(LineFault::NoFolder) => words_refused(rt, &LineFault::NoFolder),
+        Err(LineFault::NoCapture) => words_refused(rt, &LineFault::NoCapture),
         Err(LineFault::InputTwice) => words_refused(rt, &LineFault::InputTwice),
         Err(LineFault::NoSegments) => words_refused(rt, &LineFault::NoSegments),
         Err(LineFault::Refused(error)) => {
@@ -230,12 +232,16 @@ fn perform<'a, R: Files + Input + AllocGlobal + Print + Eprint>(
             received,
             within,
             shift,
+            lists,
+            by,
         } => {
             let asked = Compared {
                 sent: *sent,
                 received: *received,
                 within: *within,
                 shift: *shift,
+                lists: *lists,
+                by: *by,
             };
             compare(rt, asked)
         }
@@ -245,6 +251,10 @@ fn perform<'a, R: Files + Input + AllocGlobal + Print + Eprint>(
             ports,
             within,
             shift,
+            settings,
+            strict,
+            lists,
+            by,
         } => {
             let asked = Worked {
                 folder: *worked,
@@ -252,6 +262,10 @@ fn perform<'a, R: Files + Input + AllocGlobal + Print + Eprint>(
                 ports: ports.as_slice(),
                 within: *within,
                 shift: *shift,
+                settings: *settings,
+                strict: *strict,
+                lists: *lists,
+                by: *by,
             };
             compare_worked(rt, asked)
         }

@@ -2,21 +2,21 @@
 ghost use Rattle.std.specs.Prelude.{◌≤◌};
 
 use crate::compared::clock_of;
-use capture_compare::{CompareFault, Side, compare_captures};
-use carried_key::{KeyRoom, Manner};
+use crate::counts::Counts;
+use crate::paired::{Outcome, Pairing, compare_told};
+use crate::report::{Report, Told};
+use crate::tunnels::tunnels_of;
+use carried_key::Manner;
+use command_line::NO_CAPTURE;
 use program_faults::{Failure, OutputFile, WorkedFailure};
-use program_files::{SeenCapture, open_seen, open_written, path_of, print_text};
-use record_match::{Clock, Comparison};
+use program_files::{open_seen, open_written, path_of, print_text};
+use record_match::Clock;
 use std::alloc::AllocError;
-use std::fmt::Write;
 use std::fs;
-use std::io::{Input, Read};
+use std::io::Input;
 use std::rt::Files;
 use text_calls::tap_of;
 use timeline::Tap;
-
-/// What stands for the capture of a place of which there is none.
-const NO_CAPTURE: &str = "-";
 
 /// What is compared, by the words.
 #[derive(Clone, Copy)]
@@ -31,58 +31,26 @@ pub struct Worked<'n, 'a> {
     pub within: Option<&'a str>,
     /// How far the clock of what was captured is ahead.
     pub shift: Option<&'a str>,
-}
-
-/// How many records were sent, were received and are both, at one place or at some.
-#[derive(Clone, Copy)]
-struct Counts {
-    sent: u64,
-    received: u64,
-    both: u64,
-}
-
-impl Counts {
-    /// Of no place.
-    fn none() -> Counts {
-        Counts {
-            sent: 0,
-            received: 0,
-            both: 0,
-        }
-    }
-
-    /// Those of a comparison.
-    fn of(comparison: &Comparison) -> Counts {
-        Counts {
-            sent: comparison.sent(),
-            received: comparison.received(),
-            both: comparison.both(),
-        }
-    }
-
-    /// With those of another place, up to the greatest number.
-    fn and(self, other: Counts) -> Counts {
-        Counts {
-            sent: self.sent.saturating_add(other.sent),
-            received: self.received.saturating_add(other.received),
-            both: self.both.saturating_add(other.both),
-        }
-    }
-
-    /// Whether each record that was sent was received, and no other.
-    fn is_same(self) -> bool {
-        self.sent == self.both && self.received == self.both
-    }
+    /// The settings text, whose tunnels are looked for.
+    pub settings: Option<&'a str>,
+    /// Whether records of the underlay are the same octet for octet only.
+    pub strict: bool,
+    /// Whether what is of one alone is listed.
+    pub lists: bool,
+    /// What a table is by.
+    pub by: Option<&'a str>,
 }
 
 /// Compares each capture that a run wrote with what was captured at its place, and prints the counts of each place and of all:
-/// at ports records are the same octet for octet, at the underlay what packets carry in tunnels. What was compared before a
-/// fault is printed, too. Where all is the same it is done; else they differ.
+/// at ports records are the same octet for octet, at the underlay what packets carry in tunnels, unless that is to be strict, too.
+/// What was compared before a fault is printed, too. Where all is the same it is done; else they differ.
 pub fn compare_worked<'a, R: Files + Input + AllocGlobal + Print>(
     rt: &R,
     asked: Worked<'_, 'a>,
 ) -> Result<(), Failure<'a>> {
     let clock = clock_of(asked.within, asked.shift)?;
+    let tunnels = tunnels_of(rt, asked.settings)?;
+    let told = Told::of(asked.lists, asked.by)?;
     check_folder(rt, asked)?;
     check_twice(asked)?;
     let mut all = Counts::none();
@@ -91,17 +59,24 @@ pub fn compare_worked<'a, R: Files + Input + AllocGlobal + Print>(
         let place = Place {
             tap: tap_of(index),
             output,
-            manner: Manner::Whole,
         };
-        all = all.and(compare_place(rt, asked.folder, place, *name, clock)?);
+        all = all.and(compare_place(rt, asked.folder, place, &Manner::Whole, *name, clock, told)?);
     }
     let place = Place {
         tap: Tap::Underlay,
         output: OutputFile::Underlay,
-        manner: Manner::Carried,
     };
-    all = all.and(compare_place(rt, asked.folder, place, asked.underlay, clock)?);
-    print_counts(rt, "all", all)?;
+    let manner = Manner::of_underlay(tunnels, asked.strict);
+    all = all.and(compare_place(
+        rt,
+        asked.folder,
+        place,
+        &manner,
+        asked.underlay,
+        clock,
+        told,
+    )?);
+    all.print(rt, "all: ", ", ")?;
     if all.is_same() {
         Ok(())
     } else {
@@ -114,7 +89,6 @@ pub fn compare_worked<'a, R: Files + Input + AllocGlobal + Print>(
 struct Place {
     tap: Tap,
     output: OutputFile,
-    manner: Manner,
 }
 
 /// Compares what the run wrote at a place with the capture of this name, prints the counts, and answers them: none where the
@@ -123,8 +97,10 @@ fn compare_place<'a, R: Files + Input + AllocGlobal + Print>(
     rt: &R,
     folder: &'a str,
     place: Place,
+    manner: &Manner,
     name: &'a str,
     clock: Clock,
+    told: Told,
 ) -> Result<Counts, Failure<'a>>
     requires sent { clock.sent_delay ≤ 2000000000000000000 }
     requires received { clock.received_delay ≤ 2000000000000000000 }
@@ -133,44 +109,29 @@ fn compare_place<'a, R: Files + Input + AllocGlobal + Print>(
         print_none(rt, place.tap)?;
         return Ok(Counts::none());
     }
+    let pairing = Pairing {
+        at: Some(place.tap),
+        sent: folder,
+        received: name,
+        clock,
+    };
     let mut worked = open_written(rt, folder, place.output)?;
     let (_, mut seen) = open_seen(rt, name)?;
-    let mut comparison = Comparison::new(rt.alloc(), clock.within)?;
-    let mut room = KeyRoom::new(rt.alloc())?;
-    let compared = compare_captures(
+    let mut report = Report::new(rt, told, Some(place.tap), clock)?;
+    let Outcome { counts, end } = compare_told(
+        rt.alloc(),
+        &pairing,
+        manner,
         &mut worked,
         &mut seen,
-        clock,
-        place.manner,
-        &mut room,
-        &mut comparison,
-    );
-    let counts = Counts::of(&comparison);
-    let told = print_place(rt, place.tap, counts);
-    if let Err(fault) = compared {
-        return Err(match fault {
-            CompareFault::Read(Side::Sent) => failure_of(place.tap, Side::Sent, folder, &worked),
-            CompareFault::Read(Side::Received) => {
-                failure_of(place.tap, Side::Received, name, &seen)
-            }
-            _ => Failure::ComparedAt(place.tap, fault),
-        });
-    }
-    told?;
+        &mut report,
+    )?;
+    let printed = print_place(rt, place.tap, counts);
+    let reported = report.finish();
+    end?;
+    printed?;
+    reported?;
     Ok(counts)
-}
-
-/// Why a capture of a place couldn't be read.
-fn failure_of<'a, F: Read + Drop, I: Read + Drop>(
-    tap: Tap,
-    side: Side,
-    name: &'a str,
-    capture: &SeenCapture<'_, F, I>,
-) -> Failure<'a> {
-    match capture.input().fault() {
-        Some(fault) => Failure::ComparedPcapngAt(tap, side, fault),
-        None => Failure::Read(name),
-    }
 }
 
 /// Whether a run wrote into the folder, and for as many ports as captures are named.
@@ -248,25 +209,6 @@ fn print_place<R: AllocGlobal + Print>(
     tap: Tap,
     counts: Counts,
 ) -> Result<(), Failure<'static>> {
-    let word = format!(in rt.alloc(); "{tap}")?;
-    print_counts(rt, word.as_str(), counts)
-}
-
-/// Prints counts behind a word, on one line.
-fn print_counts<R: AllocGlobal + Print>(
-    rt: &R,
-    word: &str,
-    counts: Counts,
-) -> Result<(), Failure<'static>> {
-    let (sent, received, both) = (counts.sent, counts.received, counts.both);
-    let mut text = String::new(rt.alloc());
-    write!(
-        text,
-        "{word}: sent {sent}, received {received}, both {both}"
-    )?;
-    let sent_alone = sent.saturating_sub(both);
-    write!(text, ", sent alone {sent_alone}")?;
-    let received_alone = received.saturating_sub(both);
-    writeln!(text, ", received alone {received_alone}")?;
-    print_text(rt, text.as_bytes())
+    let head = format!(in rt.alloc(); "{tap}: ")?;
+    counts.print(rt, head.as_str(), ", ")
 }

@@ -1,8 +1,10 @@
 -- Why a text was refused, as it is told: a line with the file, the place and the fault, and below it what was found, the key
 -- that was meant, the keys of the table, and what is allowed. It states no standard.
-use Rattle.std.specs.Prelude.{ℕ, ◌-◌, string_bytes, get_or, length, List, [], ◌∷◌, ◌++◌, map, take, nat_le, ◌&&◌, ◌||◌, ◌==◌, Option, Some, None, codes, decimal, if◌then◌else◌}
+use Rattle.std.specs.Prelude.{ℕ, ◌-◌, string_bytes, get_or, length, List, [], ◌∷◌, ◌++◌, map, take}
+use Rattle.std.specs.Prelude.{nat_le, ◌&&◌, ◌||◌, ◌==◌, Option, Some, None, codes, decimal, if◌then◌else◌}
 use Rattle.config_text.specs.declared.fault.SettingsFault.{SettingsFault}
-use Rattle.config_text.specs.declared.fault.SettingsFault.TheVariants.{NotToml, Missing, BadValue, TwoSegments, NotRising, OverLimit, OutOfMemory}
+use Rattle.config_text.specs.declared.fault.SettingsFault.TheVariants.{NotToml, Missing, BadValue, TwoSegments}
+use Rattle.config_text.specs.declared.fault.SettingsFault.TheVariants.{NotRising, OverLimit, OutOfMemory}
 use Rattle.text_advice.specs.Split.{split}
 use Rattle.text_advice.specs.Place.{place_behind}
 use Rattle.text_advice.specs.Told.{Findings, told}

@@ -23,7 +23,13 @@ pub record Findings : Type 0 where
 
 -- what the code holds of it
 abbrev pub told_of : code.Findings → Findings
-told_of t = record { place = t.place; found = option_map (λ f. f.now) t.found; near = option_map (λ k. k.now) t.near; keys = map (λ k. k.now) t.keys.now; allowed = option_map (λ s. s.now) t.allowed }
+told_of t = record {
+  place = t.place;
+  found = option_map (λ f. f.now) t.found;
+  near = option_map (λ k. k.now) t.near;
+  keys = map (λ k. k.now) t.keys.now;
+  allowed = option_map (λ s. s.now) t.allowed;
+}
 
 -- a text without the quote in front
 abbrev pub past_quote : List ℕ → List ℕ
@@ -76,7 +82,13 @@ found_on (k ∷ ks) header l = key_on header l
 -- by the line of the key, or else by its table's header
 abbrev pub at_line : List (List ℕ) → Option (List ℕ) → Line → Option Line → Findings
 at_line keys allowed header None = record { place = header_place header; found = None; near = None; keys = keys; allowed = allowed }
-at_line keys allowed header (Some l) = record { place = Some (place_in l); found = Some (found_on keys header l); near = nearest (key_on header l) keys; keys = keys; allowed = allowed }
+at_line keys allowed header (Some l) = record {
+  place = Some (place_in l);
+  found = Some (found_on keys header l);
+  near = nearest (key_on header l) keys;
+  keys = keys;
+  allowed = allowed;
+}
 
 -- by the table that the search finds, or doesn't
 abbrev pub told_at : TextKind → Block → List ℕ → List ℕ → Option Spot → Findings

@@ -9,7 +9,7 @@ use crate::known::fits;
 pub type Sentence = (&'static str, &'static str, &'static str, &'static str);
 
 /// What is allowed under each key of settings and of changes.
-pub const SENTENCES: [Sentence; 67] = [
+pub const SENTENCES: [Sentence; 72] = [
     (
         "version",
         "",
@@ -22,7 +22,19 @@ pub const SENTENCES: [Sentence; 67] = [
         "OverLimit ",
         "the limits of all segments sum to the pool at most",
     ),
+    (
+        "pool",
+        "3",
+        "",
+        "a number, 1 to 65536, or to limits.addresses where it is given",
+    ),
     ("pool", "", "", "a number, 1 to 65536"),
+    (
+        "limit",
+        "3",
+        "",
+        "the limits of all segments sum to 65536 at most, or to limits.addresses where it is given",
+    ),
     (
         "limit",
         "",
@@ -31,6 +43,8 @@ pub const SENTENCES: [Sentence; 67] = [
     ),
     ("limits", "", "", "one table, headed [limits]"),
     ("limits.segments", "", "", "a number, 1 to 4094"),
+    ("limits.entries", "", "", "a number, 1 to 131072"),
+    ("limits.addresses", "", "", "a number, 1 to 262144"),
     ("underlay", "", "", "one table, headed [underlay]"),
     (
         "underlay.mac",
@@ -136,6 +150,12 @@ pub const SENTENCES: [Sentence; 67] = [
         "",
         "",
         "a list of addresses in quotes, groups too, at most 16 over both tables, none twice, none 0.0.0.0, 255.255.255.255, ::, an own address, or of a family without an own address",
+    ),
+    (
+        "segment.limit",
+        "3",
+        "",
+        "a number, 1 to 8192, or to limits.entries where it is given",
     ),
     ("segment.limit", "", "", "a number, 1 to 8192"),
     (

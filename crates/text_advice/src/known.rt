@@ -21,7 +21,7 @@ pub const SETTINGS_KEYS: [TableKeys; 11] = [
         &["version", "pool", "limits", "underlay", "port", "segment"],
     ),
     ("*", "", &["version", "pool", "underlay", "port", "segment"]),
-    ("limits.*", "", &["segments"]),
+    ("limits.*", "", &["segments", "entries", "addresses"]),
     (
         "underlay.*",
         "3",

@@ -1,6 +1,7 @@
 //! Lines of a text, and the words and names in them.
 ghost use Rattle.std.specs.Prelude.{◌≡◌, ◌≤◌, length, option_map};
-ghost use Rattle.text_advice.specs.Line.{is_mark, is_blank, is_letter, past_blanks, is_bare, bare, word, dotted, is_name, header_name, is_text, opens, is_header, child, child_on, value, is_key_line};
+ghost use Rattle.text_advice.specs.Line.{is_mark, is_blank, is_letter, past_blanks, is_bare, bare, word, dotted, is_name};
+ghost use Rattle.text_advice.specs.Line.{header_name, is_text, opens, is_header, child, child_on, value, is_key_line};
 
 use config_text::cut;
 

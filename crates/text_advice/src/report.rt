@@ -3,7 +3,9 @@ ghost use Rattle.std.specs.Prelude.{◌≡◌, ◌++◌, ◌∷◌, [], map, tak
 ghost use Rattle.std.specs.List.{flat_map};
 ghost use Rattle.text_advice.specs.Split.{split};
 ghost use Rattle.text_advice.specs.Told.{told_of};
-ghost use Rattle.text_advice.specs.Advice.{fault_words, shown, place_text, head_line, told_line, part, end_of, found_line, key_words, keys_line, told_lines, syntax_of, line_numbered, syntax_advice, key_advice, advice};
+ghost use Rattle.text_advice.specs.Advice.{fault_words, shown, place_text, head_line, told_line, part};
+ghost use Rattle.text_advice.specs.Advice.{end_of, found_line, key_words, keys_line, told_lines};
+ghost use Rattle.text_advice.specs.Advice.{syntax_of, line_numbered, syntax_advice, key_advice, advice};
 
 use crate::known::TextKind;
 use crate::place::{Place, place_behind};

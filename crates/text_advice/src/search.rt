@@ -1,7 +1,8 @@
 //! Where a table and its keys stand in the lines of a text.
 ghost use Rattle.std.specs.Prelude.{◌≡◌, map, option_map, decimal};
 ghost use Rattle.text_advice.specs.Line.{same};
-ghost use Rattle.text_advice.specs.Search.{line_of, block_of, table_in, key_line, is_among, unknown_line, table_name, is_none_of, unknown_table, table_line};
+ghost use Rattle.text_advice.specs.Search.{line_of, block_of, table_in, key_line, is_among, unknown_line};
+ghost use Rattle.text_advice.specs.Search.{table_name, is_none_of, unknown_table, table_line};
 
 use crate::block::{Block, Line};
 use crate::line::{child_on, header_name, is_header, is_key_line, is_text, opens, word};

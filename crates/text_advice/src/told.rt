@@ -3,7 +3,8 @@ ghost use Rattle.std.specs.Prelude.{◌≡◌, map, option_map, IfOk};
 ghost use Rattle.text_advice.specs.Search.{line_of, block_of, top};
 ghost use Rattle.text_advice.specs.Path.{spot_of};
 ghost use Rattle.text_advice.specs.Split.{split};
-ghost use Rattle.text_advice.specs.Told.{variant, named_line, spot_line, header_place, past_quote, key_on, found_on, value_word, told_of, at_line, told_at, told};
+ghost use Rattle.text_advice.specs.Told.{variant, named_line, spot_line, header_place, past_quote};
+ghost use Rattle.text_advice.specs.Told.{key_on, found_on, value_word, told_of, at_line, told_at, told};
 
 use crate::allowed::sentence_of;
 use crate::block::{Block, Line};

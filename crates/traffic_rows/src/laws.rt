@@ -7,11 +7,13 @@ ghost use Rattle.traffic_rows.specs.declared.traffic.Traffic.{Traffic as ATraffi
 
 /// A table shows the first rows of all traffic, whatever came first, and what all others come to.
 pub fn shows_the_first()
-    ensures one { (most : ℕ) (rows : List ARow) (key : AKey) (traffic : ATraffic) → counted_in most (shown most rows) key traffic ≡ shown most (with_traffic key traffic rows) }
+    ensures one { (most : ℕ) (rows : List ARow) (key : AKey) (traffic : ATraffic)
+        → counted_in most (shown most rows) key traffic ≡ shown most (with_traffic key traffic rows) }
     ensures all { (rows : List ARow) → counted_all no_rows rows ≡ shown 4096 (all_traffic [] rows) }
 {}
 
 /// The tables of two parts come together as one table of all their traffic.
 pub fn comes_together()
-    ensures { (rows others : List ARow) → together (shown 4096 (all_traffic [] rows)) (shown 4096 (all_traffic [] others)) ≡ shown 4096 (all_traffic [] (rows ++ others)) }
+    ensures { (rows others : List ARow) → together (shown 4096 (all_traffic [] rows)) (shown 4096 (all_traffic [] others))
+        ≡ shown 4096 (all_traffic [] (rows ++ others)) }
 {}

@@ -1,5 +1,6 @@
 //! Tables of traffic.
-ghost use Rattle.std.specs.Prelude.{◌≡◌, ◌<◌, ◌≤◌, ◌+◌, ◌*◌, ◌^◌, IfOk, drop, false, length, nat_lt, slice_index_or, take, true, vec_capacity};
+ghost use Rattle.std.specs.Prelude.{◌≡◌, ◌<◌, ◌≤◌, ◌+◌, ◌*◌, ◌^◌, IfOk, drop, false, length};
+ghost use Rattle.std.specs.Prelude.{nat_lt, slice_index_or, take, true, vec_capacity};
 ghost use Rattle.std.specs.List.{insert};
 ghost use Rattle.traffic_rows.specs.Key.{rank};
 ghost use Rattle.traffic_rows.specs.Rows.{AreRising, IsPlaceOf, counted, no_rows, rank_of, together, total, with_others, with_traffic};

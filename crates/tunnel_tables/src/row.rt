@@ -1,7 +1,8 @@
 //! What the lines of a text tell, one by one.
 ghost use Rattle.std.specs.Prelude.{◌≡◌};
 ghost use Rattle.tunnel_tables.specs.Tables.{endpoint_key};
-ghost use Rattle.tunnel_tables.specs.Rows.{flows_in, endpoint_of, kind_of, remote_in, row_in, unknown_by, unknown_in, unknown_of, vni_of, vni_numbered};
+ghost use Rattle.tunnel_tables.specs.Rows.{flows_in, endpoint_of, kind_of, remote_in, row_in};
+ghost use Rattle.tunnel_tables.specs.Rows.{unknown_by, unknown_in, unknown_of, vni_of, vni_numbered};
 
 use crate::address::{addr_of, cut};
 use ip_udp_view::{Addr, Tunnel};

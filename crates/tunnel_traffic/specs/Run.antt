@@ -31,7 +31,10 @@ remotes_in s = where_told s.reply (remotes_of s.state.bridges.settings.overlay s
 
 -- of many events: the first 4,096 rows, and the others
 abbrev pub tunnels_of : List Sight → Tunnels
-tunnels_of seen = record { unknown = shown 4096 (all_traffic [] (flat_map unknown_in seen)); remotes = shown 4096 (all_traffic [] (flat_map remotes_in seen)) }
+tunnels_of seen = record {
+  unknown = shown 4096 (all_traffic [] (flat_map unknown_in seen));
+  remotes = shown 4096 (all_traffic [] (flat_map remotes_in seen));
+}
 
 -- whoever counts looked on from the begin of a run of these segments to its end
 pub record IsCounted (segments : Segments) (S : Settings) (cs : List Change) (es : List Event) (begun ended : Tunnels) : Type 0 where

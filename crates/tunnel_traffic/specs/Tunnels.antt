@@ -67,7 +67,8 @@ remotes_by b (Err refused) = []
 abbrev pub unknown_of : Overlay → Happening → List TrafficRow
 unknown_of overlay (happenings.Change index) = []
 unknown_of overlay (happenings.Record (Port port) captured) = []
-unknown_of overlay (happenings.Record Underlay captured) = unknown_by overlay captured.octets (came_by overlay captured.original captured.octets)
+unknown_of overlay (happenings.Record Underlay captured) =
+    unknown_by overlay captured.octets (came_by overlay captured.original captured.octets)
 
 -- and the second
 abbrev pub remotes_of : Overlay → Happening → List TrafficRow
@@ -95,11 +96,17 @@ answer_rows (Replied fault) = []
 
 -- with a packet that brings this
 abbrev pub packet_told : Tunnels → Overlay → List ℕ → Result Came Refused → Tunnels
-packet_told t overlay b came = record { unknown = counted_all t.unknown (unknown_by overlay b came); remotes = counted_all t.remotes (remotes_by b came) }
+packet_told t overlay b came = record {
+  unknown = counted_all t.unknown (unknown_by overlay b came);
+  remotes = counted_all t.remotes (remotes_by b came);
+}
 
 -- with what an event is before its answer
 abbrev pub came_told : Tunnels → Overlay → Happening → Tunnels
-came_told t overlay happening = record { unknown = counted_all t.unknown (unknown_of overlay happening); remotes = counted_all t.remotes (remotes_of overlay happening) }
+came_told t overlay happening = record {
+  unknown = counted_all t.unknown (unknown_of overlay happening);
+  remotes = counted_all t.remotes (remotes_of overlay happening);
+}
 
 -- with an answer
 abbrev pub answer_told : Tunnels → Answer → Tunnels

@@ -50,7 +50,8 @@ fn data_in<'a>(packet: &Packet<'a>, underlay: &Underlay) -> Result<(Tunnel, &'a 
 
 /// The network that a tunnel header of a kind names, from this sender.
 fn key_at(known: &Known, kind: Tunnel, address: Addr, payload: &[u8]) -> Option<TunnelKey>
-    ensures { result ≡ (if is_none (first (tunnel_reasons known.now kind payload.now)) then Some (record { kind = kind; vni = vni_of kind payload.now; address = address }) else None) }
+    ensures { result ≡ (if is_none (first (tunnel_reasons known.now kind payload.now)) then Some
+        (record { kind = kind; vni = vni_of kind payload.now; address = address }) else None) }
 {
     match tunnel_of(known, kind, payload) {
         Ok((vni, _)) => Some(TunnelKey { kind, vni, address }),

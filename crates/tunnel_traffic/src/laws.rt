@@ -11,6 +11,7 @@ ghost use Rattle.tunnel_traffic.specs.Tunnels.{Tunnels};
 
 /// Behind a run of any events, or of a part of it, the tables show what those events and their answers come to.
 pub fn runs()
-    ensures { (segments : Segments) (S : Settings) (cs : List Change) (es : List Event) (begun ended : Tunnels) → IsCounted segments S cs es begun ended
+    ensures { (segments : Segments) (S : Settings) (cs : List Change) (es : List Event) (begun ended : Tunnels)
+        → IsCounted segments S cs es begun ended
         → ended ≡ tunnels_of (sights segments cs (opened S) 0 es) }
 {}

@@ -12,7 +12,8 @@ ghost use Rattle.traffic_rows.specs.Rows.{counted_all};
 ghost use Rattle.traffic_rows.specs.Traffic.{came_of};
 ghost use Rattle.tunnel_tables.specs.Lines.{tunnels_text};
 ghost use Rattle.tunnel_tables.specs.Tables.{IsTold};
-ghost use Rattle.tunnel_traffic.specs.Tunnels.{answer_rows, answer_told, came_told, is_unknown, key_rows, no_tunnels, outcome_rows, packet_told, refused_rows, rows_at};
+ghost use Rattle.tunnel_traffic.specs.Tunnels.{answer_rows, answer_told, came_told, is_unknown, key_rows};
+ghost use Rattle.tunnel_traffic.specs.Tunnels.{no_tunnels, outcome_rows, packet_told, refused_rows, rows_at};
 
 use crate::header::key_in;
 use crate::tables::{RemoteRows, UnknownRows};
@@ -168,7 +169,8 @@ fn count_at(remotes: &mut RemoteRows, place: Place, traffic: Traffic)
 fn count_answer(remotes: &mut RemoteRows, endpoint: &Endpoint, course: &Course, places: &[Place])
     requires there { IsThere (state_of endpoint.now).bridges.settings course.now }
     requires leave { CanLeave (state_of endpoint.now).bridges.settings course.now places.now }
-    ensures { remotes.new ≡ counted_all remotes.old (answer_rows (Decided (decision_of (state_of endpoint.now).bridges.settings course.now places.now))) }
+    ensures { remotes.new ≡ counted_all remotes.old
+        (answer_rows (Decided (decision_of (state_of endpoint.now).bridges.settings course.now places.now))) }
 {
     if let Ok(came) = course {
         count_leaving(remotes, endpoint, came, places);

@@ -5,4 +5,8 @@
 pub struct Limits {
     /// The most segments, 1 to 4,094: 256 unless the settings say otherwise.
     pub segments: u16,
+    /// The most entries that a segment's table may have, 1 to 131,072: 8,192 unless the settings say otherwise.
+    pub entries: u32,
+    /// The most entries that all tables together may have, 1 to 262,144: 65,536 unless the settings say otherwise.
+    pub addresses: u32,
 }

@@ -7,7 +7,8 @@ ghost use Rattle.std.specs.FinMap.{len};
 ghost use Rattle.underlay.specs.Flood.{first, fault_of, add_faults, holds, without};
 ghost use Rattle.underlay.specs.Heads.{head4_at, head6_at};
 ghost use Rattle.underlay.specs.Index.{Indexes};
-ghost use Rattle.underlay.specs.Overlay.{segment_at, has_segment, flood_at, tunnel_at, segment_by, taken, are_free, AreApart, told, with_segment, without_segment, with_flood};
+ghost use Rattle.underlay.specs.Overlay.{segment_at, has_segment, flood_at, tunnel_at, segment_by, taken};
+ghost use Rattle.underlay.specs.Overlay.{are_free, AreApart, told, with_segment, without_segment, with_flood};
 ghost use Rattle.underlay.specs.Settings.{own, kind_at};
 
 use crate::heads::SegmentHeads;

@@ -4,14 +4,17 @@
 --     reasons      why a frame enters none, in the order of the checks
 --     enters      the segment and the frame, or the first of the reasons
 --     Enters, Holds, IsRefused      the same as facts
-use Rattle.std.specs.Prelude.{◌≡◌, ◌<◌, ◌≤◌, ◌⊎◌, ◌↔◌, ℕ, Bool, true, false, not, ◌==◌, ◌&&◌, nat_lt, if◌then◌else◌, List, [], ◌∷◌, ◌++◌, length, map, take, Option, Some, None, is_none, IsSome, Result, Ok, Err}
+use Rattle.std.specs.Prelude.{◌≡◌, ◌<◌, ◌≤◌, ◌⊎◌, ◌↔◌, ℕ, Bool, true, false, not, ◌==◌, ◌&&◌, nat_lt, if◌then◌else◌, List}
+use Rattle.std.specs.Prelude.{[], ◌∷◌, ◌++◌, length, map, take, Option, Some, None, is_none, IsSome, Result, Ok, Err}
 use Rattle.std.specs.List.{AllByRecursion}
 use Rattle.vlan_ports.specs.Octets.{IsText, field, part}
 use Rattle.frame_view.specs.First.{unless}
-use Rattle.vlan_ports.specs.Frame.{first, Frame, IsFrame, plain, tagged, frame_of, frame_behind_tag, has_tag, begins_tag, vid_of, is_group, is_reserved}
+use Rattle.vlan_ports.specs.Frame.{first, Frame, IsFrame, plain, tagged, frame_of, frame_behind_tag}
+use Rattle.vlan_ports.specs.Frame.{has_tag, begins_tag, vid_of, is_group, is_reserved}
 use Rattle.frame_view.specs.Reason.{number_of}
 use Rattle.frame_view.specs.declared.reason.Reason.{Reason}
-use Rattle.frame_view.specs.declared.reason.Reason.TheVariants.{Runt, PortDown, BadSource, Reserved, CutTag, BadVid, FrameType, NoSegment, NotMember}
+use Rattle.frame_view.specs.declared.reason.Reason.TheVariants.{Runt, PortDown, BadSource, Reserved, CutTag}
+use Rattle.frame_view.specs.declared.reason.Reason.TheVariants.{BadVid, FrameType, NoSegment, NotMember}
 use Rattle.frame_view.specs.declared.reason.Refused.{Refused}
 pub use Rattle.frame_view.specs.Refusal.{nowhere, within}
 use Rattle.vlan_ports.specs.Ports.{Ports, port_at, is_up, has_segment, members_at, egress_at}

@@ -1,5 +1,6 @@
 -- The local ports of a bridge, and the members of its segments (IEEE 802.1Q, 6.9 and 8.8).
-use Rattle.std.specs.Prelude.{ℕ, ◌-◌, Bool, false, ◌&&◌, nat_le, is_some, List, [], ◌∷◌, map, slice_set, slice_index_or, unwrap_or, if◌then◌else◌, Option, None, Some}
+use Rattle.std.specs.Prelude.{ℕ, ◌-◌, Bool, false, ◌&&◌, nat_le, is_some, List, [], ◌∷◌, map}
+use Rattle.std.specs.Prelude.{slice_set, slice_index_or, unwrap_or, if◌then◌else◌, Option, None, Some}
 use Rattle.std.specs.List.{list_all}
 use Rattle.std.specs.Option.{option_and_then}
 use Rattle.std.specs.Ordering.{nat_cmp}

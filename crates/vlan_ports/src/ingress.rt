@@ -84,6 +84,7 @@ fn behind_tag<'a>(view: &EtherView<'a>) -> Option<Rest<'a>>
 }
 
 /// The segment of a frame with this VID in its tag, 0 where it has none.
+#[inline(always)]
 fn segment_of(ports: &PortSet, port: u8, tag_vid: u16) -> Result<Vid, Refused>
     requires low { 1 ≤ port }
     requires high { port ≤ length ports.now.ports }

@@ -4,7 +4,8 @@
 //! no memory after `open`. What contracts see is a finite map from VID to members.
 ghost use Rattle.std.specs.Prelude.{◌≡◌, ◌≤◌, ◌<◌, length, IfOk, IsTrue, not};
 ghost use Rattle.std.specs.List.{list_all};
-ghost use Rattle.vlan_ports.specs.Ports.{told, with_rule, lists_ports, port_at, is_up, members_at, has_segment, egress_at, with_up, with_member, with_segment, without_segment};
+ghost use Rattle.vlan_ports.specs.Ports.{told, with_rule, lists_ports, port_at, is_up, members_at, has_segment};
+ghost use Rattle.vlan_ports.specs.Ports.{egress_at, with_up, with_member, with_segment, without_segment};
 ghost use Rattle.vlan_ports.specs.Row.{row_at};
 
 use crate::member_set::MemberSet;

@@ -1,5 +1,5 @@
 //! Calls of tables, and what they answer.
-ghost use Rattle.std.specs.Prelude.{◌≡◌, IfOk};
+ghost use Rattle.std.specs.Prelude.{◌≡◌, ◌≤◌, IfOk};
 ghost use Rattle.filter_db.specs.Segment.{IsRule};
 
 use filter_db::{Learned, ListTables, NotThere, Place, PoolTables, TableFull, TableRule, Tables};
@@ -99,7 +99,7 @@ pub(crate) fn add<T: PoolTables>(tables: &mut T, rule: TableRule, now: u64) -> b
     if tables.has(rule.vid) || now < tables.now() || !in_range {
         return false;
     }
-    if u32::from(rule.limit) > tables.room() {
+    if rule.limit > tables.room() {
         return false;
     }
     tables.add(rule, now);
@@ -116,7 +116,7 @@ pub(crate) fn remove<T: PoolTables>(tables: &mut T, vid: Vid, now: u64) -> bool 
 }
 
 /// Gives a segment another limit; false where it isn't there, comes too early or is out of range, or there is no room.
-pub(crate) fn set_limit<T: PoolTables>(tables: &mut T, vid: Vid, limit: u16, now: u64) -> bool {
+pub(crate) fn set_limit<T: PoolTables>(tables: &mut T, vid: Vid, limit: u32, now: u64) -> bool {
     if !tables.has(vid) || now < tables.now() || limit < 1 || limit > 8192 {
         return false;
     }
@@ -129,10 +129,11 @@ pub(crate) fn set_limit<T: PoolTables>(tables: &mut T, vid: Vid, limit: u16, now
 }
 
 /// The rule of a segment, which must be in range.
-fn rule_of(vid: Vid, limit: u16, ageing: u32) -> Result<TableRule, Fail>
+fn rule_of(vid: Vid, limit: u32, ageing: u32) -> Result<TableRule, Fail>
     ensures in_range { IfOk result IsRule }
     ensures vid { IfOk result (λ rule. rule.vid ≡ vid) }
     ensures limit { IfOk result (λ rule. rule.limit ≡ limit) }
+    ensures most { IfOk result (λ rule. rule.limit ≤ 8192) }
 {
     if limit < 1 || limit > 8192 || ageing < 10 || ageing > 1_000_000 {
         return Err(Fail::new("a limit or an ageing out of range"));
@@ -143,7 +144,7 @@ fn rule_of(vid: Vid, limit: u16, ageing: u32) -> Result<TableRule, Fail>
 /// Both bodies of the trait, opened for VID 9 and VID 10, each with a limit and an ageing; the pool has room for no more.
 pub(crate) fn opened(
     alloc: Global,
-    (nine, ten): (u16, u16),
+    (nine, ten): (u32, u32),
     ageings: (u32, u32),
 ) -> Result<(ListTables, SharedTables), Fail> {
     let rules = [
@@ -151,7 +152,7 @@ pub(crate) fn opened(
         rule_of(Vid::new(10).ok_or("VID 10")?, ten, ageings.1)?,
     ];
     let lists = ListTables::open(alloc, &rules)?;
-    let shared = SharedTables::open(alloc, &rules, u32::from(nine) + u32::from(ten))?;
+    let shared = SharedTables::open(alloc, &rules, nine + ten)?;
     Ok((lists, shared))
 }
 

@@ -39,7 +39,7 @@ const DONE: Answer = Answer::Done;
 /// answer each.
 struct Run {
     name: &'static str,
-    limit: u16,
+    limit: u32,
     ageing: u32,
     calls: &'static [(u16, u64, Call, Answer)],
 }

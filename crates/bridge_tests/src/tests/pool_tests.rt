@@ -17,11 +17,11 @@ enum Step {
     /// A call for a VID at a moment, and its answer.
     Calls(u16, u64, Call, Answer),
     /// A segment of this VID and limit with ageing 10 at moment 0, and whether it comes.
-    Adds(u16, u16, bool),
+    Adds(u16, u32, bool),
     /// The segment of this VID at moment 0, and whether it goes.
     Removes(u16, bool),
     /// The segment of this VID at a moment, another limit, and whether it gets that.
-    Limits(u16, u64, u16, bool),
+    Limits(u16, u64, u32, bool),
     /// How many segments there are, and the room that is left.
     Leaves(u32, u32),
 }
@@ -49,7 +49,7 @@ fn comes_of(tables: &mut SharedTables, step: Step) -> bool {
     }
 }
 
-fn rule(vid: Vid, limit: u16) -> TableRule {
+fn rule(vid: Vid, limit: u32) -> TableRule {
     TableRule {
         vid,
         limit,

@@ -58,7 +58,11 @@ fn underlay() -> Underlay {
         partial: false,
         known: Known::new(),
         hops: Hops::new(),
-        limits: Limits { segments: 256 },
+        limits: Limits {
+            segments: 256,
+            entries: 8192,
+            addresses: 65536,
+        },
     }
 }
 

@@ -10,7 +10,7 @@ use overlay_config::settings_of;
 use std::alloc::Global;
 use std::test::Fail;
 use test_inputs::settings::ENDPOINT;
-use timeline::{Captured, Cut, Event, Happening, Source, Tap};
+use timeline::{Captured, Cut, Event, Happening, Tap};
 
 const SECOND: u64 = 1_000_000_000;
 
@@ -146,7 +146,7 @@ fn first_wrong(alloc: Global, bound: u64) -> Result<Option<u64>, Fail> {
     let mut line = Line::new();
     let mut number = Counter::new();
     for count in 0..bound {
-        line.begin_counted(&number, count, Source::Changes, &number, None);
+        line.begin(&number, &change(count, count), None);
         let expected = format!(in alloc; "{count} {count} c {count} - ")?;
         if line.text() != expected.as_bytes() {
             return Ok(Some(count));

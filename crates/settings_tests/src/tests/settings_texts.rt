@@ -11,7 +11,7 @@ Settings { parts: Parts { underlay: Underlay { mac: Mac([2, 0, 0, 0, 170, 1]), \
 next_hop: Mac([2, 0, 0, 0, 170, 254]), ip4: Some([192, 0, 2, 1]), \
 ip6: Some([32, 1, 13, 184, 0, 0, 0, 0, 0, 0, 0, 0, 0, 0, 0, 1]), mtu: 1550, ttl: 64, vxlan_port: 4789, \
 geneve_port: 6081, sum4: false, sum6: true, zero6: true, partial: false, known: Known { pairs: [] }, \
-hops: Hops { exceptions: [] }, limits: Limits { segments: 256 } }, ports: [PortRule { pvid: Vid { number: 10 }, accept: All, up: true }, \
+hops: Hops { exceptions: [] }, limits: Limits { segments: 256, entries: 8192, addresses: 65536 } }, ports: [PortRule { pvid: Vid { number: 10 }, accept: All, up: true }, \
 PortRule { pvid: Vid { number: 10 }, accept: All, up: true }, PortRule { pvid: Vid { number: 10 }, accept: All, \
 up: true }], segments: [";
 
@@ -112,7 +112,7 @@ next_hop: Mac([2, 0, 0, 0, 170, 254]), ip4: Some([192, 0, 2, 1]), ip6: None, mtu
 vxlan_port: 6081, geneve_port: 65535, sum4: true, sum6: false, zero6: false, partial: false, \
 known: Known { pairs: [(258, 128), (65535, 255)] }, \
 hops: Hops { exceptions: [Hop { addr: V6([32, 1, 13, 184, 0, 0, 0, 0, 0, 0, 0, 0, 0, 0, 0, 9]), \
-mac: Mac([2, 0, 0, 0, 187, 9]) }] }, limits: Limits { segments: 256 } }, ports: [PortRule { pvid: Vid { number: 10 }, accept: Tagged, up: false }, \
+mac: Mac([2, 0, 0, 0, 187, 9]) }] }, limits: Limits { segments: 256, entries: 8192, addresses: 65536 } }, ports: [PortRule { pvid: Vid { number: 10 }, accept: Tagged, up: false }, \
 PortRule { pvid: Vid { number: 4094 }, accept: Untagged, up: true }], \
 segments: [SegmentRule { vid: Vid { number: 10 }, tunnels: Tunnels { first: SegmentTunnel { kind: Vxlan, \
 vni: Vni { number: 5000 }, group: 0 }, second: None }, flood: FloodList { entries: [Remote { tunnel: Vxlan, \
@@ -159,7 +159,7 @@ const TWO_TUNNELS_AND_ONE_MEAN: &str = "\
 Settings { parts: Parts { underlay: Underlay { mac: Mac([2, 0, 0, 0, 170, 1]), \
 next_hop: Mac([2, 0, 0, 0, 170, 254]), ip4: Some([192, 0, 2, 1]), ip6: None, mtu: 1550, ttl: 64, vxlan_port: 4789, \
 geneve_port: 6081, sum4: false, sum6: true, zero6: true, partial: false, known: Known { pairs: [] }, \
-hops: Hops { exceptions: [] }, limits: Limits { segments: 256 } }, ports: [PortRule { pvid: Vid { number: 10 }, accept: All, up: true }], \
+hops: Hops { exceptions: [] }, limits: Limits { segments: 256, entries: 8192, addresses: 65536 } }, ports: [PortRule { pvid: Vid { number: 10 }, accept: All, up: true }], \
 segments: [SegmentRule { vid: Vid { number: 10 }, tunnels: Tunnels { first: SegmentTunnel { kind: Geneve, \
 vni: Vni { number: 9000 }, group: 255 }, second: Some(SegmentTunnel { kind: Vxlan, vni: Vni { number: 5000 }, \
 group: 1 }) }, flood: FloodList { entries: [Remote { tunnel: Geneve, addr: V4([192, 0, 2, 3]) }, \

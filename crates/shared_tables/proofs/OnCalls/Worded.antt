@@ -71,7 +71,7 @@ module _ (es : List (Option Held)) (v a t : ℕ) where
   abbrev row_or : ℕ → List ℕ × Entry
   row_or word = unwrap_or (row_in es v a t word) blank
 
-  addressed : (word : ℕ) (o : Option (List ℕ × Entry)) → HasAddress word o → IsAddress (unwrap_or o blank).0 × (word / 65536 ≡ number_of (unwrap_or o blank).0)
+  addressed : (word : ℕ) (o : Option (List ℕ × Entry)) → HasAddress word o → IsAddress (unwrap_or o blank).0 × (word / 1048576 ≡ number_of (unwrap_or o blank).0)
   addressed word None h = absurd h
   addressed word (Some row) h = h
 
@@ -111,21 +111,21 @@ module _ (es : List (Option Held)) (v a t : ℕ) where
 
   -- ---- one word more
 
-  is_word : (slot : ℕ) → slot < 65536 → (o : Option Held) → entry_at es slot ≡ o → IfSome (live_row v a t o) (λ row. IsAddress row.0) → IfSome (word_of slot (live_row v a t o)) (IsWord es v a t)
+  is_word : (slot : ℕ) → slot < 1048576 → (o : Option Held) → entry_at es slot ≡ o → IfSome (live_row v a t o) (λ row. IsAddress row.0) → IfSome (word_of slot (live_row v a t o)) (IsWord es v a t)
   is_word slot few o is six = from (live_row v a t o) refl six
     where
       from : (r : Option (List ℕ × Entry)) → live_row v a t o ≡ r → IfSome r (λ row. IsAddress row.0) → IfSome (word_of slot r) (IsWord es v a t)
       from None e h = tt
       from (Some row) e h =
-          let word = number_of row.0 * 65536 + slot in
-          let low : word % 65536 ≡ slot = omega (arith, few) in
-          let high : word / 65536 ≡ number_of row.0 = omega (arith, few) in
+          let word = number_of row.0 * 1048576 + slot in
+          let low : word % 1048576 ≡ slot = omega (arith, few) in
+          let high : word / 1048576 ≡ number_of row.0 = omega (arith, few) in
           subst (HasAddress word) (sym (ap (λ i. live_row v a t (entry_at es i)) low ∙ ap (live_row v a t) is ∙ e)) (h, high)
 
-  pub slot_word : (slot : ℕ) (o : Option Held) (word : Option ℕ) → slot < 65536 → entry_at es slot ≡ o → word ≡ word_of slot (live_row v a t o) → IfSome (live_row v a t o) (λ row. IsAddress row.0) → IfSome word (IsWord es v a t)
+  pub slot_word : (slot : ℕ) (o : Option Held) (word : Option ℕ) → slot < 1048576 → entry_at es slot ≡ o → word ≡ word_of slot (live_row v a t o) → IfSome (live_row v a t o) (λ row. IsAddress row.0) → IfSome word (IsWord es v a t)
   slot_word slot o word few is e six = subst (λ w. IfSome w (IsWord es v a t)) (sym e) (is_word slot few o is six)
 
-  pub put_rows : (old : List ℕ) (slot : ℕ) (word : Option ℕ) (new : List ℕ) → slot < 65536 → word ≡ word_of slot (live_row v a t (entry_at es slot)) → new ≡ old ++ option_to_list word
+  pub put_rows : (old : List ℕ) (slot : ℕ) (word : Option ℕ) (new : List ℕ) → slot < 1048576 → word ≡ word_of slot (live_row v a t (entry_at es slot)) → new ≡ old ++ option_to_list word
       → rows_in es v a t new ≡ rows_in es v a t old ++ option_to_list (live_row v a t (entry_at es slot))
   put_rows old slot word new few is put =
       ap (rows_in es v a t) put
@@ -135,7 +135,7 @@ module _ (es : List (Option Held)) (v a t : ℕ) where
       from : (r : Option (List ℕ × Entry)) → live_row v a t (entry_at es slot) ≡ r → rows_in es v a t (option_to_list (word_of slot r)) ≡ option_to_list r
       from None e = refl
       from (Some row) e =
-          let low : (number_of row.0 * 65536 + slot) % 65536 ≡ slot = omega (arith, few) in
+          let low : (number_of row.0 * 1048576 + slot) % 1048576 ≡ slot = omega (arith, few) in
           ap (λ o. cons_option o []) (ap (λ i. live_row v a t (entry_at es i)) low ∙ e)
 
   pub put_words : (old : List ℕ) (word : Option ℕ) (new : List ℕ) → IfSome word (IsWord es v a t) → new ≡ old ++ option_to_list word → AreWords es v a t old → AreWords es v a t new
@@ -158,27 +158,27 @@ module _ (es : List (Option Held)) (v a t : ℕ) where
       from false row h = absurd h
 
   pub are_held : (words : List ℕ) → AreWords es v a t words → AreHeld es words
-  are_held words all k d lt = (some_held (get_or words k d) (entry_at es (get_or words k d % 65536)) (all k d lt)).0
+  are_held words all k d lt = (some_held (get_or words k d) (entry_at es (get_or words k d % 1048576)) (all k d lt)).0
 
   pub held_live : (words : List ℕ) → AreWords es v a t words → held_rows es words ≡ rows_in es v a t words
   held_live [] all = refl
   held_live (w ∷ words) all =
-      ap (λ o. cons_option o (held_rows es words)) (some_held w (entry_at es (w % 65536)) (all 0 0 (omega arith))).1
+      ap (λ o. cons_option o (held_rows es words)) (some_held w (entry_at es (w % 1048576)) (all 0 0 (omega arith))).1
       ∙ ap (cons_option (row_in es v a t w)) (held_live words (λ k d lt. all (suc k) d (omega (arith, lt))))
 
 -- ---- row by row
 
-next_held : (es : List (Option Held)) (words : List ℕ) (i d : ℕ) (row : List ℕ × Entry) → i < length words → Some row ≡ row_of (entry_at es (get_or words i d % 65536)) → held_rows es (take i words) ++ row ∷ [] ≡ held_rows es (take (suc i) words)
+next_held : (es : List (Option Held)) (words : List ℕ) (i d : ℕ) (row : List ℕ × Entry) → i < length words → Some row ≡ row_of (entry_at es (get_or words i d % 1048576)) → held_rows es (take i words) ++ row ∷ [] ≡ held_rows es (take (suc i) words)
 next_held es [] i d row lt is = absurd (omega (arith, lt))
 next_held es (w ∷ words) zero d row lt is = ap (λ o. cons_option o []) is
 next_held es (w ∷ words) (suc i) d row lt is =
-    out (row_of (entry_at es (w % 65536))) (held_rows es (take i words)) (row ∷ []) ∙ ap (cons_option (row_of (entry_at es (w % 65536)))) (next_held es words i d row (omega (arith, lt)) is)
+    out (row_of (entry_at es (w % 1048576))) (held_rows es (take i words)) (row ∷ []) ∙ ap (cons_option (row_of (entry_at es (w % 1048576)))) (next_held es words i d row (omega (arith, lt)) is)
   where
     out : (o : Option (List ℕ × Entry)) (rs ss : Rows) → cons_option o rs ++ ss ≡ cons_option o (rs ++ ss)
     out None rs ss = refl
     out (Some r) rs ss = refl
 
-pub held_next : (es : List (Option Held)) (words : List ℕ) (i d : ℕ) (row : List ℕ × Entry) → i < length words → Some row ≡ row_of (entry_at es (get_or words i d % 65536)) → held_rows es (take i words) ++ row ∷ [] ≡ held_rows es (take (i + 1) words)
+pub held_next : (es : List (Option Held)) (words : List ℕ) (i d : ℕ) (row : List ℕ × Entry) → i < length words → Some row ≡ row_of (entry_at es (get_or words i d % 1048576)) → held_rows es (take i words) ++ row ∷ [] ≡ held_rows es (take (i + 1) words)
 held_next es words i d row lt is = let more : suc i ≡ i + 1 = omega arith in next_held es words i d row lt is ∙ ap (λ n. held_rows es (take n words)) more
 
 pub held_in : (es : List (Option Held)) (i : ℕ) → IsSome (entry_at es i) → i < length es

@@ -14,7 +14,7 @@ use Rattle.shared_tables.specs.Bucket.{IsKey}
 use Rattle.shared_tables.specs.TreesOfSlots.{key_in, IsTreeOf, StandsAt, Keeps, AreTreesOf}
 use Rattle.shared_tables.proofs.OnTrees.TreesOfLemmas.{nothing_word}
 
-module _ (n : ℕ) (few : n ≤ 65536) where
+module _ (n : ℕ) (few : n ≤ 262144) where
   abbrev w : Trees
   w = bare_trees n
 

@@ -114,14 +114,14 @@ module _ (es : List (Option Held)) (w : Trees) (h : AreTreesOf es w) (e : Held) 
       (λ yes. subst (λ q. StandsAt es' w' q (at' q)) (sym (equal p c yes)) (subst (StandsAt es' w' c) (sym at_none) tt))
       (λ no. subst (StandsAt es' w' p) (sym (at_else p (apart p c no))) (stays p (apart p c no) (at p) refl (h.stands p)))
 
-  spare : Keeps w h.keeper n (65536 + c)
-  spare = subst (λ t. Keeps w h.keeper (spare_of w t) (65536 + c)) at_root (h.spares c c_lt (leaf_there (at c) s at_root))
+  spare : Keeps w h.keeper n (1048576 + c)
+  spare = subst (λ t. Keeps w h.keeper (spare_of w t) (1048576 + c)) at_root (h.spares c c_lt (leaf_there (at c) s at_root))
 
   -- the slot keeps the tree's fork
   keeper' : ℕ → ℕ
   keeper' m = cond (nat_eq m n) s (h.keeper m)
 
-  keeps : (m k : ℕ) → k ≢ 65536 + c → Keeps w h.keeper m k → Keeps w' keeper' m k
+  keeps : (m k : ℕ) → k ≢ 1048576 + c → Keeps w h.keeper m k → Keeps w' keeper' m k
   unfolding keeper'
   keeps m k ne was =
       let away : m ≢ n = λ q. ne (sym was.kept ∙ ap h.keeper q ∙ spare.kept) in
@@ -143,18 +143,18 @@ module _ (es : List (Option Held)) (w : Trees) (h : AreTreesOf es w) (e : Held) 
   frees i ilt is = by_bool (nat_eq i s)
       (λ yes. subst (λ k. Keeps w' keeper' (number_at w'.leaves k) k) (sym (equal i s yes)) keeps_own)
       (λ no.
-      let few : length es < 65537 = omega (arith, h.slots, h.sizes.few) in
+      let few : length es < 1048577 = omega (arith, h.slots, h.sizes.few) in
       let away : i ≢ s = apart i s no in
       let within : i < length es = subst (λ z. i < z) (length-set es s None) ilt in
       keeps (number_at w.leaves i) i (λ q. absurd (omega (arith, q, within, few))) (h.frees i within (sym (entry_other es s i None away) ∙ is)))
 
-  spares : (c' : ℕ) → c' < 262144 → at' c' ≢ target.Nothing → Keeps w' keeper' (spare_of w' (at' c')) (65536 + c')
+  spares : (c' : ℕ) → c' < 262144 → at' c' ≢ target.Nothing → Keeps w' keeper' (spare_of w' (at' c')) (1048576 + c')
   spares c' clt some =
       let ne : c' ≢ c = λ q. some (ap at' q ∙ at_none) in
-      subst (λ t. Keeps w' keeper' (spare_of w' t) (65536 + c')) (sym (at_else c' ne))
-      (same_spare (at c') (keeps (spare_of w (at c')) (65536 + c') (λ q. ne (omega (arith, q))) (h.spares c' clt (λ q. some (at_else c' ne ∙ q)))))
+      subst (λ t. Keeps w' keeper' (spare_of w' t) (1048576 + c')) (sym (at_else c' ne))
+      (same_spare (at c') (keeps (spare_of w (at c')) (1048576 + c') (λ q. ne (omega (arith, q))) (h.spares c' clt (λ q. some (at_else c' ne ∙ q)))))
     where
-      same_spare : (t : Target) → Keeps w' keeper' (spare_of w t) (65536 + c') → Keeps w' keeper' (spare_of w' t) (65536 + c')
+      same_spare : (t : Target) → Keeps w' keeper' (spare_of w t) (1048576 + c') → Keeps w' keeper' (spare_of w' t) (1048576 + c')
       same_spare target.Nothing k = k
       same_spare (target.Leaf i) k = k
       same_spare (target.Fork m x) k = k

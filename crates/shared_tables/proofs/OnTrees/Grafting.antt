@@ -298,11 +298,11 @@ module _ (es : List (Option Held)) (w : Trees) (h : AreTreesOf es w) (e : Held) 
         ap (spare_of w') (at_else c' (apart c' place no) (λ q. absurd (omega (arith, clt, q))) (λ q. absurd (omega (arith, clt, q))))
         ∙ spare_else c' (apart c' place no) (at c') refl (h.stands c'))
 
-    spares : (c' : ℕ) → c' < 262144 → at' c' ≢ target.Nothing → Keeps w' h.keeper (spare_of w' (at' c')) (65536 + c')
+    spares : (c' : ℕ) → c' < 262144 → at' c' ≢ target.Nothing → Keeps w' h.keeper (spare_of w' (at' c')) (1048576 + c')
     spares c' clt some =
-        let few : length es < 65537 = omega (arith, h.slots, h.sizes.few) in
-        subst (λ m. Keeps w' h.keeper m (65536 + c')) (sym (spare_same c' clt))
-        (keeps (spare_of w (at c')) (65536 + c') (λ q. absurd (omega (arith, q, lt, few))) (h.spares c' clt (λ none. some (nothing_stays c' clt none))))
+        let few : length es < 1048577 = omega (arith, h.slots, h.sizes.few) in
+        subst (λ m. Keeps w' h.keeper m (1048576 + c')) (sym (spare_same c' clt))
+        (keeps (spare_of w (at c')) (1048576 + c') (λ q. absurd (omega (arith, q, lt, few))) (h.spares c' clt (λ none. some (nothing_stays c' clt none))))
 
     words_len : length w'.words ≡ length w.words
     words_len = length-set words2 (child_of n (1 - side)) leaf ∙ words2_len

@@ -112,7 +112,7 @@ module _ (es : List (Option Held)) (w : Trees) (h : AreTreesOf es w) (e : Held) 
 
   -- the tree keeps the slot's fork
   keeper' : ℕ → ℕ
-  keeper' m = cond (nat_eq m n) (65536 + c) (h.keeper m)
+  keeper' m = cond (nat_eq m n) (1048576 + c) (h.keeper m)
 
   keeps : (m k : ℕ) → k ≢ s → Keeps w h.keeper m k → Keeps w' keeper' m k
   unfolding keeper'
@@ -120,15 +120,15 @@ module _ (es : List (Option Held)) (w : Trees) (h : AreTreesOf es w) (e : Held) 
       let away : m ≢ n = λ q. ne (sym was.kept ∙ ap h.keeper q ∙ own_fork.kept) in
       record {
         there = was.there;
-        kept = ap (λ a. cond a (65536 + c) (h.keeper m)) (differ m n away) ∙ was.kept;
+        kept = ap (λ a. cond a (1048576 + c) (h.keeper m)) (differ m n away) ∙ was.kept;
         bare = (child_same m 0 ∙ was.bare.0, child_same m 1 ∙ was.bare.1);
       }
 
-  keeps_own : Keeps w' keeper' n (65536 + c)
+  keeps_own : Keeps w' keeper' n (1048576 + c)
   unfolding keeper'
   keeps_own = record {
     there = own_fork.there;
-    kept = ap (λ a. cond a (65536 + c) (h.keeper n)) (nat_eq_refl n);
+    kept = ap (λ a. cond a (1048576 + c) (h.keeper n)) (nat_eq_refl n);
     bare = (child_same n 0 ∙ own_fork.bare.0, child_same n 1 ∙ own_fork.bare.1);
   }
 
@@ -137,16 +137,16 @@ module _ (es : List (Option Held)) (w : Trees) (h : AreTreesOf es w) (e : Held) 
       let away : i ≢ s = λ q. let bad : Some e ≡ None = sym (entry_same es s (Some e) lt) ∙ ap (entry_at es') (sym q) ∙ is in cc in
       keeps (number_at w.leaves i) i away (h.frees i (subst (λ z. i < z) (length-set es s (Some e)) ilt) (sym (entry_other es s i (Some e) away) ∙ is))
 
-  spares : (c' : ℕ) → c' < 262144 → at' c' ≢ target.Nothing → Keeps w' keeper' (spare_of w' (at' c')) (65536 + c')
+  spares : (c' : ℕ) → c' < 262144 → at' c' ≢ target.Nothing → Keeps w' keeper' (spare_of w' (at' c')) (1048576 + c')
   spares c' clt some = by_bool (nat_eq c' c)
-      (λ yes. subst (λ x. Keeps w' keeper' (spare_of w' (at' x)) (65536 + x)) (sym (equal c' c yes)) (subst (λ t. Keeps w' keeper' (spare_of w' t) (65536 + c)) (sym at_root) keeps_own))
+      (λ yes. subst (λ x. Keeps w' keeper' (spare_of w' (at' x)) (1048576 + x)) (sym (equal c' c yes)) (subst (λ t. Keeps w' keeper' (spare_of w' t) (1048576 + c)) (sym at_root) keeps_own))
       (λ no.
-      let few : length es < 65537 = omega (arith, h.slots, h.sizes.few) in
+      let few : length es < 1048577 = omega (arith, h.slots, h.sizes.few) in
       let stays_there : at' c' ≡ at c' = at_else c' (apart c' c no) in
-      subst (λ t. Keeps w' keeper' (spare_of w' t) (65536 + c')) (sym stays_there)
-      (same_spare (at c') (keeps (spare_of w (at c')) (65536 + c') (λ q. absurd (omega (arith, q, lt, few))) (h.spares c' clt (λ q. some (stays_there ∙ q))))))
+      subst (λ t. Keeps w' keeper' (spare_of w' t) (1048576 + c')) (sym stays_there)
+      (same_spare (at c') (keeps (spare_of w (at c')) (1048576 + c') (λ q. absurd (omega (arith, q, lt, few))) (h.spares c' clt (λ q. some (stays_there ∙ q))))))
     where
-      same_spare : (t : Target) → Keeps w' keeper' (spare_of w t) (65536 + c') → Keeps w' keeper' (spare_of w' t) (65536 + c')
+      same_spare : (t : Target) → Keeps w' keeper' (spare_of w t) (1048576 + c') → Keeps w' keeper' (spare_of w' t) (1048576 + c')
       same_spare target.Nothing k = k
       same_spare (target.Leaf i) k = k
       same_spare (target.Fork m x) k = k

@@ -442,8 +442,8 @@ module _ (es : List (Option Held)) (w : Trees) (h : AreTreesOf es w) (e : Held) 
       ∙ ap (spare_of w) (sym at_above) ∙ ap (λ p. spare_of w (at p)) (sym (equal c' top yes)))
       (λ no. ap (spare_of w') (at_else c' (apart c' top no) (root_not c' 0 clt) (root_not c' 1 clt)) ∙ spare_else c' clt (at c') refl (h.stands c'))
 
-  spares : (c' : ℕ) → c' < 262144 → at' c' ≢ target.Nothing → Keeps w' keeper' (spare_of w' (at' c')) (65536 + c')
-  spares c' clt some = subst (λ m. Keeps w' keeper' m (65536 + c')) (sym (spare_same c' clt)) (keeps (spare_of w (at c')) (65536 + c') (h.spares c' clt (λ none. some (nothing_stays c' clt none))))
+  spares : (c' : ℕ) → c' < 262144 → at' c' ≢ target.Nothing → Keeps w' keeper' (spare_of w' (at' c')) (1048576 + c')
+  spares c' clt some = subst (λ m. Keeps w' keeper' m (1048576 + c')) (sym (spare_same c' clt)) (keeps (spare_of w (at c')) (1048576 + c') (h.spares c' clt (λ none. some (nothing_stays c' clt none))))
 
   words_len : length w'.words ≡ length w.words
   words_len = length-set words2 (child_of fork 1) 4294967295 ∙ words2_len

@@ -40,37 +40,37 @@ pub nothing_word : target_in 4294967295 ≡ target.Nothing
 unfolding target_in
 nothing_word = refl
 
-pub leaf_word : (s : ℕ) → s < 65536 → target_in s ≡ target.Leaf s
+pub leaf_word : (s : ℕ) → s < 1048576 → target_in s ≡ target.Leaf s
 unfolding target_in
 leaf_word s lt =
-    let yes : nat_lt s 65536 ≡ true = grind (arith, nat_tests, lt) in
-    ap (λ b. cond b (target.Leaf s) (cond (nat_eq s 4294967295) target.Nothing (target.Fork ((s - 65536) / 64) ((s - 65536) % 64)))) yes
+    let yes : nat_lt s 1048576 ≡ true = grind (arith, nat_tests, lt) in
+    ap (λ b. cond b (target.Leaf s) (cond (nat_eq s 4294967295) target.Nothing (target.Fork ((s - 1048576) / 64) ((s - 1048576) % 64)))) yes
 
-pub fork_is : (n b : ℕ) → n < 65536 → b < 64 → target_in (fork_word n b) ≡ target.Fork n b
+pub fork_is : (n b : ℕ) → n < 1048576 → b < 64 → target_in (fork_word n b) ≡ target.Fork n b
 unfolding target_in
 fork_is n b p q =
-    let w : ℕ = 65536 + n * 64 + b in
-    let no : nat_lt (65536 + n * 64 + b) 65536 ≡ false = grind (arith, nat_tests) in
-    let nor : nat_eq (65536 + n * 64 + b) 4294967295 ≡ false = grind (arith, nat_tests, p, q) in
-    let fork : (65536 + n * 64 + b - 65536) / 64 ≡ n = omega (arith, p, q) in
-    let bit : (65536 + n * 64 + b - 65536) % 64 ≡ b = omega (arith, p, q) in
-    ap (λ c. cond c (target.Leaf (65536 + n * 64 + b)) (cond (nat_eq (65536 + n * 64 + b) 4294967295) target.Nothing (target.Fork ((65536 + n * 64 + b - 65536) / 64) ((65536 + n * 64 + b - 65536) % 64)))) no
-    ∙ ap (λ c. cond c target.Nothing (target.Fork ((65536 + n * 64 + b - 65536) / 64) ((65536 + n * 64 + b - 65536) % 64))) nor
-    ∙ ap (λ k. target.Fork k ((65536 + n * 64 + b - 65536) % 64)) fork ∙ ap (target.Fork n) bit
+    let w : ℕ = 1048576 + n * 64 + b in
+    let no : nat_lt (1048576 + n * 64 + b) 1048576 ≡ false = grind (arith, nat_tests) in
+    let nor : nat_eq (1048576 + n * 64 + b) 4294967295 ≡ false = grind (arith, nat_tests, p, q) in
+    let fork : (1048576 + n * 64 + b - 1048576) / 64 ≡ n = omega (arith, p, q) in
+    let bit : (1048576 + n * 64 + b - 1048576) % 64 ≡ b = omega (arith, p, q) in
+    ap (λ c. cond c (target.Leaf (1048576 + n * 64 + b)) (cond (nat_eq (1048576 + n * 64 + b) 4294967295) target.Nothing (target.Fork ((1048576 + n * 64 + b - 1048576) / 64) ((1048576 + n * 64 + b - 1048576) % 64)))) no
+    ∙ ap (λ c. cond c target.Nothing (target.Fork ((1048576 + n * 64 + b - 1048576) / 64) ((1048576 + n * 64 + b - 1048576) % 64))) nor
+    ∙ ap (λ k. target.Fork k ((1048576 + n * 64 + b - 1048576) % 64)) fork ∙ ap (target.Fork n) bit
 
-pub fork_told : (word : ℕ) → IsFork word → target_in word ≡ target.Fork ((word - 65536) / 64) ((word - 65536) % 64)
+pub fork_told : (word : ℕ) → IsFork word → target_in word ≡ target.Fork ((word - 1048576) / 64) ((word - 1048576) % 64)
 unfolding target_in
 fork_told word f =
-    let no : nat_lt word 65536 ≡ false = grind (arith, nat_tests, f.0) in
+    let no : nat_lt word 1048576 ≡ false = grind (arith, nat_tests, f.0) in
     let nor : nat_eq word 4294967295 ≡ false = grind (arith, nat_tests, f.1) in
-    ap (λ c. cond c (target.Leaf word) (cond (nat_eq word 4294967295) target.Nothing (target.Fork ((word - 65536) / 64) ((word - 65536) % 64)))) no
-    ∙ ap (λ c. cond c target.Nothing (target.Fork ((word - 65536) / 64) ((word - 65536) % 64))) nor
+    ap (λ c. cond c (target.Leaf word) (cond (nat_eq word 4294967295) target.Nothing (target.Fork ((word - 1048576) / 64) ((word - 1048576) % 64)))) no
+    ∙ ap (λ c. cond c target.Nothing (target.Fork ((word - 1048576) / 64) ((word - 1048576) % 64))) nor
 
 pub no_fork_told : (word n b : ℕ) → (IsFork word → ⊥) → target_in word ≢ target.Fork n b
 unfolding target_in
-no_fork_told word n b none = go (nat_lt word 65536) (nat_eq word 4294967295) refl refl
+no_fork_told word n b none = go (nat_lt word 1048576) (nat_eq word 4294967295) refl refl
   where
-    go : (x y : Bool) → nat_lt word 65536 ≡ x → nat_eq word 4294967295 ≡ y → cond x (target.Leaf word) (cond y target.Nothing (target.Fork ((word - 65536) / 64) ((word - 65536) % 64))) ≢ target.Fork n b
+    go : (x y : Bool) → nat_lt word 1048576 ≡ x → nat_eq word 4294967295 ≡ y → cond x (target.Leaf word) (cond y target.Nothing (target.Fork ((word - 1048576) / 64) ((word - 1048576) % 64))) ≢ target.Fork n b
     go true y p q e = let bad : target.Leaf word ≡ target.Fork n b = e in cc
     go false true p q e = let bad : target.Nothing ≡ target.Fork n b = e in cc
     go false false p q e = absurd (none (grind (arith, nat_tests, p), apart word 4294967295 q))

@@ -1,7 +1,7 @@
 //! The live entries of a segment, listed.
 //!
-//! A listing sorts words of 64 bits: an address in the upper 48, and in the lower 16 its slot, of which a pool has at most
-//! 65,536. Addresses are in order as the numbers of their octets, which is proved, and no two rows have the same. Room for
+//! A listing sorts words of 128 bits: in the lowest 20 a slot, of which a pool has at most 262,144, and in the 48 above its
+//! address. Addresses are in order as the numbers of their octets, which is proved, and no two rows have the same. Room for
 //! the words is asked for by the count of the segment's entries, dead ones too, and room for the rows by what is live.
 ghost use Rattle.std.specs.Prelude.{◌≡◌, ◌≤◌, ◌%◌, ℕ, [], IfOk, OnOk};
 ghost use Rattle.std.specs.FinMap.{entries};
@@ -54,7 +54,7 @@ impl SharedTables {
 /// Puts the words of the live entries of a segment into an empty list: in the order of the slots, in which
 /// addresses stand as they came, or in that of its lines, in which they were last seen.
 fn put_live(
-    words: &mut Vec<u64>,
+    words: &mut Vec<u128>,
     slots: &Slots,
     vid: Vid,
     share: &Share,
@@ -89,7 +89,7 @@ fn first_of(share: &Share, fixed: bool) -> Link
 
 /// Puts the words of the live ones among the fixed entries of a segment, or among those of its age queue, behind these.
 fn put_line(
-    words: &mut Vec<u64>,
+    words: &mut Vec<u128>,
     slots: &Slots,
     vid: Vid,
     share: &Share,
@@ -115,7 +115,7 @@ fn put_line(
 }
 
 /// The rows of the slots whose numbers the words tell, in their order.
-fn rows_of(alloc: Global, slots: &Slots, words: &[u64]) -> Result<Vec<(Mac, Entry)>, AllocError>
+fn rows_of(alloc: Global, slots: &Slots, words: &[u128]) -> Result<Vec<(Mac, Entry)>, AllocError>
     requires { AreHeld slots.now.entries words.now }
     ensures { IfOk result (λ rows. rows.items ≡ held_rows slots.now.entries words.now) }
 {
@@ -127,10 +127,10 @@ fn rows_of(alloc: Global, slots: &Slots, words: &[u64]) -> Result<Vec<(Mac, Entr
 }
 
 /// The slot whose number a word tells.
-fn slot_of(word: u64) -> SlotId
-    ensures { result ≡ word % 65536 }
+fn slot_of(word: u128) -> SlotId
+    ensures { result ≡ word % 1048576 }
 {
     SlotId {
-        number: (word % 0x1_0000) as u32,
+        number: (word % 0x10_0000) as u32,
     }
 }

@@ -32,14 +32,14 @@ impl Slots {
         live_row(&self.slots[slot.number as usize], vid, ageing, now)
     }
 
-    /// A word of what a slot holds, the address in its upper 48 bits and the slot's number in its lower 16, if that is of the
+    /// A word of what a slot holds, the slot's number in its lowest 20 bits and the address in the 48 above, if that is of the
     /// segment, and live at a moment under an ageing in nanoseconds. What is told here isn't counted.
-    pub fn live_word(&self, slot: SlotId, vid: Vid, ageing: u64, now: u64) -> Option<u64>
+    pub fn live_word(&self, slot: SlotId, vid: Vid, ageing: u64, now: u64) -> Option<u128>
         requires in_pool { slot < length self.now.entries }
         requires held { IsSome (entry_at self.now.entries slot) }
         ensures word { result ≡ word_of slot (live_row vid ageing now (entry_at self.now.entries slot)) }
         ensures is_word { IfSome result (λ word. IsWord self.now.entries vid ageing now word) }
-        ensures few { slot < 65536 }
+        ensures few { slot < 1048576 }
     {
         live_word(
             &self.slots[slot.number as usize],
@@ -54,7 +54,7 @@ impl Slots {
     /// nanoseconds. What is told here isn't counted. `AllocError`: there was no room for them.
     pub fn put_live(
         &self,
-        words: &mut Vec<u64>,
+        words: &mut Vec<u128>,
         vid: Vid,
         ageing: u64,
         now: u64,
@@ -74,7 +74,7 @@ impl Slots {
 }
 
 /// Puts a word behind these, where there is one.
-pub fn put_word(words: &mut Vec<u64>, word: Option<u64>) -> Result<(), AllocError>
+pub fn put_word(words: &mut Vec<u128>, word: Option<u128>) -> Result<(), AllocError>
     ensures { OnOk result (words.new.items ≡ words.old.items ++ option_to_list word) }
 {
     if let Some(word) = word {
@@ -119,8 +119,8 @@ fn live_row(slot: &Slot, vid: Vid, ageing: u64, now: u64) -> Option<(Mac, Entry)
 }
 
 /// The word of its entry from a slot of this number, if that is of the segment and live.
-fn live_word(slot: &Slot, number: u32, vid: Vid, ageing: u64, now: u64) -> Option<u64>
-    requires { number < 65536 }
+fn live_word(slot: &Slot, number: u32, vid: Vid, ageing: u64, now: u64) -> Option<u128>
+    requires { number < 1048576 }
     ensures word { result ≡ word_of number (live_row vid ageing now (entry_in slot.now)) }
     ensures address { IfSome (live_row vid ageing now (entry_in slot.now)) (λ row. IsAddress row.0) }
 {
@@ -131,11 +131,11 @@ fn live_word(slot: &Slot, number: u32, vid: Vid, ageing: u64, now: u64) -> Optio
 }
 
 /// An address and the number of a slot, side by side.
-fn joined(mac: Mac, number: u32) -> u64
-    requires { number < 65536 }
-    ensures { result ≡ number_of mac * 65536 + number }
+fn joined(mac: Mac, number: u32) -> u128
+    requires { number < 1048576 }
+    ensures { result ≡ number_of mac * 1048576 + number }
 {
-    number_of(mac) * 0x1_0000 + u64::from(number)
+    u128::from(number_of(mac)) * 0x10_0000 + u128::from(number)
 }
 
 /// An address as a number, its first octet the highest.

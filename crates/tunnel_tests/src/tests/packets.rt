@@ -46,7 +46,11 @@ pub(crate) fn underlay(last: u8) -> Underlay
         partial: false,
         known: Known::new(),
         hops: Hops::new(),
-        limits: Limits { segments: 256 },
+        limits: Limits {
+            segments: 256,
+            entries: 8192,
+            addresses: 65536,
+        },
     }
 }
 

@@ -1,7 +1,7 @@
 use Rattle.std.proofs.Common.{◌≡◌, ◌∙◌, ◌≤◌, true, sym, subst, arith}
 use Rattle.std.specs.Prelude.{IsSomeAnd}
 use Rattle.clap.specs.Walk.{texts}
-use Rattle.command_line.specs.Meaning.{input_uses, lends_to_a_whole, meaning_of}
+use Rattle.command_line.specs.Meaning.{compares_nothing, input_uses, lends_to_a_whole, meaning_of}
 use Rattle.command_line.proofs.Simple.{explained_line}
 use Rattle.command_line.proofs.line.line_of.Goals as goal
 
@@ -14,6 +14,11 @@ pub returns-then-lends_to_a_whole-clause-fault : goal.returns-then-lends_to_a_wh
 returns-then-lends_to_a_whole-clause-fault c =
     let lends : lends_to_a_whole (meaning_of c.in-Ok.line) ≡ true = sym c.lends_to_a_whole.ensures ∙ c.if-lends_to_a_whole.true in
     (c.in-Ok.ensures.taken, subst (λ m. IsSomeAnd m (λ meaning. lends_to_a_whole meaning ≡ true)) (sym c.in-Ok.ensures.ok) lends)
+
+pub returns-then-compares_nothing-clause-fault : goal.returns-then-compares_nothing-clause-fault
+returns-then-compares_nothing-clause-fault c =
+    let nothing : compares_nothing (meaning_of c.in-Ok.line) ≡ true = sym c.compares_nothing.ensures ∙ c.if-compares_nothing.true in
+    (c.in-Ok.ensures.taken, subst (λ m. IsSomeAnd m (λ meaning. compares_nothing meaning ≡ true)) (sym c.in-Ok.ensures.ok) nothing)
 
 pub returns-in-Err-clause-fault : goal.returns-in-Err-clause-fault
 returns-in-Err-clause-fault c = explained_line (texts c.args.words.now) c.in-Err.fault c.in-Err.ensures.fault

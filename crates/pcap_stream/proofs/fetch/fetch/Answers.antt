@@ -1,10 +1,11 @@
 use Rattle.std.proofs.Common.{◌∙◌, ◌≤◌, ℕ, List, refl, rules, ap, sym, subst, length, Err, Ok, OnErr, Result}
 use Rattle.pcap_stream.specs.Ahead.{left_of}
-use Rattle.pcap_stream.specs.Source.{Failed}
+use Rattle.pcap_io.proofs.Nexts.{next_of-short}
+use Rattle.pcap_stream.specs.Source.{Failed, is_another}
 use Rattle.pcap_stream.proofs.Aheads.{read_by_part}
 use Rattle.pcap_stream.proofs.Bounds.{short_header, short_octets}
 use Rattle.pcap_stream.proofs.Fetching.{reads_cut, reads_fault, reads_record, reads_short}
-use Rattle.pcap_stream.proofs.HeldNext.{another_long, another_whole}
+use Rattle.pcap_stream.proofs.HeldNext.{another_lacks, another_long, another_whole}
 use Rattle.pcap_stream.proofs.fetch.fetch.Goals as goal
 
 pub returns-then-got-lt-RECORD_HEADER_LENGTH-clause-next : goal.returns-then-got-lt-RECORD_HEADER_LENGTH-clause-next
@@ -76,3 +77,15 @@ returns-clause-held g c is =
     let read = c.in_ok-got.ensures.there (another_long c.args.style c.args.ahead.now.ahead is) in
     let whole = another_whole c.args.style c.args.ahead.now.ahead c.pass.new.self.taken c.in-Ok.header is read.1 (search rules) in
     (c.in_ok-got-2.ensures.there (subst (λ (l : List ℕ). c.in-Ok.header.captured ≤ length l) (sym read.2) whole)).0 ∙ read.0
+
+-- ---- and one that wasn't
+
+pub returns-in_err-got-clause-lacked : goal.returns-in_err-got-clause-lacked
+returns-in_err-got-clause-lacked g c =
+    on_err _ c.from_residual.result (ap is_another (next_of-short c.args.style c.args.ahead.now.ahead c.in_err-got.ensures.lacked))
+
+pub returns-in_err-got-2-clause-lacked : goal.returns-in_err-got-2-clause-lacked
+returns-in_err-got-2-clause-lacked g c =
+    let there = c.in_ok-got.ensures.there in
+    on_err _ c.from_residual-in_err-got-2.result
+    (another_lacks c.args.style c.args.ahead.now.ahead c.pass.new.self.taken c.pass.new.self.ahead c.in-Ok.header (λ long. ((there long).1, (there long).2)) (search rules) c.in_err-got-2.ensures.lacked)

@@ -19,19 +19,19 @@ pub next-word-requires-clause-fork : goal.next-word-requires-clause-fork
 next-word-requires-clause-fork c =
     let es = c.args.slots.now.entries in let w = c.args.trees.now in let was = c.args.compared.now.total in let now = c.loop-word.compared.total in let word = c.loop-word.word in
     let fork = fork_told word (c.is_fork.ensures.0 c.loop-word-test.true) in
-    subst (λ n. n < length w.forks) (sym c.fork_in.ensures) (walk_fork es w c.args.vid c.args.mac was now ((word - 65536) / 64) ((word - 65536) % 64) c.requires.trees (subst (Walks es w c.args.vid c.args.mac was now) fork c.loop-word.invariant))
+    subst (λ n. n < length w.forks) (sym c.fork_in.ensures) (walk_fork es w c.args.vid c.args.mac was now ((word - 1048576) / 64) ((word - 1048576) % 64) c.requires.trees (subst (Walks es w c.args.vid c.args.mac was now) fork c.loop-word.invariant))
 
 pub loop-word-smaller : goal.loop-word-smaller
 loop-word-smaller c =
     let es = c.args.slots.now.entries in let w = c.args.trees.now in let was = c.args.compared.now.total in let now = c.loop-word.compared.total in let word = c.loop-word.word in
     let fork = fork_told word (c.is_fork.ensures.0 c.loop-word-test.true) in
-    let here : target_in word ≢ target.Nothing = λ q. let bad : target.Fork ((word - 65536) / 64) ((word - 65536) % 64) ≡ target.Nothing = sym fork ∙ q in cc in
+    let here : target_in word ≢ target.Nothing = λ q. let bad : target.Fork ((word - 1048576) / 64) ((word - 1048576) % 64) ≡ target.Nothing = sym fork ∙ q in cc in
     omega (arith, walk_few es w c.args.vid c.args.mac was now (target_in word) here c.requires.trees c.loop-word.invariant, c.next-word.ensures.counted)
 
 pub loop-word-preserved : goal.loop-word-preserved
 loop-word-preserved c =
     let es = c.args.slots.now.entries in let w = c.args.trees.now in let was = c.args.compared.now.total in let now = c.loop-word.compared.total in let word = c.loop-word.word in
-    let m = (word - 65536) / 64 in let b = (word - 65536) % 64 in
+    let m = (word - 1048576) / 64 in let b = (word - 1048576) % 64 in
     let at = subst (Walks es w c.args.vid c.args.mac was now) (fork_told word (c.is_fork.ensures.0 c.loop-word-test.true)) c.loop-word.invariant in
     let to = walk_on es w c.args.vid c.args.mac was c.requires.trees now m b at in
     let side : c.side.result ≡ bit_at (key_of c.args.vid c.args.mac) b = c.side.ensures.value ∙ ap (λ k. bit_at k c.bit_in.result) c.key-key.ensures.value ∙ ap (bit_at (key_of c.args.vid c.args.mac)) c.bit_in.ensures in

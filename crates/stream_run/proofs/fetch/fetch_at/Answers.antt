@@ -1,10 +1,12 @@
-use Rattle.std.proofs.Common.{◌≡◌, ◌-◌, ◌<◌, ◌∙◌, sym, subst, refl, arith, length}
+use Rattle.std.proofs.Common.{◌≡◌, ◌-◌, ◌<◌, ◌∙◌, ap, sym, subst, refl, arith, length}
 use Rattle.std.proofs.lemmas.List.{get_or_default}
-use Rattle.pcap_stream.specs.Source.{Stream}
+use Rattle.pcap_stream.specs.Source.{Stream, holds_next}
 use Rattle.timeline.specs.declared.source.Tap.TheVariants.{Port, Underlay}
 use Rattle.stream_run.specs.Fetched.{IsFetch, IsOpen, fetched}
 use Rattle.stream_run.specs.Steps.{IsAt}
+use Rattle.stream_run.specs.Waiting.{TakesRead}
 use Rattle.stream_run.proofs.Reading.{fetches_from}
+use Rattle.stream_run.proofs.Waiting.{where_read}
 use Rattle.stream_run.proofs.fetch.fetch_at.Goals as goal
 
 pub fetch-requires : goal.fetch-requires
@@ -22,9 +24,30 @@ returns-then-index-len-clause-fetched g c =
     let there : c.args.index - 1 < length c.args.captures.now.ports.items = omega (arith, many, c.if-index-len.true, c.if-index-eq0.false) in
     let here : IsAt (length c.args.captures.now.ports.items) c.args.index (Port c.args.index) = (refl, omega (arith, many, c.if-index-len.true, c.if-index-eq0.false), omega (arith, many, c.if-index-len.true)) in
     fetches_from c.args.changes.now c.args.index c.args.done c.args.latest c.args.captures.now.ports.items c.args.captures.now.underlay _ _ (Port c.args.index) c.fetch.new.source c.fetch.new.next c.fetch.result here (refl, refl)
-    (subst (λ (s : Stream). IsFetch s c.fetch.new.source (Port c.args.index) c.args.done c.args.latest (fetched (Port c.args.index) c.args.done c.fetch.new.next c.fetch.result)) (c.index_mut.ensures.value ∙ get_or_default c.args.captures.now.ports.items (c.args.index - 1) _ c.args.captures.now.underlay there) (c.fetch.ensures (Port c.args.index) c.args.done))
+    (subst (λ (s : Stream). IsFetch s c.fetch.new.source (Port c.args.index) c.args.done c.args.latest (fetched (Port c.args.index) c.args.done c.fetch.new.next c.fetch.result)) (c.index_mut.ensures.value ∙ get_or_default c.args.captures.now.ports.items (c.args.index - 1) _ c.args.captures.now.underlay there) (c.fetch.ensures.fetched (Port c.args.index) c.args.done))
 
 pub returns-clause-fetched : goal.returns-clause-fetched
 returns-clause-fetched g c =
     fetches_from c.args.changes.now c.args.index c.args.done c.args.latest c.args.captures.now.ports.items c.args.captures.now.underlay _ _ Underlay c.fetch-2.new.source c.fetch-2.new.next c.fetch-2.result (omega (arith, c.if-index-len.false, c.requires.index, c.len.ensures, c.args.captures.now.ports.ok.0)) (refl, refl)
-    (c.fetch-2.ensures Underlay c.args.done)
+    (c.fetch-2.ensures.fetched Underlay c.args.done)
+
+-- ---- what a failed read was made for
+
+pub returns-then-index-len-clause-lacked : goal.returns-then-index-len-clause-lacked
+returns-then-index-len-clause-lacked g c =
+    let many : c.len.result ≡ length c.args.captures.now.ports.items = c.len.ensures ∙ c.args.captures.now.ports.ok.0 in
+    let there : c.args.index - 1 < length c.args.captures.now.ports.items = omega (arith, many, c.if-index-len.true, c.if-index-eq0.false) in
+    let one = c.index_mut.ensures.value ∙ get_or_default c.args.captures.now.ports.items (c.args.index - 1) _ c.args.captures.now.underlay there in
+    where_read _ (TakesRead c.args.captures.now.ports.items c.args.captures.now.underlay c.args.index) c.fetch.result (λ lacks. record {
+      place = Port c.args.index;
+      at = (refl, omega (arith, many, c.if-index-len.true, c.if-index-eq0.false), omega (arith, many, c.if-index-len.true));
+      lacks = sym (ap holds_next one) ∙ lacks;
+    }) c.fetch.ensures.lacked
+
+pub returns-clause-lacked : goal.returns-clause-lacked
+returns-clause-lacked g c =
+    where_read _ (TakesRead c.args.captures.now.ports.items c.args.captures.now.underlay c.args.index) c.fetch-2.result (λ lacks. record {
+      place = Underlay;
+      at = omega (arith, c.if-index-len.false, c.requires.index, c.len.ensures, c.args.captures.now.ports.ok.0);
+      lacks = lacks;
+    }) c.fetch-2.ensures.lacked

@@ -1,4 +1,4 @@
-use Rattle.std.proofs.Common.{◌≡◌, ◌∙◌, ◌+◌, arith, ap, sym, subst, refl, length, ℕ, List, Vec, Global, Err}
+use Rattle.std.proofs.Common.{◌≡◌, ◌∙◌, ◌+◌, arith, ap, sym, subst, refl, length, Bool, ℕ, List, Vec, Global, Err}
 use Rattle.overlay_settings.specs.Settings.{Settings}
 use Rattle.capture_run.specs.Among.{cuts_among}
 use Rattle.capture_run.specs.Outputs.{Outputs}
@@ -17,6 +17,8 @@ use Rattle.stream_run.proofs.Opened.{reads_behind}
 use Rattle.stream_run.proofs.Overall.{all_first, over_firsts, over_headers, reach_firsts, reach_headers, seen_firsts, seen_headers, tells_texts}
 use Rattle.stream_run.proofs.Running.{quiet_on}
 use Rattle.stream_run.proofs.Showing.{shows_all, shows_begun, shows_cuts, shows_events, shows_headers, shows_nothing}
+use Rattle.stream_run.specs.Waiting.{IsOutAtRead}
+use Rattle.stream_run.proofs.Waiting.{out_at_read}
 use Rattle.stream_run.proofs.run.run_on.Given.{Over}
 use Rattle.stream_run.proofs.run.run_on.Goals.{After-fetch_all, After-open_all, After-put_cuts_among, In-Err-begin_all, In-Err-put_cuts_among, In_default-fetch_all}
 use Rattle.stream_run.proofs.run.run_on.Goals as goal
@@ -273,3 +275,17 @@ fetch_all-requires-clause-out g c = c.in_default-begin_all.ensures.out
 
 pub put_events-requires-clause-out : goal.put_events-requires-clause-out
 put_events-requires-clause-out g c some_left waits = c.in_default-begin_all.ensures.out (sym c.in_default-fetch_all.ensures.may_wait ∙ waits)
+
+-- ---- a read that failed
+
+pub returns-in-Err-clause-waits : goal.returns-in-Err-clause-waits
+returns-in-Err-clause-waits g c all = out_at_read c.args.captures.now.may_wait c.args.outputs.now c.in-Err.fault (λ waits. all)
+
+pub returns-in-Err-fetch_all-clause-waits : goal.returns-in-Err-fetch_all-clause-waits
+returns-in-Err-fetch_all-clause-waits g c all =
+    out_at_read c.args.captures.now.may_wait c.begin_all.new.outputs c.in-Err-fetch_all.fault (λ waits. c.in_default-begin_all.ensures.out (c.in_default.ensures.may_wait ∙ waits))
+
+pub returns-in-Err-put_events-clause-waits : goal.returns-in-Err-put_events-clause-waits
+returns-in-Err-put_events-clause-waits g c all =
+    subst (λ (b : Bool). IsOutAtRead {T = Unit {0}} b c.put_events.new.outputs (Err c.in-Err-put_events.fault))
+    (c.in_default-fetch_all.ensures.may_wait ∙ c.in_default.ensures.may_wait) c.in-Err-put_events.ensures.waits

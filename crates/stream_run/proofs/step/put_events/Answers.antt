@@ -1,12 +1,14 @@
-use Rattle.std.proofs.Common.{◌≡◌, ◌+◌, ◌-◌, ◌^◌, ◌∙◌, List, ℕ, ap, arith, length, refl, slice_index_or, subst}
+use Rattle.std.proofs.Common.{◌≡◌, ◌+◌, ◌-◌, ◌^◌, ◌∙◌, Bool, Err, List, ℕ, ap, arith, length, refl, slice_index_or, subst}
 use Rattle.stream_run.specs.Fault.{stopped}
 use Rattle.stream_run.specs.Steps.{IsAt}
 use Rattle.stream_run.specs.declared.turn.Turn.{Turn}
 use Rattle.stream_run.proofs.Running.{ready_more, shown_begins, shown_breaks, shown_ends, shown_halts, shown_steps}
+use Rattle.stream_run.specs.Waiting.{IsOutAtHalt}
+use Rattle.stream_run.proofs.Waiting.{out_at_stop}
 use Rattle.stream_run.proofs.step.put_events.Goals as goal
 
 pub loop-count-init : goal.loop-count-init
-loop-count-init g c = record { run = rw c.requires.none (shown_begins c.args.part.now.segments.now g.S.Sieve.taken g.S.Sieve.goes g.T.Watch.sees g.S.Sieve.none c.args.part.now.changes.now _ c.args.sieve.now c.args.watch.now refl c.requires.ready); out = c.requires.out; many = refl }
+loop-count-init g c = record { run = rw c.requires.none (shown_begins c.args.part.now.segments.now g.S.Sieve.taken g.S.Sieve.goes g.T.Watch.sees g.S.Sieve.none c.args.part.now.changes.now _ c.args.sieve.now c.args.watch.now refl c.requires.ready); out = c.requires.out; still = refl; many = refl }
 
 pub put_first-requires-clause-few : goal.put_first-requires-clause-few
 put_first-requires-clause-few g c =
@@ -26,6 +28,7 @@ loop-count-preserved g c =
     record {
       run = shown_steps c.args.part.now.segments.now g.S.Sieve.taken g.S.Sieve.goes g.T.Watch.sees g.S.Sieve.none c.args.part.now.changes.now _ c.args.sieve.now c.args.watch.now _ _ c.loop-count._count c.in-Some.first _ _ _ _ c.loop-count.invariant.run c.in_default-put_first.ensures.step;
       out = c.in_default-put_first.ensures.out;
+      still = c.in_default-put_first.ensures.may_wait ∙ c.loop-count.invariant.still;
       many = c.in_default-put_first.ensures.many ∙ c.loop-count.invariant.many;
     }
 
@@ -44,3 +47,8 @@ pub returns-clause-run : goal.returns-clause-run
 returns-clause-run g c =
     shown_breaks c.args.part.now.segments.now g.S.Sieve.taken g.S.Sieve.goes g.T.Watch.sees g.S.Sieve.none c.args.part.now.changes.now _ c.args.sieve.now c.args.watch.now _ c.loop-count._count _ _ c.loop-count.invariant.run
     (omega (arith, c.loop-count-test.false, c.loop-count.auto._count-end))
+
+pub returns-in-Err-clause-waits : goal.returns-in-Err-clause-waits
+returns-in-Err-clause-waits g c =
+    out_at_stop c.args.captures.now.may_wait c.put_first.new.outputs c.tap_at-tap.result _ c.in-Err.halt c.stopped_at.result c.stopped_at.ensures
+    (subst (λ (b : Bool). IsOutAtHalt {T = Unit {0}} b c.put_first.new.outputs (Err c.in-Err.halt)) c.loop-count.invariant.still c.in-Err.ensures.waits)

@@ -12,5 +12,6 @@ invariant-loop-count g l = record {
       (run_at l.captures.ports.items l.captures.underlay l.turns (state_of l.taker.endpoint) l.taker.desk.number l.outputs)
       l._count l.initial.sieve l.sieve l.initial.watch l.watch;
   out : IsOutOrAll (g.S.Sieve.all l.sieve) l.captures.may_wait l.outputs;
+  still : l.captures.may_wait ≡ l.initial.captures.may_wait;
   many : length l.captures.ports.items ≡ length l.initial.captures.ports.items;
 }

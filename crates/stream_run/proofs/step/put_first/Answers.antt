@@ -7,6 +7,7 @@ use Rattle.stream_run.specs.declared.turn.Turn.{Turn}
 use Rattle.stream_run.proofs.Reading.{fault_from}
 use Rattle.stream_run.proofs.Readying.{asked, fetched_to, next_up}
 use Rattle.stream_run.proofs.Stepping.{shown_fault, shown_put, shown_turn}
+use Rattle.stream_run.proofs.Waiting.{out_at_halt}
 use Rattle.stream_run.proofs.step.put_first.Goals as goal
 
 -- what stands for a turn that isn't there
@@ -48,3 +49,7 @@ returns-clause-step g c =
 
 pub returns-clause-out : goal.returns-clause-out
 returns-clause-out g c some_left waits = c.in_default.ensures.behind some_left (sym c.in_default-fetch_at.ensures.may_wait ∙ waits)
+
+pub returns-in-Err-fetch_at-clause-waits : goal.returns-in-Err-fetch_at-clause-waits
+returns-in-Err-fetch_at-clause-waits g c =
+    out_at_halt c.args.captures.now.may_wait c.args.captures.now.ports.items c.args.captures.now.underlay c.args.coming.first.index _ c.in-Err-fetch_at.fault c.in_default.ensures.before c.in-Err-fetch_at.ensures.lacked

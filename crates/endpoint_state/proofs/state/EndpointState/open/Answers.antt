@@ -82,4 +82,5 @@ pub open-requires-2-clause-size : goal.open-requires-2-clause-size
 open-requires-2-clause-size c =
     let pool = ap (λ (s : Settings). s.pool) (c.told.view_is ∙ c.into_parts-told.ensures.value) in
     let few = c.into_parts-told.ensures.rules.pool.1 in
-    omega (arith, pool, few)
+    let most = c.into_parts-told.ensures.rules.underlay.addresses.1 in
+    omega (arith, pool, few, most)

@@ -15,21 +15,20 @@ use Rattle.shared_tables.proofs.pool_calls.SharedTablesPoolTables.set_limit.Goal
 pub set_most-requires-clause-few : goal.set_most-requires-clause-few
 set_most-requires-clause-few c =
     let v = c.args.vid in
-    let fits : Fits_in c.sweep.new.tables c.fit.new.tables v c.from-most.result = record { within = c.fit.ensures.within; above = c.fit.ensures.above } in
-    fit_few c.sweep.new.tables c.fit.new.tables v c.from-most.result fits
+    let fits : Fits_in c.sweep.new.tables c.fit.new.tables v c.args.limit = record { within = c.fit.ensures.within; above = c.fit.ensures.above } in
+    fit_few c.sweep.new.tables c.fit.new.tables v c.args.limit fits
 
 pub set_most-requires-clause-room : goal.set_most-requires-clause-room
 set_most-requires-clause-room c =
     let old = c.args.self.now in let v = c.args.vid in
-    let fits : Fits_in c.sweep.new.tables c.fit.new.tables v c.from-most.result = record { within = c.fit.ensures.within; above = c.fit.ensures.above } in
-    let rules : c.fit.new.tables.rules ≡ old.rules = fit_rules c.sweep.new.tables c.fit.new.tables v c.from-most.result fits ∙ ap (λ (w : Shared). w.rules) c.sweep.ensures.same ∙ ap (λ (w : Shared). w.rules) c.begin.ensures.after in
+    let fits : Fits_in c.sweep.new.tables c.fit.new.tables v c.args.limit = record { within = c.fit.ensures.within; above = c.fit.ensures.above } in
+    let rules : c.fit.new.tables.rules ≡ old.rules = fit_rules c.sweep.new.tables c.fit.new.tables v c.args.limit fits ∙ ap (λ (w : Shared). w.rules) c.sweep.ensures.same ∙ ap (λ (w : Shared). w.rules) c.begin.ensures.after in
     omega (
       arith,
       c.requires.room,
-      c.from-most.ensures,
       rules_limits c.fit.new.tables old rules,
       rules_limit c.fit.new.tables old v rules,
-      fit_size c.sweep.new.tables c.fit.new.tables v c.from-most.result fits,
+      fit_size c.sweep.new.tables c.fit.new.tables v c.args.limit fits,
       c.sweep.ensures.size,
       ap (λ (w : Shared). length w.entries) c.begin.ensures.after,
     )
@@ -37,7 +36,7 @@ set_most-requires-clause-room c =
 pub returns : goal.returns
 returns c =
     let old = c.args.self.now in let f = c.begin.new.self in let mid = c.sweep.new.tables in let fit = c.fit.new.tables in let new = c.set_most.new.self in
-    let v = c.args.vid in let now = c.args.now in let le = c.requires.time in let has = c.requires.has in let limit = c.from-most.result in
+    let v = c.args.vid in let now = c.args.now in let le = c.requires.time in let has = c.requires.has in let limit = c.args.limit in
     let s = sweeps_first old f mid now v c.begin.ensures.after c.begin.ensures.orderly le has c.sweep.ensures in
     let unique = s.begun.orderly.unique in
     let fits : Fits_in mid fit v limit = record { within = c.fit.ensures.within; above = c.fit.ensures.above } in
@@ -50,8 +49,7 @@ returns c =
       after = changes old f now v s.begun le has new (set_limit_in c.args.limit)
           (c.set_most.ensures.segments
           ∙ fit_segments mid fit v limit fits (swept_unique f mid v _ unique s.swept) counted
-          ∙ ap (adjusted v (set_limit_in limit)) same
-          ∙ ap (λ (n : ℕ). adjusted v (set_limit_in n) (segments_of f)) c.from-most.ensures);
+          ∙ ap (adjusted v (set_limit_in limit)) same);
       moment = l.moment;
       calls = l.calls;
       pool = l.pool;

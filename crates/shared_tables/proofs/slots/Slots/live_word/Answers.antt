@@ -20,7 +20,7 @@ returns-clause-word c =
 
 pub returns-clause-is_word : goal.returns-clause-is_word
 returns-clause-is_word c =
-    let few : c.args.slot < 65536 = omega (arith, made c.self.inside _ _ _ c.self.view_is c.slot.view_is c.requires.in_pool c.requires.held, c.slot.view_is, c.self.invariant.1.within, c.self.invariant.1.few) in
+    let few : c.args.slot < 1048576 = omega (arith, made c.self.inside _ _ _ c.self.view_is c.slot.view_is c.requires.in_pool c.requires.held, c.slot.view_is, c.self.invariant.1.within, c.self.invariant.1.few) in
     slot_word c.args.self.now.entries c.args.vid c.args.ageing c.args.now c.args.slot (entry_in c.index.result.now) c.live_word.result few (sym (own_entry c.self.inside _ _ _ c.self.view_is c.slot.view_is c.requires.in_pool c.requires.held c.index.result.now c.index.ensures))
     (c.live_word.ensures.word ∙ ap (λ n. word_of n (live_row c.args.vid c.args.ageing c.args.now (entry_in c.index.result.now))) c.slot.view_is) c.live_word.ensures.address
 

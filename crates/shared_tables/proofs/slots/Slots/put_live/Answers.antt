@@ -20,7 +20,7 @@ loop-number-preserved c =
     let after = c.put_word.new.words.items in
     let row = live_row c.args.vid c.args.ageing c.args.now (entry_at c.args.self.now.entries n) in
     let made : n < length xs = omega (arith, c.loop-number-test.true, c.len-number-end.ensures, c.self.inside.slots.ok.0) in
-    let few : n < 65536 = omega (arith, made, c.self.invariant.1.within, c.self.invariant.1.few) in
+    let few : n < 1048576 = omega (arith, made, c.self.invariant.1.within, c.self.invariant.1.few) in
     let there : entry_at c.args.self.now.entries n ≡ entry_in slot =
     subst (λ (p : Pool). entry_at p.entries n ≡ entry_in slot) c.self.view_is (entry_there xs (replicate (c.self.inside.size - length c.self.inside.slots.items) no_slot) n slot made ∙ sym (ap entry_in c.index-slot.ensures)) in
     let among : n < length c.args.self.now.entries = subst (λ (p : Pool). n < length p.entries) c.self.view_is (made_in xs (replicate (c.self.inside.size - length c.self.inside.slots.items) no_slot) n made) in

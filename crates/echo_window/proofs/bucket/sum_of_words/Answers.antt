@@ -1,6 +1,6 @@
 use Rattle.std.proofs.Common.{◌≡◌, ◌∙◌, ◌++◌, ◌-◌, List, ℕ, ap, length}
 use Rattle.echo_window.specs.Bucket.{with_word}
-use Rattle.echo_window.proofs.bucket.sum_of.Goals as goal
+use Rattle.echo_window.proofs.bucket.sum_of_words.Goals as goal
 
 then : (s t : ℕ) (place : ℕ) (text : List ℕ) (more : ℕ) → more ≡ with_word s place text → s ≡ t → more ≡ with_word t place text
 then s t place text more is same = is ∙ ap (λ n. with_word n place text) same

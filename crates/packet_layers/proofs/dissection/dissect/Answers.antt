@@ -4,7 +4,7 @@ use Rattle.packet_layers.specs.Apart.{joined}
 use Rattle.packet_layers.specs.Laws.{AllStand, AgreesWithArrival}
 use Rattle.packet_layers.proofs.LayersLemmas.{IsOf-dissection}
 use Rattle.packet_layers.proofs.AgreeLemmas.{agrees}
-use Rattle.packet_layers.proofs.dissection.dissect_into.Goals as goal
+use Rattle.packet_layers.proofs.dissection.dissect.Goals as goal
 
 pub returns-clause-whole : goal.returns-clause-whole
 returns-clause-whole c =

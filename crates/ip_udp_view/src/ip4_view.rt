@@ -3,10 +3,10 @@ ghost use Rattle.std.specs.Prelude.{◌≡◌, IfOk};
 ghost use Rattle.frame_view.specs.First.{fault_of, first};
 ghost use Rattle.ip_udp_view.specs.Ip.{Ip4, SplitsIp, IsSumRight, packet_parts, ip_faults, source, destination, protocol, is_fragment};
 
+use crate::header_sum::is_sum_right;
 use crate::octets::array_at;
 use crate::{Addr, IpFault};
 use byteorder::{BigEndian, ByteOrder};
-use header_octets::{fold, words};
 use std::marker::Model;
 
 /// The version in the first four bits of an IPv4 header.
@@ -56,7 +56,7 @@ impl<'a> Ip4View<'a> {
             return Err(IpFault::BadIp);
         }
         let head = &octets[..header];
-        if fold(words(head)) != u16::MAX {
+        if !is_sum_right(head) {
             return Err(IpFault::BadIpSum);
         }
         Ok(Ip4View {

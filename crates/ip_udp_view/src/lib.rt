@@ -19,6 +19,7 @@
 #![tactic(auto)]
 
 mod addr;
+mod header_sum;
 mod ip4_view;
 mod ip6_view;
 mod ip_fault;

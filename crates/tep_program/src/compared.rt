@@ -1,8 +1,9 @@
 //! What was sent, compared with what was received.
 ghost use Rattle.std.specs.Prelude.{◌≤◌, IfOk, IfSome};
 
-use crate::paired::{Outcome, Pairing, compare_told};
-use crate::report::{Report, Told};
+use crate::opened::compare_open;
+use crate::paired::Pairing;
+use crate::report::Told;
 use carried_key::Manner;
 use command_line::time_of;
 use program_faults::Failure;
@@ -49,20 +50,7 @@ pub fn compare<'a, R: Files + Input + AllocGlobal + Print>(
     };
     let (_, mut sent) = open_seen(rt, asked.sent)?;
     let (_, mut received) = open_seen(rt, asked.received)?;
-    let mut report = Report::new(rt, told, None, pairing.clock)?;
-    let Outcome { counts, end } = compare_told(
-        rt.alloc(),
-        &pairing,
-        &Manner::Whole,
-        &mut sent,
-        &mut received,
-        &mut report,
-    )?;
-    let printed = counts.print(rt, "", "\n");
-    let reported = report.finish();
-    end?;
-    printed?;
-    reported?;
+    let counts = compare_open(rt, &pairing, &Manner::Whole, told, &mut sent, &mut received)?;
     if counts.is_same() {
         Ok(())
     } else {

@@ -28,6 +28,7 @@ mod named;
 mod next_steps;
 mod nobody;
 mod notes;
+mod opened;
 mod outbound;
 mod paired;
 mod program;

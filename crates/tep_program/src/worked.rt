@@ -3,8 +3,9 @@ ghost use Rattle.std.specs.Prelude.{◌≤◌};
 
 use crate::compared::clock_of;
 use crate::counts::Counts;
-use crate::paired::{Outcome, Pairing, compare_told};
-use crate::report::{Report, Told};
+use crate::opened::compare_open;
+use crate::paired::Pairing;
+use crate::report::Told;
 use crate::tunnels::tunnels_of;
 use carried_key::Manner;
 use command_line::NO_CAPTURE;
@@ -117,21 +118,7 @@ fn compare_place<'a, R: Files + Input + AllocGlobal + Print>(
     };
     let mut worked = open_written(rt, folder, place.output)?;
     let (_, mut seen) = open_seen(rt, name)?;
-    let mut report = Report::new(rt, told, Some(place.tap), clock)?;
-    let Outcome { counts, end } = compare_told(
-        rt.alloc(),
-        &pairing,
-        manner,
-        &mut worked,
-        &mut seen,
-        &mut report,
-    )?;
-    let printed = print_place(rt, place.tap, counts);
-    let reported = report.finish();
-    end?;
-    printed?;
-    reported?;
-    Ok(counts)
+    compare_open(rt, &pairing, manner, told, &mut worked, &mut seen)
 }
 
 /// Whether a run wrote into the folder, and for as many ports as captures are named.
@@ -201,14 +188,4 @@ fn count_of(names: &[&str], name: &str) -> usize {
 fn print_none<R: AllocGlobal + Print>(rt: &R, tap: Tap) -> Result<(), Failure<'static>> {
     let text = format!(in rt.alloc(); "{tap}: no capture\n")?;
     print_text(rt, text.as_bytes())
-}
-
-/// Prints the counts of a place.
-fn print_place<R: AllocGlobal + Print>(
-    rt: &R,
-    tap: Tap,
-    counts: Counts,
-) -> Result<(), Failure<'static>> {
-    let head = format!(in rt.alloc(); "{tap}: ")?;
-    counts.print(rt, head.as_str(), ", ")
 }

@@ -5,3 +5,4 @@ pub mod Showing
 pub mod Meeting
 pub mod Comparing
 pub mod Looking
+pub mod Texts

@@ -3,6 +3,7 @@ ghost use Rattle.std.specs.Prelude.{◌≡◌, ◌<◌, ◌≤◌, ◌+◌, nat_
 ghost use Rattle.record_match.specs.Kept.{behind, ends_with, ends_without, sent_of, told};
 ghost use Rattle.record_match.specs.Match.{is_met_by, is_within};
 
+use crate::same::is_same;
 use crate::seen::Seen;
 
 /// A record that was sent, but for its octets, which stand elsewhere.
@@ -33,7 +34,7 @@ impl Kept {
     pub(crate) fn is_met_by(&self, octets: &[u8], within: u64, received: &Seen) -> bool
         ensures { result ≡ is_met_by within (told received.now) (sent_of self.now octets.now) }
     {
-        self.is_awaited(within, received.moment) && octets == received.octets
+        self.is_awaited(within, received.moment) && is_same(octets, received.octets)
     }
 
     /// Whether it may be received at a moment.

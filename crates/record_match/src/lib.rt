@@ -15,9 +15,10 @@
 //! [`laws`] a list that is compared with itself is received whole, each record that is received is one that was sent or
 //! lonely, none that is lonely is one that wasn't received, and what a window holds is enough to tell.
 //!
-//! Why it is so: octets alone decide what is the same; a hash only says where to look. A window knows of each bucket the first
-//! and the last record, and of each record the next one of its bucket. What is proved of these numbers is only that no record
-//! between them is looked for; so they may be out of date, and nothing is written where a record goes.
+//! Why it is so: octets alone decide what is the same; a hash only says where to look, so it is a plain sum of 64-bit words,
+//! which is cheap. A window knows of each bucket the first and the last record, and of each record the next one of its bucket.
+//! What is proved of these numbers is only that no record between them is looked for; so they may be out of date, and nothing
+//! is written where a record goes.
 #![tactic(auto)]
 
 mod bucket;
@@ -27,6 +28,7 @@ mod kept;
 pub mod laws;
 mod onlooker;
 mod row;
+mod same;
 mod seen;
 mod window;
 

@@ -89,8 +89,8 @@ _tep() {
             case $before,$cur in
                 --worked,*) _tep_offers folders ;;
                 -u,* | --underlay,* | -s,* | --settings,*) _tep_offers files ;;
-                --within,* | --shift,* | --by,*) _tep_offers words "" ;;
-                *,-*) _tep_offers words "--worked --underlay --settings --strict --within --shift --list --by --help --version" ;;
+                --within,* | --shift,* | --by,* | --ignore,*) _tep_offers words "" ;;
+                *,-*) _tep_offers words "--worked --underlay --settings --strict --within --shift --list --by --ignore --help --version" ;;
                 *) _tep_offers files ;;
             esac
             ;;

@@ -77,7 +77,8 @@ complete -c tep -n '__tep_command compare' -l strict -d 'With --worked all octet
 complete -c tep -n '__tep_command compare' -l within -x -d 'How much later a record may be received: 500us, 10ms, 2s; 1s without it'
 complete -c tep -n '__tep_command compare' -l shift -x -d 'How far RECEIVED\'s clock is ahead, or behind as in --shift=-2ms; records may then be early, too'
 complete -c tep -n '__tep_command compare' -l list -d 'Prints a line for each record that is of one capture alone'
-complete -c tep -n '__tep_command compare' -l by -x -d 'Prints a table of what was compared: by \'length\''
+complete -c tep -n '__tep_command compare' -l by -x -d 'Prints a table of what was compared: by \'length\' or \'delay\''
+complete -c tep -n '__tep_command compare' -l ignore -x -d 'Leaves aside frames to addresses that switches don\'t forward: \'reserved\''
 complete -c tep -n '__tep_command compare' -s h -l help -d 'Print help'
 complete -c tep -n '__tep_command compare' -s V -l version -d 'Print version'
 

@@ -124,7 +124,7 @@ text = FORMATS[FORMATS.index("## Changes"):]
 for key, value in re.findall(r"`([a-z]+)` (?:is )?(\d+ to \d+)", text) + re.findall(r'`([a-z]+)` (`"[a-z]+"` or `"[a-z]+"`)', text):
     check_sentence(sentences, "change." + key, value)
 for key in "learn", "peers", "tags":
-    if sentences.get("change." + key) != sentences.get("segment." + key):
+    if sentences.get("change." + key) != sentences_3.get("segment." + key):
         complain(f"change.{key} and segment.{key} have different sentences")
 kinds = {name for kinds, _ in table("## Changes", "`kind`") for name in names(kinds)}
 if {word.strip('"') for word in WORDS.findall(sentences["change.kind"])} != kinds:

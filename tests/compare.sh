@@ -42,7 +42,10 @@ wants 1 "within: 5 is no time, as 500us, 10ms or 1s are" --within 5 "$capture" "
 wants 1 "shift: -x is no time, as 500us, 10ms or -1s are" --shift=-x "$capture" "$capture"
 wants 1 "within: 1000000001s is no time, as 500us, 10ms or 1s are" --within 1000000001s "$capture" "$capture"
 
-wants 1 "by: size is not length" --by size "$capture" "$capture"
+# The table of delays, and a word that no table is by.
+python3 tests/compare_delays.py ./tep "$folder" || complain "delays are told otherwise"
+wants 2 "error: no table is by 'size': --by takes length or delay" --by size "$capture" "$capture"
+wants 2 "error: no table is by 'size': --by takes length or delay" --by size --worked "$folder" -u "$capture" -
 
 # What a run wrote, beside what was captured of what went out.
 python3 tests/compare_worked.py ./tep "$folder" || complain "what a run wrote is told otherwise"
@@ -67,9 +70,39 @@ all: sent 16, received 16, both 16, sent alone 0, received alone 0" \
 head -c 24 "${seen}_port3.pcap" >"$folder/none.pcap"
 wants 1 "p1: no capture
 p2: no capture
-$(python3 tests/compare_lonely.py p3 "$folder/linux/port3.pcap")
+$(python3 tests/compare_lonely.py p3 "$folder/linux/port3.pcap" "$folder/linux/decisions.txt")
 u: no capture
 all: sent 3, received 0, both 0, sent alone 3, received alone 0
 what was received isn't what was sent" \
     --list --by length --worked "$folder/linux" -u - - - "$folder/none.pcap"
+
+# Frames that a switch sends and takes itself are left aside: of the example its LLDP and its spanning tree, but for the message
+# in a tunnel, whose outer address is the peer's.
+python3 -B tests/compare_ignored.py ./tep "$folder" "${1:-600}" || complain "a made pair of captures is told otherwise, left aside"
+mkdir "$folder/own"
+seen=examples/compare/own_traffic
+./tep run -s examples/compare/settings.toml -u "$seen/underlay.pcap" -o "$folder/own" "$seen"/port[123].pcap ||
+    complain "the example of a bridge's own traffic doesn't run"
+wants 1 "p1: sent 3, received 3, both 3, sent alone 0, received alone 0
+p1: sent left aside 0, received left aside 2
+p2: sent 6, received 6, both 6, sent alone 0, received alone 0
+p2: sent left aside 0, received left aside 1
+p3: sent 3, received 3, both 3, sent alone 0, received alone 0
+p3: sent left aside 0, received left aside 1
+u: sent 10, received 12, both 10, sent alone 0, received alone 2
+u: sent left aside 0, received left aside 0
+all: sent 22, received 24, both 22, sent alone 0, received alone 2
+what was received isn't what was sent" \
+    --ignore reserved --worked "$folder/own" -u "$seen/sent_underlay.pcap" "$seen"/sent_port[123].pcap
+wants 0 "sent 3
+received 3
+both 3
+sent alone 0
+received alone 0
+sent left aside 0
+received left aside 2" --ignore reserved "$folder/own/port1.pcap" "$seen/sent_port1.pcap"
+wants 2 "error: --ignore takes the word 'reserved'" --ignore Reserved "$capture" "$capture"
+wants 2 "error: --ignore takes the word 'reserved'" --ignore reserved,reserved "$capture" "$capture"
+# The segment and the event of each such record, and what of a near one differs.
+python3 tests/compare_near.py ./tep "$folder" || complain "a record of one capture alone is told otherwise"
 exit $status

@@ -20,6 +20,8 @@ HEADER = bytes.fromhex("4d3cb2a10200040000000000000000000000040001000000")
 SETTINGS = TOP / "examples" / "a.toml"
 # A frame of 60 octets to everybody, which leaves through two ports and to a remote.
 FRAME = b"\xff" * 6 + bytes.fromhex("020000000001" "0806") + bytes(46)
+SIZES = {"port1": 60, "port2": 60, "port3": 64, "underlay": 110}
+OUTPUTS = [*(f"{name}.pcap" for name in SIZES), "decisions.txt"]
 SENT = " p1 {} 10 p2=60 p3=64 192.0.2.2=110"
 
 
@@ -66,7 +68,7 @@ class Folder:
             time.sleep(0.005)
         asks(self.lines() == lines, f"{what}: {self.lines()} in place of {lines}")
         # its line comes last
-        for name, size in (("port1", 60), ("port2", 60), ("port3", 64), ("underlay", 110)):
+        for name, size in SIZES.items():
             size = 24 + counts[name] * (16 + size)
             asks((self.out / f"{name}.pcap").stat().st_size == size, f"{what}: {name}")
 
@@ -273,6 +275,55 @@ def same_as_file():
         asks(folder.lines()[-1] == "cut p1 1", "a cut file's last line")
 
 
+def part_of(folder, count):
+    """A part with all segments of a run on so many frames, by turns at ports 1 and 2, and what its outputs hold."""
+    part, first, second = (folder.path / name for name in ("part", "first.pcap", "second.pcap"))
+    part.mkdir()
+    for file, begin in ((first, 1), (second, 2)):
+        file.write_bytes(HEADER + b"".join(record(number, FRAME) for number in range(begin, count + 1, 2)))
+    words = [TEP, "run", "--settings", SETTINGS, "--underlay", folder.empty, "--out", part, "--segments", "all"]
+    subprocess.run([*words, first, second, folder.empty], check=True)
+    return part, {name: (part / name).read_bytes() for name in OUTPUTS}
+
+
+def in_place(file):
+    """A named pipe in place of a file, and an end to write into it, which waits for no reader."""
+    file.unlink()
+    os.mkfifo(file)
+    return os.fdopen(os.open(file, os.O_RDWR), "wb", 0)
+
+
+def merged():
+    """A part whose capture of port 3 is a pipe: behind each record that is given all is out that can be merged by then."""
+    with Folder() as folder:
+        part, octets = part_of(folder, 100)
+        pipe = in_place(part / "port3.pcap")
+        merge = subprocess.Popen([TEP, "merge", "--out", folder.out, part], stderr=subprocess.PIPE)
+        pipe.write(octets["port3.pcap"][:24])
+        for number in range(1, 101):
+            pipe.write(octets["port3.pcap"][24 + (number - 1) * 80 : 24 + number * 80])
+            # of the next event the record in front of port 3's
+            counts = counts_of(number) | {port: counts_of(min(number + 1, 100))[port] for port in ("port1", "port2")}
+            stands(folder, number, counts)
+            asks(merge.poll() is None, "a merge ended while its pipe was open")
+        pipe.close()
+        asks(ended(merge) == (0, ""), "a merge of a pipe")
+        asks(octets == {name: (folder.out / name).read_bytes() for name in OUTPUTS}, "a merge of a pipe and its part")
+
+
+def stands(folder, lines, counts):
+    """Until so many lines and records stand in the outputs, ten seconds at most."""
+    sizes = {f"{name}.pcap": 24 + counts[name] * (16 + size) for name, size in SIZES.items()}
+    for _ in range(2000):
+        if (folder.out / "decisions.txt").exists() and len(folder.lines()) == lines:
+            if sizes == {name: (folder.out / name).stat().st_size for name in sizes}:
+                break
+        time.sleep(0.005)
+    asks(folder.lines() == [line_of(number) for number in range(1, lines + 1)], f"behind record {lines}: {folder.lines()}")
+    found = {name: (folder.out / name).stat().st_size for name in sizes}
+    asks(found == sizes, f"behind record {lines}: {found} in place of {sizes}")
+
+
 def at_the_end():
     """What `explain` and `digest` print of a pipe they print at its end, all of it, and it's what they print of a file."""
     parts = [HEADER, record(1, FRAME), record(2, FRAME)]
@@ -320,6 +371,22 @@ def calls_of(folder, name, **how):
     words = ["strace", "-f", "-c", "-o", counted, TEP, "run", "--settings", SETTINGS, "--underlay", folder.empty]
     run = subprocess.run([*words, "--out", folder.out, name, folder.empty, folder.empty], **how)
     asks(run.returncode == 0 and len(folder.lines()) == 20000, "a run under strace")
+    return moved_in(counted)
+
+
+def merge_calls_of(folder, part, octets=None):
+    """The same of a merge of a part of 20,000 events, whose capture of port 3 is a pipe where its octets are given."""
+    counted = folder.path / "counted"
+    writer = threading.Thread(target=lambda: octets and (part / "port3.pcap").write_bytes(octets))
+    writer.start()
+    merge = subprocess.run(["strace", "-f", "-c", "-o", counted, TEP, "merge", "--out", folder.out, part])
+    writer.join()
+    asks(merge.returncode == 0 and len(folder.lines()) == 20000, "a merge under strace")
+    return moved_in(counted)
+
+
+def moved_in(counted):
+    """The reads and the writes that strace counted."""
     moved = {row.split()[-1]: int(row.split()[3]) for row in counted.read_text().splitlines() if row[:1] == " " and row.split()[0] != "100.00"}
     return moved.get("read", 0) + moved.get("write", 0)
 
@@ -337,11 +404,20 @@ def calls():
         for count, what in ((of_file, "a file"), (of_pipe, "a pipe")):
             asks(count <= 4000, f"{count} reads and writes for 20000 events of {what}")
             print(f"{count} reads and writes for 20000 events of {what} with 3 emissions each")
+    with Folder() as folder:
+        part, octets = part_of(folder, 20000)
+        of_files = merge_calls_of(folder, part)
+        in_place(part / "port3.pcap").close()
+        of_pipe = merge_calls_of(folder, part, octets["port3.pcap"])
+        for count, what in ((of_files, "files"), (of_pipe, "files and a pipe")):
+            asks(count <= 4000, f"{count} reads and writes for a merge of 20000 events of {what}")
+            print(f"{count} reads and writes for a merge of 20000 events of {what} with 3 emissions each")
 
 
 def main():
     subprocess.run([TEP, "--version"], check=True, stdout=subprocess.DEVNULL)
-    for test in (held_pcap, held_pcapng, by_turns, silent, left_by_its_reader, same_as_file, at_the_end, faulty, full, calls, large):
+    of_pipes = (held_pcap, held_pcapng, by_turns, silent, left_by_its_reader, same_as_file, merged, at_the_end)
+    for test in (*of_pipes, faulty, full, calls, large):
         test()
 
 

@@ -237,6 +237,7 @@ SEGMENT_LINES = [
     ('peers = "none"', "BadValue segment.1.peers"),
     ("peers = false", "BadValue segment.1.peers"),
     ('tags = "keep"', "BadValue segment.1.tags"),
+    ('tags = "never"', "BadValue segment.1.tags"),
     ("untagged = 1", "BadValue segment.1.untagged"),
     ('untagged = ["1"]', "BadValue segment.1.untagged"),
     ("untagged = [0]", "BadValue segment.1.untagged"),
@@ -369,7 +370,7 @@ PARTS_2 = [
     ),
 ]
 
-# Settings of version 3: those of version 2, `limits` and `partial`.
+# Settings of version 3: those of version 2, `limits`, `partial` and a word of `tags`.
 FEWEST_3 = FEWEST_2.replace("version = 2", "version = 3")
 
 # A key of the underlay, behind which lines are put.
@@ -438,6 +439,13 @@ PARTS_3 = [
     # Other versions don't have it.
     ("version = 3\n[underlay]\n", "version = 2\n[underlay]\npartial = true\n", "BadValue underlay.*"),
     ('version = 3\n[underlay]\nmac = "02:00:00:00:aa:01"', "version = 1\n[underlay]\npartial = 1\nmac = 1", "BadValue underlay.*"),
+    # A word of `tags` that other versions don't have.
+    ("# segment", 'tags = "never"', "ok"),
+    ("# segment", 'tags = "drop"', "ok"),
+    ("# segment", 'tags = "pass"', "ok"),
+    ("# segment", 'tags = "keep"', "BadValue segment.1.tags"),
+    ("# segment", 'tags = "never"\nuntagged = 1', "BadValue segment.1.untagged"),
+    ("# segment", 'tags = "never"\npeers = 1', "BadValue segment.1.peers"),
     # The tunnels are told as in version 2.
     ("# segment", "vni = 5000", "BadValue segment.1.*"),
     ("# segment", "flood = []", "BadValue segment.1.*"),
@@ -681,6 +689,7 @@ ADDED = [
     ('at = 0\nvid = 1\nvni = 0\ntunnel = "vxlan"\nlearn = 1\npeers = 1', "BadValue change.1.learn"),
     ('at = 0\nvid = 1\nvni = 0\ntunnel = "vxlan"\npeers = "none"\ntags = 1', "BadValue change.1.peers"),
     ('at = 0\nvid = 1\nvni = 0\ntunnel = "vxlan"\ntags = "keep"', "BadValue change.1.tags"),
+    ('at = 0\nvid = 1\nvni = 0\ntunnel = "vxlan"\ntags = "never"', "ok"),
     ('at = -1\nvid = 1\nvni = 0\ntunnel = "vxlan"\nflood = []', "BadValue change.1.*"),
     ('at = 0\nvid = 1\nvni = 0\ntunnel = "vxlan"\nuntagged = []', "BadValue change.1.*"),
     ('at = 0\nvid = 1\nvni = 0\ntunnel = "vxlan"\nlearning = true', "BadValue change.1.*"),

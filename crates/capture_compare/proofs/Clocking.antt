@@ -3,9 +3,7 @@ use Rattle.std.proofs.Common.{◌≡◌, ℕ, ◌+◌, ◌<◌, ◌≤◌, max, 
 use Rattle.std.proofs.lemmas.List.{append-nil}
 use Rattle.std.proofs.lemmas.Bool.{leb-false, leb-true, ltb-false, ltb-true}
 use Rattle.pcap_io.specs.Record.{Record}
-use Rattle.record_match.specs.Compared.{AreBefore}
-use Rattle.record_match.specs.Match.{Record as Seen}
-use Rattle.capture_compare.specs.Clocked.{AreUpTo, before, latest, latest_behind, on_clock, seen_at, sent_by, timed, up_to}
+use Rattle.capture_compare.specs.Clocked.{AreBefore, AreUpTo, Seen, before, latest, latest_behind, on_clock, seen_at, sent_by, timed, up_to}
 use Rattle.capture_compare.specs.Compared.{AllHadRoom, has_room_for}
 use Rattle.carried_key.specs.declared.key.Manner.{Manner}
 

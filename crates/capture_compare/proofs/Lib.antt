@@ -1,5 +1,6 @@
 pub mod Fetching
 pub mod Clocking
+pub mod Sifting
 pub mod Standing
 pub mod Telling
 pub mod Sending

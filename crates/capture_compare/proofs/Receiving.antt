@@ -2,10 +2,9 @@
 use Rattle.std.proofs.Common.{◌≡◌, ◌∙◌, refl, sym, ap, subst, ℕ, ◌≤◌, ◌<◌, List, [], ◌∷◌, ◌++◌, arith, Option, Some, None, IfSome, Result, Ok, Err}
 use Rattle.pcap_io.specs.Record.{Record}
 use Rattle.pcap_stream.specs.Source.{Stream, lent}
-use Rattle.record_match.specs.Compared.{AreBefore, Comparison, IsCompared}
-use Rattle.record_match.specs.Match.{Record as Seen}
+use Rattle.capture_compare.specs.Sifted.{IsSifted, Sifting}
 use Rattle.record_match.specs.declared.clock.Clock.{Clock}
-use Rattle.capture_compare.specs.Clocked.{AreUpTo, latest, on_clock, seen_at, sent_by, up_to}
+use Rattle.capture_compare.specs.Clocked.{AreBefore, AreUpTo, Seen, latest, on_clock, seen_at, sent_by, up_to}
 use Rattle.capture_compare.specs.Compared.{AllHadRoom, AreCounts, records_in}
 use Rattle.capture_compare.specs.Turns.{Amidst, Fetches, HasLent, Stands, Steps, Waits, turn_of}
 use Rattle.capture_compare.specs.declared.coming.Coming.{Coming}
@@ -23,7 +22,7 @@ pub record ReceivesNext (manner : Manner) (clock : Clock) (r0 r : Stream) (sendi
   pub later : IfSome sending.next (λ k. m < k)
   pub up : AreUpTo m (on_clock manner clock.sent_delay sent)
 
-pub receives-next : (manner : Manner) (clock : Clock) (s0 r0 s r : Stream) (sending receiving : Coming) (c : Comparison) (h : Amidst manner clock s0 r0 s r sending receiving c) (m : ℕ) → turn_of sending.next receiving.next ≡ turns.Received m
+pub receives-next : (manner : Manner) (clock : Clock) (s0 r0 s r : Stream) (sending receiving : Coming) (c : Sifting) (h : Amidst manner clock s0 r0 s r sending receiving c) (m : ℕ) → turn_of sending.next receiving.next ≡ turns.Received m
     → ReceivesNext manner clock r0 r sending h.sent h.received receiving.fetched m × (h.now ≤ m)
 receives-next manner clock s0 r0 s r sending receiving c h m turn =
     let is = turn-received sending.next receiving.next m turn in
@@ -31,8 +30,8 @@ receives-next manner clock s0 r0 s r sending receiving c h m turn =
     (record { waits = waits-by manner sides.Received clock.received_delay r0 r h.received receiving m is.0 h.received_stands; later = is.1; up = later.1 }, later.0)
 
 -- behind a record that was received
-pub record ReceivedNow (manner : Manner) (clock : Clock) (s0 s : Stream) (sending : Coming) (c : Comparison) (sent received : List Record) (m : ℕ) : Type 0 where
-  pub compared : IsCompared c (on_clock manner clock.sent_delay sent) (on_clock manner clock.received_delay received) m
+pub record ReceivedNow (manner : Manner) (clock : Clock) (s0 s : Stream) (sending : Coming) (c : Sifting) (sent received : List Record) (m : ℕ) : Type 0 where
+  pub compared : IsSifted c (on_clock manner clock.sent_delay sent) (on_clock manner clock.received_delay received) m
   pub within_is : c.window.within ≡ clock.within
   pub front : List Seen
   pub last : Seen
@@ -47,8 +46,8 @@ pub before-next : (next : Option ℕ) (now m : ℕ) (R : List Seen) (x : Seen) �
 before-next None now m R x is h g = tt
 before-next (Some k) now m R x is h g = (g, before-one k R x h.1 (omega (arith, g, is)))
 
-pub received-now : (manner : Manner) (clock : Clock) (s0 r0 s r : Stream) (sending receiving : Coming) (c d : Comparison) (m : ℕ) (h : Amidst manner clock s0 r0 s r sending receiving c) → turn_of sending.next receiving.next ≡ turns.Received m
-    → ((x : Record) (S R : List Seen) (now : ℕ) → lent r.standing ≡ Some x → IsCompared c S R now → now ≤ m → IsCompared d S (R ++ seen_at manner m x ∷ []) m) → d.window.within ≡ c.window.within
+pub received-now : (manner : Manner) (clock : Clock) (s0 r0 s r : Stream) (sending receiving : Coming) (c d : Sifting) (m : ℕ) (h : Amidst manner clock s0 r0 s r sending receiving c) → turn_of sending.next receiving.next ≡ turns.Received m
+    → ((x : Record) (S R : List Seen) (now : ℕ) → lent r.standing ≡ Some x → IsSifted c S R now → now ≤ m → IsSifted d S (R ++ seen_at manner m x ∷ []) m) → d.window.within ≡ c.window.within
     → (x : Record) × HasLent r0 r (h.received ++ x ∷ []) receiving.fetched × ReceivedNow manner clock s0 s sending d h.sent (h.received ++ x ∷ []) m
 received-now manner clock s0 r0 s r sending receiving c d m h turn compared same =
     let next = receives-next manner clock s0 r0 s r sending receiving c h m turn in
@@ -60,7 +59,7 @@ received-now manner clock s0 r0 s r sending receiving c d m h turn compared same
       x,
       known.waits.taken,
       record {
-        compared = subst (λ (l : List Seen). IsCompared d S l m) (sym now_is) (compared x S R h.now known.waits.lends h.compared next.1);
+        compared = subst (λ (l : List Seen). IsSifted d S l m) (sym now_is) (compared x S R h.now known.waits.lends h.compared next.1);
         within_is = same ∙ h.within_is;
         front = R;
         last = seen_at manner m x;
@@ -78,7 +77,7 @@ pub only-behind : (next : Option ℕ) (m : ℕ) (R : List Seen) → IfSome next 
 only-behind None m R h = tt
 only-behind (Some k) m R h = h.0
 
-pub after-received : (manner : Manner) (clock : Clock) (s0 s : Stream) (sending : Coming) (c : Comparison) (sent received : List Record) (m : ℕ) → ReceivedNow manner clock s0 s sending c sent received m
+pub after-received : (manner : Manner) (clock : Clock) (s0 s : Stream) (sending : Coming) (c : Sifting) (sent received : List Record) (m : ℕ) → ReceivedNow manner clock s0 s sending c sent received m
     → (text : List ℕ) → s0.supply.rest ≡ Some text → AfterReceived clock text c (on_clock manner clock.sent_delay (records_in text)) (on_clock manner clock.received_delay received)
 after-received manner clock s0 s sending c sent received m h text e =
     let S = on_clock manner clock.sent_delay sent in
@@ -100,7 +99,7 @@ pub sent-goes-on : (next : Option ℕ) (m : ℕ) (R : List Seen) → IfSome next
 sent-goes-on None m R h = tt
 sent-goes-on (Some k) m R h = (let late = h.0 in omega (arith, late), h.1)
 
-pub step-received : (manner : Manner) (clock : Clock) (s0 r0 s r : Stream) (sending receiving : Coming) (c : Comparison) (sent received : List Record) (m : ℕ) (result : Result (Unit {0}) CompareFault)
+pub step-received : (manner : Manner) (clock : Clock) (s0 r0 s r : Stream) (sending receiving : Coming) (c : Sifting) (sent received : List Record) (m : ℕ) (result : Result (Unit {0}) CompareFault)
     → ReceivedNow manner clock s0 s sending c sent received m → Fetches manner sides.Received clock.received_delay r0 r received receiving result → Steps manner clock s0 r0 s r sending receiving c result
 step-received manner clock s0 r0 s r sending receiving c sent received m (Ok x) h stands =
     let late : latest (on_clock manner clock.received_delay received) ≡ m = ap (λ (l : List Seen). latest l) h.last_is ∙ latest-one h.front h.last ∙ h.moment_is in

@@ -1,13 +1,12 @@
 -- A step over a record that was sent.
-use Rattle.std.proofs.Common.{◌≡◌, ◌∙◌, refl, sym, ap, subst, ℕ, ◌-◌, ◌≤◌, true, false, List, [], ◌∷◌, ◌++◌, length, arith, Option, Some, None, IfSome, Result, Ok, Err}
+use Rattle.std.proofs.Common.{◌≡◌, ◌∙◌, refl, sym, ap, subst, ℕ, ◌-◌, ◌≤◌, true, false, List, [], ◌∷◌, ◌++◌, arith, Option, Some, None, IfSome, Result, Ok, Err}
 use Rattle.pcap_io.specs.Record.{Record}
 use Rattle.pcap_stream.specs.Source.{Stream, lent}
-use Rattle.record_match.specs.Compared.{AreBefore, Comparison, IsCompared}
-use Rattle.record_match.specs.Match.{Record as Seen}
-use Rattle.record_match.specs.Window.{at_moment, has_room}
+use Rattle.capture_compare.specs.Sifted.{IsSifted, Sifting}
+use Rattle.record_match.specs.Window.{at_moment}
 use Rattle.record_match.specs.declared.clock.Clock.{Clock}
-use Rattle.capture_compare.specs.Clocked.{AreUpTo, before, latest, on_clock, received_by, seen_at}
-use Rattle.capture_compare.specs.Compared.{AllHadRoom, AreCounts, has_room_for, records_in}
+use Rattle.capture_compare.specs.Clocked.{AreBefore, AreUpTo, Seen, before, latest, on_clock, received_by, seen_at}
+use Rattle.capture_compare.specs.Compared.{AllHadRoom, AreCounts, has_room_for, records_in, takes}
 use Rattle.capture_compare.specs.Turns.{Amidst, Fetches, HasLent, Stands, StandsBy, Steps, Stopped, Waits, turn_of}
 use Rattle.capture_compare.specs.declared.coming.Coming.{Coming}
 use Rattle.capture_compare.specs.declared.turn.Turn.TheVariants as turns
@@ -19,7 +18,7 @@ use Rattle.capture_compare.proofs.Clocking.{before-front, before-later, clock-on
 use Rattle.capture_compare.proofs.Standing.{turn-sent, waits-parts, splits, starts-at, none-waits, room-later, counts-of, room-is}
 use Rattle.capture_compare.proofs.Telling.{AfterSent, sent-stops}
 use Rattle.carried_key.specs.declared.key.Manner.{Manner}
-use Rattle.carried_key.specs.Key.{key_by}
+use Rattle.carried_key.specs.Key.{told_by}
 
 -- the next one waits
 pub waits-by : (manner : Manner) (side : Side) (delay : ℕ) (start now : Stream) (rs : List Record) (c : Coming) (m : ℕ) → c.next ≡ Some m → Stands manner side delay start now rs c → Waits manner delay start now rs c.fetched m
@@ -31,7 +30,7 @@ pub record SendsNext (manner : Manner) (clock : Clock) (s0 s : Stream) (receivin
   pub no_earlier : IfSome receiving.next (λ k. m ≤ k)
   pub early : AreBefore m (on_clock manner clock.received_delay received)
 
-pub sends-next : (manner : Manner) (clock : Clock) (s0 r0 s r : Stream) (sending receiving : Coming) (c : Comparison) (h : Amidst manner clock s0 r0 s r sending receiving c) (m : ℕ) → turn_of sending.next receiving.next ≡ turns.Sent m
+pub sends-next : (manner : Manner) (clock : Clock) (s0 r0 s r : Stream) (sending receiving : Coming) (c : Sifting) (h : Amidst manner clock s0 r0 s r sending receiving c) (m : ℕ) → turn_of sending.next receiving.next ≡ turns.Sent m
     → SendsNext manner clock s0 s receiving h.sent h.received sending.fetched m × (h.now ≤ m)
 sends-next manner clock s0 r0 s r sending receiving c h m turn =
     let is = turn-sent sending.next receiving.next m turn in
@@ -43,9 +42,9 @@ only-up None now S h = tt
 only-up (Some k) now S h = h.1
 
 -- what a step answers for a record that was sent and for which there is no room
-pub step-full : (manner : Manner) (clock : Clock) (s0 r0 s r : Stream) (sending receiving : Coming) (c d : Comparison) (m : ℕ) (x : Record) → Amidst manner clock s0 r0 s r sending receiving c → turn_of sending.next receiving.next ≡ turns.Sent m
-    → lent s.standing ≡ Some x → clock.sent_delay ≤ m → has_room (at_moment m c.window) (length (key_by manner x.octets)) ≡ false
-    → ((S R : List Seen) (now : ℕ) → IsCompared c S R now → now ≤ m → IsCompared d S R m) → d.window.within ≡ c.window.within
+pub step-full : (manner : Manner) (clock : Clock) (s0 r0 s r : Stream) (sending receiving : Coming) (c d : Sifting) (m : ℕ) (x : Record) → Amidst manner clock s0 r0 s r sending receiving c → turn_of sending.next receiving.next ≡ turns.Sent m
+    → lent s.standing ≡ Some x → clock.sent_delay ≤ m → takes (at_moment m c.window) (told_by manner x.octets) ≡ false
+    → ((S R : List Seen) (now : ℕ) → IsSifted c S R now → now ≤ m → IsSifted d S R m) → d.window.within ≡ c.window.within
     → Stopped manner clock s0 r0 d (Err (faults.Full (m - clock.sent_delay)))
 step-full manner clock s0 r0 s r sending receiving c d m x h turn lends late full compared same = λ sent received e f.
     let next = sends-next manner clock s0 r0 s r sending receiving c h m turn in
@@ -58,7 +57,7 @@ step-full manner clock s0 r0 s r sending receiving c d m x h turn lends late ful
     let front : before m (on_clock manner clock.received_delay (records_in received)) ≡ R =
     ap (λ (l : List Seen). before m l) theirs.parts ∙ before-front m R theirs.behind known.early (starts-at receiving.next theirs.behind m theirs.starts known.no_earlier) in
     let had : has_room_for clock.within S R (seen_at manner m known.waits.next) ≡ false =
-    room-is manner clock.within h.now m c S R known.waits.next false h.compared next.1 h.within_is (ap (λ (x : Record). has_room (at_moment m c.window) (length (key_by manner x.octets))) is ∙ full) in
+    room-is manner clock.within h.now m c S R known.waits.next false h.compared next.1 h.within_is (ap (λ (x : Record). takes (at_moment m c.window) (told_by manner x.octets)) is ∙ full) in
     record {
       front = S;
       here = seen_at manner m known.waits.next;
@@ -73,8 +72,8 @@ step-full manner clock s0 r0 s r sending receiving c d m x h turn lends late ful
     }
 
 -- behind a record that was sent
-pub record SentNow (manner : Manner) (clock : Clock) (s0 r0 s r : Stream) (receiving : Coming) (c : Comparison) (sent received : List Record) (m : ℕ) : Type 0 where
-  pub compared : IsCompared c (on_clock manner clock.sent_delay sent) (on_clock manner clock.received_delay received) m
+pub record SentNow (manner : Manner) (clock : Clock) (s0 r0 s r : Stream) (receiving : Coming) (c : Sifting) (sent received : List Record) (m : ℕ) : Type 0 where
+  pub compared : IsSifted c (on_clock manner clock.sent_delay sent) (on_clock manner clock.received_delay received) m
   pub within_is : c.window.within ≡ clock.within
   pub latest_is : latest (on_clock manner clock.sent_delay sent) ≡ m
   pub early : AreBefore m (on_clock manner clock.received_delay received)
@@ -86,9 +85,9 @@ pub up-to-next : (next : Option ℕ) (now m : ℕ) (S : List Seen) (x : Seen) �
 up-to-next None now m S x is h g = tt
 up-to-next (Some k) now m S x is h g = (g, up-to-one k S x h.1 (omega (arith, g, is)))
 
-pub sent-now : (manner : Manner) (clock : Clock) (s0 r0 s r : Stream) (sending receiving : Coming) (c d : Comparison) (m : ℕ) (h : Amidst manner clock s0 r0 s r sending receiving c) → turn_of sending.next receiving.next ≡ turns.Sent m
-    → ((x : Record) → lent s.standing ≡ Some x → has_room (at_moment m c.window) (length (key_by manner x.octets)) ≡ true)
-    → ((x : Record) (S R : List Seen) (now : ℕ) → lent s.standing ≡ Some x → IsCompared c S R now → now ≤ m → AreBefore m R → IsCompared d (S ++ seen_at manner m x ∷ []) R m) → d.window.within ≡ c.window.within
+pub sent-now : (manner : Manner) (clock : Clock) (s0 r0 s r : Stream) (sending receiving : Coming) (c d : Sifting) (m : ℕ) (h : Amidst manner clock s0 r0 s r sending receiving c) → turn_of sending.next receiving.next ≡ turns.Sent m
+    → ((x : Record) → lent s.standing ≡ Some x → takes (at_moment m c.window) (told_by manner x.octets) ≡ true)
+    → ((x : Record) (S R : List Seen) (now : ℕ) → lent s.standing ≡ Some x → IsSifted c S R now → now ≤ m → AreBefore m R → IsSifted d (S ++ seen_at manner m x ∷ []) R m) → d.window.within ≡ c.window.within
     → (x : Record) × (lent s.standing ≡ Some x) × HasLent s0 s (h.sent ++ x ∷ []) sending.fetched × SentNow manner clock s0 r0 s r receiving d (h.sent ++ x ∷ []) h.received m
 sent-now manner clock s0 r0 s r sending receiving c d m h turn had compared same =
     let next = sends-next manner clock s0 r0 s r sending receiving c h m turn in
@@ -101,7 +100,7 @@ sent-now manner clock s0 r0 s r sending receiving c d m h turn had compared same
       known.waits.lends,
       known.waits.taken,
       record {
-        compared = subst (λ (l : List Seen). IsCompared d l R m) (sym now_is) (compared x S R h.now known.waits.lends h.compared next.1 known.early);
+        compared = subst (λ (l : List Seen). IsSifted d l R m) (sym now_is) (compared x S R h.now known.waits.lends h.compared next.1 known.early);
         within_is = same ∙ h.within_is;
         latest_is = ap (λ (l : List Seen). latest l) now_is ∙ latest-one S (seen_at manner m x);
         early = known.early;
@@ -117,7 +116,7 @@ pub only-later : (next : Option ℕ) (m : ℕ) (S : List Seen) → IfSome next (
 only-later None m S h = tt
 only-later (Some k) m S h = h.0
 
-pub after-sent : (manner : Manner) (clock : Clock) (s0 r0 s r : Stream) (receiving : Coming) (c : Comparison) (sent received : List Record) (m : ℕ) → SentNow manner clock s0 r0 s r receiving c sent received m
+pub after-sent : (manner : Manner) (clock : Clock) (s0 r0 s r : Stream) (receiving : Coming) (c : Sifting) (sent received : List Record) (m : ℕ) → SentNow manner clock s0 r0 s r receiving c sent received m
     → (text : List ℕ) → r0.supply.rest ≡ Some text → AfterSent clock text c (on_clock manner clock.sent_delay sent) (on_clock manner clock.received_delay (records_in text))
 after-sent manner clock s0 r0 s r receiving c sent received m h text e =
     let S = on_clock manner clock.sent_delay sent in
@@ -141,7 +140,7 @@ pub if-some : (P : ℕ → Type 0) (next : Option ℕ) → ((k : ℕ) → next �
 if-some P None h = tt
 if-some P (Some k) h = h k refl
 
-pub step-sent : (manner : Manner) (clock : Clock) (s0 r0 s r : Stream) (sending receiving : Coming) (c : Comparison) (sent received : List Record) (m : ℕ) (result : Result (Unit {0}) CompareFault) → {old : Stream}
+pub step-sent : (manner : Manner) (clock : Clock) (s0 r0 s r : Stream) (sending receiving : Coming) (c : Sifting) (sent received : List Record) (m : ℕ) (result : Result (Unit {0}) CompareFault) → {old : Stream}
     → SentNow manner clock s0 r0 old r receiving c sent received m → Fetches manner sides.Sent clock.sent_delay s0 s sent sending result → Steps manner clock s0 r0 s r sending receiving c result
 step-sent manner clock s0 r0 s r sending receiving c sent received m (Ok x) h stands = record {
   sent = sent;

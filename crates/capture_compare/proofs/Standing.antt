@@ -6,20 +6,21 @@ use Rattle.pcap_io.specs.Reading.{Reading, records}
 use Rattle.pcap_io.specs.Record.{Record}
 use Rattle.pcap_io.specs.declared.header.CaptureFault.{CaptureFault}
 use Rattle.pcap_stream.specs.Source.{Stream}
-use Rattle.record_match.specs.Compared.{Comparison, IsCompared, octets_in}
-use Rattle.record_match.specs.Match.{Record as Seen, Sent, as_sent, matched, received_count}
+use Rattle.record_match.specs.Compared.{octets_in}
+use Rattle.record_match.specs.Match.{Sent, as_sent, matched, received_count}
 use Rattle.record_match.specs.Settled.{alone_from, told_from}
-use Rattle.record_match.specs.Window.{Window, at_moment, has_room}
+use Rattle.record_match.specs.Window.{Window, at_moment}
 use Rattle.record_match.proofs.Comparing.{all-alone, held-then}
-use Rattle.capture_compare.specs.Clocked.{AreUpTo, latest, on_clock, seen_at, timed}
-use Rattle.capture_compare.specs.Compared.{AllHadRoom, AreCounts, records_of, fault_in, has_room_for, records_in, window_at}
+use Rattle.capture_compare.specs.Clocked.{AreUpTo, Seen, kept, latest, on_clock, seen_at, timed}
+use Rattle.capture_compare.specs.Compared.{AllHadRoom, AreCounts, records_of, fault_in, has_room_for, records_in, takes, window_at}
+use Rattle.capture_compare.specs.Sifted.{IsSifted, Sifting, compared_of}
 use Rattle.capture_compare.specs.Turns.{Stands, StandsBy, Waits, turn_of}
 use Rattle.capture_compare.specs.declared.coming.Coming.{Coming}
 use Rattle.capture_compare.specs.declared.turn.Turn.TheVariants as turns
 use Rattle.capture_compare.specs.declared.fault.Side.{Side}
 use Rattle.capture_compare.proofs.Clocking.{StartsAt, StartsBehind, clock-append, clock-one, not-longer, room-more}
 use Rattle.carried_key.specs.declared.key.Manner.{Manner}
-use Rattle.carried_key.specs.Key.{key_by}
+use Rattle.carried_key.specs.Key.{told_by}
 
 -- ---- whose turn
 
@@ -136,24 +137,29 @@ room-later within R S ys (Some k) room h up = room-more within k R ys [] S room 
 
 -- ---- counts and room
 
-pub counts-of : (within now : ℕ) (c : Comparison) (S R : List Seen) → IsCompared c S R now → c.window.within ≡ within → AreCounts within S R c
-counts-of within now c S R h is = record {
-  sent_is = h.sent_is;
-  received_is = h.received_is;
-  both_is = h.both_is ∙ ap (λ (w : ℕ). received_count (matched w S R)) is;
-  told_is = h.told_is ∙ ap (λ (w : ℕ). told_from w 1 (map as_sent S) R) is;
-  alone_is = sym (all-alone c S R now h) ∙ ap (λ (w : ℕ). alone_from 1 (matched w S R)) is;
-}
+pub counts-of : (within now : ℕ) (c : Sifting) (S R : List Seen) → IsSifted c S R now → c.window.within ≡ within → AreCounts within S R c
+counts-of within now c S R h is =
+    let own = h.compared in
+    record {
+      sent_is = own.sent_is;
+      received_is = own.received_is;
+      sent_aside_is = h.sent_aside_is;
+      received_aside_is = h.received_aside_is;
+      both_is = own.both_is ∙ ap (λ (w : ℕ). received_count (matched w (kept S) (kept R))) is;
+      told_is = own.told_is ∙ ap (λ (w : ℕ). told_from w 1 (map as_sent (kept S)) (kept R)) is;
+      alone_is = sym (all-alone (compared_of c) (kept S) (kept R) now own) ∙ ap (λ (w : ℕ). alone_from 1 (matched w (kept S) (kept R))) is;
+    }
 
-pub window-is : (within now m : ℕ) (c : Comparison) (S R : List Seen) → IsCompared c S R now → now ≤ m → c.window.within ≡ within → at_moment m c.window ≡ window_at within m S R
+pub window-is : (within now m : ℕ) (c : Sifting) (S R : List Seen) → IsSifted c S R now → now ≤ m → c.window.within ≡ within → at_moment m c.window ≡ window_at within m (kept S) (kept R)
 window-is within now m c S R h le is =
-    subst (λ (w : ℕ). at_moment m c.window ≡ window_at w m S R) is
-    (make c.window.within c.window.within (length S) c.window.records (octets_in S) c.window.octets refl h.records_is h.octets_is (held-then c S R now m h le))
+    let own = h.compared in
+    subst (λ (w : ℕ). at_moment m c.window ≡ window_at w m (kept S) (kept R)) is
+    (make c.window.within c.window.within (length (kept S)) c.window.records (octets_in (kept S)) c.window.octets refl own.records_is own.octets_is (held-then (compared_of c) (kept S) (kept R) now m own le))
   where
     make : (a b r q o p : ℕ) → b ≡ a → q ≡ r → p ≡ o → {x y : List Sent} → x ≡ y
         → ◌≡◌ {A = Window} (record { within = b; records = q; octets = p; held = x }) (record { within = a; records = r; octets = o; held = y })
     make a b r q o p e f g h = cc
 
-pub room-is : (manner : Manner) (within now m : ℕ) (c : Comparison) (S R : List Seen) (x : Record) (q : Bool) → IsCompared c S R now → now ≤ m → c.window.within ≡ within → has_room (at_moment m c.window) (length (key_by manner x.octets)) ≡ q
+pub room-is : (manner : Manner) (within now m : ℕ) (c : Sifting) (S R : List Seen) (x : Record) (q : Bool) → IsSifted c S R now → now ≤ m → c.window.within ≡ within → takes (at_moment m c.window) (told_by manner x.octets) ≡ q
     → has_room_for within S R (seen_at manner m x) ≡ q
-room-is manner within now m c S R x q h le is e = ap (λ (w : Window). has_room w (length (key_by manner x.octets))) (sym (window-is within now m c S R h le is)) ∙ e
+room-is manner within now m c S R x q h le is e = ap (λ (w : Window). takes w (told_by manner x.octets)) (sym (window-is within now m c S R h le is)) ∙ e

@@ -3,13 +3,13 @@ use Rattle.std.proofs.Common.{◌≡◌, ◌≢◌, ◌∙◌, refl, sym, ap, su
 use Rattle.std.specs.Prelude.{IsSome}
 use Rattle.pcap_io.specs.Record.{Record}
 use Rattle.pcap_stream.specs.Source.{Standing, Stream, New, Open, Ended, Failed, lent, most_left}
-use Rattle.record_match.specs.Compared.{AreBefore, Comparison, IsCompared}
-use Rattle.record_match.specs.Match.{Record as Seen, matched, received_count}
-use Rattle.record_match.specs.Window.{at_moment, has_room}
+use Rattle.capture_compare.specs.Sifted.{IsSifted, Sifting}
+use Rattle.record_match.specs.Match.{Record as Matched, matched, received_count}
+use Rattle.record_match.specs.Window.{at_moment}
 use Rattle.record_match.specs.declared.clock.Clock.{Clock}
 use Rattle.record_match.proofs.Meeting.{each_is_told}
-use Rattle.capture_compare.specs.Clocked.{AreUpTo, latest, on_clock, seen_at}
-use Rattle.capture_compare.specs.Compared.{AllHadRoom, AreCounts, records_in}
+use Rattle.capture_compare.specs.Clocked.{AreBefore, AreUpTo, Seen, kept, latest, on_clock, seen_at}
+use Rattle.capture_compare.specs.Compared.{AllHadRoom, AreCounts, records_in, takes}
 use Rattle.capture_compare.specs.Turns.{Amidst, Fetches, HasLent, IsDone, Stands, StandsBy, Steps, Stopped, StopsBehind, turn_of, unless_full, weight}
 use Rattle.capture_compare.specs.declared.coming.Coming.{Coming}
 use Rattle.capture_compare.specs.declared.turn.Turn.TheVariants as turns
@@ -23,11 +23,11 @@ use Rattle.capture_compare.proofs.Telling.{sent-stops, received-stops}
 use Rattle.capture_compare.proofs.Sending.{sends-next, step-full, sent-now, if-some, step-sent}
 use Rattle.capture_compare.proofs.Receiving.{receives-next, received-now, step-received}
 use Rattle.carried_key.specs.declared.key.Manner.{Manner}
-use Rattle.carried_key.specs.Key.{key_by}
+use Rattle.carried_key.specs.Key.{told_by}
 
 -- ---- the beginning and the end
 
-pub not-begun : (manner : Manner) (clock : Clock) (s0 r0 : Stream) (c : Comparison) (fault : CompareFault) → IsCompared c [] [] 0 → c.window.within ≡ clock.within → StopsBehind sides.Sent s0 [] fault → Stopped manner clock s0 r0 c (Err fault)
+pub not-begun : (manner : Manner) (clock : Clock) (s0 r0 : Stream) (c : Sifting) (fault : CompareFault) → IsSifted c [] [] 0 → c.window.within ≡ clock.within → StopsBehind sides.Sent s0 [] fault → Stopped manner clock s0 r0 c (Err fault)
 not-begun manner clock s0 r0 c fault h is stops = λ sent received e f.
     let R = on_clock manner clock.received_delay (records_in received) in
     sent-stops manner clock sent received c [] R s0 fault e stops (record {
@@ -36,7 +36,7 @@ not-begun manner clock s0 r0 c fault h is stops = λ sent received e f.
       first = λ some _. absurd (some refl);
     })
 
-pub not-begun-behind : (manner : Manner) (clock : Clock) (s0 r0 s : Stream) (sending : Coming) (c : Comparison) (fault : CompareFault) → IsCompared c [] [] 0 → c.window.within ≡ clock.within
+pub not-begun-behind : (manner : Manner) (clock : Clock) (s0 r0 s : Stream) (sending : Coming) (c : Sifting) (fault : CompareFault) → IsSifted c [] [] 0 → c.window.within ≡ clock.within
     → Stands manner sides.Sent clock.sent_delay s0 s [] sending → StopsBehind sides.Received r0 [] fault → Stopped manner clock s0 r0 c (Err fault)
 not-begun-behind manner clock s0 r0 s sending c fault h is stands stops = λ sent received e f.
     let theirs = splits manner sides.Sent clock.sent_delay s0 s [] sending stands sent e in
@@ -46,7 +46,7 @@ not-begun-behind manner clock s0 r0 s sending c fault h is stands stops = λ sen
       first = λ g. theirs.no_fault (none-waits sending.next [] theirs.behind theirs.starts (g ∙ theirs.parts));
     })
 
-pub both-begun : (manner : Manner) (clock : Clock) (s0 r0 s r : Stream) (sending receiving : Coming) (c : Comparison) → IsCompared c [] [] 0 → c.window.within ≡ clock.within
+pub both-begun : (manner : Manner) (clock : Clock) (s0 r0 s r : Stream) (sending receiving : Coming) (c : Sifting) → IsSifted c [] [] 0 → c.window.within ≡ clock.within
     → Stands manner sides.Sent clock.sent_delay s0 s [] sending → Stands manner sides.Received clock.received_delay r0 r [] receiving → Amidst manner clock s0 r0 s r sending receiving c
 both-begun manner clock s0 r0 s r sending receiving c h is sent received = record {
   sent = [];
@@ -61,7 +61,7 @@ both-begun manner clock s0 r0 s r sending receiving c h is sent received = recor
   received_later = if-some (λ k. (0 ≤ k) × AreUpTo k []) receiving.next (λ k e. (omega arith, tt));
 }
 
-pub all-compared : (manner : Manner) (clock : Clock) (s0 r0 s r : Stream) (sending receiving : Coming) (c : Comparison) → Amidst manner clock s0 r0 s r sending receiving c → turn_of sending.next receiving.next ≡ turns.Done → Stopped manner clock s0 r0 c (Ok tt)
+pub all-compared : (manner : Manner) (clock : Clock) (s0 r0 s r : Stream) (sending receiving : Coming) (c : Sifting) → Amidst manner clock s0 r0 s r sending receiving c → turn_of sending.next receiving.next ≡ turns.Done → Stopped manner clock s0 r0 c (Ok tt)
 all-compared manner clock s0 r0 s r sending receiving c h turn = λ sent received e f.
     let none = turn-done sending.next receiving.next turn in
     let mine_done : IsDone sides.Sent s0 s h.sent = subst (λ (o : Option ℕ). StandsBy manner sides.Sent clock.sent_delay s0 s h.sent sending.fetched o) none.0 h.sent_stands.next in
@@ -82,35 +82,36 @@ all-compared manner clock s0 r0 s r sending receiving c h turn = λ sent receive
 
 -- ---- counts fit
 
-pub sent-fits : (manner : Manner) (clock : Clock) (s0 r0 s r : Stream) (sending receiving : Coming) (c : Comparison) (m : ℕ) → Amidst manner clock s0 r0 s r sending receiving c → turn_of sending.next receiving.next ≡ turns.Sent m → most_left s0 < 2 ^ 64
-    → IsSome (lent s.standing) × (sending.fetched + 1 < 2 ^ 64) × (c.sent + 1 < 2 ^ 64) × (clock.sent_delay ≤ m)
+pub sent-fits : (manner : Manner) (clock : Clock) (s0 r0 s r : Stream) (sending receiving : Coming) (c : Sifting) (m : ℕ) → Amidst manner clock s0 r0 s r sending receiving c → turn_of sending.next receiving.next ≡ turns.Sent m → most_left s0 < 2 ^ 64
+    → IsSome (lent s.standing) × (sending.fetched + 1 < 2 ^ 64) × (c.sent + 1 < 2 ^ 64) × (c.aside.sent + 1 < 2 ^ 64) × (clock.sent_delay ≤ m)
 sent-fits manner clock s0 r0 s r sending receiving c m h turn few =
     let known = (sends-next manner clock s0 r0 s r sending receiving c h m turn).0 in
     let taken = known.waits.taken in
     let spent = taken.spent in
     let count = taken.count_is in
     let longer = length-append h.sent (known.waits.next ∷ []) in
-    let sent = h.compared.sent_is in
+    let sent = h.compared.sent_aside_is in
     let many = timed-length manner clock.sent_delay 0 h.sent in
     let moment = known.waits.moment_is in
-    (subst (λ (o : Option Record). IsSome o) (sym known.waits.lends) refl, omega (arith, spent, count, longer, few), omega (arith, spent, longer, few, sent, many), omega (arith, moment))
+    (subst (λ (o : Option Record). IsSome o) (sym known.waits.lends) refl, omega (arith, spent, count, longer, few), omega (arith, spent, longer, few, sent, many), omega (arith, spent, longer, few, sent, many), omega (arith, moment))
 
-pub fewer-both : (within : ℕ) (S R : List Seen) → received_count (matched within S R) ≤ length R
+pub fewer-both : (within : ℕ) (S R : List Matched) → received_count (matched within S R) ≤ length R
 fewer-both within S R = let all = each_is_told within S R in omega (arith, all)
 
-pub received-fits : (manner : Manner) (clock : Clock) (s0 r0 s r : Stream) (sending receiving : Coming) (c : Comparison) (m : ℕ) → Amidst manner clock s0 r0 s r sending receiving c → turn_of sending.next receiving.next ≡ turns.Received m → most_left r0 < 2 ^ 64
-    → IsSome (lent r.standing) × (receiving.fetched + 1 < 2 ^ 64) × (c.received + 1 < 2 ^ 64) × (c.both + 1 < 2 ^ 64)
+pub received-fits : (manner : Manner) (clock : Clock) (s0 r0 s r : Stream) (sending receiving : Coming) (c : Sifting) (m : ℕ) → Amidst manner clock s0 r0 s r sending receiving c → turn_of sending.next receiving.next ≡ turns.Received m → most_left r0 < 2 ^ 64
+    → IsSome (lent r.standing) × (receiving.fetched + 1 < 2 ^ 64) × (c.received + 1 < 2 ^ 64) × (c.both + 1 < 2 ^ 64) × (c.aside.received + 1 < 2 ^ 64)
 received-fits manner clock s0 r0 s r sending receiving c m h turn few =
     let known = (receives-next manner clock s0 r0 s r sending receiving c h m turn).0 in
     let taken = known.waits.taken in
     let spent = taken.spent in
     let count = taken.count_is in
     let longer = length-append h.received (known.waits.next ∷ []) in
-    let received = h.compared.received_is in
-    let both = h.compared.both_is in
-    let fewer = fewer-both c.window.within (on_clock manner clock.sent_delay h.sent) (on_clock manner clock.received_delay h.received) in
+    let received = h.compared.received_aside_is in
+    let taken_in = h.compared.compared.received_is in
+    let both = h.compared.compared.both_is in
+    let met = fewer-both c.window.within (kept (on_clock manner clock.sent_delay h.sent)) (kept (on_clock manner clock.received_delay h.received)) in
     let many = timed-length manner clock.received_delay 0 h.received in
-    (subst (λ (o : Option Record). IsSome o) (sym known.waits.lends) refl, omega (arith, spent, count, longer, few), omega (arith, spent, longer, few, received, many), omega (arith, spent, longer, few, received, many, both, fewer))
+    (subst (λ (o : Option Record). IsSome o) (sym known.waits.lends) refl, omega (arith, spent, count, longer, few), omega (arith, spent, longer, few, received, many), omega (arith, spent, longer, few, received, many, taken_in, both, met), omega (arith, spent, longer, few, received, many))
 
 pub room-by : (q : Bool) (m : ℕ) → ◌≡◌ {A = Result (Unit {0}) CompareFault} (Ok tt) (unless_full q m) → q ≡ true
 room-by true m e = refl
@@ -121,29 +122,29 @@ full-by true m fault e = absurd cc
 full-by false m fault e = (refl, cc)
 
 -- a step that stops at a record that was sent, by what taking it tells
-pub step-full-by : (manner : Manner) (clock : Clock) (s0 r0 s r : Stream) (sending receiving : Coming) (c d : Comparison) (m delay : ℕ) (fault : CompareFault) → Amidst manner clock s0 r0 s r sending receiving c → turn_of sending.next receiving.next ≡ turns.Sent m
+pub step-full-by : (manner : Manner) (clock : Clock) (s0 r0 s r : Stream) (sending receiving : Coming) (c d : Sifting) (m delay : ℕ) (fault : CompareFault) → Amidst manner clock s0 r0 s r sending receiving c → turn_of sending.next receiving.next ≡ turns.Sent m
     → delay ≡ sending.delay → delay ≤ m
-    → ((x : Record) → lent s.standing ≡ Some x → ◌≡◌ {A = Result (Unit {0}) CompareFault} (Err fault) (unless_full (has_room (at_moment m c.window) (length (key_by manner x.octets))) (m - delay)))
-    → ((S R : List Seen) (now : ℕ) → IsCompared c S R now → now ≤ m → IsCompared d S R m) → d.window.within ≡ c.window.within
+    → ((x : Record) → lent s.standing ≡ Some x → ◌≡◌ {A = Result (Unit {0}) CompareFault} (Err fault) (unless_full (takes (at_moment m c.window) (told_by manner x.octets)) (m - delay)))
+    → ((S R : List Seen) (now : ℕ) → IsSifted c S R now → now ≤ m → IsSifted d S R m) → d.window.within ≡ c.window.within
     → Stopped manner clock s0 r0 d (Err fault)
 step-full-by manner clock s0 r0 s r sending receiving c d m delay fault h turn is late answer compared same =
     let known = (sends-next manner clock s0 r0 s r sending receiving c h m turn).0 in
     let x = known.waits.next in
-    let told = full-by (has_room (at_moment m c.window) (length (key_by manner x.octets))) (m - delay) fault (answer x known.waits.lends) in
+    let told = full-by (takes (at_moment m c.window) (told_by manner x.octets)) (m - delay) fault (answer x known.waits.lends) in
     let own : delay ≡ clock.sent_delay = is ∙ h.sent_stands.delay_is in
     let there : clock.sent_delay ≤ m = subst (λ (n : ℕ). n ≤ m) own late in
     subst (λ (f : CompareFault). Stopped manner clock s0 r0 d (Err f)) (sym (told.1 ∙ ap (λ (n : ℕ). faults.Full (m - n)) own))
     (step-full manner clock s0 r0 s r sending receiving c d m x h turn known.waits.lends there told.0 compared same)
 
 -- a step over a record that was sent, by what taking it and fetching the next one tell
-pub step-sent-by : (manner : Manner) (clock : Clock) (s0 r0 s t r : Stream) (sending after receiving : Coming) (c d : Comparison) (m n : ℕ) (result : Result (Unit {0}) CompareFault) → Amidst manner clock s0 r0 s r sending receiving c
+pub step-sent-by : (manner : Manner) (clock : Clock) (s0 r0 s t r : Stream) (sending after receiving : Coming) (c d : Sifting) (m n : ℕ) (result : Result (Unit {0}) CompareFault) → Amidst manner clock s0 r0 s r sending receiving c
     → turn_of sending.next receiving.next ≡ turns.Sent m
-    → ((x : Record) → lent s.standing ≡ Some x → ◌≡◌ {A = Result (Unit {0}) CompareFault} (Ok tt) (unless_full (has_room (at_moment m c.window) (length (key_by manner x.octets))) n))
-    → ((x : Record) (S R : List Seen) (now : ℕ) → lent s.standing ≡ Some x → IsCompared c S R now → now ≤ m → AreBefore m R → IsCompared d (S ++ seen_at manner m x ∷ []) R m) → d.window.within ≡ c.window.within
+    → ((x : Record) → lent s.standing ≡ Some x → ◌≡◌ {A = Result (Unit {0}) CompareFault} (Ok tt) (unless_full (takes (at_moment m c.window) (told_by manner x.octets)) n))
+    → ((x : Record) (S R : List Seen) (now : ℕ) → lent s.standing ≡ Some x → IsSifted c S R now → now ≤ m → AreBefore m R → IsSifted d (S ++ seen_at manner m x ∷ []) R m) → d.window.within ≡ c.window.within
     → ((start : Stream) (rs : List Record) → HasLent start s rs sending.fetched → m ≡ latest (on_clock manner sending.delay rs) → Fetches manner sending.side sending.delay start t rs after result)
     → Steps manner clock s0 r0 t r after receiving d result
 step-sent-by manner clock s0 r0 s t r sending after receiving c d m n result h turn answer compared same fetched =
-    let now = sent-now manner clock s0 r0 s r sending receiving c d m h turn (λ x e. room-by (has_room (at_moment m c.window) (length (key_by manner x.octets))) n (answer x e)) compared same in
+    let now = sent-now manner clock s0 r0 s r sending receiving c d m h turn (λ x e. room-by (takes (at_moment m c.window) (told_by manner x.octets)) n (answer x e)) compared same in
     let rs = h.sent ++ now.0 ∷ [] in
     let late : m ≡ latest (on_clock manner sending.delay rs) = sym now.3.latest_is ∙ ap (λ (k : ℕ). latest (on_clock manner k rs)) (sym h.sent_stands.delay_is) in
     step-sent manner clock s0 r0 t r after receiving d rs h.received m result now.3
@@ -151,9 +152,9 @@ step-sent-by manner clock s0 r0 s t r sending after receiving c d m n result h t
     (subst (λ (of : Side). Fetches manner of sending.delay s0 t rs after result) h.sent_stands.side_is (fetched s0 rs now.2 late)))
 
 -- the same of a record that was received
-pub step-received-by : (manner : Manner) (clock : Clock) (s0 r0 s r t : Stream) (sending receiving after : Coming) (c d : Comparison) (m : ℕ) (result : Result (Unit {0}) CompareFault) → Amidst manner clock s0 r0 s r sending receiving c
+pub step-received-by : (manner : Manner) (clock : Clock) (s0 r0 s r t : Stream) (sending receiving after : Coming) (c d : Sifting) (m : ℕ) (result : Result (Unit {0}) CompareFault) → Amidst manner clock s0 r0 s r sending receiving c
     → turn_of sending.next receiving.next ≡ turns.Received m
-    → ((x : Record) (S R : List Seen) (now : ℕ) → lent r.standing ≡ Some x → IsCompared c S R now → now ≤ m → IsCompared d S (R ++ seen_at manner m x ∷ []) m) → d.window.within ≡ c.window.within
+    → ((x : Record) (S R : List Seen) (now : ℕ) → lent r.standing ≡ Some x → IsSifted c S R now → now ≤ m → IsSifted d S (R ++ seen_at manner m x ∷ []) m) → d.window.within ≡ c.window.within
     → ((start : Stream) (rs : List Record) → HasLent start r rs receiving.fetched → m ≡ latest (on_clock manner receiving.delay rs) → Fetches manner receiving.side receiving.delay start t rs after result)
     → Steps manner clock s0 r0 s t sending after d result
 step-received-by manner clock s0 r0 s r t sending receiving after c d m result h turn compared same fetched =

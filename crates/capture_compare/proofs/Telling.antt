@@ -3,10 +3,9 @@ use Rattle.std.proofs.Common.{◌≡◌, ◌≢◌, ◌∙◌, sym, ap, subst, �
 use Rattle.std.proofs.lemmas.List.{append-nil}
 use Rattle.pcap_io.specs.Record.{Record}
 use Rattle.pcap_stream.specs.Source.{Stream}
-use Rattle.record_match.specs.Compared.{Comparison}
-use Rattle.record_match.specs.Match.{Record as Seen}
+use Rattle.capture_compare.specs.Sifted.{Sifting}
 use Rattle.record_match.specs.declared.clock.Clock.{Clock}
-use Rattle.capture_compare.specs.Clocked.{latest, on_clock, received_by, sent_by, timed}
+use Rattle.capture_compare.specs.Clocked.{Seen, latest, on_clock, received_by, sent_by, timed}
 use Rattle.capture_compare.specs.Compared.{AllHadRoom, AreCounts, IsReceivedFault, IsSentFault, Stops, fault_in, records_in}
 use Rattle.capture_compare.specs.Turns.{IsItsFault, StopsBehind}
 use Rattle.capture_compare.specs.declared.fault.CompareFault.{CompareFault}
@@ -17,12 +16,12 @@ use Rattle.capture_compare.proofs.Clocking.{StartsAt, clock-append}
 use Rattle.carried_key.specs.declared.key.Manner.{Manner}
 
 -- what was sent was taken up to a record at this moment; what was received, before it
-pub record AfterSent (clock : Clock) (received : List ℕ) (c : Comparison) (S R : List Seen) : Type 0 where
+pub record AfterSent (clock : Clock) (received : List ℕ) (c : Sifting) (S R : List Seen) : Type 0 where
   pub counts : AreCounts clock.within S (received_by S R) c
   pub room : AllHadRoom clock.within R [] S
   pub first : S ≢ [] → received_by S R ≡ R → fault_in sides.Received received ≡ None
 
-pub sent-stops : (manner : Manner) (clock : Clock) (sent received : List ℕ) (c : Comparison) (rs : List Record) (R : List Seen) (s0 : Stream) (fault : CompareFault)
+pub sent-stops : (manner : Manner) (clock : Clock) (sent received : List ℕ) (c : Sifting) (rs : List Record) (R : List Seen) (s0 : Stream) (fault : CompareFault)
     → s0.supply.rest ≡ Some sent → StopsBehind sides.Sent s0 rs fault → AfterSent clock received c (on_clock manner clock.sent_delay rs) R
     → Stops clock sent received c (on_clock manner clock.sent_delay (records_in sent)) R fault
 sent-stops manner clock sent received c rs R s0 (faults.Read of) e h told = by of h.0
@@ -57,7 +56,7 @@ sent-stops manner clock sent received c rs R s0 (faults.Record of n fault) e h t
 sent-stops manner clock sent received c rs R s0 (faults.Full moment) e h told = absurd h
 
 -- the same of what was received, and what was sent before it or at its moment
-pub record AfterReceived (clock : Clock) (sent : List ℕ) (c : Comparison) (S R : List Seen) : Type 0 where
+pub record AfterReceived (clock : Clock) (sent : List ℕ) (c : Sifting) (S R : List Seen) : Type 0 where
   pub counts : AreCounts clock.within (sent_by R S) R c
   pub room : (ys : List Seen) → StartsAt (latest R) ys → AllHadRoom clock.within (R ++ ys) [] (sent_by R S)
   pub first : sent_by R S ≡ S → fault_in sides.Sent sent ≡ None
@@ -66,7 +65,7 @@ pub starts-late : (manner : Manner) (delay l : ℕ) (rs : List Record) → Start
 starts-late manner delay l [] = tt
 starts-late manner delay l (r ∷ rs) = omega arith
 
-pub received-stops : (manner : Manner) (clock : Clock) (sent received : List ℕ) (c : Comparison) (rs : List Record) (S : List Seen) (r0 : Stream) (fault : CompareFault)
+pub received-stops : (manner : Manner) (clock : Clock) (sent received : List ℕ) (c : Sifting) (rs : List Record) (S : List Seen) (r0 : Stream) (fault : CompareFault)
     → r0.supply.rest ≡ Some received → StopsBehind sides.Received r0 rs fault → AfterReceived clock sent c S (on_clock manner clock.received_delay rs)
     → Stops clock sent received c S (on_clock manner clock.received_delay (records_in received)) fault
 received-stops manner clock sent received c rs S r0 (faults.Read of) e h told = by of h.0

@@ -1,16 +1,31 @@
 -- The records of two captures on one clock, each as the key that decides what is the same. It states no standard.
+--     kept         those records that aren't left aside, by their keys
 --     on_clock     the records of a capture, at moments that never fall
 --     before       those that come before a moment
 --     up_to        those that come before it or at it
-use Rattle.std.specs.Prelude.{◌≤◌, ⊤, ℕ, ◌+◌, max, nat_le, nat_lt, if◌then◌else◌, List, [], ◌∷◌}
+use Rattle.std.specs.Prelude.{◌≤◌, ◌<◌, ⊤, ℕ, ◌+◌, max, nat_le, nat_lt, if◌then◌else◌, List, [], ◌∷◌, Option, Some, None}
 use Rattle.pcap_io.specs.Record.{Record}
-use Rattle.record_match.specs.Match.{Record as Seen}
+use Rattle.record_match.specs.Match.{Record as Matched}
 use Rattle.carried_key.specs.declared.key.Manner.{Manner}
-use Rattle.carried_key.specs.Key.{key_by}
+use Rattle.carried_key.specs.Key.{told_by}
+
+-- a record of a capture: its moment in nanoseconds, and its key, where it isn't left aside
+pub record Seen : Type 0 where
+  pub moment : ℕ
+  pub key : Option (List ℕ)
+
+-- those that aren't left aside
+abbrev pub with_key : ℕ → Option (List ℕ) → List Matched → List Matched
+with_key moment None rs = rs
+with_key moment (Some key) rs = record { moment = moment; octets = key } ∷ rs
+
+abbrev pub kept : List Seen → List Matched
+kept [] = []
+kept (r ∷ rs) = with_key r.moment r.key (kept rs)
 
 -- a record at a moment, by its key
 abbrev pub seen_at : Manner → ℕ → Record → Seen
-seen_at manner moment r = record { moment = moment; octets = key_by manner r.octets }
+seen_at manner moment r = record { moment = moment; key = told_by manner r.octets }
 
 -- records behind one of this moment, with so many nanoseconds more: each at the greatest moment up to it
 abbrev pub timed : Manner → ℕ → ℕ → List Record → List Seen
@@ -50,6 +65,11 @@ sent_by (r ∷ received) sent = up_to (latest_behind r.moment received) sent
 -- of what was received, that which comes before the last of some that were sent
 abbrev pub received_by : List Seen → List Seen → List Seen
 received_by sent received = before (latest sent) received
+
+-- all of some are earlier than a moment
+abbrev pub AreBefore : ℕ → List Seen → Type 0
+AreBefore moment [] = ⊤
+AreBefore moment (r ∷ rs) = (r.moment < moment) × AreBefore moment rs
 
 -- all of some are no later than a moment
 abbrev pub AreUpTo : ℕ → List Seen → Type 0

@@ -9,12 +9,13 @@ use Rattle.pcap_io.specs.Next.{End, Whole, Cut, Faulty}
 use Rattle.pcap_io.specs.Reading.{Reading}
 use Rattle.pcap_io.specs.Record.{Record}
 use Rattle.pcap_io.specs.declared.header.CaptureFault.{CaptureFault}
-use Rattle.record_match.specs.Compared.{Comparison, octets_in}
-use Rattle.record_match.specs.Match.{Record as Seen, as_sent, matched, received_count}
+use Rattle.record_match.specs.Compared.{octets_in}
+use Rattle.record_match.specs.Match.{Record as Matched, as_sent, matched, received_count}
 use Rattle.record_match.specs.Settled.{alone_from, held_alone, of_received, of_sent, told_from}
 use Rattle.record_match.specs.Window.{Window, has_room, still_held}
 use Rattle.record_match.specs.declared.clock.Clock.{Clock}
-use Rattle.capture_compare.specs.Clocked.{before, on_clock, received_by, sent_by}
+use Rattle.capture_compare.specs.Clocked.{Seen, before, kept, on_clock, received_by, sent_by}
+use Rattle.capture_compare.specs.Sifted.{Sifting}
 use Rattle.capture_compare.specs.declared.fault.CompareFault.{CompareFault}
 use Rattle.capture_compare.specs.declared.fault.CompareFault.TheVariants as faults
 use Rattle.capture_compare.specs.declared.fault.Side.{Side}
@@ -49,20 +50,24 @@ fault_in side text = fault_of side (opened text)
 
 -- ---- what is counted
 
--- so many were sent, were received, and are both. Whoever looks on was told of each record that was received what it is, and of
--- those that were sent which weren't received; of those that are held still it is told at the end
-pub record AreCounts (within : ℕ) (sent received : List Seen) (c : Comparison) : Type 0 where
-  pub sent_is : c.sent ≡ length sent
-  pub received_is : c.received ≡ length received
-  pub both_is : c.both ≡ received_count (matched within sent received)
-  pub told_is : of_received c.log ≡ told_from within 1 (map as_sent sent) received
-  pub alone_is : of_sent c.log ++ held_alone c.window.records c.window.held ≡ alone_from 1 (matched within sent received)
+-- of the records that aren't left aside so many were sent, were received, and are both; all others were counted as left aside.
+-- Whoever looks on was told of each that was received what it is, and of those that were sent which weren't received; of those
+-- that are held still it is told at the end. Their numbers are those among the records that aren't left aside
+pub record AreCounts (within : ℕ) (sent received : List Seen) (c : Sifting) : Type 0 where
+  pub sent_is : c.sent ≡ length (kept sent)
+  pub received_is : c.received ≡ length (kept received)
+  pub sent_aside_is : c.sent + c.aside.sent ≡ length sent
+  pub received_aside_is : c.received + c.aside.received ≡ length received
+  pub both_is : c.both ≡ received_count (matched within (kept sent) (kept received))
+  pub told_is : of_received c.log ≡ told_from within 1 (map as_sent (kept sent)) (kept received)
+  pub alone_is : of_sent c.log ++ held_alone c.window.records c.window.held
+      ≡ alone_from 1 (matched within (kept sent) (kept received))
 
 -- ---- the window
 
 -- what a window holds at a moment, where these were sent and these received before: those that were sent, without those in
 -- front that were received or may not be any more
-abbrev pub window_at : ℕ → ℕ → List Seen → List Seen → Window
+abbrev pub window_at : ℕ → ℕ → List Matched → List Matched → Window
 window_at within moment sent received = record {
   within = within;
   records = length sent;
@@ -70,9 +75,14 @@ window_at within moment sent received = record {
   held = still_held within moment (matched within sent received);
 }
 
+-- a window has room for a record of this key: one that is left aside takes none
+abbrev pub takes : Window → Option (List ℕ) → Bool
+takes w None = true
+takes w (Some key) = has_room w (length key)
+
 -- there is room for one more record that was sent
 abbrev pub has_room_for : ℕ → List Seen → List Seen → Seen → Bool
-has_room_for within sent received x = has_room (window_at within x.moment sent received) (length x.octets)
+has_room_for within sent received x = takes (window_at within x.moment (kept sent) (kept received)) x.key
 
 -- there was room for each of some that were sent, behind others, where these are received
 abbrev pub AllHadRoom : ℕ → List Seen → List Seen → List Seen → Type 0
@@ -83,7 +93,7 @@ AllHadRoom within received done (x ∷ xs) =
 -- ---- what is told
 
 -- both captures to their ends
-pub record AreWhole (manner : Manner) (clock : Clock) (sent received : List ℕ) (c : Comparison) : Type 0 where
+pub record AreWhole (manner : Manner) (clock : Clock) (sent received : List ℕ) (c : Sifting) : Type 0 where
   pub no_sent_fault : fault_in sides.Sent sent ≡ None
   pub no_received_fault : fault_in sides.Received received ≡ None
   pub counts : AreCounts clock.within (on_clock manner clock.sent_delay (records_in sent))
@@ -92,21 +102,21 @@ pub record AreWhole (manner : Manner) (clock : Clock) (sent received : List ℕ)
       (on_clock manner clock.sent_delay (records_in sent))
 
 -- what was sent, up to its fault, and what was received before its last record; the other capture had none before
-pub record IsSentFault (clock : Clock) (sent received : List ℕ) (c : Comparison) (S R : List Seen) (fault : CompareFault) : Type 0 where
+pub record IsSentFault (clock : Clock) (sent received : List ℕ) (c : Sifting) (S R : List Seen) (fault : CompareFault) : Type 0 where
   pub fault_is : fault_in sides.Sent sent ≡ Some fault
   pub counts : AreCounts clock.within S (received_by S R) c
   pub room : AllHadRoom clock.within R [] S
   pub first : S ≢ [] → received_by S R ≡ R → fault_in sides.Received received ≡ None
 
 -- what was received, up to its fault, and what was sent before its last record; the other capture had none before
-pub record IsReceivedFault (clock : Clock) (sent received : List ℕ) (c : Comparison) (S R : List Seen) (fault : CompareFault) : Type 0 where
+pub record IsReceivedFault (clock : Clock) (sent received : List ℕ) (c : Sifting) (S R : List Seen) (fault : CompareFault) : Type 0 where
   pub fault_is : fault_in sides.Received received ≡ Some fault
   pub counts : AreCounts clock.within (sent_by R S) R c
   pub room : AllHadRoom clock.within R [] (sent_by R S)
   pub first : sent_by R S ≡ S → fault_in sides.Sent sent ≡ None
 
 -- the first record that was sent for which a window has no room
-pub record IsFull (clock : Clock) (received : List ℕ) (c : Comparison) (S R : List Seen) (moment : ℕ) : Type 0 where
+pub record IsFull (clock : Clock) (received : List ℕ) (c : Sifting) (S R : List Seen) (moment : ℕ) : Type 0 where
   pub front : List Seen
   pub here : Seen
   pub behind : List Seen
@@ -118,7 +128,7 @@ pub record IsFull (clock : Clock) (received : List ℕ) (c : Comparison) (S R : 
   pub first : before here.moment R ≡ R → fault_in sides.Received received ≡ None
 
 -- what was sent wasn't read on behind some records
-pub record IsSentInFront (clock : Clock) (c : Comparison) (S R : List Seen) : Type 0 where
+pub record IsSentInFront (clock : Clock) (c : Sifting) (S R : List Seen) : Type 0 where
   pub front : List Seen
   pub behind : List Seen
   pub parts : S ≡ front ++ behind
@@ -126,7 +136,7 @@ pub record IsSentInFront (clock : Clock) (c : Comparison) (S R : List Seen) : Ty
   pub room : AllHadRoom clock.within R [] front
 
 -- what was received wasn't read on behind some records
-pub record IsReceivedInFront (clock : Clock) (c : Comparison) (S R : List Seen) : Type 0 where
+pub record IsReceivedInFront (clock : Clock) (c : Sifting) (S R : List Seen) : Type 0 where
   pub front : List Seen
   pub behind : List Seen
   pub parts : R ≡ front ++ behind
@@ -134,7 +144,7 @@ pub record IsReceivedInFront (clock : Clock) (c : Comparison) (S R : List Seen) 
   pub room : AllHadRoom clock.within R [] (sent_by front S)
 
 -- by the fault, over the records on one clock
-abbrev pub Stops : Clock → List ℕ → List ℕ → Comparison → List Seen → List Seen → CompareFault → Type 0
+abbrev pub Stops : Clock → List ℕ → List ℕ → Sifting → List Seen → List Seen → CompareFault → Type 0
 Stops clock sent received c S R (faults.Read sides.Sent) = IsSentInFront clock c S R
 Stops clock sent received c S R (faults.Read sides.Received) = IsReceivedInFront clock c S R
 Stops clock sent received c S R (faults.Header sides.Sent fault) = IsSentFault clock sent received c S R (faults.Header sides.Sent fault)
@@ -147,7 +157,7 @@ Stops clock sent received c S R (faults.Record sides.Received n fault) =
 Stops clock sent received c S R (faults.Full moment) = IsFull clock received c S R moment
 
 -- what is told of two captures, by the manner of comparing and the answer
-abbrev pub Tells : Manner → Clock → List ℕ → List ℕ → Comparison → Result (Unit {0}) CompareFault → Type 0
+abbrev pub Tells : Manner → Clock → List ℕ → List ℕ → Sifting → Result (Unit {0}) CompareFault → Type 0
 Tells manner clock sent received c (Ok x) = AreWhole manner clock sent received c
 Tells manner clock sent received c (Err fault) =
     Stops clock sent received c (on_clock manner clock.sent_delay (records_in sent))

@@ -1,4 +1,5 @@
 pub mod Clocked
 pub mod Compared
 pub mod Laws
+pub mod Sifted
 pub mod Turns

@@ -8,11 +8,13 @@ use Rattle.pcap_stream.specs.InTurn.{IsReading}
 use Rattle.pcap_stream.specs.Source.{Stream, New, lent, most_left}
 use Rattle.pcap_stream.specs.declared.fault.SourceFault.{SourceFault}
 use Rattle.pcap_stream.specs.declared.fault.SourceFault.TheVariants as source
-use Rattle.record_match.specs.Compared.{AreBefore, Comparison, Counted, IsCompared, logged}
+use Rattle.record_match.specs.Compared.{Counted}
 use Rattle.record_match.specs.Settled.{Fact, Shows}
 use Rattle.record_match.specs.declared.clock.Clock.{Clock}
-use Rattle.capture_compare.specs.Clocked.{AreUpTo, latest, on_clock}
+use Rattle.capture_compare.specs.Clocked.{AreBefore, AreUpTo, latest, on_clock}
+use Rattle.capture_compare.specs.Sifted.{IsSifted, Sifting, sifting}
 use Rattle.capture_compare.specs.Compared.{AllHadRoom, Tells, fault_in, records_in}
+use Rattle.capture_compare.specs.declared.aside.Aside.{Aside}
 use Rattle.capture_compare.specs.declared.turn.Turn.{Turn}
 use Rattle.capture_compare.specs.declared.turn.Turn.TheVariants as turns
 use Rattle.capture_compare.specs.declared.coming.Coming.{Coming}
@@ -94,25 +96,25 @@ unless_full true moment = Ok tt
 unless_full false moment = Err (faults.Full moment)
 
 -- the records that were taken of both, and what was compared of them up to a moment
-pub record Amidst (manner : Manner) (clock : Clock) (s0 r0 s r : Stream) (sending receiving : Coming) (c : Comparison) : Type 0 where
+pub record Amidst (manner : Manner) (clock : Clock) (s0 r0 s r : Stream) (sending receiving : Coming) (c : Sifting) : Type 0 where
   pub sent : List Record
   pub received : List Record
   pub now : ℕ
   pub sent_stands : Stands manner sides.Sent clock.sent_delay s0 s sent sending
   pub received_stands : Stands manner sides.Received clock.received_delay r0 r received receiving
   pub within_is : c.window.within ≡ clock.within
-  pub compared : IsCompared c (on_clock manner clock.sent_delay sent) (on_clock manner clock.received_delay received) now
+  pub compared : IsSifted c (on_clock manner clock.sent_delay sent) (on_clock manner clock.received_delay received) now
   pub room : AllHadRoom clock.within (on_clock manner clock.received_delay received) [] (on_clock manner clock.sent_delay sent)
   pub sent_later : IfSome sending.next (λ m. (now ≤ m) × AreBefore m (on_clock manner clock.received_delay received))
   pub received_later : IfSome receiving.next (λ m. (now ≤ m) × AreUpTo m (on_clock manner clock.sent_delay sent))
 
 -- what two captures tell once they stopped
-abbrev pub Stopped : Manner → Clock → Stream → Stream → Comparison → Result (Unit {0}) CompareFault → Type 0
+abbrev pub Stopped : Manner → Clock → Stream → Stream → Sifting → Result (Unit {0}) CompareFault → Type 0
 Stopped manner clock s0 r0 c result = (sent received : List ℕ) → s0.supply.rest ≡ Some sent → r0.supply.rest ≡ Some received
     → Tells manner clock sent received c result
 
 -- behind a step
-abbrev pub Steps : Manner → Clock → Stream → Stream → Stream → Stream → Coming → Coming → Comparison
+abbrev pub Steps : Manner → Clock → Stream → Stream → Stream → Stream → Coming → Coming → Sifting
     → Result (Unit {0}) CompareFault → Type 0
 Steps manner clock s0 r0 s r sending receiving c (Ok x) = Amidst manner clock s0 r0 s r sending receiving c
 Steps manner clock s0 r0 s r sending receiving c (Err fault) = Stopped manner clock s0 r0 c (Err fault)
@@ -121,15 +123,15 @@ Steps manner clock s0 r0 s r sending receiving c (Err fault) = Stopped manner cl
 
 -- amidst, and what whoever looks on was told
 abbrev pub IsShown : {W : Type 0} → (W → Fact → W → Type 0) → W → W → Manner → Clock → Stream → Stream → Stream → Stream → Coming
-    → Coming → Counted → Type 0
-IsShown sees start now manner clock s0 r0 s r sending receiving c =
-    Shows sees start now (λ log. Amidst manner clock s0 r0 s r sending receiving (logged c log))
+    → Coming → Counted → Aside → Type 0
+IsShown sees start now manner clock s0 r0 s r sending receiving c aside =
+    Shows sees start now (λ log. Amidst manner clock s0 r0 s r sending receiving (sifting c log aside))
 
 -- the same behind a step
 abbrev pub StepIsShown : {W : Type 0} → (W → Fact → W → Type 0) → W → W → Manner → Clock → Stream → Stream → Stream → Stream
-    → Coming → Coming → Counted → Result (Unit {0}) CompareFault → Type 0
-StepIsShown sees start now manner clock s0 r0 s r sending receiving c result =
-    Shows sees start now (λ log. Steps manner clock s0 r0 s r sending receiving (logged c log) result)
+    → Coming → Coming → Counted → Aside → Result (Unit {0}) CompareFault → Type 0
+StepIsShown sees start now manner clock s0 r0 s r sending receiving c aside result =
+    Shows sees start now (λ log. Steps manner clock s0 r0 s r sending receiving (sifting c log aside) result)
 
 -- ---- how much may come
 

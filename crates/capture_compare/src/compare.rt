@@ -5,10 +5,12 @@ ghost use Rattle.record_match.specs.Compared.{IsCompared, logged};
 ghost use Rattle.record_match.specs.Settled.{Shows};
 ghost use Rattle.record_match.specs.declared.clock.Clock.{Clock as AClock};
 ghost use Rattle.capture_compare.specs.Compared.{Tells};
+ghost use Rattle.capture_compare.specs.Sifted.{sifting};
 ghost use Rattle.capture_compare.specs.Turns.{IsShown, StepIsShown, turn_of};
 ghost use Rattle.capture_compare.specs.declared.coming.Coming.{Coming as AComing};
 ghost use Rattle.capture_compare.specs.declared.turn.Turn.TheVariants as turns;
 
+use crate::aside::Aside;
 use crate::coming::Coming;
 use crate::fault::{CompareFault, Side};
 use crate::take::{take_received, take_sent};
@@ -18,7 +20,8 @@ use pcap_stream::{Input, Source};
 use record_match::{Clock, Comparison, Onlooker};
 
 /// Compares two captures, those that were sent and those that were received, to their ends. Two records are the same where their
-/// keys by the manner are. Of several records at one moment those that were sent come first.
+/// keys by the manner are, and those that the manner leaves aside are only counted, each with those of its side. Of several
+/// records at one moment those that were sent come first.
 ///
 /// At most 2^64 - 1 octets of each may come, counted as 262,144 by each read that the source may make: so all counts fit. The
 /// comparison is one of no records, for those that are received so much later as the clock tells.
@@ -32,6 +35,7 @@ pub fn compare_captures<R: Input, W: Onlooker>(
     manner: &Manner,
     room: &mut KeyRoom,
     comparison: &mut Comparison,
+    aside: &mut Aside,
     onlooker: &mut W,
 ) -> Result<(), CompareFault>
     requires new_sent { sent.old.standing ≡ New }
@@ -41,10 +45,11 @@ pub fn compare_captures<R: Input, W: Onlooker>(
     requires sent_delay { clock.sent_delay ≤ 2000000000000000000 }
     requires received_delay { clock.received_delay ≤ 2000000000000000000 }
     requires none { IsCompared (logged comparison.old []) [] [] 0 }
+    requires aside { aside.old ≡ record { sent = 0; received = 0 } }
     requires within { comparison.old.window.within ≡ clock.within }
     ensures told { Shows W.sees onlooker.old onlooker.new (λ log. (sent_text received_text : List ℕ)
         → sent.old.supply.rest ≡ Some sent_text → received.old.supply.rest ≡ Some received_text
-        → Tells manner.now clock sent_text received_text (logged comparison.new log) result) }
+        → Tells manner.now clock sent_text received_text (sifting comparison.new log aside.new) result) }
 {
     let mut sending = Coming::new(Side::Sent, clock.sent_delay);
     if let Err(fault) = sending.open(sent) {
@@ -65,6 +70,7 @@ pub fn compare_captures<R: Input, W: Onlooker>(
                     manner,
                     room,
                     comparison,
+                    aside,
                     onlooker,
                 ) {
                     return Err(fault);
@@ -78,6 +84,7 @@ pub fn compare_captures<R: Input, W: Onlooker>(
                     manner,
                     room,
                     comparison,
+                    aside,
                     onlooker,
                 ) {
                     return Err(fault);
@@ -95,17 +102,19 @@ fn send_next<R: Input, W: Onlooker>(
     manner: &Manner,
     room: &mut KeyRoom,
     comparison: &mut Comparison,
+    aside: &mut Aside,
     onlooker: &mut W,
 ) -> Result<(), CompareFault>
     requires lent { IsSome (lent source.old.standing) }
     requires count { sending.old.fetched + 1 < 2 ^ 64 }
     requires sent { comparison.old.sent + 1 < 2 ^ 64 }
+    requires aside { aside.old.sent + 1 < 2 ^ 64 }
     requires delay { sending.old.delay ≤ 2000000000000000000 }
     requires moment { sending.old.delay ≤ moment }
     ensures told { (clock : AClock) (s0 r0 r : Stream) (receiving : AComing) (start : W)
-        → IsShown W.sees start onlooker.old manner.now clock s0 r0 source.old r sending.old receiving comparison.old
+        → IsShown W.sees start onlooker.old manner.now clock s0 r0 source.old r sending.old receiving comparison.old aside.old
         → turn_of sending.old.next receiving.next ≡ turns.Sent moment
-        → StepIsShown W.sees start onlooker.new manner.now clock s0 r0 source.new r sending.new receiving comparison.new result }
+        → StepIsShown W.sees start onlooker.new manner.now clock s0 r0 source.new r sending.new receiving comparison.new aside.new result }
     ensures less { OnOk result (IfSome sending.new.next (λ _. 16 + most_left source.new ≤ most_left source.old)) }
 {
     if let Err(fault) = take_sent(
@@ -115,6 +124,7 @@ fn send_next<R: Input, W: Onlooker>(
         manner,
         room,
         comparison,
+        aside,
         onlooker,
     ) {
         return Err(fault);
@@ -130,19 +140,21 @@ fn receive_next<R: Input, W: Onlooker>(
     manner: &Manner,
     room: &mut KeyRoom,
     comparison: &mut Comparison,
+    aside: &mut Aside,
     onlooker: &mut W,
 ) -> Result<(), CompareFault>
     requires lent { IsSome (lent source.old.standing) }
     requires count { receiving.old.fetched + 1 < 2 ^ 64 }
     requires received { comparison.old.received + 1 < 2 ^ 64 }
     requires both { comparison.old.both + 1 < 2 ^ 64 }
+    requires aside { aside.old.received + 1 < 2 ^ 64 }
     requires delay { receiving.old.delay ≤ 2000000000000000000 }
     ensures told { (clock : AClock) (s0 r0 s : Stream) (sending : AComing) (start : W)
-        → IsShown W.sees start onlooker.old manner.now clock s0 r0 s source.old sending receiving.old comparison.old
+        → IsShown W.sees start onlooker.old manner.now clock s0 r0 s source.old sending receiving.old comparison.old aside.old
         → turn_of sending.next receiving.old.next ≡ turns.Received moment
-        → StepIsShown W.sees start onlooker.new manner.now clock s0 r0 s source.new sending receiving.new comparison.new result }
+        → StepIsShown W.sees start onlooker.new manner.now clock s0 r0 s source.new sending receiving.new comparison.new aside.new result }
     ensures less { OnOk result (IfSome receiving.new.next (λ _. 16 + most_left source.new ≤ most_left source.old)) }
 {
-    take_received(source, moment, manner, room, comparison, onlooker);
+    take_received(source, moment, manner, room, comparison, aside, onlooker);
     receiving.fetch(source, moment)
 }

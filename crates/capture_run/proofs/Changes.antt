@@ -48,7 +48,7 @@ pub ports_stay : (s : State) (e : Event) → length (after s e).bridges.settings
 ports_stay s e = go e.input
   where
     go : (input : Input) → length (bridges_after e.at (aged e.at s.bridges) input).settings.ports.ports ≡ length s.bridges.settings.ports.ports
-    go (FrameAt port original b) = came_ports e.at (aged e.at s.bridges) (came_at s.bridges.settings.ports port original b)
+    go (FrameAt port original b) = came_ports e.at (aged e.at s.bridges) (came_at s.bridges.settings.ports s.bridges.settings.overlay port original b)
     go (Packet original b) = came_ports e.at (aged e.at s.bridges) (came_by s.bridges.settings.overlay original b)
     go (Asks c) = change_ports e.at c (aged e.at s.bridges) (is_none (refused s.bridges.settings c))
 

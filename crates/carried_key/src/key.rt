@@ -1,10 +1,11 @@
 //! The key of a record: two records are the same where their keys are.
 ghost use Rattle.std.specs.Prelude.{◌≡◌, ◌≤◌, ◌+◌, ◌++◌, ◌∷◌, [], ℕ, List, false, true, IfOk, length, vec_capacity};
-ghost use Rattle.carried_key.specs.Key.{carried_key, carried_text, counted, held_by, key_by, mark};
+ghost use Rattle.carried_key.specs.Key.{carried_key, carried_text, counted, goes_to_reserved, held_by, is_ignored, key_by, keyed, mark};
 ghost use Rattle.ip_udp_view.specs.Addr.{address};
 
 use crate::tunnelled::{Tunnelled, tunnelled_in};
 use crate::tunnels::Tunnels;
+use frame_view::EtherView;
 use ip_udp_view::{Addr, Tunnel};
 use std::alloc::{AllocError, Global};
 use std::marker::Model;
@@ -15,26 +16,54 @@ const LONGEST: usize = 262_144;
 /// For how many there is room: a key has the octets of a record, or an inner text and at most 291 more.
 const ROOM: usize = LONGEST + 512;
 
+/// How records are compared.
+#[derive(Debug, Drop)]
+pub struct Manner {
+    /// What of two records decides whether they are the same.
+    pub sameness: Sameness,
+    /// Whether records are left aside whose frames go to an address that no bridge forwards.
+    pub ignores_reserved: bool,
+}
+
 /// What of two records decides whether they are the same.
 #[derive(Debug, Drop)]
-pub enum Manner {
+pub enum Sameness {
     /// All their octets.
     Whole,
     /// What they carry in one of these tunnels and between whom, where both are packets of a tunnel; else all their octets.
     Carried(Tunnels),
 }
 
-impl Manner {
-    /// How records of the underlay are compared: strictly by all their octets, else by what they carry in these tunnels.
-    pub fn of_underlay(tunnels: Tunnels, strict: bool) -> Manner
-        ensures strict { strict ≡ true → (b : List ℕ) → key_by result b ≡ b }
-        ensures carried { strict ≡ false → (b : List ℕ) → key_by result b ≡ carried_key tunnels b }
+impl Sameness {
+    /// Those of the underlay: strictly all octets, else what is carried in these tunnels.
+    pub fn of_underlay(tunnels: Tunnels, strict: bool) -> Sameness
+        ensures strict { strict ≡ true → (b : List ℕ) → keyed result b ≡ b }
+        ensures carried { strict ≡ false → (b : List ℕ) → keyed result b ≡ carried_key tunnels b }
     {
         if strict {
-            Manner::Whole
+            Sameness::Whole
         } else {
-            Manner::Carried(tunnels)
+            Sameness::Carried(tunnels)
         }
+    }
+}
+
+impl Manner {
+    /// Whether a record is left aside.
+    pub fn ignores(&self, octets: &[u8]) -> bool
+        ensures { result ≡ is_ignored self.now octets.now }
+    {
+        self.ignores_reserved && goes_to_reserved(octets)
+    }
+}
+
+/// Whether a frame goes to an address that no bridge forwards (IEEE 802.1Q, 8.6.3).
+fn goes_to_reserved(octets: &[u8]) -> bool
+    ensures { result ≡ goes_to_reserved octets.now }
+{
+    match EtherView::read(octets) {
+        Ok(frame) => frame.dst().is_reserved(),
+        Err(_) => false,
     }
 }
 
@@ -70,9 +99,9 @@ impl KeyRoom {
         ensures { self.new ≡ held_by manner.now octets.now }
     {
         self.text.clear();
-        match manner {
-            Manner::Whole => {}
-            Manner::Carried(tunnels) => write_key(&mut self.text, tunnels, octets),
+        match &manner.sameness {
+            Sameness::Whole => {}
+            Sameness::Carried(tunnels) => write_key(&mut self.text, tunnels, octets),
         }
     }
 
@@ -81,9 +110,9 @@ impl KeyRoom {
         requires { self.now ≡ held_by manner.now octets.now }
         ensures { result.now ≡ key_by manner.now octets.now }
     {
-        match manner {
-            Manner::Whole => octets,
-            Manner::Carried(_) => self.text.as_slice(),
+        match &manner.sameness {
+            Sameness::Whole => octets,
+            Sameness::Carried(_) => self.text.as_slice(),
         }
     }
 }

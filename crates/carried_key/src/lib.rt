@@ -1,9 +1,10 @@
 //! What of a packet decides whether another one is the same, where two endpoints sent both: what is carried, and between whom;
 //! not what each sender chooses.
 //!
-//! Use first: [`KeyRoom`] holds one record's key, by a [`Manner`]: the octets as they stand, or what a tunnel carries, as
-//! [`tunnelled_in`] reads it (RFC 7348, 5; RFC 8926, 3). It takes its memory when it is made. [`Tunnels`] says which packets are
-//! those of tunnels: by their ports, the critical options that are known, and whether checksums are left to cards.
+//! Use first: [`KeyRoom`] holds one record's key, by a [`Manner`] and its [`Sameness`]: the octets as they stand, or what a tunnel
+//! carries, as [`tunnelled_in`] reads it (RFC 7348, 5; RFC 8926, 3). It takes its memory when it is made. [`Tunnels`] says which
+//! packets are those of tunnels: by their ports, the critical options that are known, and whether checksums are left to cards. A
+//! [`Manner`] also says which records are left aside: those that no bridge forwards (IEEE 802.1Q, 8.6.3), where that is asked for.
 //!
 //! Specs to read, in order: `specs/Tunnelled`, `specs/Key`, `specs/Laws`.
 //!
@@ -23,6 +24,6 @@ pub mod laws;
 mod tunnelled;
 mod tunnels;
 
-pub use key::{KeyRoom, Manner};
+pub use key::{KeyRoom, Manner, Sameness};
 pub use tunnelled::{Tunnelled, tunnelled_in};
 pub use tunnels::Tunnels;

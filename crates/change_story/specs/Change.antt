@@ -1,10 +1,14 @@
 -- How a change is printed: its kind, and its keys with their values, as a changes file has them. It states no standard.
-use Rattle.std.specs.Prelude.{ℕ, if◌then◌else◌, List, [], ◌∷◌, ◌++◌, codes, decimal, Option, Some, None}
+use Rattle.std.specs.Prelude.{ℕ, if◌then◌else◌, Bool, true, false, List, [], ◌∷◌, ◌++◌, slice_get, codes, decimal, Option, Some, None}
 use Rattle.ip_udp_view.specs.declared.addr.Tunnel.{Tunnel}
 use Rattle.ip_udp_view.specs.declared.addr.Tunnel.TheVariants.{Vxlan, Geneve}
 use Rattle.vlan_ports.specs.declared.member.Egress.{Egress}
 use Rattle.vlan_ports.specs.declared.member.Egress.TheVariants.{Tagged, Untagged}
 use Rattle.underlay.specs.Tunnels.{of_kind}
+use Rattle.underlay.specs.declared.segment.PeerRule.{PeerRule}
+use Rattle.underlay.specs.declared.segment.PeerRule.TheVariants.{Any, Listed}
+use Rattle.underlay.specs.declared.segment.TagRule.{TagRule}
+use Rattle.underlay.specs.declared.segment.TagRule.TheVariants.{Drop, Pass, Never}
 use Rattle.underlay.specs.declared.tunnels.SegmentTunnel.{SegmentTunnel}
 use Rattle.overlay_settings.specs.declared.change.Change.{Change}
 use Rattle.overlay_settings.specs.declared.change.Change.TheVariants.{AddFlood, RemoveFlood, Fix, Unfix, SetAgeing}
@@ -35,18 +39,53 @@ egress_name None = codes " egress none"
 egress_name (Some Tagged) = codes " egress tagged"
 egress_name (Some Untagged) = codes " egress untagged"
 
--- the VNI of a tunnel, where there is one
-abbrev pub vni_text : Option SegmentTunnel → List ℕ
-vni_text None = []
-vni_text (Some t) = codes " " ++ tunnel_word t.kind ++ codes " vni " ++ decimal t.vni
+-- the first tunnel of a new segment, which is meant where a change names none
+abbrev pub first_text : SegmentTunnel → List ℕ
+first_text t = codes " vni " ++ decimal t.vni ++ codes " tunnel " ++ tunnel_word t.kind ++ codes " group " ++ decimal t.group
 
--- those of a new segment's tunnels
-abbrev pub vnis_text : List SegmentTunnel → List ℕ
-vnis_text tunnels = vni_text (of_kind Vxlan tunnels) ++ vni_text (of_kind Geneve tunnels)
+-- its second, where there is one
+abbrev pub second_text : Option SegmentTunnel → List ℕ
+second_text None = []
+second_text (Some t) = codes " vni2 " ++ decimal t.vni ++ codes " group2 " ++ decimal t.group
+
+-- a second tunnel is of the other kind
+abbrev pub other_kind : Tunnel → Tunnel
+other_kind Vxlan = Geneve
+other_kind Geneve = Vxlan
+
+-- the first one, and the second of them all
+abbrev pub tunnels_from : Option SegmentTunnel → List SegmentTunnel → List ℕ
+tunnels_from None tunnels = []
+tunnels_from (Some first) tunnels = first_text first ++ second_text (of_kind (other_kind first.kind) tunnels)
+
+-- the tunnels of a new segment
+abbrev pub tunnels_text : List SegmentTunnel → List ℕ
+tunnels_text tunnels = tunnels_from (slice_get tunnels 0) tunnels
 
 -- the numbers of a new segment's table
 abbrev pub numbers_text : ℕ → ℕ → List ℕ
 numbers_text limit ageing = codes " limit " ++ decimal limit ++ codes " ageing " ++ decimal ageing
+
+-- true or false
+abbrev pub truth_word : Bool → List ℕ
+truth_word true = codes "true"
+truth_word false = codes "false"
+
+-- who may send to a new segment through its tunnels
+abbrev pub peers_word : PeerRule → List ℕ
+peers_word Any = codes "any"
+peers_word Listed = codes "listed"
+
+-- what becomes of a frame that begins with a tag in a tunnel
+abbrev pub tags_word : TagRule → List ℕ
+tags_word Drop = codes "drop"
+tags_word Pass = codes "pass"
+tags_word Never = codes "never"
+
+-- the rules of a new segment
+abbrev pub rules_text : Bool → PeerRule → TagRule → List ℕ
+rules_text learning peers tags = codes " learn " ++ truth_word learning ++ codes " peers " ++ peers_word peers ++ codes " tags "
+    ++ tags_word tags
 
 -- a change
 abbrev pub change_text : Change → List ℕ
@@ -60,7 +99,9 @@ change_text (SetMember vid port egress) = of_vid (codes "set_member") vid ++ cod
 change_text (PortUp port) = codes "port_up port " ++ decimal port
 change_text (PortDown port) = codes "port_down port " ++ decimal port
 change_text (Flush vid) = of_vid (codes "flush") vid
-change_text (AddSegment new) = of_vid (codes "add_segment") new.vid ++ vnis_text new.tunnels ++ numbers_text new.limit new.ageing
+change_text (AddSegment new) =
+    of_vid (codes "add_segment") new.vid ++ tunnels_text new.tunnels ++ numbers_text new.limit new.ageing
+    ++ rules_text new.learning new.peers new.tags
 change_text (RemoveSegment vid) = of_vid (codes "remove_segment") vid
 change_text (SetLimit vid limit) = of_vid (codes "set_limit") vid ++ codes " limit " ++ decimal limit
 

@@ -1,9 +1,10 @@
 //! What a change asks for, as a line.
-ghost use Rattle.std.specs.Prelude.{◌≡◌, ◌++◌, OnOk, codes, decimal, string_bytes};
+ghost use Rattle.std.specs.Prelude.{◌≡◌, ◌++◌, OnOk, Some, codes, decimal, string_bytes};
 ghost use Rattle.endpoint_core.specs.Text.{addr_text};
 ghost use Rattle.story_words.specs.Words.{mac_text, tunnel_word};
-ghost use Rattle.change_story.specs.Change.{change_line, change_text, egress_name, named_text};
-ghost use Rattle.change_story.specs.Change.{numbers_text, of_vid, target_text, vni_text, vnis_text};
+ghost use Rattle.change_story.specs.Change.{change_line, change_text, egress_name, named_text, numbers_text, of_vid, target_text};
+ghost use Rattle.change_story.specs.Change.{first_text, other_kind, peers_word, rules_text, second_text};
+ghost use Rattle.change_story.specs.Change.{tags_word, truth_word, tunnels_from, tunnels_text};
 
 use endpoint_core::put_addr;
 use endpoint_state::{Change, NewSegment, Target};
@@ -12,7 +13,7 @@ use ip_udp_view::{Addr, Tunnel};
 use std::alloc::AllocError;
 use std::fmt::Write;
 use story_words::{either, put_hop, put_name, tunnel_word};
-use underlay::{SegmentTunnel, Tunnels};
+use underlay::{PeerRule, SegmentTunnel, TagRule, Tunnels};
 use vlan_ports::Egress;
 
 /// Puts the line of a change. `AllocError`: there was no room for it.
@@ -178,12 +179,14 @@ fn put_egress(text: &mut String, port: u8, egress: &str) -> Result<(), AllocErro
 
 fn put_new(text: &mut String, new: &NewSegment) -> Result<(), AllocError>
     ensures { OnOk result (string_bytes text.new ≡ string_bytes text.old
-        ++ (of_vid (codes "add_segment") new.now.vid ++ vnis_text new.now.tunnels ++ numbers_text new.now.limit new.now.ageing)) }
+        ++ (of_vid (codes "add_segment") new.now.vid ++ tunnels_text new.now.tunnels ++ numbers_text new.now.limit new.now.ageing
+        ++ rules_text new.now.learning new.now.peers new.now.tags)) }
 {
-    put_segment(text, new.vid, &new.tunnels, new.limit, new.ageing)
+    put_segment(text, new.vid, &new.tunnels, new.limit, new.ageing)?;
+    put_rules(text, new.learning, new.peers, new.tags)
 }
 
-/// Puts a segment that is to come.
+/// Puts a segment that is to come, up to the numbers of its table.
 fn put_segment(
     text: &mut String,
     vid: Vid,
@@ -192,10 +195,10 @@ fn put_segment(
     ageing: u32,
 ) -> Result<(), AllocError>
     ensures { OnOk result (string_bytes text.new ≡ string_bytes text.old
-        ++ (of_vid (codes "add_segment") vid ++ vnis_text tunnels.now ++ numbers_text limit ageing)) }
+        ++ (of_vid (codes "add_segment") vid ++ tunnels_text tunnels.now ++ numbers_text limit ageing)) }
 {
     put_of_vid(text, "add_segment", vid)?;
-    put_vnis(text, tunnels)?;
+    put_tunnels(text, tunnels)?;
     put_numbers(text, limit, ageing)
 }
 
@@ -207,28 +210,110 @@ fn put_numbers(text: &mut String, limit: u32, ageing: u32) -> Result<(), AllocEr
     write!(text, " limit {limit} ageing {ageing}")
 }
 
-/// Puts the VNIs of tunnels.
-fn put_vnis(text: &mut String, tunnels: &Tunnels) -> Result<(), AllocError>
-    ensures { OnOk result (string_bytes text.new ≡ string_bytes text.old ++ vnis_text tunnels.now) }
+/// Puts tunnels, the first of them first.
+fn put_tunnels(text: &mut String, tunnels: &Tunnels) -> Result<(), AllocError>
+    ensures { OnOk result (string_bytes text.new ≡ string_bytes text.old ++ tunnels_text tunnels.now) }
 {
-    put_vni(text, tunnels.of(Tunnel::Vxlan))?;
-    put_vni(text, tunnels.of(Tunnel::Geneve))
+    put_both(text, tunnels, tunnels.first())
 }
 
-/// Puts the VNI of a tunnel, where there is one.
-fn put_vni(text: &mut String, tunnel: Option<SegmentTunnel>) -> Result<(), AllocError>
-    ensures { OnOk result (string_bytes text.new ≡ string_bytes text.old ++ vni_text tunnel) }
+/// Puts the first tunnel, and the second where there is one.
+fn put_both(text: &mut String, tunnels: &Tunnels, first: SegmentTunnel) -> Result<(), AllocError>
+    ensures { OnOk result (string_bytes text.new ≡ string_bytes text.old ++ tunnels_from (Some first) tunnels.now) }
 {
-    match tunnel {
+    let second = tunnels.of(other_kind(first.kind));
+    put_first(text, first)?;
+    put_second(text, second)
+}
+
+/// Puts the first tunnel.
+fn put_first(text: &mut String, first: SegmentTunnel) -> Result<(), AllocError>
+    ensures { OnOk result (string_bytes text.new ≡ string_bytes text.old ++ first_text first) }
+{
+    put_first_of(text, first.vni.get(), tunnel_word(first.kind), first.group)
+}
+
+fn put_first_of(text: &mut String, vni: u32, kind: &str, group: u8) -> Result<(), AllocError>
+    ensures { OnOk result (string_bytes text.new ≡ string_bytes text.old
+        ++ (codes " vni " ++ decimal vni ++ codes " tunnel " ++ kind.now ++ codes " group " ++ decimal group)) }
+{
+    write!(text, " vni {vni} tunnel {kind} group {group}")
+}
+
+/// Puts the second tunnel, where there is one.
+fn put_second(text: &mut String, second: Option<SegmentTunnel>) -> Result<(), AllocError>
+    ensures { OnOk result (string_bytes text.new ≡ string_bytes text.old ++ second_text second) }
+{
+    match second {
         None => Ok(()),
-        Some(tunnel) => put_vni_of(text, tunnel_word(tunnel.kind), tunnel.vni.get()),
+        Some(second) => put_second_of(text, second.vni.get(), second.group),
     }
 }
 
-fn put_vni_of(text: &mut String, kind: &str, vni: u32) -> Result<(), AllocError>
-    ensures { OnOk result (string_bytes text.new ≡ string_bytes text.old ++ (codes " " ++ kind.now ++ codes " vni " ++ decimal vni)) }
+fn put_second_of(text: &mut String, vni: u32, group: u8) -> Result<(), AllocError>
+    ensures { OnOk result (string_bytes text.new ≡ string_bytes text.old
+        ++ (codes " vni2 " ++ decimal vni ++ codes " group2 " ++ decimal group)) }
 {
-    write!(text, " {kind} vni {vni}")
+    write!(text, " vni2 {vni} group2 {group}")
+}
+
+/// Puts whether a segment learns, who may send to it, and what becomes of inner tags.
+fn put_rules(
+    text: &mut String,
+    learning: bool,
+    peers: PeerRule,
+    tags: TagRule,
+) -> Result<(), AllocError>
+    ensures { OnOk result (string_bytes text.new ≡ string_bytes text.old ++ rules_text learning peers tags) }
+{
+    put_rule_words(
+        text,
+        truth_word(learning),
+        peers_word(peers),
+        tags_word(tags),
+    )
+}
+
+fn put_rule_words(text: &mut String, learn: &str, peers: &str, tags: &str) -> Result<(), AllocError>
+    ensures { OnOk result (string_bytes text.new ≡ string_bytes text.old
+        ++ (codes " learn " ++ learn.now ++ codes " peers " ++ peers.now ++ codes " tags " ++ tags.now)) }
+{
+    write!(text, " learn {learn} peers {peers} tags {tags}")
+}
+
+/// The kind of a second tunnel beside a first one of this kind.
+fn other_kind(kind: Tunnel) -> Tunnel
+    ensures { result ≡ other_kind kind }
+{
+    match kind {
+        Tunnel::Vxlan => Tunnel::Geneve,
+        Tunnel::Geneve => Tunnel::Vxlan,
+    }
+}
+
+fn truth_word(holds: bool) -> &'static str
+    ensures { result.now ≡ truth_word holds }
+{
+    if holds { "true" } else { "false" }
+}
+
+fn peers_word(peers: PeerRule) -> &'static str
+    ensures { result.now ≡ peers_word peers }
+{
+    match peers {
+        PeerRule::Any => "any",
+        PeerRule::Listed => "listed",
+    }
+}
+
+fn tags_word(tags: TagRule) -> &'static str
+    ensures { result.now ≡ tags_word tags }
+{
+    match tags {
+        TagRule::Drop => "drop",
+        TagRule::Pass => "pass",
+        TagRule::Never => "never",
+    }
 }
 
 fn egress_name(egress: Option<Egress>) -> &'static str

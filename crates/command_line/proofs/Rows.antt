@@ -102,14 +102,23 @@ a_split_of_two_is_refused : takes tep_app (codes "tep" ∷ codes "split" ∷ cod
 unfolding clap_on_literals
 a_split_of_two_is_refused = refl
 
-a_comparison : words_meant (codes "tep" ∷ codes "compare" ∷ codes "a" ∷ codes "b" ∷ []) ≡ Some (compare (codes "a") (codes "b") None None false None)
+a_comparison : words_meant (codes "tep" ∷ codes "compare" ∷ codes "a" ∷ codes "b" ∷ []) ≡ Some (compare (codes "a") (codes "b") None None false None false)
 unfolding clap_on_literals
 a_comparison = refl
 
 a_comparison_of_two_clocks : words_meant (codes "tep" ∷ codes "compare" ∷ codes "--within" ∷ codes "5ms" ∷ codes "a" ∷ codes "--shift=-2us" ∷ codes "b" ∷ [])
-    ≡ Some (compare (codes "a") (codes "b") (Some (codes "5ms")) (Some (codes "-2us")) false None)
+    ≡ Some (compare (codes "a") (codes "b") (Some (codes "5ms")) (Some (codes "-2us")) false None false)
 unfolding clap_on_literals
 a_comparison_of_two_clocks = refl
+
+a_comparison_without_what_no_bridge_forwards : words_meant (codes "tep" ∷ codes "compare" ∷ codes "--ignore" ∷ codes "reserved" ∷ codes "a" ∷ codes "b" ∷ [])
+    ≡ Some (compare (codes "a") (codes "b") None None false None true)
+unfolding clap_on_literals
+a_comparison_without_what_no_bridge_forwards = refl
+
+a_comparison_without_anything_else_is_none : words_meant (codes "tep" ∷ codes "compare" ∷ codes "--ignore" ∷ codes "Reserved" ∷ codes "a" ∷ codes "b" ∷ []) ≡ None
+unfolding clap_on_literals
+a_comparison_without_anything_else_is_none = refl
 
 a_comparison_of_one_is_none : words_meant (codes "tep" ∷ codes "compare" ∷ codes "a" ∷ []) ≡ None
 unfolding clap_on_literals
@@ -124,7 +133,7 @@ unfolding clap_on_literals
 a_comparison_of_nothing_is_refused = refl
 
 what_a_run_wrote : words_meant (codes "tep" ∷ codes "compare" ∷ codes "--worked" ∷ codes "d" ∷ codes "-u" ∷ codes "u" ∷ codes "--within=1ms" ∷ codes "p1" ∷ codes "-" ∷ [])
-    ≡ Some (compare_worked (codes "d") (codes "u") (codes "p1" ∷ codes "-" ∷ []) (Some (codes "1ms")) None None false false None)
+    ≡ Some (compare_worked (codes "d") (codes "u") (codes "p1" ∷ codes "-" ∷ []) (Some (codes "1ms")) None None false false None false)
 unfolding clap_on_literals
 what_a_run_wrote = refl
 
@@ -137,7 +146,7 @@ unfolding clap_on_literals
 the_underlay_of_no_run_is_none = refl
 
 what_a_run_wrote_strictly : words_meant (codes "tep" ∷ codes "compare" ∷ codes "--worked=d" ∷ codes "-s" ∷ codes "s" ∷ codes "--strict" ∷ codes "-u" ∷ codes "u" ∷ codes "p1" ∷ [])
-    ≡ Some (compare_worked (codes "d") (codes "u") (codes "p1" ∷ []) None None (Some (codes "s")) true false None)
+    ≡ Some (compare_worked (codes "d") (codes "u") (codes "p1" ∷ []) None None (Some (codes "s")) true false None false)
 unfolding clap_on_literals
 what_a_run_wrote_strictly = refl
 

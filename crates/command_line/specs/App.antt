@@ -69,6 +69,7 @@ rule_for arguments.WorkedSettings = record (option_rule (codes "settings")) { sh
 rule_for arguments.Strict = flag_rule (codes "strict")
 rule_for arguments.Lists = flag_rule (codes "list")
 rule_for arguments.By = option_rule (codes "by")
+rule_for arguments.Ignore = option_rule (codes "ignore")
 
 -- an app with these arguments behind its own
 abbrev pub with_arguments : App → List Argument → App
@@ -107,7 +108,7 @@ arguments_of subcommands.Merge = arguments.Out ∷ arguments.Parts ∷ arguments
 arguments_of subcommands.Split = arguments.Out ∷ arguments.SplitCapture ∷ []
 arguments_of subcommands.Compare =
     arguments.Compared ∷ arguments.Worked ∷ arguments.WorkedUnderlay ∷ arguments.WorkedSettings ∷ arguments.Strict
-    ∷ arguments.Later ∷ arguments.Shift ∷ arguments.Lists ∷ arguments.By ∷ []
+    ∷ arguments.Later ∷ arguments.Shift ∷ arguments.Lists ∷ arguments.By ∷ arguments.Ignore ∷ []
 
 -- what `clap` keeps of it
 abbrev pub shape_for : Subcommand → Shape

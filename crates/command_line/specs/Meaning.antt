@@ -24,9 +24,9 @@ use Rattle.command_line.specs.declared.line.LineFault.TheVariants as fault
 -- of `explain` the settings, the depth, whether values are told, and the capture; of `migrate` the settings; of `digest` the
 -- underlay and the ports; of `merge` the folder, those of the parts, whether the tables are told, and whether the counts are; of
 -- `split` the folder and the capture; of `compare` what was sent, what was received, how much later a record may be, and how far
--- the clock of what was received is ahead, whether what is alone is listed, and what a table is by; of the other `compare` the
--- folder that a run wrote into, what was captured at the underlay and at the ports, the same two, the settings if there are some,
--- whether all octets are compared at the underlay, and the last two
+-- the clock of what was received is ahead, whether what is alone is listed, what a table is by, and what is left aside; of the
+-- other `compare` the folder that a run wrote into, what was captured at the underlay and at the ports, the same two, the settings
+-- if there are some, whether all octets are compared at the underlay, and the last three
 pub data Meaning : Type 0 where
   sample : Meaning
   run : Text → Option Text → Text → Option Text → List Text → Bool
@@ -37,8 +37,8 @@ pub data Meaning : Type 0 where
   digest : Text → List Text → Meaning
   merge : Text → List Text → Bool → Bool → Meaning
   split : Text → Text → Meaning
-  compare : Text → Text → Option Text → Option Text → Bool → Option Text → Meaning
-  compare_worked : Text → Text → List Text → Option Text → Option Text → Option Text → Bool → Bool → Option Text → Meaning
+  compare : Text → Text → Option Text → Option Text → Bool → Option Text → Bool → Meaning
+  compare_worked : Text → Text → List Text → Option Text → Option Text → Option Text → Bool → Bool → Option Text → Bool → Meaning
 
 -- what a command line is as such a meaning
 abbrev pub meaning_of : Line → Meaning
@@ -54,11 +54,12 @@ meaning_of (line.Migrate settings) = migrate settings.now
 meaning_of (line.Digest underlay ports) = digest underlay.now (texts ports.items)
 meaning_of (line.Merge out parts tables summary) = merge out.now (texts parts.items) tables summary
 meaning_of (line.Split out capture) = split out.now capture.now
-meaning_of (line.Compare sent received within shift lists by) =
-    compare sent.now received.now (option_map (λ t. t.now) within) (option_map (λ t. t.now) shift) lists (option_map (λ t. t.now) by)
-meaning_of (line.CompareWorked worked underlay ports within shift settings strict lists by) =
+meaning_of (line.Compare sent received within shift lists by ignores) =
+    compare sent.now received.now (option_map (λ t. t.now) within) (option_map (λ t. t.now) shift) lists
+    (option_map (λ t. t.now) by) ignores
+meaning_of (line.CompareWorked worked underlay ports within shift settings strict lists by ignores) =
     compare_worked worked.now underlay.now (texts ports.items) (option_map (λ t. t.now) within) (option_map (λ t. t.now) shift)
-    (option_map (λ t. t.now) settings) strict lists (option_map (λ t. t.now) by)
+    (option_map (λ t. t.now) settings) strict lists (option_map (λ t. t.now) by) ignores
 
 -- a depth is 1 to 4
 abbrev pub HasDepth : Line → Type 0
@@ -70,8 +71,8 @@ HasDepth (line.Migrate settings) = ⊤
 HasDepth (line.Digest underlay ports) = ⊤
 HasDepth (line.Merge out parts tables summary) = ⊤
 HasDepth (line.Split out capture) = ⊤
-HasDepth (line.Compare sent received within shift lists by) = ⊤
-HasDepth (line.CompareWorked worked underlay ports within shift settings strict lists by) = ⊤
+HasDepth (line.Compare sent received within shift lists by ignores) = ⊤
+HasDepth (line.CompareWorked worked underlay ports within shift settings strict lists by ignores) = ⊤
 
 -- ---- what matches mean: nothing, where a required value is missing
 
@@ -156,36 +157,46 @@ abbrev pub split_meant : List Row → Option Meaning
 split_meant rows =
     option_and_then (λ o. option_map (λ c. split o c) (first_of (codes "capture") rows)) (first_of (codes "out") rows)
 
+-- whether frames to the addresses that no bridge forwards are left aside: by a list of words, which can only be `reserved`
+abbrev pub ignores_by : Option Text → Option Bool
+ignores_by None = Some false
+ignores_by (Some t) = if bytes_eq t (codes "reserved") then Some true else None
+
+abbrev pub ignores_in : List Row → Option Bool
+ignores_in rows = ignores_by (first_of (codes "ignore") rows)
+
 -- what `compare` is asked to do with two captures, and with no others
-abbrev pub pair_meant : List Text → Option Text → Option Text → Bool → Option Text → Option Meaning
-pair_meant [] within shift lists by = None
-pair_meant (sent ∷ []) within shift lists by = None
-pair_meant (sent ∷ received ∷ []) within shift lists by = Some (compare sent received within shift lists by)
-pair_meant (sent ∷ received ∷ another ∷ more) within shift lists by = None
+abbrev pub pair_meant : List Text → Option Text → Option Text → Bool → Option Text → Bool → Option Meaning
+pair_meant [] within shift lists by ignores = None
+pair_meant (sent ∷ []) within shift lists by ignores = None
+pair_meant (sent ∷ received ∷ []) within shift lists by ignores = Some (compare sent received within shift lists by ignores)
+pair_meant (sent ∷ received ∷ another ∷ more) within shift lists by ignores = None
 
 -- and neither with settings nor strictly
-abbrev pub plain_pair_meant : Option Text → Bool → List Text → Option Text → Option Text → Bool → Option Text → Option Meaning
-plain_pair_meant None false captures within shift lists by = pair_meant captures within shift lists by
-plain_pair_meant None true captures within shift lists by = None
-plain_pair_meant (Some settings) strict captures within shift lists by = None
+abbrev pub plain_pair_meant : Option Text → Bool → List Text → Option Text → Option Text → Bool → Option Text → Bool
+    → Option Meaning
+plain_pair_meant None false captures within shift lists by ignores = pair_meant captures within shift lists by ignores
+plain_pair_meant None true captures within shift lists by ignores = None
+plain_pair_meant (Some settings) strict captures within shift lists by ignores = None
 
 -- by the folder of a run and what was captured at the underlay: with both of them each capture is one of a port, with neither
 -- there are two
 abbrev pub captures_meant : Option Text → Option Text → List Text → Option Text → Option Text → Option Text → Bool → Bool
-    → Option Text → Option Meaning
-captures_meant None None captures within shift settings strict lists by =
-    plain_pair_meant settings strict captures within shift lists by
-captures_meant None (Some underlay) captures within shift settings strict lists by = None
-captures_meant (Some worked) None captures within shift settings strict lists by = None
-captures_meant (Some worked) (Some underlay) captures within shift settings strict lists by =
-    Some (compare_worked worked underlay captures within shift settings strict lists by)
+    → Option Text → Bool → Option Meaning
+captures_meant None None captures within shift settings strict lists by ignores =
+    plain_pair_meant settings strict captures within shift lists by ignores
+captures_meant None (Some underlay) captures within shift settings strict lists by ignores = None
+captures_meant (Some worked) None captures within shift settings strict lists by ignores = None
+captures_meant (Some worked) (Some underlay) captures within shift settings strict lists by ignores =
+    Some (compare_worked worked underlay captures within shift settings strict lists by ignores)
 
 -- what `compare` is asked to do
 abbrev pub compare_meant : List Row → Option Meaning
 compare_meant rows =
-    option_and_then (λ captures. captures_meant (first_of (codes "worked") rows) (first_of (codes "underlay") rows) captures
-    (first_of (codes "within") rows) (first_of (codes "shift") rows) (settings_in rows) (is_set (codes "strict") rows)
-    (is_set (codes "list") rows) (first_of (codes "by") rows)) (all_of (codes "captures") rows)
+    option_and_then (λ captures. option_and_then (λ ignores. captures_meant (first_of (codes "worked") rows)
+    (first_of (codes "underlay") rows) captures (first_of (codes "within") rows) (first_of (codes "shift") rows) (settings_in rows)
+    (is_set (codes "strict") rows) (is_set (codes "list") rows) (first_of (codes "by") rows) ignores) (ignores_in rows))
+    (all_of (codes "captures") rows)
 
 -- what a subcommand of this name is asked to do
 abbrev pub command_meant : Text → List Row → Option Meaning
@@ -260,8 +271,8 @@ input_uses (migrate settings) = 0
 input_uses (digest underlay ports) = inputs_among (underlay ∷ ports)
 input_uses (merge out parts tables summary) = 0
 input_uses (split out capture) = inputs_among (capture ∷ [])
-input_uses (compare sent received within shift lists by) = inputs_among (sent ∷ received ∷ [])
-input_uses (compare_worked worked underlay ports within shift settings strict lists by) = 0
+input_uses (compare sent received within shift lists by ignores) = inputs_among (sent ∷ received ∷ [])
+input_uses (compare_worked worked underlay ports within shift settings strict lists by ignores) = 0
 
 -- it is read once at most
 abbrev pub ReadsInputOnce : Meaning → Type 0
@@ -288,7 +299,7 @@ are_no_captures (name ∷ names) = bytes_eq name (codes "-") && are_no_captures 
 
 -- what a run wrote is compared with no capture at all
 abbrev pub compares_nothing : Meaning → Bool
-compares_nothing (compare_worked worked underlay ports within shift settings strict lists by) = are_no_captures (underlay ∷ ports)
+compares_nothing (compare_worked worked underlay ports within shift settings strict lists by ignores) = are_no_captures (underlay ∷ ports)
 compares_nothing _ = false
 
 -- there is something to compare where captures are compared
@@ -303,10 +314,10 @@ RefusesAsWhole words e = (kind_of e ≡ OutOfMemory) ⊎ ((takes tep_app words �
 
 -- Refused where that definition takes the words neither as the program's nor as those of a run of which something is told, and
 -- then as the program's are; NoValue where it takes them as the program's and its matches lack a required value; Unpaired where
--- its matches have one, but are of `compare` with captures as it doesn't take them, and NoFolder with captures that were worked
--- out by no run but settings, or strictly; InputTwice where it takes them and they ask for standard input more than once,
--- NoSegments where it takes them and they lend digests to a run that is no part, NoCapture where it takes them and they compare
--- what a run wrote with no capture
+-- its matches have one, but are of `compare` with captures as it doesn't take them, NoFolder with captures that were worked out by
+-- no run but settings, or strictly, and Ignored with something to leave aside that it doesn't know; InputTwice where it takes them
+-- and they ask for standard input more than once, NoSegments where it takes them and they lend digests to a run that is no part,
+-- NoCapture where it takes them and they compare what a run wrote with no capture
 abbrev pub Explains : List Text → LineFault → Type 0
 Explains words fault.OutOfMemory = ⊤
 Explains words (fault.Refused e) = (takes tep_app words ≡ false)
@@ -314,6 +325,7 @@ Explains words (fault.Refused e) = (takes tep_app words ≡ false)
 Explains words fault.NoValue = (fault_of tep_app words ≡ []) × (words_meant words ≡ None)
 Explains words fault.Unpaired = (fault_of tep_app words ≡ []) × (words_meant words ≡ None)
 Explains words fault.NoFolder = (fault_of tep_app words ≡ []) × (words_meant words ≡ None)
+Explains words fault.Ignored = (fault_of tep_app words ≡ []) × (words_meant words ≡ None)
 Explains words fault.InputTwice = AreTaken words × IsSomeAnd (words_meant words) (λ meaning. 2 ≤ input_uses meaning)
 Explains words fault.NoSegments = AreTaken words × IsSomeAnd (words_meant words) (λ meaning. lends_to_a_whole meaning ≡ true)
 Explains words fault.NoCapture = AreTaken words × IsSomeAnd (words_meant words) (λ meaning. compares_nothing meaning ≡ true)
@@ -325,6 +337,7 @@ ExplainsWords words (fault.Refused e) = Explains words (fault.Refused e)
 ExplainsWords words fault.NoValue = Explains words fault.NoValue
 ExplainsWords words fault.Unpaired = Explains words fault.Unpaired
 ExplainsWords words fault.NoFolder = Explains words fault.NoFolder
+ExplainsWords words fault.Ignored = Explains words fault.Ignored
 ExplainsWords words fault.InputTwice = ⊥
 ExplainsWords words fault.NoSegments = ⊥
 ExplainsWords words fault.NoCapture = ⊥
@@ -336,6 +349,7 @@ LacksValue meant (fault.Refused e) = ⊥
 LacksValue meant fault.NoValue = meant ≡ None
 LacksValue meant fault.Unpaired = meant ≡ None
 LacksValue meant fault.NoFolder = meant ≡ None
+LacksValue meant fault.Ignored = meant ≡ None
 LacksValue meant fault.InputTwice = ⊥
 LacksValue meant fault.NoSegments = ⊥
 LacksValue meant fault.NoCapture = ⊥

@@ -80,6 +80,8 @@ pub enum Argument {
     Lists,
     /// What a table of what is compared is by.
     By,
+    /// Which records are left aside.
+    Ignore,
 }
 
 impl Argument {
@@ -273,7 +275,13 @@ impl Argument {
                 alloc,
                 "by",
                 "WHAT",
-                "Prints a table of what was compared: by 'length'",
+                "Prints a table of what was compared: by 'length' or 'delay'",
+            ),
+            Argument::Ignore => option(
+                alloc,
+                "ignore",
+                "WHAT",
+                "Leaves aside frames to addresses that switches don't forward: 'reserved'",
             ),
         }
     }

@@ -49,7 +49,7 @@ const COMPARE_EXAMPLE: &str =
     "Captures are pcap or pcapng. FILE#INTERFACE takes one interface of a pcapng capture, by number or name.\nWith --worked packets of tunnels are the same where what they carry and their addresses are.\nThe exit status is 0 where all is the same, and 1 where it isn't.\n\nExamples:\n  tep compare sent.pcap received.pcap\n  tep compare --within 5ms --shift=-1200ns out/port2.pcap switch.pcapng#eth2\n  tep compare --worked out -u seen_u.pcap seen_1.pcap -\n  tep compare --worked out -s settings.toml -u seen_u.pcap seen_1.pcap seen_2.pcap";
 
 /// What `compare` takes.
-const COMPARE: [Argument; 9] = [
+const COMPARE: [Argument; 10] = [
     Argument::Compared,
     Argument::Worked,
     Argument::WorkedUnderlay,
@@ -59,6 +59,7 @@ const COMPARE: [Argument; 9] = [
     Argument::Shift,
     Argument::Lists,
     Argument::By,
+    Argument::Ignore,
 ];
 
 /// A command of the program.

@@ -27,6 +27,8 @@ pub(crate) struct Comparing<'a> {
     pub(crate) lists: bool,
     /// What a table is by.
     pub(crate) by: Option<&'a str>,
+    /// Whether frames to the addresses that no bridge forwards are left aside.
+    pub(crate) ignores: bool,
 }
 
 /// The line that asks for this comparison of these captures.
@@ -39,13 +41,13 @@ pub(crate) fn comparison_line<'a>(
         (option_map (λ t. t.now) asked.entry.underlay) (texts captures.now)
         (option_map (λ t. t.now) asked.entry.within) (option_map (λ t. t.now) asked.entry.shift)
         (option_map (λ t. t.now) asked.entry.settings) asked.entry.strict asked.entry.lists
-        (option_map (λ t. t.now) asked.entry.by) ≡ Some (meaning_of line)) }
+        (option_map (λ t. t.now) asked.entry.by) asked.entry.ignores ≡ Some (meaning_of line)) }
     ensures depth { IfOk result HasDepth }
     ensures fault { IfErr result (LacksValue
         (captures_meant (option_map (λ t. t.now) asked.entry.worked) (option_map (λ t. t.now) asked.entry.underlay)
         (texts captures.now) (option_map (λ t. t.now) asked.entry.within) (option_map (λ t. t.now) asked.entry.shift)
         (option_map (λ t. t.now) asked.entry.settings) asked.entry.strict asked.entry.lists
-        (option_map (λ t. t.now) asked.entry.by))) }
+        (option_map (λ t. t.now) asked.entry.by) asked.entry.ignores)) }
 {
     match (asked.worked, asked.underlay) {
         (None, None) => plain_pair(asked, captures),
@@ -60,6 +62,7 @@ pub(crate) fn comparison_line<'a>(
                 strict: asked.strict,
                 lists: asked.lists,
                 by: asked.by,
+                ignores: asked.ignores,
             }),
             Err(_) => Err(LineFault::OutOfMemory),
         },
@@ -71,12 +74,12 @@ pub(crate) fn comparison_line<'a>(
 fn plain_pair<'a>(asked: Comparing<'a>, captures: &[&'a str]) -> Result<Line<'a>, LineFault>
     ensures ok { IfOk result (λ line. plain_pair_meant (option_map (λ t. t.now) asked.entry.settings) asked.entry.strict
         (texts captures.now) (option_map (λ t. t.now) asked.entry.within) (option_map (λ t. t.now) asked.entry.shift)
-        asked.entry.lists (option_map (λ t. t.now) asked.entry.by) ≡ Some (meaning_of line)) }
+        asked.entry.lists (option_map (λ t. t.now) asked.entry.by) asked.entry.ignores ≡ Some (meaning_of line)) }
     ensures depth { IfOk result HasDepth }
     ensures fault { IfErr result (LacksValue
         (plain_pair_meant (option_map (λ t. t.now) asked.entry.settings) asked.entry.strict (texts captures.now)
         (option_map (λ t. t.now) asked.entry.within) (option_map (λ t. t.now) asked.entry.shift) asked.entry.lists
-        (option_map (λ t. t.now) asked.entry.by))) }
+        (option_map (λ t. t.now) asked.entry.by) asked.entry.ignores)) }
 {
     match (asked.settings, asked.strict) {
         (None, false) => pair(asked, captures),
@@ -87,11 +90,11 @@ fn plain_pair<'a>(asked: Comparing<'a>, captures: &[&'a str]) -> Result<Line<'a>
 /// The line that asks for two captures to be compared.
 fn pair<'a>(asked: Comparing<'a>, captures: &[&'a str]) -> Result<Line<'a>, LineFault>
     ensures ok { IfOk result (λ line. pair_meant (texts captures.now) (option_map (λ t. t.now) asked.entry.within)
-        (option_map (λ t. t.now) asked.entry.shift) asked.entry.lists (option_map (λ t. t.now) asked.entry.by)
+        (option_map (λ t. t.now) asked.entry.shift) asked.entry.lists (option_map (λ t. t.now) asked.entry.by) asked.entry.ignores
         ≡ Some (meaning_of line)) }
     ensures depth { IfOk result HasDepth }
     ensures fault { IfErr result (LacksValue (pair_meant (texts captures.now) (option_map (λ t. t.now) asked.entry.within)
-        (option_map (λ t. t.now) asked.entry.shift) asked.entry.lists (option_map (λ t. t.now) asked.entry.by))) }
+        (option_map (λ t. t.now) asked.entry.shift) asked.entry.lists (option_map (λ t. t.now) asked.entry.by) asked.entry.ignores)) }
 {
     match captures {
         [sent, received] => Ok(Line::Compare {
@@ -101,6 +104,7 @@ fn pair<'a>(asked: Comparing<'a>, captures: &[&'a str]) -> Result<Line<'a>, Line
             shift: asked.shift,
             lists: asked.lists,
             by: asked.by,
+            ignores: asked.ignores,
         }),
         _ => Err(LineFault::Unpaired),
     }

@@ -112,8 +112,10 @@ pub enum Line<'a> {
         shift: Option<&'a str>,
         /// Whether what is of one alone is listed.
         lists: bool,
-        /// What a table is by: `length`.
+        /// What a table is by: `length` or `delay`.
         by: Option<&'a str>,
+        /// Whether frames to the addresses that no bridge forwards are left aside.
+        ignores: bool,
     },
     /// What a run wrote compared with what was captured of what went out.
     CompareWorked {
@@ -133,8 +135,10 @@ pub enum Line<'a> {
         strict: bool,
         /// Whether what is of one alone is listed.
         lists: bool,
-        /// What a table is by: `length`.
+        /// What a table is by: `length` or `delay`.
         by: Option<&'a str>,
+        /// Whether frames to the addresses that no bridge forwards are left aside.
+        ignores: bool,
     },
 }
 
@@ -156,6 +160,9 @@ pub enum LineFault {
     /// `compare` is given settings, or is asked to be strict, and no folder of a run.
     #[error("error: --settings and --strict go with --worked DIR")]
     NoFolder,
+    /// What `compare` is asked to leave aside is nothing that it knows.
+    #[error("error: --ignore takes the word 'reserved'")]
+    Ignored,
     /// More captures than one are standard input.
     #[error("error: standard input '-' can be one capture only")]
     InputTwice,

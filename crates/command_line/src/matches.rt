@@ -3,7 +3,7 @@ ghost use Rattle.std.specs.Prelude.{◌≡◌, ◌≤◌, IfOk, IfErr, IfSome, S
 ghost use Rattle.clap.specs.Words.{all_of, first_of, found_of, rows_of, subcommand_rows_of};
 ghost use Rattle.clap.specs.Walk.{texts};
 ghost use Rattle.command_line.specs.Meaning.{HasDepth, LacksValue, check_meant, compare_meant, depth_in, digest_meant};
-ghost use Rattle.command_line.specs.Meaning.{explain_meant, is_set, line_meant, meaning_of, merge_meant};
+ghost use Rattle.command_line.specs.Meaning.{explain_meant, ignores_in, is_set, line_meant, meaning_of, merge_meant};
 ghost use Rattle.command_line.specs.Meaning.{migrate_meant, moment_in, run_meant, small_depth, split_meant};
 ghost use Rattle.command_line.specs.declared.line.LineFault.TheVariants.{OutOfMemory};
 
@@ -66,6 +66,18 @@ fn is_set(inner: &ArgMatches<'_>, id: &str) -> bool
     match text(inner, id) {
         Some(value) => value == "true",
         None => false,
+    }
+}
+
+/// Whether frames to the addresses that no bridge forwards are left aside. None: what is to be left aside is nothing that is
+/// known.
+fn ignores(inner: &ArgMatches<'_>) -> Option<bool>
+    ensures { result ≡ ignores_in (rows_of (found_of inner.now)) }
+{
+    match text(inner, "ignore") {
+        Some(value) if value == "reserved" => Some(true),
+        Some(_) => None,
+        None => Some(false),
     }
 }
 
@@ -218,6 +230,7 @@ fn compare_from<'a>(alloc: Global, inner: &ArgMatches<'a>) -> Result<Line<'a>, L
     ensures fault { IfErr result (LacksValue (compare_meant (rows_of (found_of inner.now)))) }
 {
     let captures = values(inner, "captures").ok_or(LineFault::NoValue)?;
+    let ignores = ignores(inner).ok_or(LineFault::Ignored)?;
     let asked = Comparing {
         worked: text(inner, "worked"),
         underlay: text(inner, "underlay"),
@@ -227,6 +240,7 @@ fn compare_from<'a>(alloc: Global, inner: &ArgMatches<'a>) -> Result<Line<'a>, L
         strict: is_set(inner, "strict"),
         lists: is_set(inner, "list"),
         by: text(inner, "by"),
+        ignores,
     };
     comparison_line(alloc, asked, captures)
 }

@@ -1,7 +1,8 @@
--- A law of tables. It states no standard.
+-- Laws of tables. They state no standard.
 use Rattle.std.specs.Prelude.{◌≡◌, ◌<◌, ◌==◌, ℕ, min, if◌then◌else◌, List, [], ◌∷◌, length, slice_index_or}
 use Rattle.std.specs.List.{FoldsTo}
 use Rattle.record_match.specs.Settled.{Fact}
+use Rattle.compare_tables.specs.Delays.{Delays, IsOf, delays_behind, delays_with, no_delays}
 use Rattle.compare_tables.specs.Lengths.{kind_of, length_of, no_row, row_with, with_fact}
 use Rattle.compare_tables.specs.declared.lengths.LengthRow.{LengthRow}
 
@@ -17,3 +18,10 @@ EachRowIsOfItsFacts =
     (old new : List LengthRow) (facts : List Fact) (n : ℕ) → length old ≡ 262657 → n < 262657
     → FoldsTo (λ old fact new. new ≡ with_fact fact old) old facts new
     → slice_index_or new n no_row ≡ row_behind n (slice_index_or old n no_row) facts
+
+-- what is told to a table of no delays, one fact after another, makes it one of the delays of these facts
+abbrev pub ItIsOfItsDelays : Type 0
+ItIsOfItsDelays =
+    (within : ℕ) (facts : List Fact) (table : Delays)
+    → FoldsTo (λ old fact new. new ≡ delays_with fact old) (no_delays within) facts table
+    → IsOf within table (delays_behind [] facts)

@@ -138,7 +138,7 @@ fn no_rows(alloc: Global, count: usize) -> Result<Vec<LengthRow>, AllocError>
 }
 
 /// One more, up to the greatest number.
-fn one_more(n: u64) -> u64
+pub(crate) fn one_more(n: u64) -> u64
     ensures { result ≡ one_more n }
 {
     n.saturating_add(1)

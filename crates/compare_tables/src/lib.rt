@@ -1,15 +1,21 @@
 //! Tables of what two captures are, compared, for whoever looks on.
 //!
-//! Use first: a [`LengthTable`] counts records by their length, what becomes of each.
+//! Use first: a [`LengthTable`] counts records by their length, what becomes of each. A [`DelayTable`] counts pairs by how much
+//! later they were received than they were sent, and sums up the delays.
 //!
-//! Specs to read, in order: `specs/Lengths`, `specs/Laws`.
+//! Specs to read, in order: `specs/Lengths`, `specs/Delays`, `specs/Laws`.
 //!
-//! Proved: what one fact makes of a table. By the law of [`laws`] each row is that of the facts of its length.
+//! Proved: what one fact makes of a table. By the laws of [`laws`] each row by length is that of the facts of its length, and a
+//! table of delays is one of the delays of all its facts; its median and that of 99 in 100 have their rank among these, in whole
+//! steps, and the least and the greatest are exact.
 //!
-//! Why it is so: a table has a row for each length that a record can have, so what it takes doesn't grow with the captures.
+//! Why it is so: a table has a row for each length that a record can have, and for each of 4,194,304 steps of the time in which it
+//! may be received, so what it takes doesn't grow with the captures.
 #![tactic(auto)]
 
+mod delays;
 pub mod laws;
 mod lengths;
 
+pub use delays::{DelaySummary, DelayTable};
 pub use lengths::{LengthRow, LengthTable};

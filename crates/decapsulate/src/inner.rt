@@ -36,7 +36,7 @@ pub(crate) fn frame_in<'a>(
     if view.dst().is_reserved() {
         return Err(Reason::Reserved);
     }
-    if has_tag(&view) && segment.tags == TagRule::Drop {
+    if has_tag(&view) && segment.tags != TagRule::Pass {
         return Err(Reason::InnerTag);
     }
     Ok(BridgeFrame {

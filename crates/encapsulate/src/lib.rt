@@ -26,7 +26,7 @@ mod sums;
 
 pub use emission::{Emission, local, local_size, local_tag};
 pub use outer_head::Head;
-pub use remote::{headers, packet_size, put_head, unsent, wrap};
+pub use remote::{begins_tag, headers, packet_size, put_head, unsent, wrap};
 pub use sums::FrameSums;
 pub use underlay::{
     Hops, PeerRule, Segment, SegmentTunnel, TagRule, TunnelRule, Tunnels, Under, Underlay,

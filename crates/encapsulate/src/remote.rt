@@ -198,8 +198,9 @@ pub fn headers(addr: Addr) -> u16
     }
 }
 
-/// Whether a body begins with the type of a tag.
-fn begins_tag(body: &[u8]) -> bool
+/// Whether a body begins with the type of a customer tag (IEEE 802.1Q, 9.6), as that of a frame that came with two does.
+#[inline(always)]
+pub fn begins_tag(body: &[u8]) -> bool
     requires { 2 ≤ length body.now }
     ensures { result ≡ begins_tag body.now }
 {
@@ -211,5 +212,5 @@ fn drops_tags(under: &Under, vid: Vid) -> bool
     requires there { IsTrue (has_segment under.now vid) }
     ensures { result ≡ drops_tags_at under.now vid }
 {
-    under.segment(vid).tags == TagRule::Drop
+    under.segment(vid).tags != TagRule::Pass
 }

@@ -4,4 +4,5 @@ pub mod PartsLemmas
 pub mod Runs
 pub mod Tallies
 pub mod ComingLemmas
+pub mod LetIn
 pub mod StepsLemmas

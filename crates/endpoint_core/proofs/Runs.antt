@@ -44,7 +44,7 @@ settings-chosen true t c B = refl
 settings-chosen false t c B = refl
 
 settings-event : (t : ℕ) (B : Bridges) (i : Input) → (bridges_after t B i).settings ≡ settings_after_input B.settings i
-settings-event t B (FrameAt port original b) = settings-frame t B (came_at B.settings.ports port original b)
+settings-event t B (FrameAt port original b) = settings-frame t B (came_at B.settings.ports B.settings.overlay port original b)
 settings-event t B (Packet original b) = settings-frame t B (came_by B.settings.overlay original b)
 settings-event t B (Asks c) = settings-chosen (is_none (refused B.settings c)) t c B
 
@@ -93,7 +93,7 @@ table-chosen t c B vid true = table-changed t c vid (B.tables vid) (segment_at B
 table-chosen t c B vid false = refl
 
 table-event : (t : ℕ) (B : Bridges) (vid : ℕ) (i : Input) → (bridges_after t B i).tables vid ≡ cond (is_own vid B.settings i) (entries_after B.settings (segment_at B.settings vid) t i (B.tables vid)) (B.tables vid)
-table-event t B vid (FrameAt port original b) = table-frame t B vid (came_at B.settings.ports port original b)
+table-event t B vid (FrameAt port original b) = table-frame t B vid (came_at B.settings.ports B.settings.overlay port original b)
 table-event t B vid (Packet original b) = table-frame t B vid (came_by B.settings.overlay original b)
 table-event t B vid (Asks c) = table-chosen t c B vid (is_none (refused B.settings c))
 

@@ -17,7 +17,7 @@ segment_of (Err refused) = refused.segment
 -- the segment that a frame or a packet comes to, or in which it is refused; or that a change names: the one that stands in
 -- its decision line
 abbrev pub segment_in : Settings → Input → Option ℕ
-segment_in S (FrameAt port original b) = segment_of (came_at S.ports port original b)
+segment_in S (FrameAt port original b) = segment_of (came_at S.ports S.overlay port original b)
 segment_in S (Packet original b) = segment_of (came_by S.overlay original b)
 segment_in S (Asks c) = named c
 

@@ -1,16 +1,17 @@
 -- How a frame comes to the bridge of a segment: by a local port or by a tunnel. It states no standard.
-use Rattle.std.specs.Prelude.{ℕ, nat_lt, Bool, List, [], ◌∷◌, length, Result, Ok, Err}
+use Rattle.std.specs.Prelude.{ℕ, nat_lt, Bool, ◌&&◌, if◌then◌else◌, List, [], ◌∷◌, length, Result, Ok, Err}
 use Rattle.std.specs.Option.{option_map_or}
 use Rattle.frame_view.specs.First.{first, unless}
 use Rattle.frame_view.specs.Frame.{Frame}
+use Rattle.frame_view.specs.Tag.{begins_tag}
 use Rattle.frame_view.specs.declared.reason.Reason.{Reason}
-use Rattle.frame_view.specs.declared.reason.Reason.TheVariants.{TooLong, Sliced}
+use Rattle.frame_view.specs.declared.reason.Reason.TheVariants.{TooLong, Sliced, InnerTag}
 use Rattle.frame_view.specs.declared.reason.Refused.{Refused}
 use Rattle.filter_db.specs.declared.place.Place.{Place}
 use Rattle.filter_db.specs.declared.place.Place.TheVariants.{Local, Remote}
-use Rattle.vlan_ports.specs.Ingress.{enters, nowhere}
+use Rattle.vlan_ports.specs.Ingress.{enters, nowhere, within}
 use Rattle.vlan_ports.specs.Ports.{Ports, egress_at}
-use Rattle.underlay.specs.Overlay.{Overlay}
+use Rattle.underlay.specs.Overlay.{Overlay, refuses_tags_at}
 use Rattle.decapsulate.specs.Arrival.{arrival_of}
 use Rattle.decapsulate.specs.declared.arrived.Arrived.{Arrived}
 use Rattle.encapsulate.specs.Emission.{Parts, no_parts, local_text, local_parts}
@@ -31,9 +32,16 @@ abbrev pub entered : ℕ → Result (ℕ × Frame) Refused → Result Came Refus
 entered port (Ok found) = Ok (record { vid = found.0; from = Local port; frame = found.1 })
 entered port (Err refused) = Err refused
 
+-- of those, one whose body begins with a tag is refused in its segment where that takes none of them
+abbrev pub let_in : Overlay → Result Came Refused → Result Came Refused
+let_in overlay (Ok x) =
+    if begins_tag x.frame.body && refuses_tags_at overlay x.vid then Err (within x.vid InnerTag) else Ok x
+let_in overlay (Err refused) = Err refused
+
 -- the frame that the octets at a port are, in its segment; or the first reason why it comes to none
-unfoldable pub came_at : Ports → ℕ → ℕ → List ℕ → Result Came Refused
-came_at ports port original b = unless (first (capture_reasons original b)) (entered port (enters ports port b))
+unfoldable pub came_at : Ports → Overlay → ℕ → ℕ → List ℕ → Result Came Refused
+came_at ports overlay port original b =
+    unless (first (capture_reasons original b)) (let_in overlay (entered port (enters ports port b)))
 
 -- ---- by a tunnel
 

@@ -43,7 +43,7 @@ comes_to vid (Err refused) = false
 -- an event of the segment: a frame that comes to it, or a change that names it or is of a port, and that the settings
 -- don't refuse
 abbrev pub is_own : ℕ → Settings → Input → Bool
-is_own vid S (FrameAt port original b) = comes_to vid (came_at S.ports port original b)
+is_own vid S (FrameAt port original b) = comes_to vid (came_at S.ports S.overlay port original b)
 is_own vid S (Packet original b) = comes_to vid (came_by S.overlay original b)
 is_own vid S (Asks c) = is_none (refused S c) && is_about vid c
 
@@ -66,7 +66,7 @@ entries_after_change (Some s) t c m = entries_changed t s c m
 
 -- what an event of the segment leaves of its table, which has what is live at moment t
 abbrev pub entries_after : Settings → Option SegmentSettings → ℕ → Input → Table → Table
-entries_after S segment t (FrameAt port original b) m = entries_after_frame segment t (came_at S.ports port original b) m
+entries_after S segment t (FrameAt port original b) m = entries_after_frame segment t (came_at S.ports S.overlay port original b) m
 entries_after S segment t (Packet original b) m = entries_after_frame segment t (came_by S.overlay original b) m
 entries_after S segment t (Asks c) m = entries_after_change segment t c m
 

@@ -79,13 +79,13 @@ pub data Answer : Type 0 where
 
 -- the answer at moment t, by the bridges at that moment
 abbrev pub answer_by : ℕ → Bridges → Input → Answer
-answer_by t B (FrameAt port original b) = Decided (decided t B (came_at B.settings.ports port original b))
+answer_by t B (FrameAt port original b) = Decided (decided t B (came_at B.settings.ports B.settings.overlay port original b))
 answer_by t B (Packet original b) = Decided (decided t B (came_by B.settings.overlay original b))
 answer_by t B (Asks c) = Replied (fault B c)
 
 -- the bridges after it
 abbrev pub bridges_after : ℕ → Bridges → Input → Bridges
-bridges_after t B (FrameAt port original b) = after_came t B (came_at B.settings.ports port original b)
+bridges_after t B (FrameAt port original b) = after_came t B (came_at B.settings.ports B.settings.overlay port original b)
 bridges_after t B (Packet original b) = after_came t B (came_by B.settings.overlay original b)
 bridges_after t B (Asks c) = after_change t c B
 

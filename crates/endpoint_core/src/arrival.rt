@@ -13,7 +13,7 @@ ghost use Rattle.endpoint_core.specs.Arrival.{came_at, came_by};
 
 use crate::Course;
 use decapsulate::unwrap;
-use encapsulate::FrameSums;
+use encapsulate::{FrameSums, begins_tag};
 use filter_db::Place;
 use frame_view::{BridgeFrame, Reason, Refused, Vid};
 use ip_udp_view::Addr;
@@ -143,12 +143,13 @@ fn computes_sum(addr: Addr, underlay: &Underlay) -> bool {
     }
 }
 
-/// Sets a course to the frame that these octets at a local port are, in its segment; or to the first reason, of 1 to 11, why
-/// it comes to none. It is written where it lies: a result in its place would be put together and copied.
+/// Sets a course to the frame that these octets at a local port are, in its segment; or to the first reason, of 1 to 11 and 34,
+/// why it comes to none. It is written where it lies: a result in its place would be put together and copied.
 #[tactic(auto, unfolding(crate::specs::Arrival::came_at))]
 #[inline(always)]
 pub(crate) fn come_at<'a>(
     ports: &PortSet,
+    under: &Under,
     port: u8,
     original: u32,
     octets: &'a [u8],
@@ -156,7 +157,7 @@ pub(crate) fn come_at<'a>(
 )
     requires low { 1 ≤ port }
     requires high { port ≤ length ports.now.ports }
-    ensures value { course.new ≡ came_at ports.now port original octets.now }
+    ensures value { course.new ≡ came_at ports.now under.now port original octets.now }
     ensures there { IfOk course.new (λ x. has_members ports.now x.vid ≡ true) }
     ensures from { IfOk course.new (λ x. x.from ≡ Local port) }
     ensures short { IfOk course.new (λ x. length x.frame.body ≤ 65535) }
@@ -172,6 +173,10 @@ pub(crate) fn come_at<'a>(
     match classify(ports, port, octets) {
         Ok(entered) => {
             let (vid, frame) = entered;
+            if begins_tag(frame.body) && under.refuses_tags(vid) {
+                *course = Err(Refused::within(vid, Reason::InnerTag));
+                return;
+            }
             *course = Ok(Came::at(vid, Place::Local(port), frame));
         }
         Err(refused) => *course = Err(refused),

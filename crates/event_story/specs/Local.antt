@@ -1,12 +1,13 @@
 -- How a frame at a local port comes to a segment, test by test (IEEE 802.1Q, 6.9 and 8.6).
-use Rattle.std.specs.Prelude.{ℕ, not, if◌then◌else◌, List, ◌∷◌, length, Option, Some, None, Result}
+use Rattle.std.specs.Prelude.{ℕ, not, if◌then◌else◌, List, [], ◌∷◌, ◌++◌, length, Option, Some, None, Result}
 use Rattle.std.specs.Option.{option_map}
 use Rattle.frame_view.specs.declared.reason.Reason.{Reason}
 use Rattle.frame_view.specs.declared.reason.Reason.TheVariants.{TooLong, Sliced, Runt, PortDown, BadSource, Reserved}
-use Rattle.frame_view.specs.declared.reason.Reason.TheVariants.{CutTag, BadVid, FrameType, NoSegment, NotMember}
+use Rattle.frame_view.specs.declared.reason.Reason.TheVariants.{CutTag, BadVid, FrameType, NoSegment, NotMember, InnerTag}
 use Rattle.frame_view.specs.declared.reason.Refused.{Refused}
 use Rattle.vlan_ports.specs.Ingress.{local_reasons, segment_vid}
 use Rattle.vlan_ports.specs.Ports.{Ports, port_at, is_up, egress_at}
+use Rattle.underlay.specs.Overlay.{Overlay}
 use Rattle.endpoint_core.specs.Arrival.{came_at}
 use Rattle.endpoint_core.specs.Came.{Came}
 use Rattle.event_story.specs.Ether.{header_fact, source_fact, destination_fact, tag_fact, vid_in, has_vid}
@@ -17,7 +18,7 @@ use Rattle.event_story.specs.declared.fact.Fact.TheVariants as facts
 
 -- the tests in their order
 abbrev pub local_tests : List Reason
-local_tests = TooLong ∷ Sliced ∷ local_reasons
+local_tests = TooLong ∷ Sliced ∷ local_reasons ++ InnerTag ∷ []
 
 -- the VID of a frame at a port: that of its tag, or the port's
 abbrev pub vid_at : Ports → ℕ → List ℕ → ℕ
@@ -45,6 +46,7 @@ local_fact s port original b came BadVid = if refuses (refusal_of came) BadVid t
 local_fact s port original b came FrameType = Some (facts.Accepts port (has_vid b) (not (refuses (refusal_of came) FrameType)))
 local_fact s port original b came NoSegment = Some (segment_fact s port b (segment_of came))
 local_fact s port original b came NotMember = option_map (member_fact s port) (segment_of came)
+local_fact s port original b came InnerTag = if refuses (refusal_of came) InnerTag then Some facts.InnerTag else None
 local_fact s port original b came _ = None
 
 -- what the tests saw of a frame that came so
@@ -52,5 +54,5 @@ abbrev pub local_facts_of : Ports → ℕ → ℕ → List ℕ → Result Came R
 local_facts_of s port original b came = told (local_fact s port original b came) (refusal_of came) local_tests
 
 -- what the tests saw of octets at a local port
-abbrev pub local_facts : Ports → ℕ → ℕ → List ℕ → List Fact
-local_facts s port original b = local_facts_of s port original b (came_at s port original b)
+abbrev pub local_facts : Ports → Overlay → ℕ → ℕ → List ℕ → List Fact
+local_facts s overlay port original b = local_facts_of s port original b (came_at s overlay port original b)

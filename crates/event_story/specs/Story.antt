@@ -32,8 +32,8 @@ came_facts t left B (Err refused) d = []
 -- what there is to tell of octets at a local port, at moment t
 abbrev pub frame_facts : ℕ → Bridges → Bridges → ℕ → ℕ → List ℕ → List Fact
 frame_facts t left B port original b =
-    let came = came_at B.settings.ports port original b in
-    local_facts B.settings.ports port original b ++ came_facts t left B came (decided t B came)
+    let came = came_at B.settings.ports B.settings.overlay port original b in
+    local_facts B.settings.ports B.settings.overlay port original b ++ came_facts t left B came (decided t B came)
 
 -- what there is to tell of a packet of the underlay, at moment t
 abbrev pub arrival_facts : ℕ → Bridges → Bridges → ℕ → List ℕ → List Fact

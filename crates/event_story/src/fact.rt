@@ -141,7 +141,7 @@ pub enum Fact {
     },
     /// Any endpoint may send to the segment.
     AnyPeer,
-    /// The frame in the tunnel begins with a tag, and the segment drops those.
+    /// The frame in the tunnel, or what stands behind a local frame's tag, begins with a tag, and the segment drops those.
     InnerTag,
     /// The segment doesn't learn.
     NotLearning,

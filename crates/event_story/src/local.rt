@@ -55,7 +55,7 @@ fn put_tests(
 }
 
 /// The tests in their order.
-fn local_tests() -> [Reason; 11]
+fn local_tests() -> [Reason; 12]
     ensures { result ≡ local_tests }
 {
     [
@@ -70,6 +70,7 @@ fn local_tests() -> [Reason; 11]
         Reason::FrameType,
         Reason::NoSegment,
         Reason::NotMember,
+        Reason::InnerTag,
     ]
 }
 
@@ -117,6 +118,7 @@ fn local_fact(
                 egress: ports.egress(vid, port),
             }),
         },
+        Reason::InnerTag => refuses(refusal_of(came), test).then_some(Fact::InnerTag),
         _ => None,
     }
 }

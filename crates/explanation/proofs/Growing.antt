@@ -33,7 +33,7 @@ overlay_stays s e known = go e.happening known
   where
     go : (h : Happening) → HappensIn 0 0 e.moment h → (bridges_after e.moment (aged e.moment s.bridges) (input_of [] h)).settings.overlay ≡ s.bridges.settings.overlay
     go (Change index) known = absurd (omega arith)
-    go (Record (Port port) c) known = came_overlay e.moment (aged e.moment s.bridges) (came_at s.bridges.settings.ports port c.original c.octets)
+    go (Record (Port port) c) known = came_overlay e.moment (aged e.moment s.bridges) (came_at s.bridges.settings.ports s.bridges.settings.overlay port c.original c.octets)
     go (Record Underlay c) known = came_overlay e.moment (aged e.moment s.bridges) (came_by s.bridges.settings.overlay c.original c.octets)
 
 texts_grown : (depth : ℕ) (values : Values) (count : ℕ) (s : State) (overlay : Overlay) (es : List Happens) → s.bridges.settings.overlay ≡ overlay → AllByRecursion (IsEventOf 0 0) es

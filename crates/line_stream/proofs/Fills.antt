@@ -1,12 +1,12 @@
 -- What a room and an input hold together.
-use Rattle.std.proofs.Common.{◌≡◌, ◌≤◌, ◌+◌, ◌-◌, ◌∙◌, sym, ap, subst, ℕ, List, [], ◌++◌, length, length-append, length-drop, take, drop, append_assoc, append-nil, arith, Option, Some, None, IfSome, Err}
+use Rattle.std.proofs.Common.{◌≡◌, ◌≤◌, ◌+◌, ◌-◌, ◌∙◌, sym, ap, subst, ℕ, List, [], ◌++◌, length, length-append, length-drop, take, drop, append_assoc, append-nil, arith, Option, Some, None, IfSome, Err, false}
 use Rattle.std.proofs.lemmas.List.{drop-drop, drop-take, get_or_append_left, length-take-le, take-take}
 use Rattle.std.specs.Io.KnownBytes.{Consumes, IsAtEnd, Keeps, prepend_known}
 use Rattle.line_stream.specs.Filled.{EndsAt, HasNoEnd, IsLent, IsNext}
-use Rattle.line_stream.specs.Lines.{IsFetched, IsLong, Reader, behind_line, first_line}
+use Rattle.line_stream.specs.Lines.{IsFetched, IsLong, Reader, behind_line, first_line, has_line}
 use Rattle.line_stream.specs.declared.fault.LinesFault.{LinesFault}
 use Rattle.line_stream.specs.declared.fault.LinesFault.TheVariants.{Read, TooLong}
-use Rattle.line_stream.proofs.Ends.{behind_none, first_none}
+use Rattle.line_stream.proofs.Ends.{behind_none, first_none, none_held}
 
 -- some octets more were read
 pub read_more : (w a b : Option (List ℕ)) (old new taken : List ℕ) → Keeps w (prepend_known old a) → Consumes a b taken → new ≡ old ++ taken → Keeps w (prepend_known new b)
@@ -54,15 +54,21 @@ next_line_of (Some ys) room end read n order inside ends =
       ap Some (ap (λ l. l ++ ys) (sym (drop-drop n end (take read room))) ∙ sym (ends.behind ys)),
     )
 
+pub sliced : (room : List ℕ) (end read : ℕ) → end ≤ read → take (read - end) (drop end room) ≡ drop end (take read room)
+sliced room end read order =
+    let whole : end + (read - end) ≡ read = omega (arith, order) in
+    sym (drop-take end (read - end) room) ∙ ap (λ k. drop end (take k room)) whole
+
+pub next_none : (room : List ℕ) (end read : ℕ) → end ≤ read → HasNoEnd (take (read - end) (drop end room)) → has_line (drop end (take read room)) ≡ false
+next_none room end read order none = none_held (drop end (take read room)) (subst HasNoEnd (sliced room end read order) none)
+
 pub next_found : (left : Option (List ℕ)) (room : List ℕ) (end read n : ℕ) → end ≤ read → read ≤ length room → EndsAt (take (read - end) (drop end room)) n
     → IsNext (prepend_known (drop end (take read room)) left) left room (record { begin = end; end = end + n; read = read })
 next_found left room end read n order inside ends =
-    let whole : end + (read - end) ≡ read = omega (arith, order) in
-    let same : take (read - end) (drop end room) ≡ drop end (take read room) = sym (drop-take end (read - end) room) ∙ ap (λ k. drop end (take k room)) whole in
-    next_line_of left room end read n order inside (subst (λ (l : List ℕ). EndsAt l n) same ends)
+    next_line_of left room end read n order inside (subst (λ (l : List ℕ). EndsAt l n) (sliced room end read order) ends)
 
 -- a fault is told as it was
 pub not_fetched : (old : Reader) (failures : ℕ) (left : Option (List ℕ)) (room : List ℕ) (fault : LinesFault) → IsLent old.rest old.failures left failures room (Err fault)
-    → IsFetched old (record { line = []; rest = None; failures = failures }) (Err fault)
+    → IsFetched old (record { line = []; ahead = []; rest = None; failures = failures }) (Err fault)
 not_fetched old failures left room TooLong h = h
 not_fetched old failures left room Read h = h

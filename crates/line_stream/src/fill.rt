@@ -1,8 +1,9 @@
 //! Octets of an input, as far as the end of a line.
-ghost use Rattle.std.specs.Prelude.{◌≡◌, ◌≢◌, ◌≤◌, ◌<◌, ◌+◌, ◌-◌, ℕ, List, Option, length, take, drop, IfOk, Some, IfSome};
+ghost use Rattle.std.specs.Prelude.{◌≡◌, ◌≢◌, ◌≤◌, ◌<◌, ◌+◌, ◌-◌, ⊤, ℕ, List, Option, length, take, drop, IfOk, OnErr, Some, IfSome};
+ghost use Rattle.std.specs.Prelude.{MatchOption, false};
 ghost use Rattle.std.specs.Io.KnownBytes.{prepend_known};
 ghost use Rattle.line_stream.specs.Filled.{IsFilled, IsLent, IsNext};
-ghost use Rattle.line_stream.specs.Lines.{longest_line};
+ghost use Rattle.line_stream.specs.Lines.{has_line, longest_line};
 
 use crate::fault::LinesFault;
 use crate::find::end_of_line;
@@ -69,6 +70,7 @@ fn line_behind(room: &[u8], lent: Lent) -> Option<Lent>
     ensures size { IfSome result (λ found. (found.begin ≤ found.end) × (found.end ≤ found.read) × (found.read ≤ length room.now)) }
     ensures found { IfSome result (λ found. (left : Option (List ℕ))
         → IsNext (prepend_known (drop lent.end (take lent.read room.now)) left) left room.now found) }
+    ensures none { MatchOption result (has_line (drop lent.end (take lent.read room.now)) ≡ false) (λ _. ⊤) }
 {
     let length = end_of_line(&room[lent.end..lent.read])?;
     Some(Lent {
@@ -93,6 +95,7 @@ pub(crate) fn next_line<R: Input>(
     ensures size { IfOk result (λ found. found.read ≤ longest_line) }
     ensures lent { IsLent (prepend_known (drop lent.end (take lent.read room.old)) (R.remaining input.old))
         (R.failures input.old) (R.remaining input.new) (R.failures input.new) room.new result }
+    ensures lacked { OnErr result (has_line (drop lent.end (take lent.read room.old)) ≡ false) }
 {
     if let Some(found) = line_behind(room, lent) {
         return Ok(found);

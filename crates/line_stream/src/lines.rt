@@ -1,9 +1,10 @@
 //! Lines, one after another.
-ghost use Rattle.std.specs.Prelude.{◌≡◌, ◌≤◌, IfOk, Some, [], length};
-ghost use Rattle.line_stream.specs.Lines.{IsFetched, longest_line};
+ghost use Rattle.std.specs.Prelude.{◌≡◌, ◌≤◌, IfOk, OnErr, Some, [], false, length};
+ghost use Rattle.line_stream.specs.Lines.{IsFetched, holds_line, longest_line};
 
 use crate::fault::LinesFault;
 use crate::fill::{Lent, next_line};
+use crate::find::has_line;
 use pcap_stream::Input;
 use std::alloc::{AllocError, Global};
 use std::marker::Model;
@@ -13,8 +14,8 @@ pub const LONGEST_LINE: usize = 4096;
 
 /// The lines of an input, one at a time, in room for one of 4,096 octets.
 ///
-/// `fetch` reads the next line, which `line` lends until the next `fetch`. Contracts see the line that is lent, what stands
-/// behind it, and how often the input failed.
+/// `fetch` reads the next line, which `line` lends until the next `fetch`. Contracts see the line that is lent, what was read
+/// ahead of those behind it, what stands behind it, and how often the input failed.
 #[derive(Drop)]
 pub struct Lines<R: Input> {
     input: R,
@@ -33,6 +34,7 @@ impl<R: Input> Model for Lines<R> {
 
     ghost view = { λ s. record {
       line = drop s.lent.begin (take s.lent.end s.room.items);
+      ahead = drop s.lent.end (take s.lent.read s.room.items);
       rest = prepend_known (drop s.lent.end (take s.lent.read s.room.items)) (R.remaining s.input);
       failures = R.failures s.input;
     } };
@@ -46,7 +48,7 @@ impl<R: Input> Lines<R> {
     pub fn new(alloc: Global, input: R) -> Result<Lines<R>, AllocError>
     where
         R: Drop,
-        ensures { IfOk result (λ lines. lines ≡ record { line = []; rest = R.remaining input; failures = R.failures input }) }
+        ensures { IfOk result (λ lines. lines ≡ record { line = []; ahead = []; rest = R.remaining input; failures = R.failures input }) }
     {
         let room = vec![in alloc; 0u8; LONGEST_LINE]?;
         Ok(Lines {
@@ -63,9 +65,10 @@ impl<R: Input> Lines<R> {
     /// Reads the next line: up to and with its line feed, or what is left of the input. At the end it is empty.
     ///
     /// `TooLong`: the next 4,096 octets have no line feed. `Read`: a read failed. After a fault what is lent, and what comes
-    /// then, isn't told.
+    /// then, isn't told. A line that was read ahead whole takes no read, and no fault comes then.
     pub fn fetch(&mut self) -> Result<(), LinesFault>
-        ensures { IsFetched self.old self.new result }
+        ensures fetched { IsFetched self.old self.new result }
+        ensures lacked { OnErr result (holds_line self.old ≡ false) }
     {
         match next_line(&mut self.input, self.room.as_mut_slice(), self.lent) {
             Ok(lent) => {
@@ -74,6 +77,13 @@ impl<R: Input> Lines<R> {
             }
             Err(fault) => Err(fault),
         }
+    }
+
+    /// Whether the next line was read ahead whole: then the next `fetch` lends it and makes no read.
+    pub fn holds_next(&self) -> bool
+        ensures { result ≡ holds_line self.now }
+    {
+        has_line(&self.room[self.lent.end..self.lent.read])
     }
 
     /// The line that was fetched last: empty before the first `fetch` and at the end.

@@ -3,7 +3,7 @@ ghost use Rattle.std.specs.Prelude.{◌≤◌};
 
 use crate::looking::{Looked, look_at, output_at, read_failure, read_records};
 use crate::merged_texts::{MergedTexts, TextsAsked, merge_texts};
-use crate::opening::open_parts;
+use crate::opening::{may_wait, open_parts};
 use part_merge::{MergeFault, Target, merge_streams};
 use part_record::{MOST_PORTS, ToldOutputs};
 use program_faults::{Failure, OutputFile};
@@ -21,7 +21,8 @@ const BLOCK: usize = 65_536;
 /// besides, as far as that is asked for.
 ///
 /// Where they aren't all parts of one run, what they told isn't there or is no such text, or an output is one of their files,
-/// nothing is made or written. All outputs that couldn't be written are noted.
+/// nothing is made or written. All outputs that couldn't be written are noted. Where an output of a part is no regular file, all
+/// that was merged goes out before each read, which may wait.
 ///
 /// Noticed before an output is made: a `shard.txt` that isn't written as one is; settings, changes or captures with another
 /// digest than those of the first part; a segment, or what comes to none, that isn't in exactly one part's list; and outputs
@@ -59,6 +60,7 @@ pub fn merge<'a, R: Files + AllocGlobal>(
         Err(failure) => return Err(failure),
     };
     spare_parts(rt, out, folders, count)?;
+    let waits = may_wait(rt, folders, count);
     let mut parts = match open_parts(rt, folders, told_outputs.as_slice(), count) {
         Ok(parts) => parts,
         Err(failure) => return Err(failure),
@@ -71,6 +73,7 @@ pub fn merge<'a, R: Files + AllocGlobal>(
         outputs.ports.as_mut_slice(),
         &mut outputs.underlay,
         &mut outputs.decisions,
+        waits,
     );
     match merged {
         Ok(()) => match outputs.finish(rt.alloc(), failed) {

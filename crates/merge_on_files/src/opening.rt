@@ -7,14 +7,39 @@ use part_merge::{Capture, MergeFault, Part, PartFault, RecordsFault};
 use part_record::{OutputFacts, ToldOutputs};
 use pcap_stream::{Source, SourceFault};
 use program_faults::{Failure, OutputFile};
-use program_files::{PartInput, open_output};
+use program_files::{PartInput, open_output, path_of};
 use std::alloc::AllocError;
+use std::fs;
+use std::path::Path;
 use std::rt::Files;
 use text_calls::tap_of;
 use timeline::Tap;
 
 /// How many reads are made of a capture of a part, at most.
 const CAPTURE_READS: u64 = u64::MAX;
+
+/// Whether a read of the parts may wait: whether the lines or a capture of one of them, of so many ports each, is no regular file.
+pub fn may_wait<R: Files + AllocGlobal>(rt: &R, folders: &[&str], count: usize) -> bool {
+    for folder in folders {
+        for index in 0..count.saturating_add(2) {
+            let Ok(path) = path_of(rt.alloc(), *folder, output_at(index)) else {
+                return true;
+            };
+            if !is_regular_file(rt, path.as_path()) {
+                return true;
+            }
+        }
+    }
+    false
+}
+
+/// Whether a path leads to a regular file.
+fn is_regular_file<R: Files>(rt: &R, path: Path<'_>) -> bool {
+    match fs::metadata(rt, path) {
+        Ok(found) => found.is_file(),
+        Err(_) => false,
+    }
+}
 
 /// Opens the parts. The first line of each is read, and the headers of their captures are.
 pub fn open_parts<'a, R: Files + AllocGlobal>(

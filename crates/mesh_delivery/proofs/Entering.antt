@@ -11,8 +11,10 @@ use Rattle.frame_view.proofs.FirstLemmas.{NothingHolds-from, unless-ok, same_Ok}
 use Rattle.filter_db.specs.declared.place.Place.TheVariants.{Local}
 use Rattle.vlan_ports.specs.Ports.{Ports}
 use Rattle.vlan_ports.specs.Ingress.{enters, reasons, vid_at, frame_in}
+use Rattle.underlay.specs.Overlay.{Overlay}
 use Rattle.endpoint_core.specs.Came.{Came}
-use Rattle.endpoint_core.specs.Arrival.{came_at, capture_reasons, entered}
+use Rattle.endpoint_core.specs.Arrival.{came_at, capture_reasons, entered, let_in}
+use Rattle.endpoint_core.proofs.LetIn.{let_in-ok}
 use Rattle.mesh_delivery.proofs.Wire.{IsWhole}
 
 -- a text with 14 octets, and 18 with a tag
@@ -39,6 +41,8 @@ entered-as port (Ok found) x whole h = subst (IsEntered port) same (record { fro
     same : ◌≡◌ {A = Came} (record { vid = found.0; from = Local port; frame = found.1 }) x
     same = cc
 
-pub came_at-entered : (ports : Ports) (port original : ℕ) (b : List ℕ) (x : Came) → came_at ports port original b ≡ Ok x → IsEntered port x
+pub came_at-entered : (ports : Ports) (overlay : Overlay) (port original : ℕ) (b : List ℕ) (x : Came) → came_at ports overlay port original b ≡ Ok x → IsEntered port x
 unfolding came_at
-came_at-entered ports port original b x h = entered-as port (enters ports port b) x (entered-whole ports port b) (unless-ok (first (capture_reasons original b)) (entered port (enters ports port b)) x h).1
+came_at-entered ports overlay port original b x h =
+    let inside = unless-ok (first (capture_reasons original b)) (let_in overlay (entered port (enters ports port b))) x h in
+    entered-as port (enters ports port b) x (entered-whole ports port b) (let_in-ok overlay (entered port (enters ports port b)) x inside.1).0

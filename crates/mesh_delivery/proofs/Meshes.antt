@@ -86,7 +86,7 @@ module _ (told : ℕ → Told) (mesh : IsMesh told) where
   port-same n k Vxlan = mesh.vxlan_port n k
   port-same n k Geneve = mesh.geneve_port n k
 
-  Kept-local : (m : Mesh) → Kept told m → AreFull m → (endpoint t port original : ℕ) (b : List ℕ) (r : Result Came Refused) → came_at (settings_at m endpoint).ports port original b ≡ r
+  Kept-local : (m : Mesh) → Kept told m → AreFull m → (endpoint t port original : ℕ) (b : List ℕ) (r : Result Came Refused) → came_at (settings_at m endpoint).ports (settings_at m endpoint).overlay port original b ≡ r
       → Kept told (after_local m endpoint port (frame_at t port original b) r)
   Kept-local m kept full endpoint t port original b (Err refused) is = record {
     knows = knows-with m endpoint (frame_at t port original b) kept.knows;
@@ -103,7 +103,7 @@ module _ (told : ℕ → Told) (mesh : IsMesh told) where
       let B = aged t (m.endpoints endpoint).bridges in
       let origin : Origin = record { number = m.frames; endpoint = endpoint; port = port; vid = x.vid; frame = x.frame } in
       let sent = outcomes_of (answer (m.endpoints endpoint) e) in
-      let entered = came_at-entered S.ports port original b x is in
+      let entered = came_at-entered S.ports S.overlay port original b x is in
       let out : Sends S x sent = subst (λ (r : Result Came Refused). Sends S x (decided t B r).outcomes) (sym is) (sends t B x) in
       let each : AreEmitted S x.vid x.frame sent =
       emitted-for t B x sent (Knows-aged t (m.endpoints endpoint).bridges (kept.knows endpoint)) (ap (is_reached S.overlay x.vid) entered.from) (ap (λ (r : Result Came Refused). (decided t B r).outcomes) is) out in
@@ -201,7 +201,7 @@ module _ (told : ℕ → Told) (mesh : IsMesh told) where
       by false e = kept
 
   Kept-after : (m : Mesh) → Kept told m → AreFull m → (h : Happening) → Kept told (mesh_after m h)
-  Kept-after m kept full (Comes endpoint t port original b) = Kept-local m kept full endpoint t port original b (came_at (settings_at m endpoint).ports port original b) refl
+  Kept-after m kept full (Comes endpoint t port original b) = Kept-local m kept full endpoint t port original b (came_at (settings_at m endpoint).ports (settings_at m endpoint).overlay port original b) refl
   Kept-after m kept full (Changes endpoint t c) = record {
     knows = knows-with m endpoint (change_at t c) kept.knows;
     keeps = keeps-with told m endpoint (change_at t c) kept.keeps;

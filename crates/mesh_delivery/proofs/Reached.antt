@@ -323,8 +323,8 @@ Knows-came t B (Ok x) own k = Knows-frame t x.vid x.from x.frame B (own x refl) 
 
 Knows-input : (t : ℕ) (B : Bridges) (i : Input) → Knows B → Knows (bridges_after t B i)
 Knows-input t B (FrameAt port original b) k =
-    Knows-came t B (came_at B.settings.ports port original b)
-    (λ x h. ap (λ (from : Place). is_reached B.settings.overlay x.vid from) (came_at-entered B.settings.ports port original b x h).from) k
+    Knows-came t B (came_at B.settings.ports B.settings.overlay port original b)
+    (λ x h. ap (λ (from : Place). is_reached B.settings.overlay x.vid from) (came_at-entered B.settings.ports B.settings.overlay port original b x h).from) k
 Knows-input t B (Packet original b) k = Knows-came t B (came_by B.settings.overlay original b) (λ x h. came-reached B.settings.overlay original b x k.flood h) k
 Knows-input t B (Asks c) k = Knows-change t c B k
 
@@ -333,7 +333,7 @@ Stays-came t B (Err refused) = Stays-itself B.settings
 Stays-came t B (Ok x) = Stays-itself B.settings
 
 Stays-input : (t : ℕ) (B : Bridges) (i : Input) → Stays (bridges_after t B i).settings B.settings
-Stays-input t B (FrameAt port original b) = Stays-came t B (came_at B.settings.ports port original b)
+Stays-input t B (FrameAt port original b) = Stays-came t B (came_at B.settings.ports B.settings.overlay port original b)
 Stays-input t B (Packet original b) = Stays-came t B (came_by B.settings.overlay original b)
 Stays-input t B (Asks c) = Stays-change t c B
 

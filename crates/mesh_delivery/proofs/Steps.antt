@@ -226,7 +226,7 @@ deliveries-stay-local told es t original b rules groups =
 pub once-to-each : (s : State) (t port original : ℕ) (b : List ℕ) (U : Underlay) → ((vid : ℕ) (segment : SegmentSettings) → segment_at s.bridges.settings vid ≡ Some segment → count_by (λ r. is_own U r.addr) segment.flood ≤ 1)
     → count_by (λ o. is_remote_of U o.place) (outcomes_of (answer s (frame_at t port original b))) ≤ 1
 once-to-each s t port original b U once =
-    subst (λ (n : ℕ). n ≤ 1) (how_many-count (λ (o : Sent). is_remote_of U o.place) (outcomes_of (answer s (frame_at t port original b)))) (by (came_at B.settings.ports port original b))
+    subst (λ (n : ℕ). n ≤ 1) (how_many-count (λ (o : Sent). is_remote_of U o.place) (outcomes_of (answer s (frame_at t port original b)))) (by (came_at B.settings.ports B.settings.overlay port original b))
   where
     B : Bridges
     B = aged t s.bridges

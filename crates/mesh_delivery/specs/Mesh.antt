@@ -155,7 +155,8 @@ delivered m endpoint t place (Some y) =
 -- the mesh after one thing happened
 abbrev pub mesh_after : Mesh → Happening → Mesh
 mesh_after m (Comes endpoint t port original octets) =
-    after_local m endpoint port (frame_at t port original octets) (came_at (settings_at m endpoint).ports port original octets)
+    after_local m endpoint port (frame_at t port original octets)
+    (came_at (settings_at m endpoint).ports (settings_at m endpoint).overlay port original octets)
 mesh_after m (Changes endpoint t change) =
     record { endpoints = with_event m endpoint (change_at t change); flying = m.flying; left = m.left; frames = m.frames }
 mesh_after m (Delivers endpoint t place) = delivered m endpoint t place (slice_get m.flying place)

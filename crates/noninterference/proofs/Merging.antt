@@ -151,12 +151,28 @@ turn_events changes [] h = tt
 turn_events changes (e ∷ es) h =
     (all-map (Sooner e) (Before (event_of changes e)) (event_of changes) (λ f. before_by changes e f) es h.0, turn_events changes es h.1)
 
+-- of all whole records, also where a capture has a fault behind them
+
+pub merged-rises : (changes : List Change) (moments : List ℕ) (vs : List (Vec ℕ Global)) (underlay : List ℕ)
+    → event.IsRising 0 (map (event_of changes) (merged (all_events moments (opened_captures (inputs vs underlay)))))
+merged-rises changes moments vs underlay =
+    let all = all_events moments (opened_captures (inputs vs underlay)) in
+    rising_events changes 0 (merged all) (rising_merged all)
+
+pub merged-turns : (changes : List Change) (moments : List ℕ) (vs : List (Vec ℕ Global)) (underlay : List ℕ)
+    → InTurn Before (map (event_of changes) (merged (all_events moments (opened_captures (inputs vs underlay)))))
+merged-turns changes moments vs underlay =
+    let all = all_events moments (opened_captures (inputs vs underlay)) in
+    turn_events changes (merged all) (turn_merged all (turn_all moments vs underlay))
+
+-- of a timeline that is told
+
 pub coming-rises : (changes : List Change) (moments : List ℕ) (vs : List (Vec ℕ Global)) (underlay : List ℕ) (timeline : Timeline) → told moments vs underlay ≡ Ok timeline
     → event.IsRising 0 (map (event_of changes) timeline.events)
 coming-rises changes moments vs underlay timeline is =
-    rising_events changes 0 timeline.events (subst (IsRising 0) (told_events moments vs underlay timeline is) (rising_merged (all_events moments (opened_captures (inputs vs underlay)))))
+    subst (λ es. event.IsRising 0 (map (event_of changes) es)) (told_events moments vs underlay timeline is) (merged-rises changes moments vs underlay)
 
 pub coming-turns : (changes : List Change) (moments : List ℕ) (vs : List (Vec ℕ Global)) (underlay : List ℕ) (timeline : Timeline) → told moments vs underlay ≡ Ok timeline
     → InTurn Before (map (event_of changes) timeline.events)
 coming-turns changes moments vs underlay timeline is =
-    turn_events changes timeline.events (subst (InTurn Sooner) (told_events moments vs underlay timeline is) (turn_merged (all_events moments (opened_captures (inputs vs underlay))) (turn_all moments vs underlay)))
+    subst (λ es. InTurn Before (map (event_of changes) es)) (told_events moments vs underlay timeline is) (merged-turns changes moments vs underlay)

@@ -15,6 +15,8 @@ use Rattle.overlay_settings.specs.Settings.{Settings as Told}
 use Rattle.overlay_settings.specs.declared.change.Change.{Change}
 use Rattle.overlay_settings.specs.declared.change.TimedChange.{TimedChange}
 use Rattle.endpoint_state.specs.Opened.{settings_told}
+use Rattle.endpoint_state.specs.Settings.{Settings}
+use Rattle.endpoint_core.specs.Event.{IsRising}
 use Rattle.endpoint_core.specs.Step.{State, Answer, Decided, Replied, opened, answer, answers, after}
 use Rattle.endpoint_core.proofs.Runs.{answers-decisions}
 use Rattle.decision_lines.specs.Lines.{cut_line}
@@ -42,12 +44,9 @@ outputs_given s x l o is = given_by s x.changes (length x.ports) (length x.ports
 abbrev answered : State → List Change → List Happens → List (Happens × Answer)
 answered s changes hs = zip hs (answers s (map (event_of changes) hs))
 
-outputs_answered : (s : Told) (x : Inputs) (l : Timeline) (o : Outputs) → IsRunOf s x l o
-    → o ≡ outputs_of (changes_of x) (length x.ports) (answered (opened (settings_told s)) (changes_of x) l.events) l.cuts
-outputs_answered s x l o is =
-    outputs_given s x l o is
-    ∙ sym (ap (λ replies. outputs_of (changes_of x) (length x.ports) (zip l.events replies) l.cuts)
-    (answers-decisions (settings_told s) [] (coming x l) (coming-rises (changes_of x) (map (λ c. c.at) x.changes) x.ports x.underlay l is.read)))
+module _ (S : Settings) (changes : List Change) (n : ℕ) (l : Timeline) (rising : IsRising 0 (map (event_of changes) l.events)) where
+  pub texts_answered : outputs S changes n l ≡ outputs_of changes n (answered (opened S) changes l.events) l.cuts
+  texts_answered = sym (ap (λ replies. outputs_of changes n (zip l.events replies) l.cuts) (answers-decisions S [] (map (event_of changes) l.events) rising))
 
 -- ---- what leaves
 
@@ -81,13 +80,22 @@ capture_in (taps.Port port) n changes table l of_run =
     ∙ ap (λ p. capture_of (is_at_port p) (sendings table)) (omega (arith, of_run.0))
 capture_in taps.Underlay n changes table l of_run = refl
 
+pub texts-captures : (S : Settings) (changes : List Change) (n : ℕ) (l : Timeline) → IsRising 0 (map (event_of changes) l.events) → (output : Tap) → IsTapOf n output
+    → capture_at output (outputs S changes n l) ≡ written (records_at output (departures (rows (opened S) (map (event_of changes) l.events))))
+texts-captures S changes n l rising output of_run =
+    ap (capture_at output) (texts_answered S changes n l rising)
+    ∙ capture_in output n changes (answered (opened S) changes l.events) l of_run
+    ∙ ap (capture_of (leaves_at output)) (sym (sendings-departures (opened S) changes l.events))
+    ∙ capture_is output (departures (rows (opened S) (map (event_of changes) l.events)))
+
+run_rises : (s : Told) (x : Inputs) (l : Timeline) (o : Outputs) → IsRunOf s x l o → IsRising 0 (coming x l)
+run_rises s x l o is = coming-rises (changes_of x) (map (λ c. c.at) x.changes) x.ports x.underlay l is.read
+
 pub captures-written : (s : Told) (x : Inputs) (l : Timeline) (o : Outputs) → IsRunOf s x l o → (output : Tap) → IsTapOf (length x.ports) output
     → capture_at output o ≡ written (records_at output (departures (rows_of s x l)))
 captures-written s x l o is output of_run =
-    ap (capture_at output) (outputs_answered s x l o is)
-    ∙ capture_in output (length x.ports) (changes_of x) (answered (opened (settings_told s)) (changes_of x) l.events) l of_run
-    ∙ ap (capture_of (leaves_at output)) (sym (sendings-departures (opened (settings_told s)) (changes_of x) l.events))
-    ∙ capture_is output (departures (rows_of s x l))
+    ap (capture_at output) (outputs_given s x l o is)
+    ∙ texts-captures (settings_told s) (changes_of x) (length x.ports) l (run_rises s x l o is) output of_run
 
 -- ---- what is told
 
@@ -111,11 +119,17 @@ lines-numbered s changes count (h ∷ hs) =
     ap (λ l. l ++ lines_of changes (count + 1) (answered (after s e) changes hs)) (line_is changes (count + 1) h.moment h.number h.happening (answer s e))
     ∙ ap (λ l. line_text (record { number = count + 1; own = h.number; line = line_of (record { event = e; reply = answer s e }) }) ++ l) (lines-numbered (after s e) changes (count + 1) hs)
 
+pub texts-decisions : (S : Settings) (changes : List Change) (n : ℕ) (l : Timeline) → IsRising 0 (map (event_of changes) l.events)
+    → (outputs S changes n l).decisions ≡ flat_map line_text (numbered 0 l.events (rows (opened S) (map (event_of changes) l.events))) ++ flat_map cut_line l.cuts
+texts-decisions S changes n l rising =
+    ap (λ (u : Outputs). u.decisions) (texts_answered S changes n l rising)
+    ∙ ap (λ t. t ++ flat_map cut_line l.cuts) (lines-numbered (opened S) changes 0 l.events)
+
 pub decisions-numbered : (s : Told) (x : Inputs) (l : Timeline) (o : Outputs) → IsRunOf s x l o
     → o.decisions ≡ flat_map line_text (numbered 0 l.events (rows_of s x l)) ++ flat_map cut_line l.cuts
 decisions-numbered s x l o is =
-    ap (λ (u : Outputs). u.decisions) (outputs_answered s x l o is)
-    ∙ ap (λ t. t ++ flat_map cut_line l.cuts) (lines-numbered (opened (settings_told s)) (changes_of x) 0 l.events)
+    ap (λ (u : Outputs). u.decisions) (outputs_given s x l o is)
+    ∙ texts-decisions (settings_told s) (changes_of x) (length x.ports) l (run_rises s x l o is)
 
 numbers_by : (s : State) (changes : List Change) (count : ℕ) (hs : List Happens)
     → map (λ (n : Numbered). n.line) (numbered count hs (rows s (map (event_of changes) hs))) ≡ lines (rows s (map (event_of changes) hs))

@@ -25,6 +25,7 @@ use Rattle.overlay_config.specs.Before as before
 use Rattle.overlay_config.specs.Migrate.{with_value}
 use Rattle.overlay_config.proofs.Rewrites.{get_here, get_other, is_equal, same_is, pass}
 use Rattle.overlay_config.proofs.Readings.{bind_then, ok_is, fits_ok, when_ok}
+use Rattle.overlay_config.proofs.Third.{segments_from, segments_third}
 use Rattle.overlay_config.proofs.SegmentKept.{gives, is_known, any_but, apart_back, required_from, known_with, only_known, known_only}
 
 -- ---- the names of keys
@@ -211,15 +212,6 @@ underlay_third limits below u e =
     gives (only below (underlay_keys Three)) _ known u (known_only below (underlay_keys Three) known (known_same keys_up (codes "partial") keys_on below.members none ∙ all))
     (rw partial e0))
 
-abbrev segments_from : Version → Limits → Own → ℕ → Option Data → Meaning (List SegmentRule)
-segments_from v limits own ports o =
-    required_from (codes "segment") limits.segments o >>= λ tables. each (segment_of v own limits.entries ports) (codes "segment") [] tables >>= λ segments.
-    refuse_if (nat_lt limits.addresses (sum_of_limits segments)) (OverLimit (codes "limit")) >>= λ total. Ok segments
-
-segments_third : (limits : Limits) (own : Own) (ports : ℕ) (o : Option Data) → segments_from Three limits own ports o ≡ segments_from Two limits own ports o
-unfolding segment_of rules_of
-segments_third limits own ports o = refl
-
 segments_same : (v : Version) (limits : Limits) (own : Own) (ports : ℕ) (ms : Members) → segments_of v limits own ports (top ms) ≡ segments_from v limits own ports (get_member (codes "segment") ms)
 unfolding segments_of
 segments_same v limits own ports ms = refl
@@ -258,4 +250,4 @@ third_means ms s two e =
     (gives (each (λ earlier at. port_of at) (codes "port") [] tables) _ ports s ports-is
     (gives (segments_of Three limits (own underlay) (length ports) new) _ segments s
     (segments_same Three limits (own underlay) (length ports) (version_3 ms) ∙ ap (segments_from Three limits (own underlay) (length ports)) (other (codes "segment") refl)
-    ∙ segments_third limits (own underlay) (length ports) (get_member (codes "segment") ms) ∙ sym (segments_same Two limits (own underlay) (length ports) ms) ∙ segments-two) e7)))))))))))))))
+    ∙ segments_third limits (own underlay) (length ports) (get_member (codes "segment") ms) segments (sym (segments_same Two limits (own underlay) (length ports) ms) ∙ segments-two)) e7)))))))))))))))

@@ -7,5 +7,6 @@ pub mod Meets
 mod Rising
 mod Rewrites
 mod SegmentKept
+mod Third
 mod Asked
 mod Keeps

@@ -28,7 +28,7 @@ use Rattle.config_text.proofs.Addresses.{kept_some, then_some, mac_length, ip4_i
 use Rattle.overlay_settings.specs.declared.segment.SegmentRule.{SegmentRule}
 use Rattle.overlay_config.specs.declared.common_rules.CommonRules.{CommonRules}
 use Rattle.overlay_config.specs.declared.local_rules.LocalRules.{LocalRules}
-use Rattle.overlay_config.specs.CommonRules.{common_of, peer_words, tag_words}
+use Rattle.overlay_config.specs.CommonRules.{common_of, peer_words, tags_of}
 use Rattle.overlay_config.specs.LocalRules.{local_of, members_of}
 use Rattle.overlay_config.specs.Port.{port_of, port_keys, accept_words}
 use Rattle.overlay_settings.specs.Settings.{Exceptions}
@@ -308,26 +308,26 @@ record AreLocal (entries ports : ℕ) (x : LocalRules) : Type 0 where
 abbrev AreCommon : ℕ → CommonRules → Type 0
 AreCommon entries x = IsWithin 1 entries x.limit × IsWithin 10 1000000 x.ageing
 
-common_meets : (entries : ℕ) (some : 1 ≤ entries) (at : Place) (x : CommonRules) → common_of (min 256 entries) (range 1 entries) (range 10 1000000) at ≡ Ok x → AreCommon entries x
+common_meets : (all : Bool) (entries : ℕ) (some : 1 ≤ entries) (at : Place) (x : CommonRules) → common_of all (min 256 entries) (range 1 entries) (range 10 1000000) at ≡ Ok x → AreCommon entries x
 unfolding common_of
-common_meets entries some at x e =
+common_meets all entries some at x e =
     bind_then (defaulted at (codes "limit") (range 1 entries) (min 256 entries)) _ x e (λ limit limit-is e0.
     bind_then (defaulted at (codes "ageing") (range 10 1000000) 300) _ x e0 (λ ageing ageing-is e1.
     bind_then (defaulted at (codes "learn") truth true) _ x e1 (λ learning learning-is e2.
     bind_then (defaulted at (codes "peers") (one_of peer_words) Any) _ x e2 (λ peers peers-is e3.
-    bind_then (defaulted at (codes "tags") (one_of tag_words) Drop) _ x e3 (λ tags tags-is e4.
+    bind_then (tags_of all at) _ x e3 (λ tags tags-is e4.
     subst (AreCommon entries) (ok_is _ x e4) (
       defaulted_range at (codes "limit") 1 entries (min 256 entries) limit (default_limit entries some) limit-is,
       defaulted_range at (codes "ageing") 10 1000000 300 ageing default_ageing ageing-is,
     ))))))
 
-local_meets : (entries ports : ℕ) (some : 1 ≤ entries) (at : Place) (x : LocalRules) → local_of entries ports at ≡ Ok x → AreLocal entries ports x
+local_meets : (third : Bool) (entries ports : ℕ) (some : 1 ≤ entries) (at : Place) (x : LocalRules) → local_of third entries ports at ≡ Ok x → AreLocal entries ports x
 unfolding local_of
-local_meets entries ports some at x e =
-    bind_then (common_of (min 256 entries) (range 1 entries) (range 10 1000000) at) _ x e (λ common common-is e0.
+local_meets third entries ports some at x e =
+    bind_then (common_of third (min 256 entries) (range 1 entries) (range 10 1000000) at) _ x e (λ common common-is e0.
     bind_then (members_of at (codes "untagged") ports []) _ x e0 (λ untagged untagged-is e1.
     bind_then (members_of at (codes "tagged") ports untagged) _ x e1 (λ tagged tagged-is e2.
-    let c = common_meets entries some at common common-is in
+    let c = common_meets third entries some at common common-is in
     subst (AreLocal entries ports) (ok_is _ x e2) (record {
       limit = c.0;
       ageing = c.1;
@@ -335,23 +335,23 @@ local_meets entries ports some at x e =
       tagged = members_meet at (codes "tagged") ports untagged tagged tagged-is;
     }))))
 
-tables_meet : (own : Own) (entries ports : ℕ) (some : 1 ≤ entries) (at : Place) (x : TunnelRules × LocalRules) → tables_of own entries ports at ≡ Ok x → AreTunnels own x.0 × AreLocal entries ports x.1
-tables_meet own entries ports some at x e =
+tables_meet : (third : Bool) (own : Own) (entries ports : ℕ) (some : 1 ≤ entries) (at : Place) (x : TunnelRules × LocalRules) → tables_of third own entries ports at ≡ Ok x → AreTunnels own x.0 × AreLocal entries ports x.1
+tables_meet third own entries ports some at x e =
     bind_then (tunnels_of own at) _ x e (λ tunnels tunnels-is e0.
-    bind_then (local_of entries ports at) _ x e0 (λ local local-is e1.
+    bind_then (local_of third entries ports at) _ x e0 (λ local local-is e1.
     subst (λ r. AreTunnels own r.0 × AreLocal entries ports r.1) (ok_is _ x e1)
-    (tunnels_meet own at tunnels tunnels-is, local_meets entries ports some at local local-is)))
+    (tunnels_meet own at tunnels tunnels-is, local_meets third entries ports some at local local-is)))
 
 rules_meet : (version : Version) (own : Own) (entries ports : ℕ) (some : 1 ≤ entries) (at : Place) (x : TunnelRules × LocalRules) → rules_of version own entries ports at ≡ Ok x → AreTunnels own x.0 × AreLocal entries ports x.1
 unfolding rules_of
 rules_meet One own entries ports some at x e =
     bind_then (tunnel_of at) _ x e (λ tunnel tunnel-is e0.
-    bind_then (local_of entries ports at) _ x e0 (λ local local-is e1.
+    bind_then (local_of false entries ports at) _ x e0 (λ local local-is e1.
     bind_then (flood_of own tunnel.kind at) _ x e1 (λ flood flood-is e2.
     subst (λ r. AreTunnels own r.0 × AreLocal entries ports r.1) (ok_is _ x e2)
-    (one_meets own at tunnel flood (tunnel_meets at tunnel tunnel-is) flood-is, local_meets entries ports some at local local-is))))
-rules_meet Two own entries ports some at x e = tables_meet own entries ports some at x e
-rules_meet Three own entries ports some at x e = tables_meet own entries ports some at x e
+    (one_meets own at tunnel flood (tunnel_meets at tunnel tunnel-is) flood-is, local_meets false entries ports some at local local-is))))
+rules_meet Two own entries ports some at x e = tables_meet false own entries ports some at x e
+rules_meet Three own entries ports some at x e = tables_meet true own entries ports some at x e
 
 segment_meets : (version : Version) (own : Own) (entries ports : ℕ) (some : 1 ≤ entries) (earlier : List SegmentRule) (at : Place) (s : SegmentRule) → segment_of version own entries ports earlier at ≡ Ok s
     → IsSegment own ports earlier s × HasEntries entries earlier s

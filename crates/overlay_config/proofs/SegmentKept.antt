@@ -262,7 +262,7 @@ default_kept : {A : Type 0} (p : List ℕ) (m : Members) (k : List ℕ) (column 
     → defaulted (place p (migrated_segment m)) k column default ≡ defaulted (place p m) k column default
 default_kept p m k column default same = ap (default_value (p ++ k) column default) same
 
-common_kept : (usual : ℕ) (limits ageings : Data → Option ℕ) (p : List ℕ) (m : Members) → common_of usual limits ageings (place p (migrated_segment m)) ≡ common_of usual limits ageings (place p m)
+common_kept : (usual : ℕ) (limits ageings : Data → Option ℕ) (p : List ℕ) (m : Members) → common_of false usual limits ageings (place p (migrated_segment m)) ≡ common_of false usual limits ageings (place p m)
 unfolding common_of
 common_kept usual limits ageings p m =
     let at : Place = place p (migrated_segment m) in
@@ -278,12 +278,12 @@ members_kept : (p : List ℕ) (m : Members) (k : List ℕ) (ports : ℕ) (other 
 unfolding members_of
 members_kept p m k ports other same = ap (λ o. items_value (p ++ k) o >>= λ ds. fits (p ++ k) (gathered (put_member ports other) [] ds)) same
 
-local_kept : (entries ports : ℕ) (p : List ℕ) (m : Members) → local_of entries ports (place p (migrated_segment m)) ≡ local_of entries ports (place p m)
+local_kept : (entries ports : ℕ) (p : List ℕ) (m : Members) → local_of false entries ports (place p (migrated_segment m)) ≡ local_of false entries ports (place p m)
 unfolding local_of
 local_kept entries ports p m =
     let at : Place = place p (migrated_segment m) in
     let old : Place = place p m in
-    same_bind (common_of (min 256 entries) (range 1 entries) (range 10 1000000) at) (common_of (min 256 entries) (range 1 entries) (range 10 1000000) old) _ _ (common_kept (min 256 entries) (range 1 entries) (range 10 1000000) p m) (λ c.
+    same_bind (common_of false (min 256 entries) (range 1 entries) (range 10 1000000) at) (common_of false (min 256 entries) (range 1 entries) (range 10 1000000) old) _ _ (common_kept (min 256 entries) (range 1 entries) (range 10 1000000) p m) (λ c.
     same_bind (members_of at (codes "untagged") ports []) (members_of old (codes "untagged") ports []) _ _ (members_kept p m (codes "untagged") ports [] (segment_key (codes "untagged") m refl refl refl)) (λ untagged.
     same_bind (members_of at (codes "tagged") ports untagged) (members_of old (codes "tagged") ports untagged) _ _ (members_kept p m (codes "tagged") ports untagged (segment_key (codes "tagged") m refl refl refl)) (λ tagged. refl)))
 
@@ -295,12 +295,12 @@ rules_kept own entries ports p m rules e =
     bind_then (tunnel_of old) _ rules e (λ tunnel tunnel-is e0.
     bind_then (required old (codes "vni") vni_number) _ tunnel tunnel-is (λ vni vni-is t0.
     bind_then (required old (codes "tunnel") (one_of tunnel_words)) _ tunnel t0 (λ kind kind-is t1.
-    bind_then (local_of entries ports old) _ rules e0 (λ local local-is e1.
+    bind_then (local_of false entries ports old) _ rules e0 (λ local local-is e1.
     bind_then (flood_of own tunnel.kind old) _ rules e1 (λ flood flood-is e2.
     let is : tunnel_as kind vni ≡ tunnel = ok_is (tunnel_as kind vni) tunnel t1 in
     let flood-of : flood_of own kind old ≡ Ok flood = subst (λ t. flood_of own t.kind old ≡ Ok flood) (sym is) flood-is in
     gives (tunnels_of own at) _ (tunnel_as kind vni ∷ [], flood) rules (tunnels_kept own p m kind vni flood vni-is kind-is flood-of)
-    (gives (local_of entries ports at) _ local rules (local_kept entries ports p m ∙ local-is)
+    (gives (local_of false entries ports at) _ local rules (local_kept entries ports p m ∙ local-is)
     (ap (λ t. Ok ((t ∷ [], flood), local)) is ∙ e2)))))))
 
 pub segment_kept : (own : Own) (entries ports : ℕ) (earlier : List SegmentRule) (p : List ℕ) (m : Members) (x : SegmentRule) → segment_of One own entries ports earlier (place p m) ≡ Ok x → segment_of Two own entries ports earlier (place p (migrated_segment m)) ≡ Ok x

@@ -1,5 +1,5 @@
 -- What a changes text means. It states no standard.
-use Rattle.std.specs.Prelude.{ℕ, ◌+◌, ◌-◌, nat_lt, List, [], ◌∷◌, length, slice_get, Option, Some, None, Ok, Err, codes}
+use Rattle.std.specs.Prelude.{ℕ, ◌+◌, ◌-◌, nat_lt, true, List, [], ◌∷◌, length, slice_get, Option, Some, None, Ok, Err, codes}
 use Rattle.std.specs.Option.{option_map_or}
 use Rattle.toml.specs.Data.{Data, Members}
 use Rattle.ip_udp_view.specs.declared.addr.Addr.{Addr}
@@ -132,7 +132,7 @@ unfoldable pub new_segment_of : Place → Meaning NewSegment
 new_segment_of at = do
   vid ← vid_at at
   tunnels ← new_tunnels_of at
-  common ← common_of 256 any_number any_number at
+  common ← common_of true 256 any_number any_number at
   Ok (record {
     vid = vid;
     tunnels = tunnels;

@@ -1,5 +1,5 @@
 -- The keys of `segment.k` that say nothing of its tunnels, `limit` to `tagged`. It states no standard.
-use Rattle.std.specs.Prelude.{ℕ, min, List, [], Ok, codes}
+use Rattle.std.specs.Prelude.{ℕ, Bool, min, List, [], Ok, codes}
 use Rattle.flood_lists.specs.Flood.{Entries}
 use Rattle.underlay.specs.declared.tunnels.SegmentTunnel.{SegmentTunnel}
 use Rattle.overlay_settings.specs.declared.segment.SegmentRule.{SegmentRule}
@@ -14,10 +14,10 @@ use Rattle.overlay_config.specs.Members.{put_member}
 unfoldable pub members_of : Place → List ℕ → ℕ → List ℕ → Meaning (List ℕ)
 members_of at key ports other = items at key >>= λ ds. fits (path at key) (gathered (put_member ports other) [] ds)
 
--- beside the most entries of a segment and the number of the endpoint's ports
-unfoldable pub local_of : ℕ → ℕ → Place → Meaning LocalRules
-local_of entries ports at = do
-  common ← common_of (min 256 entries) (range 1 entries) (range 10 1000000) at
+-- beside whether it is version 3, the most entries of a segment and the number of the endpoint's ports
+unfoldable pub local_of : Bool → ℕ → ℕ → Place → Meaning LocalRules
+local_of third entries ports at = do
+  common ← common_of third (min 256 entries) (range 1 entries) (range 10 1000000) at
   untagged ← members_of at (codes "untagged") ports []
   tagged ← members_of at (codes "tagged") ports untagged
   Ok (record {

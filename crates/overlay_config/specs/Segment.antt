@@ -1,5 +1,5 @@
 -- The keys of `segment.k`. It states no standard.
-use Rattle.std.specs.Prelude.{ℕ, List, [], ◌∷◌, ◌++◌, ◌+◌, length, Bool, ◌||◌, ◌==◌, Ok, codes}
+use Rattle.std.specs.Prelude.{ℕ, List, [], ◌∷◌, ◌++◌, ◌+◌, length, Bool, true, false, ◌||◌, ◌==◌, Ok, codes}
 use Rattle.std.specs.List.{list_any}
 use Rattle.flood_lists.specs.declared.own.Own.{Own}
 use Rattle.underlay.specs.declared.tunnels.SegmentTunnel.{SegmentTunnel}
@@ -35,22 +35,22 @@ segment_keys One = codes "vid" ∷ codes "vni" ∷ codes "tunnel" ∷ local_keys
 segment_keys Two = codes "vid" ∷ codes "tunnel" ∷ local_keys
 segment_keys Three = codes "vid" ∷ codes "tunnel" ∷ local_keys
 
--- the keys behind `vid` where each tunnel has a table of its own
-abbrev pub tables_of : Own → ℕ → ℕ → Place → Meaning (TunnelRules × LocalRules)
-tables_of own entries ports at = do
+-- the keys behind `vid` where each tunnel has a table of its own, in version 3 or 2
+abbrev pub tables_of : Bool → Own → ℕ → ℕ → Place → Meaning (TunnelRules × LocalRules)
+tables_of third own entries ports at = do
   tunnels ← tunnels_of own at
-  local ← local_of entries ports at
+  local ← local_of third entries ports at
   Ok (tunnels, local)
 
 -- the keys behind `vid`: the tunnels with the flood list, and the rules that say nothing of them
 unfoldable pub rules_of : Version → Own → ℕ → ℕ → Place → Meaning (TunnelRules × LocalRules)
 rules_of One own entries ports at = do
   tunnel ← tunnel_of at
-  local ← local_of entries ports at
+  local ← local_of false entries ports at
   flood ← flood_of own tunnel.kind at
   Ok ((tunnel ∷ [], flood), local)
-rules_of Two own entries ports at = tables_of own entries ports at
-rules_of Three own entries ports at = tables_of own entries ports at
+rules_of Two own entries ports at = tables_of false own entries ports at
+rules_of Three own entries ports at = tables_of true own entries ports at
 
 -- beside the endpoint's own addresses, the most entries of a segment, the number of the ports, and the segments before this one
 unfoldable pub segment_of : Version → Own → ℕ → ℕ → List SegmentRule → Place → Meaning SegmentRule

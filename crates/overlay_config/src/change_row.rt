@@ -113,7 +113,7 @@ fn read_new_segment(at: &Reader) -> Result<NewSegment, SettingsFault>
 {
     let vid = at.required("vid", &VidNumber)?;
     let tunnels = read_new_tunnels(at)?;
-    let common = read_common(at, USUAL_LIMIT, &ANY_NUMBER, &ANY_NUMBER)?;
+    let common = read_common(at, true, USUAL_LIMIT, &ANY_NUMBER, &ANY_NUMBER)?;
     Ok(NewSegment {
         vid,
         tunnels,

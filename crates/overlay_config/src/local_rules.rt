@@ -73,17 +73,23 @@ fn usual_limit(entries: u32) -> u32
     USUAL_LIMIT.min(entries)
 }
 
-/// The keys from `limit` to `tagged`, for segments of so many entries at most and so many ports, which are 16 at most.
+/// The keys from `limit` to `tagged`, of version 3 or of another one, for segments of so many entries at most and so many
+/// ports, which are 16 at most.
 #[tactic(auto, unfolding(crate::specs::LocalRules::local_of))]
-pub(crate) fn read_local(at: &Reader, entries: u32, ports: u8) -> Result<LocalRules, SettingsFault>
+pub(crate) fn read_local(
+    at: &Reader,
+    third: bool,
+    entries: u32,
+    ports: u8,
+) -> Result<LocalRules, SettingsFault>
     requires { ports ≤ 16 }
-    ensures { result ≡ local_of entries ports (place_of at.now) }
+    ensures { result ≡ local_of third entries ports (place_of at.now) }
 {
     let limits = U32Range {
         low: 1,
         high: entries,
     };
-    let common = read_common(at, usual_limit(entries), &limits, &AGEING)?;
+    let common = read_common(at, third, usual_limit(entries), &limits, &AGEING)?;
     let untagged = read_members(at, "untagged", ports, &[])?;
     let tagged = read_members(at, "tagged", ports, untagged.as_slice())?;
     Ok(LocalRules {

@@ -1,7 +1,7 @@
 //! The table of a segment.
 ghost use Rattle.std.specs.Prelude.{◌≡◌, ◌≤◌, length};
 ghost use Rattle.config_text.specs.Reader.{place_of};
-ghost use Rattle.overlay_config.specs.Segment.{is_alike, is_taken, rules_of, segment_of};
+ghost use Rattle.overlay_config.specs.Segment.{is_alike, is_taken, tables_of, rules_of, segment_of};
 
 use crate::local_rules::{LocalRules, read_local};
 use crate::tunnel::{TunnelRules, read_flood, read_tunnel, read_tunnels};
@@ -43,16 +43,30 @@ fn read_rules(
     match version {
         Version::One => {
             let tunnel = read_tunnel(at)?;
-            let local = read_local(at, entries, ports)?;
+            let local = read_local(at, false, entries, ports)?;
             let flood = read_flood(at, own, tunnel.kind)?;
             Ok((TunnelRules::one(tunnel, flood), local))
         }
-        Version::Two | Version::Three => {
-            let tunnels = read_tunnels(at, own)?;
-            let local = read_local(at, entries, ports)?;
-            Ok((tunnels, local))
-        }
+        Version::Two => read_tables(own, false, entries, ports, at),
+        Version::Three => read_tables(own, true, entries, ports, at),
     }
+}
+
+/// The keys behind `vid` where each tunnel has a table of its own, in version 3 or 2.
+fn read_tables(
+    own: Own,
+    third: bool,
+    entries: u32,
+    ports: u8,
+    at: &Reader,
+) -> Result<(TunnelRules, LocalRules), SettingsFault>
+    requires few { ports ≤ 16 }
+    requires short { length (place_of at.now).prefix ≤ 13 }
+    ensures { result ≡ tables_of third own entries ports (place_of at.now) }
+{
+    let tunnels = read_tunnels(at, own)?;
+    let local = read_local(at, third, entries, ports)?;
+    Ok((tunnels, local))
 }
 
 /// The table of a segment, beside the endpoint's own addresses, the most entries of a segment and the number of the ports.

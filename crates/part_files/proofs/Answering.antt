@@ -86,7 +86,7 @@ module _ (n : ℕ) (U : Underlay) (few : n ≤ 16) (own : IsUnderlay U) where
   apart B k = subst (λ (u : Underlay). u.vxlan_port ≢ u.geneve_port) (sym k.settings.underlay) own.two_ports
 
   by-fits : (t : ℕ) (B : Bridges) (i : Input) → Knows n U B → IsInput i → AnswerFits n (answer_by t B i)
-  by-fits t B (FrameAt port original b) k input = decided-fits t B (came_at B.settings.ports port original b) k (λ x is. came_at-come B.settings.ports port original b x is)
+  by-fits t B (FrameAt port original b) k input = decided-fits t B (came_at B.settings.ports B.settings.overlay port original b) k (λ x is. came_at-come B.settings.ports B.settings.overlay port original b x is)
   by-fits t B (Packet original b) k input = decided-fits t B (came_by B.settings.overlay original b) k (λ x is. came_by-come B.settings.overlay original b x (apart B k) input is)
   by-fits t B (Asks c) k input = tt
 
@@ -95,7 +95,7 @@ module _ (n : ℕ) (U : Underlay) (few : n ≤ 16) (own : IsUnderlay U) where
   answer-fits s e k input = by-fits e.at (aged e.at s.bridges) e.input (knows-aged n U e.at s.bridges k) input
 
   knows-input : (t : ℕ) (B : Bridges) (i : Input) → Knows n U B → IsInput i → Knows n U (bridges_after t B i)
-  knows-input t B (FrameAt port original b) k input = knows-came n U t B (came_at B.settings.ports port original b) (λ x is. (came_at-come B.settings.ports port original b x is).from) k
+  knows-input t B (FrameAt port original b) k input = knows-came n U t B (came_at B.settings.ports B.settings.overlay port original b) (λ x is. (came_at-come B.settings.ports B.settings.overlay port original b x is).from) k
   knows-input t B (Packet original b) k input = knows-came n U t B (came_by B.settings.overlay original b) (λ x is. (came_by-come B.settings.overlay original b x (apart B k) input is).from) k
   knows-input t B (Asks c) k input = knows-change n U t c B input k
 

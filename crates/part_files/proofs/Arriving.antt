@@ -26,8 +26,9 @@ use Rattle.decapsulate.specs.Arrival.{Arrives, IsTunnelled}
 use Rattle.decapsulate.specs.declared.arrived.Arrived.{Arrived}
 use Rattle.decapsulate.proofs.ArrivesLemmas.{brings_what_arrives}
 use Rattle.endpoint_core.specs.Came.{Came}
-use Rattle.endpoint_core.specs.Arrival.{came_at, came_by, capture_reasons, entered, tunnelled}
+use Rattle.endpoint_core.specs.Arrival.{came_at, came_by, capture_reasons, entered, let_in, tunnelled}
 use Rattle.endpoint_core.proofs.ComingLemmas.{entered-short}
+use Rattle.endpoint_core.proofs.LetIn.{let_in-ok}
 use Rattle.mesh_delivery.proofs.Entering.{came_at-entered}
 use Rattle.part_files.proofs.Coming.{text-behind, text-front}
 use Rattle.part_files.proofs.Remotes.{IsFar}
@@ -124,11 +125,11 @@ entered-body port b (Ok found) x each h =
     let same : entered-frame port found ≡ x = cc in
     subst (λ (y : Came). length y.frame.body ≤ length b) same (each found.0 found.1 refl)
 
-pub came_at-come : (ports : Ports) (port original : ℕ) (b : List ℕ) (x : Came) → came_at ports port original b ≡ Ok x → IsCome x
+pub came_at-come : (ports : Ports) (overlay : Overlay) (port original : ℕ) (b : List ℕ) (x : Came) → came_at ports overlay port original b ≡ Ok x → IsCome x
 unfolding came_at
-came_at-come ports port original b x h =
-    let parts = unless-ok (first (capture_reasons original b)) (entered port (enters ports port b)) x h in
+came_at-come ports overlay port original b x h =
+    let parts = unless-ok (first (capture_reasons original b)) (let_in overlay (entered port (enters ports port b))) x h in
     let short = ltb-false 65535 (length b) (NothingHolds-from (capture_reasons original b) parts.0).0 in
-    let own = came_at-entered ports port original b x h in
-    let body = entered-body port b (enters ports port b) x (λ vid f is. entered-short ports port b vid f is) parts.1 in
+    let own = came_at-entered ports overlay port original b x h in
+    let body = entered-body port b (enters ports port b) x (λ vid f is. entered-short ports port b vid f is) (let_in-ok overlay (entered port (enters ports port b)) x parts.1).0 in
     record { from = subst IsFar (sym own.from) tt; dst = own.whole.dst; src = own.whole.src; body = omega (arith, body, short) }

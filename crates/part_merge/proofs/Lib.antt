@@ -11,3 +11,4 @@ mod WholeTexts
 pub mod Blaming
 mod Handing
 mod Numbering
+mod Waits

@@ -10,3 +10,4 @@ pub mod Firsts
 pub mod Whole
 pub mod Numbered
 pub mod Blame
+pub mod Waiting

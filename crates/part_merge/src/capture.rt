@@ -1,10 +1,11 @@
 //! A capture of a part.
-ghost use Rattle.std.specs.Prelude.{◌≡◌, ◌++◌, ℕ, List, [], Some};
+ghost use Rattle.std.specs.Prelude.{◌≡◌, ◌++◌, ℕ, List, [], Some, false};
 ghost use Rattle.pcap_io.specs.Written.{written_header};
-ghost use Rattle.pcap_stream.specs.Source.{New};
+ghost use Rattle.pcap_stream.specs.Source.{New, holds_next};
 ghost use Rattle.part_merge.specs.Blame.{CopyReads, CopyWrites, OpenReads};
 ghost use Rattle.part_merge.specs.Copied.{Copies, EndsWith, Opens, TellsEnd, TellsStop};
 ghost use Rattle.part_merge.specs.Left.{IsLeft, IsWritten};
+ghost use Rattle.part_merge.specs.Waiting.{AtRead};
 
 use crate::fault::RecordsFault;
 use pcap_stream::{Input, Output, Sink, Source, SourceFault};
@@ -53,13 +54,21 @@ impl<R: Input> Capture<R> {
         }
     }
 
-    /// Copies the next record into a sink, as a run writes it.
+    /// Whether the next record was read ahead whole: then to copy it takes no read.
+    pub(crate) fn holds_next(&self) -> bool
+        ensures { result ≡ holds_next self.now }
+    {
+        self.source.holds_next()
+    }
+
+    /// Copies the next record into a sink, as a run writes it. Where a read failed it took one, and the sink is as before.
     pub(crate) fn copy<W: Output>(&mut self, sink: &mut Sink<W>) -> Result<(), Stop>
         ensures copied { (text rest : List ℕ) → IsWritten text → IsLeft (text ++ rest) self.old
             → Copies text rest self.new sink.old sink.new result }
         ensures told { TellsStop self.new result }
         ensures reads { CopyReads self.old self.new result }
         ensures writes { CopyWrites sink.old sink.new result }
+        ensures waits { AtRead result ((holds_next self.old ≡ false) × (sink.new ≡ sink.old)) }
     {
         if let Err(fault) = self.source.fill() {
             return Err(stop_by(fault));

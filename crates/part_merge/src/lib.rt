@@ -5,14 +5,14 @@
 //! numbers, and of each capture the records in the order that the lines tell. A [`Part`] lends the lines of a part one by one
 //! and holds its [`Capture`]s; a record is copied as it stands there, and nothing is decided again.
 //!
-//! Specs to read, in order: `specs/Merged`, `specs/Whole`, `specs/Numbers`, `specs/Coming`, `specs/Left`, `specs/Blame`; the
-//! others serve the contracts of its parts.
+//! Specs to read, in order: `specs/Merged`, `specs/Whole`, `specs/Numbers`, `specs/Coming`, `specs/Left`, `specs/Blame`,
+//! `specs/Waiting`; the others serve the contracts of its parts.
 //!
 //! Proved: where parts hold the lines and records of pieces of a run whose numbers rise, each number in one of them, and lines
 //! of cut captures behind, then, unless a read or a write fails, the outputs get just the texts of all these pieces in order of
 //! their numbers, and those lines, where the numbers are 1, 2 and so on; where one is missing, just the first that is is told.
-//! A device is blamed only where it failed. That any other fault of a part comes only where the part is wrong in this way isn't
-//! proved.
+//! A device is blamed only where it failed. Where reads of parts may wait, no output holds anything back where one fails, and so
+//! while one waits. That any other fault of a part comes only where the part is wrong in this way isn't proved.
 //!
 //! Why it is so: a whole run numbers its events from 1 on, so a merge tells the first number that no part has. Where the last
 //! events are missing no number tells so; the count in `shard.txt` does. Each capture of each part has room for one record,

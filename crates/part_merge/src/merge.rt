@@ -1,5 +1,5 @@
 //! A merge of parts.
-ghost use Rattle.std.specs.Prelude.{◌≡◌, ◌≤◌, ◌<◌, ℕ, List, OnErr, OnOk, length, slice_index_or};
+ghost use Rattle.std.specs.Prelude.{◌≡◌, ◌≤◌, ◌<◌, ℕ, List, OnErr, OnOk, length, slice_index_or, true};
 ghost use Rattle.std.specs.Io.KnownBytes.{Appends};
 ghost use Rattle.std.specs.List.{concat};
 ghost use Rattle.pcap_stream.specs.Sink.{Drain};
@@ -11,11 +11,12 @@ ghost use Rattle.part_merge.specs.Left.{AreAdded, UnlessDevice};
 ghost use Rattle.part_merge.specs.Merged.{IsRising, Piece, merged, side_by_side, texts_of_pieces};
 ghost use Rattle.part_merge.specs.Numbered.{AddsCuts, AddsEvents, AddsLine, AddsNumbered, AreRead, HaveNoEvent};
 ghost use Rattle.part_merge.specs.Numbers.{UnlessMissing};
+ghost use Rattle.part_merge.specs.Waiting.{AreOutAtRead, CapturesOut, IsOutAtRead};
 ghost use Rattle.part_merge.specs.Whole.{Adds, AllHold, AllRise, AreParts, HaveAll, OnlyCuts, PutsAll, PutsAt, behind};
 
 use crate::fault::{MergeFault, PartFault, Target};
 use crate::first::find_first;
-use crate::hand_on::{LONGEST_LINE, hand_on_all};
+use crate::hand_on::{LONGEST_LINE, hand_on_all, hand_on_captures_before};
 use crate::part::Part;
 use pcap_stream::{Input, Output, Sink};
 use timeline::Tap;
@@ -30,6 +31,9 @@ use timeline::Tap;
 /// Whatever the parts hold: where it answers `Ok`, no line of theirs is left, and the lines that were written are those of
 /// events numbered 1, 2 and so on, each number once, and behind them those of cut captures.
 ///
+/// `may_wait`: whether a read of a part may wait, as those of regular files don't. Then all that was written is out before each
+/// read that does: so nothing is held back where one fails.
+///
 /// Of parts that hold something else it notices what [`PartFault`] names: of a line its end, its number, its fields, its places
 /// and its length; numbers that fall or stand twice; lines of cut captures in front of an event's, or more than 256; another
 /// number of captures than the outputs; and of a capture what can't be read, fewer or more records than the lines tell, and one
@@ -41,6 +45,7 @@ pub fn merge_streams<R: Input, W: Output>(
     port_sinks: &mut [Sink<W>],
     underlay_sink: &mut Sink<W>,
     decisions: &mut W,
+    may_wait: bool,
 ) -> Result<(), MergeFault>
     requires few { length port_sinks.old ≤ 255 }
     ensures merged { (pieces : List (List Piece)) (cuts : List (List Cut)) → AreParts (length port_sinks.old) pieces cuts parts.old
@@ -52,6 +57,7 @@ pub fn merge_streams<R: Input, W: Output>(
     ensures reads { ReadsWith parts.old parts.new result }
     ensures writes { WritesWith port_sinks.old underlay_sink.old (W.failures decisions.old) port_sinks.new underlay_sink.new
         (W.failures decisions.new) result }
+    ensures waits { IsOutAtRead may_wait port_sinks.new underlay_sink.new (W.held decisions.new) result }
 {
     if let Err(fault) = see_counts(parts, port_sinks.len()) {
         return Err(fault);
@@ -59,10 +65,10 @@ pub fn merge_streams<R: Input, W: Output>(
     if let Err(fault) = begin_all(port_sinks, underlay_sink) {
         return Err(fault);
     }
-    if let Err(fault) = put_events(parts, port_sinks, underlay_sink, decisions) {
+    if let Err(fault) = put_all_events(parts, port_sinks, underlay_sink, decisions, may_wait) {
         return Err(fault);
     }
-    finish_all(parts, port_sinks.len(), decisions)
+    finish_all(parts, port_sinks.len(), decisions, may_wait)
 }
 
 /// Sees that each part has as many captures as the outputs.
@@ -110,6 +116,7 @@ fn put_at<R: Input, W: Output>(
     port_sinks: &mut [Sink<W>],
     underlay_sink: &mut Sink<W>,
     decisions: &mut W,
+    may_wait: bool,
 ) -> Result<(), MergeFault>
     requires there { index < length parts.old }
     requires count { (s : OpenPart) → length port_sinks.old ≡ length (slice_index_or parts.old index s).ports }
@@ -120,8 +127,9 @@ fn put_at<R: Input, W: Output>(
     ensures reads { ReadsWith parts.old parts.new result }
     ensures writes { WritesWith port_sinks.old underlay_sink.old (W.failures decisions.old) port_sinks.new underlay_sink.new
         (W.failures decisions.new) result }
+    ensures waits { IsOutAtRead may_wait port_sinks.new underlay_sink.new (W.held decisions.new) result }
 {
-    parts[index].put_event(index, port_sinks, underlay_sink, decisions)
+    parts[index].put_event(index, port_sinks, underlay_sink, decisions, may_wait)
 }
 
 /// Puts the event that comes next in a part to the outputs. Where the next line might find no room beside those that are held
@@ -132,6 +140,7 @@ fn put_and_hand_on<R: Input, W: Output>(
     port_sinks: &mut [Sink<W>],
     underlay_sink: &mut Sink<W>,
     decisions: &mut W,
+    may_wait: bool,
 ) -> Result<(), MergeFault>
     requires there { index < length parts.old }
     requires count { (s : OpenPart) → length port_sinks.old ≡ length (slice_index_or parts.old index s).ports }
@@ -142,8 +151,9 @@ fn put_and_hand_on<R: Input, W: Output>(
     ensures reads { ReadsWith parts.old parts.new result }
     ensures writes { WritesWith port_sinks.old underlay_sink.old (W.failures decisions.old) port_sinks.new underlay_sink.new
         (W.failures decisions.new) result }
+    ensures waits { IsOutAtRead may_wait port_sinks.new underlay_sink.new (W.held decisions.new) result }
 {
-    if let Err(fault) = put_at(parts, index, port_sinks, underlay_sink, decisions) {
+    if let Err(fault) = put_at(parts, index, port_sinks, underlay_sink, decisions, may_wait) {
         return Err(fault);
     }
     if decisions.must_hand_on(LONGEST_LINE) {
@@ -158,6 +168,7 @@ fn put_events<R: Input, W: Output>(
     port_sinks: &mut [Sink<W>],
     underlay_sink: &mut Sink<W>,
     decisions: &mut W,
+    may_wait: bool,
 ) -> Result<(), MergeFault>
     requires { HaveAll (length port_sinks.old) parts.old }
     ensures counts { HaveAll (length port_sinks.old) parts.new }
@@ -171,6 +182,7 @@ fn put_events<R: Input, W: Output>(
     ensures reads { ReadsWith parts.old parts.new result }
     ensures writes { WritesWith port_sinks.old underlay_sink.old (W.failures decisions.old) port_sinks.new underlay_sink.new
         (W.failures decisions.new) result }
+    ensures waits { IsOutAtRead may_wait port_sinks.new underlay_sink.new (W.held decisions.new) result }
 {
     let mut last = 0;
     while let Some(first) = find_first(parts) {
@@ -187,12 +199,43 @@ fn put_events<R: Input, W: Output>(
             port_sinks,
             underlay_sink,
             decisions,
+            may_wait,
         ) {
             return Err(fault);
         }
         last = first.number;
     }
     Ok(())
+}
+
+/// Puts the events of all parts to the outputs as [`put_events`] does. Where reads may wait, the captures hold nothing back behind
+/// the last of them.
+fn put_all_events<R: Input, W: Output>(
+    parts: &mut [Part<R>],
+    port_sinks: &mut [Sink<W>],
+    underlay_sink: &mut Sink<W>,
+    decisions: &mut W,
+    may_wait: bool,
+) -> Result<(), MergeFault>
+    requires { HaveAll (length port_sinks.old) parts.old }
+    ensures counts { HaveAll (length port_sinks.old) parts.new }
+    ensures events { (pieces : List (List Piece)) (cuts : List (List (List ℕ)))
+        → AllHold (length port_sinks.old) pieces cuts parts.old → AllRise pieces → IsRising 0 (merged pieces)
+        → UnlessMissing result (merged pieces)
+        (PutsAll (length port_sinks.old) (merged pieces) cuts parts.new port_sinks.old underlay_sink.old
+        (W.written decisions.old) port_sinks.new underlay_sink.new (W.written decisions.new)) }
+    ensures numbered { OnOk result ((count : ℕ) × AddsEvents count (W.written decisions.old) (W.written decisions.new)) }
+    ensures over { OnOk result (HaveNoEvent parts.new) }
+    ensures reads { ReadsWith parts.old parts.new result }
+    ensures writes { WritesWith port_sinks.old underlay_sink.old (W.failures decisions.old) port_sinks.new underlay_sink.new
+        (W.failures decisions.new) result }
+    ensures waits { IsOutAtRead may_wait port_sinks.new underlay_sink.new (W.held decisions.new) result }
+    ensures out { OnOk result (may_wait ≡ true → CapturesOut port_sinks.new underlay_sink.new) }
+{
+    if let Err(fault) = put_events(parts, port_sinks, underlay_sink, decisions, may_wait) {
+        return Err(fault);
+    }
+    hand_on_captures_before(may_wait, port_sinks, underlay_sink)
 }
 
 /// What is wrong with a part whose event of this number comes behind one that is no smaller.
@@ -213,6 +256,7 @@ fn finish_all<R: Input, W: Output>(
     parts: &mut [Part<R>],
     count: usize,
     decisions: &mut W,
+    may_wait: bool,
 ) -> Result<(), MergeFault>
     requires few { count ≤ 255 }
     requires counts { HaveAll count parts.old }
@@ -223,9 +267,10 @@ fn finish_all<R: Input, W: Output>(
     ensures reads { ReadsWith parts.old parts.new result }
     ensures writes { (sinks : List Drain) (underlay_sink : Drain)
         → WritesWith sinks underlay_sink (W.failures decisions.old) sinks underlay_sink (W.failures decisions.new) result }
+    ensures waits { AreOutAtRead may_wait (W.held decisions.new) result }
 {
     for index in 0..parts.len() {
-        if let Err(fault) = parts[index].finish(index, decisions) {
+        if let Err(fault) = parts[index].finish(index, decisions, may_wait) {
             return Err(fault);
         }
     }

@@ -1,12 +1,14 @@
 //! A part of a run: its decision lines and its captures.
-ghost use Rattle.std.specs.Prelude.{◌≡◌, ◌≤◌, ◌++◌, ℕ, List, [], ◌∷◌, IfOk, IfSome, Ok, OnOk, length, true};
-ghost use Rattle.std.specs.Io.KnownBytes.{Appends};
+ghost use Rattle.std.specs.Prelude.{◌≡◌, ◌≤◌, ◌++◌, ⊤, ℕ, List, [], ◌∷◌, IfOk, IfSome, Ok, OnOk, length, false, true};
+ghost use Rattle.std.specs.Io.KnownBytes.{Appends, Keeps};
 ghost use Rattle.std.specs.List.{concat};
+ghost use Rattle.line_stream.specs.Lines.{holds_line};
 ghost use Rattle.pcap_stream.specs.Sink.{Drain};
 ghost use Rattle.part_lines.specs.Facts.{facts_of};
 ghost use Rattle.part_lines.specs.declared.facts.LineFacts.TheVariants.{Event};
 ghost use Rattle.timeline.specs.declared.source.Tap.{Tap as ATap};
-ghost use Rattle.part_merge.specs.Blame.{BlamesNoRead, BlamesNoWrite, CapturesRead, LinesRead, PartOpens, PartReads, WritesWith};
+ghost use Rattle.part_merge.specs.Blame.{BlamesNoRead, BlamesNoWrite, CapturesRead, LinesRead, MatchRead, PartOpens, PartReads};
+ghost use Rattle.part_merge.specs.Blame.{WritesWith};
 ghost use Rattle.part_merge.specs.Coming.{ComesNext, Holds, HoldsAll, StandBehind, UnlessPart, coming_in, is_cut, is_over, stopped_by};
 ghost use Rattle.part_merge.specs.Left.{AreAdded, AreLeft, UnlessDevice};
 ghost use Rattle.part_merge.specs.Merged.{Piece, records_at};
@@ -14,10 +16,12 @@ ghost use Rattle.part_merge.specs.Moved.{AreRecords, Moves, taps};
 ghost use Rattle.part_merge.specs.Firsts.{IsNone};
 ghost use Rattle.part_merge.specs.Numbered.{AddsCuts, AddsLine, IsOf};
 ghost use Rattle.part_merge.specs.Told.{IsPlaced, coming_told};
+ghost use Rattle.part_merge.specs.Waiting.{AreOutAtRead, IsOutAtRead};
 ghost use Rattle.part_merge.specs.declared.part.Coming.TheVariants.{Nothing};
 
 use crate::capture::Capture;
 use crate::fault::{MergeFault, PartFault, Target};
+use crate::hand_on::{hand_on_captures_before, hand_on_lines_before};
 use crate::records::{copy_all, end_captures};
 use line_stream::{Lines, LinesFault};
 use part_lines::{LineFacts, LineParts, Places, find_parts, read_line};
@@ -143,6 +147,8 @@ fn copy_event<R: Input, W: Output>(
     underlay: &mut Capture<R>,
     port_sinks: &mut [Sink<W>],
     underlay_sink: &mut Sink<W>,
+    decisions: &mut W,
+    may_wait: bool,
 ) -> Result<(), MergeFault>
     requires placed { IfSome begins (IsPlaced line.now) }
     requires count { length port_sinks.old ≡ length ports.old }
@@ -151,18 +157,36 @@ fn copy_event<R: Input, W: Output>(
         → AreLeft (λ t. records_at t records ++ rest t) ports.old underlay.old
         → Moves rest (λ t. records_at t records) ports.new underlay.new port_sinks.old underlay_sink.old port_sinks.new
         underlay_sink.new result }
+    ensures kept { OnOk result (Keeps (W.written decisions.old) (W.written decisions.new)) }
     ensures reads { CapturesRead part ports.old underlay.old ports.new underlay.new result }
-    ensures writes { (failures : ℕ) → WritesWith port_sinks.old underlay_sink.old failures port_sinks.new underlay_sink.new
-        failures result }
+    ensures writes { WritesWith port_sinks.old underlay_sink.old (W.failures decisions.old) port_sinks.new underlay_sink.new
+        (W.failures decisions.new) result }
+    ensures waits { IsOutAtRead may_wait port_sinks.new underlay_sink.new (W.held decisions.new) result }
 {
     if let Some(at) = begins {
         let places = Places::behind(line, at);
-        return copy_all(part, places, ports, underlay, port_sinks, underlay_sink);
+        return copy_all(
+            part,
+            places,
+            ports,
+            underlay,
+            port_sinks,
+            underlay_sink,
+            decisions,
+            may_wait,
+        );
     }
     match read_line(line) {
-        Ok(LineFacts::Event(_, places)) => {
-            copy_all(part, places, ports, underlay, port_sinks, underlay_sink)
-        }
+        Ok(LineFacts::Event(_, places)) => copy_all(
+            part,
+            places,
+            ports,
+            underlay,
+            port_sinks,
+            underlay_sink,
+            decisions,
+            may_wait,
+        ),
         Ok(LineFacts::Cut) => Ok(()),
         Err(fault) => Err(MergeFault::Part(part, PartFault::Line(fault))),
     }
@@ -232,6 +256,17 @@ impl<R: Input> Part<R> {
         self.lines.line()
     }
 
+    /// Whether to go on to the next line takes a read that may wait.
+    fn may_wait_for_line(&self, may_wait: bool) -> bool
+        ensures unless { result ≡ false → may_wait ≡ true → holds_line self.now.reader ≡ true }
+        ensures only { result ≡ true → (may_wait ≡ true) × (holds_line self.now.reader ≡ false) }
+    {
+        if !may_wait {
+            return false;
+        }
+        !self.lines.holds_next()
+    }
+
     /// Goes on to the next line. Where it can't be read, none comes.
     fn next(&mut self, part: usize) -> Result<(), MergeFault>
         ensures ports { self.new.ports ≡ self.old.ports }
@@ -240,6 +275,7 @@ impl<R: Input> Part<R> {
             → UnlessDevice result (ComesNext pieces cuts self.new) }
         ensures behind_cut { OnOk result (is_cut self.old.coming ≡ true → IsNone self.new.coming) }
         ensures reads { LinesRead part self.old.reader self.new.reader result }
+        ensures lacked { MatchRead result (λ _. holds_line self.old.reader ≡ false) ⊤ }
         ensures no_write { BlamesNoWrite result }
     {
         let was_cut = is_cut(self.coming);
@@ -264,6 +300,8 @@ impl<R: Input> Part<R> {
         part: usize,
         port_sinks: &mut [Sink<W>],
         underlay_sink: &mut Sink<W>,
+        decisions: &mut W,
+        may_wait: bool,
     ) -> Result<(), MergeFault>
         requires { length port_sinks.old ≡ length self.old.ports }
         ensures reader { self.new.reader ≡ self.old.reader }
@@ -274,9 +312,11 @@ impl<R: Input> Part<R> {
             → AreLeft (λ t. records_at t records ++ rest t) self.old.ports self.old.underlay
             → Moves rest (λ t. records_at t records) self.new.ports self.new.underlay port_sinks.old underlay_sink.old
             port_sinks.new underlay_sink.new result }
+        ensures kept { OnOk result (Keeps (W.written decisions.old) (W.written decisions.new)) }
         ensures reads { PartReads part self.old self.new result }
-        ensures writes { (failures : ℕ) → WritesWith port_sinks.old underlay_sink.old failures port_sinks.new underlay_sink.new
-            failures result }
+        ensures writes { WritesWith port_sinks.old underlay_sink.old (W.failures decisions.old) port_sinks.new underlay_sink.new
+            (W.failures decisions.new) result }
+        ensures waits { IsOutAtRead may_wait port_sinks.new underlay_sink.new (W.held decisions.new) result }
     {
         copy_event(
             part,
@@ -286,16 +326,20 @@ impl<R: Input> Part<R> {
             &mut self.underlay,
             port_sinks,
             underlay_sink,
+            decisions,
+            may_wait,
         )
     }
 
-    /// Puts the records and the line of the event that comes next to the outputs, and goes on to the next line.
+    /// Puts the records and the line of the event that comes next to the outputs, and goes on to the next line. Before each read
+    /// that may wait all that the outputs hold back is handed on.
     pub(crate) fn put_event<W: Output>(
         &mut self,
         part: usize,
         port_sinks: &mut [Sink<W>],
         underlay_sink: &mut Sink<W>,
         decisions: &mut W,
+        may_wait: bool,
     ) -> Result<(), MergeFault>
         requires { length port_sinks.old ≡ length self.old.ports }
         ensures ports { length self.new.ports ≡ length self.old.ports }
@@ -307,15 +351,32 @@ impl<R: Input> Part<R> {
         ensures reads { PartReads part self.old self.new result }
         ensures writes { WritesWith port_sinks.old underlay_sink.old (W.failures decisions.old) port_sinks.new underlay_sink.new
             (W.failures decisions.new) result }
+        ensures waits { IsOutAtRead may_wait port_sinks.new underlay_sink.new (W.held decisions.new) result }
     {
-        if let Err(fault) = self.copy_records(part, port_sinks, underlay_sink) {
+        if let Err(fault) = self.copy_records(
+            part,
+            port_sinks,
+            underlay_sink,
+            decisions,
+            may_wait,
+        ) {
             return Err(fault);
         }
-        self.put_next_line(part, decisions)
+        let waits = self.may_wait_for_line(may_wait);
+        if let Err(fault) = hand_on_captures_before(waits, port_sinks, underlay_sink) {
+            return Err(fault);
+        }
+        self.put_next_line(part, decisions, may_wait)
     }
 
-    /// Puts the next line to the decisions, and goes on to the one behind it.
-    fn put_next_line<W: Output>(&mut self, part: usize, decisions: &mut W) -> Result<(), MergeFault>
+    /// Puts the next line to the decisions, and goes on to the one behind it. Where that takes a read which may wait, the lines
+    /// that are held back are handed on before.
+    fn put_next_line<W: Output>(
+        &mut self,
+        part: usize,
+        decisions: &mut W,
+        may_wait: bool,
+    ) -> Result<(), MergeFault>
         ensures ports { self.new.ports ≡ self.old.ports }
         ensures underlay { self.new.underlay ≡ self.old.underlay }
         ensures line { (count : ℕ) (pieces : List Piece) (cuts : List (List ℕ)) → StandBehind count pieces cuts self.old
@@ -326,15 +387,26 @@ impl<R: Input> Part<R> {
         ensures reads { PartReads part self.old self.new result }
         ensures writes { (sinks : List Drain) (underlay_sink : Drain)
             → WritesWith sinks underlay_sink (W.failures decisions.old) sinks underlay_sink (W.failures decisions.new) result }
+        ensures lacked { MatchRead result (λ _. holds_line self.old.reader ≡ false) ⊤ }
+        ensures waits { AreOutAtRead may_wait (W.held decisions.new) result }
     {
         if let Err(fault) = put_line(decisions, self.line()) {
+            return Err(fault);
+        }
+        let waits = self.may_wait_for_line(may_wait);
+        if let Err(fault) = hand_on_lines_before(waits, decisions) {
             return Err(fault);
         }
         self.next(part)
     }
 
-    /// Puts the lines of the cut captures that come next to the decisions.
-    fn put_cuts<W: Output>(&mut self, part: usize, decisions: &mut W) -> Result<(), MergeFault>
+    /// Puts the lines of the cut captures that come next to the decisions. Before each read that may wait they are handed on.
+    fn put_cuts<W: Output>(
+        &mut self,
+        part: usize,
+        decisions: &mut W,
+        may_wait: bool,
+    ) -> Result<(), MergeFault>
         ensures ports { length self.new.ports ≡ length self.old.ports }
         ensures cuts { (count : ℕ) (cuts : List (List ℕ)) → Holds count [] cuts self.old
             → UnlessDevice result (Holds count [] [] self.new
@@ -344,23 +416,26 @@ impl<R: Input> Part<R> {
         ensures reads { PartReads part self.old self.new result }
         ensures writes { (sinks : List Drain) (underlay_sink : Drain)
             → WritesWith sinks underlay_sink (W.failures decisions.old) sinks underlay_sink (W.failures decisions.new) result }
+        ensures waits { AreOutAtRead may_wait (W.held decisions.new) result }
     {
         for _count in 0..MOST_CUTS + 1 {
             if is_over(self.coming()) {
                 return Ok(());
             }
-            if let Err(fault) = self.put_next_line(part, decisions) {
+            if let Err(fault) = self.put_next_line(part, decisions, may_wait) {
                 return Err(fault);
             }
         }
         Err(MergeFault::Part(part, PartFault::Cuts))
     }
 
-    /// Puts the lines of its cut captures to the decisions, and sees that nothing is left in its captures.
+    /// Puts the lines of its cut captures to the decisions, and sees that nothing is left in its captures. Before each read that
+    /// may wait the lines are handed on.
     pub(crate) fn finish<W: Output>(
         &mut self,
         part: usize,
         decisions: &mut W,
+        may_wait: bool,
     ) -> Result<(), MergeFault>
         requires { length self.old.ports ≤ 255 }
         ensures cuts { (count : ℕ) (cuts : List (List ℕ)) → Holds count [] cuts self.old
@@ -370,8 +445,12 @@ impl<R: Input> Part<R> {
         ensures reads { PartReads part self.old self.new result }
         ensures writes { (sinks : List Drain) (underlay_sink : Drain)
             → WritesWith sinks underlay_sink (W.failures decisions.old) sinks underlay_sink (W.failures decisions.new) result }
+        ensures waits { AreOutAtRead may_wait (W.held decisions.new) result }
     {
-        if let Err(fault) = self.put_cuts(part, decisions) {
+        if let Err(fault) = self.put_cuts(part, decisions, may_wait) {
+            return Err(fault);
+        }
+        if let Err(fault) = hand_on_lines_before(may_wait, decisions) {
             return Err(fault);
         }
         self.end(part)

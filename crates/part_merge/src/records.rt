@@ -1,16 +1,19 @@
 //! The records of one event.
-ghost use Rattle.std.specs.Prelude.{◌≡◌, ◌≤◌, ◌++◌, ℕ, List, [], length};
+ghost use Rattle.std.specs.Prelude.{◌≡◌, ◌≤◌, ◌++◌, ⊤, ℕ, List, [], OnOk, false, length, true};
+ghost use Rattle.std.specs.Io.KnownBytes.{Keeps};
 ghost use Rattle.pcap_stream.specs.Sink.{Drain};
-ghost use Rattle.pcap_stream.specs.Source.{Stream};
+ghost use Rattle.pcap_stream.specs.Source.{Stream, holds_next};
 ghost use Rattle.timeline.specs.declared.source.Tap.{Tap as ATap};
 ghost use Rattle.timeline.specs.declared.source.Tap.TheVariants.{Port};
-ghost use Rattle.part_merge.specs.Blame.{BlamesNoWrite, CapturesRead, SinkWrites, SourceReads, WritesWith};
+ghost use Rattle.part_merge.specs.Blame.{BlamesNoWrite, CapturesRead, MatchRead, SinkWrites, SourceReads, WritesWith};
 ghost use Rattle.part_merge.specs.Left.{AreAdded, AreLeft, IsAdded, IsLeft, IsTap, IsWritten, UnlessDevice};
 ghost use Rattle.part_merge.specs.Moved.{AreRecords, Moves, taps};
 ghost use Rattle.part_merge.specs.Merged.{at_tap, records_at};
+ghost use Rattle.part_merge.specs.Waiting.{IsOutAtRead, TakesRead};
 
 use crate::capture::{Capture, Stop};
 use crate::fault::{MergeFault, PartFault, Target};
+use crate::hand_on::hand_on_before;
 use part_lines::Places;
 use pcap_stream::{Input, Output, Sink};
 use timeline::Tap;
@@ -37,6 +40,7 @@ fn copy_record<R: Input, W: Output>(
         → UnlessDevice result (IsLeft rest capture.new × IsAdded text sink.old sink.new) }
     ensures reads { SourceReads part capture.old capture.new result }
     ensures writes { SinkWrites tap sink.old sink.new result }
+    ensures waits { MatchRead result (λ _. (holds_next capture.old ≡ false) × (sink.new ≡ sink.old)) ⊤ }
 {
     match capture.copy(sink) {
         Ok(()) => Ok(()),
@@ -59,6 +63,8 @@ fn copy_port<R: Input, W: Output>(
     ensures reads { (underlay : Stream) → CapturesRead part ports.old underlay ports.new underlay result }
     ensures writes { (underlay_sink : Drain) (failures : ℕ)
         → WritesWith port_sinks.old underlay_sink failures port_sinks.new underlay_sink failures result }
+    ensures waits { (underlay : Stream)
+        → MatchRead result (λ _. TakesRead ports.old underlay (Port port) × (port_sinks.new ≡ port_sinks.old)) ⊤ }
 {
     let index = usize::from(port);
     if index == 0 || index > ports.len() {
@@ -89,6 +95,8 @@ fn copy_at<R: Input, W: Output>(
     ensures reads { CapturesRead part ports.old underlay.old ports.new underlay.new result }
     ensures writes { (failures : ℕ) → WritesWith port_sinks.old underlay_sink.old failures port_sinks.new underlay_sink.new
         failures result }
+    ensures waits { MatchRead result (λ _. TakesRead ports.old underlay.old tap × (port_sinks.new ≡ port_sinks.old)
+        × (underlay_sink.new ≡ underlay_sink.old)) ⊤ }
 {
     match tap {
         Tap::Port(port) => copy_port(part, port, ports, port_sinks),
@@ -96,7 +104,69 @@ fn copy_at<R: Input, W: Output>(
     }
 }
 
-/// Copies the next record of each of some places, in order.
+/// Whether to copy the next record of the capture of a port takes a read. Where there is no capture of this number it takes none.
+fn port_takes_read<R: Input>(port: u8, ports: &[Capture<R>]) -> bool
+    ensures unless { (underlay : Stream) → result ≡ false → TakesRead ports.now underlay (Port port) → ⊥ }
+    ensures only { (underlay : Stream) → result ≡ true → TakesRead ports.now underlay (Port port) }
+{
+    let number = usize::from(port);
+    if number == 0 || number > ports.len() {
+        return false;
+    }
+    !ports[number - 1].holds_next()
+}
+
+/// Whether to copy the next record of a capture of a part takes a read that may wait.
+fn may_wait_for<R: Input>(
+    may_wait: bool,
+    tap: Tap,
+    ports: &[Capture<R>],
+    underlay: &Capture<R>,
+) -> bool
+    ensures unless { result ≡ false → may_wait ≡ true → TakesRead ports.now underlay.now tap → ⊥ }
+    ensures only { result ≡ true → (may_wait ≡ true) × TakesRead ports.now underlay.now tap }
+{
+    if !may_wait {
+        return false;
+    }
+    match tap {
+        Tap::Port(port) => port_takes_read(port, ports),
+        Tap::Underlay => !underlay.holds_next(),
+    }
+}
+
+/// Copies the next record of a part's capture into that of the outputs. Where that takes a read which may wait, all that the
+/// outputs hold back is handed on before.
+fn copy_next<R: Input, W: Output>(
+    part: usize,
+    tap: Tap,
+    ports: &mut [Capture<R>],
+    underlay: &mut Capture<R>,
+    port_sinks: &mut [Sink<W>],
+    underlay_sink: &mut Sink<W>,
+    decisions: &mut W,
+    may_wait: bool,
+) -> Result<(), MergeFault>
+    requires { length port_sinks.old ≡ length ports.old }
+    ensures copied { (text : List ℕ) (rest : ATap → List ℕ) → IsTap (length ports.old) tap → IsWritten text
+        → AreLeft (λ t. at_tap t tap text ++ rest t) ports.old underlay.old
+        → Moves rest (λ t. at_tap t tap text) ports.new underlay.new port_sinks.old underlay_sink.old port_sinks.new
+        underlay_sink.new result }
+    ensures kept { OnOk result (Keeps (W.written decisions.old) (W.written decisions.new)) }
+    ensures reads { CapturesRead part ports.old underlay.old ports.new underlay.new result }
+    ensures writes { WritesWith port_sinks.old underlay_sink.old (W.failures decisions.old) port_sinks.new underlay_sink.new
+        (W.failures decisions.new) result }
+    ensures waits { IsOutAtRead may_wait port_sinks.new underlay_sink.new (W.held decisions.new) result }
+{
+    let waits = may_wait_for(may_wait, tap, ports, underlay);
+    if let Err(fault) = hand_on_before(waits, port_sinks, underlay_sink, decisions) {
+        return Err(fault);
+    }
+    copy_at(part, tap, ports, underlay, port_sinks, underlay_sink)
+}
+
+/// Copies the next record of each of some places, in order. Before each read that may wait all that the outputs hold back is
+/// handed on.
 pub(crate) fn copy_all<R: Input, W: Output>(
     part: usize,
     places: Places<'_>,
@@ -104,6 +174,8 @@ pub(crate) fn copy_all<R: Input, W: Output>(
     underlay: &mut Capture<R>,
     port_sinks: &mut [Sink<W>],
     underlay_sink: &mut Sink<W>,
+    decisions: &mut W,
+    may_wait: bool,
 ) -> Result<(), MergeFault>
     requires { length port_sinks.old ≡ length ports.old }
     ensures copied { (records : List (ATap × List ℕ)) (rest : ATap → List ℕ) → places.entry ≡ taps records
@@ -111,13 +183,24 @@ pub(crate) fn copy_all<R: Input, W: Output>(
         → AreLeft (λ t. records_at t records ++ rest t) ports.old underlay.old
         → Moves rest (λ t. records_at t records) ports.new underlay.new port_sinks.old underlay_sink.old port_sinks.new
         underlay_sink.new result }
+    ensures kept { OnOk result (Keeps (W.written decisions.old) (W.written decisions.new)) }
     ensures reads { CapturesRead part ports.old underlay.old ports.new underlay.new result }
-    ensures writes { (failures : ℕ) → WritesWith port_sinks.old underlay_sink.old failures port_sinks.new underlay_sink.new
-        failures result }
+    ensures writes { WritesWith port_sinks.old underlay_sink.old (W.failures decisions.old) port_sinks.new underlay_sink.new
+        (W.failures decisions.new) result }
+    ensures waits { IsOutAtRead may_wait port_sinks.new underlay_sink.new (W.held decisions.new) result }
 {
     let mut places = places;
     while let Some(tap) = places.next_place() {
-        if let Err(fault) = copy_at(part, tap, ports, underlay, port_sinks, underlay_sink) {
+        if let Err(fault) = copy_next(
+            part,
+            tap,
+            ports,
+            underlay,
+            port_sinks,
+            underlay_sink,
+            decisions,
+            may_wait,
+        ) {
             return Err(fault);
         }
     }

@@ -53,9 +53,6 @@ pub enum Failure<'a> {
     /// This text is no time by which a clock is ahead or behind.
     #[error("shift: {name} is no time, as 500us, 10ms or -1s are", name = OneLine(*.0))]
     Shift(&'a str),
-    /// Nothing that is compared has a table by this.
-    #[error("by: {name} is not length", name = OneLine(*.0))]
-    By(&'a str),
     /// The capture of this name is standard input or no regular file, and a part that no digests are lent to reads its captures
     /// twice.
     #[error("{name} can be read only once, and without --digests a part reads its captures twice", name = OneLine(*.0))]
@@ -227,7 +224,6 @@ impl<'a> Failure<'a> {
             | Failure::Segments(_)
             | Failure::Within(_)
             | Failure::Shift(_)
-            | Failure::By(_)
             | Failure::ReadOnce(_)
             | Failure::Digests(..)
             | Failure::Part(..)

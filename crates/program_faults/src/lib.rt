@@ -15,6 +15,7 @@
 //! neither for `stream_run` nor for `text_calls` to be proved.
 #![tactic(auto)]
 
+mod decisions_fault;
 mod failure;
 mod one_line;
 mod printed;
@@ -24,6 +25,7 @@ mod system_fault;
 mod text;
 mod worked_failure;
 
+pub use decisions_fault::DecisionsFault;
 pub use failure::{DigestsFailure, Failure, OutputFile, PartFailure};
 pub use one_line::OneLine;
 pub use printed::is_lost;

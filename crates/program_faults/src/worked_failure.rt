@@ -1,7 +1,9 @@
 //! Why what a run wrote isn't compared with what was captured.
+use crate::decisions_fault::DecisionsFault;
 use crate::failure::OutputFile;
 use std::fmt;
 use thiserror::Error;
+use timeline::Tap;
 
 /// Why what a run wrote isn't compared with what was captured.
 #[derive(Debug, Drop, Error)]
@@ -15,4 +17,7 @@ pub enum WorkedFailure {
     /// The same capture is named for two places.
     #[error("it is named for two places")]
     Twice,
+    /// The decision lines of the run don't tell the event of a record of this place.
+    #[error("decisions.txt for {0}: {1}")]
+    Decisions(Tap, DecisionsFault),
 }

@@ -185,9 +185,9 @@ change-other vid t c B other =
 -- ---- an event
 
 -- what comes to the segment is read alike
-port-same : (vid : ℕ) (S T : Settings) → seen vid S ≡ seen vid T → (port original : ℕ) (b : List ℕ) → is_segment vid (segment_came (came_at S.ports port original b)) ≡ true → came_at T.ports port original b ≡ came_at S.ports port original b
+port-same : (vid : ℕ) (S T : Settings) → seen vid S ≡ seen vid T → (port original : ℕ) (b : List ℕ) → is_segment vid (segment_came (came_at S.ports S.overlay port original b)) ≡ true → came_at T.ports T.overlay port original b ≡ came_at S.ports S.overlay port original b
 port-same vid S T h port original b own =
-    came_at-same vid S.ports T.ports (ap (λ (x : Seen). x.ports) h) (λ w. ap (λ (x : Seen). x.stands w) h) (ap (λ (x : Seen). x.members) h) port original b own
+    came_at-same vid S.ports T.ports S.overlay T.overlay (ap (λ (x : Seen). x.ports) h) (λ w. ap (λ (x : Seen). x.stands w) h) (ap (λ (x : Seen). x.members) h) (ap (λ (x : Seen). x.segment) h) port original b own
 
 tunnel-same : (vid : ℕ) (S T : Settings) → seen vid S ≡ seen vid T → (original : ℕ) (b : List ℕ) → is_segment vid (segment_came (came_by S.overlay original b)) ≡ true → came_by T.overlay original b ≡ came_by S.overlay original b
 tunnel-same vid S T h original b own =
@@ -203,8 +203,8 @@ module _ (vid t : ℕ) (B C : Bridges) (h : viewed vid B ≡ viewed vid C) where
 
   pub answer-same : (i : Input) → concerns_by vid (answer_by t B i) i ≡ true → answer_by t B i ≡ answer_by t C i
   answer-same (FrameAt port original b) own =
-      let it = comes vid t B (came_at B.settings.ports port original b) true own in
-      ap Decided (decided-same vid t B C h (came_at B.settings.ports port original b) it ∙ sym (ap (decided t C) (port-same vid B.settings C.settings alike port original b it)))
+      let it = comes vid t B (came_at B.settings.ports B.settings.overlay port original b) true own in
+      ap Decided (decided-same vid t B C h (came_at B.settings.ports B.settings.overlay port original b) it ∙ sym (ap (decided t C) (port-same vid B.settings C.settings alike port original b it)))
   answer-same (Packet original b) own =
       let it = comes vid t B (came_by B.settings.overlay original b) true own in
       ap Decided (decided-same vid t B C h (came_by B.settings.overlay original b) it ∙ sym (ap (decided t C) (tunnel-same vid B.settings C.settings alike original b it)))
@@ -216,8 +216,8 @@ module _ (vid t : ℕ) (B C : Bridges) (h : viewed vid B ≡ viewed vid C) where
 
   pub after-same : (i : Input) → concerns_by vid (answer_by t B i) i ≡ true → viewed vid (bridges_after t B i) ≡ viewed vid (bridges_after t C i)
   after-same (FrameAt port original b) own =
-      came-same (came_at B.settings.ports port original b) (came_at C.settings.ports port original b)
-      (port-same vid B.settings C.settings alike port original b (comes vid t B (came_at B.settings.ports port original b) true own))
+      came-same (came_at B.settings.ports B.settings.overlay port original b) (came_at C.settings.ports C.settings.overlay port original b)
+      (port-same vid B.settings C.settings alike port original b (comes vid t B (came_at B.settings.ports B.settings.overlay port original b) true own))
   after-same (Packet original b) own =
       came-same (came_by B.settings.overlay original b) (came_by C.settings.overlay original b)
       (tunnel-same vid B.settings C.settings alike original b (comes vid t B (came_by B.settings.overlay original b) true own))
@@ -227,6 +227,6 @@ came-other : (vid t : ℕ) (B : Bridges) (r : Result Came Refused) → is_segmen
 came-other vid t B r other = after_came-is vid t r B ∙ came_view-other vid t r (viewed vid B) (comes vid t B r false other)
 
 pub after-other : (vid t : ℕ) (B : Bridges) (i : Input) → concerns_by vid (answer_by t B i) i ≡ false → viewed vid (bridges_after t B i) ≡ viewed vid B
-after-other vid t B (FrameAt port original b) other = came-other vid t B (came_at B.settings.ports port original b) other
+after-other vid t B (FrameAt port original b) other = came-other vid t B (came_at B.settings.ports B.settings.overlay port original b) other
 after-other vid t B (Packet original b) other = came-other vid t B (came_by B.settings.overlay original b) other
 after-other vid t B (Asks c) other = change-other vid t c B other

@@ -1,5 +1,5 @@
 -- A text of changes names segments by their VIDs alone.
-use Rattle.std.proofs.Common.{◌≡◌, ℕ, List, map, Option, Some, Ok, IfOk, codes, arith}
+use Rattle.std.proofs.Common.{◌≡◌, ℕ, true, List, map, Option, Some, Ok, IfOk, codes, arith}
 use Rattle.std.specs.List.{AllByRecursion}
 use Rattle.std.proofs.lemmas.Bool.{leb-true}
 use Rattle.toml.specs.Data.{Data, get_member, as_integer}
@@ -46,7 +46,7 @@ unfolding new_segment_of
 segment-if at =
     then-if IsVid IsSegment (vid_at at) _ (vid-if at) (λ vid own.
     then-so IsSegment (new_tunnels_of at) _ (λ tunnels.
-    then-so IsSegment (common_of 256 any_number any_number at) _ (λ common. own)))
+    then-so IsSegment (common_of true 256 any_number any_number at) _ (λ common. own)))
 
 -- ---- a change of each kind
 

@@ -62,7 +62,7 @@ module _ (p : Option ℕ → Bool) where
       by (Some vid) held = ap (λ (M : Table). option_and_then (λ s. table_fault s c M) (segment_at S vid)) (h vid held)
 
   answer-held : (t : ℕ) (S : Settings) (m n : ℕ → Table) → Held m n → (i : Input) → p (segment_in S i) ≡ true → answer_by t (bridges S m) i ≡ answer_by t (bridges S n) i
-  answer-held t S m n h (FrameAt port original b) own = ap Decided (decided-held t S m n h (came_at S.ports port original b) own)
+  answer-held t S m n h (FrameAt port original b) own = ap Decided (decided-held t S m n h (came_at S.ports S.overlay port original b) own)
   answer-held t S m n h (Packet original b) own = ap Decided (decided-held t S m n h (came_by S.overlay original b) own)
   answer-held t S m n h (Asks c) own = ap Replied (fault-held S m n h c own)
 
@@ -89,7 +89,7 @@ module _ (p : Option ℕ → Bool) where
       by false = record { settings = refl; tables = h }
 
   after-held : (t : ℕ) (S : Settings) (m n : ℕ → Table) → Held m n → (i : Input) → Alike p (bridges_after t (bridges S m) i) (bridges_after t (bridges S n) i)
-  after-held t S m n h (FrameAt port original b) = came-held t S m n h (came_at S.ports port original b)
+  after-held t S m n h (FrameAt port original b) = came-held t S m n h (came_at S.ports S.overlay port original b)
   after-held t S m n h (Packet original b) = came-held t S m n h (came_by S.overlay original b)
   after-held t S m n h (Asks c) = change-held t S m n h c
 

@@ -29,7 +29,7 @@ decided-is t B r = decided-segment t B r ∙ came-is r
 
 -- the segment that stands in the line of an event is the one by which it is told
 pub told_in-is : (t : ℕ) (B : Bridges) (i : Input) → told_in i (answer_by t B i) ≡ segment_in B.settings i
-told_in-is t B (FrameAt port original b) = decided-is t B (came_at B.settings.ports port original b)
+told_in-is t B (FrameAt port original b) = decided-is t B (came_at B.settings.ports B.settings.overlay port original b)
 told_in-is t B (Packet original b) = decided-is t B (came_by B.settings.overlay original b)
 told_in-is t B (Asks c) = refl
 
@@ -51,7 +51,7 @@ module _ (p : Option ℕ → Bool) where
   Decides segment (Replied fault) = Unit {0}
 
   decides : (t : ℕ) (B : Bridges) (i : Input) → Decides (segment_in B.settings i) (answer_by t B i)
-  decides t B (FrameAt port original b) = decided-is t B (came_at B.settings.ports port original b)
+  decides t B (FrameAt port original b) = decided-is t B (came_at B.settings.ports B.settings.overlay port original b)
   decides t B (Packet original b) = decided-is t B (came_by B.settings.overlay original b)
   decides t B (Asks c) = tt
 
@@ -89,8 +89,8 @@ module _ (p : Option ℕ → Bool) where
   -- an event that isn't told
   kept-untold : (s r : State) (t : ℕ) (i : Input) → Keeps p s r → p (segment_in s.bridges.settings i) ≡ false → Keeps p (after s (event t i)) (after_untold_input t r i)
   kept-untold s r t (FrameAt port original b) h other = record {
-    bridges = passed-kept s r t (came_at s.bridges.settings.ports port original b) h other;
-    counts = uncounted s r t (came_at s.bridges.settings.ports port original b) h other;
+    bridges = passed-kept s r t (came_at s.bridges.settings.ports s.bridges.settings.overlay port original b) h other;
+    counts = uncounted s r t (came_at s.bridges.settings.ports s.bridges.settings.overlay port original b) h other;
     moment = refl;
   }
   kept-untold s r t (Packet original b) h other = record {

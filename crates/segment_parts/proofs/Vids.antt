@@ -43,7 +43,8 @@ use Rattle.endpoint_state.specs.Change.{refused, accepted, changed}
 use Rattle.endpoint_state.specs.Opened.{settings_told}
 use Rattle.endpoint_state.proofs.OpenLemmas.{sound-opened}
 use Rattle.endpoint_core.specs.Came.{Came}
-use Rattle.endpoint_core.specs.Arrival.{capture_reasons, entered, tunnelled, came_at, came_by}
+use Rattle.endpoint_core.specs.Arrival.{capture_reasons, entered, let_in, tunnelled, came_at, came_by}
+use Rattle.endpoint_core.proofs.LetIn.{let_in-segment}
 use Rattle.endpoint_core.specs.Event.{Input, FrameAt, Packet, Asks, Event}
 use Rattle.endpoint_core.specs.Run.{settings_after_input, settings_after, bridges_at, decisions}
 use Rattle.capture_run.specs.Outputs.{no_change, input_of, event_of}
@@ -104,10 +105,11 @@ came-rows (row ∷ rows) r all own = by row.1 (came-rows rows r all.1 own)
     by true rest = all.0
     by false rest = rest
 
-came_at-asked : (P : Ports) (port original : ℕ) (b : List ℕ) → ((vid : ℕ) → ports.has_segment P vid ≡ true → IsVid vid) → IsAsked (segment_of (came_at P port original b))
+came_at-asked : (P : Ports) (S : Overlay) (port original : ℕ) (b : List ℕ) → ((vid : ℕ) → ports.has_segment P vid ≡ true → IsVid vid) → IsAsked (segment_of (came_at P S port original b))
 unfolding came_at
-came_at-asked P port original b vids =
-    came-rows (capture_reasons original b) (entered port (enters P port b)) (tt, (tt, tt)) (by-entered port (enters P port b) (enters-asked P port b vids))
+came_at-asked P S port original b vids =
+    came-rows (capture_reasons original b) (let_in S (entered port (enters P port b))) (tt, (tt, tt))
+    (subst IsAsked (sym (let_in-segment S (entered port (enters P port b)))) (by-entered port (enters P port b) (enters-asked P port b vids)))
 
 -- ---- by a tunnel
 
@@ -151,7 +153,7 @@ Names (Packet original b) = Unit {0}
 Names (Asks c) = NamesVid c
 
 segment-asked : (S : Settings) (i : Input) → HasVids S → Names i → IsAsked (segment_in S i)
-segment-asked S (FrameAt port original b) h own = came_at-asked S.ports port original b h.members
+segment-asked S (FrameAt port original b) h own = came_at-asked S.ports S.overlay port original b h.members
 segment-asked S (Packet original b) h own = came_by-asked S.overlay h.tunnels original b
 segment-asked S (Asks c) h own = own
 

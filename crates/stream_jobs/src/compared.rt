@@ -5,8 +5,8 @@ use crate::digest::Digest;
 use crate::draws::Draws;
 use crate::fault::{JobFault, Stage};
 use crate::way::{Counts, Place, WITHIN, Way};
-use capture_compare::compare_captures;
-use carried_key::{KeyRoom, Manner, Tunnels};
+use capture_compare::{Aside, compare_captures};
+use carried_key::{KeyRoom, Manner, Sameness, Tunnels};
 use record_match::{Clock, Comparison, Nobody};
 use std::alloc::Global;
 
@@ -19,10 +19,17 @@ pub fn compared(
     records: u32,
 ) -> Result<(), JobFault> {
     let mut way = Way::new(alloc, draws, records)?;
-    let carried = Manner::Carried(Tunnels::standard());
+    let whole = Manner {
+        sameness: Sameness::Whole,
+        ignores_reserved: false,
+    };
+    let carried = Manner {
+        sameness: Sameness::Carried(Tunnels::standard()),
+        ignores_reserved: false,
+    };
     for _round in 0..rounds {
         way.make(Place::Port, records);
-        add_counts(digest, &way, counts_of(alloc, &way, &Manner::Whole)?)?;
+        add_counts(digest, &way, counts_of(alloc, &way, &whole)?)?;
         way.make(Place::Underlay, records);
         add_counts(digest, &way, counts_of(alloc, &way, &carried)?)?;
     }
@@ -43,6 +50,7 @@ fn counts_of(alloc: Global, way: &Way, manner: &Manner) -> Result<Counts, JobFau
         manner,
         &mut room,
         &mut comparison,
+        &mut Aside::none(),
         &mut Nobody,
     );
     if end.is_err() {

@@ -25,3 +25,4 @@ mod Refusing
 mod Showing
 mod Taking
 mod Waiting
+mod HandedOn

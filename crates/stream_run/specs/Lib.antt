@@ -19,3 +19,4 @@ pub mod Watched
 pub mod Done
 pub mod Upcoming
 pub mod Waiting
+pub mod HandedOn

@@ -11,7 +11,8 @@
 //! tells them.
 //!
 //! Specs to read, in order: `specs/Over` (by the octets of the captures), `specs/Left` (by one list of events), `specs/Stage`,
-//! `specs/Amidst`, `specs/Reached`, `specs/Watched`, `specs/Waiting`; the others serve the contracts of its parts.
+//! `specs/Amidst`, `specs/Reached`, `specs/Watched`, `specs/Waiting`, `specs/HandedOn`; the others serve the contracts of its
+//! parts.
 //!
 //! Proved: wherever the inputs tell their octets, Ok comes only where `capture_run`'s `run` tells outputs, and the sinks got
 //! those; a fault of the settings, the changes, the number of captures or a header is `run`'s, and nothing was written; memory
@@ -21,7 +22,8 @@
 //! events. Whoever looks on is shown the events in order, each as the endpoint finds it. Where reads may wait, no output holds
 //! anything back when a record is asked for that wasn't read ahead ([`fetch_at`]), nor where a run stops at a failed read: a run
 //! learns nothing of a read before it answers, so that is what stands while one waits. What a whole run leaves is the same
-//! whatever was held back on its way ([`laws`]).
+//! whatever was held back on its way, and how often an output in blocks hands on is bounded by its octets and by how often it is
+//! asked to ([`laws`]).
 //!
 //! Why it is so: settings, changes and the number of captures are looked at before anything is read or written; then all
 //! captures are opened, all headers written, and only then records fetched. So a capture that can't be opened leaves no header

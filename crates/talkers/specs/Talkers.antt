@@ -48,7 +48,7 @@ coming_by moment (Err refused) = None
 -- octets at a place; nothing at a port that isn't there
 abbrev pub coming_at : Settings → ℕ → Tap → Captured → Option Coming
 coming_at S moment (Port port) captured =
-    if is_port (length S.ports.ports) port then coming_by moment (came_at S.ports port captured.original captured.octets)
+    if is_port (length S.ports.ports) port then coming_by moment (came_at S.ports S.overlay port captured.original captured.octets)
     else None
 coming_at S moment Underlay captured = coming_by moment (came_by S.overlay captured.original captured.octets)
 

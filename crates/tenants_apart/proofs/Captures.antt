@@ -37,7 +37,7 @@ all-own P vid S (e ∷ es) h = by (names_or_concerns vid S e.input) (all-own P v
     by true rest = (h.0, rest)
     by false rest = rest
 
-turn-own : (R : Event → Event → Type 0) (vid : ℕ) (S : Settings) (es : List Event) → InTurn R es → InTurn R (own_events vid S es)
+pub turn-own : (R : Event → Event → Type 0) (vid : ℕ) (S : Settings) (es : List Event) → InTurn R es → InTurn R (own_events vid S es)
 turn-own R vid S [] h = tt
 turn-own R vid S (e ∷ es) h = by (names_or_concerns vid S e.input) (turn-own R vid (settings_after_input S e.input) es h.1)
   where
@@ -47,6 +47,11 @@ turn-own R vid S (e ∷ es) h = by (names_or_concerns vid S e.input) (turn-own R
     by false rest = rest
 
 -- ---- two runs
+
+-- of an output the records that leave in the segment
+pub records_by : (vid : ℕ) (output : Tap) (rs : List Row) → map (λ (d : Departure). record_of d.sending) (filter (λ d. leaves_at output d.sending) (departures_in vid rs)) ≡ records_in vid output (departures rs)
+records_by vid output rs =
+    ap (map (λ (d : Departure). record_of d.sending)) (filter-both (λ (d : Departure). leaves_at output d.sending) (λ (d : Departure). is_segment vid d.segment) (departures rs))
 
 rises : (s : Told) (x : Inputs) (l : Timeline) (o : Outputs) → IsRunOf s x l o → IsRising 0 (coming x l)
 rises s x l o is = coming-rises (changes_of x) (map (λ c. c.at) x.changes) x.ports x.underlay l is.read
@@ -61,17 +66,12 @@ module _ (vid : ℕ) (s t : Told) (x y : Inputs) (l m : Timeline) (o p : Outputs
   own-same : own_events vid (settings_told s) (coming x l) ≡ own_events vid (settings_told t) (coming y m)
   own-same = same_by_source (own_events vid (settings_told s) (coming x l)) (own_events vid (settings_told t) (coming y m)) (turns vid s x l o is) (turns vid t y m p other) same
 
-  -- of an output the records that leave in the segment
-  records_by : (output : Tap) (rs : List Row) → map (λ (d : Departure). record_of d.sending) (filter (λ d. leaves_at output d.sending) (departures_in vid rs)) ≡ records_in vid output (departures rs)
-  records_by output rs =
-      ap (map (λ (d : Departure). record_of d.sending)) (filter-both (λ (d : Departure). leaves_at output d.sending) (λ (d : Departure). is_segment vid d.segment) (departures rs))
-
   pub records-alike : (output : Tap) → records_in vid output (departures (rows_of s x l)) ≡ records_in vid output (departures (rows_of t y m))
   records-alike output =
-      sym (records_by output (rows_of s x l))
+      sym (records_by vid output (rows_of s x l))
       ∙ ap (λ ds. map (λ (d : Departure). record_of d.sending) (filter (λ d. leaves_at output d.sending) ds))
       (leaving-alike vid (settings_told s) (settings_told t) (coming x l) (coming y m) (rises s x l o is) (rises t y m p other) (part-told vid s t told) own-same replies)
-      ∙ records_by output (rows_of t y m)
+      ∙ records_by vid output (rows_of t y m)
 
   pub told-alike : lines_in vid (rows_of s x l) ≡ lines_in vid (rows_of t y m)
   told-alike = lines-alike vid (settings_told s) (settings_told t) (coming x l) (coming y m) (rises s x l o is) (rises t y m p other) (part-told vid s t told) own-same replies

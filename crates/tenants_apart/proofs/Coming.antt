@@ -25,10 +25,11 @@ use Rattle.underlay.proofs.CountLemmas.{found_where}
 use Rattle.decapsulate.specs.Arrival.{Packet, packet_in, kind_to, vni_of, inner_of, inner_reasons, outer_reasons, capture_reasons as packet_reasons, arrival_in, arrival_by, arrival_of}
 use Rattle.decapsulate.specs.declared.arrived.Arrived.{Arrived}
 use Rattle.endpoint_core.specs.Came.{Came}
-use Rattle.endpoint_core.specs.Arrival.{capture_reasons, entered, tunnelled, came_at, came_by}
+use Rattle.endpoint_core.specs.Arrival.{capture_reasons, entered, let_in, tunnelled, came_at, came_by}
+use Rattle.endpoint_core.proofs.LetIn.{let_in-segment}
 use Rattle.segment_isolation.specs.Alone.{is_segment}
 use Rattle.segment_isolation.proofs.Arriving.{segment_arrived}
-use Rattle.segment_isolation.proofs.Coming.{by-entered}
+use Rattle.segment_isolation.proofs.Coming.{by-entered, let_in-own}
 use Rattle.segment_isolation.proofs.Entering.{with_ports, segment_entered, entering, not_entering}
 use Rattle.tenants_apart.specs.Own.{segment_met}
 
@@ -67,6 +68,10 @@ enters-own vid P Q ports members port b own = by (vid == k) refl
     by false other =
         absurd (false≢true (sym (not_entering vid P.ports (has_segment P k) (egress_at P k port) port b other) ∙ sym (ap (λ (r : Result (ℕ × Frame) Refused). is_segment vid (segment_entered r)) (enters-is P port b)) ∙ own))
 
+by-met : (S : Overlay) (r : Result Came Refused) → segment_met (let_in S r) ≡ segment_met r
+by-met S (Err refused) = refl
+by-met S (Ok x) = let_in-segment S (Ok x)
+
 -- of the refusals before it none is told of the segment
 before-same : (vid : ℕ) (r s : Result Came Refused) → (is_segment vid (segment_met r) ≡ true → s ≡ r) → (rows : List (Refused × Bool)) → AllByRecursion (λ row. is_segment vid row.0.segment ≡ false) rows → is_segment vid (segment_met (unless (first rows) r)) ≡ true → unless (first rows) s ≡ unless (first rows) r
 before-same vid r s same [] all own = same own
@@ -76,20 +81,38 @@ before-same vid r s same (row ∷ rows) all own = by row.1 (before-same vid r s 
     by true rest is = refl
     by false rest is = rest is
 
-pub came_at-own : (vid : ℕ) (P Q : Ports) → P.ports ≡ Q.ports → members_at P vid ≡ members_at Q vid → (port original : ℕ) (b : List ℕ) → is_segment vid (segment_met (came_at P port original b)) ≡ true → came_at Q port original b ≡ came_at P port original b
+pub came_at-own : (vid : ℕ) (P Q : Ports) (S T : Overlay) → P.ports ≡ Q.ports → members_at P vid ≡ members_at Q vid → segment_at S vid ≡ segment_at T vid → (port original : ℕ) (b : List ℕ) → is_segment vid (segment_met (came_at P S port original b)) ≡ true → came_at Q T port original b ≡ came_at P S port original b
 unfolding came_at
-came_at-own vid P Q ports members port original b own =
-    before-same vid (entered port (enters P port b)) (entered port (enters Q port b))
-    (λ is. ap (entered port) (enters-own vid P Q ports members port b (sym (ap (is_segment vid) (by-entered port (enters P port b))) ∙ is)))
+came_at-own vid P Q S T ports members here port original b own =
+    before-same vid (let_in S (entered port (enters P port b))) (let_in T (entered port (enters Q port b))) same
     (capture_reasons original b) (refl, (refl, tt)) own
+  where
+    same : is_segment vid (segment_met (let_in S (entered port (enters P port b)))) ≡ true → let_in T (entered port (enters Q port b)) ≡ let_in S (entered port (enters P port b))
+    same is =
+        let it = sym (ap (is_segment vid) (by-met S (entered port (enters P port b)))) ∙ is in
+        ap (λ (r : Result (ℕ × Frame) Refused). let_in T (entered port r)) (enters-own vid P Q ports members port b (sym (ap (is_segment vid) (by-entered port (enters P port b))) ∙ it))
+        ∙ let_in-own vid S T here (entered port (enters P port b)) it
+
+-- whether a frame whose body begins with a tag is let in changes nothing of that
+met-unless : (o : Option Refused) (r s : Result Came Refused) → segment_met r ≡ segment_met s → segment_met (unless o r) ≡ segment_met (unless o s)
+met-unless (Some refused) r s same = refl
+met-unless None r s same = same
+
+met-same : (P : Ports) (S T : Overlay) (port original : ℕ) (b : List ℕ) → segment_met (came_at P S port original b) ≡ segment_met (came_at P T port original b)
+unfolding came_at
+met-same P S T port original b =
+    met-unless (first (capture_reasons original b)) (let_in S (entered port (enters P port b))) (let_in T (entered port (enters P port b)))
+    (by-met S (entered port (enters P port b)) ∙ sym (by-met T (entered port (enters P port b))))
 
 -- so a frame is of the segment in both or in neither
-pub frame-own : (vid : ℕ) (P Q : Ports) → P.ports ≡ Q.ports → members_at P vid ≡ members_at Q vid → (port original : ℕ) (b : List ℕ) → is_segment vid (segment_met (came_at P port original b)) ≡ is_segment vid (segment_met (came_at Q port original b))
-frame-own vid P Q ports members port original b = by (is_segment vid (segment_met (came_at P port original b))) (is_segment vid (segment_met (came_at Q port original b))) refl refl
+pub frame-own : (vid : ℕ) (P Q : Ports) (S T : Overlay) → P.ports ≡ Q.ports → members_at P vid ≡ members_at Q vid → (port original : ℕ) (b : List ℕ) → is_segment vid (segment_met (came_at P S port original b)) ≡ is_segment vid (segment_met (came_at Q T port original b))
+frame-own vid P Q S T ports members port original b =
+    ap (is_segment vid) (met-same P S T port original b)
+    ∙ by (is_segment vid (segment_met (came_at P T port original b))) (is_segment vid (segment_met (came_at Q T port original b))) refl refl
   where
-    by : (c d : Bool) → is_segment vid (segment_met (came_at P port original b)) ≡ c → is_segment vid (segment_met (came_at Q port original b)) ≡ d → c ≡ d
-    by true d is other = sym is ∙ sym (ap (λ (r : Result Came Refused). is_segment vid (segment_met r)) (came_at-own vid P Q ports members port original b is)) ∙ other
-    by false true is other = sym is ∙ ap (λ (r : Result Came Refused). is_segment vid (segment_met r)) (came_at-own vid Q P (sym ports) (sym members) port original b other) ∙ other
+    by : (c d : Bool) → is_segment vid (segment_met (came_at P T port original b)) ≡ c → is_segment vid (segment_met (came_at Q T port original b)) ≡ d → c ≡ d
+    by true d is other = sym is ∙ sym (ap (λ (r : Result Came Refused). is_segment vid (segment_met r)) (came_at-own vid P Q T T ports members refl port original b is)) ∙ other
+    by false true is other = sym is ∙ ap (λ (r : Result Came Refused). is_segment vid (segment_met r)) (came_at-own vid Q P T T (sym ports) (sym members) refl port original b other) ∙ other
     by false false is other = refl
 
 -- ---- by a tunnel

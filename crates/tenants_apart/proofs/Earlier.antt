@@ -39,7 +39,7 @@ about-kept false false = refl
 
 own-by : (vid t : ℕ) (B : Bridges) (i : Input) → names_or_concerns vid B.settings i ≡ concerns_by vid (answer_by t B i) i && is_kept vid i
 own-by vid t B (FrameAt port original b) =
-    sym (ap (is_segment vid) (decided-segment t B (came_at B.settings.ports port original b))) ∙ true-right (concerns_by vid (answer_by t B (FrameAt port original b)) (FrameAt port original b))
+    sym (ap (is_segment vid) (decided-segment t B (came_at B.settings.ports B.settings.overlay port original b))) ∙ true-right (concerns_by vid (answer_by t B (FrameAt port original b)) (FrameAt port original b))
 own-by vid t B (Packet original b) =
     sym (ap (is_segment vid) (decided-segment t B (came_by B.settings.overlay original b))) ∙ true-right (concerns_by vid (answer_by t B (Packet original b)) (Packet original b))
 own-by vid t B (Asks c) = about-kept (is_about vid c) (all_see (effect c))

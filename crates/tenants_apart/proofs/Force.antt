@@ -19,8 +19,8 @@ in-force s (e ∷ es) = in-force (after s e) es ∙ ap (λ (S : Settings). setti
 pub frame-in_force : (vid : ℕ) (S : Settings) (es : List Event) (t port original : ℕ) (b : List ℕ) → concerns vid (state_after (opened S) es) (frame_at t port original b) ≡ names_or_concerns vid (settings_after S es) (FrameAt port original b)
 frame-in_force vid S es t port original b =
     let s : State = state_after (opened S) es in
-    ap (is_segment vid) (decided-segment t (aged t s.bridges) (came_at s.bridges.settings.ports port original b))
-    ∙ ap (λ (T : Settings). is_segment vid (segment_met (came_at T.ports port original b))) (in-force (opened S) es)
+    ap (is_segment vid) (decided-segment t (aged t s.bridges) (came_at s.bridges.settings.ports s.bridges.settings.overlay port original b))
+    ∙ ap (λ (T : Settings). is_segment vid (segment_met (came_at T.ports T.overlay port original b))) (in-force (opened S) es)
 
 pub packet-in_force : (vid : ℕ) (S : Settings) (es : List Event) (t original : ℕ) (b : List ℕ) → concerns vid (state_after (opened S) es) (packet_at t original b) ≡ names_or_concerns vid (settings_after S es) (Packet original b)
 packet-in_force vid S es t original b =

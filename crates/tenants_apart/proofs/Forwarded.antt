@@ -20,16 +20,17 @@ use Rattle.underlay.specs.declared.segment.Segment.{Segment}
 use Rattle.decapsulate.specs.Arrival.{capture_reasons as packet_reasons, outer_reasons, inner_reasons, packet_in, kind_to, vni_of, inner_of, arrival_in, arrival_by, arrival, arrival_of}
 use Rattle.decapsulate.specs.declared.arrived.Arrived.{Arrived}
 use Rattle.endpoint_core.specs.Came.{Came}
-use Rattle.endpoint_core.specs.Arrival.{capture_reasons, entered, tunnelled, came_at, came_by}
+use Rattle.endpoint_core.specs.Arrival.{capture_reasons, entered, let_in, tunnelled, came_at, came_by}
+use Rattle.endpoint_core.proofs.LetIn.{let_in-ok}
 use Rattle.tenants_apart.specs.Again.{IsForwarded}
 
 -- ---- by a port
 
-pub record-comes : (s : Ports) (port v : ℕ) (b : List ℕ) (f : Frame) → enters s port b ≡ Ok (v, f) → length b ≤ 65535 → came_at s port (length b) b ≡ Ok (record { vid = v; from = Local port; frame = f })
+pub record-comes : (s : Ports) (o : Overlay) (port v : ℕ) (b : List ℕ) (f : Frame) → enters s port b ≡ Ok (v, f) → length b ≤ 65535 → came_at s o port (length b) b ≡ let_in o (Ok (record { vid = v; from = Local port; frame = f }))
 unfolding came_at
-record-comes s port v b f enters_so short =
-    ap (λ (o : Option Refused). unless o (entered port (enters s port b))) (first-nothing (capture_reasons (length b) b) (le-ltb 65535 (length b) short, (le-ltb (length b) (length b) (omega arith), tt)))
-    ∙ ap (entered port) enters_so
+record-comes s o port v b f enters_so short =
+    ap (λ (x : Option Refused). unless x (let_in o (entered port (enters s port b)))) (first-nothing (capture_reasons (length b) b) (le-ltb 65535 (length b) short, (le-ltb (length b) (length b) (omega arith), tt)))
+    ∙ ap (λ (r : Result (ℕ × Frame) Refused). let_in o (entered port r)) enters_so
 
 entered-from : (port : ℕ) (r : Result (ℕ × Frame) Refused) (came : Came) → entered port r ≡ Ok came → r ≡ Ok (came.vid, came.frame)
 entered-from port (Ok found) came h =
@@ -37,11 +38,11 @@ entered-from port (Ok found) came h =
     ap (λ (c : Came). Ok (c.vid, c.frame)) (same_Ok made came h)
 entered-from port (Err refused) came h = absurd cc
 
-pub frame-forwarded : (s : Ports) (port original : ℕ) (b : List ℕ) (came : Came) → IsText b → came_at s port original b ≡ Ok came → IsForwarded came.frame
+pub frame-forwarded : (s : Ports) (o : Overlay) (port original : ℕ) (b : List ℕ) (came : Came) → IsText b → came_at s o port original b ≡ Ok came → IsForwarded came.frame
 unfolding came_at
-frame-forwarded s port original b came text h =
-    let inside = unless-ok (first (capture_reasons original b)) (entered port (enters s port b)) came h in
-    let it = enters-from s port b came.vid came.frame text (entered-from port (enters s port b) came inside.1) in
+frame-forwarded s o port original b came text h =
+    let inside = unless-ok (first (capture_reasons original b)) (let_in o (entered port (enters s port b))) came h in
+    let it = enters-from s port b came.vid came.frame text (entered-from port (enters s port b) came (let_in-ok o (entered port (enters s port b)) came inside.1).0) in
     record { is_frame = it.text.is_frame; source_is_individual = it.source_is_individual; destination_is_forwarded = it.destination_is_forwarded }
 
 -- ---- by a tunnel

@@ -32,8 +32,9 @@ use Rattle.endpoint_core.specs.Event.{Input, FrameAt, Packet, Asks, Event}
 use Rattle.endpoint_core.specs.Step.{State, answer, answer_by, by_verdict, decided, sent_at}
 use Rattle.capture_run.specs.Sendings.{sendings_of, sent_by}
 use Rattle.noninterference.specs.Leaving.{Departure, departure, departing, decided_in as told_in}
-use Rattle.tenants_apart.specs.Again.{IsForwarded, IsTextIn, IsLocalText, LeavesAsText}
+use Rattle.tenants_apart.specs.Again.{IsForwarded, IsTagless, IsTextIn, IsLocalText, LeavesAsText}
 use Rattle.tenants_apart.proofs.Forwarded.{frame-forwarded, packet-forwarded}
+use Rattle.tenants_apart.proofs.Tagless.{frame-tagless, packet-tagless}
 
 -- ---- the outlets are open
 
@@ -81,7 +82,7 @@ open-toward c from (Some to) = open-known c from to
 
 -- what leaves by a decision of the settings
 abbrev LeavesWell : Settings → ℕ → Decision → Type 0
-LeavesWell S t d = AllByRecursion (λ (x : Departure). LeavesAsText S.ports x.segment x.sending.place x.sending.octets) (map (departure d.segment) (sendings_of t d.outcomes))
+LeavesWell S t d = AllByRecursion (λ (x : Departure). LeavesAsText S x.segment x.sending.place x.sending.octets) (map (departure d.segment) (sendings_of t d.outcomes))
 
 members-of : (b : Option BridgeSettings) (o : Option Segment) (m : Option Members) (s : SegmentSettings) → option_and_then (λ bridge. option_and_then (λ segment. option_map (λ members. joined bridge segment members) m) o) b ≡ Some s → m ≡ Some s.members
 members-of None o m s h = absurd cc
@@ -93,16 +94,16 @@ egress-there : (o : Option Egress) → is_some o ≡ true → (egress : Egress) 
 egress-there None h = absurd (false≢true h)
 egress-there (Some egress) h = (egress, refl)
 
-module _ (S : Settings) (t vid : ℕ) (f : Frame) (forwarded : IsForwarded f) (s : SegmentSettings) (is : members_at S.ports vid ≡ Some s.members) where
+module _ (S : Settings) (t vid : ℕ) (f : Frame) (forwarded : IsForwarded f) (tagless : IsTagless S.overlay vid f) (s : SegmentSettings) (is : members_at S.ports vid ≡ Some s.members) where
   member : (n : ℕ) → is_shut (config_of S.ports s) (Local n) ≡ false → (egress : Egress) × (egress_at S.ports vid n ≡ Some egress)
   member n h =
       let both = and_parts (is_up_at (map (λ p. p.up) S.ports.ports) n) (is_some (get s.members n)) (not-false (serves (config_of S.ports s) n) h) in
       egress-there (egress_at S.ports vid n) (ap (λ (o : Option Members). is_some (option_and_then (λ m. get m n) o)) is ∙ both.1)
 
   abbrev All : List Sent → Type 0
-  All sent = AllByRecursion (λ (x : Departure). LeavesAsText S.ports x.segment x.sending.place x.sending.octets) (map (departure (Some vid)) (sendings_of t sent))
+  All sent = AllByRecursion (λ (x : Departure). LeavesAsText S x.segment x.sending.place x.sending.octets) (map (departure (Some vid)) (sendings_of t sent))
 
-  remote : (sent : Sent) (rest : List Sent) → ((octets : List ℕ) → LeavesAsText S.ports (Some vid) sent.place octets) → All rest → All (sent ∷ rest)
+  remote : (sent : Sent) (rest : List Sent) → ((octets : List ℕ) → LeavesAsText S (Some vid) sent.place octets) → All rest → All (sent ∷ rest)
   remote sent rest each all = by sent.sent
     where
       by : (r : Result (List ℕ) Reason) → All (record { place = sent.place; sent = r } ∷ rest)
@@ -114,19 +115,20 @@ module _ (S : Settings) (t vid : ℕ) (f : Frame) (forwarded : IsForwarded f) (s
   sent-well [] all_open = tt
   sent-well (Local n ∷ places) all_open =
       let it = member n all_open.0 in
-      let here : IsLocalText S.ports (Some vid) n (option_map_or (λ egress. local_text vid egress f) (egress_at S.ports vid n) []) = record {
+      let here : IsLocalText S (Some vid) n (option_map_or (λ egress. local_text vid egress f) (egress_at S.ports vid n) []) = record {
         vid = vid;
         egress = it.0;
         frame = f;
         segment_is = refl;
         member = it.1;
         forwarded = forwarded;
+        tagless = tagless;
         octets_are = ap (λ (o : Option Egress). option_map_or (λ egress. local_text vid egress f) o []) it.1;
       } in
       (here, sent-well places all_open.1)
   sent-well (Remote kind addr ∷ places) all_open = remote (sent_at S vid f (Remote kind addr)) (map (sent_at S vid f) places) (λ octets. tt) (sent-well places all_open.1)
 
-decided-well : (t : ℕ) (B : Bridges) (r : Result Came Refused) → ((x : Came) → r ≡ Ok x → IsForwarded x.frame) → LeavesWell B.settings t (decided t B r)
+decided-well : (t : ℕ) (B : Bridges) (r : Result Came Refused) → ((x : Came) → r ≡ Ok x → IsForwarded x.frame × IsTagless B.settings.overlay x.vid x.frame) → LeavesWell B.settings t (decided t B r)
 decided-well t B (Err refused) forwarded = tt
 decided-well t B (Ok x) forwarded = by (segment_at B.settings x.vid) refl
   where
@@ -134,7 +136,7 @@ decided-well t B (Ok x) forwarded = by (segment_at B.settings x.vid) refl
     m = (after_frame t x.vid x.from x.frame B).tables x.vid
 
     places-well : (s : SegmentSettings) → members_at B.settings.ports x.vid ≡ Some s.members → (r : Result (List Place) Reason) → IfOk r (Open (config_of B.settings.ports s)) → LeavesWell B.settings t (by_verdict B.settings x r)
-    places-well s is (Ok places) all_open = sent-well B.settings t x.vid x.frame (forwarded x refl) s is places all_open
+    places-well s is (Ok places) all_open = sent-well B.settings t x.vid x.frame (forwarded x refl).0 (forwarded x refl).1 s is places all_open
     places-well s is (Err reason) all_open = tt
 
     by : (o : Option SegmentSettings) → segment_at B.settings x.vid ≡ o → LeavesWell B.settings t (by_verdict B.settings x (verdict_in B.settings.ports o x.from x.frame m))
@@ -144,10 +146,10 @@ decided-well t B (Ok x) forwarded = by (segment_at B.settings x.vid) refl
         let c = config_of B.settings.ports s in
         places-well s members (outlets c x.from x.frame m) (open-toward c x.from (cond (is_group x.frame.dst) None (stands x.frame.dst m)))
 
-input-well : (t : ℕ) (B : Bridges) (input : Input) → IsTextIn input → AllByRecursion (λ (x : Departure). LeavesAsText B.settings.ports x.segment x.sending.place x.sending.octets) (map (departure (told_in (answer_by t B input))) (sent_by t (answer_by t B input)))
-input-well t B (FrameAt port original b) text = decided-well t B (came_at B.settings.ports port original b) (λ x is. frame-forwarded B.settings.ports port original b x text is)
-input-well t B (Packet original b) text = decided-well t B (came_by B.settings.overlay original b) (λ x is. packet-forwarded B.settings.overlay original b x is)
+input-well : (t : ℕ) (B : Bridges) (input : Input) → IsTextIn input → AllByRecursion (λ (x : Departure). LeavesAsText B.settings x.segment x.sending.place x.sending.octets) (map (departure (told_in (answer_by t B input))) (sent_by t (answer_by t B input)))
+input-well t B (FrameAt port original b) text = decided-well t B (came_at B.settings.ports B.settings.overlay port original b) (λ x is. (frame-forwarded B.settings.ports B.settings.overlay port original b x text is, frame-tagless B.settings.ports B.settings.overlay port original b x is))
+input-well t B (Packet original b) text = decided-well t B (came_by B.settings.overlay original b) (λ x is. (packet-forwarded B.settings.overlay original b x is, packet-tagless B.settings.overlay original b x is))
 input-well t B (Asks c) text = tt
 
-pub leaves-well : (s : State) (e : Event) → IsTextIn e.input → AllByRecursion (λ (x : Departure). LeavesAsText s.bridges.settings.ports x.segment x.sending.place x.sending.octets) (departing (record { event = e; reply = answer s e }))
+pub leaves-well : (s : State) (e : Event) → IsTextIn e.input → AllByRecursion (λ (x : Departure). LeavesAsText s.bridges.settings x.segment x.sending.place x.sending.octets) (departing (record { event = e; reply = answer s e }))
 leaves-well s e text = input-well e.at (aged e.at s.bridges) e.input text

@@ -9,14 +9,17 @@ pub mod Forwarded
 pub mod Leaving
 pub mod Lone
 pub mod Refusing
+pub mod ToldReports
 pub mod Room
 pub mod Rows
 pub mod Running
+pub mod LeftRuns
 pub mod SecondTag
 pub mod Single
 pub mod Stepping
 pub mod Stopped
 pub mod Tables
+pub mod Tagless
 pub mod Telling
 pub mod Told
 pub mod Vnis

@@ -56,7 +56,7 @@ apart-single vid S v w kind vni h l = just-has vid (overlay_segment S.overlay vi
 
 module _ (vid : ℕ) where
   pub names-same : (S T : Settings) → part_of vid S ≡ part_of vid T → AreVnisApart S.overlay → AreVnisApart T.overlay → (i : Input) → names_or_concerns vid S i ≡ names_or_concerns vid T i
-  names-same S T h apart other (FrameAt port original b) = frame-own vid S.ports T.ports (ap (λ (p : Part). p.ports) h) (ap (λ (p : Part). p.members) h) port original b
+  names-same S T h apart other (FrameAt port original b) = frame-own vid S.ports T.ports S.overlay T.overlay (ap (λ (p : Part). p.ports) h) (ap (λ (p : Part). p.members) h) port original b
   names-same S T h apart other (Packet original b) = packet-own vid S.overlay T.overlay (ap (λ (p : Part). p.underlay) h) (ap (λ (p : Part). p.tunnels) h) apart other original b
   names-same S T h apart other (Asks c) = refl
 

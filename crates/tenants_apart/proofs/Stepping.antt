@@ -152,15 +152,15 @@ module _ (vid t : ℕ) (B C : Bridges) (h : owned vid B ≡ owned vid C) where
   alike : part_of vid B.settings ≡ part_of vid C.settings
   alike = ap (λ (w : Own). w.settings) h
 
-  port-same : (port original : ℕ) (b : List ℕ) → is_segment vid (segment_met (came_at B.settings.ports port original b)) ≡ true → came_at C.settings.ports port original b ≡ came_at B.settings.ports port original b
-  port-same = came_at-own vid B.settings.ports C.settings.ports (ap (λ (x : Part). x.ports) alike) (ap (λ (x : Part). x.members) alike)
+  port-same : (port original : ℕ) (b : List ℕ) → is_segment vid (segment_met (came_at B.settings.ports B.settings.overlay port original b)) ≡ true → came_at C.settings.ports C.settings.overlay port original b ≡ came_at B.settings.ports B.settings.overlay port original b
+  port-same = came_at-own vid B.settings.ports C.settings.ports B.settings.overlay C.settings.overlay (ap (λ (x : Part). x.ports) alike) (ap (λ (x : Part). x.members) alike) (ap (λ (x : Part). x.tunnels) alike)
 
   tunnel-same : (original : ℕ) (b : List ℕ) → is_segment vid (segment_met (came_by B.settings.overlay original b)) ≡ true → is_segment vid (segment_met (came_by C.settings.overlay original b)) ≡ true → came_by C.settings.overlay original b ≡ came_by B.settings.overlay original b
   tunnel-same = came_by-own vid B.settings.overlay C.settings.overlay (ap (λ (x : Part). x.underlay) alike) (ap (λ (x : Part). x.tunnels) alike)
 
   pub answer-same : (i : Input) → names_or_concerns vid B.settings i ≡ true → names_or_concerns vid C.settings i ≡ true → AreRoomAlike vid B.settings C.settings i → answer_by t B i ≡ answer_by t C i
   answer-same (FrameAt port original b) own other room =
-      ap Decided (decided-same vid t B C h (came_at B.settings.ports port original b) own ∙ sym (ap (decided t C) (port-same port original b own)))
+      ap Decided (decided-same vid t B C h (came_at B.settings.ports B.settings.overlay port original b) own ∙ sym (ap (decided t C) (port-same port original b own)))
   answer-same (Packet original b) own other room =
       ap Decided (decided-same vid t B C h (came_by B.settings.overlay original b) own ∙ sym (ap (decided t C) (tunnel-same original b own other)))
   answer-same (Asks c) own other room = ap Replied (fault-same vid B C h c own (refused-own vid B.settings C.settings alike c own room))
@@ -171,7 +171,7 @@ module _ (vid t : ℕ) (B C : Bridges) (h : owned vid B ≡ owned vid C) where
 
   pub after-same : (i : Input) → names_or_concerns vid B.settings i ≡ true → names_or_concerns vid C.settings i ≡ true → AreRoomAlike vid B.settings C.settings i → owned vid (bridges_after t B i) ≡ owned vid (bridges_after t C i)
   after-same (FrameAt port original b) own other room =
-      came-same (came_at B.settings.ports port original b) (came_at C.settings.ports port original b) (port-same port original b own)
+      came-same (came_at B.settings.ports B.settings.overlay port original b) (came_at C.settings.ports C.settings.overlay port original b) (port-same port original b own)
   after-same (Packet original b) own other room =
       came-same (came_by B.settings.overlay original b) (came_by C.settings.overlay original b) (tunnel-same original b own other)
   after-same (Asks c) own other room = change-same vid t B C h c (refused-own vid B.settings C.settings alike c own room)
@@ -180,6 +180,6 @@ came-other : (vid t : ℕ) (B : Bridges) (r : Result Came Refused) → is_segmen
 came-other vid t B r other = after_came-is vid t r B ∙ came_own-other vid t r (owned vid B) other
 
 pub after-other : (vid t : ℕ) (B : Bridges) (i : Input) → names_or_concerns vid B.settings i ≡ false → owned vid (bridges_after t B i) ≡ owned vid B
-after-other vid t B (FrameAt port original b) other = came-other vid t B (came_at B.settings.ports port original b) other
+after-other vid t B (FrameAt port original b) other = came-other vid t B (came_at B.settings.ports B.settings.overlay port original b) other
 after-other vid t B (Packet original b) other = came-other vid t B (came_by B.settings.overlay original b) other
 after-other vid t B (Asks c) other = change-other vid t c B other

@@ -49,7 +49,7 @@ module _ (vid : ℕ) where
       filter-none leaves (departure (decided_in (answer_by t B input))) (λ s. ap (is_segment vid) (here ∙ decided-segment t B r) ∙ other) (sent_by t (answer_by t B input))
 
   nothing_leaves : (t : ℕ) (B : Bridges) (input : Input) → names_or_concerns vid B.settings input ≡ false → filter leaves (departing (row_by t B input)) ≡ []
-  nothing_leaves t B (FrameAt port original b) other = none_of t B (FrameAt port original b) (came_at B.settings.ports port original b) refl other
+  nothing_leaves t B (FrameAt port original b) other = none_of t B (FrameAt port original b) (came_at B.settings.ports B.settings.overlay port original b) refl other
   nothing_leaves t B (Packet original b) other = none_of t B (Packet original b) (came_by B.settings.overlay original b) refl other
   nothing_leaves t B (Asks c) other = refl
 
@@ -73,7 +73,7 @@ module _ (vid : ℕ) where
 
   nothing_told : (t : ℕ) (B : Bridges) (input : Input) → names_or_concerns vid B.settings input ≡ false → filter tells (line_of (row_by t B input) ∷ []) ≡ []
   nothing_told t B (FrameAt port original b) other =
-      not_told (row_by t B (FrameAt port original b)) (ap (is_segment vid) (decided-segment t B (came_at B.settings.ports port original b)) ∙ other)
+      not_told (row_by t B (FrameAt port original b)) (ap (is_segment vid) (decided-segment t B (came_at B.settings.ports B.settings.overlay port original b)) ∙ other)
   nothing_told t B (Packet original b) other =
       not_told (row_by t B (Packet original b)) (ap (is_segment vid) (decided-segment t B (came_by B.settings.overlay original b)) ∙ other)
   nothing_told t B (Asks c) other = not_told (row_by t B (Asks c)) (named_apart (named c) other)

@@ -4,18 +4,21 @@
 --     TakesInto      a port takes frames with such a tag, or without one, into a segment
 --     as_untagged      a frame as it is read where no tag tells its priority
 --     IsBehindTag      a frame, and the one behind the tag that its body begins with
+--     IsTagless      its body begins with no tag, where the segment takes none of those
 --     IsLocalText      what leaves at a port is the text of a frame
 use Rattle.std.specs.Prelude.{◌≡◌, ◌<◌, ◌≤◌, ℕ, true, false, List, ◌++◌, length, Option, Some, IsSome}
 use Rattle.header_octets.specs.Octets.{IsText}
 use Rattle.frame_view.specs.Address.{is_group, is_reserved}
 use Rattle.frame_view.specs.Frame.{Frame, IsFrame}
-use Rattle.frame_view.specs.Tag.{tag_text, tci_of}
+use Rattle.frame_view.specs.Tag.{begins_tag, tag_text, tci_of}
 use Rattle.filter_db.specs.declared.place.Place.{Place}
 use Rattle.filter_db.specs.declared.place.Place.TheVariants.{Local, Remote}
 use Rattle.vlan_ports.specs.Ingress.{accepts, segment_vid}
 use Rattle.vlan_ports.specs.Ports.{Ports, port_at, is_up, egress_at}
 use Rattle.vlan_ports.specs.declared.member.Egress.{Egress}
+use Rattle.underlay.specs.Overlay.{Overlay, refuses_tags_at}
 use Rattle.encapsulate.specs.Emission.{local_text}
+use Rattle.endpoint_state.specs.Settings.{Settings}
 use Rattle.endpoint_core.specs.Event.{Input, FrameAt, Packet, Asks}
 
 -- a frame with an individual source, to an address that bridges forward
@@ -46,6 +49,10 @@ pub record IsBehindTag (f : Frame) (w : ℕ) (g : Frame) : Type 0 where
   pub body : f.body ≡ tag_text (tci_of g.pcp g.dei w) ++ g.body
   pub long : 2 ≤ length g.body
 
+-- where the segment v takes no frame whose body begins with a tag, this one begins with none
+abbrev pub IsTagless : Overlay → ℕ → Frame → Type 0
+IsTagless o v f = refuses_tags_at o v ≡ true → begins_tag f.body ≡ false
+
 -- ---- what a run sends
 
 -- what comes in is octets
@@ -55,17 +62,18 @@ IsTextIn (Packet original b) = IsText b
 IsTextIn (Asks c) = Unit {0}
 
 -- these octets, which leave at a port in a segment, are a frame that bridges forward, as it leaves there by how the port is
--- a member
-pub record IsLocalText (s : Ports) (segment : Option ℕ) (port : ℕ) (octets : List ℕ) : Type 0 where
+-- a member; and it begins with no tag where the segment takes none of those
+pub record IsLocalText (S : Settings) (segment : Option ℕ) (port : ℕ) (octets : List ℕ) : Type 0 where
   pub vid : ℕ
   pub egress : Egress
   pub frame : Frame
   pub segment_is : segment ≡ Some vid
-  pub member : egress_at s vid port ≡ Some egress
+  pub member : egress_at S.ports vid port ≡ Some egress
   pub forwarded : IsForwarded frame
+  pub tagless : IsTagless S.overlay vid frame
   pub octets_are : octets ≡ local_text vid egress frame
 
 -- so it is with what leaves at a local port; nothing is said of packets
-abbrev pub LeavesAsText : Ports → Option ℕ → Place → List ℕ → Type 0
-LeavesAsText s segment (Local port) octets = IsLocalText s segment port octets
-LeavesAsText s segment (Remote kind addr) octets = Unit {0}
+abbrev pub LeavesAsText : Settings → Option ℕ → Place → List ℕ → Type 0
+LeavesAsText S segment (Local port) octets = IsLocalText S segment port octets
+LeavesAsText S segment (Remote kind addr) octets = Unit {0}

@@ -1,5 +1,7 @@
 pub mod Again
 pub mod Own
+pub mod Reports
+pub mod Runs
 pub mod Single
 pub mod Texts
 pub mod Vnis

@@ -61,7 +61,7 @@ segment_met (Err refused) = refused.segment
 -- while these settings are in force, an event is the segment's own: a frame or packet that comes to it or is refused in
 -- it, a change that names it, or one of a port
 abbrev pub names_or_concerns : ℕ → Settings → Input → Bool
-names_or_concerns vid S (FrameAt port original b) = is_segment vid (segment_met (came_at S.ports port original b))
+names_or_concerns vid S (FrameAt port original b) = is_segment vid (segment_met (came_at S.ports S.overlay port original b))
 names_or_concerns vid S (Packet original b) = is_segment vid (segment_met (came_by S.overlay original b))
 names_or_concerns vid S (Asks c) = is_about vid c
 

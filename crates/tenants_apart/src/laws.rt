@@ -22,7 +22,7 @@ ghost use Rattle.endpoint_state.specs.Change.{is_about, refused};
 ghost use Rattle.endpoint_state.specs.Effect.{effect};
 ghost use Rattle.endpoint_state.specs.Opened.{settings_told};
 ghost use Rattle.endpoint_state.specs.Settings.{Settings};
-ghost use Rattle.endpoint_core.specs.Arrival.{came_at, came_by};
+ghost use Rattle.endpoint_core.specs.Arrival.{came_at, came_by, let_in};
 ghost use Rattle.endpoint_core.specs.Came.{Came};
 ghost use Rattle.endpoint_core.specs.Event.{Event, FrameAt, Packet, Asks, IsRising, frame_at, packet_at, change_at};
 ghost use Rattle.endpoint_core.specs.Run.{settings_after};
@@ -32,7 +32,7 @@ ghost use Rattle.capture_run.specs.Outputs.{Outputs};
 ghost use Rattle.segment_isolation.specs.Alone.{all_see, concerns, only};
 ghost use Rattle.noninterference.specs.Coming.{Inputs, IsRunOf, ChangesNeverFall, coming_to};
 ghost use Rattle.noninterference.specs.Leaving.{rows, rows_of, departing, departures, departures_in, lines_in, records_in};
-ghost use Rattle.tenants_apart.specs.Again.{IsForwarded, TakesInto, as_untagged, IsBehindTag, IsTextIn, LeavesAsText};
+ghost use Rattle.tenants_apart.specs.Again.{IsForwarded, TakesInto, as_untagged, IsTagless, IsBehindTag, IsTextIn, LeavesAsText};
 ghost use Rattle.tenants_apart.specs.Own.{IsFrontOf, IsOneFront, part_of, names_or_concerns, own_events, own_rows};
 ghost use Rattle.tenants_apart.specs.Own.{room_replies, wants_room};
 ghost use Rattle.tenants_apart.specs.Single.{single};
@@ -222,19 +222,25 @@ pub fn earlier()
 /// tag it enters the segment where it left and no other, as the same frame, whatever its body begins with. Without one,
 /// where its body begins with no tag, it enters the segment that the port's VID names, which is the same one where that is
 /// its VID, as the same frame but for its priority, which nothing tells then. A whole record of it comes so where it has at
-/// most 65,535 octets: a frame that came with as many and without a tag is longer with one. What is asked of the frame,
-/// every frame has that comes by a port or a tunnel.
+/// most 65,535 octets, and is let in by the segment that it enters: a frame that came with as many and without a tag is longer
+/// with one. What is asked of the frame, every frame has that comes by a port or a tunnel; and to a segment that takes no
+/// frame whose body begins with a tag none comes that does.
 pub fn again()
     ensures tagged { (s : Ports) (port v u : ℕ) (f h : Frame) → IsForwarded f → IsVid v →
         (enters s port (local_text v Tagged f) ≡ Ok (u, h)) ↔ ((u ≡ v) × (h ≡ f) × TakesInto s port v v) }
     ensures untagged { (s : Ports) (port v u : ℕ) (f h : Frame) → IsForwarded f → begins_tag f.body ≡ false →
         (enters s port (local_text v Untagged f) ≡ Ok (u, h)) ↔ ((h ≡ as_untagged f) × TakesInto s port 0 u) }
-    ensures records { (s : Ports) (port v : ℕ) (b : List ℕ) (f : Frame) → enters s port b ≡ Ok (v, f) → length b ≤ 65535 →
-        came_at s port (length b) b ≡ Ok (record { vid = v; from = Local port; frame = f }) }
-    ensures frames { (s : Ports) (port original : ℕ) (b : List ℕ) (came : Came) → IsText b →
-        came_at s port original b ≡ Ok came → IsForwarded came.frame }
+    ensures records { (s : Ports) (o : Overlay) (port v : ℕ) (b : List ℕ) (f : Frame) →
+        enters s port b ≡ Ok (v, f) → length b ≤ 65535 →
+        came_at s o port (length b) b ≡ let_in o (Ok (record { vid = v; from = Local port; frame = f })) }
+    ensures frames { (s : Ports) (o : Overlay) (port original : ℕ) (b : List ℕ) (came : Came) → IsText b →
+        came_at s o port original b ≡ Ok came → IsForwarded came.frame }
     ensures packets { (o : Overlay) (original : ℕ) (b : List ℕ) (came : Came) →
         came_by o original b ≡ Ok came → IsForwarded came.frame }
+    ensures frames_tagless { (s : Ports) (o : Overlay) (port original : ℕ) (b : List ℕ) (came : Came) →
+        came_at s o port original b ≡ Ok came → IsTagless o came.vid came.frame }
+    ensures packets_tagless { (o : Overlay) (original : ℕ) (b : List ℕ) (came : Came) →
+        came_by o original b ≡ Ok came → IsTagless o came.vid came.frame }
 {}
 
 /// A frame whose body begins with a tag, a second one, leaves without a tag of its own as the octets of another frame: they
@@ -258,9 +264,10 @@ pub fn second_tag()
 
 /// All that leaves at a local port, whatever state an endpoint is in and whatever comes: it leaves in a segment that the
 /// port is a member of by the settings in force, as that member has it, with a tag or without, and is the text of a frame of
-/// which [`again`] and [`second_tag`] tell where it enters.
+/// which [`again`] and [`second_tag`] tell where it enters. Where its segment takes no frame whose body begins with a tag, it
+/// begins with none, and is as [`again`] tells, without exception.
 pub fn leaving()
     ensures { (s : State) (e : Event) → IsTextIn e.input →
-        AllByRecursion (λ d. LeavesAsText s.bridges.settings.ports d.segment d.sending.place d.sending.octets)
+        AllByRecursion (λ d. LeavesAsText s.bridges.settings d.segment d.sending.place d.sending.octets)
         (departing (record { event = e; reply = answer s e })) }
 {}

@@ -1,10 +1,13 @@
 -- The program's exit statuses. It states no standard.
-use Rattle.std.specs.Prelude.{◌≡◌, ◌≢◌, ◌≤◌, ◌⊎◌, true, not, find, is_some, ℕ, List, Option, None, IsSomeAnd, []}
+use Rattle.std.specs.Prelude.{◌≡◌, ◌≢◌, ◌≤◌, ◌⊎◌, ◌||◌, Bool, true, not, codes, find, if◌then◌else◌, is_some, ℕ, List, Option, None, Some}
+use Rattle.std.specs.Prelude.{IsSomeAnd, []}
+use Rattle.std.specs.Str.{bytes_eq}
 use Rattle.clap.specs.Words.{IsAmong, Text, fault_of}
 use Rattle.clap.specs.declared.error.kind.ErrorKind.TheVariants.{DisplayHelp, DisplayVersion}
 use Rattle.command_line.specs.App.{tep_app}
 use Rattle.command_line.specs.Meaning.{AreTaken as AreTakenByClap, ComparesSomething, LendsToParts, Meaning, ReadsInputOnce}
-use Rattle.command_line.specs.Meaning.{compares_nothing, input_uses, lends_to_a_whole, run, telling_meant, words_meant}
+use Rattle.command_line.specs.Meaning.{compare, compare_worked, compares_nothing, input_uses}
+use Rattle.command_line.specs.Meaning.{lends_to_a_whole, run, telling_meant, words_meant}
 use Rattle.run_reports.specs.Names.{is_event_name}
 
 -- the first of these names that can be no event's
@@ -20,22 +23,42 @@ no_event_in _ = None
 abbrev pub NamesEvents : Meaning → Type 0
 NamesEvents meaning = no_event_in meaning ≡ None
 
+-- a table of what is compared has this name
+abbrev pub is_table_name : Text → Bool
+is_table_name name = bytes_eq name (codes "length") || bytes_eq name (codes "delay")
+
+-- a name, where no table has it
+abbrev pub unknown_table : Option Text → Option Text
+unknown_table None = None
+unknown_table (Some name) = if is_table_name name then None else Some name
+
+-- that by which a table is asked for
+abbrev pub no_table_in : Meaning → Option Text
+no_table_in (compare sent received within shift lists by ignores) = unknown_table by
+no_table_in (compare_worked worked underlay ports within shift settings strict lists by ignores) = unknown_table by
+no_table_in _ = None
+
+-- where one is asked for, there is such a table
+abbrev pub NamesTables : Meaning → Type 0
+NamesTables meaning = no_table_in meaning ≡ None
+
 -- words that `clap` doesn't take, also not as a run of which something is told, among them those that ask for help, that lack a
 -- value, that ask for standard input more than once, that lend digests to a run that is no part, that compare what a run wrote
--- with no capture, or that name an event as none can be named
+-- with no capture, that name an event as none can be named, or a table that there is none of
 abbrev pub AreRefused : List Text → Type 0
 AreRefused words =
     ((((fault_of tep_app words ≢ []) × (telling_meant words ≡ None)) ⊎ (words_meant words ≡ None))
     ⊎ IsSomeAnd (words_meant words) (λ meaning. 2 ≤ input_uses meaning))
     ⊎ (IsSomeAnd (words_meant words) (λ meaning. lends_to_a_whole meaning ≡ true)
     ⊎ (IsSomeAnd (words_meant words) (λ meaning. compares_nothing meaning ≡ true)
-    ⊎ IsSomeAnd (words_meant words) (λ meaning. is_some (no_event_in meaning) ≡ true)))
+    ⊎ (IsSomeAnd (words_meant words) (λ meaning. is_some (no_event_in meaning) ≡ true)
+    ⊎ IsSomeAnd (words_meant words) (λ meaning. is_some (no_table_in meaning) ≡ true))))
 
 -- words that are taken, ask for standard input once at most, lend digests to parts alone, compare something where they compare,
--- and name events as they can be named
+-- and name events as they can be named and tables that there are
 abbrev pub AreTaken : List Text → Type 0
 AreTaken words = AreTakenByClap words × IsSomeAnd (words_meant words) (λ meaning. ReadsInputOnce meaning × LendsToParts meaning
-    × ComparesSomething meaning × NamesEvents meaning)
+    × ComparesSomething meaning × NamesEvents meaning × NamesTables meaning)
 
 -- words that ask for help or for the version, which `clap` tells as a fault
 abbrev pub AskForText : List Text → Type 0

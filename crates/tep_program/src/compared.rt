@@ -1,10 +1,9 @@
 //! What was sent, compared with what was received.
 ghost use Rattle.std.specs.Prelude.{◌≤◌, IfOk, IfSome};
 
-use crate::opened::compare_open;
+use crate::opened::compare_whole;
 use crate::paired::Pairing;
 use crate::report::Told;
-use carried_key::Manner;
 use command_line::time_of;
 use program_faults::Failure;
 use program_files::open_seen;
@@ -33,6 +32,8 @@ pub struct Compared<'a> {
     pub lists: bool,
     /// What a table is by.
     pub by: Option<&'a str>,
+    /// Whether frames to the addresses that no bridge forwards are left aside.
+    pub ignores: bool,
 }
 
 /// Compares two captures, and prints how many records were sent, were received, are both, and are of one alone. What was
@@ -41,16 +42,17 @@ pub fn compare<'a, R: Files + Input + AllocGlobal + Print>(
     rt: &R,
     asked: Compared<'a>,
 ) -> Result<(), Failure<'a>> {
-    let told = Told::of(asked.lists, asked.by)?;
+    let clock = clock_of(asked.within, asked.shift)?;
+    let told = Told::of(asked.lists, asked.by, clock, asked.shift.is_some());
     let pairing = Pairing {
         at: None,
         sent: asked.sent,
         received: asked.received,
-        clock: clock_of(asked.within, asked.shift)?,
+        clock,
     };
     let (_, mut sent) = open_seen(rt, asked.sent)?;
     let (_, mut received) = open_seen(rt, asked.received)?;
-    let counts = compare_open(rt, &pairing, &Manner::Whole, told, &mut sent, &mut received)?;
+    let counts = compare_whole(rt, &pairing, told, asked.ignores, &mut sent, &mut received)?;
     if counts.is_same() {
         Ok(())
     } else {

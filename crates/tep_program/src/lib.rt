@@ -9,21 +9,23 @@
 //! Proved: each function is safe and ends. The exit status is 0, 1, 2 or 3: 0 only for words that are taken or that ask for
 //! help or the version, 1 only for words that are taken, 2 only for words that `clap`'s definition takes neither as the
 //! program's nor as a run's of which something is told, that lack a value, ask for standard input more than once, lend digests
-//! to a run that is no part, compare what a run wrote with no capture, or name an event as none can be named. What a file, a pipe
-//! or a terminal holds isn't proved.
+//! to a run that is no part, compare what a run wrote with no capture, name an event as none can be named, or a table that there
+//! is none of. What a file, a pipe or a terminal holds isn't proved.
 //!
 //! Why it is so: what a file holds no contract can say, so this one says which statuses come. A word of the command line that
 //! isn't text is refused as `words`, status 2; so is one that `clap` refuses, also where standard error can't be written.
 #![tactic(auto)]
 
+mod alone;
+mod aside;
 mod causes;
 mod checks;
 mod compared;
-mod counts;
 mod directions;
 mod echoes;
 mod interfaces;
 mod link;
+mod lonely;
 mod named;
 mod next_steps;
 mod nobody;
@@ -35,8 +37,10 @@ mod program;
 mod refusals;
 mod report;
 mod swapped;
+mod tables;
 mod told_runs;
 mod tunnels;
+mod unknown_table;
 mod worked;
 
 pub use program::{run, start};

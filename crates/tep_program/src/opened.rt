@@ -2,18 +2,21 @@
 ghost use Rattle.std.specs.Prelude.{◌≡◌, ◌≤◌, ◌<◌, ◌^◌};
 ghost use Rattle.pcap_stream.specs.Source.{New, most_left};
 
-use crate::counts::Counts;
+use crate::aside::print_aside;
 use crate::paired::{Outcome, Pairing, compare_told};
-use crate::report::{Report, Told};
-use carried_key::Manner;
+use crate::report::{Report, Told, open_report};
+use capture_compare::Aside;
+use carried_key::{Manner, Sameness};
+use compare_lines::{CountLines, Counts, Scope};
 use program_faults::Failure;
-use program_files::SeenCapture;
+use program_files::{SeenCapture, print_text};
 use std::io::Read;
+use std::rt::Files;
 use timeline::Tap;
 
 /// Compares two captures of which nothing was read, prints what is asked for and their counts, and answers these. What was
 /// compared before a fault is printed, too. It lends the captures: whoever opened them has one way out.
-pub(crate) fn compare_open<'a, R: AllocGlobal + Print, F: Read + Drop, I: Read + Drop>(
+pub(crate) fn compare_open<'a, R: AllocGlobal + Print + Files, F: Read + Drop, I: Read + Drop>(
     rt: &R,
     pairing: &Pairing<'a>,
     manner: &Manner,
@@ -28,32 +31,88 @@ pub(crate) fn compare_open<'a, R: AllocGlobal + Print, F: Read + Drop, I: Read +
     requires sent_delay { pairing.now.clock.sent_delay ≤ 2000000000000000000 }
     requires received_delay { pairing.now.clock.received_delay ≤ 2000000000000000000 }
 {
-    let mut report = Report::new(rt, told, pairing.at, pairing.clock)?;
-    let Outcome { counts, end } = compare_told(
+    let mut report = open_report(rt, told, pairing, manner)?;
+    compare_reported(rt, pairing, manner, sent, received, &mut report)
+}
+
+/// The same, shown to a report.
+fn compare_reported<'a, R: AllocGlobal + Print, F: Read + Drop, I: Read + Drop, G: Read + Drop>(
+    rt: &R,
+    pairing: &Pairing<'a>,
+    manner: &Manner,
+    sent: &mut SeenCapture<'a, F, I>,
+    received: &mut SeenCapture<'a, F, I>,
+    report: &mut Report<'_, 'a, R, G>,
+) -> Result<Counts, Failure<'a>>
+    requires new_sent { sent.old.standing ≡ New }
+    requires new_received { received.old.standing ≡ New }
+    requires most_sent { most_left sent.old < 2 ^ 64 }
+    requires most_received { most_left received.old < 2 ^ 64 }
+    requires sent_delay { pairing.now.clock.sent_delay ≤ 2000000000000000000 }
+    requires received_delay { pairing.now.clock.received_delay ≤ 2000000000000000000 }
+{
+    let Outcome { counts, aside, end } = compare_told(
         rt.alloc(),
         pairing,
         manner,
         sent,
         received,
-        &mut report,
+        report,
     )?;
-    let printed = print_counts(rt, pairing.at, counts);
+    let aside = manner.ignores_reserved.then_some(aside);
+    let printed = print_counts(rt, pairing.at, counts, aside);
     let reported = report.finish();
-    end?;
-    printed?;
-    reported?;
-    Ok(counts)
+    match end.and(printed).and(reported) {
+        Ok(()) => Ok(counts),
+        Err(failure) => Err(failure),
+    }
 }
 
-/// Prints the counts of a place on one line, and those of two captures that stand for themselves one a line.
+/// The same where records are the same octet for octet, and those that no bridge forwards may be left aside.
+pub(crate) fn compare_whole<'a, R: AllocGlobal + Print + Files, F: Read + Drop, I: Read + Drop>(
+    rt: &R,
+    pairing: &Pairing<'a>,
+    told: Told,
+    ignores: bool,
+    sent: &mut SeenCapture<'a, F, I>,
+    received: &mut SeenCapture<'a, F, I>,
+) -> Result<Counts, Failure<'a>>
+    requires new_sent { sent.old.standing ≡ New }
+    requires new_received { received.old.standing ≡ New }
+    requires most_sent { most_left sent.old < 2 ^ 64 }
+    requires most_received { most_left received.old < 2 ^ 64 }
+    requires sent_delay { pairing.now.clock.sent_delay ≤ 2000000000000000000 }
+    requires received_delay { pairing.now.clock.received_delay ≤ 2000000000000000000 }
+{
+    let manner = Manner {
+        sameness: Sameness::Whole,
+        ignores_reserved: ignores,
+    };
+    compare_open(rt, pairing, &manner, told, sent, received)
+}
+
+/// Prints the counts of a place, or of two captures that stand for themselves, and how many records were left aside, where some
+/// may be.
 fn print_counts<R: AllocGlobal + Print>(
     rt: &R,
     at: Option<Tap>,
     counts: Counts,
+    aside: Option<Aside>,
 ) -> Result<(), Failure<'static>> {
-    let Some(tap) = at else {
-        return counts.print(rt, "", "\n");
-    };
-    let head = format!(in rt.alloc(); "{tap}: ")?;
-    counts.print(rt, head.as_str(), ", ")
+    match at {
+        Some(tap) => print_lines(rt, Scope::Place(tap), counts)?,
+        None => print_lines(rt, Scope::Pair, counts)?,
+    }
+    print_aside(rt, at, aside)
+}
+
+/// Prints counts.
+pub(crate) fn print_lines<R: AllocGlobal + Print>(
+    rt: &R,
+    scope: Scope,
+    counts: Counts,
+) -> Result<(), Failure<'static>> {
+    let lines = CountLines { scope, counts };
+    let text = format!(in rt.alloc(); "{lines}")?;
+    print_text(rt, text.as_bytes())
 }

@@ -2,10 +2,10 @@
 ghost use Rattle.std.specs.Prelude.{◌≡◌, ◌≤◌, ◌<◌, ◌^◌};
 ghost use Rattle.pcap_stream.specs.Source.{New, most_left};
 
-use crate::counts::Counts;
 use crate::report::Report;
-use capture_compare::{CompareFault, Side, compare_captures};
+use capture_compare::{Aside, CompareFault, Side, compare_captures};
 use carried_key::{KeyRoom, Manner};
+use compare_lines::Counts;
 use program_faults::Failure;
 use program_files::SeenCapture;
 use record_match::{Clock, Comparison, Nobody, Onlooker};
@@ -27,17 +27,25 @@ pub(crate) struct Pairing<'a> {
 #[derive(Drop)]
 pub(crate) struct Outcome<'a> {
     pub(crate) counts: Counts,
+    /// How many records were left aside.
+    pub(crate) aside: Aside,
     pub(crate) end: Result<(), Failure<'a>>,
 }
 
 /// Compares two captures of which nothing was read, by a manner, and shows it to a report, where that tells anything.
-pub(crate) fn compare_told<'a, F: Read + Drop, I: Read + Drop, R: AllocGlobal + Print>(
+pub(crate) fn compare_told<
+    'a,
+    F: Read + Drop,
+    I: Read + Drop,
+    R: AllocGlobal + Print,
+    D: Read + Drop,
+>(
     alloc: Global,
     pairing: &Pairing<'a>,
     manner: &Manner,
     sent: &mut SeenCapture<'a, F, I>,
     received: &mut SeenCapture<'a, F, I>,
-    report: &mut Report<'_, R>,
+    report: &mut Report<'_, 'a, R, D>,
 ) -> Result<Outcome<'a>, AllocError>
     requires new_sent { sent.old.standing ≡ New }
     requires new_received { received.old.standing ≡ New }
@@ -71,6 +79,7 @@ fn compare_pair<'a, F: Read + Drop, I: Read + Drop, W: Onlooker>(
 {
     let mut comparison = Comparison::new(alloc, pairing.clock.within)?;
     let mut room = KeyRoom::new(alloc)?;
+    let mut aside = Aside::none();
     let compared = compare_captures(
         sent,
         received,
@@ -78,6 +87,7 @@ fn compare_pair<'a, F: Read + Drop, I: Read + Drop, W: Onlooker>(
         manner,
         &mut room,
         &mut comparison,
+        &mut aside,
         onlooker,
     );
     comparison.finish(onlooker);
@@ -85,10 +95,12 @@ fn compare_pair<'a, F: Read + Drop, I: Read + Drop, W: Onlooker>(
     Ok(match compared {
         Ok(()) => Outcome {
             counts,
+            aside,
             end: Ok(()),
         },
         Err(fault) => Outcome {
             counts,
+            aside,
             end: Err(failure_of(pairing, fault, sent, received)),
         },
     })

@@ -12,6 +12,7 @@ use crate::directions::within_of;
 use crate::next_steps::tell_next_step;
 use crate::notes::tell_notes;
 use crate::told_runs::{Asked, run_and_tell};
+use crate::unknown_table::{no_table, no_table_name};
 use crate::worked::{Worked, compare_worked};
 use capture_run::{RunFault, of_settings};
 use clap::error::ErrorKind as Refusal;
@@ -65,12 +66,16 @@ pub fn run<'a, R: Files + Input + AllocGlobal + Print + Eprint>(rt: &R, words: &
     match line_of(rt.alloc(), words) {
         Ok(line) => match no_event_name(&line) {
             Some(name) => no_event(rt, name),
-            None => performed(rt, &line),
+            None => match no_table_name(&line) {
+                Some(name) => no_table(rt, name),
+                None => performed(rt, &line),
+            },
         },
         Err(LineFault::OutOfMemory) => stopped(rt, &Failure::Run(RunFault::OutOfMemory)),
         Err(LineFault::NoValue) => words_refused(rt, &LineFault::NoValue),
         Err(LineFault::Unpaired) => words_refused(rt, &LineFault::Unpaired),
         Err(LineFault::NoFolder) => words_refused(rt, &LineFault::NoFolder),
+        Err(LineFault::Ignored) => words_refused(rt, &LineFault::Ignored),
         Err(LineFault::NoCapture) => words_refused(rt, &LineFault::NoCapture),
         Err(LineFault::InputTwice) => words_refused(rt, &LineFault::InputTwice),
         Err(LineFault::NoSegments) => words_refused(rt, &LineFault::NoSegments),
@@ -234,6 +239,7 @@ fn perform<'a, R: Files + Input + AllocGlobal + Print + Eprint>(
             shift,
             lists,
             by,
+            ignores,
         } => {
             let asked = Compared {
                 sent: *sent,
@@ -242,6 +248,7 @@ fn perform<'a, R: Files + Input + AllocGlobal + Print + Eprint>(
                 shift: *shift,
                 lists: *lists,
                 by: *by,
+                ignores: *ignores,
             };
             compare(rt, asked)
         }
@@ -255,6 +262,7 @@ fn perform<'a, R: Files + Input + AllocGlobal + Print + Eprint>(
             strict,
             lists,
             by,
+            ignores,
         } => {
             let asked = Worked {
                 folder: *worked,
@@ -266,6 +274,7 @@ fn perform<'a, R: Files + Input + AllocGlobal + Print + Eprint>(
                 strict: *strict,
                 lists: *lists,
                 by: *by,
+                ignores: *ignores,
             };
             compare_worked(rt, asked)
         }

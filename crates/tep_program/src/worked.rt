@@ -2,13 +2,13 @@
 ghost use Rattle.std.specs.Prelude.{◌≤◌};
 
 use crate::compared::clock_of;
-use crate::counts::Counts;
-use crate::opened::compare_open;
+use crate::opened::{compare_open, print_lines};
 use crate::paired::Pairing;
 use crate::report::Told;
 use crate::tunnels::tunnels_of;
-use carried_key::Manner;
+use carried_key::{Manner, Sameness};
 use command_line::NO_CAPTURE;
+use compare_lines::{Counts, Scope};
 use program_faults::{Failure, OutputFile, WorkedFailure};
 use program_files::{open_seen, open_written, path_of, print_text};
 use record_match::Clock;
@@ -40,6 +40,8 @@ pub struct Worked<'n, 'a> {
     pub lists: bool,
     /// What a table is by.
     pub by: Option<&'a str>,
+    /// Whether frames to the addresses that no bridge forwards are left aside.
+    pub ignores: bool,
 }
 
 /// Compares each capture that a run wrote with what was captured at its place, and prints the counts of each place and of all:
@@ -51,38 +53,58 @@ pub fn compare_worked<'a, R: Files + Input + AllocGlobal + Print>(
 ) -> Result<(), Failure<'a>> {
     let clock = clock_of(asked.within, asked.shift)?;
     let tunnels = tunnels_of(rt, asked.settings)?;
-    let told = Told::of(asked.lists, asked.by)?;
+    let told = Told::of(asked.lists, asked.by, clock, asked.shift.is_some());
     check_folder(rt, asked)?;
     check_twice(asked)?;
-    let mut all = Counts::none();
-    for (index, name) in asked.ports.iter().enumerate() {
-        let output = OutputFile::Port(index.saturating_add(1));
-        let place = Place {
-            tap: tap_of(index),
-            output,
-        };
-        all = all.and(compare_place(rt, asked.folder, place, &Manner::Whole, *name, clock, told)?);
-    }
+    let at_underlay = Manner {
+        sameness: Sameness::of_underlay(tunnels, asked.strict),
+        ignores_reserved: asked.ignores,
+    };
+    let at_ports = compare_ports(rt, asked, clock, told)?;
     let place = Place {
         tap: Tap::Underlay,
         output: OutputFile::Underlay,
     };
-    let manner = Manner::of_underlay(tunnels, asked.strict);
-    all = all.and(compare_place(
+    let all = at_ports.and(compare_place(
         rt,
         asked.folder,
         place,
-        &manner,
+        &at_underlay,
         asked.underlay,
         clock,
         told,
     )?);
-    all.print(rt, "all: ", ", ")?;
+    print_lines(rt, Scope::All, all)?;
     if all.is_same() {
         Ok(())
     } else {
         Err(Failure::Differs)
     }
+}
+
+/// Compares what the run wrote at each port with what was captured there, whole frames, and answers the counts of all ports.
+fn compare_ports<'a, R: Files + Input + AllocGlobal + Print>(
+    rt: &R,
+    asked: Worked<'_, 'a>,
+    clock: Clock,
+    told: Told,
+) -> Result<Counts, Failure<'a>>
+    requires sent { clock.sent_delay ≤ 2000000000000000000 }
+    requires received { clock.received_delay ≤ 2000000000000000000 }
+{
+    let manner = Manner {
+        sameness: Sameness::Whole,
+        ignores_reserved: asked.ignores,
+    };
+    let mut all = Counts::none();
+    for (index, name) in asked.ports.iter().enumerate() {
+        let place = Place {
+            tap: tap_of(index),
+            output: OutputFile::Port(index.saturating_add(1)),
+        };
+        all = all.and(compare_place(rt, asked.folder, place, &manner, *name, clock, told)?);
+    }
+    Ok(all)
 }
 
 /// A place where a run writes.

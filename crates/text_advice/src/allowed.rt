@@ -9,7 +9,7 @@ use crate::known::fits;
 pub type Sentence = (&'static str, &'static str, &'static str, &'static str);
 
 /// What is allowed under each key of settings and of changes.
-pub const SENTENCES: [Sentence; 72] = [
+pub const SENTENCES: [Sentence; 73] = [
     (
         "version",
         "",
@@ -166,6 +166,7 @@ pub const SENTENCES: [Sentence; 72] = [
     ),
     ("segment.learn", "", "", "true or false"),
     ("segment.peers", "", "", "\"any\" or \"listed\""),
+    ("segment.tags", "3", "", "\"drop\", \"pass\" or \"never\""),
     ("segment.tags", "", "", "\"drop\" or \"pass\""),
     (
         "segment.untagged",
@@ -271,7 +272,7 @@ pub const SENTENCES: [Sentence; 72] = [
     ),
     ("change.learn", "", "", "true or false"),
     ("change.peers", "", "", "\"any\" or \"listed\""),
-    ("change.tags", "", "", "\"drop\" or \"pass\""),
+    ("change.tags", "", "", "\"drop\", \"pass\" or \"never\""),
 ];
 
 /// The first sentence of this path that is for the variant and for the fault, or for any.

@@ -9,7 +9,7 @@ use Rattle.ip_udp_view.specs.declared.addr.Tunnel.{Tunnel}
 use Rattle.underlay.specs.Flood.{Entries, holds}
 use Rattle.underlay.specs.Tunnels.{of_kind}
 use Rattle.underlay.specs.declared.segment.PeerRule.TheVariants.{Any, Listed}
-use Rattle.underlay.specs.declared.segment.TagRule.TheVariants.{Drop, Pass}
+use Rattle.underlay.specs.declared.segment.TagRule.TheVariants.{Drop, Pass, Never}
 use Rattle.underlay.specs.declared.segment.Segment.{Segment}
 use Rattle.underlay.specs.declared.segment.TunnelRule.{TunnelRule}
 use Rattle.underlay.specs.declared.settings.Underlay.{Underlay}
@@ -44,7 +44,11 @@ is_listed g = elim g.peers [ Any ↦ false | Listed ↦ true ]
 
 -- it drops frames in tunnels that begin with a tag
 abbrev pub drops_tags : Segment → Bool
-drops_tags g = elim g.tags [ Drop ↦ true | Pass ↦ false ]
+drops_tags g = elim g.tags [ Drop ↦ true | Pass ↦ false | Never ↦ true ]
+
+-- it takes no frame whose body begins with a tag, at its local ports neither
+abbrev pub refuses_tags : Segment → Bool
+refuses_tags g = elim g.tags [ Drop ↦ false | Pass ↦ false | Never ↦ true ]
 
 -- ---- the segments
 
@@ -55,6 +59,10 @@ segment_at S vid = get S.segments vid
 -- there is one
 abbrev pub has_segment : Overlay → ℕ → Bool
 has_segment S vid = is_some (segment_at S vid)
+
+-- the segment of this VID takes no frame whose body begins with a tag
+abbrev pub refuses_tags_at : Overlay → ℕ → Bool
+refuses_tags_at S vid = option_map_or refuses_tags (segment_at S vid) false
 
 -- the flood list of the segment with this VID
 abbrev pub flood_in : Segments → ℕ → Entries

@@ -14,13 +14,15 @@ pub enum PeerRule {
     Listed,
 }
 
-/// What becomes of a frame in a tunnel that begins with a tag (RFC 7348, 6.1).
+/// What becomes of a frame whose body begins with a tag: in a tunnel (RFC 7348, 6.1), and at a local port.
 #[derive(Clone, Copy, Debug, PartialEq, Eq)]
 pub enum TagRule {
-    /// It is dropped, on receipt and before it is sent.
+    /// In a tunnel it is dropped, on receipt and before it is sent.
     Drop,
     /// It is passed as it is.
     Pass,
+    /// It is dropped in a tunnel and where it comes in at a local port, behind the tag that is taken off there.
+    Never,
 }
 
 /// The tunnels of a segment, and who is behind them.

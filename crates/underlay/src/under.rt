@@ -7,14 +7,14 @@ ghost use Rattle.std.specs.FinMap.{len};
 ghost use Rattle.underlay.specs.Flood.{first, fault_of, add_faults, holds, without};
 ghost use Rattle.underlay.specs.Heads.{head4_at, head6_at};
 ghost use Rattle.underlay.specs.Index.{Indexes};
-ghost use Rattle.underlay.specs.Overlay.{segment_at, has_segment, flood_at, tunnel_at, segment_by, taken};
+ghost use Rattle.underlay.specs.Overlay.{segment_at, has_segment, refuses_tags_at, flood_at, tunnel_at, segment_by, taken};
 ghost use Rattle.underlay.specs.Overlay.{are_free, AreApart, told, with_segment, without_segment, with_flood};
 ghost use Rattle.underlay.specs.Settings.{own, kind_at};
 
 use crate::heads::SegmentHeads;
 use crate::places::SegmentPlaces;
 use crate::vni_index::VniIndex;
-use crate::{Segment, SegmentTunnel, TunnelRule, Tunnels, Underlay};
+use crate::{Segment, SegmentTunnel, TagRule, TunnelRule, Tunnels, Underlay};
 use flood_lists::{FloodFault, FloodList, NotThere, Own};
 use frame_view::Vid;
 use geneve_head::Known;
@@ -139,6 +139,16 @@ impl Under {
         ensures { result ≡ has_segment self.now vid }
     {
         self.segments.get(vid).is_some()
+    }
+
+    /// Whether the segment of this VID takes no frame whose body begins with a tag.
+    pub fn refuses_tags(&self, vid: Vid) -> bool
+        ensures { result ≡ refuses_tags_at self.now vid }
+    {
+        match self.segments.get(vid) {
+            Some(segment) => segment.tags == TagRule::Never,
+            None => false,
+        }
     }
 
     /// A segment that is there.

@@ -227,6 +227,7 @@ fn merge(alloc: Global, digest: &mut Digest, written: &[Written]) -> Result<(), 
         sinks.as_mut_slice(),
         &mut underlay,
         &mut decisions,
+        false,
     );
     if merged.is_err() {
         return Err(JobFault::Failed(Stage::Merge));

@@ -30,12 +30,14 @@ impl Endpoint {
     )
         requires low { 1 ≤ port }
         requires high { port ≤ length (state_of self.now).bridges.settings.ports.ports }
-        ensures value { course.new ≡ came_at (state_of self.now).bridges.settings.ports port original octets.now }
+        ensures value { course.new ≡ came_at (state_of self.now).bridges.settings.ports
+            (state_of self.now).bridges.settings.overlay port original octets.now }
         ensures there { IfOk course.new (λ x. IsSome (segment_at (state_of self.now).bridges.settings x.vid)) }
         ensures short { IfOk course.new (λ x. length x.frame.body ≤ 65549) }
         ensures reached { IfOk course.new (λ x. is_reached (state_of self.now).bridges.settings.overlay x.vid x.from ≡ true) }
     {
-        come_at(self.state.ports(), port, original, octets, course);
+        let (ports, under) = (self.state.ports(), self.state.under());
+        come_at(ports, under, port, original, octets, course);
     }
 
     /// Sets a course to what [`Endpoint::frame_in`] answers, whatever it was.
@@ -72,12 +74,13 @@ impl Endpoint {
         self.moment = now;
     }
 
-    /// The frame that these octets at a local port would be, in its segment; or the first reason, of 1 to 11, why it would
-    /// come to none. The port is 1 to `ports()`.
+    /// The frame that these octets at a local port would be, in its segment; or the first reason, of 1 to 11 and 34, why it
+    /// would come to none. The port is 1 to `ports()`.
     pub fn frame_from<'a>(&self, port: u8, original: u32, octets: &'a [u8]) -> Course<'a>
         requires low { 1 ≤ port }
         requires high { port ≤ length (state_of self.now).bridges.settings.ports.ports }
-        ensures value { result ≡ came_at (state_of self.now).bridges.settings.ports port original octets.now }
+        ensures value { result ≡ came_at (state_of self.now).bridges.settings.ports (state_of self.now).bridges.settings.overlay
+            port original octets.now }
         ensures there { IfOk result (λ x. IsSome (segment_at (state_of self.now).bridges.settings x.vid)) }
         ensures short { IfOk result (λ x. length x.frame.body ≤ 65549) }
         ensures reached { IfOk result (λ x. is_reached (state_of self.now).bridges.settings.overlay x.vid x.from ≡ true) }
@@ -121,7 +124,7 @@ impl Endpoint {
         ensures leave { CanLeave (state_of self.new).bridges.settings result places.new.items }
         ensures empty { IsEmptied result places.new.items }
         ensures came { let S = (state_of self.old).bridges.settings in
-            IsOfWhatCame (came_at S.ports port original octets.now) result }
+            IsOfWhatCame (came_at S.ports S.overlay port original octets.now) result }
     {
         let mut course = self.frame_from(port, original, octets);
         self.take(now, &mut course, places);

@@ -27,7 +27,7 @@ impl Endpoint {
         ensures answer { Decided (octets_of result) ≡ answer (state_of self.old) (frame_at now port original octets.now) }
         ensures after { state_of self.new ≡ after (state_of self.old) (frame_at now port original octets.now) }
         ensures parts { let S = (state_of self.old).bridges.settings in
-            AreInParts (state_of self.new).bridges.settings (came_at S.ports port original octets.now) result.outcomes }
+            AreInParts (state_of self.new).bridges.settings (came_at S.ports S.overlay port original octets.now) result.outcomes }
     {
         let mut places = Outlets::new();
         let course = self.take_frame(now, port, original, octets, &mut places);

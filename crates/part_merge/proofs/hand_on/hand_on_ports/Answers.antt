@@ -6,10 +6,11 @@ use Rattle.part_merge.specs.declared.fault.MergeFault.TheVariants as faults
 use Rattle.part_merge.specs.declared.fault.Target.TheVariants as targets
 use Rattle.part_merge.proofs.Blaming.{health, healths, place_writes, same_set, writes_behind}
 use Rattle.part_merge.proofs.Handing.{handed_keeps, handed_writes, none_handed_yet, one_more_kept, ports_kept}
+use Rattle.part_merge.proofs.Waits.{handed_out, one_more_out}
 use Rattle.part_merge.proofs.hand_on.hand_on_ports.Goals as goal
 
 pub loop-i-init : goal.loop-i-init
-loop-i-init g c = record { kept = none_handed_yet c.args.port_sinks.now; writes = refl }
+loop-i-init g c = record { out = λ x k lt. absurd (omega (arith, lt)); kept = none_handed_yet c.args.port_sinks.now; writes = refl }
 
 pub loop-i-preserved : goal.loop-i-preserved
 loop-i-preserved g c =
@@ -18,6 +19,7 @@ loop-i-preserved g c =
     let there : i < length sinks = omega (arith, c.loop-i-test.true, c.loop-i.auto.port_sinks) in
     let old = slice_index_or sinks i c.index-port_sinks-i.result in
     record {
+      out = one_more_out sinks i c.hand_on_held.new.self there c.loop-i.invariant.out (handed_out {E = WriteFault} old c.hand_on_held.new.self (Ok c.in_default.field-0) c.in_default.ensures);
       kept = one_more_kept c.args.port_sinks.now sinks i c.index-port_sinks-i.result c.hand_on_held.new.self there c.loop-i.invariant.kept (handed_keeps {E = WriteFault} old c.hand_on_held.new.self (Ok c.in_default.field-0) c.in_default.ensures);
       writes = same_set sink_health sinks i c.hand_on_held.new.self c.index-port_sinks-i.result there (handed_writes {E = WriteFault} old c.hand_on_held.new.self (Ok c.in_default.field-0) c.in_default.ensures) ∙ c.loop-i.invariant.writes;
     }
@@ -38,3 +40,6 @@ returns-clause-kept g c = λ underlay. ports_kept c.args.port_sinks.now c.loop-i
 
 pub returns-clause-writes : goal.returns-clause-writes
 returns-clause-writes g c = λ underlay failures. ap (λ l. health failures (healths l (sink_health underlay))) c.loop-i.invariant.writes
+
+pub returns-clause-out : goal.returns-clause-out
+returns-clause-out g c = λ x k inside few. c.loop-i.invariant.out x k (omega (arith, inside, few, c.loop-i-test.false, c.loop-i.auto.port_sinks))

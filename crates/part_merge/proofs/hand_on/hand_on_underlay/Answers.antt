@@ -6,6 +6,7 @@ use Rattle.part_merge.specs.declared.fault.MergeFault.TheVariants as faults
 use Rattle.part_merge.specs.declared.fault.Target.TheVariants as targets
 use Rattle.part_merge.proofs.Blaming.{health, healths, underlay_writes}
 use Rattle.part_merge.proofs.Handing.{handed_keeps, handed_writes}
+use Rattle.part_merge.proofs.Waits.{handed_out}
 use Rattle.part_merge.proofs.hand_on.hand_on_underlay.Goals as goal
 
 pub returns-in-Ok-clause-kept : goal.returns-in-Ok-clause-kept
@@ -19,3 +20,6 @@ pub returns-in-Err-clause-writes : goal.returns-in-Err-clause-writes
 returns-in-Err-clause-writes g c = λ sinks failures.
     underlay_writes {T = Unit {0}} sinks c.args.underlay_sink.now c.hand_on_held.new.self failures (Err (faults.Write (targets.Capture Underlay)))
     (refl, handed_writes {T = Unit {0}} c.args.underlay_sink.now c.hand_on_held.new.self (Err c.in-Err.field-0) c.in-Err.ensures)
+
+pub returns-in-Ok-clause-out : goal.returns-in-Ok-clause-out
+returns-in-Ok-clause-out g c = handed_out {E = WriteFault} c.args.underlay_sink.now c.hand_on_held.new.self (Ok c.in-Ok.field-0) c.in-Ok.ensures

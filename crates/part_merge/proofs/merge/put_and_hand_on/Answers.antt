@@ -4,6 +4,7 @@ use Rattle.part_merge.proofs.Blaming.{no_read, writes_behind}
 use Rattle.part_merge.proofs.Handing.{added_kept, unless_both}
 use Rattle.std.proofs.Common.{slice_index_or}
 use Rattle.part_merge.proofs.Numbering.{handed_line}
+use Rattle.part_merge.proofs.Waits.{none_waits}
 use Rattle.part_merge.proofs.merge.put_and_hand_on.Goals as goal
 
 pub returns-then-must_hand_on-clause-put : goal.returns-then-must_hand_on-clause-put
@@ -33,3 +34,6 @@ pub returns-then-must_hand_on-clause-line : goal.returns-then-must_hand_on-claus
 returns-then-must_hand_on-clause-line g c = λ s.
     handed_line (slice_index_or c.args.parts.now c.args.index s).coming (g.W.Output.written c.args.decisions.now) (g.W.Output.written c.put_at.new.decisions) (g.W.Output.written c.hand_on_all.new.decisions) _ c.hand_on_all.result
     (c.in_default.ensures.line s) c.hand_on_all.ensures.kept
+
+pub returns-then-must_hand_on-clause-waits : goal.returns-then-must_hand_on-clause-waits
+returns-then-must_hand_on-clause-waits g c = none_waits _ c.hand_on_all.result c.hand_on_all.ensures.no_read

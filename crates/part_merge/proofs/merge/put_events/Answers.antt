@@ -10,11 +10,12 @@ use Rattle.part_merge.proofs.Missing.{device_stops}
 use Rattle.part_merge.specs.Numbered.{AddsLine}
 use Rattle.part_merge.specs.declared.part.Coming.{Coming}
 use Rattle.part_merge.proofs.Numbering.{no_events, one_event}
+use Rattle.part_merge.proofs.Waits.{none_waits}
 use Rattle.part_merge.proofs.merge.put_events.Goals as goal
 
 -- a part of nothing, for places where there is none
 fresh : OpenPart
-fresh = record { reader = record { line = []; rest = None; failures = 0 }; ports = []; underlay = nothing; coming = coming.Nothing }
+fresh = record { reader = record { line = []; ahead = []; rest = None; failures = 0 }; ports = []; underlay = nothing; coming = coming.Nothing }
   where
     nothing : Stream
     nothing = record { standing = New; supply = record { rest = None; calls = 0; failures = 0; ends = 0; reads = 0 }; ahead = [] }
@@ -125,3 +126,6 @@ returns-clause-numbered g c = (c.loop-first.last, c.loop-first.invariant.numbere
 
 pub returns-clause-over : goal.returns-clause-over
 returns-clause-over g c = λ s k lt. c.in_default.ensures s k lt
+
+pub returns-then-first-last-clause-waits : goal.returns-then-first-last-clause-waits
+returns-then-first-last-clause-waits g c = none_waits {T = Unit {0}} _ (Err c.behind.result) (rw c.behind.ensures (behind_no_read c.loop-first.last c.in-Some.first.index c.in-Some.first.number))

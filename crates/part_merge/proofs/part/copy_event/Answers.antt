@@ -1,4 +1,5 @@
 use Rattle.std.proofs.Common.{◌≡◌, ◌∙◌, sym, subst, ℕ, Option, IfSome}
+use Rattle.std.proofs.KnownBytes.{Keeps-refl}
 use Rattle.part_lines.specs.Parts.{places_in}
 use Rattle.part_merge.specs.Moved.{taps}
 use Rattle.part_merge.specs.Told.{IsPlaced}
@@ -16,3 +17,6 @@ returns-in-Ok-Event-clause-copied g c = λ number records rest told sound left.
     let both = sym c.in-Ok-Event.is ∙ c.read_line.ensures ∙ told in
     let same : c.in-Ok-Event.places ≡ taps records = cc in
     c.copy_all-in-Ok-Event.ensures.copied records rest same sound left
+
+pub returns-in-Ok-Cut-clause-kept : goal.returns-in-Ok-Cut-clause-kept
+returns-in-Ok-Cut-clause-kept g c = Keeps-refl (g.W.Output.written c.args.decisions.now)

@@ -1,6 +1,7 @@
 use Rattle.std.proofs.Common.{◌≡◌, ◌++◌, ℕ, List, length}
+use Rattle.std.specs.Io.KnownBytes.{Keeps}
 use Rattle.timeline.specs.declared.source.Tap.{Tap}
-use Rattle.part_merge.specs.Blame.{captures_health, sinks_health}
+use Rattle.part_merge.specs.Blame.{captures_health, outputs_health}
 use Rattle.part_merge.specs.Left.{AreLeft}
 use Rattle.part_merge.specs.Merged.{records_at}
 use Rattle.part_merge.specs.Moved.{AreRecords, taps}
@@ -16,7 +17,8 @@ invariant-loop-tap g l = record {
       → AreLeft (λ t. records_at t records ++ rest t) l.initial.ports l.initial.underlay
       → CopiedSoFar records rest l.places (length l.initial.ports) l.ports l.underlay l.initial.port_sinks l.initial.underlay_sink l.port_sinks l.underlay_sink;
   reads : captures_health l.ports l.underlay ≡ captures_health l.initial.ports l.initial.underlay;
-  writes : sinks_health l.port_sinks l.underlay_sink ≡ sinks_health l.initial.port_sinks l.initial.underlay_sink;
+  lines : Keeps (g.W.Output.written l.initial.decisions) (g.W.Output.written l.decisions);
+  writes : outputs_health l.port_sinks l.underlay_sink (g.W.Output.failures l.decisions) ≡ outputs_health l.initial.port_sinks l.initial.underlay_sink (g.W.Output.failures l.initial.decisions);
 }
 
 abbrev pub decreases-loop-tap : goal.decreases-loop-tap

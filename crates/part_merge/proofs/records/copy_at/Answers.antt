@@ -1,9 +1,10 @@
 use Rattle.std.proofs.Common.{subst}
 use Rattle.timeline.specs.declared.source.Tap.{Tap}
-use Rattle.timeline.specs.declared.source.Tap.TheVariants.{Underlay}
+use Rattle.timeline.specs.declared.source.Tap.TheVariants.{Port, Underlay}
 use Rattle.part_merge.specs.Blame.{SinkWrites}
 use Rattle.part_merge.proofs.Blaming.{underlay_reads, underlay_writes}
 use Rattle.part_merge.proofs.Moving.{underlay_moved}
+use Rattle.part_merge.proofs.Waits.{port_waits, underlay_waits}
 use Rattle.part_merge.proofs.records.copy_at.Goals as goal
 
 pub returns-in-Port-clause-copied : goal.returns-in-Port-clause-copied
@@ -29,3 +30,13 @@ pub returns-in-Underlay-clause-writes : goal.returns-in-Underlay-clause-writes
 returns-in-Underlay-clause-writes g c = λ failures.
     underlay_writes c.args.port_sinks.now c.args.underlay_sink.now c.copy_record.new.sink failures c.copy_record.result
     (subst (λ (t : Tap). SinkWrites t c.args.underlay_sink.now c.copy_record.new.sink c.copy_record.result) c.in-Underlay.is c.copy_record.ensures.writes)
+
+pub returns-in-Port-clause-waits : goal.returns-in-Port-clause-waits
+returns-in-Port-clause-waits g c =
+    rw c.in-Port.is
+    (port_waits c.args.ports.now c.args.underlay.now (Port c.in-Port.port) c.args.port_sinks.now c.copy_port.new.port_sinks c.args.underlay_sink.now c.copy_port.result (c.copy_port.ensures.waits c.args.underlay.now))
+
+pub returns-in-Underlay-clause-waits : goal.returns-in-Underlay-clause-waits
+returns-in-Underlay-clause-waits g c =
+    rw c.in-Underlay.is
+    (underlay_waits c.args.ports.now c.args.underlay.now c.args.port_sinks.now c.args.underlay_sink.now c.copy_record.new.sink c.copy_record.result c.copy_record.ensures.waits)

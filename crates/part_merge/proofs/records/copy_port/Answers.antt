@@ -4,6 +4,7 @@ use Rattle.timeline.specs.declared.source.Tap.TheVariants.{Port}
 use Rattle.part_merge.specs.Left.{IsAdded, IsLeft, UnlessDevice}
 use Rattle.part_merge.proofs.Blaming.{place_reads, place_writes}
 use Rattle.part_merge.proofs.Moving.{left_here, port_moved}
+use Rattle.part_merge.proofs.Waits.{place_waits}
 use Rattle.part_merge.proofs.records.copy_port.Goals as goal
 
 pub offset_bounds-port_sinks-index : goal.offset_bounds-port_sinks-index
@@ -34,3 +35,9 @@ pub returns-clause-writes : goal.returns-clause-writes
 returns-clause-writes g c = λ underlay_sink failures.
     let there : c.from-index.result - 1 < length c.args.port_sinks.now = omega (arith, c.from-index.ensures, c.if-index-eq0.false, c.if-index-ports.false, c.requires) in
     place_writes c.args.port_sinks.now underlay_sink c.copy_record.new.sink c.index-port_sinks-index.result failures (c.from-index.result - 1) c.args.port c.copy_record.result there (omega (arith, c.from-index.ensures, c.if-index-eq0.false)) c.copy_record.ensures.writes
+
+pub returns-clause-waits : goal.returns-clause-waits
+returns-clause-waits g c = λ underlay.
+    let there : c.from-index.result - 1 < length c.args.ports.now = omega (arith, c.from-index.ensures, c.if-index-eq0.false, c.if-index-ports.false) in
+    place_waits c.args.ports.now underlay c.index-ports-index.result c.args.port_sinks.now c.copy_record.new.sink c.index-port_sinks-index.result (c.from-index.result - 1) c.args.port c.copy_record.result
+    (omega (arith, c.from-index.ensures, c.if-index-eq0.false)) there (omega (arith, there, c.requires)) c.copy_record.ensures.waits

@@ -34,8 +34,8 @@ module _ (g : Over) (c : After-has g) (r : Record) (lends : lent c.args.source.n
   same : c.unwrap-record.result ≡ r
   same = cc (c.unwrap-record.ensures, c.head.ensures.record, lends)
 
-  came : c.bring_frame.new.course ≡ came_at (state_of c.args.taker.now.endpoint).bridges.settings.ports c.args.port r.original r.octets
-  came = c.bring_frame.ensures.value ∙ ap (λ (r : Record). came_at (state_of c.args.taker.now.endpoint).bridges.settings.ports c.args.port r.original r.octets) (c.record.view_is ∙ same)
+  came : c.bring_frame.new.course ≡ came_at (state_of c.args.taker.now.endpoint).bridges.settings.ports (state_of c.args.taker.now.endpoint).bridges.settings.overlay c.args.port r.original r.octets
+  came = c.bring_frame.ensures.value ∙ ap (λ (r : Record). came_at (state_of c.args.taker.now.endpoint).bridges.settings.ports (state_of c.args.taker.now.endpoint).bridges.settings.overlay c.args.port r.original r.octets) (c.record.view_is ∙ same)
 
   -- whether it is told
   told : is_told c.args.segments.now (state_of c.args.taker.now.endpoint) asked ≡ c.has.result

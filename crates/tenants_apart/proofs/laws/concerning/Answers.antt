@@ -8,5 +8,5 @@ returns c = record {
   frames = frame-in_force;
   packets = packet-in_force;
   changes = λ vid S es t change. refl;
-  own_frames = λ vid S T port original b ports members. frame-own vid S.ports T.ports ports members port original b;
+  own_frames = λ vid S T port original b ports members. frame-own vid S.ports T.ports S.overlay T.overlay ports members port original b;
 }

@@ -8,6 +8,6 @@ use Rattle.endpoint_core.proofs.endpoint.Endpoint.frame.Goals as goal
 
 pub returns-clause-parts : goal.returns-clause-parts
 returns-clause-parts c =
-    let came = came_at (settings_of c.args.self.now.held).ports c.args.port c.args.original c.args.octets.now in
+    let came = came_at (settings_of c.args.self.now.held).ports (settings_of c.args.self.now.held).overlay c.args.port c.args.original c.args.octets.now in
     subst (λ (k : Kept). AreInParts (settings_of k.held) came c.of.result.outcomes) c.self.view_is
     (in-parts (settings_of c.self.inside.state) came c.take_frame-course.result c.as_slice.result.now c.of.result.outcomes c.take_frame-course.ensures.came c.of.ensures.parts)

@@ -1,15 +1,16 @@
-use Rattle.std.proofs.Common.{◌≡◌, ◌∙◌, ◌++◌, sym, ap, subst, length, Some, Ok, Err}
+use Rattle.std.proofs.Common.{◌≡◌, ◌∙◌, ◌++◌, refl, sym, ap, subst, false, length, Some, Ok, Err}
 use Rattle.pcap_io.specs.Record.{Record}
 use Rattle.pcap_io.specs.Written.{whole_frame, written_record}
 use Rattle.pcap_stream.specs.Sink.{IsPut}
 use Rattle.pcap_stream.specs.declared.fault.WriteFault.{WriteFault}
-use Rattle.pcap_stream.specs.Source.{Stream, lent}
+use Rattle.pcap_stream.specs.Source.{MatchRead as MatchSource, Stream, holds_next, lent}
 use Rattle.part_merge.specs.Blame.{CopyReads}
 use Rattle.part_merge.specs.Copied.{IsDeviceStop}
 use Rattle.part_merge.specs.Left.{IsAdded, IsLeft}
 use Rattle.part_merge.specs.declared.capture.Stop.{Stop}
 use Rattle.part_merge.proofs.Blaming.{fill_reads, put_writes, stop_reads, stop_writes}
 use Rattle.part_merge.proofs.Copying.{err_stop, filled, lends, put_is_added, sound_written}
+use Rattle.part_merge.proofs.Waits.{stop_waits}
 use Rattle.part_merge.proofs.capture.Capture.copy.Goals as goal
 use Rattle.part_merge.proofs.capture.Capture.copy.Goals.{in-Ok, in-Err-put}
 
@@ -83,4 +84,16 @@ returns-clause-writes g c =
     elim c.match-put.branch [
       | in-Ok w ↦ rw w.result-is (put_writes {T = Unit {0}} {E = WriteFault} c.args.sink.now c.put.new.self _ (Ok w.in-Ok.field-0) w.in-Ok.ensures)
       | in-Err-put w ↦ rw w.result-is (put_writes {T = Unit {0}} {E = WriteFault} c.args.sink.now c.put.new.self _ (Err w.in-Err-put.field-0) w.in-Err-put.ensures)
+    ]
+
+pub returns-in-Err-clause-waits : goal.returns-in-Err-clause-waits
+returns-in-Err-clause-waits g c =
+    let lacked = subst (λ (s : Stream). MatchSource {T = Unit {0}} (Err c.in-Err.fault) (holds_next s ≡ false) (Unit {0})) c.self.view_is c.in-Err.ensures.lacked in
+    rw c.stop_by.ensures (stop_waits c.in-Err.fault (holds_next c.args.self.now ≡ false) (c.args.sink.now ≡ c.args.sink.now) lacked refl)
+
+pub returns-clause-waits : goal.returns-clause-waits
+returns-clause-waits g c =
+    elim c.match-put.branch [
+      | in-Ok w ↦ rw w.result-is tt
+      | in-Err-put w ↦ rw w.result-is tt
     ]

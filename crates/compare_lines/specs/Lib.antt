@@ -1,0 +1,4 @@
+pub mod Aside
+pub mod Counts
+pub mod Lonely
+pub mod Tables

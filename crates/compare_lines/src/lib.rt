@@ -1,0 +1,23 @@
+//! The lines that tell how two captures are compared.
+//!
+//! Use first: [`CountLines`] of [`Counts`], in front of them a line for each [`Lonely`] record, and behind them how many were left
+//! aside, [`AsideLines`], and the lines of tables, [`LengthLine`] and [`DelayLines`]. Each prints as its text. Nothing is compared
+//! here.
+//!
+//! Specs to read: `specs/Counts`, `specs/Aside`, `specs/Lonely`, `specs/Tables`.
+//!
+//! Proved: the texts, octet for octet.
+#![tactic(auto)]
+
+mod aside;
+mod counts;
+mod delays;
+mod lengths;
+mod lonely;
+mod place;
+
+pub use aside::AsideLines;
+pub use counts::{CountLines, Counts, Scope};
+pub use delays::DelayLines;
+pub use lengths::LengthLine;
+pub use lonely::Lonely;

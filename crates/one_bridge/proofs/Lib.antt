@@ -1,0 +1,4 @@
+pub mod Ageing
+pub mod Behind
+pub mod Deciding
+pub mod Keeping

@@ -1,0 +1,5 @@
+mod Lines
+mod Splits
+mod Stepping
+mod Standing
+mod Faults

@@ -1,0 +1,40 @@
+//! The laws of stories.
+ghost use Rattle.std.specs.Prelude.{◌≡◌, ℕ, ◌==◌, false, is_none, is_some, List, ◌∷◌, ◌++◌, map, filter, Option, Some, None};
+ghost use Rattle.std.specs.List.{AllByRecursion, flat_map};
+ghost use Rattle.std.specs.Option.{option_to_list};
+ghost use Rattle.frame_view.specs.Reason.{number_of};
+ghost use Rattle.frame_view.specs.declared.reason.Reason.{Reason};
+ghost use Rattle.filter_db.specs.declared.place.Place.{Place};
+ghost use Rattle.overlay_settings.specs.declared.change.Change.{Change};
+ghost use Rattle.tunnel_learning.specs.Bridge.{Config, local_places, remote_places};
+ghost use Rattle.change_story.specs.Change.{change_text};
+ghost use Rattle.event_story.specs.Bridge.{left_facts, left_out, places_of};
+ghost use Rattle.event_story.specs.Tests.{told};
+ghost use Rattle.event_story.specs.declared.fact.Fact.{Fact};
+ghost use Rattle.story_laws.specs.Told.{IsSound, place_told};
+
+/// The text of a change tells the change: another change has another text. So `add_segment`'s has all its keys.
+pub fn changes()
+    ensures { (c d : Change) → IsSound c → IsSound d → change_text c ≡ change_text d → c ≡ d }
+{}
+
+/// Of a flood of a frame from a place, the outlets are all those places of the segment, in their order, of which the story tells
+/// no reason why the flood leaves them out; and it tells one of each other place, in the same order. So both together are the
+/// places of the segment, each once.
+pub fn floods()
+    ensures outlets { (c : Config) (from : Place) →
+        local_places c from ++ remote_places c from ≡ filter (λ to. is_none (left_out c from to)) (places_of c) }
+    ensures left { (c : Config) (from : Place) →
+        map place_told (left_facts c from) ≡ map Some (filter (λ to. is_some (left_out c from to)) (places_of c)) }
+{}
+
+/// Where a frame or a packet is refused for a reason, its story tells what the tests saw up to that of the reason, which is the
+/// last; where it isn't, what all of them saw.
+pub fn tests()
+    ensures refused { (saw : Reason → Option Fact) (reason test : Reason) (before behind : List Reason) →
+        AllByRecursion (λ t. (number_of reason == number_of t) ≡ false) before → number_of reason ≡ number_of test →
+        told saw (Some reason) (before ++ test ∷ behind) ≡
+        flat_map (λ t. option_to_list (saw t)) before ++ option_to_list (saw test) }
+    ensures taken { (saw : Reason → Option Fact) (tests : List Reason) →
+        told saw None tests ≡ flat_map (λ t. option_to_list (saw t)) tests }
+{}

@@ -10,3 +10,4 @@ pub mod Kept
 pub mod Run
 pub mod Step
 pub mod Text
+pub mod Work

@@ -1,11 +1,13 @@
 //! Where a frame or a packet goes.
-ghost use Rattle.std.specs.Prelude.{◌≡◌, ◌≤◌, length, IfOk, IsSome, true, Err};
+ghost use Rattle.std.specs.Prelude.{◌≡◌, ◌≤◌, ◌+◌, ◌*◌, length, IfOk, IsSome, true, Err};
+ghost use Rattle.filter_db.specs.Work.{most_compared};
 ghost use Rattle.endpoint_state.specs.Held.{settings_of, state_at, moment_of};
 ghost use Rattle.endpoint_state.specs.Settings.{segment_at};
 ghost use Rattle.endpoint_state.specs.Sound.{is_reached};
 ghost use Rattle.endpoint_state.specs.Step.{after_frame};
 ghost use Rattle.endpoint_core.specs.Course.{decision_of, course_of, IsThere, IsShortFrame, CanLeave, IsEmptied, IsOfWhatCame};
 ghost use Rattle.endpoint_core.specs.Step.{decided, decided_in, after_came};
+ghost use Rattle.endpoint_core.specs.Work.{most_calls, most_compared_by};
 
 use crate::Course;
 use crate::arrival::Came;
@@ -32,6 +34,10 @@ pub(crate) fn decide<'a>(
     ensures empty { IsEmptied course.new places.new.items }
     ensures came { IsOfWhatCame course.old course.new }
     ensures time { moment_of state.new ≤ now }
+    ensures calls_stay_counted { state.old.tables.calls ≤ state.new.tables.calls }
+    ensures calls { state.new.tables.calls ≤ state.old.tables.calls + most_calls course.old }
+    ensures comparisons_stay_counted { state.old.tables.compared ≤ state.new.tables.compared }
+    ensures compared { state.new.tables.compared ≤ state.old.tables.compared + most_compared_by course.old }
 {
     let forwarded = match course {
         Ok(came) => forward(state, now, came, places),
@@ -72,6 +78,10 @@ fn forward(
     ensures empty { IsEmptied (course_of result came.old) places.new.items }
     ensures came { came.new ≡ came.old }
     ensures time { moment_of state.new ≤ now }
+    ensures calls_stay_counted { state.old.tables.calls ≤ state.new.tables.calls }
+    ensures calls { state.new.tables.calls ≤ state.old.tables.calls + 2 }
+    ensures comparisons_stay_counted { state.old.tables.compared ≤ state.new.tables.compared }
+    ensures compared { state.new.tables.compared ≤ state.old.tables.compared + 2 * most_compared }
 {
     match state.step(now, came.vid, &came.from, &came.frame, places) {
         Ok(()) => {

@@ -1,9 +1,10 @@
 //! The endpoint.
-ghost use Rattle.std.specs.Prelude.{◌≡◌, ◌≤◌, IfOk, length};
+ghost use Rattle.std.specs.Prelude.{◌≡◌, ◌≤◌, ◌+◌, IfOk, length};
 ghost use Rattle.std.specs.FinMap.{entries};
 ghost use Rattle.frame_view.specs.First.{fault_of};
 ghost use Rattle.endpoint_state.specs.Held.{moment_of};
 ghost use Rattle.endpoint_state.specs.Opened.{settings_told};
+ghost use Rattle.endpoint_state.specs.Work.{most_calls, most_compared_by};
 ghost use Rattle.endpoint_core.specs.Event.{change_at};
 ghost use Rattle.endpoint_core.specs.Step.{Replied, opened, answer, after, passed};
 
@@ -137,6 +138,10 @@ impl Endpoint {
         requires { (state_of self.old).moment ≤ now }
         ensures answer { Replied (fault_of result) ≡ answer (state_of self.old) (change_at now change) }
         ensures after { state_of self.new ≡ after (state_of self.old) (change_at now change) }
+        ensures calls_stay_counted { self.old.held.tables.calls ≤ self.new.held.tables.calls }
+        ensures calls { self.new.held.tables.calls ≤ self.old.held.tables.calls + most_calls change }
+        ensures comparisons_stay_counted { self.old.held.tables.compared ≤ self.new.held.tables.compared }
+        ensures compared { self.new.held.tables.compared ≤ self.old.held.tables.compared + most_compared_by change }
     {
         let answer = self.state.change(now, change);
         self.moment = now;

@@ -6,13 +6,14 @@
 //! [`Endpoint::foresee_frame`] and [`Endpoint::foresee_packet`] tell a decision without a step, [`result_text`] prints one,
 //! and [`Endpoint::entries`] lists the live entries of a segment.
 //!
-//! Specs to read: `specs/Event`, `specs/Decision` and `specs/Step`, then `specs/Run`; `specs/Counts`, and `specs/Text` for
-//! texts.
+//! Specs to read: `specs/Event`, `specs/Decision` and `specs/Step`, then `specs/Run`; `specs/Counts`, `specs/Text` for
+//! texts, and `specs/Work` for what an event costs of the tables at most.
 //!
 //! Proved: each step answers, octet for octet in each emission, what the definition answers of the endpoint's state and the
 //! event, and leaves the state that it says. From `open` on, over every list of events with moments that never fall, the
 //! answers are those of one learning bridge (IEEE 802.1Q) for each segment, asked by that segment's events alone, from its
-//! coming to its going (`laws::runs`); the counts are how often each thing was so decided.
+//! coming to its going (`laws::runs`); the counts are how often each thing was so decided. Whatever stands in the tables, a
+//! frame or a packet is at most two calls of them.
 //!
 //! Why it is so: a step is cut in two. What comes is brought to its segment (`bring_frame`, `bring_packet`) and taken
 //! (`take`: tables, and a list of places that is lent), all in `src/endpoint/coming.rt`. Then what leaves is asked for

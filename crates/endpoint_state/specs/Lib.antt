@@ -11,3 +11,4 @@ pub mod Sound
 pub mod State
 pub mod Step
 pub mod Tunnel
+pub mod Work

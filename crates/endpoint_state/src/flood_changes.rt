@@ -1,9 +1,10 @@
 //! Changes of flood lists.
-ghost use Rattle.std.specs.Prelude.{◌≡◌, ◌≤◌, ℕ};
+ghost use Rattle.std.specs.Prelude.{◌≡◌, ◌≤◌, ◌+◌, ℕ};
 ghost use Rattle.frame_view.specs.First.{fault_of};
 ghost use Rattle.overlay_settings.specs.declared.change.Change.TheVariants.{AddFlood, RemoveFlood};
 ghost use Rattle.endpoint_state.specs.Sound.{IsSound};
 ghost use Rattle.endpoint_state.specs.State.{state_of, fault, after_change};
+ghost use Rattle.endpoint_state.specs.Work.{most_calls, most_compared_by};
 
 use crate::ChangeFault;
 use crate::parts::Parts;
@@ -25,6 +26,10 @@ impl<T: Tables> Parts<T> {
             ≡ after_change t (AddFlood vid addr tunnel) (state_of T.segments T.pool t self.old) }
         ensures sound { IsSound T.segments self.new }
         ensures moment { T.moment self.new.tables ≡ T.moment self.old.tables }
+        ensures calls_stay_counted { T.calls self.old.tables ≤ T.calls self.new.tables }
+        ensures calls { T.calls self.new.tables ≤ T.calls self.old.tables + most_calls (AddFlood vid addr tunnel) }
+        ensures comparisons_stay_counted { T.compared self.old.tables ≤ T.compared self.new.tables }
+        ensures compared { T.compared self.new.tables ≤ T.compared self.old.tables + most_compared_by (AddFlood vid addr tunnel) }
     {
         let kind = self.kind_named(vid, tunnel)?;
         self.under.add_flood(vid, kind, addr)?;
@@ -46,6 +51,10 @@ impl<T: Tables> Parts<T> {
             ≡ after_change now (RemoveFlood vid addr tunnel) (state_of T.segments T.pool now self.old) }
         ensures sound { IsSound T.segments self.new }
         ensures time { T.moment self.new.tables ≤ now }
+        ensures calls_stay_counted { T.calls self.old.tables ≤ T.calls self.new.tables }
+        ensures calls { T.calls self.new.tables ≤ T.calls self.old.tables + most_calls (RemoveFlood vid addr tunnel) }
+        ensures comparisons_stay_counted { T.compared self.old.tables ≤ T.compared self.new.tables }
+        ensures compared { T.compared self.new.tables ≤ T.compared self.old.tables + most_compared_by (RemoveFlood vid addr tunnel) }
     {
         let kind = self.kind_named(vid, tunnel)?;
         self.under.remove_flood(vid, kind, addr)?;

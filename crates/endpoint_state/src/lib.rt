@@ -5,11 +5,12 @@
 //! steps the bridge of a segment for a frame. It knows no header of a packet.
 //!
 //! Specs to read: `specs/Settings` and `specs/State`, then `specs/Change` and `specs/Effect`; `specs/Step` for the bridge's
-//! step.
+//! step, and `specs/Work` for what a change costs of the tables at most.
 //!
 //! Proved: a change is refused for the first cause in the documented order, or made exactly as documented, in the settings
 //! and in each segment's table; a refused one changes nothing (`laws::changes`). A step learns and answers as the bridge of
-//! its segment, and no other segment changes. What is dead at an earlier moment stays dead (`laws::ageing`).
+//! its segment, and no other segment changes. What is dead at an earlier moment stays dead (`laws::ageing`). Whatever stands in
+//! the tables, a step is at most two calls of them, and a change as many as its kind says.
 //!
 //! Why it is so: it is a crate below the endpoint's steps, so that changes are proved apart from packets, and is written over
 //! the trait of tables, with one pool of slots behind it. Settings in force are one readable record, put together in the

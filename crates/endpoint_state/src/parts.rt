@@ -1,8 +1,9 @@
 //! The parts of an endpoint, over any tables.
-ghost use Rattle.std.specs.Prelude.{◌≡◌, ◌≤◌};
+ghost use Rattle.std.specs.Prelude.{◌≡◌, ◌≤◌, ◌+◌};
 ghost use Rattle.frame_view.specs.First.{fault_of};
 ghost use Rattle.endpoint_state.specs.Sound.{IsSound};
 ghost use Rattle.endpoint_state.specs.State.{state_of, fault, after_change};
+ghost use Rattle.endpoint_state.specs.Work.{most_calls, most_compared_by};
 
 use crate::learning::Learning;
 use crate::{Change, ChangeFault};
@@ -29,6 +30,10 @@ impl<T: PoolTables> Parts<T> {
         ensures after { state_of T.segments T.pool now self.new ≡ after_change now change (state_of T.segments T.pool now self.old) }
         ensures sound { IsSound T.segments self.new }
         ensures time { T.moment self.new.tables ≤ now }
+        ensures calls_stay_counted { T.calls self.old.tables ≤ T.calls self.new.tables }
+        ensures calls { T.calls self.new.tables ≤ T.calls self.old.tables + most_calls change }
+        ensures comparisons_stay_counted { T.compared self.old.tables ≤ T.compared self.new.tables }
+        ensures compared { T.compared self.new.tables ≤ T.compared self.old.tables + most_compared_by change }
     {
         match change {
             Change::AddFlood { vid, addr, tunnel } => self.add_flood(vid, addr, tunnel),

@@ -2,13 +2,14 @@
 //!
 //! A port that goes down goes through all VIDs: it is a rare call, and work for a frame stays constant in the number of
 //! segments.
-ghost use Rattle.std.specs.Prelude.{◌≡◌, ◌≤◌, ℕ, is_some, true};
+ghost use Rattle.std.specs.Prelude.{◌≡◌, ◌≤◌, ◌+◌, ℕ, is_some, true};
 ghost use Rattle.std.specs.Option.{option_map};
 ghost use Rattle.frame_view.specs.First.{fault_of};
 ghost use Rattle.filter_db.specs.Segment.{aged_all, adjusted, flush_place_in};
 ghost use Rattle.overlay_settings.specs.declared.change.Change.TheVariants.{SetMember, PortUp, PortDown};
 ghost use Rattle.endpoint_state.specs.Sound.{IsSound, StaysReached};
 ghost use Rattle.endpoint_state.specs.State.{state_of, fault, after_change};
+ghost use Rattle.endpoint_state.specs.Work.{most_calls, most_compared_by};
 
 use crate::ChangeFault;
 use crate::checks::check_port;
@@ -36,6 +37,10 @@ impl<T: Tables> Parts<T> {
             ≡ after_change now (SetMember vid port egress) (state_of T.segments T.pool now self.old) }
         ensures sound { IsSound T.segments self.new }
         ensures time { T.moment self.new.tables ≤ now }
+        ensures calls_stay_counted { T.calls self.old.tables ≤ T.calls self.new.tables }
+        ensures calls { T.calls self.new.tables ≤ T.calls self.old.tables + most_calls (SetMember vid port egress) }
+        ensures comparisons_stay_counted { T.compared self.old.tables ≤ T.compared self.new.tables }
+        ensures compared { T.compared self.new.tables ≤ T.compared self.old.tables + most_compared_by (SetMember vid port egress) }
     {
         self.check_segment(vid)?;
         check_port(&self.ports, port)?;
@@ -54,6 +59,10 @@ impl<T: Tables> Parts<T> {
             ≡ after_change t (PortUp port) (state_of T.segments T.pool t self.old) }
         ensures sound { IsSound T.segments self.new }
         ensures moment { T.moment self.new.tables ≡ T.moment self.old.tables }
+        ensures calls_stay_counted { T.calls self.old.tables ≤ T.calls self.new.tables }
+        ensures calls { T.calls self.new.tables ≤ T.calls self.old.tables + most_calls (PortUp port) }
+        ensures comparisons_stay_counted { T.compared self.old.tables ≤ T.compared self.new.tables }
+        ensures compared { T.compared self.new.tables ≤ T.compared self.old.tables + most_compared_by (PortUp port) }
     {
         check_port(&self.ports, port)?;
         self.ports.set_up(port, true);
@@ -69,6 +78,10 @@ impl<T: Tables> Parts<T> {
             ≡ after_change now (PortDown port) (state_of T.segments T.pool now self.old) }
         ensures sound { IsSound T.segments self.new }
         ensures time { T.moment self.new.tables ≤ now }
+        ensures calls_stay_counted { T.calls self.old.tables ≤ T.calls self.new.tables }
+        ensures calls { T.calls self.new.tables ≤ T.calls self.old.tables + most_calls (PortDown port) }
+        ensures comparisons_stay_counted { T.compared self.old.tables ≤ T.compared self.new.tables }
+        ensures compared { T.compared self.new.tables ≤ T.compared self.old.tables + most_compared_by (PortDown port) }
     {
         check_port(&self.ports, port)?;
         self.ports.set_up(port, false);
@@ -86,6 +99,9 @@ fn flush_everywhere<T: Tables>(tables: &mut T, place: Place, now: u64)
     ensures reached { StaysReached (T.segments tables.old) (T.segments tables.new) }
     ensures pool { T.pool tables.new ≡ T.pool tables.old }
     ensures time { T.moment tables.new ≤ now }
+    ensures calls_stay_counted { T.calls tables.old ≤ T.calls tables.new }
+    ensures calls { T.calls tables.new ≤ T.calls tables.old + 4094 }
+    ensures compared { T.compared tables.new ≡ T.compared tables.old }
 {
     for number in 1..VIDS {
         if let Some(vid) = Vid::new(number) {
@@ -101,6 +117,9 @@ fn flush_at<T: Tables>(tables: &mut T, vid: Vid, place: Place, now: u64)
     ensures reached { StaysReached (T.segments tables.old) (T.segments tables.new) }
     ensures pool { T.pool tables.new ≡ T.pool tables.old }
     ensures time { T.moment tables.new ≤ now }
+    ensures calls_stay_counted { T.calls tables.old ≤ T.calls tables.new }
+    ensures calls { T.calls tables.new ≤ T.calls tables.old + 1 }
+    ensures compared { T.compared tables.new ≡ T.compared tables.old }
 {
     if tables.has(vid) {
         tables.flush_place(vid, place, now);

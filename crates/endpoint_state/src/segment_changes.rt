@@ -17,6 +17,7 @@ ghost use Rattle.endpoint_state.specs.Change.{refused, is_ageing, is_limit, is_t
 ghost use Rattle.endpoint_state.specs.Settings.{segment_at, tables_asked};
 ghost use Rattle.endpoint_state.specs.Sound.{IsSound};
 ghost use Rattle.endpoint_state.specs.State.{settings_of, state_of, fault, after_change};
+ghost use Rattle.endpoint_state.specs.Work.{most_calls, most_compared_by};
 
 use crate::ChangeFault;
 use crate::parts::Parts;
@@ -133,6 +134,10 @@ impl<T: PoolTables> Parts<T> {
             ≡ after_change now (AddSegment new) (state_of T.segments T.pool now self.old) }
         ensures sound { IsSound T.segments self.new }
         ensures time { T.moment self.new.tables ≤ now }
+        ensures calls_stay_counted { T.calls self.old.tables ≤ T.calls self.new.tables }
+        ensures calls { T.calls self.new.tables ≤ T.calls self.old.tables + most_calls (AddSegment new) }
+        ensures comparisons_stay_counted { T.compared self.old.tables ≤ T.compared self.new.tables }
+        ensures compared { T.compared self.new.tables ≤ T.compared self.old.tables + most_compared_by (AddSegment new) }
     {
         self.check_new(&new)?;
         let NewSegment {
@@ -167,6 +172,10 @@ impl<T: PoolTables> Parts<T> {
             ≡ after_change now (RemoveSegment vid) (state_of T.segments T.pool now self.old) }
         ensures sound { IsSound T.segments self.new }
         ensures time { T.moment self.new.tables ≤ now }
+        ensures calls_stay_counted { T.calls self.old.tables ≤ T.calls self.new.tables }
+        ensures calls { T.calls self.new.tables ≤ T.calls self.old.tables + most_calls (RemoveSegment vid) }
+        ensures comparisons_stay_counted { T.compared self.old.tables ≤ T.compared self.new.tables }
+        ensures compared { T.compared self.new.tables ≤ T.compared self.old.tables + most_compared_by (RemoveSegment vid) }
     {
         self.check_segment(vid)?;
         self.ports.remove_vid(vid);
@@ -204,6 +213,10 @@ impl<T: PoolTables> Parts<T> {
             ≡ after_change now (SetLimit vid limit) (state_of T.segments T.pool now self.old) }
         ensures sound { IsSound T.segments self.new }
         ensures time { T.moment self.new.tables ≤ now }
+        ensures calls_stay_counted { T.calls self.old.tables ≤ T.calls self.new.tables }
+        ensures calls { T.calls self.new.tables ≤ T.calls self.old.tables + most_calls (SetLimit vid limit) }
+        ensures comparisons_stay_counted { T.compared self.old.tables ≤ T.compared self.new.tables }
+        ensures compared { T.compared self.new.tables ≤ T.compared self.old.tables + most_compared_by (SetLimit vid limit) }
     {
         self.check_limit(vid, limit)?;
         self.tables.set_limit(vid, limit, now);

@@ -2,10 +2,11 @@
 //!
 //! A frame from a remote endpoint is taken only where the segment could answer there, so that every remote place in a table
 //! or on a flood list can be sent to: an invariant of the endpoint (`specs/Sound`).
-ghost use Rattle.std.specs.Prelude.{◌≡◌, ◌≤◌, ℕ, [], IfOk, OnErr, IsSome, IsTrue, None, is_some, replicate, true};
+ghost use Rattle.std.specs.Prelude.{◌≡◌, ◌≤◌, ◌+◌, ◌*◌, ℕ, [], IfOk, OnErr, IsSome, IsTrue, None, is_some, replicate, true};
 ghost use Rattle.std.specs.FinMap.{entries};
 ghost use Rattle.std.specs.List.{list_all};
 ghost use Rattle.frame_view.specs.First.{fault_of};
+ghost use Rattle.filter_db.specs.Work.{most_compared};
 ghost use Rattle.tunnel_learning.specs.Verdict.{put_or};
 ghost use Rattle.vlan_ports.specs.Ports.{has_segment as has_members};
 ghost use Rattle.underlay.specs.Overlay.{has_segment, flood_at};
@@ -14,6 +15,7 @@ ghost use Rattle.endpoint_state.specs.Settings.{segment_at};
 ghost use Rattle.endpoint_state.specs.Sound.{reaches, is_reached};
 ghost use Rattle.endpoint_state.specs.State.{fault, after_change};
 ghost use Rattle.endpoint_state.specs.Step.{can_leave, after_frame, verdict};
+ghost use Rattle.endpoint_state.specs.Work.{most_calls, most_compared_by};
 
 use crate::layers::layer_rules;
 use crate::learning::Learning;
@@ -126,18 +128,24 @@ impl EndpointState {
         }
     }
 
-    /// Makes a change at a moment, which isn't before any earlier one, or refuses it.
+    /// Makes a change at a moment, which isn't before any earlier one, or refuses it. How many calls of the tables it makes
+    /// at most, and how often these compare an address, depends on its kind alone.
     pub fn change(&mut self, now: u64, change: Change) -> Result<(), ChangeFault>
         requires time { moment_of self.old ≤ now }
         ensures fault { fault_of result ≡ fault (state_at now self.old) change }
         ensures after { state_at now self.new ≡ after_change now change (state_at now self.old) }
         ensures time { moment_of self.new ≤ now }
+        ensures calls_stay_counted { self.old.tables.calls ≤ self.new.tables.calls }
+        ensures calls { self.new.tables.calls ≤ self.old.tables.calls + most_calls change }
+        ensures comparisons_stay_counted { self.old.tables.compared ≤ self.new.tables.compared }
+        ensures compared { self.new.tables.compared ≤ self.old.tables.compared + most_compared_by change }
     {
         self.parts.change(now, change)
     }
 
     /// A frame came to a segment at a moment, which isn't before any earlier one, from a place that the segment can send
-    /// to: learns where the source stands, and answers where the frame goes, which are places where it can leave.
+    /// to: learns where the source stands, and answers where the frame goes, which are places where it can leave. That is two
+    /// calls of the tables at most, whatever stands in them.
     pub fn step(
         &mut self,
         now: u64,
@@ -155,6 +163,10 @@ impl EndpointState {
             (λ places. IsTrue (list_all (can_leave (settings_of self.old) vid) places)) }
         ensures empty { OnErr result (places.new.items ≡ []) }
         ensures time { moment_of self.new ≤ now }
+        ensures calls_stay_counted { self.old.tables.calls ≤ self.new.tables.calls }
+        ensures calls { self.new.tables.calls ≤ self.old.tables.calls + 2 }
+        ensures comparisons_stay_counted { self.old.tables.compared ≤ self.new.tables.compared }
+        ensures compared { self.new.tables.compared ≤ self.old.tables.compared + 2 * most_compared }
     {
         self.parts.step(now, vid, from, frame, places)
     }

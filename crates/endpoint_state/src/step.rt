@@ -1,7 +1,8 @@
 //! A frame at the bridge of a segment.
-ghost use Rattle.std.specs.Prelude.{◌≡◌, ◌≤◌, ◌∷◌, [], IfOk, OnErr, IsSome, IsTrue, true};
+ghost use Rattle.std.specs.Prelude.{◌≡◌, ◌≤◌, ◌+◌, ◌*◌, ◌∷◌, [], IfOk, OnErr, IsSome, IsTrue, true};
 ghost use Rattle.std.specs.List.{list_all};
 ghost use Rattle.ip_udp_view.specs.declared.addr.Tunnel.TheVariants.{Vxlan, Geneve};
+ghost use Rattle.filter_db.specs.Work.{most_compared};
 ghost use Rattle.tunnel_learning.specs.Verdict.{put_or};
 ghost use Rattle.endpoint_state.specs.Sound.{IsSound, is_reached};
 ghost use Rattle.endpoint_state.specs.State.{settings_of, state_of};
@@ -37,6 +38,10 @@ impl<T: Tables> Parts<T> {
         ensures empty { OnErr result (places.new.items ≡ []) }
         ensures sound { IsSound T.segments self.new }
         ensures time { T.moment self.new.tables ≤ now }
+        ensures calls_stay_counted { T.calls self.old.tables ≤ T.calls self.new.tables }
+        ensures calls { T.calls self.new.tables ≤ T.calls self.old.tables + 2 }
+        ensures comparisons_stay_counted { T.compared self.old.tables ≤ T.compared self.new.tables }
+        ensures compared { T.compared self.new.tables ≤ T.compared self.old.tables + 2 * most_compared }
     {
         let segment = self.under.segment(vid);
         let bridge = Bridge {

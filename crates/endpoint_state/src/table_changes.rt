@@ -1,11 +1,12 @@
 //! Changes of a segment's table.
-ghost use Rattle.std.specs.Prelude.{◌≡◌, ◌≤◌, ℕ, IfOk, IsSome, true};
+ghost use Rattle.std.specs.Prelude.{◌≡◌, ◌≤◌, ◌+◌, ℕ, IfOk, IsSome, true};
 ghost use Rattle.frame_view.specs.First.{fault_of};
 ghost use Rattle.overlay_settings.specs.declared.change.Change.TheVariants.{Fix, Unfix, SetAgeing, SetLearning, Flush};
 ghost use Rattle.overlay_settings.specs.declared.change.Target.TheVariants.{Remote};
 ghost use Rattle.endpoint_state.specs.Change.{refused, fault_at, is_ageing, IsPlaceOf};
 ghost use Rattle.endpoint_state.specs.Sound.{IsSound, is_reached};
 ghost use Rattle.endpoint_state.specs.State.{settings_of, state_of, fault, after_change};
+ghost use Rattle.endpoint_state.specs.Work.{most_calls, most_compared_by};
 
 use crate::checks::{check_addr, check_port};
 use crate::parts::Parts;
@@ -81,6 +82,10 @@ impl<T: Tables> Parts<T> {
             ≡ after_change now (Fix vid mac target) (state_of T.segments T.pool now self.old) }
         ensures sound { IsSound T.segments self.new }
         ensures time { T.moment self.new.tables ≤ now }
+        ensures calls_stay_counted { T.calls self.old.tables ≤ T.calls self.new.tables }
+        ensures calls { T.calls self.new.tables ≤ T.calls self.old.tables + most_calls (Fix vid mac target) }
+        ensures comparisons_stay_counted { T.compared self.old.tables ≤ T.compared self.new.tables }
+        ensures compared { T.compared self.new.tables ≤ T.compared self.old.tables + most_compared_by (Fix vid mac target) }
     {
         let place = self.place_for(vid, mac, target)?;
         self.tables
@@ -97,6 +102,10 @@ impl<T: Tables> Parts<T> {
             ≡ after_change now (Unfix vid mac) (state_of T.segments T.pool now self.old) }
         ensures sound { IsSound T.segments self.new }
         ensures time { T.moment self.new.tables ≤ now }
+        ensures calls_stay_counted { T.calls self.old.tables ≤ T.calls self.new.tables }
+        ensures calls { T.calls self.new.tables ≤ T.calls self.old.tables + most_calls (Unfix vid mac) }
+        ensures comparisons_stay_counted { T.compared self.old.tables ≤ T.compared self.new.tables }
+        ensures compared { T.compared self.new.tables ≤ T.compared self.old.tables + most_compared_by (Unfix vid mac) }
     {
         self.check_segment(vid)?;
         self.tables
@@ -113,6 +122,10 @@ impl<T: Tables> Parts<T> {
             ≡ after_change now (SetAgeing vid seconds) (state_of T.segments T.pool now self.old) }
         ensures sound { IsSound T.segments self.new }
         ensures time { T.moment self.new.tables ≤ now }
+        ensures calls_stay_counted { T.calls self.old.tables ≤ T.calls self.new.tables }
+        ensures calls { T.calls self.new.tables ≤ T.calls self.old.tables + most_calls (SetAgeing vid seconds) }
+        ensures comparisons_stay_counted { T.compared self.old.tables ≤ T.compared self.new.tables }
+        ensures compared { T.compared self.new.tables ≤ T.compared self.old.tables + most_compared_by (SetAgeing vid seconds) }
     {
         self.check_segment(vid)?;
         if !is_ageing(seconds) {
@@ -130,6 +143,10 @@ impl<T: Tables> Parts<T> {
             ≡ after_change t (SetLearning vid on) (state_of T.segments T.pool t self.old) }
         ensures sound { IsSound T.segments self.new }
         ensures moment { T.moment self.new.tables ≡ T.moment self.old.tables }
+        ensures calls_stay_counted { T.calls self.old.tables ≤ T.calls self.new.tables }
+        ensures calls { T.calls self.new.tables ≤ T.calls self.old.tables + most_calls (SetLearning vid on) }
+        ensures comparisons_stay_counted { T.compared self.old.tables ≤ T.compared self.new.tables }
+        ensures compared { T.compared self.new.tables ≤ T.compared self.old.tables + most_compared_by (SetLearning vid on) }
     {
         self.check_segment(vid)?;
         self.learning.set(vid, on);
@@ -144,6 +161,10 @@ impl<T: Tables> Parts<T> {
         ensures after { state_of T.segments T.pool now self.new ≡ after_change now (Flush vid) (state_of T.segments T.pool now self.old) }
         ensures sound { IsSound T.segments self.new }
         ensures time { T.moment self.new.tables ≤ now }
+        ensures calls_stay_counted { T.calls self.old.tables ≤ T.calls self.new.tables }
+        ensures calls { T.calls self.new.tables ≤ T.calls self.old.tables + most_calls (Flush vid) }
+        ensures comparisons_stay_counted { T.compared self.old.tables ≤ T.compared self.new.tables }
+        ensures compared { T.compared self.new.tables ≤ T.compared self.old.tables + most_compared_by (Flush vid) }
     {
         self.check_segment(vid)?;
         self.tables.flush(vid, now);

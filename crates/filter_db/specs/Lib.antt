@@ -6,3 +6,4 @@ pub mod Rows
 pub mod Segment
 pub mod Standing
 pub mod Table
+pub mod Work

@@ -7,11 +7,12 @@
 //! nanoseconds.
 //!
 //! Specs to read: `specs/Table`, then `specs/Segment`; `specs/Standing` for segments that come and go, `specs/Place` for
-//! places.
+//! places, `specs/Work` for how often a call compares an address at most.
 //!
 //! Proved: each call of [`Tables`] answers, and leaves, what plain map operations on the tables aged to its moment say; other
 //! segments are as aged to it, and no call changes the size of the pool. [`PoolTables`] says the same of segments that come,
-//! go and get other limits. [`ListTables`] meets [`Tables`].
+//! go and get other limits. What a call costs at most, in counts that tables may keep, is said whatever stands in them.
+//! [`ListTables`] meets [`Tables`].
 //!
 //! Why it is so: a table is a finite map with only what is live at the table's own moment. Every event first ages the table
 //! to its moment; learning, limits, look-ups and flushes are then plain map operations with no word of liveness. `look`

@@ -82,6 +82,10 @@ impl Tables for ListTables {
 
     ghost pool = { λ d. 0 };
 
+    ghost calls = { λ d. 0 };
+
+    ghost compared = { λ d. 0 };
+
     fn has(&self, vid: Vid) -> bool {
         self.tables[slot_of(vid)].is_some()
     }

@@ -34,7 +34,10 @@ pub trait PoolTables: Tables {
         requires time { Self.moment self.old ≤ now }
         ensures after { Self.segments self.new ≡ added rule (aged_all now (Self.segments self.old)) }
         ensures moment { Self.moment self.new ≡ now }
-        ensures pool { Self.pool self.new ≡ Self.pool self.old };
+        ensures pool { Self.pool self.new ≡ Self.pool self.old }
+        ensures calls_stay_counted { Self.calls self.old ≤ Self.calls self.new }
+        ensures calls { Self.calls self.new ≤ Self.calls self.old + 1 }
+        ensures compared { Self.compared self.new ≡ Self.compared self.old };
 
     /// Removes a segment, with all its entries, fixed ones too.
     fn remove(&mut self, vid: Vid, now: u64)
@@ -42,7 +45,10 @@ pub trait PoolTables: Tables {
         requires time { Self.moment self.old ≤ now }
         ensures after { Self.segments self.new ≡ removed vid (aged_all now (Self.segments self.old)) }
         ensures moment { Self.moment self.new ≡ now }
-        ensures pool { Self.pool self.new ≡ Self.pool self.old };
+        ensures pool { Self.pool self.new ≡ Self.pool self.old }
+        ensures calls_stay_counted { Self.calls self.old ≤ Self.calls self.new }
+        ensures calls { Self.calls self.new ≤ Self.calls self.old + 1 }
+        ensures compared { Self.compared self.new ≡ Self.compared self.old };
 
     /// Gives a segment another limit, 1 or more, for which there is room once its own so far is given back. If more
     /// entries are live then, all entries of the segment go first, fixed ones too.
@@ -55,5 +61,8 @@ pub trait PoolTables: Tables {
         ensures after { Self.segments self.new
             ≡ adjusted vid (set_limit_in limit) (aged_all now (Self.segments self.old)) }
         ensures moment { Self.moment self.new ≡ now }
-        ensures pool { Self.pool self.new ≡ Self.pool self.old };
+        ensures pool { Self.pool self.new ≡ Self.pool self.old }
+        ensures calls_stay_counted { Self.calls self.old ≤ Self.calls self.new }
+        ensures calls { Self.calls self.new ≤ Self.calls self.old + 1 }
+        ensures compared { Self.compared self.new ≡ Self.compared self.old };
 }

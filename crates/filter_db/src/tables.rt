@@ -2,12 +2,14 @@
 //!
 //! The size of the pool is a ghost of the trait, and each call says that it stays: code over any tables, as the bridge's
 //! step, would else not know after a call how much room there is. Of `ListTables` it is 0, since each of its segments has
-//! room of its own.
-ghost use Rattle.std.specs.Prelude.{◌≡◌, ◌↔◌, ◌≤◌, ℕ, IsTrue, IsSome, IsErr, IsOk};
+//! room of its own. So are two counts of the work that calls do, whatever stands in the tables: how many calls were made, and
+//! how often an address was compared. They never fall, and what stands above can say by them what it asks of tables at most.
+ghost use Rattle.std.specs.Prelude.{◌≡◌, ◌↔◌, ◌≤◌, ◌+◌, ℕ, IsTrue, IsSome, IsErr, IsOk};
 ghost use Rattle.std.specs.FinMap.{len};
 ghost use Rattle.filter_db.specs.Table.{stands, learned_as, is_full, has_fixed};
 ghost use Rattle.filter_db.specs.Segment.{Segments, aged_all, segment_at, adjusted, learn_in};
 ghost use Rattle.filter_db.specs.Segment.{fix_in, unfix_in, flush_place_in, flush_in, set_ageing_in};
+ghost use Rattle.filter_db.specs.Work.{most_compared};
 
 use crate::Place;
 use frame_view::{Mac, Vid};
@@ -54,7 +56,8 @@ pub struct NotThere;
 /// Each call but `has` and `now` is for a VID that has a segment, and brings a moment in nanoseconds that isn't before
 /// the tables' own. It finds all segments as they are at that moment: only live entries count, which are the fixed
 /// ones and those that were seen less than the segment's ageing ago. Then it changes its own segment, and no other. A
-/// call that is refused moves the moment on and changes nothing else. No call changes the size of the pool.
+/// call that is refused moves the moment on and changes nothing else. No call changes the size of the pool. Each is one call
+/// of those that are counted, and only `look`, `learn`, `fix` and `unfix` compare addresses, each at most 61 times.
 pub trait Tables {
     /// For each VID its segment, with what is live at the tables' own moment.
     ghost segments: { Self → Segments };
@@ -64,6 +67,13 @@ pub trait Tables {
 
     /// How many entries the segments together may have, where they share a pool; 0 where each has room of its own.
     ghost pool: { Self → ℕ };
+
+    /// How many calls were made that may change something, looks included; 0 where they aren't counted.
+    ghost calls: { Self → ℕ };
+
+    /// How often an address was compared with one that is kept, or sent on by a fork on the way to it; 0 where that isn't
+    /// counted.
+    ghost compared: { Self → ℕ };
 
     /// Whether a VID has a segment.
     fn has(&self, vid: Vid) -> bool
@@ -81,7 +91,11 @@ pub trait Tables {
             result ≡ stands mac s.entries }
         ensures after { segments self.new ≡ segments self.old }
         ensures moment { moment self.new ≡ moment self.old }
-        ensures pool { pool self.new ≡ pool self.old };
+        ensures pool { pool self.new ≡ pool self.old }
+        ensures calls_stay_counted { calls self.old ≤ calls self.new }
+        ensures calls { calls self.new ≤ calls self.old + 1 }
+        ensures comparisons_stay_counted { compared self.old ≤ compared self.new }
+        ensures compared { compared self.new ≤ compared self.old + most_compared };
 
     /// Learns that a frame came from this address at this place (IEEE 802.1Q, 8.7).
     fn learn(&mut self, vid: Vid, mac: Mac, place: Place, now: u64) -> Learned
@@ -92,7 +106,11 @@ pub trait Tables {
         ensures after { segments self.new
             ≡ adjusted vid (learn_in now place mac) (aged_all now (segments self.old)) }
         ensures moment { moment self.new ≡ now }
-        ensures pool { pool self.new ≡ pool self.old };
+        ensures pool { pool self.new ≡ pool self.old }
+        ensures calls_stay_counted { calls self.old ≤ calls self.new }
+        ensures calls { calls self.new ≤ calls self.old + 1 }
+        ensures comparisons_stay_counted { compared self.old ≤ compared self.new }
+        ensures compared { compared self.new ≤ compared self.old + most_compared };
 
     /// Gives an address a fixed entry, in place of any earlier one (IEEE 802.1Q, 8.8.1). `TableFull`: the address isn't
     /// live, and the segment has its limit of live entries.
@@ -104,7 +122,11 @@ pub trait Tables {
         ensures after { segments self.new
             ≡ adjusted vid (fix_in place mac) (aged_all now (segments self.old)) }
         ensures moment { moment self.new ≡ now }
-        ensures pool { pool self.new ≡ pool self.old };
+        ensures pool { pool self.new ≡ pool self.old }
+        ensures calls_stay_counted { calls self.old ≤ calls self.new }
+        ensures calls { calls self.new ≤ calls self.old + 1 }
+        ensures comparisons_stay_counted { compared self.old ≤ compared self.new }
+        ensures compared { compared self.new ≤ compared self.old + most_compared };
 
     /// Takes the fixed entry of an address out. `NotThere`: the address has none.
     fn unfix(&mut self, vid: Vid, mac: Mac, now: u64) -> Result<(), NotThere>
@@ -115,7 +137,11 @@ pub trait Tables {
         ensures after { segments self.new
             ≡ adjusted vid (unfix_in mac) (aged_all now (segments self.old)) }
         ensures moment { moment self.new ≡ now }
-        ensures pool { pool self.new ≡ pool self.old };
+        ensures pool { pool self.new ≡ pool self.old }
+        ensures calls_stay_counted { calls self.old ≤ calls self.new }
+        ensures calls { calls self.new ≤ calls self.old + 1 }
+        ensures comparisons_stay_counted { compared self.old ≤ compared self.new }
+        ensures compared { compared self.new ≤ compared self.old + most_compared };
 
     /// Forgets what was learned at a place.
     fn flush_place(&mut self, vid: Vid, place: Place, now: u64)
@@ -124,7 +150,10 @@ pub trait Tables {
         ensures after { segments self.new
             ≡ adjusted vid (flush_place_in place) (aged_all now (segments self.old)) }
         ensures moment { moment self.new ≡ now }
-        ensures pool { pool self.new ≡ pool self.old };
+        ensures pool { pool self.new ≡ pool self.old }
+        ensures calls_stay_counted { calls self.old ≤ calls self.new }
+        ensures calls { calls self.new ≤ calls self.old + 1 }
+        ensures compared { compared self.new ≡ compared self.old };
 
     /// Forgets all that was learned.
     fn flush(&mut self, vid: Vid, now: u64)
@@ -133,7 +162,10 @@ pub trait Tables {
         ensures after { segments self.new
             ≡ adjusted vid flush_in (aged_all now (segments self.old)) }
         ensures moment { moment self.new ≡ now }
-        ensures pool { pool self.new ≡ pool self.old };
+        ensures pool { pool self.new ≡ pool self.old }
+        ensures calls_stay_counted { calls self.old ≤ calls self.new }
+        ensures calls { calls self.new ≤ calls self.old + 1 }
+        ensures compared { compared self.new ≡ compared self.old };
 
     /// Sets the ageing, 10 to 1,000,000 seconds. What is dead under the old one stays dead, and what is too old under
     /// the new one dies.
@@ -145,7 +177,10 @@ pub trait Tables {
         ensures after { segments self.new
             ≡ adjusted vid (set_ageing_in now seconds) (aged_all now (segments self.old)) }
         ensures moment { moment self.new ≡ now }
-        ensures pool { pool self.new ≡ pool self.old };
+        ensures pool { pool self.new ≡ pool self.old }
+        ensures calls_stay_counted { calls self.old ≤ calls self.new }
+        ensures calls { calls self.new ≤ calls self.old + 1 }
+        ensures compared { compared self.new ≡ compared self.old };
 
     /// How many live entries a segment has.
     fn live(&mut self, vid: Vid, now: u64) -> u32
@@ -155,7 +190,10 @@ pub trait Tables {
             result ≡ len s.entries }
         ensures after { segments self.new ≡ aged_all now (segments self.old) }
         ensures moment { moment self.new ≡ now }
-        ensures pool { pool self.new ≡ pool self.old };
+        ensures pool { pool self.new ≡ pool self.old }
+        ensures calls_stay_counted { calls self.old ≤ calls self.new }
+        ensures calls { calls self.new ≤ calls self.old + 1 }
+        ensures compared { compared self.new ≡ compared self.old };
 
     /// What is dead at the tables' moment is no part of a segment.
     ghost settled: { (t : Self) → aged_all (moment t) (segments t) ≡ segments t };

@@ -28,6 +28,10 @@ impl Tables for SharedTables {
 
     ghost pool = { λ t. length t.entries };
 
+    ghost calls = { λ t. t.calls };
+
+    ghost compared = { λ t. t.compared };
+
     fn has(&self, vid: Vid) -> bool {
         self.has_share(vid)
     }

@@ -8,8 +8,9 @@
 //! Specs to read: `specs/Bridge`, then `specs/Verdict` and `specs/Outlets`; `specs/Once` for the law.
 //!
 //! Proved: in one step, for every `Tables`, the source is learned and then the answer is the outlets, or the reason why
-//! there are none, of the definition; lent outlets are empty after every refusal. So it is of a frame whose destination's
-//! place is told. The outlets are distinct places (`laws::once_at_each_place`).
+//! there are none, of the definition; lent outlets are empty after every refusal. That is at most two calls of the tables,
+//! whatever stands in them. So it is of a frame whose destination's place is told. The outlets are distinct places
+//! (`laws::once_at_each_place`).
 //!
 //! Why it is so: the answer is a list of places, or the reason. The bridge looks at a port's state and membership when the frame
 //! comes, so a fixed entry at a port that is down or no member makes its address unreachable.

@@ -1,6 +1,7 @@
 //! One step.
-ghost use Rattle.std.specs.Prelude.{◌≡◌, ◌≤◌, IsSome, OnErr, [], ◌++◌, if◌then◌else◌, length};
+ghost use Rattle.std.specs.Prelude.{◌≡◌, ◌≤◌, ◌+◌, ◌*◌, IsSome, OnErr, [], ◌++◌, if◌then◌else◌, length};
 ghost use Rattle.filter_db.specs.Segment.{segment_at, aged_all};
+ghost use Rattle.filter_db.specs.Work.{most_compared};
 ghost use Rattle.tunnel_learning.specs.Bridge.{config_of, everywhere, is_local_outlet, learned, local_places, outlets};
 ghost use Rattle.tunnel_learning.specs.Bridge.{remote_places, to_place, toward};
 ghost use Rattle.vlan_ports.specs.Row.{row_at};
@@ -35,6 +36,11 @@ pub fn bridge_step_into<T: Tables>(
     // A step that learns moves the tables' moment on, and a look-up doesn't.
     ensures moment { T.moment tables.new ≡ (if bridge.now.learning then now else T.moment tables.old) }
     ensures pool { T.pool tables.new ≡ T.pool tables.old }
+    // Whatever stands in the tables, one call learns and one looks up.
+    ensures calls_stay_counted { T.calls tables.old ≤ T.calls tables.new }
+    ensures calls { T.calls tables.new ≤ T.calls tables.old + 2 }
+    ensures comparisons_stay_counted { T.compared tables.old ≤ T.compared tables.new }
+    ensures compared { T.compared tables.new ≤ T.compared tables.old + 2 * most_compared }
 {
     places.clear();
     if bridge.learning {

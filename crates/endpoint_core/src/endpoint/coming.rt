@@ -2,7 +2,7 @@
 //!
 //! [`Endpoint::bring_frame`] and [`Endpoint::bring_packet`] tell to which segment, and change nothing; [`Endpoint::take`] turns
 //! that, where it lies, into where it goes. The others are both in one call, or hand out what these write.
-ghost use Rattle.std.specs.Prelude.{◌≡◌, ◌≤◌, IfOk, IsSome, length, true};
+ghost use Rattle.std.specs.Prelude.{◌≡◌, ◌≤◌, ◌+◌, IfOk, IsSome, length, true};
 ghost use Rattle.endpoint_state.specs.Settings.{segment_at};
 ghost use Rattle.endpoint_state.specs.Sound.{is_reached};
 ghost use Rattle.endpoint_state.specs.State.{aged};
@@ -10,6 +10,7 @@ ghost use Rattle.endpoint_core.specs.Arrival.{came_at, came_by};
 ghost use Rattle.endpoint_core.specs.Course.{decision_of, IsThere, IsShortFrame, CanLeave, IsEmptied, IsOfWhatCame};
 ghost use Rattle.endpoint_core.specs.Event.{frame_at, packet_at};
 ghost use Rattle.endpoint_core.specs.Step.{Decided, answer, after, decided, after_coming};
+ghost use Rattle.endpoint_core.specs.Work.{most_calls, most_compared_by};
 
 use crate::arrival::{come_at, come_by};
 use crate::decide::decide;
@@ -68,6 +69,10 @@ impl Endpoint {
         ensures leave { CanLeave (state_of self.new).bridges.settings course.new places.new.items }
         ensures empty { IsEmptied course.new places.new.items }
         ensures came { IsOfWhatCame course.old course.new }
+        ensures calls_stay_counted { self.old.held.tables.calls ≤ self.new.held.tables.calls }
+        ensures calls { self.new.held.tables.calls ≤ self.old.held.tables.calls + most_calls course.old }
+        ensures comparisons_stay_counted { self.old.held.tables.compared ≤ self.new.held.tables.compared }
+        ensures compared { self.new.held.tables.compared ≤ self.old.held.tables.compared + most_compared_by course.old }
     {
         decide(&mut self.state, now, course, places);
         self.counts.tally(&self.state, course, places.as_slice());
@@ -125,6 +130,12 @@ impl Endpoint {
         ensures empty { IsEmptied result places.new.items }
         ensures came { let S = (state_of self.old).bridges.settings in
             IsOfWhatCame (came_at S.ports S.overlay port original octets.now) result }
+        ensures calls_stay_counted { self.old.held.tables.calls ≤ self.new.held.tables.calls }
+        ensures calls { let S = (state_of self.old).bridges.settings in let came = came_at S.ports S.overlay port original octets.now in
+            self.new.held.tables.calls ≤ self.old.held.tables.calls + most_calls came }
+        ensures comparisons_stay_counted { self.old.held.tables.compared ≤ self.new.held.tables.compared }
+        ensures compared { let S = (state_of self.old).bridges.settings in let came = came_at S.ports S.overlay port original octets.now in
+            self.new.held.tables.compared ≤ self.old.held.tables.compared + most_compared_by came }
     {
         let mut course = self.frame_from(port, original, octets);
         self.take(now, &mut course, places);
@@ -150,6 +161,12 @@ impl Endpoint {
         ensures empty { IsEmptied result places.new.items }
         ensures came { let S = (state_of self.old).bridges.settings in
             IsOfWhatCame (came_by S.overlay original octets.now) result }
+        ensures calls_stay_counted { self.old.held.tables.calls ≤ self.new.held.tables.calls }
+        ensures calls { let S = (state_of self.old).bridges.settings in let came = came_by S.overlay original octets.now in
+            self.new.held.tables.calls ≤ self.old.held.tables.calls + most_calls came }
+        ensures comparisons_stay_counted { self.old.held.tables.compared ≤ self.new.held.tables.compared }
+        ensures compared { let S = (state_of self.old).bridges.settings in let came = came_by S.overlay original octets.now in
+            self.new.held.tables.compared ≤ self.old.held.tables.compared + most_compared_by came }
     {
         let mut course = self.frame_in(original, octets);
         self.take(now, &mut course, places);

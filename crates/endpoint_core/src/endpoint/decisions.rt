@@ -1,5 +1,5 @@
 //! Decisions: what an endpoint makes of a frame or a packet, as one value, with a step or without.
-ghost use Rattle.std.specs.Prelude.{◌≡◌, ◌≤◌, length, IfOk, IsSome, true};
+ghost use Rattle.std.specs.Prelude.{◌≡◌, ◌≤◌, ◌+◌, length, IfOk, IsSome, true};
 ghost use Rattle.endpoint_state.specs.Held.{settings_of, state_at, moment_of};
 ghost use Rattle.endpoint_state.specs.Settings.{segment_at};
 ghost use Rattle.endpoint_state.specs.Sound.{is_reached};
@@ -8,6 +8,7 @@ ghost use Rattle.endpoint_core.specs.Course.{decision_of, AreInParts, IsThere, I
 ghost use Rattle.endpoint_core.specs.Decision.{octets_of};
 ghost use Rattle.endpoint_core.specs.Event.{frame_at, packet_at};
 ghost use Rattle.endpoint_core.specs.Step.{Decided, answer, after, decided, decided_in};
+ghost use Rattle.endpoint_core.specs.Work.{most_calls, most_compared_by};
 
 use crate::arrival::Came;
 use crate::{Course, Decision, Endpoint};
@@ -28,6 +29,12 @@ impl Endpoint {
         ensures after { state_of self.new ≡ after (state_of self.old) (frame_at now port original octets.now) }
         ensures parts { let S = (state_of self.old).bridges.settings in
             AreInParts (state_of self.new).bridges.settings (came_at S.ports S.overlay port original octets.now) result.outcomes }
+        ensures calls_stay_counted { self.old.held.tables.calls ≤ self.new.held.tables.calls }
+        ensures calls { let S = (state_of self.old).bridges.settings in let came = came_at S.ports S.overlay port original octets.now in
+            self.new.held.tables.calls ≤ self.old.held.tables.calls + most_calls came }
+        ensures comparisons_stay_counted { self.old.held.tables.compared ≤ self.new.held.tables.compared }
+        ensures compared { let S = (state_of self.old).bridges.settings in let came = came_at S.ports S.overlay port original octets.now in
+            self.new.held.tables.compared ≤ self.old.held.tables.compared + most_compared_by came }
     {
         let mut places = Outlets::new();
         let course = self.take_frame(now, port, original, octets, &mut places);
@@ -42,6 +49,12 @@ impl Endpoint {
         ensures after { state_of self.new ≡ after (state_of self.old) (packet_at now original octets.now) }
         ensures parts { let S = (state_of self.old).bridges.settings in
             AreInParts (state_of self.new).bridges.settings (came_by S.overlay original octets.now) result.outcomes }
+        ensures calls_stay_counted { self.old.held.tables.calls ≤ self.new.held.tables.calls }
+        ensures calls { let S = (state_of self.old).bridges.settings in let came = came_by S.overlay original octets.now in
+            self.new.held.tables.calls ≤ self.old.held.tables.calls + most_calls came }
+        ensures comparisons_stay_counted { self.old.held.tables.compared ≤ self.new.held.tables.compared }
+        ensures compared { let S = (state_of self.old).bridges.settings in let came = came_by S.overlay original octets.now in
+            self.new.held.tables.compared ≤ self.old.held.tables.compared + most_compared_by came }
     {
         let mut places = Outlets::new();
         let course = self.take_packet(now, original, octets, &mut places);

@@ -1,4 +1,4 @@
-use Rattle.std.proofs.Common.{◌≤◌, ◌∙◌, ℕ, refl, sym, ap, subst, arith}
+use Rattle.std.proofs.Common.{◌≤◌, ◌+◌, ◌∙◌, ℕ, refl, sym, ap, subst, arith}
 use Rattle.filter_db.specs.Segment.{aged_all, adjusted, flush_place_in, segment_at as table_of}
 use Rattle.endpoint_state.specs.Sound.{AreReached}
 use Rattle.endpoint_state.proofs.EverywhereLemmas.{all-changed, none-changed, more-changed}
@@ -10,6 +10,9 @@ loop-number-init g c = record {
   time = c.requires.time;
   after = none-changed (flush_place_in c.args.place) c.args.now 1 (g.T.Tables.segments c.args.tables.now) (λ w there. (c.requires.vids w there).0);
   pool = refl;
+  counted = omega arith;
+  calls = omega arith;
+  compared = refl;
   reached = λ S vid h. h;
 }
 
@@ -28,6 +31,9 @@ loop-number-preserved g c =
             time = subst (λ (t : g.row.T.Denot). g.T.Tables.moment t ≤ now) (sym w.tables-is) w.flush_at.ensures.time;
             after = λ v. ap (λ (t : g.row.T.Denot). aged_all now (g.T.Tables.segments t) v) w.tables-is ∙ more-changed f now n base cur new c.loop-number.invariant.after is v;
             pool = ap g.T.Tables.pool w.tables-is ∙ w.flush_at.ensures.pool ∙ c.loop-number.invariant.pool;
+            counted = subst (λ (t : g.row.T.Denot). g.T.Tables.calls c.args.tables.now ≤ g.T.Tables.calls t) (sym w.tables-is) (omega (arith, w.flush_at.ensures.calls_stay_counted, c.loop-number.invariant.counted));
+            calls = subst (λ (t : g.row.T.Denot). g.T.Tables.calls t + 1 ≤ g.T.Tables.calls c.args.tables.now + (n + 1)) (sym w.tables-is) (omega (arith, w.flush_at.ensures.calls, c.loop-number.invariant.calls));
+            compared = ap g.T.Tables.compared w.tables-is ∙ w.flush_at.ensures.compared ∙ c.loop-number.invariant.compared;
             reached = λ S v h. subst (λ (t : g.row.T.Denot). AreReached S v (table_of v (g.T.Tables.segments t)).entries) (sym w.tables-is) (w.flush_at.ensures.reached S v (c.loop-number.invariant.reached S v h));
           }
       | in_default w ↦ absurd (w.in_default.ensures (c.loop-number.auto.number, omega arith))

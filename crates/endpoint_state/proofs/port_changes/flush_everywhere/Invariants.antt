@@ -1,4 +1,4 @@
-use Rattle.std.proofs.Common.{◌≡◌, ◌≤◌, ℕ}
+use Rattle.std.proofs.Common.{◌≡◌, ◌≤◌, ◌+◌, ℕ}
 use Rattle.filter_db.specs.Segment.{aged_all, flush_place_in, segment_at as table_of}
 use Rattle.underlay.specs.Overlay.{Overlay}
 use Rattle.endpoint_state.specs.Sound.{AreReached}
@@ -10,5 +10,8 @@ invariant-loop-number g l = record {
   time : g.T.Tables.moment l.tables ≤ l.fn.now;
   after : (vid : ℕ) → aged_all l.fn.now (g.T.Tables.segments l.tables) vid ≡ so_far (flush_place_in l.fn.place) l.fn.now l.number (g.T.Tables.segments l.fn.tables) vid;
   pool : g.T.Tables.pool l.tables ≡ g.T.Tables.pool l.fn.tables;
+  counted : g.T.Tables.calls l.fn.tables ≤ g.T.Tables.calls l.tables;
+  calls : g.T.Tables.calls l.tables + 1 ≤ g.T.Tables.calls l.fn.tables + l.number;
+  compared : g.T.Tables.compared l.tables ≡ g.T.Tables.compared l.fn.tables;
   reached : (S : Overlay) (vid : ℕ) → AreReached S vid (table_of vid (g.T.Tables.segments l.fn.tables)).entries → AreReached S vid (table_of vid (g.T.Tables.segments l.tables)).entries;
 }

@@ -19,3 +19,15 @@ returns-clause-after c =
     let later = subst (λ (k : Kept). k.moment ≤ c.args.now) (sym c.self.view_is) c.requires in
     let left = left-earlier (λ (B : Bridges). after_change c.args.now c.args.change B) c.self.inside.state c.change-answer.new.self c.self.inside.moment c.args.now later c.change-answer.ensures.after in
     rw (← c.self.view_is) (ap (λ (B : Bridges). let s : State = record { bridges = B; counts = count_in c.self.inside.counts; moment = c.args.now } in s) left)
+
+pub returns-clause-calls_stay_counted : goal.returns-clause-calls_stay_counted
+returns-clause-calls_stay_counted c = rw (← c.self.view_is) c.change-answer.ensures.calls_stay_counted
+
+pub returns-clause-calls : goal.returns-clause-calls
+returns-clause-calls c = rw (← c.self.view_is) c.change-answer.ensures.calls
+
+pub returns-clause-comparisons_stay_counted : goal.returns-clause-comparisons_stay_counted
+returns-clause-comparisons_stay_counted c = rw (← c.self.view_is) c.change-answer.ensures.comparisons_stay_counted
+
+pub returns-clause-compared : goal.returns-clause-compared
+returns-clause-compared c = rw (← c.self.view_is) c.change-answer.ensures.compared

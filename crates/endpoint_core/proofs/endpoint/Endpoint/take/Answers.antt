@@ -21,4 +21,8 @@ returns c =
       leave = search rules;
       empty = search rules;
       came = search rules;
+      calls_stay_counted = rw (← c.self.view_is) c.decide.ensures.calls_stay_counted;
+      calls = rw (← c.self.view_is) c.decide.ensures.calls;
+      comparisons_stay_counted = rw (← c.self.view_is) c.decide.ensures.comparisons_stay_counted;
+      compared = rw (← c.self.view_is) c.decide.ensures.compared;
     }

@@ -50,4 +50,8 @@ returns g c =
       empty = c.bridge_step_into.ensures.empty;
       sound = sound;
       time = search rules;
+      calls_stay_counted = c.bridge_step_into.ensures.calls_stay_counted;
+      calls = c.bridge_step_into.ensures.calls;
+      comparisons_stay_counted = c.bridge_step_into.ensures.comparisons_stay_counted;
+      compared = c.bridge_step_into.ensures.compared;
     }

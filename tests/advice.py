@@ -50,7 +50,7 @@ def check_sentence(sentences, path, value):
             complain(f"{path}: '{told}' has {sorted(in_told)}, and docs/FORMATS.md has {sorted(in_value)}")
 
 
-rows = code_rows(ALLOWED, "SENTENCES")
+rows = code_rows(ALLOWED, "SETTINGS_SENTENCES")
 sentences = {path: text for path, variant, fault, text in rows if not fault and not variant}
 sentences_3 = sentences | {path: text for path, variant, fault, text in rows if not fault and variant == "3"}
 paths = {"limit"}
@@ -97,8 +97,10 @@ for row in wanted.keys() | settings.keys():
     if set(settings.get(row, [])) != wanted.get(row):
         complain(f"settings, {row}: {settings.get(row)}, and docs/FORMATS.md has {wanted.get(row)}")
 
+# Of changes, which have sentences of their own.
+of_changes = {path: text for path, variant, fault, text in code_rows(ALLOWED, "CHANGE_SENTENCES") if not fault and not variant}
 changes = {(path, variant): keys for path, variant, keys in code_rows(KNOWN, "CHANGE_KEYS")}
-wanted = {("*", ""): {"change"}}
+wanted = {("*", ""): {"version", "change"}}
 for kinds, keys in table("## Changes", "`kind`"):
     for kind in names(kinds):
         # The names in backticks, each key once; those that a key of another table is compared with stand behind 'as'.
@@ -111,25 +113,25 @@ for (path, _), keys in changes.items():
     for key in keys:
         whole = path[:-1] + key
         paths.add(whole)
-        if whole not in sentences:
+        if whole not in of_changes:
             complain(f"no sentence for {whole}")
 for kinds, keys in table("## Changes", "`kind`"):
     for key, value in re.findall(r"`([a-z0-9_]+)` \(([^()]*\d+ to \d+[^()]*)", keys):
-        check_sentence(sentences, "change." + key, value)
+        check_sentence(of_changes, "change." + key, value)
     for key, value in re.findall(r"`([a-z0-9_]+)`, `[a-z]+` \((both \d+ to \d+)", keys):
-        check_sentence(sentences, "change." + key, value)
+        check_sentence(of_changes, "change." + key, value)
     for key, value in re.findall(r'`([a-z]+)` \((`"[^()]*)\)', keys):
-        check_sentence(sentences, "change." + key, value)
+        check_sentence(of_changes, "change." + key, value)
 text = FORMATS[FORMATS.index("## Changes"):]
 for key, value in re.findall(r"`([a-z]+)` (?:is )?(\d+ to \d+)", text) + re.findall(r'`([a-z]+)` (`"[a-z]+"` or `"[a-z]+"`)', text):
-    check_sentence(sentences, "change." + key, value)
+    check_sentence(of_changes, "change." + key, value)
 for key in "learn", "peers", "tags":
-    if sentences.get("change." + key) != sentences_3.get("segment." + key):
+    if of_changes.get("change." + key) != sentences_3.get("segment." + key):
         complain(f"change.{key} and segment.{key} have different sentences")
 kinds = {name for kinds, _ in table("## Changes", "`kind`") for name in names(kinds)}
-if {word.strip('"') for word in WORDS.findall(sentences["change.kind"])} != kinds:
-    complain(f"change.kind: '{sentences['change.kind']}', and docs/FORMATS.md has {sorted(kinds)}")
-for path in sentences.keys() - paths:
+if {word.strip('"') for word in WORDS.findall(of_changes["change.kind"])} != kinds:
+    complain(f"change.kind: '{of_changes['change.kind']}', and docs/FORMATS.md has {sorted(kinds)}")
+for path in (sentences.keys() | of_changes.keys()) - paths:
     complain(f"the sentence for {path} is for no key of docs/FORMATS.md")
 
 for fault in FAULTS:

@@ -108,12 +108,12 @@ def the_longest_record_is_too_long_a_frame():
     expect_lines("the longest record", told.said(), [f"1 {LAST_MOMENT} p1 1 - drop 1 TooLong"])
 
 
-def ten_thousand_changes_are_made():
-    """Each gives an ageing of its number behind a 1, so it is another each time."""
-    numbers = range(1, 10_001)
-    changes = [f'[[change]]\nkind = "set_ageing"\nat = {n}\nvid = 10\nseconds = 1{n}\n' for n in numbers]
-    told = run(runs.BRIDGE, changes="".join(changes))
-    expect_lines("10,000 changes", told.said(), [f"{n} {n} c {n} 10 done" for n in numbers])
+def all_changes_are_made(count, head=""):
+    """Each gives an ageing of 10 more than its number, so it is another each time."""
+    numbers = range(1, count + 1)
+    changes = [f'[[change]]\nkind = "set_ageing"\nat = {n}\nvid = 10\nseconds = {10 + n}\n' for n in numbers]
+    told = run(runs.BRIDGE, changes=head + "".join(changes))
+    expect_lines(f"{count} changes", told.said(), [f"{n} {n} c {n} 10 done" for n in numbers])
 
 
 # Segments that there may be, and addresses that each has here: 65,536 in all.
@@ -227,7 +227,8 @@ def main():
     a_tagged_frame_is_cut_at_every_length()
     the_longest_frame_is_taken()
     the_longest_record_is_too_long_a_frame()
-    ten_thousand_changes_are_made()
+    all_changes_are_made(10_000)
+    all_changes_are_made(100_000, "version = 2\n")
     all_limits_hold_at_once()
     more_tunnels_than_rows()
     more_talkers_than_rows()

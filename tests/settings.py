@@ -118,6 +118,13 @@ def changes(settings):
     expect_changes(settings, one * 10_000, "ok")
     # Its faulty items aren't looked at.
     expect_changes(settings, "[[change]]\n" * 10_001, "OverLimit change")
+    second = "version = 2\n"
+    expect_changes(settings, second + one * 10_001, "ok")
+    expect_changes(settings, second + one * 100_000, "ok")
+    expect_changes(settings, second + "[[change]]\n" * 100_001, "OverLimit change")
+    # The last of 100,000 has the longest path.
+    expect_changes(settings, second + one * 99_999 + one.replace("port = 1", "port = 256"), "BadValue change.100000.port")
+    expect_changes(settings, second + one * 99_999 + one.replace("at = 1", "at = 0"), "NotRising change.100000")
 
 
 def strange_settings():

@@ -657,6 +657,15 @@ LISTS = [
     ("change = [1]", "BadValue change.1"),
     ("changes = []", "BadValue *"),
     ("change = 1\nname = 1", "BadValue *"),
+    ("version = 2", "ok"),
+    ("change = []\nversion = 2", "ok"),
+    ("version = 2\nname = 1", "BadValue *"),
+    ("version = 1", "BadValue version"),
+    ("version = 3\nchange = 1", "BadValue version"),
+    ('version = "2"', "BadValue version"),
+    ("[version]", "BadValue version"),
+    ("version = 2\nchange = 1", "BadValue change"),
+    ("version = 2\n[[change]]\nversion = 2", "Missing change.1.kind"),
     ("change", "NotToml"),
     ('change = [{ kind = "flush", at = 5, vid = 1 }, { kind = "flush", at = 4, vid = 1 }]', "NotRising change.2"),
     ('change = [{ kind = "flush", at = 5, vid = 1 }, { kind = "flush", at = 4, vid = 0 }]', "BadValue change.2.vid"),
@@ -897,6 +906,11 @@ NO_MACS = [
     "02:00:00:00:00:00:",
 ]
 
+# Segments whose limits sum to 512, and to 73,728.
+SMALL = '[[segment]]\nvid = #\n[[segment.tunnel]]\nkind = "vxlan"\nvni = #\n'
+TWO_OF_256 = "".join(SMALL.replace("#", str(k)) for k in (1, 2))
+NINE_OF_8192 = "".join(SMALL.replace("vid = #", "vid = #\nlimit = 8192").replace("#", str(k)) for k in range(1, 10))
+
 # Settings in a file S that are refused, and all that is told of each.
 TOLD_SETTINGS = [
     # A key misspelled.
@@ -945,26 +959,54 @@ TOLD_SETTINGS = [
     # What the limits may raise.
     (
         "version = 3\npool = 65537\n",
-        "S:2:1: BadValue pool\n  found: 65537\n  allowed: a number, 1 to 65536, or to limits.addresses where it is given\n",
+        "S:2:1: BadValue pool\n  found: 65537\n  allowed: a number, 1 to 65536, or to limits.addresses where it is given;"
+        " limits.addresses raises it, up to 262144\n",
     ),
     (
         "version = 2\npool = 65537\n",
-        "S:2:1: BadValue pool\n  found: 65537\n  allowed: a number, 1 to 65536\n",
+        "S:2:1: BadValue pool\n  found: 65537\n  allowed: a number, 1 to 65536; version 3 with limits.addresses raises it\n",
     ),
     (
         FEWEST_2.replace("version = 2", "version = 3").replace("# segment", "limit = 8193"),
         "S:10:1: BadValue segment.1.limit\n  found: 8193\n"
-        "  allowed: a number, 1 to 8192, or to limits.entries where it is given\n",
+        "  allowed: a number, 1 to 8192, or to limits.entries where it is given; limits.entries raises it, up to 131072\n",
+    ),
+    (
+        FEWEST_2.replace("# segment", "limit = 8193"),
+        "S:10:1: BadValue segment.1.limit\n  found: 8193\n"
+        "  allowed: a number, 1 to 8192; version 3 with limits.entries raises it\n",
     ),
     # A segment more than there may be.
     (
         FEWEST_2.split("[[segment]]")[0].replace("version = 2", "version = 3\n[limits]\nsegments = 2") + "[[segment]]\n" * 3,
         "S:10:1: OverLimit segment\n  found: [[segment]]\n"
-        "  allowed: 1 to 256 tables, or to limits.segments where it is given, each headed [[segment]]\n",
+        "  allowed: 1 to 256 tables, or to limits.segments where it is given, each headed [[segment]];"
+        " limits.segments raises it, up to 4094\n",
     ),
     (
         FEWEST_2.split("[[segment]]")[0] + "[[segment]]\n" * 257,
-        "S:8:1: OverLimit segment\n  found: [[segment]]\n  allowed: 1 to 256 tables, each headed [[segment]]\n",
+        "S:8:1: OverLimit segment\n  found: [[segment]]\n"
+        "  allowed: 1 to 256 tables, each headed [[segment]]; version 3 with limits.segments raises it\n",
+    ),
+    # No segment at all.
+    (
+        FEWEST_2.split("[[segment]]")[0],
+        "S: Missing segment\n  allowed: 1 to 256 tables, each headed [[segment]]\n",
+    ),
+    # More addresses than there may be.
+    (
+        FEWEST_2.split("[[segment]]")[0].replace("version = 2", "version = 2\npool = 511") + TWO_OF_256,
+        "S:2:1: OverLimit pool\n  found: 511\n  allowed: the limits of all segments sum to the pool at most; pool raises it\n",
+    ),
+    (
+        FEWEST_2.split("[[segment]]")[0].replace("version = 2", "version = 3\n[limits]\naddresses = 511") + TWO_OF_256,
+        "S: OverLimit limit\n  allowed: the limits of all segments sum to 65536 at most, or to limits.addresses where it is"
+        " given; limits.addresses raises it, up to 262144\n",
+    ),
+    (
+        FEWEST_2.split("[[segment]]")[0] + NINE_OF_8192,
+        "S: OverLimit limit\n"
+        "  allowed: the limits of all segments sum to 65536 at most; version 3 with limits.addresses raises it\n",
     ),
     # A table misspelled.
     (
@@ -1065,5 +1107,19 @@ TOLD_CHANGES = [
         '[[change]]\nkind = "flush"\nat = 1\nvid = 4095\n',
         "S:4:1: BadValue change.1.vid\n  found: 4095\n  allowed: a number, 1 to 4094\n",
     ),
-    ("changes = []\n", "S:1:1: BadValue *\n  found: changes\n  did you mean: change\n  keys: change\n"),
+    ("changes = []\n", "S:1:1: BadValue *\n  found: changes\n  did you mean: change\n  keys: version change\n"),
+    (
+        " version = 3\n",
+        "S:1:2: BadValue version\n  found: 3\n"
+        "  allowed: the number 2, for up to 100000 tables; or no version, for up to 10000\n",
+    ),
+    (
+        "[[change]]\n" * 10_001,
+        "S:1:1: OverLimit change\n  found: [[change]]\n"
+        "  allowed: at most 10000 tables, each headed [[change]]; version = 2 raises it to 100000\n",
+    ),
+    (
+        "version = 2\n" + "[[change]]\n" * 100_001,
+        "S:2:1: OverLimit change\n  found: [[change]]\n  allowed: at most 100000 tables, each headed [[change]]\n",
+    ),
 ]

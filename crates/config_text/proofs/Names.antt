@@ -10,6 +10,12 @@ fit_numbers name count short few k within =
     let digits : length (decimal k) ≤ 5 = length-decimal-le 5 k (lit≤ tt) (omega (arith, few, within)) (omega (arith, few, within)) in
     omega (arith, short, digits)
 
+-- a name of 14 octets, and a hundred thousand tables
+pub fit_more_numbers : (name : List ℕ) (count : ℕ) → length name ≤ 14 → count ≤ 100000 → FitNumbers 22 name count
+fit_more_numbers name count short few k within =
+    let digits : length (decimal k) ≤ 6 = length-decimal-le 6 k (lit≤ tt) (omega (arith, few, within)) (omega (arith, few, within)) in
+    omega (arith, short, digits)
+
 -- a name of 7 octets, and ten thousand tables less one: before a key of them there is room for a list of tables
 pub fit_thousands : (name : List ℕ) (count : ℕ) → length name ≤ 7 → count ≤ 9999 → FitNumbers 13 name count
 fit_thousands name count short few k within =

@@ -32,10 +32,10 @@ impl Key {
     }
 
     /// The name of a table in a list, as `port.2`.
-    pub fn numbered(name: &str, number: u16) -> Key
-        requires { length name.now ≤ 34 }
+    pub fn numbered(name: &str, number: u32) -> Key
+        requires { length name.now ≤ 29 }
         ensures value { result ≡ name.now ++ codes "." ++ decimal number }
-        ensures short { length result ≤ length name.now + 6 }
+        ensures short { length result ≤ length name.now + 11 }
     {
         let mut text = ArrayString::new();
         text.push_str(name);

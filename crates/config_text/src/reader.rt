@@ -45,7 +45,7 @@ impl<'a> Reader<'a> {
 
     /// At a table of a list, whose name and number have 20 octets at most. `BadValue` with the table's own path: the value
     /// is no table.
-    pub fn row(name: &str, number: u16, value: &'a Value) -> Result<Reader<'a>, SettingsFault>
+    pub fn row(name: &str, number: u32, value: &'a Value) -> Result<Reader<'a>, SettingsFault>
         requires { length name.now + length (decimal number) ≤ 20 }
         ensures { seen place_of result ≡ row_place name.now number (view value.now) }
     {

@@ -25,7 +25,7 @@ pub trait Row {
     ghost longest: { Self → ℕ } = { λ _. 22 };
 
     fn read(&self, earlier: &[Self::Out], at: &Reader) -> Result<Self::Out, SettingsFault>
-        requires few { length earlier.now < 10000 }
+        requires few { length earlier.now < 100000 }
         requires short { length (place_of at.now).prefix ≤ longest self.now }
         ensures { result ≡ means self.now earlier.now (place_of at.now) };
 }
@@ -41,13 +41,13 @@ pub fn read_rows<R: Row>(
 ) -> Result<Vec<R::Out>, SettingsFault>
     requires short { FitNumbers (R.longest row.now) name.now (length items.now) }
     requires room { R.longest row.now ≤ 22 }
-    requires few { length items.now ≤ 10000 }
+    requires few { length items.now ≤ 100000 }
     ensures value { GivesAs (λ v. v.items) result (each (R.means row.now) name.now [] (map view items.now)) }
     ensures len { IfOk result (λ v. vec_len v ≡ length items.now) }
 {
     let mut rows = Vec::new(alloc);
     for (i, value) in items.iter().enumerate() {
-        let at = Reader::row(name, i as u16 + 1, value)?;
+        let at = Reader::row(name, i as u32 + 1, value)?;
         rows.push(row.read(rows.as_slice(), &at)?)?;
     }
     Ok(rows)

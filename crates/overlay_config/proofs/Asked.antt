@@ -42,7 +42,7 @@ gone_here k l d ms none =
     ]
 
 -- whether a key that isn't there is known doesn't matter
-known_same : (xs : List (List ℕ)) (k : List ℕ) (ys : List (List ℕ)) (ms : Members) → get_member k ms ≡ None → all_known (xs ++ k ∷ ys) ms ≡ all_known (xs ++ ys) ms
+pub known_same : (xs : List (List ℕ)) (k : List ℕ) (ys : List (List ℕ)) (ms : Members) → get_member k ms ≡ None → all_known (xs ++ k ∷ ys) ms ≡ all_known (xs ++ ys) ms
 known_same xs k ys no_members none = refl
 known_same xs k ys (member l d ms) none =
     let g = gone_here k l d ms none in
@@ -117,7 +117,7 @@ more_known false ms none = refl
 more_known true ms none = known_same (codes "version" ∷ codes "pool" ∷ []) (codes "limits") (codes "underlay" ∷ codes "port" ∷ codes "segment" ∷ []) ms none
 
 -- the version, where all keys are known or not
-abbrev known_by : Place → Bool → Meaning (Unit {0})
+abbrev pub known_by : Place → Bool → Meaning (Unit {0})
 known_by at all = cond all (Ok tt) (Err (BadValue (path at (codes "*"))))
 
 abbrev version_behind : Place → Bool → Meaning Version

@@ -9,4 +9,5 @@ mod Rewrites
 mod SegmentKept
 mod Third
 mod Asked
+mod Versions
 mod Keeps

@@ -106,7 +106,7 @@ defaulted_range at key low high default x h e = defaulted_meets (IsWithin low hi
 
 -- ---- lists
 
-limited_ok : (path : List ℕ) (limit : ℕ) (ds es : List Data) → limited path limit ds ≡ Ok es → (ds ≡ es) × (length es ≤ limit)
+pub limited_ok : (path : List ℕ) (limit : ℕ) (ds es : List Data) → limited path limit ds ≡ Ok es → (ds ≡ es) × (length es ≤ limit)
 limited_ok path limit ds es e = elim (cases_Bool (nat_lt limit (length ds))) [
   | inl over ↦ let bad : done es ≡ Err (OverLimit path) = sym e ∙ rw over refl in absurd cc
   | inr within ↦ let good : done ds ≡ done es = sym (rw within refl) ∙ e in let same : ds ≡ es = ok_is ds es good in (same, rw (← same) (ltb-false limit (length ds) within))

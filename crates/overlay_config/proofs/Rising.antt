@@ -7,9 +7,9 @@ use Rattle.config_text.specs.declared.fault.SettingsFault.{SettingsFault}
 use Rattle.config_text.specs.declared.fault.SettingsFault.TheVariants.{NotRising}
 use Rattle.config_text.specs.Fault.{GivesAs}
 use Rattle.config_text.specs.Column.{range, one_of}
-use Rattle.config_text.specs.Table.{Place, top, only, required, limited_items, numbered, refuse_if}
+use Rattle.config_text.specs.Table.{Place, top, only, required, optional, limited_items, numbered, refuse_if}
 use Rattle.overlay_settings.specs.declared.change.TimedChange.{TimedChange}
-use Rattle.overlay_config.specs.Change.{kind_words, keys_of, change_in, change_of, changes_of, moment_before, IsRising}
+use Rattle.overlay_config.specs.Change.{kind_words, keys_of, change_in, change_of, changes_of, most_changes, moment_before, IsRising}
 use Rattle.overlay_settings.specs.Rules.{EachBehind}
 use Rattle.overlay_config.proofs.Readings.{bind_then, ok_is, refuse_ok, required_range, from_none, each_meets}
 
@@ -28,9 +28,10 @@ change_rises earlier at c e =
 pub changes_rise : (members : Members) (changes : List TimedChange) → changes_of members ≡ Ok changes → EachBehind IsRising [] changes
 unfolding changes_of
 changes_rise members changes e =
-    bind_then (only (top members) (codes "change" ∷ [])) _ changes e (λ known known-is e0.
-    bind_then (limited_items (top members) (codes "change") 10000) _ changes e0 (λ tables tables-is e1.
-    (from_none IsRising (length tables) changes (each_meets IsRising change_of (codes "change") change_rises [] tables changes e1)).0))
+    bind_then (only (top members) (codes "version" ∷ codes "change" ∷ [])) _ changes e (λ known known-is e0.
+    bind_then (optional (top members) (codes "version") (range 2 2)) _ changes e0 (λ version version-is e1.
+    bind_then (limited_items (top members) (codes "change") (most_changes version)) _ changes e1 (λ tables tables-is e2.
+    (from_none IsRising (length tables) changes (each_meets IsRising change_of (codes "change") change_rises [] tables changes e2)).0)))
 
 pub given_changes_rise : (table : Members) (r : Result (Vec TimedChange Global) SettingsFault) → GivesAs (λ v. v.items) r (changes_of table) → IfOk r (λ changes. EachBehind IsRising [] changes.items)
 given_changes_rise table (Ok v) e = changes_rise table v.items e

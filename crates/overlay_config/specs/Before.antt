@@ -1,5 +1,6 @@
 -- What settings meant before limits could be asked for: of each version at most 256 segments, at most 8,192 entries of each and
--- 65,536 of all, and no key `limits`. It states no standard.
+-- 65,536 of all, and no key `limits`. And what changes meant before they could have a version: at most 10,000, and no other key.
+-- It states no standard.
 use Rattle.std.specs.Prelude.{ℕ, nat_lt, List, [], ◌∷◌, length, Ok, codes}
 use Rattle.toml.specs.Data.{Members}
 use Rattle.flood_lists.specs.declared.own.Own.{Own}
@@ -7,9 +8,11 @@ use Rattle.underlay.specs.Settings.{own}
 use Rattle.config_text.specs.declared.fault.SettingsFault.TheVariants.{OverLimit}
 use Rattle.config_text.specs.Fault.{Meaning, ◌>>=◌}
 use Rattle.config_text.specs.Column.{range}
-use Rattle.config_text.specs.Table.{Place, top, only, required, subtable, required_items, each, refuse_if}
+use Rattle.config_text.specs.Table.{Place, top, only, required, subtable, limited_items, required_items, each, refuse_if}
+use Rattle.overlay_settings.specs.declared.change.TimedChange.{TimedChange}
 use Rattle.overlay_settings.specs.declared.segment.SegmentRule.{SegmentRule}
 use Rattle.overlay_settings.specs.Settings.{Settings, sum_of_limits}
+use Rattle.overlay_config.specs.Change.{change_of}
 use Rattle.overlay_config.specs.Underlay.{underlay_of}
 use Rattle.overlay_config.specs.Port.{port_of}
 use Rattle.overlay_config.specs.Segment.{segment_of}
@@ -47,3 +50,10 @@ settings_of members = do
   segments ← segments_of version (own underlay) (length ports) (top members)
   pool ← pool_for given segments
   Ok (record { underlay = underlay; ports = ports; segments = segments; pool = pool })
+
+-- what the table of a text of changes meant
+unfoldable pub changes_of : Members → Meaning (List TimedChange)
+changes_of members = do
+  known ← only (top members) (codes "change" ∷ [])
+  tables ← limited_items (top members) (codes "change") 10000
+  each change_of (codes "change") [] tables

@@ -197,11 +197,17 @@ change_of earlier at = do
 abbrev pub IsRising : List TimedChange → TimedChange → Type 0
 IsRising earlier c = IsWithin (moment_before earlier) 4294967295999999999 c.at
 
+-- how many changes there may be: more in version 2, the only one that a text can tell
+abbrev pub most_changes : Option ℕ → ℕ
+most_changes None = 10000
+most_changes (Some version) = 100000
+
 -- what the table of a text of changes means
 unfoldable pub changes_of : Members → Meaning (List TimedChange)
 changes_of members = do
-  known ← only (top members) (codes "change" ∷ [])
-  tables ← limited_items (top members) (codes "change") 10000
+  known ← only (top members) (codes "version" ∷ codes "change" ∷ [])
+  version ← optional (top members) (codes "version") (range 2 2)
+  tables ← limited_items (top members) (codes "change") (most_changes version)
   each change_of (codes "change") [] tables
 
 -- the changes that a text means, or its first fault

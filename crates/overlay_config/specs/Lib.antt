@@ -11,6 +11,6 @@ pub mod LocalRules
 pub mod Tunnel
 pub mod Segment
 pub mod Settings
-pub mod Before
 pub mod Change
+pub mod Before
 pub mod Migrate

@@ -1,10 +1,10 @@
 //! The table of a change.
-ghost use Rattle.std.specs.Prelude.{◌≡◌, IfOk, []};
+ghost use Rattle.std.specs.Prelude.{◌≡◌, ◌≤◌, IfOk, []};
 ghost use Rattle.toml.specs.View.{table_view};
 ghost use Rattle.overlay_config.specs.Fault.{GivesAs};
 ghost use Rattle.config_text.specs.Reader.{place_of};
 ghost use Rattle.overlay_config.specs.Change.{moment_before, target_of, remote_of, other_kind, new_tunnels_of};
-ghost use Rattle.overlay_config.specs.Change.{new_segment_of, change_in, change_of, changes_in, changes_of, IsRising};
+ghost use Rattle.overlay_config.specs.Change.{new_segment_of, change_in, change_of, changes_in, changes_of, most_changes, IsRising};
 ghost use Rattle.overlay_settings.specs.Rules.{EachBehind};
 
 use crate::common_rules::{USUAL_LIMIT, read_common};
@@ -42,6 +42,9 @@ const ANY_NUMBER: U32Range = U32Range {
     low: 0,
     high: 4294967295,
 };
+
+/// The number of version 2.
+const SECOND: U8Range = U8Range { low: 2, high: 2 };
 
 /// Where a fixed entry stands: one of a port and a remote, and for a remote the kind of tunnel, where it is told.
 #[tactic(auto, unfolding(crate::specs::Change::target_of))]
@@ -210,9 +213,20 @@ impl Row for ChangeRow {
         let moment = at.required("at", &MOMENT)?;
         let change = read_change(kind, at)?;
         if moment < moment_before(earlier) {
-            return Err(SettingsFault::NotRising(Key::numbered("change", earlier.len() as u16 + 1)));
+            return Err(SettingsFault::NotRising(Key::numbered("change", earlier.len() as u32 + 1)));
         }
         Ok(TimedChange { at: moment, change })
+    }
+}
+
+/// How many changes there may be: more in version 2, the only one that a text can tell.
+fn most_changes(version: Option<u8>) -> usize
+    ensures value { result ≡ most_changes version }
+    ensures bounded { result ≤ 100000 }
+{
+    match version {
+        None => 10_000,
+        Some(_) => 100_000,
     }
 }
 
@@ -222,14 +236,15 @@ fn read_changes(alloc: Global, table: &Table) -> Result<Vec<TimedChange>, Settin
     ensures { GivesAs (λ v. v.items) result (changes_of (table_view table.now)) }
 {
     let top = Reader::top(table);
-    top.only(&["change"])?;
-    let tables = top.limited_items("change", 10000)?;
+    top.only(&["version", "change"])?;
+    let version = top.optional("version", &SECOND)?;
+    let tables = top.limited_items("change", most_changes(version))?;
     read_rows(alloc, &ChangeRow, "change", tables)
 }
 
 /// The changes that a text means, in its order, where no moment is below the one before; or the first fault: `NotToml`
-/// where the text isn't UTF-8 or no TOML document, then those of the list and of its changes from the first, each
-/// change's in the order of `docs/FORMATS.md`, with `NotRising` last. `OutOfMemory`: memory was refused.
+/// where the text isn't UTF-8 or no TOML document, then those of the version, of the list and of its changes from the
+/// first, each change's in the order of `docs/FORMATS.md`, with `NotRising` last. `OutOfMemory`: memory was refused.
 pub fn changes_of(alloc: Global, text: &[u8]) -> Result<Vec<TimedChange>, SettingsFault>
     ensures value { GivesAs (λ v. v.items) result (changes_in text.now) }
     ensures rising { IfOk result (λ changes. EachBehind IsRising [] changes.items) }

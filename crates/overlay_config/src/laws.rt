@@ -1,10 +1,12 @@
-//! The laws of the settings' definitions, as contracts of functions that do nothing.
+//! The laws of the definitions of settings and changes, as contracts of functions that do nothing.
 ghost use Rattle.std.specs.Prelude.{◌≡◌, ℕ, pos, IsFalse, List, None, Ok, codes};
 ghost use Rattle.overlay_settings.specs.Rules.{MeetsRules};
 ghost use Rattle.overlay_settings.specs.Settings.{Settings};
+ghost use Rattle.overlay_settings.specs.declared.change.TimedChange.{TimedChange};
 ghost use Rattle.toml.specs.Data.{Members, get_member, integer};
 ghost use Rattle.config_text.specs.Table.{top};
 ghost use Rattle.overlay_config.specs.Before as before;
+ghost use Rattle.overlay_config.specs.Change.{changes_of};
 ghost use Rattle.overlay_config.specs.declared.version.Version.TheVariants.{Two};
 ghost use Rattle.overlay_config.specs.Migrate.{migrated, with_value};
 ghost use Rattle.overlay_config.specs.Settings.{is_third, settings_in, settings_of, version_of};
@@ -30,4 +32,11 @@ pub fn third_versions()
 pub fn migrations()
     ensures means { (members : Members) (s : Settings) → settings_of members ≡ Ok s → settings_of (migrated members) ≡ Ok s }
     ensures twice { (members : Members) → migrated (migrated members) ≡ migrated members }
+{}
+
+/// Changes that tell no version mean what they meant before they could have one, each fault included, and what they mean they
+/// mean in version 2.
+pub fn unversioned_changes()
+    ensures before { (members : Members) → get_member (codes "version") members ≡ None → changes_of members ≡ before.changes_of members }
+    ensures second { (members : Members) (changes : List TimedChange) → get_member (codes "version") members ≡ None → changes_of members ≡ Ok changes → changes_of (with_value (codes "version") (integer (pos 2)) members) ≡ Ok changes }
 {}

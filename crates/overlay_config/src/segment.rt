@@ -95,7 +95,7 @@ impl Row for SegmentRow {
         if is_taken(earlier, vid, &tunnels) {
             return Err(SettingsFault::TwoSegments(Key::numbered(
                 "segment",
-                earlier.len() as u16 + 1,
+                earlier.len() as u32 + 1,
             )));
         }
         let (tunnels, flood) = tunnels.into_parts();

@@ -189,7 +189,7 @@ fn read_table(
 /// at most.
 fn read_item(
     list: &str,
-    number: u16,
+    number: u32,
     value: &Value,
     own: Own,
     earlier: Option<TunnelTable>,

@@ -9,12 +9,12 @@ use Rattle.toml.specs.Data.{Data, Members, get_member, as_integer, as_str}
 use Rattle.config_text.specs.declared.fault.SettingsFault.TheVariants.{NotRising}
 use Rattle.config_text.specs.Fault.{Meaning, ◌>>=◌}
 use Rattle.config_text.specs.Column.{in_range, one_of, range, word_in}
-use Rattle.config_text.specs.Table.{Place, each, fits, limited_items, numbered, only, optional_value, path, refuse_if, required, required_value, row_place, top}
+use Rattle.config_text.specs.Table.{Place, each, fits, limited_items, numbered, only, optional, optional_value, path, refuse_if, required, required_value, row_place, top}
 use Rattle.config_text.proofs.Addresses.{then_some}
 use Rattle.overlay_settings.specs.declared.change.Change.{Change}
 use Rattle.overlay_settings.specs.declared.change.TimedChange.{TimedChange}
 use Rattle.overlay_config.specs.Document.{document}
-use Rattle.overlay_config.specs.Change.{change_in, change_of, changes_in, changes_of, keys_of, kind_words, moment_before}
+use Rattle.overlay_config.specs.Change.{change_in, change_of, changes_in, changes_of, keys_of, kind_words, moment_before, most_changes}
 use Rattle.noninterference.proofs.Lists.{all-map}
 
 -- ---- steps
@@ -106,8 +106,9 @@ module _ (Q : Change → Type 0) (kinds : AllByRecursion (λ w. Reads Q change_i
   list-if : (members : Members) → IfOk (changes_of members) (AllByRecursion (IsTimed Q))
   unfolding changes_of
   list-if members =
-      then-so (AllByRecursion (IsTimed Q)) (only (top members) (codes "change" ∷ [])) _ (λ known.
-      then-so (AllByRecursion (IsTimed Q)) (limited_items (top members) (codes "change") 10000) (λ tables. each change_of (codes "change") [] tables) (λ tables. each-if (codes "change") [] tables tt))
+      then-so (AllByRecursion (IsTimed Q)) (only (top members) (codes "version" ∷ codes "change" ∷ [])) _ (λ known.
+      then-so (AllByRecursion (IsTimed Q)) (optional (top members) (codes "version") (range 2 2)) _ (λ version.
+      then-so (AllByRecursion (IsTimed Q)) (limited_items (top members) (codes "change") (most_changes version)) (λ tables. each change_of (codes "change") [] tables) (λ tables. each-if (codes "change") [] tables tt)))
 
   given : (m : Meaning (List TimedChange)) (cs : List TimedChange) → IfOk m (AllByRecursion (IsTimed Q)) → m ≡ Ok cs → AllByRecursion (IsTimed Q) cs
   given m cs all is = subst (λ (r : Meaning (List TimedChange)). IfOk r (AllByRecursion (IsTimed Q))) is all

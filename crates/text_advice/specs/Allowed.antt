@@ -3,7 +3,9 @@ use Rattle.std.specs.Prelude.{ℕ, List, [], ◌∷◌, map, ◌&&◌, Option, S
 use Rattle.text_advice.specs.Line.{same}
 use Rattle.text_advice.specs.Known.{fits}
 use Rattle.std.specs.Borrow.{Bor}
-use Rattle.text_advice.specs.declared.allowed.TheConstants.{SENTENCES}
+use Rattle.text_advice.specs.declared.known.TextKind.{TextKind}
+use Rattle.text_advice.specs.declared.known.TextKind.TheVariants.{Settings, Changes}
+use Rattle.text_advice.specs.declared.allowed.TheConstants.{SETTINGS_SENTENCES, CHANGE_SENTENCES}
 
 -- what is allowed under the keys of a path, where the text has a variant of this name, for a fault
 pub record Row : Type 0 where
@@ -28,5 +30,6 @@ abbrev pub constant_row : record { now : List ℕ } × record { now : List ℕ }
 constant_row s = record { path = s.0.now; variant = s.1.now; fault = s.2.now; text = s.3.now }
 
 -- what is allowed under the key of a path, in a text of a variant, for a fault
-unfoldable pub sentence_of : List ℕ → List ℕ → List ℕ → Option (List ℕ)
-sentence_of path variant fault = sentence_in (map constant_row SENTENCES) path variant fault
+unfoldable pub sentence_of : TextKind → List ℕ → List ℕ → List ℕ → Option (List ℕ)
+sentence_of Settings path variant fault = sentence_in (map constant_row SETTINGS_SENTENCES) path variant fault
+sentence_of Changes path variant fault = sentence_in (map constant_row CHANGE_SENTENCES) path variant fault

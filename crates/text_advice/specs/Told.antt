@@ -45,10 +45,10 @@ word_of (Some v) = bare (past_quote v)
 abbrev pub value_word : Option Line → List ℕ
 value_word line = word_of (option_and_then (λ l. value l.text) line)
 
--- what a text says it is: settings their version, a change its kind
+-- what a text says it is: settings their version; of changes a table its kind, or where it says none the text its version
 abbrev pub variant : TextKind → Block → Block → List ℕ
 variant Settings whole table = value_word (key_line (codes "version") whole)
-variant Changes whole table = value_word (key_line (codes "kind") table)
+variant Changes whole table = value_word (or_else (key_line (codes "kind") table) (key_line (codes "version") whole))
 
 -- the line of a key, or else the header of a table of its name; none where the block's own table is meant
 abbrev pub named_line : List ℕ → Block → Option Line
@@ -94,11 +94,11 @@ at_line keys allowed header (Some l) = record {
 abbrev pub told_at : TextKind → Block → List ℕ → List ℕ → Option Spot → Findings
 told_at kind whole path fault None =
     let v = variant kind whole whole in
-    at_line (keys_of kind path v) (sentence_of path v fault) whole.header None
+    at_line (keys_of kind path v) (sentence_of kind path v fault) whole.header None
 told_at kind whole path fault (Some s) =
     let v = variant kind whole s.block in
     let keys = keys_of kind path v in
-    at_line keys (sentence_of path v fault) s.block.header (spot_line keys s)
+    at_line keys (sentence_of kind path v fault) s.block.header (spot_line keys s)
 
 -- of the key of a path, in a text of these lines, for a fault
 abbrev pub told : TextKind → List (List ℕ) → List (List ℕ) → List ℕ → Findings

@@ -2,14 +2,15 @@
 ghost use Rattle.std.specs.Prelude.{◌≡◌, map, option_map};
 ghost use Rattle.text_advice.specs.Allowed.{sentence_row_of, sentence_in, sentence_of};
 
-use crate::known::fits;
+use crate::known::{TextKind, fits};
 
-/// The path of a key without the numbers of tables; the version of the settings, or nothing for any other; the fault that the
-/// sentence is for, with a space behind, or nothing for any other; and what is allowed under the key.
+/// The path of a key without the numbers of tables; the version of the text, or nothing for any other; the fault that the
+/// sentence is for, with a space behind, or nothing for any other; and what is allowed under the key, behind a semicolon also
+/// which key raises a limit.
 pub type Sentence = (&'static str, &'static str, &'static str, &'static str);
 
-/// What is allowed under each key of settings and of changes.
-pub const SENTENCES: [Sentence; 73] = [
+/// What is allowed under each key of settings.
+pub const SETTINGS_SENTENCES: [Sentence; 53] = [
     (
         "version",
         "",
@@ -20,26 +21,31 @@ pub const SENTENCES: [Sentence; 73] = [
         "pool",
         "",
         "OverLimit ",
-        "the limits of all segments sum to the pool at most",
+        "the limits of all segments sum to the pool at most; pool raises it",
     ),
     (
         "pool",
         "3",
         "",
-        "a number, 1 to 65536, or to limits.addresses where it is given",
+        "a number, 1 to 65536, or to limits.addresses where it is given; limits.addresses raises it, up to 262144",
     ),
-    ("pool", "", "", "a number, 1 to 65536"),
+    (
+        "pool",
+        "",
+        "",
+        "a number, 1 to 65536; version 3 with limits.addresses raises it",
+    ),
     (
         "limit",
         "3",
         "",
-        "the limits of all segments sum to 65536 at most, or to limits.addresses where it is given",
+        "the limits of all segments sum to 65536 at most, or to limits.addresses where it is given; limits.addresses raises it, up to 262144",
     ),
     (
         "limit",
         "",
         "",
-        "the limits of all segments sum to 65536 at most",
+        "the limits of all segments sum to 65536 at most; version 3 with limits.addresses raises it",
     ),
     ("limits", "", "", "one table, headed [limits]"),
     ("limits.segments", "", "", "a number, 1 to 4094"),
@@ -120,6 +126,18 @@ pub const SENTENCES: [Sentence; 73] = [
     (
         "segment",
         "3",
+        "OverLimit ",
+        "1 to 256 tables, or to limits.segments where it is given, each headed [[segment]]; limits.segments raises it, up to 4094",
+    ),
+    (
+        "segment",
+        "",
+        "OverLimit ",
+        "1 to 256 tables, each headed [[segment]]; version 3 with limits.segments raises it",
+    ),
+    (
+        "segment",
+        "3",
         "",
         "1 to 256 tables, or to limits.segments where it is given, each headed [[segment]]",
     ),
@@ -155,9 +173,14 @@ pub const SENTENCES: [Sentence; 73] = [
         "segment.limit",
         "3",
         "",
-        "a number, 1 to 8192, or to limits.entries where it is given",
+        "a number, 1 to 8192, or to limits.entries where it is given; limits.entries raises it, up to 131072",
     ),
-    ("segment.limit", "", "", "a number, 1 to 8192"),
+    (
+        "segment.limit",
+        "",
+        "",
+        "a number, 1 to 8192; version 3 with limits.entries raises it",
+    ),
     (
         "segment.ageing",
         "",
@@ -186,11 +209,33 @@ pub const SENTENCES: [Sentence; 73] = [
         "",
         "a list of at most 16 addresses in quotes, groups too, none twice, none 0.0.0.0, 255.255.255.255, ::, an own address, or of a family without an own address",
     ),
+];
+
+/// What is allowed under each key of changes.
+pub const CHANGE_SENTENCES: [Sentence; 25] = [
+    (
+        "version",
+        "",
+        "",
+        "the number 2, for up to 100000 tables; or no version, for up to 10000",
+    ),
     (
         "change",
         "",
         "NotRising ",
         "a moment not below that of the change before",
+    ),
+    (
+        "change",
+        "2",
+        "",
+        "at most 100000 tables, each headed [[change]]",
+    ),
+    (
+        "change",
+        "",
+        "OverLimit ",
+        "at most 10000 tables, each headed [[change]]; version = 2 raises it to 100000",
     ),
     (
         "change",
@@ -289,8 +334,16 @@ fn sentence_in(rows: &[Sentence], path: &[u8], variant: &[u8], fault: &[u8]) -> 
 
 /// What is allowed under the key of a path, in a text of a variant, for a fault.
 #[tactic(auto, unfolding(crate::specs::Allowed::sentence_of))]
-pub(crate) fn sentence_of(path: &[u8], variant: &[u8], fault: &[u8]) -> Option<&'static str>
-    ensures { option_map (λ s. s.now) result ≡ sentence_of path.now variant.now fault.now }
+pub(crate) fn sentence_of(
+    kind: TextKind,
+    path: &[u8],
+    variant: &[u8],
+    fault: &[u8],
+) -> Option<&'static str>
+    ensures { option_map (λ s. s.now) result ≡ sentence_of kind path.now variant.now fault.now }
 {
-    sentence_in(&SENTENCES, path, variant, fault)
+    match kind {
+        TextKind::Settings => sentence_in(&SETTINGS_SENTENCES, path, variant, fault),
+        TextKind::Changes => sentence_in(&CHANGE_SENTENCES, path, variant, fault),
+    }
 }

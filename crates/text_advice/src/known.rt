@@ -9,7 +9,7 @@ pub enum TextKind {
     Changes,
 }
 
-/// The path of a table's keys, without the numbers of tables and with `*` for a key; the version of the settings or the kind
+/// The path of a table's keys, without the numbers of tables and with `*` for a key; the version of the text or the kind
 /// of the change, or nothing for any other; and the keys that the table may have.
 pub type TableKeys = (&'static str, &'static str, &'static [&'static str]);
 
@@ -90,7 +90,7 @@ pub const SETTINGS_KEYS: [TableKeys; 11] = [
 
 /// The tables of changes.
 pub const CHANGE_KEYS: [TableKeys; 14] = [
-    ("*", "", &["change"]),
+    ("*", "", &["version", "change"]),
     (
         "change.*",
         "add_flood",

@@ -3,7 +3,8 @@
 //! Use first: [`advice`] tells of a [`SettingsFault`](config_text::SettingsFault) the line and the column of its key, or of
 //! its table's header, what was found there, and what is allowed; of a key that its table doesn't have, the keys that it has
 //! and the one that is nearest; and of a text that is no TOML, the line and the parser's reason, which [`syntax_error_at`]
-//! gets. [`SETTINGS_KEYS`], [`CHANGE_KEYS`] and [`SENTENCES`] are the table of all keys.
+//! gets. [`SETTINGS_KEYS`] and [`CHANGE_KEYS`] are the tables of all keys, and [`SETTINGS_SENTENCES`] and
+//! [`CHANGE_SENTENCES`] what is allowed under each.
 //!
 //! Specs to read: `specs/Advice`, then `specs/Told` and `specs/Search`; `specs/Known`, `specs/Allowed` and `specs/Near` for
 //! keys.
@@ -31,7 +32,7 @@ mod split;
 mod syntax;
 mod told;
 
-pub use allowed::{SENTENCES, Sentence};
+pub use allowed::{CHANGE_SENTENCES, SETTINGS_SENTENCES, Sentence};
 pub use known::{CHANGE_KEYS, SETTINGS_KEYS, TableKeys, TextKind};
 pub use report::advice;
 pub use syntax::{SyntaxError, syntax_error_at};

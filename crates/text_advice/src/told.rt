@@ -1,6 +1,7 @@
 //! What is told of the key of a fault.
-ghost use Rattle.std.specs.Prelude.{◌≡◌, map, option_map, IfOk};
-ghost use Rattle.text_advice.specs.Search.{line_of, block_of, top};
+ghost use Rattle.std.specs.Prelude.{◌≡◌, codes, map, option_map, IfOk};
+ghost use Rattle.text_advice.specs.Near.{or_else};
+ghost use Rattle.text_advice.specs.Search.{line_of, block_of, key_line, top};
 ghost use Rattle.text_advice.specs.Path.{spot_of};
 ghost use Rattle.text_advice.specs.Split.{split};
 ghost use Rattle.text_advice.specs.Told.{variant, named_line, spot_line, header_place, past_quote};
@@ -51,13 +52,24 @@ fn value_word(line: Option<Line>) -> &[u8]
     }
 }
 
-/// What a text says it is: settings their version, a change its kind.
+/// The line of a change's kind, or else that of the version of the whole text.
+fn variant_line<'a>(whole: Block<'_, 'a>, table: Block<'_, 'a>) -> Option<Line<'a>>
+    ensures { option_map line_of result
+        ≡ or_else (key_line (codes "kind") (block_of table.entry)) (key_line (codes "version") (block_of whole.entry)) }
+{
+    match key_line(b"kind", table) {
+        Some(line) => Some(line),
+        None => key_line(b"version", whole),
+    }
+}
+
+/// What a text says it is: settings their version; of changes a table its kind, or where it says none the text its version.
 fn variant<'a>(kind: TextKind, whole: Block<'_, 'a>, table: Block<'_, 'a>) -> &'a [u8]
     ensures { result.now ≡ variant kind (block_of whole.entry) (block_of table.entry) }
 {
     match kind {
         TextKind::Settings => value_word(key_line(b"version", whole)),
-        TextKind::Changes => value_word(key_line(b"kind", table)),
+        TextKind::Changes => value_word(variant_line(whole, table)),
     }
 }
 
@@ -167,13 +179,13 @@ fn told_at<'a>(
         None => {
             let variant = variant(kind, whole, whole);
             let keys = keys_of(kind, path, variant);
-            let allowed = sentence_of(path, variant, fault);
+            let allowed = sentence_of(kind, path, variant, fault);
             at_line(alloc, keys, allowed, whole.header, None)
         }
         Some(spot) => {
             let variant = variant(kind, whole, spot.block);
             let keys = keys_of(kind, path, variant);
-            let allowed = sentence_of(path, variant, fault);
+            let allowed = sentence_of(kind, path, variant, fault);
             at_line(
                 alloc,
                 keys,

@@ -1,5 +1,5 @@
 -- What a window shows of the frames that it keeps.
-use Rattle.std.proofs.Common.{◌≡◌, ℕ, ◌+◌, ◌-◌, ◌<◌, List, length, get_or, take, drop, refl, sym, ap, ◌∙◌, arith}
+use Rattle.std.proofs.Common.{◌≡◌, ℕ, ◌<◌, List, length, get_or, take, drop, refl, sym, ap, ◌∙◌}
 use Rattle.echo_window.specs.Echo.{Came, Record, Window, first_met, is_echo_of, octets_of}
 use Rattle.echo_window.specs.Laid.{came_of, laid, lengths}
 use Rattle.echo_window.specs.declared.kept.Kept.{Kept}
@@ -29,10 +29,9 @@ one-is ks row came i k e v h here =
     sym (ap (λ (l : List Came). get_or l i e) v) ∙ laid-at ks row i k e h ∙ ap (λ (x : Kept). came_of x (take x.length (drop (lengths (take i ks)) row))) (sym here)
 
 -- what is asked of it
-pub asked-is : (within : ℕ) (m : Record) (ks : List Kept) (row : List ℕ) (i begin : ℕ) (k : Kept) → i < length ks → k ≡ get_or ks i k → begin ≡ lengths (take i ks)
-    → is_echo_of within m (came_of k (take ((begin + k.length) - begin) (drop begin row))) ≡ is_echo_of within m (get_or (laid ks row) i (first_met m))
-asked-is within m ks row i begin k h here at =
-    let n : (begin + k.length) - begin ≡ k.length = omega arith in
-    ap (λ (x : ℕ). is_echo_of within m (came_of k (take x (drop begin row)))) n
+pub asked-is : (within : ℕ) (m : Record) (ks : List Kept) (row octets : List ℕ) (i begin : ℕ) (k : Kept) → i < length ks → k ≡ get_or ks i k → begin ≡ lengths (take i ks)
+    → octets ≡ take k.length (drop begin row) → is_echo_of within m (came_of k octets) ≡ is_echo_of within m (get_or (laid ks row) i (first_met m))
+asked-is within m ks row octets i begin k h here at are =
+    ap (λ (l : List ℕ). is_echo_of within m (came_of k l)) are
     ∙ ap (λ (x : ℕ). is_echo_of within m (came_of k (take k.length (drop x row)))) at
     ∙ sym (ap (λ (c : Came). is_echo_of within m c) (one-is ks row (laid ks row) i k (first_met m) refl h here))

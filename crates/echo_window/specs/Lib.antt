@@ -2,3 +2,4 @@ pub mod Bucket
 pub mod Echo
 pub mod Index
 pub mod Laid
+pub mod Ring

@@ -28,16 +28,17 @@ pub(crate) struct Kept {
 }
 
 impl Kept {
-    /// Whether a record is an echo of the frame, whose octets these are. Most frames are of another length, which is seen first.
+    /// Whether a record is an echo of the frame, whose octets these are, in two parts. Most frames are of another length, which
+    /// is seen first.
     #[inline(always)]
     #[tactic(auto, using(crate::proofs::Texts::never_same))]
-    pub(crate) fn is_met_by(&self, octets: &[u8], within: u64, met: &Record) -> bool
-        ensures { result ≡ is_echo_of within (told met.now) (came_of self.now octets.now) }
+    pub(crate) fn is_met_by(&self, begun: &[u8], ended: &[u8], within: u64, met: &Record) -> bool
+        ensures { result ≡ is_echo_of within (told met.now) (came_of self.now (begun.now ++ ended.now)) }
     {
-        if octets.len() != length_of(met) {
+        if begun.len() + ended.len() != length_of(met) {
             return false;
         }
-        self.awaits(within, met) && is_same(octets, met.addresses, met.rest)
+        self.awaits(within, met) && are_same(begun, ended, met.addresses, met.rest)
     }
 
     /// Whether it came in more than so many nanoseconds before a moment.
@@ -68,6 +69,31 @@ impl Kept {
     {
         !self.echoed.is_full() && !self.echoed.as_slice().contains(&met.place)
     }
+}
+
+/// Whether two texts, one behind the other, are two others. Mostly the second is empty.
+#[inline(always)]
+#[tactic(auto, using(crate::proofs::Texts::none_behind))]
+fn are_same(begun: &[u8], ended: &[u8], front: &[u8], rest: &[u8]) -> bool
+    ensures { result ≡ is_same (begun.now ++ ended.now) (front.now ++ rest.now) }
+{
+    if ended.is_empty() {
+        return is_same(begun, front, rest);
+    }
+    are_same_apart(begun, ended, front, rest)
+}
+
+/// The same, wherever the texts end.
+#[tactic(auto, using(crate::proofs::Texts::same_beyond, crate::proofs::Texts::same_within))]
+fn are_same_apart(begun: &[u8], ended: &[u8], front: &[u8], rest: &[u8]) -> bool
+    ensures { result ≡ is_same (begun.now ++ ended.now) (front.now ++ rest.now) }
+{
+    if begun.len() <= front.len() {
+        let (begin, end) = front.split_at(begun.len());
+        return begun == begin && is_same(ended, end, rest);
+    }
+    let (begin, end) = begun.split_at(front.len());
+    begin == front && is_same(rest, end, ended)
 }
 
 /// Whether a text is two others, one behind the other.

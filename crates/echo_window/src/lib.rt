@@ -5,20 +5,20 @@
 //! whether it is an echo of a frame that came in: met at another place, soon after, for the first time there, octet for
 //! octet. Captures aren't read here.
 //!
-//! Specs to read: `specs/Echo`. `specs/Laid`, `specs/Bucket` and `specs/Index` serve proofs.
+//! Specs to read: `specs/Echo`. `specs/Laid`, `specs/Ring`, `specs/Bucket` and `specs/Index` serve proofs.
 //!
 //! Proved: of every row of records, each is an echo exactly where the definition says so, and the frames that are kept behind
 //! it are those of the definition: those that came in at most so long before, of these the latest, at most 4,096 and 4 MiB of
-//! octets together. Only [`Window::new`] takes memory, some 9 MiB.
+//! octets together. Only [`Window::new`] takes memory, some 5 MiB.
 //!
 //! Why it is so: a frame that is sent on comes out within moments, so what came in earlier is forgotten, and a bound on what
 //! is kept costs nothing but where more comes in than fits. A frame is met again once at each place that it is sent to: so a
 //! frame that comes twice is two, whose echoes are paired in order. Octets are compared and not a digest of them: whoever
-//! sends frames can't make the switch take one for another. The octets of all frames stand in one row, so that none asks for
-//! memory. Of the frames that are kept only those are looked at whose lengths, first 60 octets, and last 8 have one sum with
-//! the record's: the addresses, numbers and checksums of common headers are in these. Frames that differ nowhere else, or are
-//! the same, share their sums, and so do those of whoever means to: of them each that is kept is looked at, as all frames were
-//! if there were no sums.
+//! sends frames can't make the switch take one for another. The octets of all frames stand in one ring, so that none asks for
+//! memory, and none is moved. Of the frames that are kept only those are looked at whose lengths, first 60 octets, and last 8
+//! have one sum with the record's: the addresses, numbers and checksums of common headers are in these. Frames that differ
+//! nowhere else, or are the same, share their sums, and so do those of whoever means to: of them each that is kept is looked
+//! at, as all frames were if there were no sums.
 #![tactic(auto)]
 
 mod bucket;

@@ -1,35 +1,34 @@
 //! Octets in a row.
-ghost use Rattle.std.specs.Prelude.{◌≡◌, ◌≤◌, ◌+◌, ◌-◌, [], ◌++◌, IfOk, drop, length, replicate, take};
+ghost use Rattle.std.specs.Prelude.{◌≡◌, ◌≤◌, ◌<◌, ◌+◌, ◌%◌, [], ◌++◌, IfOk, drop, length, replicate, take};
+ghost use Rattle.echo_window.specs.Ring.{ringed};
 
 use std::alloc::{AllocError, Global};
 use std::marker::Model;
 
-/// How many octets a row holds at most.
+/// How many octets a row holds at most, a power of two. There is room for as many.
 pub(crate) const MOST_OCTETS: usize = 4_194_304;
 
-/// For how many there is room: as many may be forgotten before those that are held move to the front.
-const ROOM: usize = 2 * MOST_OCTETS;
-
-/// At most 4 MiB of octets, of which the first can be forgotten; seen by contracts as the list of those that it holds. Only
-/// [`Row::new`] takes memory.
+/// At most 4 MiB of octets, of which the first can be forgotten; seen by contracts as the list of those that it holds. None is
+/// moved: what reaches the end of the room goes on at its front, where others were forgotten. Only [`Row::new`] takes memory.
 #[derive(Drop)]
 pub(crate) struct Row {
-    /// As many as there is room for: what stands behind the end is nothing yet.
+    /// As many as there is room for: those that it doesn't hold are nothing.
     octets: Vec<u8>,
-    /// How many of them are forgotten.
-    forgotten: usize,
-    /// Where the last one that it holds ends.
-    end: usize,
+    /// Where the first one that it holds stands.
+    begin: usize,
+    /// How many it holds.
+    count: usize,
 }
 
 impl Model for Row {
-    ghost use Rattle.std.specs.Prelude.{ℕ, ◌≤◌, ◌≡◌, List, drop, length, take};
+    ghost use Rattle.std.specs.Prelude.{ℕ, ◌≤◌, ◌<◌, ◌≡◌, List, length};
+    ghost use Rattle.echo_window.specs.Ring.{ringed};
 
     ghost Value = { List ℕ };
 
-    ghost view = { λ r. drop r.forgotten (take r.end r.octets.items) };
+    ghost view = { λ r. ringed r.octets.items r.begin r.count };
 
-    ghost invariant = { λ r. (r.forgotten ≤ r.end) × ((r.end ≤ length r.octets.items) × (length r.octets.items ≡ 8388608)) };
+    ghost invariant = { λ r. (r.begin < 4194304) × ((r.count ≤ 4194304) × (length r.octets.items ≡ 4194304)) };
 }
 
 impl Row {
@@ -39,17 +38,27 @@ impl Row {
     {
         Ok(Row {
             octets: zeros(alloc, room())?,
-            forgotten: 0,
-            end: 0,
+            begin: 0,
+            count: 0,
         })
     }
 
-    /// The octets that it holds.
-    pub(crate) fn held(&self) -> &[u8]
-        ensures { result.now ≡ self.now }
+    /// How many octets it holds.
+    pub(crate) fn count(&self) -> usize
+        ensures { result ≡ length self.now }
     {
-        let (begun, _) = self.octets.split_at(self.end);
-        &begun[self.forgotten..]
+        self.count
+    }
+
+    /// So many of its octets behind the first `at`, in two parts: those up to the end of the room, and those that go on at its
+    /// front, mostly none.
+    #[inline(always)]
+    pub(crate) fn part(&self, at: usize, count: usize) -> (&[u8], &[u8])
+        requires { at + count ≤ length self.now }
+        ensures octets { result.0.now ++ result.1.now ≡ take count (drop at self.now) }
+        ensures bound { at + count ≤ 4194304 }
+    {
+        part_of(&self.octets, wrapped(self.begin + at), count)
     }
 
     /// Forgets the first octets.
@@ -57,7 +66,8 @@ impl Row {
         requires { count ≤ length self.old }
         ensures { self.new ≡ drop count self.old }
     {
-        self.forgotten += count;
+        self.begin = wrapped(self.begin + count);
+        self.count -= count;
     }
 
     /// Puts two texts behind what it holds.
@@ -65,22 +75,18 @@ impl Row {
         requires { length self.old + length first.now + length second.now ≤ 4194304 }
         ensures { self.new ≡ self.old ++ (first.now ++ second.now) }
     {
-        if self.end + first.len() + second.len() > ROOM {
-            close_up(self.octets.as_mut_slice(), self.forgotten, self.end);
-            self.end -= self.forgotten;
-            self.forgotten = 0;
-        }
-        append(self.octets.as_mut_slice(), self.end, first);
-        append(self.octets.as_mut_slice(), self.end + first.len(), second);
-        self.end += first.len() + second.len();
+        append(&mut self.octets, self.begin, self.count, first);
+        self.count += first.len();
+        append(&mut self.octets, self.begin, self.count, second);
+        self.count += second.len();
     }
 }
 
 /// For how many octets there is room.
 fn room() -> usize
-    ensures { result ≡ 8388608 }
+    ensures { result ≡ 4194304 }
 {
-    ROOM
+    MOST_OCTETS
 }
 
 /// So many zeros.
@@ -90,40 +96,56 @@ fn zeros(alloc: Global, count: usize) -> Result<Vec<u8>, AllocError>
     vec![in alloc; 0; count]
 }
 
-/// Moves the octets up to `end` but for the first to the front, which are no more than those.
-fn close_up(octets: &mut [u8], count: usize, end: usize)
-    requires order { count ≤ end }
-    requires whole { end ≤ length octets.old }
-    requires apart { end ≤ count + count }
-    ensures front { take (end - count) octets.new ≡ drop count (take end octets.old) }
-    ensures size { length octets.new ≡ length octets.old }
-{
-    let (begun, _) = octets.split_at_mut(end);
-    shift(begun, count, end);
-}
-
-/// Moves the octets from `count` to `held` to the front, as far as `count` at most.
-fn shift(octets: &mut [u8], count: usize, held: usize)
-    requires order { count ≤ held }
-    requires apart { held ≤ count + count }
-    requires whole { held ≡ length octets.old }
-    ensures front { take (held - count) octets.new ≡ drop count octets.old }
-    ensures size { length octets.new ≡ length octets.old }
-{
-    let (front, back) = octets.split_at_mut(count);
-    front[..held - count].copy_from_slice(back);
-}
-
-/// Puts a text behind the first octets.
+/// A place in a ring: its front follows its end.
 #[inline(always)]
-fn append(octets: &mut [u8], end: usize, text: &[u8])
-    requires { end + length text.now ≤ length octets.old }
-    ensures items { take (end + length text.now) octets.new ≡ take end octets.old ++ text.now }
-    ensures size { length octets.new ≡ length octets.old }
+fn wrapped(place: usize) -> usize
+    ensures { result ≡ place % 4194304 }
+{
+    place % MOST_OCTETS
+}
+
+/// So many octets of a ring from a place on: those up to its end, and those that go on at its front.
+#[inline(always)]
+fn part_of(octets: &[u8], begin: usize, count: usize) -> (&[u8], &[u8])
+    requires ring { length octets.now ≡ 4194304 }
+    requires begin { begin < 4194304 }
+    requires count { count ≤ 4194304 }
+    ensures { result.0.now ++ result.1.now ≡ ringed octets.now begin count }
+{
+    let (front, back) = octets.split_at(begin);
+    if count <= MOST_OCTETS - begin {
+        return (&back[..count], &[]);
+    }
+    (back, &octets[..count - (MOST_OCTETS - begin)])
+}
+
+/// Puts a text behind so many octets of a ring from a place on.
+#[inline(always)]
+fn append(octets: &mut [u8], begin: usize, count: usize, text: &[u8])
+    requires ring { length octets.old ≡ 4194304 }
+    requires begin { begin < 4194304 }
+    requires room { count + length text.now ≤ 4194304 }
+    ensures items { ringed octets.new begin (count + length text.now) ≡ ringed octets.old begin count ++ text.now }
+    ensures ring { length octets.new ≡ length octets.old }
 {
     if text.is_empty() {
         return;
     }
-    let (_, rest) = octets.split_at_mut(end);
-    rest[..text.len()].copy_from_slice(text);
+    let end = wrapped(begin + count);
+    if text.len() <= MOST_OCTETS - end {
+        write(octets, end, text);
+        return;
+    }
+    let (here, front) = text.split_at(MOST_OCTETS - end);
+    write(octets, end, here);
+    write(octets, 0, front);
+}
+
+/// Writes a text over octets from a place on.
+#[inline(always)]
+fn write(octets: &mut [u8], at: usize, text: &[u8])
+    requires { at + length text.now ≤ length octets.old }
+    ensures { octets.new ≡ take at octets.old ++ (text.now ++ drop (at + length text.now) octets.old) }
+{
+    octets[at..at + text.len()].copy_from_slice(text);
 }

@@ -9,13 +9,14 @@ ghost use Rattle.echo_window.specs.Laid.{laid, lengths, told};
 use crate::index::Index;
 use crate::kept::Kept;
 use crate::record::Record;
+use crate::row::Row;
 use std::collections::VecDeque;
 
 /// Which of some frames, whose octets stand in a row, a record is an echo of: of those with the bucket of its frame, from the
 /// latest to the earliest.
 pub(crate) fn find_linked(
     frames: &VecDeque<Kept>,
-    row: &[u8],
+    row: &Row,
     index: &Index,
     bucket: usize,
     within: u64,
@@ -49,7 +50,7 @@ fn if_echo(is_echo: bool, i: usize, found: Option<usize>) -> Option<usize>
 /// Whether a record is an echo of the frame at an index.
 fn is_echo_at(
     frames: &VecDeque<Kept>,
-    row: &[u8],
+    row: &Row,
     index: &Index,
     i: usize,
     within: u64,
@@ -62,23 +63,23 @@ fn is_echo_at(
 {
     let kept = &frames[i];
     let begin = (kept.at - index.passed) as usize;
-    let end = begin + kept.length;
-    kept.is_met_by(&row[begin..end], within, met)
+    let (begun, ended) = row.part(begin, kept.length);
+    kept.is_met_by(begun, ended, within, met)
 }
 
 /// The same, of all frames from the earliest on.
-pub(crate) fn find(frames: &VecDeque<Kept>, row: &[u8], within: u64, met: &Record) -> Option<usize>
+pub(crate) fn find(frames: &VecDeque<Kept>, row: &Row, within: u64, met: &Record) -> Option<usize>
     requires { lengths frames.now.items ≡ length row.now }
     ensures { result ≡ position (is_echo_of within (told met.now)) (laid frames.now.items row.now) }
 {
     let mut begin = 0;
     for i in 0..frames.len() {
         let kept = &frames[i];
-        let end = begin + kept.length;
-        if kept.is_met_by(&row[begin..end], within, met) {
+        let (begun, ended) = row.part(begin, kept.length);
+        if kept.is_met_by(begun, ended, within, met) {
             return Some(i);
         }
-        begin = end;
+        begin += kept.length;
     }
     None
 }

@@ -109,11 +109,17 @@ impl Window {
         requires known { bucket < 16384 }
         ensures { result ≡ position (is_echo_of self.now.within (told met.now)) self.now.came }
     {
-        let row = self.row.held();
         if self.index.tells_places() {
-            return find_linked(&self.frames, row, &self.index, bucket, self.within, met);
+            return find_linked(
+                &self.frames,
+                &self.row,
+                &self.index,
+                bucket,
+                self.within,
+                met,
+            );
         }
-        find(&self.frames, row, self.within, met)
+        find(&self.frames, &self.row, self.within, met)
     }
 
     /// Notes that a frame was met again at the place of a record. Where it came in is told.
@@ -154,7 +160,7 @@ impl Window {
     fn has_room(&self, met: &Record) -> bool
         ensures { result ≡ fits (self.now.came ++ first_met (told met.now) ∷ []) }
     {
-        fit(self.frames.len() + 1, self.row.held().len(), length_of(met))
+        fit(self.frames.len() + 1, self.row.count(), length_of(met))
     }
 
     /// Forgets the earliest frame.
@@ -178,7 +184,7 @@ impl Window {
         let kept = Kept {
             place: met.place,
             moment: met.moment,
-            at: self.index.octets_before(self.row.held().len()),
+            at: self.index.octets_before(self.row.count()),
             length: length_of(met),
             before: self.index.enter(bucket, self.frames.len()),
             echoed: ArrayVec::new(),

@@ -40,3 +40,26 @@ fn the_latest_4_mib_are_kept(rt: HostRuntime) -> Result<(), Fail> {
     assert!(rt; first_again(rt.alloc(), 65, rest.as_slice())?.is_none());
     Ok(())
 }
+
+/// The first of some frames of place 1 that isn't found at place 2.
+fn first_lost(window: &mut Window, from: u32, to: u32, rest: &[u8]) -> Option<u32> {
+    for number in from..to {
+        if show(window, 2, number, rest) != Some(1) {
+            return Some(number);
+        }
+    }
+    None
+}
+
+/// Frames of 85,598 octets: 4 MiB end two octets behind the beginning of number 49.
+#[test]
+fn a_frame_in_which_the_room_ends_is_found(rt: HostRuntime) -> Result<(), Fail> {
+    let mut rest = Vec::new(rt.alloc());
+    rest.resize(85_594, 0x55)?;
+    let mut window = Window::new(rt.alloc(), 10)?;
+    for number in 0..52 {
+        let _ = show(&mut window, 1, number, rest.as_slice());
+    }
+    assert!(rt; first_lost(&mut window, 47, 52, rest.as_slice()).is_none());
+    Ok(())
+}

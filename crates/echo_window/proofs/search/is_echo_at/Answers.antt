@@ -12,15 +12,8 @@ overflow_sub-begin c =
     let at = placed-at c.args.index.now.passed items c.args.i c.index-kept.result.now c.requires.inside c.requires.indexed.placed in
     omega (arith, at, ap (λ (k : Kept). k.at) c.index-kept.ensures)
 
-pub overflow_add-end : goal.overflow_add-end
-overflow_add-end c =
-    let items = c.args.frames.now.items in
-    let at = placed-at c.args.index.now.passed items c.args.i c.index-kept.result.now c.requires.inside c.requires.indexed.placed in
-    let next = lengths-next items c.args.i c.index-kept.result.now c.requires.inside in
-    omega (arith, at, next, ap (λ (k : Kept). k.at) c.index-kept.ensures, ap (λ (k : Kept). k.length) c.index-kept.ensures, lengths-within items (suc c.args.i), c.requires.whole)
-
-pub slice_bounds-is_met_by-end : goal.slice_bounds-is_met_by-end
-slice_bounds-is_met_by-end c =
+pub part-requires : goal.part-requires
+part-requires c =
     let items = c.args.frames.now.items in
     let at = placed-at c.args.index.now.passed items c.args.i c.index-kept.result.now c.requires.inside c.requires.indexed.placed in
     let next = lengths-next items c.args.i c.index-kept.result.now c.requires.inside in
@@ -32,4 +25,4 @@ returns c =
     let at = placed-at c.args.index.now.passed items c.args.i c.index-kept.result.now c.requires.inside c.requires.indexed.placed in
     let begins : c.index-kept.result.now.at - c.args.index.now.passed ≡ lengths (take c.args.i items) = omega (arith, at, ap (λ (k : Kept). k.at) c.index-kept.ensures) in
     c.is_met_by.ensures
-    ∙ asked-is c.args.within (told c.args.met.now) items c.args.row.now c.args.i (c.index-kept.result.now.at - c.args.index.now.passed) c.index-kept.result.now c.requires.inside c.index-kept.ensures begins
+    ∙ asked-is c.args.within (told c.args.met.now) items c.args.row.now _ c.args.i (c.index-kept.result.now.at - c.args.index.now.passed) c.index-kept.result.now c.requires.inside c.index-kept.ensures begins c.part.ensures.octets

@@ -1,4 +1,4 @@
-use Rattle.std.proofs.Common.{◌≡◌, ℕ, List, ◌+◌, ◌++◌, ◌∷◌, [], length, min, sym, ap, ◌∙◌, subst, arith, length-append, deque_capacity}
+use Rattle.std.proofs.Common.{◌≡◌, ℕ, List, ◌+◌, ◌++◌, ◌∷◌, [], min, sym, ap, ◌∙◌, subst, arith, length-append, deque_capacity}
 use Rattle.echo_window.specs.Echo.{Came, first_met}
 use Rattle.echo_window.specs.Laid.{came_of, laid, told}
 use Rattle.echo_window.specs.declared.kept.Kept.{Kept}
@@ -31,10 +31,9 @@ invariant_of-self c =
     let text = c.args.met.now.addresses.now ++ c.args.met.now.rest.now in
     let kept : Kept = record { place = c.args.met.now.place; moment = c.args.met.now.moment; at = c.octets_before.result; length = c.length_of.result; before = c.enter.result; echoed = c.new.result } in
     let more = deque_capacity c.push_back_reserved.new.self in
-    let size : length c.held.result.now ≡ length c.self.inside.row = ap (λ (l : List ℕ). length l) c.held.ensures in
     let x = kept-put (deque_capacity c.self.inside.frames) more c.self.inside.index.gone c.self.inside.index.passed c.enter.new.self.gone c.enter.new.self.passed c.args.bucket (min (c.self.inside.index.gone + (c.len.result + 1)) 18446744073709551615) kept text c.self.inside.frames.items c.self.inside.row c.self.inside.index.latest.items c.enter.new.self.latest.items
     (omega (arith, c.push_back_reserved.ensures.capacity, c.self.invariant.stands.reserved)) (omega (arith, n, room.0)) (omega (arith, o, room.1)) c.length_of.ensures c.requires.bucket c.requires.known
-    (omega (arith, c.len.ensures, c.self.inside.frames.ok.0)) c.enter.ensures.before (omega (arith, c.octets_before.ensures, size)) c.enter.ensures.gone c.enter.ensures.passed c.enter.ensures.latest c.self.invariant in
+    (omega (arith, c.len.ensures, c.self.inside.frames.ok.0)) c.enter.ensures.before (omega (arith, c.octets_before.ensures, c.count.ensures)) c.enter.ensures.gone c.enter.ensures.passed c.enter.ensures.latest c.self.invariant in
     subst (λ (ks : List Kept). IsKept ks c.put.new.self more c.enter.new.self.gone c.enter.new.self.passed c.enter.new.self.latest.items) (sym {A = List Kept} items)
     (subst (λ (row : List ℕ). IsKept (c.self.inside.frames.items ++ kept ∷ []) row more c.enter.new.self.gone c.enter.new.self.passed c.enter.new.self.latest.items) (sym c.put.ensures) x)
 

@@ -1,5 +1,5 @@
 -- Lists, and their first so many.
-use Rattle.std.proofs.Common.{◌≡◌, ◌∙◌, ap, sym, refl, ℕ, zero, suc, ◌<◌, ◌≤◌, List, [], ◌∷◌, ◌++◌, length, take, drop, get_or, slice_set, arith}
+use Rattle.std.proofs.Common.{◌≡◌, ap, sym, refl, ℕ, zero, suc, ◌≤◌, List, [], ◌∷◌, ◌++◌, length, take, drop, slice_set, arith}
 use Rattle.std.specs.List.{insert}
 
 pub take_whole : {X : Type 0} (n : ℕ) (xs : List X) → length xs ≤ n → take n xs ≡ xs
@@ -13,11 +13,6 @@ drop_whole zero [] few = refl
 drop_whole zero (x ∷ xs) few = absurd (omega (arith, few))
 drop_whole (suc n) [] few = refl
 drop_whole (suc n) (x ∷ xs) few = drop_whole n xs (omega (arith, few))
-
-pub take_few : {X : Type 0} (n : ℕ) (xs : List X) → length (take n xs) ≤ n
-take_few zero xs = omega arith
-take_few (suc n) [] = omega arith
-take_few (suc n) (x ∷ xs) = omega (arith, take_few n xs)
 
 pub take_entered : {X : Type 0} (n : ℕ) (xs : List X) (at : ℕ) (x : X) → at ≤ n → at ≤ length xs → take (suc n) (insert xs at x) ≡ insert (take n xs) at x
 take_entered n xs zero x low inside = refl
@@ -49,6 +44,12 @@ drop_last zero (y ∷ ys) x long = absurd (omega (arith, long))
 drop_last (suc n) [] x long = absurd (omega (arith, long))
 drop_last (suc n) (y ∷ ys) x long = drop_last n ys x (omega (arith, long))
 
+pub take_front : {X : Type 0} (n : ℕ) (xs : List X) (x : X) → length xs ≡ n → take n (xs ++ x ∷ []) ≡ xs
+take_front zero [] x long = refl
+take_front zero (y ∷ ys) x long = absurd (omega (arith, long))
+take_front (suc n) [] x long = absurd (omega (arith, long))
+take_front (suc n) (y ∷ ys) x long = ap (λ zs. y ∷ zs) (take_front n ys x (omega (arith, long)))
+
 pub length_set : {X : Type 0} (xs : List X) (at : ℕ) (x : X) → length (slice_set xs at x) ≡ length xs
 length_set [] zero x = refl
 length_set [] (suc at) x = refl
@@ -79,9 +80,3 @@ pub drop_taken : {X : Type 0} (n : ℕ) (xs : List X) → drop n (take n xs) ≡
 drop_taken zero xs = refl
 drop_taken (suc n) [] = refl
 drop_taken (suc n) (x ∷ xs) = drop_taken n xs
-
--- what stands at a place is one thing, whatever would stand behind the end
-pub same_at : {X : Type 0} (xs : List X) (at : ℕ) (x y : X) → at < length xs → x ≡ get_or xs at x → y ≡ get_or xs at y → x ≡ y
-same_at [] at x y inside is_x is_y = absurd (omega (arith, inside))
-same_at (z ∷ zs) zero x y inside is_x is_y = is_x ∙ sym is_y
-same_at (z ∷ zs) (suc at) x y inside is_x is_y = same_at zs at x y (omega (arith, inside)) is_x is_y

@@ -1,9 +1,9 @@
 -- Rows in their order, and the place of one.
-use Rattle.std.proofs.Common.{◌≡◌, ◌∙◌, ap, sym, refl, ℕ, zero, suc, ◌<◌, ◌≤◌, Bool, true, false, cond, nat_lt, List, [], ◌∷◌, length, take, get_or, slice_set, arith}
+use Rattle.std.proofs.Common.{◌≡◌, ◌∙◌, ap, refl, ℕ, zero, suc, ◌<◌, ◌≤◌, Bool, true, false, cond, nat_lt, List, [], ◌∷◌, length, take, get_or, arith}
 use Rattle.std.proofs.lemmas.Bool.{cond-false, cond-true, lt-ltb, ltb-true, ltb-false, le-ltb}
 use Rattle.std.specs.List.{insert}
 use Rattle.std.specs.List.Sorted.{IsNonDecreasingBy}
-use Rattle.ranked_rows.specs.Rows.{AreRising, AreRisingFrom, IsPlaceOf, row_of, with_counts}
+use Rattle.ranked_rows.specs.Rows.{AreRising, AreRisingFrom, row_of, with_counts}
 use Rattle.ranked_rows.specs.declared.row.Row.{Row}
 
 module _ {K C : Type 0} (rank : K → ℕ) where
@@ -30,7 +30,7 @@ module _ {K C : Type 0} (rank : K → ℕ) where
   rising_first (suc n) least [] is = tt
   rising_first (suc n) least (row ∷ rows) is = (is.0, rising_first n (suc (rank row.key)) rows is.1)
 
-  rising_at : (least : ℕ) (rows : List (Row K C)) → AreRisingFrom rank least rows → (j : ℕ) (d : Row K C) → j < length rows → least ≤ rank (get_or rows j d).key
+  pub rising_at : (least : ℕ) (rows : List (Row K C)) → AreRisingFrom rank least rows → (j : ℕ) (d : Row K C) → j < length rows → least ≤ rank (get_or rows j d).key
   rising_at least [] is j d inside = absurd (omega (arith, inside))
   rising_at least (row ∷ rows) is zero d inside = is.0
   rising_at least (row ∷ rows) is (suc j) d inside = omega (arith, is.0, rising_at (suc (rank row.key)) rows is.1 j d (omega (arith, inside)))
@@ -53,14 +53,6 @@ module _ {K C : Type 0} (rank : K → ℕ) where
           let same : i ≡ j = omega (arith, le, ltb-false i j e) in
           omega (arith, ap (λ k. rank (get_or rows k d).key) same)
 
-  -- a row of this rank stands there
-  pub place_at : (rows : List (Row K C)) (least at : ℕ) → AreRising rank rows → at < length rows → ((d : Row K C) → least ≡ rank (get_or rows at d).key) → IsPlaceOf rank least rows at
-  place_at rows least at is inside same = record {
-    inside = omega (arith, inside);
-    before = λ k d lt. omega (arith, rises rows is k at d lt inside, same d);
-    behind = λ k d le lt. omega (arith, never_falls rows is at k d le lt, same d);
-  }
-
   -- ---- the place of a key
 
   abbrev pub AllBefore : K → List (Row K C) → ℕ → Type 0
@@ -77,17 +69,3 @@ module _ {K C : Type 0} (rank : K → ℕ) where
   entered joined key counts (row ∷ rows) (suc at) inside before behind =
       cond-true _ _ _ (lt-ltb (rank row.key) (rank key) (before 0 row (omega arith)))
       ∙ ap (λ ys. row ∷ ys) (entered joined key counts rows at (omega (arith, inside)) (λ k d lt. before (suc k) d (omega (arith, lt))) (λ d lt. behind d (omega (arith, lt))))
-
-  -- this row has it
-  pub found : (joined : C → C → C) (key : K) (counts : C) (rows : List (Row K C)) (at : ℕ) (x v : Row K C) → at < length rows → AllBefore key rows at → x ≡ get_or rows at x → rank x.key ≤ rank key → rank key ≤ rank x.key
-      → v ≡ row_of x.key (joined x.counts counts) → with_counts rank joined key counts rows ≡ slice_set rows at v
-  found joined key counts [] at x v inside before is low high more = absurd (omega (arith, inside))
-  found joined key counts (row ∷ rows) zero x v inside before is low high more =
-      let same : x ≡ row = is in
-      cond-false _ _ _ (le-ltb (rank row.key) (rank key) (rw (sym same) high))
-      ∙ cond-false _ _ _ (le-ltb (rank key) (rank row.key) (rw (sym same) low))
-      ∙ ap (λ (y : Row K C). row_of y.key (joined y.counts counts) ∷ rows) (sym same)
-      ∙ ap (λ y. y ∷ rows) (sym more)
-  found joined key counts (row ∷ rows) (suc at) x v inside before is low high more =
-      cond-true _ _ _ (lt-ltb (rank row.key) (rank key) (before 0 row (omega arith)))
-      ∙ ap (λ ys. row ∷ ys) (found joined key counts rows at x v (omega (arith, inside)) (λ k d lt. before (suc k) d (omega (arith, lt))) is low high more)

@@ -2,8 +2,9 @@
 --     with_counts, all_counts      what is counted of all keys, as a finite map in the order of their ranks
 --     Rows, shown      its first rows, and what the others come to
 --     counted      the same with more of a key
-use Rattle.std.specs.Prelude.{◌<◌, ◌≤◌, ℕ, suc, nat_lt, if◌then◌else◌, ⊤, List, [], ◌∷◌}
+use Rattle.std.specs.Prelude.{◌≡◌, ◌<◌, ◌≤◌, ℕ, suc, Bool, false, nat_lt, if◌then◌else◌, ⊤, List, [], ◌∷◌}
 use Rattle.std.specs.Prelude.{length, take, drop, slice_index_or, Option, None, Some}
+use Rattle.std.specs.List.{All, Contains, flat_map}
 use Rattle.ranked_rows.specs.declared.row.Row.{Row}
 
 -- ---- finite maps, as lists in the order of the ranks of their keys
@@ -82,3 +83,24 @@ pub record IsPlaceOf {K C : Type 0} (rank : K → ℕ) (least : ℕ) (rows : Lis
   pub inside : at ≤ length rows
   pub before : (k : ℕ) (d : Row K C) → k < at → rank (slice_index_or rows k d).key < least
   pub behind : (k : ℕ) (d : Row K C) → at ≤ k → k < length rows → least ≤ rank (slice_index_or rows k d).key
+
+-- ---- rows by numbers: each stays where it came, and their numbers stand in the order of their ranks
+
+-- the row of this number alone, or none
+abbrev pub row_at : {K C : Type 0} → List (Row K C) → ℕ → List (Row K C)
+row_at rows number = take 1 (drop number rows)
+
+-- the rows of these numbers
+abbrev pub rows_by : {K C : Type 0} → List (Row K C) → List ℕ → List (Row K C)
+rows_by rows order = flat_map (row_at rows) order
+
+-- the first of these has a lesser rank
+abbrev pub stands_before : {K C : Type 0} → (K → ℕ) → ℕ → List (Row K C) → Bool
+stands_before rank least [] = false
+stands_before rank least (row ∷ rows) = nat_lt (rank row.key) least
+
+-- as many numbers as rows, each a row's, and no row without one
+pub record IsNumbering {K C : Type 0} (rows : List (Row K C)) (order : List ℕ) : Type 0 where
+  pub inside : All (λ number. number < length rows) order
+  pub whole : (number : ℕ) → number < length rows → Contains order number
+  pub many : length order ≡ length rows

@@ -12,12 +12,16 @@
 //! Why it is so: who sends frames chooses addresses, so rows are bounded. The least by their keys have one, and not the first
 //! that came: so a row is told or not whatever the order of the events is, its counts are those of all its events or it has
 //! none, and what two parts of a run counted adds up to what the whole run counts. All memory is taken when a table is made,
-//! before the first event.
+//! before the first event. A row stays where it came, and the numbers of rows stand in the order of their ranks: so a new key
+//! moves numbers of two octets, 8 KiB at most, and no rows; and a row keeps its number, so that a table remembers by a key's
+//! mix (`Ranked::mix`) which row it had and mostly looks at that one alone.
 #![tactic(auto)]
 
 mod counts;
 mod key;
 pub mod laws;
+mod lookup;
+mod numbers;
 mod row;
 mod rows;
 

@@ -5,22 +5,18 @@ ghost use Rattle.talk_rows.specs.Order.{largest_first, place_in_order};
 use crate::passed::Passed;
 use crate::talk::Talk;
 use ranked_rows::Row;
-use std::alloc::{AllocError, Global};
+use std::alloc::AllocError;
 
 /// So far two segments are apart: 2^64.
 const SIZES: u128 = 18_446_744_073_709_551_616;
 
 /// The rows in the order in which they are told: segments rise, and in each the row with the most octets stands first; those of
 /// one size stay in their order. `AllocError`: memory was refused.
-pub fn largest_first(
-    alloc: Global,
-    rows: &[Row<Talk, Passed>],
-) -> Result<Vec<Row<Talk, Passed>>, AllocError>
-    ensures { IfOk result (λ sorted. sorted.items ≡ largest_first rows.now) }
+pub fn largest_first(mut rows: Vec<Row<Talk, Passed>>) -> Result<Vec<Row<Talk, Passed>>, AllocError>
+    ensures { IfOk result (λ sorted. sorted.items ≡ largest_first rows.items) }
 {
-    let mut sorted = rows.to_vec(alloc)?;
-    sorted.sort_by_key(place_in_order)?;
-    Ok(sorted)
+    rows.sort_by_key(place_in_order)?;
+    Ok(rows)
 }
 
 /// The place of a row among others, as a number.

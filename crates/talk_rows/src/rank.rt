@@ -10,20 +10,23 @@ use filter_db::Place;
 use frame_view::Mac;
 use ip_udp_view::{Addr, Tunnel};
 
-/// So far two sources are apart: 2^48.
-const ADDRESSES: u128 = 281_474_976_710_656;
-
 /// So far two kinds of places are apart.
 const KINDS: u8 = 8;
 
 impl Talk {
-    /// Its segment, source and destination as one number.
+    /// Its segment, source and destination as one number, in three parts of which the lower two have 48 bits.
     #[tactic(auto, unfolding(crate::specs::Talk::pair_number))]
-    pub(crate) fn pair_number(&self) -> u128
-        ensures value { result ≡ pair_number self.now }
+    #[inline(always)]
+    pub(crate) fn pair_words(&self) -> (u16, u64, u64)
+        ensures value { pair_number self.now ≡ (result.0 * 2 ^ 48 + result.1) * 2 ^ 48 + result.2 }
+        ensures source { result.1 < 2 ^ 48 }
+        ensures destination { result.2 < 2 ^ 48 }
     {
-        let segment = u128::from(self.vid.get());
-        (segment * ADDRESSES + mac_number(self.source)) * ADDRESSES + mac_number(self.destination)
+        (
+            self.vid.get(),
+            mac_number(self.source),
+            mac_number(self.destination),
+        )
     }
 
     /// Its places as one number, in three parts of which the lower two have 128 bits.
@@ -38,11 +41,11 @@ impl Talk {
 }
 
 /// The number that the octets of a MAC address spell.
-pub(crate) fn mac_number(mac: Mac) -> u128
+pub(crate) fn mac_number(mac: Mac) -> u64
     ensures value { result ≡ field 0 6 mac }
     ensures low { result < 2 ^ 48 }
 {
-    u128::from(BigEndian::read_u48(&mac.0))
+    BigEndian::read_u48(&mac.0)
 }
 
 /// The number of the kind of a place.

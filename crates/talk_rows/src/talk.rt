@@ -56,14 +56,16 @@ impl Ranked for Talk {
     ghost rank = { rank };
 
     fn is_below(&self, other: &Talk) -> bool {
-        let (pair, other_pair) = (self.pair_number(), other.pair_number());
-        if pair == other_pair {
-            return self.is_below_by_places(other);
-        }
         // No places come to a pair more.
         self.places_are_few();
         other.places_are_few();
-        pair < other_pair
+        if self.is_below_by_addresses(other) {
+            return true;
+        }
+        if other.is_below_by_addresses(self) {
+            return false;
+        }
+        self.is_below_by_places(other)
     }
 
     #[inline(always)]
@@ -95,6 +97,19 @@ impl Talk {
         kinds < other_kinds
             || (kinds == other_kinds
                 && (from < other_from || (from == other_from && to < other_to)))
+    }
+
+    /// Whether its segment, source and destination stand before those of another.
+    #[inline(always)]
+    fn is_below_by_addresses(&self, other: &Talk) -> bool
+        ensures { result ≡ nat_lt (pair_number self.now) (pair_number other.now) }
+    {
+        let (segment, source, destination) = self.pair_words();
+        let (other_segment, other_source, other_destination) = other.pair_words();
+        segment < other_segment
+            || (segment == other_segment
+                && (source < other_source
+                    || (source == other_source && destination < other_destination)))
     }
 
     /// Whether it has the segment, source and destination of another.

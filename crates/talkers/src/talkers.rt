@@ -49,7 +49,7 @@ impl Talkers {
     pub fn text(&self, alloc: Global) -> Result<Vec<u8>, AllocError>
         ensures { IfOk result (λ text. text.items ≡ talks_text self.now.rows) }
     {
-        let sorted = largest_first(alloc, self.rows.rows())?;
+        let sorted = largest_first(self.rows.rows(alloc)?)?;
         let mut text = String::new(alloc);
         put_talks(&mut text, sorted.as_slice(), self.rows.others())?;
         Ok(text.into_bytes())

@@ -1,4 +1,4 @@
-use Rattle.ranked_rows.proofs.Shown.{AreSums, all_shown, shown_more}
+use Rattle.ranked_rows.proofs.Shown.{all_shown, shown_more}
 use Rattle.ranked_rows.proofs.laws.shows_the_first.Goals as goal
 
 pub returns-clause-one : goal.returns-clause-one

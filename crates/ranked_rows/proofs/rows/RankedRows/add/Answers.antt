@@ -1,7 +1,6 @@
-use Rattle.std.proofs.Common.{◌∙◌, ap, sym, subst, drop, length, List, arith}
-use Rattle.ranked_rows.specs.Rows.{AreRising, total, with_counts}
+use Rattle.std.proofs.Common.{◌∙◌, ap, sym, subst, drop, List, arith}
+use Rattle.ranked_rows.specs.Rows.{AreRising, rows_by, total, with_counts}
 use Rattle.ranked_rows.specs.declared.row.Row.{Row}
-use Rattle.ranked_rows.proofs.Lists.{take_few}
 use Rattle.ranked_rows.proofs.Places.{rising_first, rising_more}
 use Rattle.ranked_rows.proofs.rows.RankedRows.add.Goals as goal
 
@@ -10,12 +9,15 @@ invariant_of-self g c =
     let rank = g.K.Ranked.rank in
     let joined = g.C.Counts.joined in
     let none = g.C.Counts.none in
-    let rows = with_counts rank joined c.args.key c.args.counts c.self.inside.rows.items in
+    let rows = rows_by c.self.inside.rows.items c.self.inside.order.items in
+    let more = with_counts rank joined c.args.key c.args.counts rows in
     let old = c.self.inside.others in
-    let rest = total joined none (drop 4096 rows) in
+    let rest = total joined none (drop 4096 more) in
     let is = c.join.ensures ∙ ap (joined old) c.put-rest.ensures.rest in (
-      subst (λ (l : List (Row g.row.K.Denot g.row.C.Denot)). AreRising rank l) (sym c.put-rest.ensures.rows) (rising_first rank 4096 0 rows (rising_more rank joined 0 c.args.key c.args.counts c.self.inside.rows.items (omega arith) c.self.invariant.0)),
-      omega (arith, take_few 4096 rows, ap length c.put-rest.ensures.rows),
+      subst (λ (l : List (Row g.row.K.Denot g.row.C.Denot)). AreRising rank l) (sym c.put-rest.ensures.rows) (rising_first rank 4096 0 more (rising_more rank joined 0 c.args.key c.args.counts rows (omega arith) c.self.invariant.0)),
+      c.put-rest.ensures.numbers,
+      c.put-rest.ensures.few,
       c.put-rest.ensures.room,
+      c.put-rest.ensures.space,
       ap (λ others. joined others none) is ∙ g.met.C.Counts.whole old rest ∙ sym is,
     )

@@ -11,8 +11,8 @@ use Rattle.part_merge.specs.Coming.{AreTexts, ComesNext, Holds, IsLine, OpenPart
 use Rattle.part_merge.specs.Left.{AreLeft, IsDeviceFault, UnlessDevice}
 use Rattle.part_merge.specs.Merged.{Piece, capture_at, lines_in}
 use Rattle.part_merge.specs.declared.fault.MergeFault.{MergeFault}
-use Rattle.part_merge.specs.declared.part.Coming.{Coming}
-use Rattle.part_merge.specs.declared.part.Coming.TheVariants as coming
+use Rattle.part_merge.specs.declared.coming.Coming.{Coming}
+use Rattle.part_merge.specs.declared.coming.Coming.TheVariants as coming
 
 -- ---- a line in front of others
 

@@ -14,7 +14,7 @@ use Rattle.part_merge.specs.Merged.{IsRising, Piece, capture_at, lines_in, merge
 use Rattle.part_merge.specs.Numbers.{AreNumbered, IsMissing, numbers}
 use Rattle.part_merge.specs.Whole.{AllHold, AllRise, PutsAll}
 use Rattle.part_merge.specs.declared.first.First.{First}
-use Rattle.part_merge.specs.declared.part.Coming.TheVariants as coming
+use Rattle.part_merge.specs.declared.coming.Coming.TheVariants as coming
 use Rattle.part_merge.proofs.Moving.{added_both, added_none}
 use Rattle.part_merge.proofs.Sorting.{BeginsLater, BeginsNoSooner, comes_first, none_merged, rise_on}
 

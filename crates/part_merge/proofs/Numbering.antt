@@ -18,8 +18,8 @@ use Rattle.part_merge.specs.Firsts.{IsNone}
 use Rattle.part_merge.specs.Left.{UnlessDevice}
 use Rattle.part_merge.specs.Numbered.{AddsCuts, AddsEvents, AddsLine, AddsNumbered, IsOfCut, number_in}
 use Rattle.part_merge.specs.declared.fault.MergeFault.{MergeFault}
-use Rattle.part_merge.specs.declared.part.Coming.{Coming}
-use Rattle.part_merge.specs.declared.part.Coming.TheVariants as coming
+use Rattle.part_merge.specs.declared.coming.Coming.{Coming}
+use Rattle.part_merge.specs.declared.coming.Coming.TheVariants as coming
 
 -- ---- what a line is of
 

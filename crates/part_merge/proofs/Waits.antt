@@ -25,7 +25,7 @@ use Rattle.part_merge.specs.declared.capture.Stop.{Stop}
 use Rattle.part_merge.specs.declared.capture.Stop.TheVariants as stops
 use Rattle.part_merge.specs.declared.fault.MergeFault.{MergeFault}
 use Rattle.part_merge.specs.declared.fault.MergeFault.TheVariants as faults
-use Rattle.part_merge.specs.declared.part.Coming.{Coming}
+use Rattle.part_merge.specs.declared.coming.Coming.{Coming}
 use Rattle.part_merge.proofs.Blaming.{match_read}
 
 -- ---- what is handed on

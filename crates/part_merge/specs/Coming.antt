@@ -18,8 +18,8 @@ use Rattle.part_merge.specs.Moved.{AreRecords, taps}
 use Rattle.part_merge.specs.declared.fault.MergeFault.{MergeFault}
 use Rattle.part_merge.specs.declared.fault.MergeFault.TheVariants as faults
 use Rattle.part_merge.specs.declared.fault.PartFault.TheVariants as part_faults
-use Rattle.part_merge.specs.declared.part.Coming.{Coming}
-use Rattle.part_merge.specs.declared.part.Coming.TheVariants as coming
+use Rattle.part_merge.specs.declared.coming.Coming.{Coming}
+use Rattle.part_merge.specs.declared.coming.Coming.TheVariants as coming
 
 -- ---- one line
 

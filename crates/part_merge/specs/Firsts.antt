@@ -2,8 +2,8 @@
 use Rattle.std.specs.Prelude.{◌≡◌, ◌<◌, ◌≤◌, ⊤, ℕ, List, slice_index_or, Option, Some, None}
 use Rattle.part_merge.specs.Coming.{OpenPart}
 use Rattle.part_merge.specs.declared.first.First.{First}
-use Rattle.part_merge.specs.declared.part.Coming.{Coming}
-use Rattle.part_merge.specs.declared.part.Coming.TheVariants.{Event, Cut, Nothing}
+use Rattle.part_merge.specs.declared.coming.Coming.{Coming}
+use Rattle.part_merge.specs.declared.coming.Coming.TheVariants.{Event, Cut, Nothing}
 
 -- no event of this number or of one below it comes; none of one below it
 abbrev pub IsLater : ℕ → Coming → Type 0

@@ -10,8 +10,8 @@ use Rattle.part_lines.specs.declared.facts.LineFacts.TheVariants as told
 use Rattle.part_lines.specs.declared.fault.LineFault.{LineFault}
 use Rattle.part_merge.specs.Coming.{OpenPart}
 use Rattle.part_merge.specs.Firsts.{IsNone}
-use Rattle.part_merge.specs.declared.part.Coming.{Coming}
-use Rattle.part_merge.specs.declared.part.Coming.TheVariants as coming
+use Rattle.part_merge.specs.declared.coming.Coming.{Coming}
+use Rattle.part_merge.specs.declared.coming.Coming.TheVariants as coming
 
 -- ---- a line
 

@@ -4,8 +4,8 @@ use Rattle.part_lines.specs.Facts.{facts_of}
 use Rattle.part_lines.specs.Parts.{places_in}
 use Rattle.part_lines.specs.declared.facts.LineFacts.TheVariants.{Event}
 use Rattle.part_merge.specs.declared.fault.MergeFault.{MergeFault}
-use Rattle.part_merge.specs.declared.part.Coming.{Coming}
-use Rattle.part_merge.specs.declared.part.Told.{Told}
+use Rattle.part_merge.specs.declared.coming.Coming.{Coming}
+use Rattle.part_merge.specs.declared.coming.Told.{Told}
 
 -- it is an event's line, and its result begins there
 pub record IsPlaced (line : List ℕ) (at : ℕ) : Type 0 where

@@ -3,7 +3,8 @@ ghost use Rattle.std.specs.Prelude.{◌≡◌, ◌+◌, ℕ, List, length, slice
 ghost use Rattle.part_merge.specs.Coming.{OpenPart};
 ghost use Rattle.part_merge.specs.Firsts.{FindsFirst};
 
-use crate::part::{Coming, Part};
+use crate::coming::Coming;
+use crate::part::Part;
 use pcap_stream::Input;
 
 /// The event that comes first: the place of its part, and its number.

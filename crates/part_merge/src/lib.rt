@@ -22,6 +22,7 @@
 #![tactic(auto)]
 
 mod capture;
+mod coming;
 mod fault;
 mod first;
 mod hand_on;

@@ -9,38 +9,28 @@ ghost use Rattle.part_lines.specs.declared.facts.LineFacts.TheVariants.{Event};
 ghost use Rattle.timeline.specs.declared.source.Tap.{Tap as ATap};
 ghost use Rattle.part_merge.specs.Blame.{BlamesNoRead, BlamesNoWrite, CapturesRead, LinesRead, MatchRead, PartOpens, PartReads};
 ghost use Rattle.part_merge.specs.Blame.{WritesWith};
-ghost use Rattle.part_merge.specs.Coming.{ComesNext, Holds, HoldsAll, StandBehind, UnlessPart, coming_in, is_cut, is_over, stopped_by};
+ghost use Rattle.part_merge.specs.Coming.{ComesNext, Holds, HoldsAll, StandBehind, UnlessPart, is_cut};
 ghost use Rattle.part_merge.specs.Left.{AreAdded, AreLeft, UnlessDevice};
 ghost use Rattle.part_merge.specs.Merged.{Piece, records_at};
 ghost use Rattle.part_merge.specs.Moved.{AreRecords, Moves, taps};
 ghost use Rattle.part_merge.specs.Firsts.{IsNone};
 ghost use Rattle.part_merge.specs.Numbered.{AddsCuts, AddsLine, IsOf};
-ghost use Rattle.part_merge.specs.Told.{IsPlaced, coming_told};
+ghost use Rattle.part_merge.specs.Told.{IsPlaced};
 ghost use Rattle.part_merge.specs.Waiting.{AreOutAtRead, IsOutAtRead};
-ghost use Rattle.part_merge.specs.declared.part.Coming.TheVariants.{Nothing};
+ghost use Rattle.part_merge.specs.declared.coming.Coming.TheVariants.{Nothing};
 
 use crate::capture::Capture;
+use crate::coming::{Coming, Told, coming_of, is_cut, is_over, stopped_by};
 use crate::fault::{MergeFault, PartFault, Target};
 use crate::hand_on::{hand_on_captures_before, hand_on_lines_before};
 use crate::records::{copy_all, end_captures};
-use line_stream::{Lines, LinesFault};
-use part_lines::{LineFacts, LineParts, Places, find_parts, read_line};
+use line_stream::Lines;
+use part_lines::{LineFacts, Places, read_line};
 use pcap_stream::{Input, Output, Sink};
 use std::marker::Model;
 
 /// The lines of cut captures that a part has at most: one for each capture, of 255 ports and the underlay.
 const MOST_CUTS: usize = 256;
-
-/// What a part's next line is of.
-#[derive(Clone, Copy, Debug, PartialEq, Eq)]
-pub enum Coming {
-    /// The event of this number.
-    Event(u64),
-    /// A cut capture.
-    Cut,
-    /// There is none.
-    Nothing,
-}
 
 /// A part of a run: its next decision line and the lines behind it, and its captures. Contracts see them all.
 #[derive(Drop)]
@@ -65,77 +55,6 @@ impl<R: Input> Model for Part<R> {
     ghost view = { λ p. record { reader = p.lines; ports = p.ports.items; underlay = p.underlay; coming = p.coming } };
 
     ghost invariant = { λ p. IfSome p.begins (IsPlaced p.lines.line) × IsOf p.coming p.lines.line };
-}
-
-/// What a part keeps of its next line.
-#[derive(Clone, Copy)]
-struct Told {
-    coming: Coming,
-    /// Where the line's result begins, if it is of an event.
-    begins: Option<usize>,
-}
-
-/// What a line is of, where it is the line of a part or nothing behind its last. `was_cut`: the line before it was of a cut
-/// capture.
-fn coming_of(part: usize, was_cut: bool, line: &[u8]) -> Result<Told, MergeFault>
-    ensures coming { coming_told result ≡ coming_in part was_cut line.now }
-    ensures placed { IfOk result (λ told. IfSome told.begins (IsPlaced line.now)) }
-    ensures no_read { BlamesNoRead result }
-    ensures no_write { BlamesNoWrite result }
-{
-    if line.is_empty() {
-        return Ok(Told {
-            coming: Coming::Nothing,
-            begins: None,
-        });
-    }
-    match find_parts(line) {
-        Ok(LineParts::Event(number, at)) => {
-            if was_cut {
-                Err(MergeFault::Part(part, PartFault::Late))
-            } else {
-                Ok(Told {
-                    coming: Coming::Event(number),
-                    begins: Some(at),
-                })
-            }
-        }
-        Ok(LineParts::Cut) => Ok(Told {
-            coming: Coming::Cut,
-            begins: None,
-        }),
-        Err(fault) => Err(MergeFault::Part(part, PartFault::Line(fault))),
-    }
-}
-
-/// Whether a line is of a cut capture.
-fn is_cut(coming: Coming) -> bool
-    ensures { result ≡ is_cut coming }
-{
-    match coming {
-        Coming::Cut => true,
-        _ => false,
-    }
-}
-
-/// Whether no line of a cut capture comes.
-fn is_over(coming: Coming) -> bool
-    ensures { result ≡ is_over coming }
-{
-    match coming {
-        Coming::Cut => false,
-        _ => true,
-    }
-}
-
-/// Why a merge stops where a part's line isn't lent.
-fn stopped_by(part: usize, fault: LinesFault) -> MergeFault
-    ensures { result ≡ stopped_by part fault }
-{
-    match fault {
-        LinesFault::Read => MergeFault::Read(part),
-        LinesFault::TooLong => MergeFault::Part(part, PartFault::LongLine),
-    }
 }
 
 /// Copies the records that the line of an event tells. Where its result is known to begin somewhere it isn't read again.

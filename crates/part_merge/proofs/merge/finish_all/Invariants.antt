@@ -3,7 +3,7 @@ use Rattle.part_merge.specs.Blame.{part_health}
 use Rattle.part_merge.specs.Coming.{OpenPart}
 use Rattle.part_merge.specs.Numbered.{AddsCuts, HaveNoEvent}
 use Rattle.part_merge.specs.Whole.{OnlyCuts}
-use Rattle.part_merge.specs.declared.part.Coming.TheVariants as coming
+use Rattle.part_merge.specs.declared.coming.Coming.TheVariants as coming
 use Rattle.part_merge.proofs.Finishing.{CutsBefore}
 use Rattle.part_merge.proofs.merge.finish_all.Given as goal
 

@@ -3,12 +3,12 @@ use Rattle.pcap_stream.specs.Source.{New, Stream}
 use Rattle.part_merge.specs.Coming.{OpenPart}
 use Rattle.part_merge.specs.Merged.{merged}
 use Rattle.part_merge.specs.Whole.{HaveAll}
-use Rattle.part_merge.specs.declared.part.Coming.TheVariants as coming
+use Rattle.part_merge.specs.declared.coming.Coming.TheVariants as coming
 use Rattle.part_merge.proofs.Blaming.{behind_no_read, behind_no_write, no_read, no_write, reads_behind, writes_behind}
 use Rattle.part_merge.proofs.Merging.{MergedSoFar, above_last, all_merged, counts_set, next_missing, next_piece, none_merged_yet, one_merged}
 use Rattle.part_merge.proofs.Missing.{device_stops}
 use Rattle.part_merge.specs.Numbered.{AddsLine}
-use Rattle.part_merge.specs.declared.part.Coming.{Coming}
+use Rattle.part_merge.specs.declared.coming.Coming.{Coming}
 use Rattle.part_merge.proofs.Numbering.{no_events, one_event}
 use Rattle.part_merge.proofs.Waits.{none_waits}
 use Rattle.part_merge.proofs.merge.put_events.Goals as goal

@@ -3,7 +3,7 @@ use Rattle.std.proofs.KnownBytes.{Appends-kept}
 use Rattle.std.specs.List.{concat}
 use Rattle.part_merge.specs.Firsts.{IsNone}
 use Rattle.part_merge.specs.Numbered.{AddsCuts}
-use Rattle.part_merge.specs.declared.part.Coming.TheVariants as coming
+use Rattle.part_merge.specs.declared.coming.Coming.TheVariants as coming
 use Rattle.part_merge.proofs.Blaming.{no_read, no_write, part_behind, writes_behind}
 use Rattle.part_merge.proofs.Lining.{unless}
 use Rattle.part_merge.proofs.Numbering.{always}

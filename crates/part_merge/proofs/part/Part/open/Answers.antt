@@ -4,7 +4,7 @@ use Rattle.line_stream.specs.Lines.{Reader}
 use Rattle.pcap_stream.specs.Source.{Stream}
 use Rattle.part_merge.specs.Blame.{LinesRead}
 use Rattle.part_merge.specs.Merged.{Piece}
-use Rattle.part_merge.specs.declared.part.Coming.TheVariants as coming
+use Rattle.part_merge.specs.declared.coming.Coming.TheVariants as coming
 use Rattle.part_merge.proofs.Lining.{holds_on}
 use Rattle.part_merge.proofs.part.Part.open.Goals as goal
 

@@ -6,7 +6,7 @@ use Rattle.part_merge.proofs.Blaming.{part_behind, writes_behind}
 use Rattle.part_merge.proofs.Ending.{all_put, another, never_too_many, none_put, one_put}
 use Rattle.part_merge.proofs.Lining.{over_cut, over_none}
 use Rattle.part_merge.specs.Numbered.{AddsLine}
-use Rattle.part_merge.specs.declared.part.Coming.{Coming}
+use Rattle.part_merge.specs.declared.coming.Coming.{Coming}
 use Rattle.part_merge.proofs.Numbering.{cut_comes, none_cut, nothing_comes, one_cut}
 use Rattle.part_merge.proofs.part.Part.put_cuts.Goals as goal
 

@@ -11,7 +11,7 @@ use Rattle.part_merge.proofs.Handing.{added_kept}
 use Rattle.part_merge.proofs.Lining.{behind_event, holds_on, unless}
 use Rattle.part_merge.proofs.Waits.{kept_appends, kept_line, line_waits, none_waits}
 use Rattle.part_merge.specs.Numbered.{AddsLine}
-use Rattle.part_merge.specs.declared.part.Coming.{Coming}
+use Rattle.part_merge.specs.declared.coming.Coming.{Coming}
 use Rattle.part_merge.proofs.part.Part.put_event.Goals as goal
 
 pub returns-in-Err-clause-event : goal.returns-in-Err-clause-event

@@ -49,6 +49,7 @@ wants 2 "error: no table is by 'size': --by takes length or delay" --by size --w
 
 # What a run wrote, beside what was captured of what went out.
 python3 tests/compare_worked.py ./tep "$folder" || complain "what a run wrote is told otherwise"
+python3 -B tests/compare_segments.py ./tep "$folder" || complain "what a run wrote is told otherwise by segments"
 mkdir "$folder/out"
 ./tep run -s examples/a.toml -c examples/changes.toml -u "$capture" -o "$folder/out" examples/port[123].pcap ||
     complain "the example doesn't run"

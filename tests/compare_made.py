@@ -1,8 +1,8 @@
 #!/usr/bin/env python3
 """Folders as a run leaves them beside captures of what went out, made of seeds: frames at ports, packets of both kinds of tunnel
 over both families at the underlay, other packets, and packets with faults; with loss, doubling, delay, clocks apart, fields that
-another sender chooses, and changed octets. What `tep compare --worked` and `tep compare` tell of them is worked out here, by the
-table of docs/FORMATS.md ("Comparisons"). Usage: compare_made.py TEP FOLDER COUNT [FIRST]; prints what differs, and exits 1 where
+another sender chooses, and changed octets. What `tep compare --worked`, with settings and without, and `tep compare` tell of them
+is worked out here, by the table of docs/FORMATS.md ("Comparisons"). Usage: compare_made.py TEP FOLDER COUNT [FIRST]; prints what differs, and exits 1 where
 something does."""
 import os
 import random
@@ -11,8 +11,8 @@ import subprocess
 import sys
 
 from compare import SECOND, matched, rising, up_to_fault, write
+from made_segments import GENEVE, VXLAN, drawn_settings, frame_segment, number, packet_segment, segment_lines, settings_text
 
-VXLAN, GENEVE = 4789, 6081
 DIFFERS = "what was received isn't what was sent"
 
 
@@ -23,10 +23,6 @@ def words_sum(octets):
     while total >> 16:
         total = (total & 0xFFFF) + (total >> 16)
     return total ^ 0xFFFF
-
-
-def number(octets):
-    return int.from_bytes(octets, "big")
 
 
 # What a packet carries, read as the table of docs/FORMATS.md has it.
@@ -234,10 +230,20 @@ def seen_packet(chance, packet, octets):
     return octets if drawn < 0.4 else as_sent(chance, packet)
 
 
+def drawn_frame(chance):
+    """A frame at a port, half of them with a tag (IEEE 802.1Q, 9.6), of which some are cut."""
+    octets = chance.randbytes(chance.choice([14, 60, 61, 300]))
+    if chance.random() < 0.5:
+        return octets
+    kind = chance.choice([0x8100, 0x8100, 0x8100, 0x88A8])
+    tci = chance.choice([0, 0x6000, 10, 20, 0xE014, 30, 4094, 4095])
+    return octets[:12] + struct.pack(">HH", kind, tci) + octets[12:]
+
+
 def place_of(chance, is_underlay, within, shift):
     """What was worked out at a place, and what was captured there."""
     packets = [drawn_packet(chance) for _ in range(chance.choice([1, 2, 6]))]
-    frames = [chance.randbytes(chance.choice([14, 60, 61, 300])) for _ in packets]
+    frames = [drawn_frame(chance) for _ in packets]
     step, moment = chance.choice([0, 1, 10, 200]), 5 * SECOND
     worked, seen = [], []
     for _ in range(chance.choice([0, 3, 12, 40])):
@@ -257,11 +263,17 @@ def place_of(chance, is_underlay, within, shift):
     return worked, seen
 
 
-def place_told(word, worked, seen, key, clock, faulty):
-    """The line of a place, its counts, and its fault."""
+def place_told(word, worked, seen, key, clock, faulty, segment_of=None, counts=None):
+    """The line of a place, its counts, and its fault. Each record is counted with its segment, too, where that is asked for."""
     worked, seen, fault = up_to_fault(worked, seen, *clock, faulty)
     keyed = [[(moment, key(octets)) for moment, octets in rising(records)] for records in (worked, seen)]
-    one, other, both = len(worked), len(seen), len(matched(*keyed, *clock)[0])
+    are_both = matched(*keyed, *clock)[0]
+    for side, records in enumerate((worked, seen) if segment_of else ()):
+        for at, (_, octets) in enumerate(records):
+            row = counts.setdefault(segment_of(octets), [0, 0, 0])
+            row[side] += 1
+            row[2] += side == 0 and at in are_both
+    one, other, both = len(worked), len(seen), len(are_both)
     line = f"{word}: sent {one}, received {other}, both {both}, sent alone {one - both}, received alone {other - both}\n"
     return line, (one, other, both), fault
 
@@ -285,6 +297,10 @@ class Case:
         self.places = [place_of(chance, word == "u", *self.clock) for word in self.words]
         self.faulty = [[chance.random() < 0.04, chance.random() < 0.04] for _ in self.words]
         self.is_named = [chance.random() < 0.9 for _ in self.words[1:]] + [True]
+        self.segments, self.pvids = drawn_settings(chance, ports)
+        self.settings = os.path.join(folder, "made.toml")
+        with open(self.settings, "w") as out:
+            out.write(settings_text(self.segments, self.pvids))
         for (worked, seen), faulty, name in zip(self.places, self.faulty, self.files):
             write(os.path.join(self.folder, name), worked, faulty[0])
             write(os.path.join(self.folder, f"seen_{name}"), seen, faulty[1])
@@ -300,20 +316,29 @@ class Case:
         ports = [self.seen(index) for index in range(len(self.words) - 1)]
         return ["--worked", self.folder, "--underlay", self.seen(-1), *ports]
 
-    def worked_told(self):
+    def segment_at(self, index):
+        """What tells the segment of a record of a place."""
+        if self.words[index] == "u":
+            return lambda octets: packet_segment(carried(octets), self.segments)
+        pvid = self.pvids[index] if index < len(self.pvids) else None
+        return lambda octets: frame_segment(octets, self.segments, pvid)
+
+    def worked_told(self, with_settings):
         """What is printed, what is said of it, and the status, of what was worked out beside what was captured."""
-        text, sums = "", [0, 0, 0]
+        text, sums, counts = "", [0, 0, 0], {}
         for index, word in enumerate(self.words):
             if not self.is_named[index]:
                 text += f"{word}: no capture\n"
                 continue
             key = carried if word == "u" else bytes
-            line, told, fault = place_told(word, *self.places[index], key, self.clock, self.faulty[index])
+            segment_of = self.segment_at(index) if with_settings else None
+            line, told, fault = place_told(word, *self.places[index], key, self.clock, self.faulty[index], segment_of, counts)
             text += line
             sums = [one + other for one, other in zip(sums, told)]
             if fault:
                 return text, f"{word}: {fault}\n", 1
         one, other, both = sums
+        text += segment_lines(counts)
         text += f"all: sent {one}, received {other}, both {both}, sent alone {one - both}, received alone {other - both}\n"
         return (text, "", 0) if one == other == both else (text, DIFFERS + "\n", 1)
 
@@ -344,9 +369,11 @@ def main():
     met = [0, 0]
     for seed in range(first, first + count):
         case = Case(seed, folder)
-        wanted = case.worked_told()
+        wanted = case.worked_told(False)
         met[wanted[2]] += 1
         wrong += not is_told(tep, seed, case.clock_words() + case.worked_words(), wanted)
+        by_segments = ["--settings", case.settings, *case.clock_words(), *case.worked_words()]
+        wrong += not is_told(tep, seed, by_segments, case.worked_told(True))
         wrong += not is_told(tep, seed, case.clock_words() + case.plain_words(), case.plain_told())
         if wrong >= 3:
             break

@@ -121,10 +121,12 @@ def line(word, sent, received, both):
     return f"{word}: sent {sent}, received {received}, both {both}, {alone}\n"
 
 
-def told(p1, p2, u):
-    """What is printed of these three places, each with its counts, or None without a capture."""
+def told(p1, p2, u, segments=()):
+    """What is printed of these three places, each with its counts, or None without a capture, and of segments, each with its
+    counts."""
     places = [("p1", p1), ("p2", p2), ("u", u)]
     text = "".join(line(word, *counts) if counts else f"{word}: no capture\n" for word, counts in places)
+    text += "".join(line(word, *counts) for word, counts in segments)
     return text + line("all", *(sum(counts[i] for _, counts in places if counts) for i in range(3)))
 
 
@@ -147,9 +149,9 @@ def main():
     differs = "what was received isn't what was sent\n"
     seen = os.path.join(folder, "seen.pcap")
 
-    def underlay_is(what, records, counts, moment=MOMENT, words=()):
+    def underlay_is(what, records, counts, moment=MOMENT, words=(), segments=()):
         same = counts[0] == counts[1] == counts[2]
-        text = told((2, 2, 2), (1, 1, 1), counts) + ("" if same else differs)
+        text = told((2, 2, 2), (1, 1, 1), counts, segments) + ("" if same else differs)
         write(seen, records, moment)
         wants(what, 0 if same else 1, text, *words, "--worked", worked, "-u", seen, *ports)
 
@@ -191,6 +193,7 @@ def main():
     wants("strictly without a run", 2, folderless, "--strict", *ports)
 
     # The tunnels of settings: their ports, the options that they know, and whether they take a checksum that is left to the card.
+    # Their segment is the PVID of port 1, and has VXLAN 10; they have no port 2, and no network of Geneve.
     settings = os.path.join(folder, "settings.toml")
     at_others = ("--settings", settings)
 
@@ -199,25 +202,34 @@ def main():
             out.write('version = 3\n[underlay]\nmac = "02:00:00:00:00:01"\nnext_hop = "02:00:00:00:00:02"\nip4 = "192.0.2.1"\n')
             out.write(f'{lines}[[port]]\npvid = 10\n[[segment]]\nvid = 10\n[[segment.tunnel]]\nkind = "vxlan"\nvni = 10\n')
 
+    def in_segments(ten, none):
+        return [("segment 10", ten), ("no segment", none)]
+
     settings_are("vxlan_port = 4790\ngeneve_port = 6082\n")
     others = [frame(ip4(udp(4790, vxlan(10, INNER)))), frame(ip4(udp(6082, geneve(10, OPTION, INNER))))]
     changed = [frame(ip4(udp(4790, vxlan(10, INNER)), ttl=3)), frame(ip4(udp(6082, geneve(10, OPTION, INNER)), ttl=3))]
     write(underlay, others)
-    underlay_is("other ports and another TTL", changed, (2, 2, 2), words=at_others)
+    of_others = in_segments((3, 3, 3), (2, 2, 2))
+    underlay_is("other ports and another TTL", changed, (2, 2, 2), words=at_others, segments=of_others)
     underlay_is("other ports and another TTL without settings", changed, (2, 2, 0))
-    underlay_is("other ports and another TTL, strictly", changed, (2, 2, 0), words=(*at_others, "--strict"))
+    of_none = in_segments((3, 3, 2), (2, 2, 1))
+    underlay_is("other ports and another TTL, strictly", changed, (2, 2, 0), words=(*at_others, "--strict"), segments=of_none)
     write(underlay, [VX])
-    underlay_is("another TTL at a port of no tunnel", [FOR_VX[0][1]], (1, 1, 0), words=at_others)
+    of_none = in_segments((2, 2, 2), (2, 2, 1))
+    underlay_is("another TTL at a port of no tunnel", [FOR_VX[0][1]], (1, 1, 0), words=at_others, segments=of_none)
     settings_are("")
-    underlay_is("a checksum left to the card, and not taken", [PARTIAL], (1, 1, 0), words=("-s", settings))
+    apart = in_segments((3, 2, 2), (1, 2, 1))
+    underlay_is("a checksum left to the card, and not taken", [PARTIAL], (1, 1, 0), words=("-s", settings), segments=apart)
     settings_are("partial = true\n")
-    underlay_is("a checksum left to the card, and taken", [PARTIAL], (1, 1, 1), words=("-s", settings))
+    taken = in_segments((3, 3, 3), (1, 1, 1))
+    underlay_is("a checksum left to the card, and taken", [PARTIAL], (1, 1, 1), words=("-s", settings), segments=taken)
     settings_are("known = [[258, 131]]\n")
     unknown = CRITICAL[:2] + b"\x84" + CRITICAL[3:]
     for what, option, both in (("a known critical option", CRITICAL, 1), ("a critical option that isn't known", unknown, 0)):
         write(underlay, [frame(ip4(udp(6081, geneve(10, option, INNER, flags=0x40))))])
         another = frame(ip4(udp(6081, geneve(10, option, INNER, flags=0x40)), ttl=3))
-        underlay_is(f"{what} and another TTL", [another], (1, 1, both), words=("-s", settings))
+        of_none = in_segments((2, 2, 2), (2, 2, 1 + both))
+        underlay_is(f"{what} and another TTL", [another], (1, 1, both), words=("-s", settings), segments=of_none)
     settings_are("mtu = 1\n")
     done = subprocess.run([tep, "compare", "--worked", worked, "-s", settings, "-u", underlay, *ports], capture_output=True, text=True)
     if (done.returncode, done.stdout, done.stderr.split("\n")[0]) != (1, "", "settings: BadValue underlay.mtu"):
@@ -251,4 +263,5 @@ def main():
     return failed
 
 
-sys.exit(main())
+if __name__ == "__main__":
+    sys.exit(main())

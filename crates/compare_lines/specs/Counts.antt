@@ -22,6 +22,10 @@ sum_of m n = min (m + n) (2 ^ 64 - 1)
 abbrev pub sums_of : Counts → Counts → Counts
 sums_of c d = record { sent = sum_of c.sent d.sent; received = sum_of c.received d.received; both = sum_of c.both d.both }
 
+-- no record was sent or received
+abbrev pub is_none : Counts → Bool
+is_none c = c.sent == 0 && c.received == 0
+
 -- each record that was sent was received, and no other
 abbrev pub is_same : Counts → Bool
 is_same c = c.sent == c.both && c.received == c.both
@@ -49,8 +53,10 @@ place_alone sent received =
 abbrev pub place_line : Counts → List ℕ
 place_line c = place_all c ++ place_alone (c.sent - c.both) (c.received - c.both)
 
--- the lines of counts: of two captures, of a place, of all places
+-- the lines of counts: of two captures, of a place, of all places, of a segment, and of none
 abbrev pub counts_text : Scope → Counts → List ℕ
 counts_text scopes.Pair c = pair_lines c
 counts_text (scopes.Place tap) c = tap_word tap ++ place_line c
 counts_text scopes.All c = codes "all" ++ place_line c
+counts_text (scopes.Segment vid) c = codes "segment " ++ decimal vid ++ place_line c
+counts_text scopes.NoSegment c = codes "no segment" ++ place_line c

@@ -1,6 +1,6 @@
 //! How many records were sent, were received, and are both.
 ghost use Rattle.std.specs.Prelude.{◌≡◌, ◌-◌, Some};
-ghost use Rattle.compare_lines.specs.Counts.{counts_of, counts_text, is_same, no_counts, pair_all, pair_alone, pair_lines};
+ghost use Rattle.compare_lines.specs.Counts.{counts_of, counts_text, is_none, is_same, no_counts, pair_all, pair_alone, pair_lines};
 ghost use Rattle.compare_lines.specs.Counts.{place_all, place_alone, place_line, sum_of, sums_of};
 
 use record_match::Comparison;
@@ -49,6 +49,13 @@ impl Counts {
         }
     }
 
+    /// Whether no record was sent or received.
+    pub fn is_none(self) -> bool
+        ensures { result ≡ is_none self }
+    {
+        self.sent == 0 && self.received == 0
+    }
+
     /// Whether each record that was sent was received, and no other.
     pub fn is_same(self) -> bool
         ensures { result ≡ is_same self }
@@ -80,9 +87,13 @@ pub enum Scope {
     Place(Tap),
     /// Those of all places.
     All,
+    /// Those of the segment of this VID, at all places.
+    Segment(u16),
+    /// Those of no segment, at all places.
+    NoSegment,
 }
 
-/// The lines of counts: of two captures one fact a line, of a place or all of them one line.
+/// The lines of counts: of two captures one fact a line, of a place, of all of them or of a segment one line.
 #[derive(Clone, Copy)]
 pub struct CountLines {
     pub scope: Scope,
@@ -99,6 +110,8 @@ impl fmt::Display for CountLines {
             Scope::Pair => write!(f, "{pair}"),
             Scope::Place(tap) => write!(f, "{tap}{line}"),
             Scope::All => write!(f, "all{line}"),
+            Scope::Segment(vid) => write!(f, "segment {vid}{line}"),
+            Scope::NoSegment => write!(f, "no segment{line}"),
         }
     }
 }

@@ -1,8 +1,8 @@
 //! The lines that tell how two captures are compared.
 //!
-//! Use first: [`CountLines`] of [`Counts`], in front of them a line for each [`Lonely`] record, and behind them how many were left
-//! aside, [`AsideLines`], and the lines of tables, [`LengthLine`] and [`DelayLines`]. Each prints as its text. Nothing is compared
-//! here.
+//! Use first: [`CountLines`] of [`Counts`], in front of them a [`LonelyLine`] for each [`Lonely`] record, and behind them how many
+//! were left aside, [`AsideLines`], and the lines of tables, [`LengthLine`] and [`DelayLines`]. Each prints as its text. Nothing is
+//! compared here.
 //!
 //! Specs to read: `specs/Counts`, `specs/Aside`, `specs/Lonely`, `specs/Tables`.
 //!
@@ -14,6 +14,7 @@ mod counts;
 mod delays;
 mod lengths;
 mod lonely;
+mod lonely_line;
 mod place;
 
 pub use aside::AsideLines;
@@ -21,3 +22,4 @@ pub use counts::{CountLines, Counts, Scope};
 pub use delays::DelayLines;
 pub use lengths::LengthLine;
 pub use lonely::Lonely;
+pub use lonely_line::LonelyLine;

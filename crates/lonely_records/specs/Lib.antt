@@ -5,3 +5,5 @@ pub mod Near
 pub mod Laws
 pub mod Read
 pub mod Looking
+pub mod Words
+pub mod Texts

@@ -1,14 +1,16 @@
 //! What of two records differs.
-ghost use Rattle.std.specs.Prelude.{◌≡◌};
+ghost use Rattle.std.specs.Prelude.{◌≡◌, Some};
 ghost use Rattle.ip_udp_view.specs.Addr.{same_addr, same_kind};
 ghost use Rattle.lonely_records.specs.Difference.{difference_by, frame_difference, is_length_alone, is_tag_alone};
 ghost use Rattle.lonely_records.specs.Difference.{length_difference, packet_difference, same_rest, same_vid};
 ghost use Rattle.lonely_records.specs.Difference.{tag_difference, tunnel_difference};
 ghost use Rattle.lonely_records.specs.Read.{as_bare, bare_in};
+ghost use Rattle.lonely_records.specs.Texts.{difference_text};
 
 use crate::frame::{Bare, bare_of};
 use crate::key_read::tunnelled_by_key;
 use crate::segment::Reading;
+use crate::words::{AddrWord, KindWord, TagWord, VniWord};
 use carried_key::Tunnelled;
 use ip_udp_view::{Addr, Tunnel};
 use std::fmt;
@@ -162,82 +164,31 @@ fn is_length_alone(sent: &[u8], received: &[u8]) -> bool
 }
 
 impl fmt::Display for Difference {
+    ghost output = { λ difference. Some (difference_text difference) };
+
     fn fmt<W: fmt::Write>(&self, f: &mut fmt::Formatter<W>) -> fmt::Result {
-        match self {
+        match *self {
             Difference::Vni(received, sent) => {
-                write!(f, "vni {} for {}", received.get(), sent.get())
+                let received = VniWord(received);
+                let sent = VniWord(sent);
+                write!(f, "vni {received} for {sent}")
             }
             Difference::Kind(received, sent) => {
-                write!(f, "kind {} for {}", kind_word(*received), kind_word(*sent))
+                let received = KindWord(received);
+                let sent = KindWord(sent);
+                write!(f, "kind {received} for {sent}")
             }
             Difference::Remote(received, sent) => {
-                write!(f, "remote {} for {}", Remote(*received), Remote(*sent))
+                let received = AddrWord(received);
+                let sent = AddrWord(sent);
+                write!(f, "remote {received} for {sent}")
             }
             Difference::Tag(received, sent) => {
-                write!(f, "tag {} for {}", Tag(*received), Tag(*sent))
+                let received = TagWord(received);
+                let sent = TagWord(sent);
+                write!(f, "tag {received} for {sent}")
             }
             Difference::Length(received, sent) => write!(f, "length {received} for {sent}"),
         }
     }
-}
-
-/// The word for a kind of tunnel.
-fn kind_word(kind: Tunnel) -> &'static str {
-    match kind {
-        Tunnel::Vxlan => "vxlan",
-        Tunnel::Geneve => "geneve",
-    }
-}
-
-/// A VID, or `none`.
-#[derive(Clone, Copy)]
-struct Tag(Option<u16>);
-
-impl fmt::Display for Tag {
-    fn fmt<W: fmt::Write>(&self, f: &mut fmt::Formatter<W>) -> fmt::Result {
-        match self.0 {
-            Some(vid) => write!(f, "{vid}"),
-            None => write!(f, "none"),
-        }
-    }
-}
-
-/// The address of a remote endpoint: four decimals, or eight groups of four hexadecimal digits.
-#[derive(Clone, Copy)]
-struct Remote(Addr);
-
-impl fmt::Display for Remote {
-    fn fmt<W: fmt::Write>(&self, f: &mut fmt::Formatter<W>) -> fmt::Result {
-        write_addr(f, self.0)
-    }
-}
-
-/// Writes an address.
-fn write_addr<W: fmt::Write>(f: &mut fmt::Formatter<W>, addr: Addr) -> fmt::Result {
-    match addr {
-        Addr::V4(octets) => write_decimals(f, &octets),
-        Addr::V6(octets) => write_groups(f, &octets),
-    }
-}
-
-/// Writes octets as decimals.
-fn write_decimals<W: fmt::Write>(f: &mut fmt::Formatter<W>, octets: &[u8]) -> fmt::Result {
-    for (i, octet) in octets.iter().enumerate() {
-        if i > 0 {
-            write!(f, ".")?;
-        }
-        write!(f, "{octet}")?;
-    }
-    Ok(())
-}
-
-/// Writes octets in groups of two, as hexadecimal digits.
-fn write_groups<W: fmt::Write>(f: &mut fmt::Formatter<W>, octets: &[u8]) -> fmt::Result {
-    for (i, octet) in octets.iter().enumerate() {
-        if i > 0 && i % 2 == 0 {
-            write!(f, ":")?;
-        }
-        write!(f, "{octet:02x}")?;
-    }
-    Ok(())
 }

@@ -1,8 +1,10 @@
 //! The segment that a record tells.
-ghost use Rattle.std.specs.Prelude.{◌≡◌};
+ghost use Rattle.std.specs.Prelude.{◌≡◌, Some};
 ghost use Rattle.lonely_records.specs.Segment.{frame_segment, packet_segment, segment_by};
+ghost use Rattle.lonely_records.specs.Texts.{segment_text};
 
 use crate::key_read::tunnelled_by_key;
+use crate::words::{KindWord, VniWord};
 use frame_view::{EtherView, Tagging};
 use ip_udp_view::Tunnel;
 use std::fmt;
@@ -31,12 +33,17 @@ pub enum RecordSegment {
 }
 
 impl fmt::Display for RecordSegment {
+    ghost output = { λ segment. Some (segment_text segment) };
+
     fn fmt<W: fmt::Write>(&self, f: &mut fmt::Formatter<W>) -> fmt::Result {
-        match self {
+        match *self {
             RecordSegment::Untagged => write!(f, "untagged"),
             RecordSegment::Vlan(vid) => write!(f, "vlan {vid}"),
-            RecordSegment::Tunnel(Tunnel::Vxlan, vni) => write!(f, "vxlan {}", vni.get()),
-            RecordSegment::Tunnel(Tunnel::Geneve, vni) => write!(f, "geneve {}", vni.get()),
+            RecordSegment::Tunnel(kind, vni) => {
+                let kind = KindWord(kind);
+                let vni = VniWord(vni);
+                write!(f, "{kind} {vni}")
+            }
             RecordSegment::NoTunnel => write!(f, "no tunnel"),
         }
     }

@@ -16,7 +16,6 @@
 //! isn't text is refused as `words`, status 2; so is one that `clap` refuses, also where standard error can't be written.
 #![tactic(auto)]
 
-mod alone;
 mod aside;
 mod causes;
 mod checks;
@@ -36,10 +35,10 @@ mod paired;
 mod program;
 mod refusals;
 mod report;
+mod segments;
 mod swapped;
 mod tables;
 mod told_runs;
-mod tunnels;
 mod unknown_table;
 mod worked;
 

@@ -1,8 +1,8 @@
 //! What a run worked out at a place, for the list of records that are of one capture alone.
-use crate::alone::Alone;
 use crate::paired::Pairing;
 use capture_compare::Side;
 use carried_key::{Manner, Sameness};
+use compare_lines::LonelyLine;
 use lonely_records::{LonelySeen, Reading, segment_of};
 use program_faults::{DecisionsFault, Failure, OutputFile, WorkedFailure};
 use program_files::{PartFile, open_part_file};
@@ -50,7 +50,7 @@ impl<F: Read + Drop> WorkedOut<F> {
     /// Tells the line of a record its segment, and of one that was sent its event, and what of a near one differs.
     pub(crate) fn tell<'a>(
         &mut self,
-        line: &mut Alone,
+        line: &mut LonelyLine,
         folder: &'a str,
         reading: Reading,
         within: u64,

@@ -5,6 +5,7 @@ ghost use Rattle.pcap_stream.specs.Source.{New, most_left};
 use crate::aside::print_aside;
 use crate::paired::{Outcome, Pairing, compare_told};
 use crate::report::{Report, Told, open_report};
+use crate::segments::Segments;
 use capture_compare::Aside;
 use carried_key::{Manner, Sameness};
 use compare_lines::{CountLines, Counts, Scope};
@@ -15,7 +16,8 @@ use std::rt::Files;
 use timeline::Tap;
 
 /// Compares two captures of which nothing was read, prints what is asked for and their counts, and answers these. What was
-/// compared before a fault is printed, too. It lends the captures: whoever opened them has one way out.
+/// compared before a fault is printed, too; the counts by segment aren't. It lends the captures: whoever opened them has one way
+/// out.
 pub(crate) fn compare_open<'a, R: AllocGlobal + Print + Files, F: Read + Drop, I: Read + Drop>(
     rt: &R,
     pairing: &Pairing<'a>,
@@ -23,6 +25,7 @@ pub(crate) fn compare_open<'a, R: AllocGlobal + Print + Files, F: Read + Drop, I
     told: Told,
     sent: &mut SeenCapture<'a, F, I>,
     received: &mut SeenCapture<'a, F, I>,
+    segments: &mut Segments,
 ) -> Result<Counts, Failure<'a>>
     requires new_sent { sent.old.standing ≡ New }
     requires new_received { received.old.standing ≡ New }
@@ -31,8 +34,10 @@ pub(crate) fn compare_open<'a, R: AllocGlobal + Print + Files, F: Read + Drop, I
     requires sent_delay { pairing.now.clock.sent_delay ≤ 2000000000000000000 }
     requires received_delay { pairing.now.clock.received_delay ≤ 2000000000000000000 }
 {
-    let mut report = open_report(rt, told, pairing, manner)?;
-    compare_reported(rt, pairing, manner, sent, received, &mut report)
+    let mut report = open_report(rt, told, pairing, manner, segments.take())?;
+    let compared = compare_reported(rt, pairing, manner, sent, received, &mut report);
+    *segments = report.take_segments();
+    compared
 }
 
 /// The same, shown to a report.
@@ -88,7 +93,15 @@ pub(crate) fn compare_whole<'a, R: AllocGlobal + Print + Files, F: Read + Drop, 
         sameness: Sameness::Whole,
         ignores_reserved: ignores,
     };
-    compare_open(rt, pairing, &manner, told, sent, received)
+    compare_open(
+        rt,
+        pairing,
+        &manner,
+        told,
+        sent,
+        received,
+        &mut Segments::none(),
+    )
 }
 
 /// Prints the counts of a place, or of two captures that stand for themselves, and how many records were left aside, where some

@@ -1,15 +1,16 @@
 //! What is told of captures besides counts, while they are compared.
 ghost use Rattle.std.specs.Prelude.{⊤};
 
-use crate::alone::Alone;
 use crate::lonely::{WorkedOut, open_worked, reading_of};
 use crate::paired::Pairing;
+use crate::segments::Segments;
 use crate::tables::{Table, TableBy};
 use capture_compare::Side;
 use carried_key::Manner;
-use compare_lines::Lonely;
+use compare_lines::{Lonely, LonelyLine};
 use lonely_records::Reading;
 use program_faults::Failure;
+use program_files::print_text;
 use record_match::{Clock, Onlooker, Seen};
 use std::io::Read;
 use std::rt::Files;
@@ -45,6 +46,8 @@ pub(crate) struct Report<'r, 'a, R, F: Read + Drop> {
     reading: Reading,
     lists: bool,
     table: Table,
+    /// Who counts each record with its segment.
+    segments: Segments,
     /// What a run worked out, where what is listed is of a run.
     worked: Option<WorkedOut<F>>,
     /// Why a line couldn't be printed, of the first that couldn't.
@@ -57,6 +60,7 @@ pub(crate) fn open_report<'r, 'a, R: AllocGlobal + Print + Files>(
     told: Told,
     pairing: &Pairing<'a>,
     manner: &Manner,
+    segments: Segments,
 ) -> Result<Report<'r, 'a, R, R::File>, Failure<'a>> {
     let table = Table::new(rt.alloc(), told.table, pairing.clock, told.ahead)?;
     let worked = if told.lists {
@@ -70,6 +74,7 @@ pub(crate) fn open_report<'r, 'a, R: AllocGlobal + Print + Files>(
         reading: reading_of(manner),
         lists: told.lists,
         table,
+        segments,
         worked,
         failure: None,
     })
@@ -78,7 +83,12 @@ pub(crate) fn open_report<'r, 'a, R: AllocGlobal + Print + Files>(
 impl<'r, 'a, R: AllocGlobal + Print, F: Read + Drop> Report<'r, 'a, R, F> {
     /// Whether it tells nothing.
     pub(crate) fn is_silent(&self) -> bool {
-        !self.lists && self.table.is_none()
+        !self.lists && self.table.is_none() && self.segments.is_none()
+    }
+
+    /// What was counted by segments so far, and nothing is counted here any more.
+    pub(crate) fn take_segments(&mut self) -> Segments {
+        self.segments.take()
     }
 
     /// Prints the table, behind all that was told.
@@ -107,17 +117,16 @@ impl<'r, 'a, R: AllocGlobal + Print, F: Read + Drop> Report<'r, 'a, R, F> {
             let within = self.pairing.clock.within;
             worked.tell(&mut line, self.pairing.sent, self.reading, within, seen)?;
         }
-        line.print(self.rt)?;
-        Ok(())
+        print_line(self.rt, &line)
     }
 
     /// The line of a record, as its own capture tells it.
-    fn line_of(&self, side: Side, number: u64, seen: &Seen) -> Alone {
+    fn line_of(&self, side: Side, number: u64, seen: &Seen) -> LonelyLine {
         let delay = match side {
             Side::Sent => self.pairing.clock.sent_delay,
             Side::Received => self.pairing.clock.received_delay,
         };
-        Alone {
+        LonelyLine {
             record: Lonely {
                 at: self.pairing.at,
                 side,
@@ -137,15 +146,24 @@ impl<'r, 'a, R: AllocGlobal + Print, F: Read + Drop> Onlooker for Report<'r, 'a,
 
     fn see_both(&mut self, sent_moment: u64, number: u64, received: &Seen) {
         self.table.see_both(sent_moment, number, received);
+        self.segments.see_both(sent_moment, number, received);
     }
 
     fn see_received(&mut self, number: u64, received: &Seen) {
         self.list(Side::Received, number, received);
         self.table.see_received(number, received);
+        self.segments.see_received(number, received);
     }
 
     fn see_sent(&mut self, number: u64, sent: &Seen) {
         self.list(Side::Sent, number, sent);
         self.table.see_sent(number, sent);
+        self.segments.see_sent(number, sent);
     }
+}
+
+/// Prints the line of a record that is of one capture alone.
+fn print_line<R: AllocGlobal + Print>(rt: &R, line: &LonelyLine) -> Result<(), Failure<'static>> {
+    let text = format!(in rt.alloc(); "{line}")?;
+    print_text(rt, text.as_bytes())
 }

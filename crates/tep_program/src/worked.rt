@@ -5,7 +5,7 @@ use crate::compared::clock_of;
 use crate::opened::{compare_open, print_lines};
 use crate::paired::Pairing;
 use crate::report::Told;
-use crate::tunnels::tunnels_of;
+use crate::segments::Segments;
 use carried_key::{Manner, Sameness};
 use command_line::NO_CAPTURE;
 use compare_lines::{Counts, Scope};
@@ -32,7 +32,7 @@ pub struct Worked<'n, 'a> {
     pub within: Option<&'a str>,
     /// How far the clock of what was captured is ahead.
     pub shift: Option<&'a str>,
-    /// The settings text, whose tunnels are looked for.
+    /// The settings text, whose tunnels are looked for and whose segments are told.
     pub settings: Option<&'a str>,
     /// Whether records of the underlay are the same octet for octet only.
     pub strict: bool,
@@ -44,15 +44,17 @@ pub struct Worked<'n, 'a> {
     pub ignores: bool,
 }
 
-/// Compares each capture that a run wrote with what was captured at its place, and prints the counts of each place and of all:
-/// at ports records are the same octet for octet, at the underlay what packets carry in tunnels, unless that is to be strict, too.
-/// What was compared before a fault is printed, too. Where all is the same it is done; else they differ.
+/// Compares each capture that a run wrote with what was captured at its place, and prints the counts of each place, of each segment
+/// of the settings, and of all: at ports records are the same octet for octet, at the underlay what packets carry in tunnels, unless
+/// that is to be strict, too. What was compared before a fault is printed, too, but for the counts of segments. Where all is the same
+/// it is done; else they differ.
 pub fn compare_worked<'a, R: Files + Input + AllocGlobal + Print>(
     rt: &R,
     asked: Worked<'_, 'a>,
 ) -> Result<(), Failure<'a>> {
     let clock = clock_of(asked.within, asked.shift)?;
-    let tunnels = tunnels_of(rt, asked.settings)?;
+    let mut segments = Segments::open(rt, asked.settings)?;
+    let tunnels = segments.tunnels()?;
     let told = Told::of(asked.lists, asked.by, clock, asked.shift.is_some());
     check_folder(rt, asked)?;
     check_twice(asked)?;
@@ -60,20 +62,22 @@ pub fn compare_worked<'a, R: Files + Input + AllocGlobal + Print>(
         sameness: Sameness::of_underlay(tunnels, asked.strict),
         ignores_reserved: asked.ignores,
     };
-    let at_ports = compare_ports(rt, asked, clock, told)?;
+    let at_ports = compare_ports(rt, asked, clock, told, &mut segments)?;
     let place = Place {
         tap: Tap::Underlay,
         output: OutputFile::Underlay,
+        seen: asked.underlay,
     };
     let all = at_ports.and(compare_place(
         rt,
         asked.folder,
         place,
         &at_underlay,
-        asked.underlay,
         clock,
         told,
+        &mut segments,
     )?);
+    segments.print(rt)?;
     print_lines(rt, Scope::All, all)?;
     if all.is_same() {
         Ok(())
@@ -88,6 +92,7 @@ fn compare_ports<'a, R: Files + Input + AllocGlobal + Print>(
     asked: Worked<'_, 'a>,
     clock: Clock,
     told: Told,
+    segments: &mut Segments,
 ) -> Result<Counts, Failure<'a>>
     requires sent { clock.sent_delay ≤ 2000000000000000000 }
     requires received { clock.received_delay ≤ 2000000000000000000 }
@@ -101,46 +106,50 @@ fn compare_ports<'a, R: Files + Input + AllocGlobal + Print>(
         let place = Place {
             tap: tap_of(index),
             output: OutputFile::Port(index.saturating_add(1)),
+            seen: *name,
         };
-        all = all.and(compare_place(rt, asked.folder, place, &manner, *name, clock, told)?);
+        all = all.and(compare_place(rt, asked.folder, place, &manner, clock, told, segments)?);
     }
     Ok(all)
 }
 
 /// A place where a run writes.
 #[derive(Clone, Copy)]
-struct Place {
+struct Place<'a> {
     tap: Tap,
     output: OutputFile,
+    /// What was captured there.
+    seen: &'a str,
 }
 
-/// Compares what the run wrote at a place with the capture of this name, prints the counts, and answers them: none where the
-/// name says that there is no capture.
+/// Compares what the run wrote at a place with what was captured there, prints the counts, and answers them: none where there is
+/// no capture. Each record is counted with its segment, too.
 fn compare_place<'a, R: Files + Input + AllocGlobal + Print>(
     rt: &R,
     folder: &'a str,
-    place: Place,
+    place: Place<'a>,
     manner: &Manner,
-    name: &'a str,
     clock: Clock,
     told: Told,
+    segments: &mut Segments,
 ) -> Result<Counts, Failure<'a>>
     requires sent { clock.sent_delay ≤ 2000000000000000000 }
     requires received { clock.received_delay ≤ 2000000000000000000 }
 {
-    if name == NO_CAPTURE {
+    if place.seen == NO_CAPTURE {
         print_none(rt, place.tap)?;
         return Ok(Counts::none());
     }
     let pairing = Pairing {
         at: Some(place.tap),
         sent: folder,
-        received: name,
+        received: place.seen,
         clock,
     };
     let mut worked = open_written(rt, folder, place.output)?;
-    let (_, mut seen) = open_seen(rt, name)?;
-    compare_open(rt, &pairing, manner, told, &mut worked, &mut seen)
+    let (_, mut seen) = open_seen(rt, place.seen)?;
+    segments.stand_at(place.tap, manner);
+    compare_open(rt, &pairing, manner, told, &mut worked, &mut seen, segments)
 }
 
 /// Whether a run wrote into the folder, and for as many ports as captures are named.

@@ -1,0 +1,4 @@
+pub mod Code
+pub mod Counting
+pub mod Laws
+pub mod Segments

@@ -1,0 +1,7 @@
+use Rattle.std.proofs.Common.{rules}
+use Rattle.lonely_records.specs.Words.{eight_word}
+use Rattle.lonely_records.proofs.words.Ip6WordDisplay.fmt.Goals as goal
+
+pub returns-clause-writes : goal.returns-clause-writes
+unfolding eight_word
+returns-clause-writes g c = rw (← c.eight_at.ensures, ← c.eight_at-2.ensures) (search rules)

@@ -1,6 +1,10 @@
 pub mod Addresses
 pub mod Changes
 pub mod Floods
+pub mod FrameRefusals
+pub mod PacketRefusals
+pub mod PacketTests
+pub mod Refusals
 pub mod Tests
 pub mod Words
 pub mod Written

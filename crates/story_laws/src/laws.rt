@@ -5,12 +5,18 @@ ghost use Rattle.std.specs.Option.{option_to_list};
 ghost use Rattle.frame_view.specs.Reason.{number_of};
 ghost use Rattle.frame_view.specs.declared.reason.Reason.{Reason};
 ghost use Rattle.filter_db.specs.declared.place.Place.{Place};
+ghost use Rattle.vlan_ports.specs.Ports.{Ports};
+ghost use Rattle.underlay.specs.Overlay.{Overlay};
 ghost use Rattle.overlay_settings.specs.declared.change.Change.{Change};
 ghost use Rattle.tunnel_learning.specs.Bridge.{Config, local_places, remote_places};
+ghost use Rattle.endpoint_core.specs.Arrival.{came_at, came_by};
 ghost use Rattle.change_story.specs.Change.{change_text};
 ghost use Rattle.event_story.specs.Bridge.{left_facts, left_out, places_of};
+ghost use Rattle.event_story.specs.Local.{local_facts};
+ghost use Rattle.event_story.specs.Packet.{packet_facts};
 ghost use Rattle.event_story.specs.Tests.{told};
 ghost use Rattle.event_story.specs.declared.fact.Fact.{Fact};
+ghost use Rattle.story_laws.specs.Refusing.{RefusesAs, is_packet_refusal, is_refusal};
 ghost use Rattle.story_laws.specs.Told.{IsSound, place_told};
 
 /// The text of a change tells the change: another change has another text. So `add_segment`'s has all its keys.
@@ -37,4 +43,15 @@ pub fn tests()
         flat_map (λ t. option_to_list (saw t)) before ++ option_to_list (saw test) }
     ensures taken { (saw : Reason → Option Fact) (tests : List Reason) →
         told saw None tests ≡ flat_map (λ t. option_to_list (saw t)) tests }
+{}
+
+/// What a story tells of the tests says by its own values what becomes of a frame or a packet: where it is refused, the last fact
+/// is one that is refused, as a length above the most or a port that is down, and none before it is; where it comes to a segment,
+/// none is. Two facts of a packet don't tell it alone: a checksum left to the sender's card, which the settings take or not, and
+/// the tag of a frame in a tunnel that is cut short, which is no test of its own.
+pub fn refusals()
+    ensures frames { (ports : Ports) (overlay : Overlay) (port original : ℕ) (octets : List ℕ) →
+        RefusesAs is_refusal (came_at ports overlay port original octets) (local_facts ports overlay port original octets) }
+    ensures packets { (overlay : Overlay) (original : ℕ) (octets : List ℕ) →
+        RefusesAs (is_packet_refusal overlay.underlay) (came_by overlay original octets) (packet_facts overlay original octets) }
 {}

@@ -176,6 +176,12 @@ runs second 16-4094,none --settings examples/b.toml --changes examples/changes.t
 runs captured 16-4094,none "${a[@]}" --changes examples/changes.toml examples/port1.pcap examples/port3.pcap examples/port3.pcap
 runs under 16-4094,none --settings examples/a.toml --changes examples/changes.toml --underlay examples/port1.pcap "${ports[@]}"
 
+# Where fewer files may be open than a merge opens, and more if it asks, it asks.
+mkdir "$folder/merged"
+(ulimit -S -n 12 && exec ./tep merge --out "$folder/merged" "$folder/one" "$folder/other") >"$folder/stdout" 2>"$folder/stderr" ||
+    complain "tep merge where 12 files may be open: status $? and '$(cat "$folder/stderr")'"
+rm -rf "$folder/merged"
+
 # refused STATUS FAULT WORDS..: the program ends so, and says this in its first line; where a part is named by its folder, it is
 # told so
 refused() {

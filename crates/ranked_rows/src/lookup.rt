@@ -5,8 +5,10 @@ ghost use Rattle.ranked_rows.specs.declared.row.Row.{Row as ARow};
 
 use crate::key::Ranked;
 use crate::row::Row;
+use crate::rows::MOST;
 
-/// The number of a key's row, and it is remembered. `Err`: it has none, and its place among all numbers.
+/// The number of a key's row, and it is remembered. `Err`: it has none, and its place among all numbers. Where the table is full
+/// most keys without a row stand behind all that have one, so that is asked first, and the last row alone is looked at.
 pub(crate) fn place_by<K: Ranked, C>(
     rows: &[Row<K, C>],
     order: &[u16],
@@ -21,11 +23,14 @@ pub(crate) fn place_by<K: Ranked, C>(
     ensures behind { IfErr result (λ at. (d : ARow K C) → at < length (rows_by rows.now order.now)
         → K.rank key.now < K.rank (slice_index_or (rows_by rows.now order.now) at d).key) }
 {
+    if order.len() == MOST && is_behind_all(rows, order, key) {
+        return Err(order.len());
+    }
     let number = remembered(stood, key);
     if is_at(rows, number, key) {
         return Ok(number);
     }
-    let at = place_of(rows, order, key);
+    let at = place_among(rows, order, key);
     if at == order.len() {
         return Err(at);
     }
@@ -66,20 +71,6 @@ fn is_behind<K: Ranked, C>(rows: &[Row<K, C>], number: u16, key: &K) -> bool
 {
     let row = &rows[usize::from(number)];
     !key.is_same(&row.key) && key.is_below(&row.key)
-}
-
-/// The place of the first number whose row doesn't stand before that of a key. Where the table is full most keys without a row
-/// stand behind all that have one.
-fn place_of<K: Ranked, C>(rows: &[Row<K, C>], order: &[u16], key: &K) -> usize
-    requires rising { AreRising K.rank (rows_by rows.now order.now) }
-    requires numbers { IsNumbering rows.now order.now }
-    ensures place { IsPlaceOf K.rank (K.rank key.now) (rows_by rows.now order.now) result }
-    ensures inside { result ≤ length order.now }
-{
-    if is_behind_all(rows, order, key) {
-        return order.len();
-    }
-    place_among(rows, order, key)
 }
 
 /// Whether a key stands behind the last row, and so behind all.

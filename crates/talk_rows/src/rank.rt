@@ -1,8 +1,8 @@
 //! The ranks of talks.
-ghost use Rattle.std.specs.Prelude.{◌≡◌, ◌<◌, ◌+◌, ◌*◌, ◌^◌};
+ghost use Rattle.std.specs.Prelude.{◌≡◌, ◌<◌, ◌≤◌, ◌+◌, ◌*◌, ◌^◌};
 ghost use Rattle.header_octets.specs.Octets.{field};
 ghost use Rattle.talk_rows.specs.Talk.{address_number, exit_kind, exit_number, family_number};
-ghost use Rattle.talk_rows.specs.Talk.{pair_number, place_kind, place_number, places_number, tunnel_kind};
+ghost use Rattle.talk_rows.specs.Talk.{pair_number, place_kind, rank, place_number, places_number, tunnel_kind};
 
 use crate::talk::{Exit, Talk};
 use byteorder::{BigEndian, ByteOrder};
@@ -29,8 +29,30 @@ impl Talk {
         )
     }
 
+    /// That the number of its places ends below 2^262. It does nothing.
+    #[inline(always)]
+    pub(crate) fn places_are_few(&self)
+        ensures { places_number self.now < 2 ^ 262 }
+    {
+        let _ = self.places_number();
+    }
+
+    /// That its rank tells its segment first: those of a segment before its own are lesser, and those of one behind it greater.
+    /// It does nothing.
+    #[tactic(auto, unfolding(crate::specs::Talk::pair_number))]
+    #[inline(always)]
+    pub(crate) fn stands_by_segment(&self)
+        ensures from { self.now.vid * 2 ^ 358 ≤ rank self.now }
+        ensures below { rank self.now < (self.now.vid + 1) * 2 ^ 358 }
+    {
+        self.places_are_few();
+        let _ = mac_number(self.source);
+        let _ = mac_number(self.destination);
+    }
+
     /// Its places as one number, in three parts of which the lower two have 128 bits.
     #[tactic(auto, unfolding(crate::specs::Talk::places_number))]
+    #[inline(always)]
     pub(crate) fn places_number(&self) -> (u8, u128, u128)
         ensures value { places_number self.now ≡ (result.0 * 2 ^ 128 + result.1) * 2 ^ 128 + result.2 }
         ensures low { result.0 < 64 }

@@ -55,17 +55,15 @@ impl Ranked for Talk {
 
     ghost rank = { rank };
 
+    #[inline(always)]
     fn is_below(&self, other: &Talk) -> bool {
-        // No places come to a pair more.
-        self.places_are_few();
-        other.places_are_few();
-        if self.is_below_by_addresses(other) {
-            return true;
+        // Of two segments nothing else is read.
+        if self.vid.get() != other.vid.get() {
+            self.stands_by_segment();
+            other.stands_by_segment();
+            return self.vid.get() < other.vid.get();
         }
-        if other.is_below_by_addresses(self) {
-            return false;
-        }
-        self.is_below_by_places(other)
+        self.is_below_in_segment(other)
     }
 
     #[inline(always)]
@@ -88,7 +86,26 @@ impl Talk {
         (source ^ destination ^ segment).wrapping_mul(MIXER)
     }
 
+    /// Whether it stands before another; both are mostly of one segment.
+    fn is_below_in_segment(&self, other: &Talk) -> bool
+        ensures { result ≡ nat_lt (rank self.now) (rank other.now) }
+    {
+        // No places come to a pair more.
+        if self.is_below_by_addresses(other) {
+            self.places_are_few();
+            other.places_are_few();
+            return true;
+        }
+        if other.is_below_by_addresses(self) {
+            self.places_are_few();
+            other.places_are_few();
+            return false;
+        }
+        self.is_below_by_places(other)
+    }
+
     /// Whether it stands before another of its segment, source and destination.
+    #[inline(never)]
     fn is_below_by_places(&self, other: &Talk) -> bool
         ensures { result ≡ nat_lt (places_number self.now) (places_number other.now) }
     {
@@ -130,14 +147,6 @@ impl Talk {
         ensures { result ≡ true → places_number self.now ≡ places_number other.now }
     {
         is_same_place(&self.from, &other.from) && self.to.is_same(&other.to)
-    }
-
-    /// That the number of its places ends below 2^262. It does nothing.
-    #[inline(always)]
-    fn places_are_few(&self)
-        ensures { places_number self.now < 2 ^ 262 }
-    {
-        let _ = self.places_number();
     }
 }
 
